@@ -1,0 +1,55 @@
+//! The hashes of a Merkle tree: of no entries, of a leaf, of a node and of a whole list.
+
+ghost use Rattle.std.specs.Prelude.{◌≡◌, ◌<◌, [], length, map, vec_items};
+ghost use Rattle.tl_hash.specs.Split.{IsSplit};
+ghost use Rattle.tl_hash.specs.Tree.{leaf_input, node_input, tree_hash};
+
+use crate::digest::TreeHash;
+use crate::hash::Hash;
+use std::alloc::Allocator;
+
+/// The hash of no entries, H of no bytes (RFC 6962, section 2.1).
+pub fn empty_hash<T: TreeHash>(h: T) -> Hash
+    ensures { result ≡ T.digest_of [] }
+{
+    h.digest(&[], &[], &[])
+}
+
+/// The hash of one entry, H(0x00 || entry) (RFC 6962, section 2.1).
+pub fn leaf_hash<T: TreeHash>(h: T, entry: &[u8]) -> Hash
+    ensures { result ≡ T.digest_of (leaf_input entry.now) }
+{
+    h.digest(&[0], entry, &[])
+}
+
+/// The hash of a node over two hashes, H(0x01 || left || right) (RFC 6962, section 2.1).
+pub fn node_hash<T: TreeHash>(h: T, left: Hash, right: Hash) -> Hash
+    ensures { result ≡ T.digest_of (node_input left right) }
+{
+    h.digest(&[1], left.as_bytes(), right.as_bytes())
+}
+
+// k, the largest power of two below `n`: for n > 1 it is the least one that is no less than half of `n`, rounded up.
+fn split_point(n: usize) -> usize
+    requires { 1 < n }
+    ensures { IsSplit result n }
+{
+    (n - n / 2).next_power_of_two()
+}
+
+/// The Merkle tree hash of a list of entries, by the plain recursion of RFC 6962, section 2.1. It takes no memory but
+/// one call's for each level of the tree.
+pub fn entry_root<T: TreeHash, A: Allocator>(h: T, entries: &[Vec<u8, A>]) -> Hash
+    ensures { result ≡ tree_hash T.digest_of (map vec_items entries.now) }
+{
+    match entries.len() {
+        0 => empty_hash(h),
+        1 => leaf_hash(h, &entries[0]),
+        n => {
+            let k = split_point(n);
+            let left = entry_root(h, &entries[..k]);
+            let right = entry_root(h, &entries[k..]);
+            node_hash(h, left, right)
+        }
+    }
+}
