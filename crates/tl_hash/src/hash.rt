@@ -1,6 +1,7 @@
 //! A hash value.
 
-ghost use Rattle.std.specs.Prelude.{◌≡◌, length};
+ghost use Rattle.std.specs.Prelude.{◌≡◌};
+ghost use Rattle.tl_hash.specs.Bytes.{IsHash};
 
 use std::marker::Model;
 
@@ -12,10 +13,13 @@ pub struct Hash {
 
 impl Model for Hash {
     ghost use Rattle.std.specs.Prelude.{List, ℕ};
+    ghost use Rattle.tl_hash.specs.Bytes.{IsHash};
 
     ghost Value = { List ℕ };
 
     ghost view = { λ h. h.bytes };
+
+    ghost invariant = { λ h. IsHash h.bytes };
 
     ghost inverse = { λ bytes. record { bytes = bytes } };
 }
@@ -31,7 +35,7 @@ impl Hash {
     /// Its 32 bytes.
     pub fn as_bytes(&self) -> &[u8; 32]
         ensures value { result.now ≡ self.now }
-        ensures length { length self.now ≡ 32 }
+        ensures hash { IsHash self.now }
     {
         &self.bytes
     }

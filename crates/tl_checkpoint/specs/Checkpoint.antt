@@ -1,0 +1,32 @@
+-- A checkpoint and its text (C2SP tlog-checkpoint, "Note text").
+use Rattle.std.specs.Prelude.{ℕ, ◌<◌, List, ◌++◌, length, All, map, string_bytes, vec_items}
+use Rattle.std.specs.List.{flat_map}
+use Rattle.tl_hash.specs.Bytes.{IsHash}
+use Rattle.tl_note.specs.Text.{line, number_text, base64_text, HasNoControl, IsSize}
+use Rattle.tl_checkpoint.specs.declared.checkpoint.Checkpoint.{Checkpoint}
+
+-- what a checkpoint states, whatever memory its texts are in
+pub record Head : Type 0 where
+  pub origin : List ℕ
+  pub size : ℕ
+  pub root : List ℕ
+  pub extensions : List (List ℕ)
+
+abbrev pub head_of : {A : Type 0} → Checkpoint A → Head
+head_of c = record { origin = string_bytes c.origin; size = c.size; root = c.root; extensions = map string_bytes (vec_items c.extensions) }
+
+-- a text of one line that isn't empty
+pub record IsOneLine (text : List ℕ) : Type 0 where
+  pub some : 0 < length text
+  pub plain : HasNoControl text
+
+-- what has a text
+pub record IsHead (c : Head) : Type 0 where
+  pub origin : IsOneLine c.origin
+  pub size : IsSize c.size
+  pub root : IsHash c.root
+  pub extensions : All IsOneLine c.extensions
+
+-- lines: origin, size, root, and the extensions
+abbrev pub checkpoint_text : Head → List ℕ
+checkpoint_text c = line c.origin ++ line (number_text c.size) ++ line (base64_text c.root) ++ flat_map line c.extensions

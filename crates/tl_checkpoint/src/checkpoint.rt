@@ -1,0 +1,49 @@
+//! A checkpoint, and why one is refused.
+
+ghost use Rattle.std.specs.Prelude.{◌≡◌};
+ghost use Rattle.tl_checkpoint.specs.declared.checkpoint.CheckpointFault.TheVariants.{OutOfMemory};
+
+use std::alloc::{AllocError, Allocator};
+use thiserror::Error;
+use tl_hash::Hash;
+
+/// What a log states of itself: its name, its number of entries and the root of their tree (C2SP tlog-checkpoint).
+#[derive(Debug, Drop)]
+pub struct Checkpoint<A: Allocator> {
+    /// The name of the log: one line that isn't empty.
+    pub origin: String<A>,
+    /// The number of entries, below 2^63.
+    pub size: u64,
+    /// The Merkle tree hash of the entries.
+    pub root: Hash,
+    /// Further lines, none of them empty.
+    pub extensions: Vec<String<A>, A>,
+}
+
+/// Why a checkpoint can't be written or read, in the order in which it is found.
+#[derive(Clone, Copy, Debug, PartialEq, Eq, Error)]
+pub enum CheckpointFault {
+    /// The text isn't three lines at least, or an extension line is empty or has a control character.
+    #[error("bad line")]
+    Lines,
+    /// The origin is empty or has a control character.
+    #[error("bad origin")]
+    Origin,
+    /// The size isn't a decimal number below 2^63.
+    #[error("bad size")]
+    Size,
+    /// The root isn't base64 of 32 bytes.
+    #[error("bad root hash")]
+    Root,
+    /// A growth was refused.
+    #[error("out of memory")]
+    OutOfMemory,
+}
+
+impl From<AllocError> for CheckpointFault {
+    ghost from_gives = { λ _ fault. fault ≡ OutOfMemory };
+
+    fn from(_fault: AllocError) -> CheckpointFault {
+        CheckpointFault::OutOfMemory
+    }
+}

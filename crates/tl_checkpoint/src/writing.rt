@@ -1,0 +1,79 @@
+//! Writes the text of a checkpoint.
+
+ghost use Rattle.std.specs.Prelude.{◌≡◌, ◌↔◌, ◌++◌, All, IsTrue, OnOk, map, string_bytes};
+ghost use Rattle.std.specs.List.{flat_map};
+ghost use Rattle.tl_note.specs.Text.{line};
+ghost use Rattle.tl_checkpoint.specs.Checkpoint.{IsOneLine, head_of};
+ghost use Rattle.tl_checkpoint.specs.WriteCheckpoint.{WritesCheckpoint};
+
+use crate::checkpoint::{Checkpoint, CheckpointFault};
+use base64::engine::general_purpose::STANDARD;
+use itoa::Buffer;
+use std::alloc::{AllocError, Allocator};
+
+/// Whether a text is one line that isn't empty, as an origin and an extension line have to be.
+pub fn is_one_line(text: &str) -> bool
+    ensures { IsTrue result ↔ IsOneLine text.now }
+{
+    !text.is_empty() && text.bytes().all(|byte| byte >= 0x20)
+}
+
+// Whether each text is one line that isn't empty.
+fn are_lines<A: Allocator>(texts: &[String<A>]) -> bool
+    ensures { IsTrue result ↔ All IsOneLine (map string_bytes texts.now) }
+{
+    for text in texts {
+        if !is_one_line(text) {
+            return false;
+        }
+    }
+    true
+}
+
+// Appends a text and its newline.
+fn push_line<A: Allocator>(out: &mut String<A>, text: &str) -> Result<(), AllocError>
+    ensures { OnOk result (string_bytes out.new ≡ string_bytes out.old ++ line text.now) }
+{
+    out.push_str(text)?;
+    out.push_str("\n")?;
+    Ok(())
+}
+
+// Appends these texts as lines.
+fn push_lines<A: Allocator, B: Allocator>(
+    out: &mut String<A>,
+    texts: &[String<B>],
+) -> Result<(), AllocError>
+    ensures { OnOk result (string_bytes out.new ≡ string_bytes out.old ++ flat_map line (map string_bytes texts.now)) }
+{
+    for text in texts {
+        push_line(out, text)?;
+    }
+    Ok(())
+}
+
+/// The text of a checkpoint: the lines origin, size, root and extensions (C2SP tlog-checkpoint, "Note text"). Of what
+/// has no text the first fault is told, in the order extensions, origin, size.
+pub fn write<A: Allocator + Copy, B: Allocator>(
+    alloc: A,
+    checkpoint: &Checkpoint<B>,
+) -> Result<String<A>, CheckpointFault>
+    ensures { WritesCheckpoint (head_of checkpoint.now) result }
+{
+    if !are_lines(&checkpoint.extensions) {
+        return Err(CheckpointFault::Lines);
+    }
+    if !is_one_line(&checkpoint.origin) {
+        return Err(CheckpointFault::Origin);
+    }
+    if checkpoint.size >= 1 << 63 {
+        return Err(CheckpointFault::Size);
+    }
+    let root = STANDARD.encode(alloc, checkpoint.root.as_bytes())?;
+    let mut out = String::new(alloc);
+    push_line(&mut out, &checkpoint.origin)?;
+    push_line(&mut out, Buffer::new().format(checkpoint.size))?;
+    push_line(&mut out, &root)?;
+    push_lines(&mut out, &checkpoint.extensions)?;
+    Ok(out)
+}

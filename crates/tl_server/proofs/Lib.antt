@@ -1,0 +1,2 @@
+pub mod BytesLemmas
+pub mod LinesLemmas

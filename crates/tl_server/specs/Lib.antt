@@ -1,0 +1,6 @@
+-- The definitions of the commands.
+pub mod Device
+pub mod Lines
+pub mod Faults
+pub mod Run
+pub mod Head

@@ -1,0 +1,75 @@
+-- What a command does with its input and its output.
+use Rattle.std.specs.Prelude.{◌≡◌, ◌⊎◌, ℕ, List, Result, Ok, Err, map, vec_items, Some, None}
+use Rattle.std.specs.declared.vec.Vec.{Vec}
+use Rattle.tl_server.specs.Device.{Passage, IsSteady, HasFailed, IsUnwritten, ReadWhole, ReadPast, WroteWhole, WrotePart}
+use Rattle.tl_server.specs.Lines.{entries_of, first_too_long}
+use Rattle.tl_server.specs.declared.fault.RunFault.{RunFault}
+use Rattle.tl_server.specs.declared.fault.RunFault.TheVariants.{Refused, Read, Write, TooLarge, EntryTooLong, OutOfMemory}
+
+-- what is to come of an input: a text is printed, a text is printed that says no, or nothing is printed
+pub data Outcome : Type 0 where
+  Prints : List ℕ → Outcome
+  PrintsRefusal : List ℕ → Outcome
+  Fails : RunFault → Outcome
+
+-- the most bytes that a command reads, 64 MiB
+abbrev pub most_input : ℕ
+most_input = 67108864
+
+-- the whole input was read, and this is to come of it
+pub record CameOf (does : List ℕ → Outcome) (i : Passage) (outcome : Outcome) : Type 0 where
+  pub input : List ℕ
+  pub whole : ReadWhole i most_input input
+  pub so : does input ≡ outcome
+
+-- the whole input was read and all was written that is to come of it
+pub record Wrote (does : List ℕ → Outcome) (how : List ℕ → Outcome) (i o : Passage) : Type 0 where
+  pub text : List ℕ
+  pub came : CameOf does i (how text)
+  pub written : WroteWhole o text
+
+-- the whole input was read, and the writer failed in what is to come of it
+pub record WroteSome (does : List ℕ → Outcome) (i o : Passage) : Type 0 where
+  pub text : List ℕ
+  pub came : CameOf does i (Prints text) ⊎ CameOf does i (PrintsRefusal text)
+  pub part : WrotePart o text
+
+-- a run of a command: i is its reader, o its writer, and `does` says what is to come of an input
+abbrev pub Runs : (List ℕ → Outcome) → Passage → Passage → Result (Unit {0}) RunFault → Type 0
+Runs does i o (Ok done) = Wrote does Prints i o
+Runs does i o (Err Refused) = Wrote does PrintsRefusal i o
+Runs does i o (Err Read) = HasFailed i × IsUnwritten o
+Runs does i o (Err Write) = WroteSome does i o
+Runs does i o (Err TooLarge) = ReadPast i most_input × IsUnwritten o
+Runs does i o (Err OutOfMemory) = IsSteady i × IsUnwritten o
+Runs does i o (Err fault) = CameOf does i (Fails fault) × IsUnwritten o
+
+-- reading all that a reader gives, at most so many bytes
+abbrev pub ReadsWhole : {A : Type 0} → ℕ → Passage → Result (Vec ℕ A) RunFault → Type 0
+ReadsWhole most p (Ok input) = ReadWhole p most (vec_items input)
+ReadsWhole most p (Err Read) = HasFailed p
+ReadsWhole most p (Err TooLarge) = ReadPast p most
+ReadsWhole most p (Err OutOfMemory) = IsSteady p
+ReadsWhole most p (Err fault) = ⊥
+
+-- the entries are the lines of the whole input, and none is too long
+pub record ReadEntries (p : Passage) (most : ℕ) (entries : List (List ℕ)) : Type 0 where
+  pub input : List ℕ
+  pub whole : ReadWhole p most input
+  pub lines : entries ≡ entries_of input
+  pub short : first_too_long entries ≡ None
+
+-- the first entry of the whole input that is too long is at this place
+pub record ReadTooLong (p : Passage) (most place : ℕ) : Type 0 where
+  pub input : List ℕ
+  pub whole : ReadWhole p most input
+  pub first : first_too_long (entries_of input) ≡ Some place
+
+-- reading the entries of all that a reader gives, at most so many bytes
+abbrev pub ReadsEntries : {A : Type 0} → ℕ → Passage → Result (Vec (Vec ℕ A) A) RunFault → Type 0
+ReadsEntries most p (Ok entries) = ReadEntries p most (map vec_items (vec_items entries))
+ReadsEntries most p (Err Read) = HasFailed p
+ReadsEntries most p (Err TooLarge) = ReadPast p most
+ReadsEntries most p (Err (EntryTooLong place)) = ReadTooLong p most place
+ReadsEntries most p (Err OutOfMemory) = IsSteady p
+ReadsEntries most p (Err fault) = ⊥

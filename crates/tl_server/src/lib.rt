@@ -1,0 +1,13 @@
+//! The commands of the program `tlog`, over any reader and writer.
+#![tactic(auto)]
+
+mod commands;
+mod device;
+mod entries;
+mod fault;
+mod whole;
+
+pub use commands::head::run_head;
+pub use device::Counted;
+pub use entries::read_entries;
+pub use fault::{RunFault, exit_of, fault_line};

@@ -1,0 +1,10 @@
+-- A digest with collisions at hand: the sum of all bytes modulo 256, and 31 zero bytes.
+use Rattle.std.proofs.Common.{◌≡◌, ℕ, ◌%◌, List, ◌∷◌, length, refl}
+use Rattle.std.specs.Prelude.{sum, replicate}
+
+abbrev pub sum_digest : List ℕ → List ℕ
+sum_digest message = (sum message % 256) ∷ replicate 31 0
+
+-- every digest has 32 bytes
+pub length-sum_digest : (message : List ℕ) → length (sum_digest message) ≡ 32
+length-sum_digest message = refl
