@@ -6,8 +6,10 @@ mod device;
 mod entries;
 mod fault;
 mod whole;
+mod words;
 
 pub use commands::head::run_head;
 pub use device::Counted;
 pub use entries::read_entries;
 pub use fault::{RunFault, exit_of, fault_line};
+pub use words::{Job, WordsFault, read_words};

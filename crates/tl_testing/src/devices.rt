@@ -86,7 +86,10 @@ impl Write for FailingWriter<'_> {
         if self.written > self.bytes.len() {
             return Ok(0);
         }
-        let count = self.step.min(buf.len()).min(self.bytes.len() - self.written);
+        let count = self
+            .step
+            .min(buf.len())
+            .min(self.bytes.len() - self.written);
         self.bytes[self.written..self.written + count].copy_from_slice(&buf[..count]);
         self.written += count;
         Ok(count)

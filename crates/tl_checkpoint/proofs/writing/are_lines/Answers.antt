@@ -6,10 +6,10 @@ use Rattle.tl_checkpoint.proofs.writing.are_lines.Goals as goal
 
 pub returns-then-not-is_one_line : goal.returns-then-not-is_one_line
 returns-then-not-is_one_line g c = (
-      λ f. absurd cc,
-      λ each. absurd (all_fails string_bytes IsOneLine c.args.texts.now c.loop-text.text-index c.text-item.result c.loop-text-test.true c.text-item.is
+  λ f. absurd cc,
+  λ each. absurd (all_fails string_bytes IsOneLine c.args.texts.now c.loop-text.text-index c.text-item.result c.loop-text-test.true c.text-item.is
       (λ one. let t : false ≡ true = c.if-not-is_one_line.ensures.1 (rw c.deref.ensures one) in cc) each),
-    )
+)
 
 pub loop-text-preserved : goal.loop-text-preserved
 loop-text-preserved g c =

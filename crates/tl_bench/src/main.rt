@@ -1,0 +1,61 @@
+//! Loops to measure, one word each. The scripts in `bench/` run them beside the program.
+#![tactic(auto)]
+
+use sha2::{Digest, Sha256};
+use std::process::ExitCode;
+use std::{env, io};
+
+// The digest of the first bytes of a message, written over its front.
+fn digest_once(message: &mut [u8; 4096], length: usize) {
+    let mut hasher = Sha256::new();
+    hasher.update(&message[..length.min(4096)]);
+    let digest = hasher.finalize();
+    message[..32].copy_from_slice(&digest);
+}
+
+// So many SHA-256 digests of messages of this many bytes, each with the digest before it at its front: the last one's first byte.
+fn digests(count: u64, length: usize) -> u8 {
+    let mut message = [0u8; 4096];
+    for _ in 0..count {
+        digest_once(&mut message, length);
+    }
+    message[0]
+}
+
+// Digests as the words say, two by two: so many of so many bytes each.
+fn sha256(rt: &impl Print, words: &[String]) -> io::Result<bool> {
+    for pair in words.chunks(2) {
+        let [count, length] = pair else {
+            return Ok(false);
+        };
+        let (Ok(count), Ok(length)) = (count.parse::<u64>(), length.parse::<usize>()) else {
+            return Ok(false);
+        };
+        println!(rt;
+            "{count} digests of {length} bytes: {}",
+            digests(count, length)
+        )?;
+    }
+    Ok(true)
+}
+
+fn main(rt: HostRuntime) -> ExitCode {
+    let Ok(args) = env::args(&rt) else {
+        return ExitCode::from(2);
+    };
+    let Ok(words) = args.collect::<Vec<String>>(rt.alloc()) else {
+        return ExitCode::from(1);
+    };
+    let outcome = match words.as_slice() {
+        [_, word, rest @ ..] if word.as_str() == "sha256" => sha256(&rt, rest),
+        _ => Ok(false),
+    };
+    match outcome {
+        Ok(true) => ExitCode::SUCCESS,
+        Ok(false) => {
+            let _ = rt.eprintln("usage: tl_bench sha256 COUNT LENGTH ..");
+            ExitCode::from(2)
+        }
+        Err(_) => ExitCode::from(3),
+    }
+}

@@ -1,0 +1,87 @@
+//! The command `head`: what it prints and what it refuses.
+
+use std::alloc::Global;
+use std::test::Fail;
+use tl_server::{Counted, RunFault, exit_of, fault_line, read_entries, run_head};
+
+pub const NO_ENTRY: &str = "example.com/log\n0\n47DEQpj8HBSa+/TImW+5JCeuQeRkm5NMpJWZG3hSuFU=\n";
+
+pub const ONE_ENTRY: &str = "example.com/log\n1\nbjQLnP+zepicpUTmu3gKLHiQHT+zNzh2hRGjBhevoB0=\n";
+
+pub const TWO_ENTRIES: &str = "example.com/log\n2\n+sVCA+fMaWzw38tCySodnbr3CtnmIfS9jZhmLwDjwSU=\n";
+
+// What `head` writes for this input, and its fault.
+fn head(alloc: Global, origin: &str, input: &[u8]) -> (Vec<u8>, Result<(), RunFault>) {
+    let mut reader = Counted::new(input);
+    let mut writer = Counted::new(Vec::new(alloc));
+    let outcome = run_head(alloc, origin, &mut reader, &mut writer);
+    (writer.into_inner(), outcome)
+}
+
+#[test]
+fn checkpoints_of_small_logs(rt: HostRuntime) {
+    let cases = [
+        ("", NO_ENTRY),
+        ("\n", ONE_ENTRY),
+        ("\n\0\n", TWO_ENTRIES),
+        ("\n\0", TWO_ENTRIES),
+    ];
+    for (input, want) in cases {
+        let (text, outcome) = head(rt.alloc(), "example.com/log", input.as_bytes());
+        assert_eq!(rt; outcome, Ok(()), "for {input:?}");
+        assert_eq!(rt; text.as_slice(), want.as_bytes(), "for {input:?}");
+    }
+}
+
+#[test]
+fn an_entry_of_65536_bytes_is_too_long(rt: HostRuntime) -> Result<(), Fail> {
+    let mut long = vec![in rt.alloc(); 120u8; 65536]?;
+    long.push(10)?;
+    let (text, outcome) = head(rt.alloc(), "example.com/log", long.as_slice());
+    assert_eq!(rt; outcome, Err(RunFault::EntryTooLong(0)));
+    assert_eq!(rt; text.len(), 0);
+    let (text, outcome) = head(rt.alloc(), "example.com/log", &long.as_slice()[1..]);
+    assert_eq!(rt; outcome, Ok(()));
+    assert!(rt; text.as_slice().starts_with(b"example.com/log\n1\n"));
+    Ok(())
+}
+
+#[test]
+fn origins_that_are_not_one_line(rt: HostRuntime) {
+    for origin in ["", "a\nb", "a\0", "\u{1f}"] {
+        let (text, outcome) = head(rt.alloc(), origin, b"\n");
+        assert_eq!(rt; outcome, Err(RunFault::BadOrigin), "for {origin:?}");
+        assert_eq!(rt; text.len(), 0);
+    }
+}
+
+#[test]
+fn more_bytes_than_are_read(rt: HostRuntime) -> Result<(), Fail> {
+    let mut reader = Counted::new(b"abc".as_slice());
+    let entries = read_entries(rt.alloc(), &mut reader, 2);
+    assert_eq!(rt; entries.err(), Some(RunFault::TooLarge));
+    assert!(rt; !reader.failed());
+    let mut reader = Counted::new(b"abc".as_slice());
+    let entries = read_entries(rt.alloc(), &mut reader, 3)?;
+    assert_eq!(rt; entries.len(), 1);
+    assert_eq!(rt; entries[0].as_slice(), b"abc".as_slice());
+    Ok(())
+}
+
+#[test]
+fn lines_and_exit_statuses(rt: HostRuntime) -> Result<(), Fail> {
+    let cases = [
+        (RunFault::EntryTooLong(0), "tlog: entry 0 too long", 1),
+        (RunFault::BadOrigin, "tlog: bad origin", 1),
+        (RunFault::Chain(12), "tlog: chain 12 refused", 1),
+        (RunFault::Read, "tlog: read failed", 3),
+        (RunFault::Accept, "tlog: accept failed", 3),
+    ];
+    for (fault, want, status) in cases {
+        let line = fault_line(rt.alloc(), &fault)?.ok_or("no line")?;
+        assert_eq!(rt; line.as_str(), want);
+        assert_eq!(rt; exit_of(&fault), status);
+    }
+    assert!(rt; fault_line(rt.alloc(), &RunFault::Refused)?.is_none());
+    Ok(())
+}

@@ -1,0 +1,15 @@
+//! Worked examples that cross crates, growths refused in turn, and devices that fail. It has tests alone.
+#![tactic(auto)]
+
+#[cfg(test)]
+mod devices;
+#[cfg(test)]
+mod heads;
+#[cfg(test)]
+mod refusals;
+#[cfg(test)]
+mod trees;
+#[cfg(test)]
+mod vectors;
+#[cfg(test)]
+mod words;

@@ -1,0 +1,106 @@
+//! Each call with its first request for memory refused, then its second, and so on, until none is refused.
+
+use crate::heads::TWO_ENTRIES;
+use std::alloc::Global;
+use std::test::Fail;
+use tl_checkpoint::{Checkpoint, CheckpointFault, write};
+use tl_hash::{Hash, Sha256Tree, entry_root};
+use tl_server::{Counted, RunFault, fault_line, read_entries, run_head};
+use tl_testing::Refusing;
+
+// More requests than any of the calls makes.
+const MOST: u64 = 1000;
+
+#[test]
+fn write_answers_out_of_memory(rt: HostRuntime) -> Result<(), Fail> {
+    let alloc = rt.alloc();
+    let mut extensions = Vec::new(alloc);
+    extensions.push(String::from_str(alloc, "an extension line")?)?;
+    let checkpoint = Checkpoint {
+        origin: String::from_str(alloc, "example.com/log")?,
+        size: 7,
+        root: Hash::from_bytes([3; 32]),
+        extensions,
+    };
+    let want = write(alloc, &checkpoint)?;
+    for number in 1..MOST {
+        let heap = Refusing::at(alloc, number);
+        let answer = write(&heap, &checkpoint);
+        if !heap.refused() {
+            assert!(rt; number > 2);
+            assert_eq!(rt; answer?.as_str(), want.as_str());
+            return Ok(());
+        }
+        assert_eq!(rt; answer.err(), Some(CheckpointFault::OutOfMemory));
+        assert_eq!(rt; write(&heap, &checkpoint)?.as_str(), want.as_str());
+    }
+    assert!(rt; false, "each run was refused");
+    Ok(())
+}
+
+#[test]
+fn read_entries_answers_out_of_memory(rt: HostRuntime) -> Result<(), Fail> {
+    let alloc = rt.alloc();
+    let input = b"a\n\nthe third entry\n".as_slice();
+    let want = entry_root(
+        Sha256Tree,
+        read_entries(alloc, &mut Counted::new(input), 100)?.as_slice(),
+    );
+    for number in 1..MOST {
+        let heap = Refusing::at(alloc, number);
+        let mut reader = Counted::new(input);
+        let answer = read_entries(&heap, &mut reader, 100);
+        assert!(rt; !reader.failed());
+        if !heap.refused() {
+            assert!(rt; number > 3);
+            assert!(rt; entry_root(Sha256Tree, answer?.as_slice()) == want);
+            return Ok(());
+        }
+        assert_eq!(rt; answer.err(), Some(RunFault::OutOfMemory));
+        let again = read_entries(&heap, &mut Counted::new(input), 100)?;
+        assert!(rt; entry_root(Sha256Tree, again.as_slice()) == want);
+    }
+    assert!(rt; false, "each run was refused");
+    Ok(())
+}
+
+// The outcome of `head` with this heap, and what it wrote.
+fn head_on(alloc: Global, heap: &Refusing<Global>) -> (Result<(), RunFault>, Vec<u8>) {
+    let mut reader = Counted::new(b"\n\0".as_slice());
+    let mut writer = Counted::new(Vec::new(alloc));
+    let outcome = run_head(heap, "example.com/log", &mut reader, &mut writer);
+    (outcome, writer.into_inner())
+}
+
+#[test]
+fn head_answers_out_of_memory(rt: HostRuntime) -> Result<(), Fail> {
+    for number in 1..MOST {
+        let heap = Refusing::at(rt.alloc(), number);
+        let (outcome, text) = head_on(rt.alloc(), &heap);
+        if !heap.refused() {
+            assert!(rt; number > 5);
+            assert_eq!(rt; outcome, Ok(()));
+            assert_eq!(rt; text.as_slice(), TWO_ENTRIES.as_bytes());
+            return Ok(());
+        }
+        assert_eq!(rt; outcome, Err(RunFault::OutOfMemory), "at request {number}");
+        assert_eq!(rt; text.len(), 0);
+        let (outcome, text) = head_on(rt.alloc(), &heap);
+        assert_eq!(rt; outcome, Ok(()));
+        assert_eq!(rt; text.as_slice(), TWO_ENTRIES.as_bytes());
+    }
+    assert!(rt; false, "each run was refused");
+    Ok(())
+}
+
+#[test]
+fn fault_line_needs_memory_for_its_text(rt: HostRuntime) -> Result<(), Fail> {
+    for fault in [RunFault::Read, RunFault::EntryTooLong(7)] {
+        let heap = Refusing::since(rt.alloc(), 1);
+        assert!(rt; fault_line(&heap, &fault).is_err());
+        assert!(rt; heap.refused());
+    }
+    let heap = Refusing::since(rt.alloc(), 1);
+    assert!(rt; fault_line(&heap, &RunFault::Refused)?.is_none());
+    Ok(())
+}
