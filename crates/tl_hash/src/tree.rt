@@ -39,6 +39,7 @@ fn split_point(n: usize) -> usize
 
 /// The Merkle tree hash of a list of entries, by the plain recursion of RFC 6962, section 2.1. It takes no memory but
 /// one call's for each level of the tree.
+#[tactic(auto, using(crate::proofs::TreeLemmas::tree_hash_of_none))]
 pub fn entry_root<T: TreeHash, A: Allocator>(h: T, entries: &[Vec<u8, A>]) -> Hash
     ensures { result ≡ tree_hash T.digest_of (map vec_items entries.now) }
 {

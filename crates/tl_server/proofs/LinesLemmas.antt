@@ -1,5 +1,5 @@
 -- The first entry of an input, by where its newline is.
-use Rattle.std.proofs.Common.{◌≡◌, ◌≢◌, ℕ, zero, suc, ◌+◌, ◌<◌, ◌≤◌, List, [], ◌∷◌, ◌++◌, length, take, drop, get_or, cond, Bool, true, false, refl, sym, ◌∙◌, ap, arith, eq-eqb, add-one, Some, None, ◌-◌}
+use Rattle.std.proofs.Common.{◌≡◌, ◌≢◌, ℕ, zero, suc, ◌+◌, ◌<◌, ◌≤◌, List, [], ◌∷◌, length, take, drop, get_or, cond, Bool, true, refl, sym, ◌∙◌, ap, arith, eq-eqb, add-one, Some, None, ◌-◌}
 use Rattle.std.specs.Prelude.{Option, position, map, nat_lt, vec_items, vec_len, ◌==◌, not}
 use Rattle.std.specs.declared.vec.Vec.{Vec}
 use Rattle.std.specs.List.{prefix_len, position_or_len, slice_split, onto_first}

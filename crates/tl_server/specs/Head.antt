@@ -1,5 +1,5 @@
 -- The command `head`: the checkpoint of the log whose entries are the lines of the input.
-use Rattle.std.specs.Prelude.{ℕ, List, [], length, Option, Some, None, Result, Ok, Err}
+use Rattle.std.specs.Prelude.{ℕ, List, [], length, Option, Some, None, Result, Err}
 use Rattle.sha2.specs.Sha256.{sha256}
 use Rattle.tl_hash.specs.Tree.{tree_hash}
 use Rattle.tl_checkpoint.specs.Checkpoint.{checkpoint_text, IsOneLine}

@@ -1,10 +1,11 @@
 //! Readers and writers that remember whether they failed.
 
-ghost use Rattle.std.specs.Prelude.{◌≡◌, ◌<◌, ◌≤◌, true, false, length, take, IfOk, IfErr, IfSome, IfNone, OnOk, OnErr, OnSome};
-ghost use Rattle.std.specs.Io.KnownBytes.{Consumes, IsAtEnd, Appends, Keeps};
+ghost use Rattle.std.specs.Prelude.{◌≡◌, false};
 
-use std::io::{Read, Write};
 use std::marker::Model;
+
+pub(crate) mod reading;
+pub(crate) mod writing;
 
 /// A reader or a writer, and whether a call of it ever failed. An interrupted call and a write that takes no byte count as
 /// failures.
@@ -49,44 +50,5 @@ impl<D> Counted<D> {
         ensures { result ≡ self.now.failed }
     {
         self.has_failed
-    }
-}
-
-impl<R: Read> Counted<R> {
-    // One read of the device, which gives the number of bytes read. Any error of it is a failure.
-    pub(crate) fn read_some(&mut self, buf: &mut [u8]) -> Option<usize>
-        ensures bound { IfSome result (λ n. n ≤ length buf.new) }
-        ensures consumed { IfSome result (λ n. Consumes (R.remaining self.old.device) (R.remaining self.new.device) (take n buf.new)) }
-        ensures ended { IfSome result (λ n. n ≡ 0 → 0 < length buf.new → IsAtEnd (R.remaining self.new.device)) }
-        ensures steady { OnSome result (self.new.failed ≡ self.old.failed) }
-        ensures failed { IfNone result (self.new.failed ≡ true) }
-    {
-        match self.device.read(buf) {
-            Ok(n) => Some(n),
-            Err(_) => {
-                self.has_failed = true;
-                None
-            }
-        }
-    }
-}
-
-impl<W: Write> Counted<W> {
-    // One write of the device, which gives the number of bytes taken. An error of it, or a write that takes nothing, is a failure.
-    pub(crate) fn write_some(&mut self, bytes: &[u8]) -> Option<usize>
-        requires { 0 < length bytes.now }
-        ensures bound { IfSome result (λ n. (0 < n) × (n ≤ length bytes.now)) }
-        ensures appended { IfSome result (λ n. Appends (W.contents self.old.device) (W.contents self.new.device) (take n bytes.now)) }
-        ensures steady { OnSome result (self.new.failed ≡ self.old.failed) }
-        ensures failed { IfNone result (self.new.failed ≡ true) }
-        ensures kept { IfNone result (Keeps (W.contents self.old.device) (W.contents self.new.device)) }
-    {
-        match self.device.write(bytes) {
-            Ok(n) if n > 0 => Some(n),
-            _ => {
-                self.has_failed = true;
-                None
-            }
-        }
     }
 }

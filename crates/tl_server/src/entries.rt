@@ -6,8 +6,8 @@ ghost use Rattle.tl_server.specs.Lines.{entries_of};
 ghost use Rattle.tl_server.specs.Run.{ReadsEntries};
 
 use crate::device::Counted;
+use crate::device::reading::read_whole;
 use crate::fault::RunFault;
-use crate::whole::read_whole;
 use memchr::memchr;
 use std::alloc::{AllocError, Allocator};
 use std::io::Read;

@@ -5,7 +5,6 @@ mod commands;
 mod device;
 mod entries;
 mod fault;
-mod whole;
 mod words;
 
 pub use commands::head::run_head;

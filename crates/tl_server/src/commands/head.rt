@@ -6,9 +6,10 @@ ghost use Rattle.tl_server.specs.Device.{passage};
 ghost use Rattle.tl_server.specs.Head.{head_text, RunsHead};
 
 use crate::device::Counted;
+use crate::device::reading::MOST_INPUT;
+use crate::device::writing::write_whole;
 use crate::entries::read_entries;
 use crate::fault::RunFault;
-use crate::whole::{MOST_INPUT, write_whole};
 use std::alloc::Allocator;
 use std::io::{Read, Write};
 use tl_checkpoint::{Checkpoint, CheckpointFault, is_one_line, write};

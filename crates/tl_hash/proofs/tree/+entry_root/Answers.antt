@@ -1,10 +1,7 @@
-use Rattle.std.proofs.Common.{◌∙◌, sym, vec_items}
+use Rattle.std.proofs.Common.{vec_items}
 use Rattle.std.proofs.lemmas.List.{take_rest}
-use Rattle.tl_hash.proofs.TreeLemmas.{tree_hash-map_none, tree_hash-map_one, tree_hash-map_split}
+use Rattle.tl_hash.proofs.TreeLemmas.{tree_hash-map_one, tree_hash-map_split}
 use Rattle.tl_hash.proofs.tree.+entry_root.Goals as goal
-
-pub returns-in-0 : goal.returns-in-0
-returns-in-0 g t c = c.empty_hash.ensures ∙ sym (tree_hash-map_none vec_items g.T.TreeHash.digest_of c.args.entries.now c.in-0.is)
 
 pub returns-in-1 : goal.returns-in-1
 returns-in-1 g t c =
