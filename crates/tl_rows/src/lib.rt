@@ -8,6 +8,8 @@ mod heads;
 #[cfg(test)]
 mod refusals;
 #[cfg(test)]
+mod store;
+#[cfg(test)]
 mod trees;
 #[cfg(test)]
 mod vectors;

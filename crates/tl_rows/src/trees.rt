@@ -1,15 +1,10 @@
 //! Hashes of trees against outside vectors, with SHA-256 and with a weak digest.
 
-use crate::vectors::{ENTRIES, LEAVES, ROOTS, entries};
+use crate::vectors::{ENTRIES, LEAVES, ROOTS, entries, in_hex};
 use std::alloc::{AllocError, Global};
 use std::test::Fail;
-use tl_hash::{Hash, Sha256Tree, empty_hash, entry_root, leaf_hash, node_hash};
+use tl_hash::{Sha256Tree, empty_hash, entry_root, leaf_hash, node_hash};
 use tl_testing::SumDigest;
-
-// A hash in hexadecimal.
-fn in_hex(alloc: Global, hash: Hash) -> Result<String, AllocError> {
-    hex::encode(alloc, hash.as_bytes().as_slice())
-}
 
 #[test]
 fn leaves_and_roots_of_the_vectors(rt: HostRuntime) -> Result<(), Fail> {

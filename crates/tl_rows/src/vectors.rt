@@ -1,6 +1,7 @@
 //! The eight entries of Google's Certificate Transparency test data, with their hashes under SHA-256 (RFC 6962, section 2.1).
 
 use std::alloc::{AllocError, Global};
+use tl_hash::Hash;
 
 /// The entries.
 pub const ENTRIES: [&[u8]; 8] = [
@@ -69,4 +70,9 @@ pub fn entries(alloc: Global, count: usize) -> Result<Vec<Vec<u8>>, AllocError> 
         list.push(Vec::from_slice(alloc, entry)?)?;
     }
     Ok(list)
+}
+
+/// A hash in hexadecimal.
+pub fn in_hex(alloc: Global, hash: Hash) -> Result<String, AllocError> {
+    hex::encode(alloc, hash.as_bytes().as_slice())
 }

@@ -1,12 +1,12 @@
 -- The first entry of an input, by where its newline is.
-use Rattle.std.proofs.Common.{◌≡◌, ◌≢◌, ℕ, zero, suc, ◌+◌, ◌<◌, ◌≤◌, List, [], ◌∷◌, length, take, drop, get_or, cond, Bool, true, refl, sym, ◌∙◌, ap, arith, eq-eqb, add-one, Some, None, ◌-◌}
+use Rattle.std.proofs.Common.{inl, inr, ◌≡◌, ◌≢◌, ℕ, zero, suc, ◌+◌, ◌<◌, ◌≤◌, List, [], ◌∷◌, length, take, drop, get_or, cond, Bool, true, refl, sym, ◌∙◌, ap, arith, eq-eqb, add-one, Some, None, ◌-◌}
 use Rattle.std.specs.Prelude.{Option, position, map, nat_lt, vec_items, vec_len, ◌==◌, not}
 use Rattle.std.specs.declared.vec.Vec.{Vec}
 use Rattle.std.specs.List.{prefix_len, position_or_len, slice_split, onto_first}
 use Rattle.std.proofs.lemmas.List.Splits.{slice_split-cons_yes, slice_split-cons_no, length-slice_split}
 use Rattle.std.proofs.Math.Seq.{drop-length}
 use Rattle.std.proofs.lemmas.List.{take_rest, length-map}
-use Rattle.std.proofs.lemmas.Bool.{ne_eqb, eqb-true}
+use Rattle.std.proofs.lemmas.Bool.{ne_eqb, eqb-true, cases_eq}
 use Rattle.tl_server.specs.Lines.{entries_of, without_empty_last, is_too_long, first_too_long}
 
 -- an empty last piece is dropped wherever the pieces are cut
@@ -91,3 +91,17 @@ too_long_by_len {A} xs =
     let size : length xs ≡ length (map vec_items xs) = sym (length-map xs vec_items) in
     let P : ℕ → ℕ → Option ℕ = λ n m. cond (nat_lt n m) (Some n) None in
     ap (λ n. P n (length xs)) place ∙ ap (λ m. P (position_or_len is_too_long (map vec_items xs)) m) size
+
+-- an input has no more entries than bytes
+length-onto_first : (byte : ℕ) (pieces : List (List ℕ)) (n : ℕ) → length pieces ≤ n → length (onto_first byte pieces) ≤ suc n
+length-onto_first byte [] n few = omega arith
+length-onto_first byte (piece ∷ pieces) n few = omega arith
+
+pub length-entries_of : (input : List ℕ) → length (entries_of input) ≤ length input
+unfolding entries_of
+length-entries_of [] = omega arith
+length-entries_of (byte ∷ rest) =
+    elim (cases_eq byte 10) as (λ _. length (entries_of (byte ∷ rest)) ≤ length (byte ∷ rest)) [
+      | inl same ↦ omega (arith, ap length (step_newline byte rest same), length-entries_of rest)
+      | inr other ↦ omega (arith, ap length (step_other byte rest other), length-onto_first byte (entries_of rest) (length rest) (length-entries_of rest))
+    ]

@@ -17,32 +17,32 @@ abbrev pub most_input : ℕ
 most_input = 67108864
 
 -- the whole input was read, and this is to come of it
-pub record CameOf (does : List ℕ → Outcome) (i : Passage) (outcome : Outcome) : Type 0 where
+pub record CameOf (Comes : List ℕ → Outcome → Type 0) (i : Passage) (outcome : Outcome) : Type 0 where
   pub input : List ℕ
   pub whole : ReadWhole i most_input input
-  pub so : does input ≡ outcome
+  pub so : Comes input outcome
 
 -- the whole input was read and all was written that is to come of it
-pub record Wrote (does : List ℕ → Outcome) (how : List ℕ → Outcome) (i o : Passage) : Type 0 where
+pub record Wrote (Comes : List ℕ → Outcome → Type 0) (how : List ℕ → Outcome) (i o : Passage) : Type 0 where
   pub text : List ℕ
-  pub came : CameOf does i (how text)
+  pub came : CameOf Comes i (how text)
   pub written : WroteWhole o text
 
 -- the whole input was read, and the writer failed in what is to come of it
-pub record WroteSome (does : List ℕ → Outcome) (i o : Passage) : Type 0 where
+pub record WroteSome (Comes : List ℕ → Outcome → Type 0) (i o : Passage) : Type 0 where
   pub text : List ℕ
-  pub came : CameOf does i (Prints text) ⊎ CameOf does i (PrintsRefusal text)
+  pub came : CameOf Comes i (Prints text) ⊎ CameOf Comes i (PrintsRefusal text)
   pub part : WrotePart o text
 
--- a run of a command: i is its reader, o its writer, and `does` says what is to come of an input
-abbrev pub Runs : (List ℕ → Outcome) → Passage → Passage → Result (Unit {0}) RunFault → Type 0
-Runs does i o (Ok done) = Wrote does Prints i o
-Runs does i o (Err Refused) = Wrote does PrintsRefusal i o
-Runs does i o (Err Read) = HasFailed i × IsUnwritten o
-Runs does i o (Err Write) = WroteSome does i o
-Runs does i o (Err TooLarge) = ReadPast i most_input × IsUnwritten o
-Runs does i o (Err OutOfMemory) = IsSteady i × IsUnwritten o
-Runs does i o (Err fault) = CameOf does i (Fails fault) × IsUnwritten o
+-- a run of a command: i is its reader, o its writer, and `Comes` relates an input and what is to come of it
+abbrev pub Runs : (List ℕ → Outcome → Type 0) → Passage → Passage → Result (Unit {0}) RunFault → Type 0
+Runs Comes i o (Ok done) = Wrote Comes Prints i o
+Runs Comes i o (Err Refused) = Wrote Comes PrintsRefusal i o
+Runs Comes i o (Err Read) = HasFailed i × IsUnwritten o
+Runs Comes i o (Err Write) = WroteSome Comes i o
+Runs Comes i o (Err TooLarge) = ReadPast i most_input × IsUnwritten o
+Runs Comes i o (Err OutOfMemory) = IsSteady i × IsUnwritten o
+Runs Comes i o (Err fault) = CameOf Comes i (Fails fault) × IsUnwritten o
 
 -- reading all that a reader gives, at most so many bytes
 abbrev pub ReadsWhole : {A : Type 0} → ℕ → Passage → Result (Vec ℕ A) RunFault → Type 0
@@ -51,6 +51,11 @@ ReadsWhole most p (Err Read) = HasFailed p
 ReadsWhole most p (Err TooLarge) = ReadPast p most
 ReadsWhole most p (Err OutOfMemory) = IsSteady p
 ReadsWhole most p (Err fault) = ⊥
+
+-- a fault of the entries of an input: the first one that is too long is at this place
+abbrev pub IsEntryFault : List (List ℕ) → RunFault → Type 0
+IsEntryFault entries (EntryTooLong place) = first_too_long entries ≡ Some place
+IsEntryFault entries fault = ⊥
 
 -- the entries are the lines of the whole input, and none is too long
 pub record ReadEntries (p : Passage) (most : ℕ) (entries : List (List ℕ)) : Type 0 where

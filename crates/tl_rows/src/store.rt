@@ -1,0 +1,300 @@
+//! Stored hashes: the numbers, a store over the worked entries, heads, and refused growths.
+
+use crate::vectors::{ENTRIES, LEAVES, ROOTS, in_hex};
+use std::alloc::{AllocError, Allocator, Global};
+use std::cell::Cell;
+use std::test::Fail;
+use tl_hash::{Hash, Sha256Tree, empty_hash, entry_root};
+use tl_store::{
+    HashReader, HashStore, ReadFault, split_index, stored_count, stored_index, tree_hash,
+};
+use tl_testing::Refusing;
+
+// More requests than any of the calls makes.
+const MOST: u64 = 1000;
+
+// A store of these entries, of which there are few.
+fn store_of<A: Allocator>(
+    alloc: A,
+    entries: &[&[u8]],
+) -> Result<HashStore<Sha256Tree, A>, AllocError> {
+    let mut store = HashStore::new(alloc, Sha256Tree);
+    for entry in entries {
+        if store.size() < MOST {
+            store.append(entry)?;
+        }
+    }
+    Ok(store)
+}
+
+#[test]
+fn numbers_of_subtrees_and_back(rt: HostRuntime) -> Result<(), Fail> {
+    assert_eq!(rt; stored_index(0, 0), 0);
+    assert_eq!(rt; stored_index(1, 0), 2);
+    assert_eq!(rt; stored_index(2, 0), 6);
+    assert_eq!(rt; stored_index(0, 7), 11);
+    assert_eq!(rt; stored_index(3, 0), 14);
+    assert_eq!(rt; stored_index(0, 8), 15);
+    assert_eq!(rt; stored_index(62, 0), 9223372036854775806);
+    assert!(rt; split_index(0) == (0, 0));
+    assert!(rt; split_index(2) == (1, 0));
+    assert!(rt; split_index(6) == (2, 0));
+    assert!(rt; split_index(11) == (0, 7));
+    assert!(rt; split_index(14) == (3, 0));
+    assert!(rt; split_index(15) == (0, 8));
+    assert!(rt; split_index(9223372036854775806) == (62, 0));
+    Ok(())
+}
+
+#[test]
+fn counts_of_stored_hashes(rt: HostRuntime) -> Result<(), Fail> {
+    assert_eq!(rt; stored_count(0), 0);
+    assert_eq!(rt; stored_count(1), 1);
+    assert_eq!(rt; stored_count(7), 11);
+    assert_eq!(rt; stored_count(8), 15);
+    assert_eq!(rt; stored_count(1 << 62), 9223372036854775807);
+    Ok(())
+}
+
+#[test]
+fn store_of_seven_entries_and_one_more(rt: HostRuntime) -> Result<(), Fail> {
+    let alloc = rt.alloc();
+    let mut store = store_of(alloc, &ENTRIES[..7])?;
+    assert_eq!(rt; store.read(alloc, &[14]).err(), Some(ReadFault::OutOfRange));
+    assert_eq!(rt;
+        store.read(alloc, &[11, 11]).err(),
+        Some(ReadFault::OutOfRange)
+    );
+    let leaves = store.read(alloc, &[10, 0])?;
+    assert_eq!(rt; leaves.len(), 2);
+    assert_eq!(rt; in_hex(alloc, leaves[0])?.as_str(), LEAVES[6]);
+    assert_eq!(rt; in_hex(alloc, leaves[1])?.as_str(), LEAVES[0]);
+    assert_eq!(rt; store.size(), 7);
+    assert_eq!(rt; store.append(ENTRIES[7])?, 7);
+    assert_eq!(rt; store.size(), 8);
+    let top = store.read(alloc, &[14, 14])?;
+    assert_eq!(rt; top.len(), 2);
+    assert_eq!(rt; in_hex(alloc, top[0])?.as_str(), ROOTS[7].1);
+    assert_eq!(rt; in_hex(alloc, top[1])?.as_str(), ROOTS[7].1);
+    assert_eq!(rt; store.read(alloc, &[]).map(|hashes| hashes.len()), Ok(0));
+    Ok(())
+}
+
+#[test]
+fn heads_of_the_worked_entries(rt: HostRuntime) -> Result<(), Fail> {
+    let alloc = rt.alloc();
+    let store = store_of(alloc, &ENTRIES)?;
+    for (size, root) in ROOTS {
+        let head = tree_hash(alloc, Sha256Tree, size as u64, &store)?;
+        assert_eq!(rt; in_hex(alloc, head)?.as_str(), root, "of {size} entries");
+    }
+    assert!(rt; tree_hash(alloc, Sha256Tree, 0, &store)? == empty_hash(Sha256Tree));
+    for size in [9, 1 << 62, (1 << 62) + 1, u64::MAX] {
+        assert_eq!(rt;
+            tree_hash(alloc, Sha256Tree, size, &store).err(),
+            Some(ReadFault::OutOfRange)
+        );
+    }
+    Ok(())
+}
+
+#[test]
+fn head_is_the_plain_recursion(rt: HostRuntime) -> Result<(), Fail> {
+    let alloc = rt.alloc();
+    let mut store = HashStore::new(alloc, Sha256Tree);
+    let mut entries = Vec::new(alloc);
+    let mut roots = vec![in alloc; entry_root(Sha256Tree, entries.as_slice())]?;
+    for number in 0..130u8 {
+        if store.size() < MOST {
+            store.append(&[number])?;
+        }
+        entries.push(vec![in alloc; number]?)?;
+        roots.push(entry_root(Sha256Tree, entries.as_slice()))?;
+    }
+    assert_eq!(rt; store.size(), 130);
+    let mut size = 0;
+    for root in &roots {
+        assert!(rt; tree_hash(alloc, Sha256Tree, size, &store)? == *root);
+        size += 1;
+    }
+    Ok(())
+}
+
+#[test]
+fn append_leaves_the_store_as_it_was(rt: HostRuntime) -> Result<(), Fail> {
+    let alloc = rt.alloc();
+    let whole = store_of(alloc, &ENTRIES)?;
+    for number in 1..MOST {
+        let heap = Refusing::at(alloc, number);
+        let mut store = HashStore::new(&heap, Sha256Tree);
+        for entry in ENTRIES {
+            let before = store.size();
+            assert!(rt; before < 8);
+            if let Err(_) = store.append(entry) {
+                assert!(rt; heap.refused());
+                assert_eq!(rt; store.size(), before);
+                assert!(rt;
+                    tree_hash(alloc, Sha256Tree, before, &store)?
+                        == tree_hash(alloc, Sha256Tree, before, &whole)?
+                );
+                assert_eq!(rt; store.append(entry)?, before);
+            }
+        }
+        assert!(rt;
+            tree_hash(alloc, Sha256Tree, 8, &store)? == tree_hash(alloc, Sha256Tree, 8, &whole)?
+        );
+        if !heap.refused() {
+            assert!(rt; number > 1);
+            return Ok(());
+        }
+    }
+    assert!(rt; false, "each run was refused");
+    Ok(())
+}
+
+#[test]
+fn read_answers_out_of_memory(rt: HostRuntime) -> Result<(), Fail> {
+    let store = store_of(rt.alloc(), &ENTRIES)?;
+    let indexes = [14, 0, 14, 3, 7, 11, 2, 6, 1, 14, 5];
+    let want = store.read(rt.alloc(), &indexes)?;
+    for number in 1..MOST {
+        let heap = Refusing::at(rt.alloc(), number);
+        let answer = store.read(&heap, &indexes);
+        if !heap.refused() {
+            assert!(rt; number > 1);
+            assert!(rt; answer?.as_slice() == want.as_slice());
+            return Ok(());
+        }
+        match answer {
+            Ok(_hashes) => assert!(rt; false, "an answer with request {number} refused"),
+            Err(fault) => assert_eq!(rt; fault, ReadFault::OutOfMemory),
+        }
+    }
+    assert!(rt; false, "each run was refused");
+    Ok(())
+}
+
+#[test]
+fn tree_hash_answers_out_of_memory(rt: HostRuntime) -> Result<(), Fail> {
+    let store = store_of(rt.alloc(), &ENTRIES[..7])?;
+    let want = tree_hash(rt.alloc(), Sha256Tree, 7, &store)?;
+    for number in 1..MOST {
+        let heap = Refusing::at(rt.alloc(), number);
+        let answer = tree_hash(&heap, Sha256Tree, 7, &store);
+        if !heap.refused() {
+            assert!(rt; number > 2);
+            assert!(rt; answer? == want);
+            return Ok(());
+        }
+        match answer {
+            Ok(_root) => assert!(rt; false, "an answer with request {number} refused"),
+            Err(fault) => assert_eq!(rt; fault, ReadFault::OutOfMemory),
+        }
+    }
+    assert!(rt; false, "each run was refused");
+    Ok(())
+}
+
+// A reader over a store that counts its reads and the hashes asked of it.
+#[derive(Drop)]
+struct CountedReader {
+    store: HashStore<Sha256Tree, Global>,
+    reads: Cell<u32>,
+    hashes: Cell<usize>,
+}
+
+impl HashReader for CountedReader {
+    ghost use Rattle.std.specs.Prelude.{false};
+    ghost use Rattle.tl_store.specs.Store.{StandsFor};
+
+    ghost size = { λ r. r.store.size };
+
+    ghost stands_for = { λ r H entries. StandsFor r.store H entries };
+
+    ghost may_fail = { λ r. false };
+
+    fn read<B: Allocator>(&self, alloc: B, indexes: &[u64]) -> Result<Vec<Hash, B>, ReadFault> {
+        self.reads.set(self.reads.get().saturating_add(1));
+        self.hashes
+            .set(self.hashes.get().saturating_add(indexes.len()));
+        self.store.read(alloc, indexes)
+    }
+
+    ghost stands_size = { λ r H entries stands. (stands.0, stands.1) };
+}
+
+#[test]
+fn head_is_one_read_of_the_covering_subtrees(rt: HostRuntime) -> Result<(), Fail> {
+    let alloc = rt.alloc();
+    for (size, reads, hashes) in [(0, 0, 0), (1, 1, 1), (6, 1, 2), (7, 1, 3), (8, 1, 1)] {
+        let reader = CountedReader {
+            store: store_of(alloc, &ENTRIES)?,
+            reads: Cell::new(0),
+            hashes: Cell::new(0),
+        };
+        let _root = tree_hash(alloc, Sha256Tree, size, &reader)?;
+        assert_eq!(rt; reader.reads.get(), reads, "at {size}");
+        assert_eq!(rt; reader.hashes.get(), hashes, "at {size}");
+    }
+    Ok(())
+}
+
+// A reader whose source fails: it has the count of a store, and answers this fault in the place of its hashes.
+#[derive(Drop)]
+struct FailingReader {
+    store: HashStore<Sha256Tree, Global>,
+    tile: Option<u64>,
+}
+
+impl HashReader for FailingReader {
+    ghost use Rattle.std.specs.Prelude.{true};
+
+    ghost size = { λ r. r.store.size };
+
+    ghost stands_for = { λ r H entries. ⊥ };
+
+    ghost may_fail = { λ r. true };
+
+    fn read<B: Allocator>(&self, alloc: B, indexes: &[u64]) -> Result<Vec<Hash, B>, ReadFault> {
+        let _hashes = self.store.read(alloc, indexes)?;
+        match self.tile {
+            None => Err(ReadFault::Source),
+            Some(index) => Err(ReadFault::BadTile {
+                level: 1,
+                index,
+                width: 256,
+            }),
+        }
+    }
+
+    ghost stands_size = { λ r H entries stands. absurd stands };
+}
+
+#[test]
+fn what_a_failing_source_answers_is_passed_on(rt: HostRuntime) -> Result<(), Fail> {
+    let alloc = rt.alloc();
+    let broken = FailingReader {
+        store: store_of(alloc, &ENTRIES)?,
+        tile: None,
+    };
+    assert_eq!(rt;
+        tree_hash(alloc, Sha256Tree, 7, &broken).err(),
+        Some(ReadFault::Source)
+    );
+    assert_eq!(rt;
+        tree_hash(alloc, Sha256Tree, 9, &broken).err(),
+        Some(ReadFault::OutOfRange)
+    );
+    assert!(rt; tree_hash(alloc, Sha256Tree, 0, &broken)? == empty_hash(Sha256Tree));
+    let changed = FailingReader {
+        store: store_of(alloc, &ENTRIES)?,
+        tile: Some(5),
+    };
+    let bad = ReadFault::BadTile {
+        level: 1,
+        index: 5,
+        width: 256,
+    };
+    assert_eq!(rt; tree_hash(alloc, Sha256Tree, 7, &changed).err(), Some(bad));
+    Ok(())
+}

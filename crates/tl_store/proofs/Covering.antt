@@ -1,0 +1,204 @@
+-- Complete subtrees side by side.
+use Rattle.std.proofs.Common.{◌≡◌, ℕ, suc, ◌+◌, ◌-◌, ◌*◌, ◌/◌, ◌^◌, ◌<◌, ◌≤◌, inl, inr, Bool, cond, All, List, [], ◌∷◌, ◌++◌, length, get_or, take, drop, map, refl, sym, ap, subst, ◌∙◌, append_assoc, arith}
+use Rattle.std.proofs.Math.Pow.{pow_mono}
+use Rattle.std.proofs.lemmas.Nat.{pow_pos, pow-add, div-mul-add}
+use Rattle.std.proofs.lemmas.Bool.{cases_lt, le-leb, lt-leb}
+use Rattle.std.proofs.lemmas.List.{append-nil, take_all, length-take-le, length-drop, take-take, drop-take, drop-drop}
+use Rattle.std.proofs.lemmas.List.Elements.{All-nil, All-cons, All-head, All-tail}
+use Rattle.tl_hash.specs.Split.{IsSplit}
+use Rattle.tl_hash.specs.Tree.{tree_hash, node_input}
+use Rattle.tl_hash.proofs.TreeLemmas.{tree_hash-none, tree_hash-split}
+use Rattle.tl_store.specs.Stored.{stored_count, stored_index, stored_hash}
+use Rattle.tl_store.specs.Reader.{readable_size, GivesFault}
+use Rattle.tl_store.specs.declared.reader.ReadFault.{ReadFault}
+use Rattle.tl_store.specs.declared.reader.ReadFault.TheVariants.{OutOfRange, Source, OutOfMemory, BadTile}
+use Rattle.tl_store.specs.Head.{AreCovering, none, more, GivesHeadFault}
+use Rattle.tl_store.proofs.StoredLemmas.{index_is_place}
+use Rattle.tl_store.proofs.Readable.{stored_count-mono, index-in_count, count-in_index}
+
+-- ---- collecting the numbers
+
+-- `indexes` are those of the subtrees that cover the first `covered` of `size` entries, so far as all are to be found;
+-- `covered` is a multiple of a power of two that is more than what is left
+pub record IsCovered (size covered : ℕ) (indexes : List ℕ) : Type 0 where
+  pub within : covered ≤ size
+  pub aligned : (level : ℕ) × (place : ℕ) × (covered ≡ place * 2 ^ level) × (size < covered + 2 ^ level)
+  pub before : (rest : List ℕ) → AreCovering covered size rest → AreCovering 0 size (indexes ++ rest)
+
+pub covered-none : (size : ℕ) (indexes : List ℕ) → size ≤ 2 ^ 62 → indexes ≡ [] → IsCovered size 0 indexes
+covered-none size indexes small is = record {
+  within = omega arith;
+  aligned = (63, 0, omega arith, omega (arith, small));
+  before = λ rest covering. subst (λ (list : List ℕ). AreCovering 0 size (list ++ rest)) (sym is) covering;
+}
+
+-- the largest subtree that there is room for begins at a multiple of its width
+pub covered-place : (size covered level : ℕ) (indexes : List ℕ) → IsCovered size covered indexes → 2 ^ level ≤ size - covered → covered < size → covered / 2 ^ level * 2 ^ level ≡ covered
+covered-place size covered level indexes is fits some =
+    let p : ℕ = is.aligned.0 in
+    let place : ℕ = is.aligned.1 in
+    let low : level < p =
+    elim (cases_lt level p) as (λ _. level < p) [
+      | inl below ↦ below
+      | inr above ↦ absurd (let most : 2 ^ p ≤ 2 ^ level = pow_mono above in omega (arith, most, fits, is.aligned.3, some))
+    ] in
+    let sum : p ≡ p - level + level = omega (arith, low) in
+    let power : 2 ^ p ≡ 2 ^ (p - level) * 2 ^ level = ap (λ (x : ℕ). 2 ^ x) sum ∙ pow-add 2 (p - level) level in
+    let product : covered ≡ place * 2 ^ (p - level) * 2 ^ level + 0 = is.aligned.2 ∙ ap (λ (x : ℕ). place * x) power ∙ omega arith in
+    let quotient : covered / 2 ^ level ≡ place * 2 ^ (p - level) = ap (λ (x : ℕ). x / 2 ^ level) product ∙ div-mul-add (place * 2 ^ (p - level)) (2 ^ level) 0 (pow_pos level) in
+    ap (λ (x : ℕ). x * 2 ^ level) quotient ∙ omega (arith, product)
+
+pub covered-more : (size covered level width number : ℕ) (indexes next : List ℕ) → IsCovered size covered indexes → covered < size → width ≡ 2 ^ level → 2 ^ level ≤ size - covered → size - covered < 2 * 2 ^ level
+    → number ≡ stored_index level (covered / width) → next ≡ indexes ++ number ∷ [] → IsCovered size (covered + width) next
+covered-more size covered level width number indexes next is some width_is fits largest number_is next_is =
+    let place : ℕ = covered / 2 ^ level in
+    let at : place * 2 ^ level ≡ covered = covered-place size covered level indexes is fits some in
+    let index : number ≡ stored_index level place = number_is ∙ ap (λ (x : ℕ). stored_index level (covered / x)) width_is in
+    record {
+      within = omega (arith, width_is, fits, some);
+      aligned = (level, place + 1, omega (arith, at, width_is), omega (arith, width_is, largest));
+      before = λ rest covering.
+          let from : AreCovering (covered + 2 ^ level) size rest = subst (λ (x : ℕ). AreCovering (covered + x) size rest) width_is covering in
+          let one : AreCovering covered size (stored_index level place ∷ rest) = more covered size level place rest (sym at) (omega (arith, fits, some)) (omega (arith, largest)) from in
+          let list : indexes ++ (stored_index level place ∷ rest) ≡ next ++ rest =
+          (λ i. indexes ++ (sym index i ∷ rest)) ∙ sym (append_assoc indexes (number ∷ []) rest) ∙ ap (λ (xs : List ℕ). xs ++ rest) (sym next_is) in
+          subst (AreCovering 0 size) list (is.before (stored_index level place ∷ rest) one);
+    }
+
+pub covered-all : (size covered : ℕ) (indexes : List ℕ) → IsCovered size covered indexes → size ≤ covered → AreCovering 0 size indexes
+covered-all size covered indexes is end =
+    subst (AreCovering 0 size) (append-nil indexes) (is.before [] (none covered size (omega (arith, end, is.within))))
+
+-- ---- joining the hashes
+
+-- the entries from `start` up to `end`
+abbrev pub segment : ℕ → ℕ → List (List ℕ) → List (List ℕ)
+segment start end entries = take (end - start) (drop start entries)
+
+-- the first subtree's hash
+first_hash : (H : List ℕ → List ℕ) (entries : List (List ℕ)) (start level place : ℕ) → start ≡ place * 2 ^ level → start + 2 ^ level ≤ length entries
+    → stored_hash H entries (stored_index level place) ≡ tree_hash H (take (2 ^ level) (drop start entries))
+first_hash H entries start level place at within =
+    (index_is_place H entries level place (omega (arith, at, within))).1 ∙ ap (λ (x : ℕ). tree_hash H (take (2 ^ level) (drop x entries))) (sym at)
+
+-- what joins the hashes of the subtrees that cover a part of the entries gives its tree hash
+abbrev pub Joins : (List ℕ → List ℕ) → List (List ℕ) → List ℕ → Type 0
+Joins H hashes result =
+    (entries : List (List ℕ)) (start end : ℕ) (indexes : List ℕ) → AreCovering start end indexes → end ≤ length entries → hashes ≡ map (stored_hash H entries) indexes
+    → result ≡ tree_hash H (segment start end entries)
+
+pub joins-none : (H : List ℕ → List ℕ) (hashes : List (List ℕ)) (result : List ℕ) → length hashes ≡ 0 → result ≡ H [] → Joins H hashes result
+joins-none H hashes result empty is entries start end [] (none s e same) within from =
+    let count : end - start ≡ 0 = omega (arith, same) in
+    is ∙ sym (ap (λ (x : ℕ). tree_hash H (take x (drop start entries))) count ∙ tree_hash-none H)
+joins-none H hashes result empty is entries start end _ (more s e level place rest at fits largest covering) within from =
+    absurd (omega (arith, empty, ap length from))
+
+joins_one_at : (H : List ℕ → List ℕ) (hash : List ℕ) (entries : List (List ℕ)) (start end : ℕ) (indexes : List ℕ) → AreCovering start end indexes → end ≤ length entries → hash ∷ [] ≡ map (stored_hash H entries) indexes
+    → hash ≡ tree_hash H (segment start end entries)
+joins_one_at H hash entries start end [] (none s e same) within from = absurd (omega (arith, ap length from))
+joins_one_at H hash entries start end _ (more s e level place [] at fits largest (none s' e' same)) within from =
+    let first : hash ≡ stored_hash H entries (stored_index level place) = cc in
+    let count : 2 ^ level ≡ end - start = omega (arith, same) in
+    first ∙ first_hash H entries start level place at (omega (arith, fits, within)) ∙ ap (λ (x : ℕ). tree_hash H (take x (drop start entries))) count
+joins_one_at H hash entries start end _ (more s e level place (index ∷ rest) at fits largest covering) within from = absurd (omega (arith, ap length from))
+
+pub joins-one : (H : List ℕ → List ℕ) (hashes : List (List ℕ)) (hash : List ℕ) → hashes ≡ hash ∷ [] → Joins H hashes hash
+joins-one H hashes hash is entries start end indexes covering within from = joins_one_at H hash entries start end indexes covering within (sym is ∙ from)
+
+joins_more_at : (H : List ℕ → List ℕ) (left next : List ℕ) (later : List (List ℕ)) (result : List ℕ) → Joins H (next ∷ later) result
+    → (entries : List (List ℕ)) (start end : ℕ) (indexes : List ℕ) → AreCovering start end indexes → end ≤ length entries → left ∷ next ∷ later ≡ map (stored_hash H entries) indexes
+    → H (node_input left result) ≡ tree_hash H (segment start end entries)
+joins_more_at H left next later result joins entries start end [] (none s e same) within from = absurd (omega (arith, ap length from))
+joins_more_at H left next later result joins entries start end _ (more s e level place [] at fits largest covering) within from = absurd (omega (arith, ap length from))
+joins_more_at H left next later result joins entries start end _ (more s e level place (index ∷ rest) at fits largest (more s' e' level' place' rest' at' fits' largest' covering)) within from =
+    let w : ℕ = 2 ^ level in
+    let first : left ≡ stored_hash H entries (stored_index level place) = cc in
+    let others : next ∷ later ≡ map (stored_hash H entries) (stored_index level' place' ∷ rest) = cc in
+    let others_is : result ≡ tree_hash H (segment (start + w) end entries) =
+    joins entries (start + w) end (stored_index level' place' ∷ rest) (more s' e' level' place' rest at' fits' largest' covering) within others in
+    let left_is : left ≡ tree_hash H (take w (drop start entries)) = first ∙ first_hash H entries start level place at (omega (arith, fits, within)) in
+    let whole : List (List ℕ) = segment start end entries in
+    let len : length whole ≡ end - start = length-take-le (end - start) (drop start entries) (omega (arith, length-drop start entries, within)) in
+    let split : IsSplit w (length whole) = record { power = (level, refl); below = omega (arith, len, fits', pow_pos level'); largest = omega (arith, len, largest) } in
+    let left_part : take w whole ≡ take w (drop start entries) = take-take w (end - start) (drop start entries) (omega (arith, fits)) in
+    let sum : end - start ≡ w + (end - (start + w)) = omega (arith, fits) in
+    let right_part : drop w whole ≡ segment (start + w) end entries =
+    ap (λ (x : ℕ). drop w (take x (drop start entries))) sum
+    ∙ drop-take w (end - (start + w)) (drop start entries)
+    ∙ ap (take (end - (start + w))) (drop-drop w start entries) in
+    (λ i. H (node_input (left_is i) (others_is i)))
+    ∙ sym (tree_hash-split H w whole split ∙ (λ i. H (node_input (tree_hash H (left_part i)) (tree_hash H (right_part i)))))
+
+pub joins-more : (H : List ℕ → List ℕ) (hashes : List (List ℕ)) (left : List ℕ) (rest : List (List ℕ)) (below result : List ℕ) → hashes ≡ left ∷ rest → 0 < length rest → Joins H rest below
+    → result ≡ H (node_input left below) → Joins H hashes result
+joins-more H hashes left [] below result is some joins result_is entries start end indexes covering within from = absurd (omega (arith, some))
+joins-more H hashes left (next ∷ later) below result is some joins result_is entries start end indexes covering within from =
+    result_is ∙ joins_more_at H left next later below joins entries start end indexes covering within (sym is ∙ from)
+
+-- ---- what can be read
+
+-- each number is below the count
+pub covering-below : (start end : ℕ) (indexes : List ℕ) → AreCovering start end indexes → All (λ index. index < stored_count end) indexes
+covering-below start end [] covering = All-nil (λ (index : ℕ). index < stored_count end)
+covering-below start end _ (more s e level place rest at fits largest covering) =
+    All-cons (λ (index : ℕ). index < stored_count end) (stored_index level place) rest (index-in_count end level place (omega (arith, at, fits))) (covering-below (start + 2 ^ level) end rest covering)
+
+-- and where all are below the count of n entries, these are among them
+pub covering-within : (start end : ℕ) (indexes : List ℕ) (n : ℕ) → AreCovering start end indexes → start < end → All (λ index. index < stored_count n) indexes → end ≤ n
+covering-within start end [] n (none s e same) some below = absurd (omega (arith, same, some))
+covering-within start end _ n (more s e level place rest at fits largest covering) some below =
+    elim (cases_lt (start + 2 ^ level) end) as (λ _. end ≤ n) [
+      | inl before ↦ covering-within (start + 2 ^ level) end rest n covering before (All-tail (λ (index : ℕ). index < stored_count n) (stored_index level place) rest below)
+      | inr last ↦
+          omega (arith, last, at, count-in_index n level place (All-head (λ (index : ℕ). index < stored_count n) (stored_index level place) rest below))
+    ]
+
+-- a fault of the read is one of the tree hash
+pub head_fault : (count : ℕ) (may_fail : Bool) (size : ℕ) (indexes : List ℕ) (fault : ReadFault) → 0 < size → AreCovering 0 size indexes → GivesFault count may_fail indexes fault → GivesHeadFault count may_fail size fault
+head_fault count may_fail size indexes OutOfRange some covering gives =
+    elim (cases_lt (readable_size count) size) as (λ _. readable_size count < size) [
+      | inl above ↦ above
+      | inr within ↦
+          absurd (omega (arith, gives.3, gives.4, covering-below 0 size indexes covering gives.0 gives.1 gives.2, stored_count-mono size (readable_size count) within))
+    ]
+head_fault count may_fail size indexes Source some covering gives = (gives.0, covering-within 0 size indexes (readable_size count) covering some gives.1)
+head_fault count may_fail size indexes OutOfMemory some covering gives = tt
+head_fault count may_fail size indexes (BadTile level index width) some covering gives = (gives.0, covering-within 0 size indexes (readable_size count) covering some gives.1)
+
+-- ---- in the words of the code
+
+-- a slice is its first item and the others
+pub items_first : (hashes : List (List ℕ)) (first : List ℕ) → 0 < length hashes → first ≡ get_or hashes 0 first → hashes ≡ first ∷ take (length hashes - 1) (drop 1 hashes)
+items_first [] first some is = absurd (omega (arith, some))
+items_first (hash ∷ rest) first some is =
+    let count : suc (length rest) - 1 ≡ length rest = omega arith in
+    (λ i. sym is i ∷ rest) ∙ sym (ap (λ (x : ℕ). first ∷ take x rest) count ∙ ap (λ (list : List (List ℕ)). first ∷ list) (take_all (length rest) rest (omega arith)))
+
+pub only_item : (hashes : List (List ℕ)) (first : List ℕ) → length hashes ≡ 1 → first ≡ get_or hashes 0 first → hashes ≡ first ∷ []
+only_item [] first one is = absurd (omega (arith, one))
+only_item (hash ∷ []) first one is = λ i. sym is i ∷ []
+only_item (hash ∷ next ∷ rest) first one is = absurd (omega (arith, one))
+
+pub others_length : (hashes : List (List ℕ)) → 2 ≤ length hashes → 0 < length (take (length hashes - 1) (drop 1 hashes))
+others_length hashes two = omega (arith, length-take-le (length hashes - 1) (drop 1 hashes) (omega (arith, length-drop 1 hashes)), two)
+
+pub root_is : (H : List ℕ → List ℕ) (entries : List (List ℕ)) (size : ℕ) (indexes : List ℕ) (hashes : List (List ℕ)) (result : List ℕ) → AreCovering 0 size indexes → size ≤ length entries
+    → hashes ≡ map (stored_hash H entries) indexes → Joins H hashes result → result ≡ tree_hash H (take size entries)
+root_is H entries size indexes hashes result covering within from joins =
+    let all : size - 0 ≡ size = omega arith in
+    joins entries 0 size indexes covering within from ∙ ap (λ (x : ℕ). tree_hash H (take x entries)) all
+
+pub root_of_none : (H : List ℕ → List ℕ) (entries : List (List ℕ)) (size : ℕ) (result : List ℕ) → size ≡ 0 → result ≡ H [] → result ≡ tree_hash H (take size entries)
+root_of_none H entries size result empty is = is ∙ sym (ap (λ (x : ℕ). tree_hash H (take x entries)) empty ∙ tree_hash-none H)
+
+pub within_reader : (count size actual : ℕ) → size ≤ readable_size count → actual ≡ count → size ≤ actual
+within_reader count size actual within is =
+    elim (cases_lt (2 ^ 62) count) as (λ _. size ≤ actual) [
+      | inl large ↦ omega (arith, within, ap (λ (b : Bool). cond b count 0) (lt-leb count (2 ^ 62) large), is)
+      | inr small ↦ omega (arith, within, ap (λ (b : Bool). cond b count 0) (le-leb count (2 ^ 62) small), is)
+    ]
+
+-- the size of a reader that a list has
+pub size_within : (reader_size size : ℕ) (entries : List (List ℕ)) → (length entries ≡ reader_size) × (length entries ≤ 2 ^ 62) → size ≤ readable_size reader_size → size ≤ length entries
+size_within reader_size size entries stands within = within_reader reader_size size (length entries) within stands.0

@@ -1,0 +1,24 @@
+-- The tree's hash from the hashes of the complete subtrees that cover it (RFC 6962, section 2.1).
+use Rattle.std.specs.Prelude.{◌≡◌, ℕ, ◌+◌, ◌*◌, ◌^◌, ◌<◌, ◌≤◌, Bool, List, [], ◌∷◌, IsTrue}
+use Rattle.tl_store.specs.Stored.{stored_index}
+use Rattle.tl_store.specs.Reader.{readable_size}
+use Rattle.tl_store.specs.declared.reader.ReadFault.{ReadFault}
+use Rattle.tl_store.specs.declared.reader.ReadFault.TheVariants.{OutOfRange, Source, OutOfMemory, BadTile}
+
+-- when the tree hash of the first `size` entries, over a reader of `count` entries, fails with this;
+-- `may_fail` says whether the reader's source may fail
+abbrev pub GivesHeadFault : ℕ → Bool → ℕ → ReadFault → Type 0
+GivesHeadFault count may_fail size OutOfRange = readable_size count < size
+GivesHeadFault count may_fail size Source = IsTrue may_fail × (size ≤ readable_size count)
+GivesHeadFault count may_fail size OutOfMemory = Unit {0}
+GivesHeadFault count may_fail size (BadTile level index width) =
+    IsTrue may_fail × (size ≤ readable_size count)
+
+-- these are the numbers of complete subtrees side by side, over the entries from `start` up to `size`,
+-- each the largest that there is room for
+pub data AreCovering : ℕ → ℕ → List ℕ → Type 0 where
+  none : (start size : ℕ) → start ≡ size → AreCovering start size []
+  more : (start size level place : ℕ) (rest : List ℕ)
+      → start ≡ place * 2 ^ level → start + 2 ^ level ≤ size → size < start + 2 * 2 ^ level
+      → AreCovering (start + 2 ^ level) size rest
+      → AreCovering start size (stored_index level place ∷ rest)

@@ -1,0 +1,4 @@
+pub mod Stored
+pub mod Reader
+pub mod Store
+pub mod Head

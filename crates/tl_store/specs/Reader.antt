@@ -1,0 +1,24 @@
+-- What a reader of stored hashes answers (HashReader of Go's golang.org/x/mod/sumdb/tlog).
+use Rattle.std.specs.Prelude.{ℕ, ◌<◌, ◌≤◌, ◌^◌, Bool, List, All, Any, IsTrue, nat_le, if◌then◌else◌}
+use Rattle.tl_store.specs.Stored.{stored_count}
+use Rattle.tl_store.specs.declared.reader.ReadFault.{ReadFault}
+use Rattle.tl_store.specs.declared.reader.ReadFault.TheVariants.{OutOfRange, Source, OutOfMemory, BadTile}
+
+-- the number of entries that a reader of this size answers for: none above 2 ^ 62
+abbrev pub readable_size : ℕ → ℕ
+readable_size size = if nat_le size (2 ^ 62) then size else 0
+
+-- the number of stored hashes that it has
+abbrev pub readable_count : ℕ → ℕ
+readable_count size = stored_count (readable_size size)
+
+-- each number is below the count of stored hashes
+abbrev pub AreReadable : ℕ → List ℕ → Type 0
+AreReadable size indexes = All (λ index. index < readable_count size) indexes
+
+-- when a reader of this size gives this fault; `may_fail` says whether its source may fail
+abbrev pub GivesFault : ℕ → Bool → List ℕ → ReadFault → Type 0
+GivesFault size may_fail indexes OutOfRange = Any (λ index. readable_count size ≤ index) indexes
+GivesFault size may_fail indexes Source = IsTrue may_fail × AreReadable size indexes
+GivesFault size may_fail indexes OutOfMemory = Unit {0}
+GivesFault size may_fail indexes (BadTile level index width) = IsTrue may_fail × AreReadable size indexes

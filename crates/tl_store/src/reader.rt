@@ -1,0 +1,74 @@
+//! Reading stored hashes by their numbers, and why it fails.
+
+ghost use Rattle.std.specs.Prelude.{◌≡◌, ◌≤◌, ◌^◌, ℕ, Bool, List, length, map, IfOk, IfErr, OnOk};
+
+use std::alloc::{AllocError, AllocFailed, Allocator};
+use thiserror::Error;
+use tl_hash::Hash;
+
+/// Why stored hashes could not be read, in the order in which the refusals are checked.
+#[derive(Clone, Copy, Debug, PartialEq, Eq, Error)]
+pub enum ReadFault {
+    /// A number is not below the count of stored hashes.
+    #[error("a stored hash is out of range")]
+    OutOfRange,
+    /// The source of the hashes failed.
+    #[error("the source of the stored hashes failed")]
+    Source,
+    /// Memory ran out.
+    #[error("out of memory")]
+    OutOfMemory,
+    /// This tile is not the one that the tree's root was made with.
+    #[error("bad tile: level {level}, index {index}, width {width}")]
+    BadTile { level: u32, index: u64, width: u32 },
+}
+
+impl From<AllocError> for ReadFault {
+    ghost use Rattle.tl_store.specs.declared.reader.ReadFault.TheVariants.{OutOfMemory};
+
+    ghost from_gives = { λ _ fault. fault ≡ OutOfMemory };
+
+    fn from(_error: AllocError) -> ReadFault {
+        ReadFault::OutOfMemory
+    }
+}
+
+impl<X: Drop> From<AllocFailed<X>> for ReadFault {
+    ghost use Rattle.tl_store.specs.declared.reader.ReadFault.TheVariants.{OutOfMemory};
+
+    ghost from_gives = { λ _ fault. fault ≡ OutOfMemory };
+
+    fn from(_error: AllocFailed<X>) -> ReadFault {
+        ReadFault::OutOfMemory
+    }
+}
+
+/// Reads the stored hashes of a list of entries by their numbers. A reader whose size is above 2^62 stands for no list,
+/// and each number is out of its range.
+pub trait HashReader {
+    ghost use Rattle.tl_store.specs.Stored.{stored_hash};
+    ghost use Rattle.tl_store.specs.Reader.{AreReadable, GivesFault};
+
+    /// The number of entries.
+    ghost size: { Self → ℕ };
+
+    /// Whether it stands for this list of entries under this digest function.
+    ghost stands_for: { Self → (List ℕ → List ℕ) → List (List ℕ) → Type 0 };
+
+    /// Whether it may answer `Source` or `BadTile`.
+    ghost may_fail: { Self → Bool };
+
+    /// The stored hashes with these numbers, in this order; a number may come more than once.
+    fn read<B: Allocator>(&self, alloc: B, indexes: &[u64]) -> Result<Vec<Hash, B>, ReadFault>
+        ensures hashes { (H : List ℕ → List ℕ) (entries : List (List ℕ))
+            → stands_for self.now H entries
+            → IfOk result (λ hashes. hashes.items ≡ map (stored_hash H entries) indexes.now) }
+        ensures count { IfOk result (λ hashes. length hashes.items ≡ length indexes.now) }
+        ensures in_range { OnOk result (AreReadable (size self.now) indexes.now) }
+        ensures faults { IfErr result (GivesFault (size self.now) (may_fail self.now) indexes.now) };
+
+    /// A list that the reader stands for has its size, and no more than 2^62 entries.
+    ghost stands_size: { (reader : Self) (H : List ℕ → List ℕ) (entries : List (List ℕ))
+        → stands_for reader H entries
+        → (length entries ≡ size reader) × (length entries ≤ 2 ^ 62) };
+}
