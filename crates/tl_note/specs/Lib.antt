@@ -1,1 +1,11 @@
 pub mod Text
+pub mod Key
+pub mod Note
+pub mod Line
+pub mod Reading
+pub mod View
+pub mod Open
+pub mod Judging
+pub mod OpenNote
+pub mod SignNote
+pub mod Law

@@ -6,6 +6,8 @@ mod devices;
 #[cfg(test)]
 mod heads;
 #[cfg(test)]
+mod notes;
+#[cfg(test)]
 mod refusals;
 #[cfg(test)]
 mod store;

@@ -1,10 +1,13 @@
-//! What the tests of several crates share: an allocator that refuses, devices that fail, a weak digest.
+//! What the tests of several crates share: an allocator that refuses, devices that fail, a
+//! weak digest, a key.
 #![tactic(auto)]
 
 mod devices;
+mod length_key;
 mod refusing;
 mod sum_digest;
 
 pub use devices::{FailingReader, FailingWriter};
+pub use length_key::LengthKey;
 pub use refusing::Refusing;
 pub use sum_digest::SumDigest;

@@ -1,0 +1,10 @@
+pub mod PlainText
+pub mod Lines
+pub mod OneNote
+pub mod FieldLemmas
+pub mod NameLemmas
+pub mod GapLemmas
+pub mod LineLemmas
+pub mod SignLemmas
+pub mod OpenLemmas
+mod Examples

@@ -1,0 +1,59 @@
+-- A note: a text and signature lines (C2SP signed-note, "Format").
+use Rattle.std.specs.Prelude.{◌≡◌, ℕ, ◌<◌, ◌≤◌, ◌⊎◌, ◌^◌, List, [], ◌∷◌, ◌++◌, length, All, IsUtf8}
+use Rattle.std.specs.List.{flat_map}
+use Rattle.std.specs.Int.{w32, to_be_bytes}
+use Rattle.base64.specs.GeneralPurpose.{IsBytes}
+use Rattle.tl_note.specs.Text.{line, base64_text}
+use Rattle.tl_note.specs.Key.{IsKeyName}
+
+-- what a signature line says: the key's name and identifier, and the signature
+pub record Signature : Type 0 where
+  pub name : List ℕ
+  pub id : ℕ
+  pub bytes : List ℕ
+
+-- what has a line
+pub record IsSignature (s : Signature) : Type 0 where
+  pub name : IsKeyName s.name
+  pub id : s.id < 2 ^ 32
+  pub some : 0 < length s.bytes
+  pub bytes : IsBytes s.bytes
+
+-- the identifier, four bytes, big-endian, and the signature, in base64
+abbrev pub signature_field : Signature → List ℕ
+signature_field s = base64_text (to_be_bytes w32 s.id ++ s.bytes)
+
+-- an em dash (U+2014), the name and the field, with spaces between
+abbrev pub signature_words : Signature → List ℕ
+signature_words s = (0xE2 ∷ 0x80 ∷ 0x94 ∷ 32 ∷ []) ++ s.name ++ 32 ∷ signature_field s
+
+-- the words, and a newline
+abbrev pub signature_line : Signature → List ℕ
+signature_line s = line (signature_words s)
+
+-- a character of a note, by its bytes: no control but newline
+abbrev pub IsNoteByte : ℕ → Type 0
+IsNoteByte byte = (32 ≤ byte) ⊎ (byte ≡ 10)
+
+-- a text that can be signed: UTF-8, without control characters but newline, which ends it
+pub record IsNoteText (text : List ℕ) : Type 0 where
+  pub utf8 : IsUtf8 text
+  pub plain : All IsNoteByte text
+  pub front : List ℕ
+  pub ended : text ≡ front ++ 10 ∷ []
+
+-- the text, an empty line, the signature lines
+abbrev pub note_bytes : List ℕ → List Signature → List ℕ
+note_bytes text lines = text ++ 10 ∷ flat_map signature_line lines
+
+-- bytes are the note of this text and these lines, of 1 to 100
+pub record Note (bytes text : List ℕ) (lines : List Signature) : Type 0 where
+  pub readable : IsNoteText text
+  pub each : All IsSignature lines
+  pub some : 0 < length lines
+  pub few : length lines ≤ 100
+  pub spelled : bytes ≡ note_bytes text lines
+
+-- bytes are no note
+abbrev pub HasNoNote : List ℕ → Type 0
+HasNoNote bytes = (text : List ℕ) (lines : List Signature) → Note bytes text lines → ⊥

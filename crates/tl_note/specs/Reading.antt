@@ -1,0 +1,34 @@
+-- The steps of reading a note.
+use Rattle.std.specs.Prelude.{◌≡◌, ℕ, ◌<◌, ◌≤◌, List, ◌∷◌, ◌++◌, length, All, Result, Ok, Err, ⊤}
+use Rattle.std.specs.List.{flat_map}
+use Rattle.std.specs.declared.vec.Vec.{Vec}
+use Rattle.tl_note.specs.declared.fault.NoteFault.{NoteFault}
+use Rattle.tl_note.specs.declared.fault.NoteFault.TheVariants.{Malformed, OutOfMemory}
+use Rattle.tl_note.specs.Note.{Signature, IsSignature, signature_line, Note}
+
+-- the bytes are the text, an empty line and the rest, and no other note has these bytes
+pub record CutsText (bytes text rest : List ℕ) : Type 0 where
+  pub whole : bytes ≡ text ++ 10 ∷ rest
+  pub only : (t : List ℕ) (lines : List Signature) → Note bytes t lines → (t ≡ text) × (flat_map signature_line lines ≡ rest)
+
+-- the bytes begin with this line
+pub record CutsLine (bytes : List ℕ) (first : Signature) (rest : List ℕ) : Type 0 where
+  pub lawful : IsSignature first
+  pub whole : bytes ≡ signature_line first ++ rest
+
+-- the bytes begin with no signature line
+abbrev pub IsNoFirstLine : List ℕ → Type 0
+IsNoFirstLine bytes = (first : Signature) (rest : List ℕ) → CutsLine bytes first rest → ⊥
+
+-- the bytes are these lines, of 1 to 100
+pub record AreLines (bytes : List ℕ) (lines : List Signature) : Type 0 where
+  pub each : All IsSignature lines
+  pub some : 0 < length lines
+  pub few : length lines ≤ 100
+  pub whole : bytes ≡ flat_map signature_line lines
+
+abbrev pub ReadsLines : {A : Type 0} → List ℕ → Result (Vec Signature A) NoteFault → Type 0
+ReadsLines bytes (Ok lines) = AreLines bytes lines.items
+ReadsLines bytes (Err Malformed) = (lines : List Signature) → AreLines bytes lines → ⊥
+ReadsLines bytes (Err OutOfMemory) = ⊤
+ReadsLines bytes (Err _) = ⊥

@@ -1,0 +1,52 @@
+//! Why a note is refused.
+
+use std::alloc::{AllocError, AllocFailed};
+use thiserror::Error;
+
+/// Why a note can't be read, opened or signed. Lines and signers are counted from 0.
+#[derive(Clone, Copy, Debug, PartialEq, Eq, Error)]
+pub enum NoteFault {
+    /// The bytes are no note. In signing: the text can't be signed, or there is no signer or more than 100.
+    #[error("not a note")]
+    Malformed,
+    /// The name of this signer is no key's name.
+    #[error("signer {0} has a bad name")]
+    BadName(usize),
+    /// Two verifiers have the key of this line.
+    #[error("two verifiers have the key of signature line {0}")]
+    Ambiguous(usize),
+    /// The verifier that has the key of this line doesn't accept its signature.
+    #[error("signature line {0} is invalid")]
+    InvalidSignature(usize),
+    /// No line is of a key that a verifier has.
+    #[error("no signature is of a known key")]
+    Unverified,
+    /// This signer refused the text, or gave no bytes.
+    #[error("signer {0} gave no signature")]
+    Sign(usize),
+    /// A request for memory was refused.
+    #[error("out of memory")]
+    OutOfMemory,
+}
+
+impl From<AllocError> for NoteFault {
+    ghost use Rattle.std.specs.Prelude.{◌≡◌};
+    ghost use Rattle.tl_note.specs.declared.fault.NoteFault.TheVariants.{OutOfMemory};
+
+    ghost from_gives = { λ _ fault. fault ≡ OutOfMemory };
+
+    fn from(_error: AllocError) -> NoteFault {
+        NoteFault::OutOfMemory
+    }
+}
+
+impl<X: Drop> From<AllocFailed<X>> for NoteFault {
+    ghost use Rattle.std.specs.Prelude.{◌≡◌};
+    ghost use Rattle.tl_note.specs.declared.fault.NoteFault.TheVariants.{OutOfMemory};
+
+    ghost from_gives = { λ _ fault. fault ≡ OutOfMemory };
+
+    fn from(_error: AllocFailed<X>) -> NoteFault {
+        NoteFault::OutOfMemory
+    }
+}

@@ -1,0 +1,55 @@
+//! Keys, which are handed in as objects: who signs, and who tells valid signatures from others.
+
+ghost use Rattle.std.specs.Prelude.{◌≡◌, IsTrue, IfOk, IsErrOf};
+ghost use Rattle.tl_note.specs.Key.{Key, SigningKey};
+
+use std::alloc::Global;
+use thiserror::Error;
+
+/// Why a signer gives no signature.
+#[derive(Clone, Copy, Debug, PartialEq, Eq, Error)]
+pub enum SignFault {
+    /// It may refuse this message, and does.
+    #[error("refused")]
+    Refused,
+    /// A request for memory was refused.
+    #[error("out of memory")]
+    OutOfMemory,
+}
+
+/// Who signs messages. Its meaning is a `SigningKey`: a name, an identifier, which signatures it may give for a message and
+/// which messages it may refuse.
+pub trait Signer: Send + Drop {
+    ghost signing_key: { Self → SigningKey };
+
+    /// The key's name.
+    fn name(&self) -> &str
+        ensures { result.now ≡ (signing_key self.now).name };
+
+    /// The key's identifier.
+    fn key_id(&self) -> u32
+        ensures { result ≡ (signing_key self.now).id };
+
+    /// A signature of the message. It is refused only where the key may refuse the message, or where memory was refused.
+    fn sign(&self, alloc: Global, message: &[u8]) -> Result<Vec<u8>, SignFault>
+        ensures given { IfOk result (λ signature. IsTrue ((signing_key self.now).may_give message.now signature.items)) }
+        ensures refused { IsErrOf result SignFault.Refused → IsTrue ((signing_key self.now).may_refuse message.now) };
+}
+
+/// Who tells the valid signatures of a message from others. Its meaning is a `Key`: a name, an identifier, and which signatures
+/// of a message it accepts.
+pub trait Verifier: Send + Drop {
+    ghost key: { Self → Key };
+
+    /// The key's name.
+    fn name(&self) -> &str
+        ensures { result.now ≡ (key self.now).name };
+
+    /// The key's identifier.
+    fn key_id(&self) -> u32
+        ensures { result ≡ (key self.now).id };
+
+    /// Whether the signature of the message is valid.
+    fn verify(&self, message: &[u8], signature: &[u8]) -> bool
+        ensures { result ≡ (key self.now).accepts message.now signature.now };
+}

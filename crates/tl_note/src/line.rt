@@ -1,0 +1,136 @@
+//! One signature line of a note: a view that borrows it, and its exact reader.
+
+ghost use Rattle.std.specs.Prelude.{◌≡◌, MatchOption, IfOk, ◌<◌, length, string_bytes};
+ghost use Rattle.tl_note.specs.Key.{IsKeyName};
+ghost use Rattle.tl_note.specs.Note.{IsSignature, signature_field, signature_line, signature_words};
+ghost use Rattle.tl_note.specs.Line.{IsNoField, IsNoLine, ShowsField};
+
+use crate::name::is_key_name;
+use base64::DecodeAllocError;
+use base64::engine::general_purpose::STANDARD;
+use std::alloc::{AllocError, Allocator};
+use std::marker::Model;
+
+// How many bytes of a field are the key's identifier.
+const KEY_ID_LEN: usize = 4;
+
+/// A signature line of a note, within the message. A contract sees it as the signature that the line shows: the key's name, its
+/// identifier and the bytes of the signature. Reading alone makes one, so the line is a lawful one.
+#[derive(Debug, Drop)]
+pub struct SigView<'m> {
+    name: &'m str,
+    key_id: u32,
+    field: &'m str,
+}
+
+impl<'m> Model for SigView<'m> {
+    ghost use Rattle.tl_note.specs.Note.{Signature};
+    ghost use Rattle.tl_note.specs.Line.{shown, ShowsLine};
+
+    ghost Value = { Signature };
+
+    ghost view = { λ line. shown line.name.now line.key_id line.field.now };
+
+    ghost invariant = { λ line. ShowsLine line.name.now line.key_id line.field.now };
+}
+
+impl<'m> SigView<'m> {
+    /// The key's name.
+    pub fn name(&self) -> &'m str
+        ensures { result.now ≡ self.now.name }
+    {
+        self.name
+    }
+
+    /// The key's identifier.
+    pub fn key_id(&self) -> u32
+        ensures { result ≡ self.now.id }
+    {
+        self.key_id
+    }
+
+    /// The field after the name: base64 of the identifier, four bytes, big-endian, and the signature.
+    pub fn base64(&self) -> &'m str
+        ensures { result.now ≡ signature_field self.now }
+    {
+        self.field
+    }
+
+    /// The bytes of the signature: what the field holds after the identifier, one byte at least. It fails only where a request
+    /// for memory is refused.
+    pub fn decode<A: Allocator>(&self, alloc: A) -> Result<Vec<u8, A>, AllocError>
+        ensures { IfOk result (λ bytes. bytes.items ≡ self.now.bytes) }
+    {
+        let mut bytes = match STANDARD.decode(alloc, self.field.as_bytes()) {
+            Ok(bytes) => bytes,
+            Err(DecodeAllocError::OutOfMemory) => return Err(AllocError),
+            Err(DecodeAllocError::DecodeError(_)) => unreachable!(),
+        };
+        let rest = bytes.len() - KEY_ID_LEN;
+        bytes.rotate_left(KEY_ID_LEN);
+        bytes.truncate(rest);
+        Ok(bytes)
+    }
+
+    /// Reads a signature line, without its newline.
+    pub(crate) fn read<A: Allocator>(
+        alloc: A,
+        line: &'m str,
+    ) -> Result<Option<SigView<'m>>, AllocError>
+        ensures { IfOk result (λ found. MatchOption found (IsNoLine line.now) (λ view. IsSignature view × (line.now ≡ signature_words view))) }
+    {
+        let Some(words) = line.strip_prefix("— ") else {
+            return Ok(None);
+        };
+        let Some((name, field)) = words.split_once(' ') else {
+            return Ok(None);
+        };
+        if !is_key_name(name) {
+            return Ok(None);
+        }
+        match read_key_id(alloc, field)? {
+            Some(key_id) => Ok(Some(SigView {
+                name,
+                key_id,
+                field,
+            })),
+            None => Ok(None),
+        }
+    }
+}
+
+// The identifier in a field, which is strict base64 of it and of one byte at least.
+fn read_key_id<A: Allocator>(alloc: A, field: &str) -> Result<Option<u32>, AllocError>
+    ensures { IfOk result (λ found. MatchOption found (IsNoField field.now) (λ id. ShowsField id field.now)) }
+{
+    match STANDARD.decode(alloc, field.as_bytes()) {
+        Ok(bytes) => match bytes.as_slice() {
+            [a, b, c, d, _, ..] => Ok(Some(u32::from_be_bytes([*a, *b, *c, *d]))),
+            _ => Ok(None),
+        },
+        Err(DecodeAllocError::OutOfMemory) => Err(AllocError),
+        Err(DecodeAllocError::DecodeError(_)) => Ok(None),
+    }
+}
+
+/// A signature line, with the newline that ends it: the key's name, its identifier and the bytes of the signature (C2SP signed-note,
+/// "Format"). The line is lawful where the name is a key's name and there is one byte at least. It fails only where a request for
+/// memory is refused.
+pub fn write_signature_line<A: Allocator + Copy>(
+    alloc: A,
+    name: &str,
+    key_id: u32,
+    signature: &[u8],
+) -> Result<String<A>, AllocError>
+    ensures text { IfOk result (λ line. string_bytes line ≡ signature_line (record { name = name.now; id = key_id; bytes = signature.now })) }
+    ensures lawful { IsKeyName name.now → 0 < length signature.now → IsSignature (record { name = name.now; id = key_id; bytes = signature.now }) }
+{
+    let mut field = Vec::from_slice(alloc, &key_id.to_be_bytes())?;
+    field.extend_from_slice(signature)?;
+    let mut line = String::from_str(alloc, "— ")?;
+    line.push_str(name)?;
+    line.push_str(" ")?;
+    STANDARD.encode_string(field.as_slice(), &mut line)?;
+    line.push_str("\n")?;
+    Ok(line)
+}
