@@ -1,1 +1,5 @@
 pub mod LinesLemmas
+pub mod PieceLemmas
+pub mod ExtensionLemmas
+pub mod CosignatureLemmas
+pub mod OneText

@@ -1,3 +1,7 @@
 -- The definitions of checkpoints (C2SP tlog-checkpoint).
+pub mod Pieces
 pub mod Checkpoint
 pub mod WriteCheckpoint
+pub mod ParseCheckpoint
+pub mod Cosignature
+pub mod Law

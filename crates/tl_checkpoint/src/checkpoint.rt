@@ -3,7 +3,7 @@
 ghost use Rattle.std.specs.Prelude.{◌≡◌};
 ghost use Rattle.tl_checkpoint.specs.declared.checkpoint.CheckpointFault.TheVariants.{OutOfMemory};
 
-use std::alloc::{AllocError, Allocator};
+use std::alloc::{AllocError, AllocFailed, Allocator};
 use thiserror::Error;
 use tl_hash::Hash;
 
@@ -44,6 +44,14 @@ impl From<AllocError> for CheckpointFault {
     ghost from_gives = { λ _ fault. fault ≡ OutOfMemory };
 
     fn from(_fault: AllocError) -> CheckpointFault {
+        CheckpointFault::OutOfMemory
+    }
+}
+
+impl<X: Drop> From<AllocFailed<X>> for CheckpointFault {
+    ghost from_gives = { λ _ fault. fault ≡ OutOfMemory };
+
+    fn from(_fault: AllocFailed<X>) -> CheckpointFault {
         CheckpointFault::OutOfMemory
     }
 }

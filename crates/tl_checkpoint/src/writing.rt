@@ -31,7 +31,7 @@ fn are_lines<A: Allocator>(texts: &[String<A>]) -> bool
 }
 
 // Appends a text and its newline.
-fn push_line<A: Allocator>(out: &mut String<A>, text: &str) -> Result<(), AllocError>
+pub(crate) fn push_line<A: Allocator>(out: &mut String<A>, text: &str) -> Result<(), AllocError>
     ensures { OnOk result (string_bytes out.new ≡ string_bytes out.old ++ line text.now) }
 {
     out.push_str(text)?;

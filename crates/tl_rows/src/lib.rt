@@ -2,9 +2,13 @@
 #![tactic(auto)]
 
 #[cfg(test)]
+mod checkpoints;
+#[cfg(test)]
 mod devices;
 #[cfg(test)]
 mod heads;
+#[cfg(test)]
+mod keys;
 #[cfg(test)]
 mod notes;
 #[cfg(test)]

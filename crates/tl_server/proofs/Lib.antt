@@ -1,3 +1,4 @@
 pub mod BytesLemmas
 pub mod LinesLemmas
 pub mod StoreLemmas
+pub mod KeyLemmas

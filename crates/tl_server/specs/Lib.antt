@@ -4,3 +4,4 @@ pub mod Lines
 pub mod Faults
 pub mod Run
 pub mod Head
+pub mod DemoKey

@@ -2,12 +2,14 @@
 #![tactic(auto)]
 
 mod commands;
+mod demonstration;
 mod device;
 mod entries;
 mod fault;
 mod words;
 
 pub use commands::head::run_head;
+pub use demonstration::{DemoKey, demo_key, hmac};
 pub use device::Counted;
 pub use entries::read_entries;
 pub use fault::{RunFault, exit_of, fault_line};

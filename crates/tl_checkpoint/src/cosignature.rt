@@ -1,0 +1,124 @@
+//! Cosignatures of checkpoints by witnesses (C2SP tlog-cosignature, version 1).
+
+ghost use Rattle.std.specs.Prelude.{◌≡◌, ◌↔◌, ◌<◌, ◌^◌, length, string_bytes, IfOk, IfErr, IsTrue, MatchOption};
+ghost use Rattle.tl_note.specs.Key.{Key, SigningKey};
+ghost use Rattle.tl_checkpoint.specs.Cosignature.{ChecksCosignature, CosignsLine, FailsToSign, IsNoCosignature, cosigned_message, cosignature};
+
+use crate::writing::push_line;
+use itoa::Buffer;
+use std::alloc::{AllocError, Allocator, Global};
+use tl_note::{NoteFault, SigView, SignFault, Signer, Verifier, is_key_name, write_signature_line};
+
+/// The message that a witness signs for the text of a checkpoint: the version, the time in seconds since the Unix epoch, and the
+/// text. It fails only where a growth was refused.
+pub fn cosign_message<A: Allocator>(
+    alloc: A,
+    time: u64,
+    text: &str,
+) -> Result<String<A>, AllocError>
+    ensures { IfOk result (λ message. string_bytes message ≡ cosigned_message time text.now) }
+{
+    let mut message = String::new(alloc);
+    push_line(&mut message, "cosignature/v1")?;
+    message.push_str("time ")?;
+    push_line(&mut message, Buffer::new().format(time))?;
+    message.push_str(text)?;
+    Ok(message)
+}
+
+// What the signer answers, which is one byte at least.
+fn signature_of(global: Global, signer: &dyn Signer, message: &[u8]) -> Result<Vec<u8>, NoteFault>
+    ensures given { IfOk result (λ signature. IsTrue ((signing_key signer.now).may_give message.now signature.items) × (0 < length signature.items)) }
+    ensures fault { IfErr result (FailsToSign message.now (signing_key signer.now)) }
+{
+    match signer.sign(global, message) {
+        Ok(signature) => {
+            if signature.is_empty() {
+                return Err(NoteFault::Sign(0));
+            }
+            Ok(signature)
+        }
+        Err(SignFault::Refused) => Err(NoteFault::Sign(0)),
+        Err(SignFault::OutOfMemory) => Err(NoteFault::OutOfMemory),
+    }
+}
+
+// The bytes of a cosignature after the key's identifier.
+fn cosignature_bytes<A: Allocator>(
+    alloc: A,
+    time: u64,
+    signature: &[u8],
+) -> Result<Vec<u8, A>, AllocError>
+    ensures { IfOk result (λ bytes. bytes.items ≡ cosignature time signature.now) }
+{
+    let mut bytes = Vec::from_slice(alloc, &time.to_be_bytes())?;
+    bytes.extend_from_slice(signature)?;
+    Ok(bytes)
+}
+
+/// The line by which a witness cosigns the text of a checkpoint at this time. `global` is what the signer takes memory from.
+/// `BadName(0)` tells that the signer's name is no key's name, then `Sign(0)` that it refused the message or gave no bytes.
+pub fn cosign_line<A: Allocator + Copy>(
+    alloc: A,
+    global: Global,
+    text: &str,
+    time: u64,
+    signer: &dyn Signer,
+) -> Result<String<A>, NoteFault>
+    ensures { CosignsLine text.now time (signing_key signer.now) result }
+{
+    if !is_key_name(signer.name()) {
+        return Err(NoteFault::BadName(0));
+    }
+    let message = cosign_message(alloc, time, text)?;
+    let signature = match signature_of(global, signer, message.as_bytes()) {
+        Ok(signature) => signature,
+        Err(fault) => return Err(fault),
+    };
+    let bytes = cosignature_bytes(alloc, time, signature.as_slice())?;
+    let line = write_signature_line(alloc, signer.name(), signer.key_id(), bytes.as_slice())?;
+    Ok(line)
+}
+
+// Whether the line is of the verifier's key.
+fn is_of(line: &SigView<'_>, verifier: &dyn Verifier) -> bool
+    ensures { IsTrue result ↔ ((line.now.name ≡ (key verifier.now).name) × (line.now.id ≡ (key verifier.now).id)) }
+{
+    line.name() == verifier.name() && line.key_id() == verifier.key_id()
+}
+
+// The time and the signature that the bytes of a cosignature hold.
+fn read_cosignature(bytes: &[u8]) -> Option<(u64, &[u8])>
+    ensures { MatchOption result (IsNoCosignature bytes.now) (λ r. (r.0 < 2 ^ 64) × (bytes.now ≡ cosignature r.0 r.1.now)) }
+{
+    let [a, b, c, d, e, f, g, h, signature @ ..] = bytes else {
+        return None;
+    };
+    let time = u64::from_be_bytes([*a, *b, *c, *d, *e, *f, *g, *h]);
+    Some((time, signature))
+}
+
+/// The time of a cosignature: where the line has the verifier's name and identifier, and its signature is valid for the message of
+/// this text at that time. It fails only where a growth was refused.
+pub fn check_cosignature<A: Allocator + Copy>(
+    alloc: A,
+    text: &str,
+    line: &SigView<'_>,
+    verifier: &dyn Verifier,
+) -> Result<Option<u64>, AllocError>
+    ensures { IfOk result (ChecksCosignature text.now (key verifier.now) line.now) }
+{
+    if !is_of(line, verifier) {
+        return Ok(None);
+    }
+    let bytes = line.decode(alloc)?;
+    let Some((time, signature)) = read_cosignature(bytes.as_slice()) else {
+        return Ok(None);
+    };
+    let message = cosign_message(alloc, time, text)?;
+    if verifier.verify(message.as_bytes(), signature) {
+        Ok(Some(time))
+    } else {
+        Ok(None)
+    }
+}

@@ -1,0 +1,208 @@
+//! Checkpoints read and written, and cosignatures of witnesses.
+
+use crate::heads::{NO_ENTRY, TWO_ENTRIES};
+use std::alloc::{AllocError, Allocator, Global};
+use std::test::Fail;
+use tl_checkpoint::{
+    Checkpoint, CheckpointFault, check_cosignature, cosign_line, cosign_message, parse, write,
+};
+use tl_hash::Hash;
+use tl_note::{NoteFault, Signer, Verifier, parse_note};
+use tl_testing::{LengthKey, Refusing};
+
+// More requests than any of the calls makes.
+const MOST: u64 = 1000;
+
+const EMPTY_ROOT: &str = "47DEQpj8HBSa+/TImW+5JCeuQeRkm5NMpJWZG3hSuFU=\n";
+
+const COSIGNATURE: &str = "— witness.example CgsMDQAAAABlU/EAAAAAAAAAAF4=\n";
+
+const TIME: u64 = 1700000000;
+
+// The fault of reading this text, or none where it is a checkpoint.
+fn fault_of(alloc: Global, text: &str) -> Option<CheckpointFault> {
+    match parse(alloc, text) {
+        Ok(_checkpoint) => None,
+        Err(fault) => Some(fault),
+    }
+}
+
+#[test]
+fn what_is_read_is_written_back(rt: HostRuntime) -> Result<(), Fail> {
+    let alloc = rt.alloc();
+    for (size, extensions) in [
+        ("0", ""),
+        ("1", "an extension\n"),
+        ("9223372036854775807", "a\nb c\n— é\n"),
+    ] {
+        let text = format!(in alloc; "example.com/log\n{size}\n{EMPTY_ROOT}{extensions}")?;
+        let checkpoint = parse(alloc, text.as_str())?;
+        assert_eq!(rt; checkpoint.origin.as_str(), "example.com/log");
+        assert_eq!(rt; checkpoint.size.to_string(alloc)?.as_str(), size);
+        assert_eq!(rt; write(alloc, &checkpoint)?.as_str(), text.as_str());
+    }
+    Ok(())
+}
+
+#[test]
+fn the_first_wrong_part_is_told(rt: HostRuntime) -> Result<(), Fail> {
+    let alloc = rt.alloc();
+    let cases = [
+        ("", CheckpointFault::Lines),
+        ("a\n0\n", CheckpointFault::Lines),
+        ("a\n0\nb", CheckpointFault::Lines),
+        ("a\n0\nb\n\n", CheckpointFault::Lines),
+        ("a\n0\nb\nc", CheckpointFault::Lines),
+        ("a\t\n0\nb\n", CheckpointFault::Lines),
+        ("\n007\nb\n", CheckpointFault::Origin),
+        ("a\n007\nb\n", CheckpointFault::Size),
+        ("a\n+7\nb\n", CheckpointFault::Size),
+        ("a\n\nb\n", CheckpointFault::Size),
+        ("a\n9223372036854775808\nb\n", CheckpointFault::Size),
+        ("a\n7\nb\n", CheckpointFault::Root),
+        (
+            "a\n7\n47DEQpj8HBSa+/TImW+5JCeuQeRkm5NMpJWZG3hSuFU\n",
+            CheckpointFault::Root,
+        ),
+        (
+            "a\n7\n47DEQpj8HBSa+/TImW+5JCeuQeRkm5NMpJWZG3hSuFV=\n",
+            CheckpointFault::Root,
+        ),
+    ];
+    for (text, want) in cases {
+        assert_eq!(rt; fault_of(alloc, text), Some(want), "of {text:?}");
+    }
+    assert_eq!(rt; fault_of(alloc, NO_ENTRY), None);
+    Ok(())
+}
+
+#[test]
+fn a_size_of_64_bits_has_no_text(rt: HostRuntime) -> Result<(), Fail> {
+    let alloc = rt.alloc();
+    let checkpoint = Checkpoint {
+        origin: String::from_str(alloc, "a")?,
+        size: 1 << 63,
+        root: Hash::from_bytes([0; 32]),
+        extensions: Vec::new(alloc),
+    };
+    assert_eq!(rt;
+        write(alloc, &checkpoint).err(),
+        Some(CheckpointFault::Size)
+    );
+    Ok(())
+}
+
+#[test]
+fn parse_answers_out_of_memory(rt: HostRuntime) -> Result<(), Fail> {
+    let text = format!(in rt.alloc(); "a\n7\n{EMPTY_ROOT}an extension\n")?;
+    for number in 1..MOST {
+        let heap = Refusing::at(rt.alloc(), number);
+        let answer = parse(&heap, text.as_str());
+        if !heap.refused() {
+            assert!(rt; number > 4);
+            assert_eq!(rt; answer?.size, 7);
+            return Ok(());
+        }
+        assert_eq!(rt; answer.err(), Some(CheckpointFault::OutOfMemory));
+        assert_eq!(rt; parse(&heap, text.as_str())?.size, 7);
+    }
+    assert!(rt; false, "each run was refused");
+    Ok(())
+}
+
+// The witness of the worked examples, under this name.
+fn witness(alloc: Global, name: &str) -> Result<LengthKey, AllocError> {
+    LengthKey::new(alloc, name, 0x0A0B0C0D)
+}
+
+// The cosignature line of this text by a witness of this name, with this heap.
+fn cosign<A: Allocator + Copy>(
+    alloc: Global,
+    heap: A,
+    text: &str,
+    name: &str,
+) -> Result<String<A>, NoteFault> {
+    let key: Box<dyn Signer> = Box::new(alloc, witness(alloc, name)?)?;
+    cosign_line(heap, alloc, text, TIME, &*key)
+}
+
+// The time of the first line of this note, if it is the witness's cosignature of the text.
+fn time_of<A: Allocator + Copy>(
+    alloc: Global,
+    heap: A,
+    text: &str,
+    note: &str,
+    name: &str,
+) -> Result<Option<u64>, NoteFault> {
+    let key: Box<dyn Verifier> = Box::new(alloc, witness(alloc, name)?)?;
+    let view = parse_note(alloc, note)?;
+    match view.signatures.first() {
+        Some(line) => Ok(check_cosignature(heap, text, line, &*key)?),
+        None => Ok(None),
+    }
+}
+
+#[test]
+fn a_witness_cosigns_the_empty_log(rt: HostRuntime) -> Result<(), Fail> {
+    let alloc = rt.alloc();
+    assert_eq!(rt; cosign_message(alloc, TIME, NO_ENTRY)?.len(), 94);
+    let line = cosign(alloc, alloc, NO_ENTRY, "witness.example")?;
+    assert_eq!(rt; line.as_str(), COSIGNATURE);
+    let refused = cosign(alloc, alloc, NO_ENTRY, "a+b");
+    assert_eq!(rt; refused.err(), Some(NoteFault::BadName(0)));
+    Ok(())
+}
+
+#[test]
+fn a_cosignature_is_of_its_text_alone(rt: HostRuntime) -> Result<(), Fail> {
+    let alloc = rt.alloc();
+    let note = format!(in alloc; "{NO_ENTRY}\n{COSIGNATURE}")?;
+    let longer = format!(in alloc; "{TWO_ENTRIES}x\n")?;
+    let cases = [
+        (NO_ENTRY, "witness.example", Some(TIME)),
+        (longer.as_str(), "witness.example", None),
+        (NO_ENTRY, "another.example", None),
+    ];
+    for (text, name, want) in cases {
+        assert_eq!(rt; time_of(alloc, alloc, text, note.as_str(), name)?, want);
+    }
+    let short = format!(in alloc; "{NO_ENTRY}\n— witness.example CgsMDQAAAAA=\n")?;
+    assert_eq!(rt;
+        time_of(alloc, alloc, NO_ENTRY, short.as_str(), "witness.example")?,
+        None
+    );
+    Ok(())
+}
+
+#[test]
+fn cosignatures_answer_out_of_memory(rt: HostRuntime) -> Result<(), Fail> {
+    let alloc = rt.alloc();
+    let note = format!(in alloc; "{NO_ENTRY}\n{COSIGNATURE}")?;
+    for number in 1..MOST {
+        let heap = Refusing::at(alloc, number);
+        let line = cosign(alloc, &heap, NO_ENTRY, "witness.example");
+        let was_refused = heap.refused();
+        match line {
+            Ok(line) => assert_eq!(rt; line.as_str(), COSIGNATURE),
+            Err(fault) => {
+                assert!(rt; was_refused);
+                assert_eq!(rt; fault, NoteFault::OutOfMemory);
+            }
+        }
+        let time = time_of(alloc, &heap, NO_ENTRY, note.as_str(), "witness.example");
+        if !heap.refused() {
+            assert!(rt; number > 4);
+            assert_eq!(rt; time?, Some(TIME));
+            return Ok(());
+        }
+        match time {
+            Ok(time) => {
+                assert!(rt; was_refused);
+                assert_eq!(rt; time, Some(TIME));
+            }
+            Err(fault) => assert_eq!(rt; fault, NoteFault::OutOfMemory),
+        }
+    }
+    assert!(rt; false, "each run was refused");
+    Ok(())
+}

@@ -1,0 +1,159 @@
+//! A key for demonstrations, as signer and verifier: HMAC with SHA-256. Its verifier holds the secret.
+
+ghost use Rattle.std.specs.Prelude.{◌≡◌, ◌≤◌, ◌-◌, ◌⊎◌, ◌++◌, ◌∷◌, IfOk, IfErr, codes, length, replicate, take};
+ghost use Rattle.std.specs.Int.{w32, from_be_bytes};
+ghost use Rattle.sha2.specs.Sha256.{sha256};
+ghost use Rattle.tl_note.specs.Key.{IsKeyName};
+ghost use Rattle.tl_server.specs.DemoKey as spec;
+
+use std::alloc::{Allocator, Global};
+use std::marker::Model;
+use tl_hash::{Hash, Sha256Tree, TreeHash};
+use tl_note::{NoteFault, SignFault, Signer, Verifier, is_key_name};
+
+// These bytes, filled with zeros to a block.
+fn filled(bytes: &[u8]) -> [u8; 64]
+    requires { length bytes.now ≤ 64 }
+    ensures { result ≡ bytes.now ++ replicate (64 - length bytes.now) 0 }
+{
+    let mut block = [0u8; 64];
+    block[..bytes.len()].copy_from_slice(bytes);
+    block
+}
+
+// The secret, or its digest where it is longer than a block, filled with zeros to a block.
+fn block_of(secret: &[u8]) -> [u8; 64]
+    ensures block { result ≡ spec.secret_block secret.now }
+    ensures length { length result ≡ 64 }
+{
+    if secret.len() > 64 {
+        filled(Sha256Tree.digest(secret, &[], &[]).as_bytes())
+    } else {
+        filled(secret)
+    }
+}
+
+// The block of the secret, each byte combined with the pad.
+fn padded(secret: &[u8], pad: u8) -> [u8; 64]
+    ensures { result ≡ spec.padded_secret secret.now pad }
+{
+    let mut block = block_of(secret);
+    for byte in block.iter_mut() {
+        *byte ^= pad;
+    }
+    block
+}
+
+/// HMAC with SHA-256 of a message under a secret (RFC 2104, with a block of 64 bytes). It takes no memory.
+pub fn hmac(secret: &[u8], message: &[u8]) -> Hash
+    ensures { result ≡ spec.hmac secret.now message.now }
+{
+    let inner = Sha256Tree.digest(&padded(secret, 0x36), message, &[]);
+    Sha256Tree.digest(&padded(secret, 0x5c), inner.as_bytes(), &[])
+}
+
+// The digest of a key's name, its kind and its secret's digest.
+fn key_digest(name: &str, secret_digest: Hash) -> Hash
+    ensures { result ≡ sha256 (name.now ++ (0x0A ∷ 0xFF ∷ codes "tlog-demo-hmac-sha256") ++ secret_digest) }
+{
+    Sha256Tree.digest(
+        name.as_bytes(),
+        b"\n\xfftlog-demo-hmac-sha256",
+        secret_digest.as_bytes(),
+    )
+}
+
+// The first four bytes of a hash, big-endian.
+fn first_four(hash: Hash) -> u32
+    ensures { result ≡ from_be_bytes w32 (take 4 hash) }
+{
+    let [a, b, c, d, ..] = hash.as_bytes();
+    u32::from_be_bytes([*a, *b, *c, *d])
+}
+
+// The identifier of the key with this name and secret.
+fn id_of(name: &str, secret: &[u8]) -> u32
+    ensures { result ≡ spec.demo_id name.now secret.now }
+{
+    let secret_digest = Sha256Tree.digest(secret, &[], &[]);
+    first_four(key_digest(name, secret_digest))
+}
+
+/// A key that signs and verifies with one secret, for demonstrations alone.
+#[derive(Drop)]
+pub struct DemoKey<A: Allocator> {
+    name: String<A>,
+    secret: Vec<u8, A>,
+    id: u32,
+}
+
+impl<A: Allocator> Model for DemoKey<A> {
+    ghost use Rattle.std.specs.Prelude.{◌≡◌, string_bytes, vec_items};
+    ghost use Rattle.tl_server.specs.DemoKey.{Demo, demo_id};
+
+    ghost Value = { Demo };
+
+    ghost view = { λ k. record { name = string_bytes k.name; secret = vec_items k.secret } };
+
+    ghost invariant = { λ k. k.id ≡ demo_id (string_bytes k.name) (vec_items k.secret) };
+}
+
+/// The demonstration key of this name and secret. A name that is no key's name is `BadName(0)`.
+pub fn demo_key<A: Allocator + Copy>(
+    alloc: A,
+    name: &str,
+    secret: &[u8],
+) -> Result<DemoKey<A>, NoteFault>
+    ensures key { IfOk result (λ k. (k ≡ record { name = name.now; secret = secret.now }) × IsKeyName name.now) }
+    ensures fault { IfErr result (λ fault. ((fault ≡ NoteFault.BadName 0) × ¬ (IsKeyName name.now)) ⊎ (fault ≡ NoteFault.OutOfMemory)) }
+{
+    if !is_key_name(name) {
+        return Err(NoteFault::BadName(0));
+    }
+    let id = id_of(name, secret);
+    Ok(DemoKey {
+        name: String::from_str(alloc, name)?,
+        secret: Vec::from_slice(alloc, secret)?,
+        id,
+    })
+}
+
+impl<A: Allocator + Send> Signer for DemoKey<A> {
+    ghost use Rattle.tl_server.specs.DemoKey.{demo_signing_key};
+
+    ghost signing_key = { λ k. demo_signing_key k };
+
+    fn name(&self) -> &str {
+        self.name.as_str()
+    }
+
+    fn key_id(&self) -> u32 {
+        self.id
+    }
+
+    fn sign(&self, alloc: Global, message: &[u8]) -> Result<Vec<u8>, SignFault> {
+        let signature = hmac(self.secret.as_slice(), message);
+        match Vec::from_slice(alloc, signature.as_bytes()) {
+            Ok(bytes) => Ok(bytes),
+            Err(_) => Err(SignFault::OutOfMemory),
+        }
+    }
+}
+
+impl<A: Allocator + Send> Verifier for DemoKey<A> {
+    ghost use Rattle.tl_server.specs.DemoKey.{demo_verifier_key};
+
+    ghost key = { λ k. demo_verifier_key k };
+
+    fn name(&self) -> &str {
+        self.name.as_str()
+    }
+
+    fn key_id(&self) -> u32 {
+        self.id
+    }
+
+    fn verify(&self, message: &[u8], signature: &[u8]) -> bool {
+        signature == hmac(self.secret.as_slice(), message).as_bytes().as_slice()
+    }
+}
