@@ -14,6 +14,8 @@ mod notes;
 #[cfg(test)]
 mod refusals;
 #[cfg(test)]
+mod sequencer;
+#[cfg(test)]
 mod store;
 #[cfg(test)]
 mod trees;
