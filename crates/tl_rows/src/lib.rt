@@ -12,6 +12,8 @@ mod keys;
 #[cfg(test)]
 mod notes;
 #[cfg(test)]
+mod proofs;
+#[cfg(test)]
 mod refusals;
 #[cfg(test)]
 mod sequencer;

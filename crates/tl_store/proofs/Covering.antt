@@ -1,7 +1,9 @@
 -- Complete subtrees side by side.
 use Rattle.std.proofs.Common.{◌≡◌, ℕ, suc, ◌+◌, ◌-◌, ◌*◌, ◌/◌, ◌^◌, ◌<◌, ◌≤◌, inl, inr, Bool, cond, All, List, [], ◌∷◌, ◌++◌, length, get_or, take, drop, map, refl, sym, ap, subst, ◌∙◌, append_assoc, arith}
+use Rattle.std.proofs.Math.Nat.{pow-succ'}
 use Rattle.std.proofs.Math.Pow.{pow_mono}
-use Rattle.std.proofs.lemmas.Nat.{pow_pos, pow-add, div-mul-add}
+use Rattle.std.specs.Int.RustNames.{count_ones}
+use Rattle.std.proofs.lemmas.Nat.{pow_pos, pow-add, div-mul-add, ones_cat}
 use Rattle.std.proofs.lemmas.Bool.{cases_lt, le-leb, lt-leb}
 use Rattle.std.proofs.lemmas.List.{append-nil, take_all, length-take-le, length-drop, take-take, drop-take, drop-drop}
 use Rattle.std.proofs.lemmas.List.Elements.{All-nil, All-cons, All-head, All-tail}
@@ -12,35 +14,35 @@ use Rattle.tl_store.specs.Stored.{stored_count, stored_index, stored_hash}
 use Rattle.tl_store.specs.Reader.{readable_size, GivesFault}
 use Rattle.tl_store.specs.declared.reader.ReadFault.{ReadFault}
 use Rattle.tl_store.specs.declared.reader.ReadFault.TheVariants.{OutOfRange, Source, OutOfMemory, BadTile}
-use Rattle.tl_store.specs.Head.{AreCovering, none, more, GivesHeadFault}
+use Rattle.tl_store.specs.Head.{IsAligned, AreCovering, none, more, GivesHeadFault}
 use Rattle.tl_store.proofs.StoredLemmas.{index_is_place}
 use Rattle.tl_store.proofs.Readable.{stored_count-mono, index-in_count, count-in_index}
 
 -- ---- collecting the numbers
 
--- `indexes` are those of the subtrees that cover the first `covered` of `size` entries, so far as all are to be found;
--- `covered` is a multiple of a power of two that is more than what is left
-pub record IsCovered (size covered : ℕ) (indexes : List ℕ) : Type 0 where
+-- `indexes` are those of the subtrees that cover the entries from `start` up to `covered` of those up to `size`, so far
+-- as all are to be found; `covered` is a multiple of a power of two that is no less than what is left
+pub record IsCovered (start size covered : ℕ) (indexes : List ℕ) : Type 0 where
   pub within : covered ≤ size
-  pub aligned : (level : ℕ) × (place : ℕ) × (covered ≡ place * 2 ^ level) × (size < covered + 2 ^ level)
-  pub before : (rest : List ℕ) → AreCovering covered size rest → AreCovering 0 size (indexes ++ rest)
+  pub aligned : IsAligned covered size
+  pub before : (rest : List ℕ) → AreCovering covered size rest → AreCovering start size (indexes ++ rest)
 
-pub covered-none : (size : ℕ) (indexes : List ℕ) → size ≤ 2 ^ 62 → indexes ≡ [] → IsCovered size 0 indexes
-covered-none size indexes small is = record {
-  within = omega arith;
-  aligned = (63, 0, omega arith, omega (arith, small));
-  before = λ rest covering. subst (λ (list : List ℕ). AreCovering 0 size (list ++ rest)) (sym is) covering;
+pub covered-none : (start size : ℕ) (indexes : List ℕ) → start ≤ size → IsAligned start size → indexes ≡ [] → IsCovered start size start indexes
+covered-none start size indexes order aligned is = record {
+  within = order;
+  aligned = aligned;
+  before = λ rest covering. subst (λ (list : List ℕ). AreCovering start size (list ++ rest)) (sym is) covering;
 }
 
 -- the largest subtree that there is room for begins at a multiple of its width
-pub covered-place : (size covered level : ℕ) (indexes : List ℕ) → IsCovered size covered indexes → 2 ^ level ≤ size - covered → covered < size → covered / 2 ^ level * 2 ^ level ≡ covered
-covered-place size covered level indexes is fits some =
+pub covered-place : (start size covered level : ℕ) (indexes : List ℕ) → IsCovered start size covered indexes → 2 ^ level ≤ size - covered → covered < size → covered / 2 ^ level * 2 ^ level ≡ covered
+covered-place start size covered level indexes is fits some =
     let p : ℕ = is.aligned.0 in
     let place : ℕ = is.aligned.1 in
-    let low : level < p =
-    elim (cases_lt level p) as (λ _. level < p) [
-      | inl below ↦ below
-      | inr above ↦ absurd (let most : 2 ^ p ≤ 2 ^ level = pow_mono above in omega (arith, most, fits, is.aligned.3, some))
+    let low : level ≤ p =
+    elim (cases_lt p level) as (λ _. level ≤ p) [
+      | inr below ↦ below
+      | inl above ↦ absurd (let most : 2 ^ suc p ≤ 2 ^ level = pow_mono above in omega (arith, most, fits, is.aligned.3, some, pow-succ' 2 p, pow_pos p))
     ] in
     let sum : p ≡ p - level + level = omega (arith, low) in
     let power : 2 ^ p ≡ 2 ^ (p - level) * 2 ^ level = ap (λ (x : ℕ). 2 ^ x) sum ∙ pow-add 2 (p - level) level in
@@ -48,11 +50,11 @@ covered-place size covered level indexes is fits some =
     let quotient : covered / 2 ^ level ≡ place * 2 ^ (p - level) = ap (λ (x : ℕ). x / 2 ^ level) product ∙ div-mul-add (place * 2 ^ (p - level)) (2 ^ level) 0 (pow_pos level) in
     ap (λ (x : ℕ). x * 2 ^ level) quotient ∙ omega (arith, product)
 
-pub covered-more : (size covered level width number : ℕ) (indexes next : List ℕ) → IsCovered size covered indexes → covered < size → width ≡ 2 ^ level → 2 ^ level ≤ size - covered → size - covered < 2 * 2 ^ level
-    → number ≡ stored_index level (covered / width) → next ≡ indexes ++ number ∷ [] → IsCovered size (covered + width) next
-covered-more size covered level width number indexes next is some width_is fits largest number_is next_is =
+pub covered-more : (start size covered level width number : ℕ) (indexes next : List ℕ) → IsCovered start size covered indexes → covered < size → width ≡ 2 ^ level → 2 ^ level ≤ size - covered → size - covered < 2 * 2 ^ level
+    → number ≡ stored_index level (covered / width) → next ≡ indexes ++ number ∷ [] → IsCovered start size (covered + width) next
+covered-more start size covered level width number indexes next is some width_is fits largest number_is next_is =
     let place : ℕ = covered / 2 ^ level in
-    let at : place * 2 ^ level ≡ covered = covered-place size covered level indexes is fits some in
+    let at : place * 2 ^ level ≡ covered = covered-place start size covered level indexes is fits some in
     let index : number ≡ stored_index level place = number_is ∙ ap (λ (x : ℕ). stored_index level (covered / x)) width_is in
     record {
       within = omega (arith, width_is, fits, some);
@@ -62,12 +64,29 @@ covered-more size covered level width number indexes next is some width_is fits 
           let one : AreCovering covered size (stored_index level place ∷ rest) = more covered size level place rest (sym at) (omega (arith, fits, some)) (omega (arith, largest)) from in
           let list : indexes ++ (stored_index level place ∷ rest) ≡ next ++ rest =
           (λ i. indexes ++ (sym index i ∷ rest)) ∙ sym (append_assoc indexes (number ∷ []) rest) ∙ ap (λ (xs : List ℕ). xs ++ rest) (sym next_is) in
-          subst (AreCovering 0 size) list (is.before (stored_index level place ∷ rest) one);
+          subst (AreCovering start size) list (is.before (stored_index level place ∷ rest) one);
     }
 
-pub covered-all : (size covered : ℕ) (indexes : List ℕ) → IsCovered size covered indexes → size ≤ covered → AreCovering 0 size indexes
-covered-all size covered indexes is end =
-    subst (AreCovering 0 size) (append-nil indexes) (is.before [] (none covered size (omega (arith, end, is.within))))
+pub covered-all : (start size covered : ℕ) (indexes : List ℕ) → IsCovered start size covered indexes → size ≤ covered → AreCovering start size indexes
+covered-all start size covered indexes is end =
+    subst (AreCovering start size) (append-nil indexes) (is.before [] (none covered size (omega (arith, end, is.within))))
+
+-- the first `size` entries begin where each subtree may begin
+pub aligned-all : (size : ℕ) → size ≤ 2 ^ 62 → IsAligned 0 size
+aligned-all size small = (62, 0, omega arith, omega (arith, small))
+
+-- there is one subtree for each binary digit 1
+pub covering-count : (start end : ℕ) (indexes : List ℕ) → AreCovering start end indexes → length indexes ≡ count_ones (end - start)
+unfolding count_ones
+covering-count start end [] (none s e same) =
+    let count : 0 ≡ end - start = omega (arith, same) in
+    ap count_ones count
+covering-count start end _ (more s e level place rest at fits largest covering) =
+    let left : ℕ = end - (start + 2 ^ level) in
+    let sum : end - start ≡ 1 * 2 ^ level + left = omega (arith, fits) in
+    let one : count_ones 1 ≡ 1 = refl in
+    let ones : count_ones (end - start) ≡ count_ones 1 + count_ones left = ap count_ones sum ∙ ones_cat level 1 left (omega (arith, largest, fits)) in
+    omega (arith, ones, one, covering-count (start + 2 ^ level) end rest covering)
 
 -- ---- joining the hashes
 

@@ -14,6 +14,11 @@ GivesHeadFault count may_fail size OutOfMemory = Unit {0}
 GivesHeadFault count may_fail size (BadTile level index width) =
     IsTrue may_fail × (size ≤ readable_size count)
 
+-- `start` is a multiple of a power of two that is no less than the number of entries from it up to `end`:
+-- so the entries lie in one complete subtree, and begin where it begins
+abbrev pub IsAligned : ℕ → ℕ → Type 0
+IsAligned start end = (level : ℕ) × (place : ℕ) × (start ≡ place * 2 ^ level) × (end ≤ start + 2 ^ level)
+
 -- these are the numbers of complete subtrees side by side, over the entries from `start` up to `size`,
 -- each the largest that there is room for
 pub data AreCovering : ℕ → ℕ → List ℕ → Type 0 where

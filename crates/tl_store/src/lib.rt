@@ -4,9 +4,11 @@
 mod head;
 mod index;
 mod reader;
+mod segment;
 mod store;
 
 pub use head::tree_hash;
 pub use index::{split_index, stored_count, stored_index};
 pub use reader::{HashReader, ReadFault};
+pub use segment::{segment_hash, segment_indexes};
 pub use store::HashStore;

@@ -1,6 +1,6 @@
 use Rattle.std.proofs.Common.{arith}
 use Rattle.tl_store.proofs.Covering.{joins-none, joins-one, joins-more, only_item, items_first, others_length}
-use Rattle.tl_store.proofs.head.+join.Goals as goal
+use Rattle.tl_store.proofs.segment.+segment_hash.Goals as goal
 
 pub returns-in-empty : goal.returns-in-empty
 returns-in-empty g t c = joins-none g.T.TreeHash.digest_of c.args.hashes.now c.empty_hash.result (omega (arith, c.in-empty.len_below)) c.empty_hash.ensures
@@ -10,6 +10,6 @@ returns-in-len1 g t c = joins-one g.T.TreeHash.digest_of c.args.hashes.now c.onl
 
 pub returns-in-len1-up : goal.returns-in-len1-up
 returns-in-len1-up g t c =
-    joins-more g.T.TreeHash.digest_of c.args.hashes.now c.left-item.result _ c.join.result c.node_hash.result
+    joins-more g.T.TreeHash.digest_of c.args.hashes.now c.left-item.result _ c.segment_hash.result c.node_hash.result
     (items_first c.args.hashes.now c.left-item.result (omega (arith, c.in-len1-up.len_at_least)) c.left-item.is)
-    (others_length c.args.hashes.now c.in-len1-up.len_at_least) c.join.ensures c.node_hash.ensures
+    (others_length c.args.hashes.now c.in-len1-up.len_at_least) c.segment_hash.ensures c.node_hash.ensures

@@ -1,0 +1,13 @@
+pub mod Bytes
+pub mod Equations
+pub mod Inclusion
+pub mod Consistency
+pub mod SameSize
+pub mod Folds
+pub mod Audits
+pub mod Examples
+pub mod Checks
+pub mod Entries
+pub mod Plans
+pub mod SegmentReads
+pub mod ProveFaultLemmas

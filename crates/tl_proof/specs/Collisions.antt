@@ -1,0 +1,86 @@
+-- What an audit shows where one list does not extend another: two of the byte strings that were hashed
+-- (RFC 6962, sections 2.1 and 2.1.2).
+use Rattle.std.specs.Prelude.{◌≡◌, ◌≢◌, ℕ, ◌-◌, Bool, true, false, List, [], ◌∷◌, ◌++◌, length, take, reverse, nat_le, ◌==◌, if◌then◌else◌, Contains, Option, Some, None}
+use Rattle.std.specs.declared.vec.Vec.{Vec}
+use Rattle.tl_hash.specs.Split.{split_point}
+use Rattle.tl_hash.specs.Tree.{node_input, tree_hash, inputs}
+use Rattle.tl_proof.specs.Acceptance.{roots_from, AcceptsConsistency}
+use Rattle.tl_proof.specs.declared.link.Link.{Link}
+
+-- a size and a root, with the consistency proof that leads there
+pub record Step : Type 0 where
+  pub size : ℕ
+  pub root : List ℕ
+  pub proof : List (List ℕ)
+
+-- what a link says
+abbrev pub step_of : {A : Type 0} → Link A → Step
+step_of link = record { size = link.size; root = link.root; proof = link.proof }
+
+-- the first list is a prefix of the second
+abbrev pub IsPrefix : List (List ℕ) → List (List ℕ) → Type 0
+IsPrefix old new = old ≡ take (length old) new
+
+-- the byte string hashed where a new root goes on from its left part
+abbrev pub inputs_on_left : Option (List ℕ × List ℕ) → List ℕ → List (List ℕ)
+inputs_on_left None last = []
+inputs_on_left (Some r) last = node_input r.1 last ∷ []
+
+-- the two byte strings hashed where an old and a new root go on from their right parts
+abbrev pub inputs_on_right : Option (List ℕ × List ℕ) → List ℕ → List (List ℕ)
+inputs_on_right None last = []
+inputs_on_right (Some r) last = node_input last r.0 ∷ node_input last r.1 ∷ []
+
+-- the byte strings whose digests `roots_from` takes
+unfoldable pub fold_inputs_from : (List ℕ → List ℕ) → ℕ → ℕ → Bool → List (List ℕ) → List ℕ → List (List ℕ)
+fold_inputs_from H old new known [] root = []
+fold_inputs_from H old new known (last ∷ others) root =
+    let k : ℕ = split_point new in
+    if old == new then []
+    else if nat_le old k
+    then inputs_on_left (roots_from H old k known others root) last ++ fold_inputs_from H old k known others root
+    else inputs_on_right (roots_from H (old - k) (new - k) false others root) last ++ fold_inputs_from H (old - k) (new - k) false others root
+
+-- the byte strings whose digests the check of a consistency proof takes
+unfoldable pub fold_inputs : (List ℕ → List ℕ) → ℕ → ℕ → List (List ℕ) → List ℕ → List (List ℕ)
+fold_inputs H old new proof root = if old == 0 then [] else fold_inputs_from H old new true (reverse proof) root
+
+-- two different byte strings with one digest, x among the first strings and y among the second
+pub record Collides (H : List ℕ → List ℕ) (x y : List ℕ) (firsts seconds : List (List ℕ)) : Type 0 where
+  pub first : Contains firsts x
+  pub second : Contains seconds y
+  pub differ : x ≢ y
+  pub same_digest : H x ≡ H y
+
+-- two different byte strings of a list with one digest
+abbrev pub Exhibits : (List ℕ → List ℕ) → List ℕ → List ℕ → List (List ℕ) → Type 0
+Exhibits H x y strings = Collides H x y strings strings
+
+-- what a walk down two trees with one root finds: that the lists are the same, or two of their inputs
+-- that collide
+abbrev pub SameOrCollides : {A : Type 0} → (List ℕ → List ℕ) → Option (Vec ℕ A × Vec ℕ A) → List (List ℕ) → List (List ℕ) → Type 0
+SameOrCollides H None old new = old ≡ new
+SameOrCollides H (Some pair) old new = Collides H pair.0.items pair.1.items (inputs H old) (inputs H new)
+
+-- each step is accepted from the one before, the first from this size and root
+unfoldable pub Linked : (List ℕ → List ℕ) → ℕ → List ℕ → List Step → Type 0
+Linked H old old_root [] = Unit {0}
+Linked H old old_root (step ∷ steps) =
+    AcceptsConsistency H step.proof step.size step.root old old_root × Linked H step.size step.root steps
+
+-- the steps from this size and root end with that size and root
+unfoldable pub EndsWith : ℕ → List ℕ → List Step → ℕ → List ℕ → Type 0
+EndsWith old old_root [] size root = (old ≡ size) × (old_root ≡ root)
+EndsWith old old_root (step ∷ steps) size root = EndsWith step.size step.root steps size root
+
+-- the byte strings hashed for the steps from this size and root: those of the prefix of each step's
+-- size, and those of the check of each step's proof
+unfoldable pub step_inputs : (List ℕ → List ℕ) → List (List ℕ) → ℕ → List ℕ → List Step → List (List ℕ)
+step_inputs H new old old_root [] = []
+step_inputs H new old old_root (step ∷ steps) =
+    inputs H (take step.size new) ++ fold_inputs H old step.size step.proof old_root ++ step_inputs H new step.size step.root steps
+
+-- the byte strings hashed for an audit from the old list over the steps to the new list
+unfoldable pub audit_inputs : (List ℕ → List ℕ) → List (List ℕ) → List (List ℕ) → List Step → List (List ℕ)
+audit_inputs H old new steps =
+    inputs H old ++ inputs H new ++ inputs H (take (length old) new) ++ step_inputs H new (length old) (tree_hash H old) steps

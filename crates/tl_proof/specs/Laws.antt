@@ -1,0 +1,40 @@
+-- The laws of proofs (RFC 6962, sections 2.1.1 and 2.1.2), over any digest function H.
+use Rattle.std.specs.Prelude.{◌≡◌, ℕ, ◌<◌, ◌≤◌, ◌⊎◌, List, [], length, take, All, slice_index_or}
+use Rattle.tl_hash.specs.Tree.{leaf_input, tree_hash}
+use Rattle.tl_proof.specs.Proofs.{inclusion_proof, consistency_proof}
+use Rattle.tl_proof.specs.Acceptance.{AcceptsInclusion, AcceptsConsistency}
+use Rattle.tl_proof.specs.Collisions.{Step, IsPrefix, Exhibits, Linked, EndsWith, audit_inputs}
+
+-- the inclusion proof of each entry is accepted
+abbrev pub InclusionIsAccepted : Type 0
+InclusionIsAccepted =
+    (H : List ℕ → List ℕ) (entries : List (List ℕ)) (index : ℕ) → index < length entries
+    → AcceptsInclusion H (inclusion_proof H index entries) (length entries) (tree_hash H entries)
+    index (H (leaf_input (slice_index_or entries index [])))
+
+-- the consistency proof for each prefix is accepted
+abbrev pub ConsistencyIsAccepted : Type 0
+ConsistencyIsAccepted =
+    (H : List ℕ → List ℕ) (entries : List (List ℕ)) (old : ℕ) → old ≤ length entries
+    → AcceptsConsistency H (consistency_proof H old entries) (length entries) (tree_hash H entries)
+    old (tree_hash H (take old entries))
+
+-- the length of a hash is 32
+abbrev pub HasHashLength : List ℕ → Type 0
+HasHashLength hash = length hash ≡ 32
+
+-- the root and the proof of a step are made of hashes
+abbrev pub MadeOfHashes : Step → Type 0
+MadeOfHashes step = HasHashLength step.root × All HasHashLength step.proof
+
+-- where accepted proofs lead, step by step, from the root of one list to the root of another, the first is
+-- a prefix of the second, or two of the byte strings hashed for the audit have one digest. The roots
+-- between need not be roots of any list
+abbrev pub LinksExtendOrCollide : Type 0
+LinksExtendOrCollide =
+    (H : List ℕ → List ℕ) → ((message : List ℕ) → HasHashLength (H message))
+    → (old new : List (List ℕ)) (steps : List Step) → All MadeOfHashes steps
+    → Linked H (length old) (tree_hash H old) steps
+    → EndsWith (length old) (tree_hash H old) steps (length new) (tree_hash H new)
+    → IsPrefix old new
+    ⊎ ((x : List ℕ) × (y : List ℕ) × Exhibits H x y (audit_inputs H old new steps))

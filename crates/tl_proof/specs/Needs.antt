@@ -1,0 +1,12 @@
+-- How many of the first entries the hashes of a proof are over (RFC 6962, sections 2.1.1 and 2.1.2).
+use Rattle.std.specs.Prelude.{ℕ, ◌+◌, ◌==◌, ◌||◌, if◌then◌else◌}
+
+-- the inclusion proof of the entry at this index is over all the others of the first `size`: so over no
+-- entry past that one, where it is the last
+abbrev pub inclusion_needs : ℕ → ℕ → ℕ
+inclusion_needs size index = if index + 1 == size then index else size
+
+-- the consistency proof for the first `old` entries ends with the last of the first `size`, where it has
+-- a hash: not from none, and not from all of them
+abbrev pub consistency_needs : ℕ → ℕ → ℕ
+consistency_needs size old = if (old == 0) || (old == size) then 0 else size

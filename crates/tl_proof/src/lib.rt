@@ -1,0 +1,17 @@
+//! Inclusion and consistency proofs of a Merkle tree, their checks, and the laws of both (RFC 6962, section 2.1).
+#![tactic(auto)]
+
+mod check;
+mod fault;
+pub mod laws;
+mod link;
+mod plan;
+mod prove;
+mod read;
+mod segment;
+mod split;
+
+pub use check::{check_record, check_tree};
+pub use fault::ProveFault;
+pub use link::{HashList, Link};
+pub use prove::{prove_record, prove_tree};

@@ -1,0 +1,56 @@
+//! A checkpoint's size and root, with the consistency proof that leads to it.
+
+ghost use Rattle.std.specs.Prelude.{◌≡◌};
+
+use std::alloc::Allocator;
+use std::marker::Model;
+use tl_hash::Hash;
+
+/// A list of hashes, as a consistency proof is. A contract sees the list of them.
+#[derive(Drop)]
+pub struct HashList<A: Allocator> {
+    hashes: Vec<Hash, A>,
+}
+
+impl<A: Allocator> Model for HashList<A> {
+    ghost use Rattle.std.specs.Prelude.{List, ℕ};
+
+    ghost Value = { List (List ℕ) };
+
+    ghost view = { λ l. l.hashes.items };
+}
+
+impl<A: Allocator> HashList<A> {
+    /// The list of these hashes. It takes no memory.
+    pub fn from_vec(hashes: Vec<Hash, A>) -> Self
+        ensures { result ≡ hashes.items }
+    {
+        HashList { hashes }
+    }
+
+    /// Its hashes.
+    pub fn as_slice(&self) -> &[Hash]
+        ensures { result.now ≡ self.now }
+    {
+        self.hashes.as_slice()
+    }
+
+    /// Its hashes, given back.
+    pub fn into_vec(self) -> Vec<Hash, A>
+        ensures { result.items ≡ self }
+    {
+        self.hashes
+    }
+}
+
+/// A size and a root, with the consistency proof that leads there from the size and root before (RFC 6962, section
+/// 2.1.2).
+#[derive(Drop)]
+pub struct Link<A: Allocator> {
+    /// The number of entries.
+    pub size: u64,
+    /// The tree hash of these entries.
+    pub root: Hash,
+    /// The proof from the size and root before.
+    pub proof: HashList<A>,
+}

@@ -1,0 +1,94 @@
+//! Which parts of the entries the hashes of a proof are over.
+
+ghost use Rattle.std.specs.Prelude.{◌<◌, ◌≤◌, ◌-◌, ◌^◌, Bool, true, IfOk, OnOk};
+ghost use Rattle.tl_proof.specs.Segments.{Appends, IsPathPlan, IsProofPlan};
+
+use crate::segment::Segment;
+use crate::split::split_size;
+use std::alloc::{AllocError, Allocator};
+
+// Adds the segments of the path from the entry at this index up to the root of the tree over the entries from `start` up
+// to `end`. Each call at least halves their number or takes the left part off, so no more than 62 calls stand at once.
+fn push_path<A: Allocator>(
+    segments: &mut Vec<Segment, A>,
+    index: u64,
+    start: u64,
+    end: u64,
+) -> Result<(), AllocError>
+    requires first { start ≤ index }
+    requires last { index < end }
+    ensures { OnOk result (Appends (IsPathPlan index start end) segments.old.items segments.new.items) }
+{
+    if end - start == 1 {
+        return Ok(());
+    }
+    let middle = start + split_size(end - start);
+    if index < middle {
+        push_path(segments, index, start, middle)?;
+        segments.push(Segment { start: middle, end })?;
+    } else {
+        push_path(segments, index, middle, end)?;
+        segments.push(Segment { start, end: middle })?;
+    }
+    Ok(())
+}
+
+/// The segments of the inclusion proof of the entry at this index among the first `size`.
+pub(crate) fn path_segments<A: Allocator>(
+    alloc: A,
+    size: u64,
+    index: u64,
+) -> Result<Vec<Segment, A>, AllocError>
+    requires { index < size }
+    ensures { IfOk result (λ segments. IsPathPlan index 0 size segments.items) }
+{
+    let mut segments = Vec::new(alloc);
+    push_path(&mut segments, index, 0, size)?;
+    Ok(segments)
+}
+
+// Adds the segments of the consistency proof for the entries before `old` in the tree over the entries from `start` up
+// to `end`. `known` says whether the verifier has the tree's hash where all its entries are old. As many calls stand at
+// once as for a path.
+fn push_proof<A: Allocator>(
+    segments: &mut Vec<Segment, A>,
+    old: u64,
+    start: u64,
+    end: u64,
+    known: bool,
+) -> Result<(), AllocError>
+    requires first { start < old }
+    requires last { old ≤ end }
+    ensures { OnOk result (Appends (IsProofPlan old start end known) segments.old.items segments.new.items) }
+{
+    if old == end {
+        if !known {
+            segments.push(Segment { start, end })?;
+        }
+        return Ok(());
+    }
+    let middle = start + split_size(end - start);
+    if old <= middle {
+        push_proof(segments, old, start, middle, known)?;
+        segments.push(Segment { start: middle, end })?;
+    } else {
+        push_proof(segments, old, middle, end, false)?;
+        segments.push(Segment { start, end: middle })?;
+    }
+    Ok(())
+}
+
+/// The segments of the consistency proof from the first `old` entries to the first `size`.
+pub(crate) fn proof_segments<A: Allocator>(
+    alloc: A,
+    size: u64,
+    old: u64,
+) -> Result<Vec<Segment, A>, AllocError>
+    requires some { 0 < old }
+    requires most { old ≤ size }
+    ensures { IfOk result (λ segments. IsProofPlan old 0 size true segments.items) }
+{
+    let mut segments = Vec::new(alloc);
+    push_proof(&mut segments, old, 0, size, true)?;
+    Ok(segments)
+}

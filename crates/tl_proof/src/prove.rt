@@ -1,0 +1,71 @@
+//! Inclusion and consistency proofs from stored hashes.
+
+ghost use Rattle.std.specs.Prelude.{◌≡◌, ◌≤◌, ◌++◌, ℕ, List, length, take, IfOk, IfErr, OnOk};
+ghost use Rattle.tl_store.specs.Reader.{readable_size};
+ghost use Rattle.tl_proof.specs.Proofs.{inclusion_proof, consistency_proof};
+ghost use Rattle.tl_proof.specs.Needs.{inclusion_needs, consistency_needs};
+ghost use Rattle.tl_proof.specs.ProveFaults.{IsIndex, IsOldSize, GivesProveFault};
+
+use crate::fault::ProveFault;
+use crate::plan::{path_segments, proof_segments};
+use crate::read::read_segments;
+use std::alloc::Allocator;
+use tl_hash::{Hash, TreeHash};
+use tl_store::HashReader;
+
+/// The inclusion proof of the entry at `index`, counted from 0, among the first `size`: PATH of RFC 6962, section 2.1.1,
+/// the hash nearest to the leaf first. It has at most 62 hashes, made from one `read` of the reader. `BadRange` comes
+/// where `index` is not below `size` or `size` is above 2^62. A size above the reader's is `Read(OutOfRange)` where a
+/// hash of the proof is over a place past the reader's last; else the proof does not depend on the entries that are not
+/// there. What a failing source answers is passed on, and `OutOfMemory` comes where memory is refused.
+pub fn prove_record<T: TreeHash, R: HashReader, A: Allocator + Copy>(
+    alloc: A,
+    h: T,
+    size: u64,
+    index: u64,
+    reader: &R,
+) -> Result<Vec<Hash, A>, ProveFault>
+    ensures path { (entries more : List (List ℕ))
+        → R.stands_for reader.now T.digest_of entries
+        → size ≤ length (entries ++ more)
+        → IfOk result (λ proof. proof.items ≡ inclusion_proof T.digest_of index (take size (entries ++ more))) }
+    ensures in_range { OnOk result (IsIndex size index × (inclusion_needs size index ≤ readable_size (R.size reader.now))) }
+    ensures faults { IfErr result (GivesProveFault (IsIndex size index)
+        (R.size reader.now) (R.may_fail reader.now) (inclusion_needs size index)) }
+{
+    if index >= size || size > 1 << 62 {
+        return Err(ProveFault::BadRange);
+    }
+    let segments = path_segments(alloc, size, index)?;
+    Ok(read_segments(alloc, h, &segments, reader)?)
+}
+
+/// The consistency proof from the first `old` entries to the first `size`: PROOF of RFC 6962, section 2.1.2, the hash
+/// nearest to the leaves first, and the empty proof from the old size 0. It has at most 63 hashes, made from one `read`
+/// of the reader; an empty proof reads nothing. `BadRange` comes where `old` is above `size` or `size` is above 2^62. A
+/// size above the reader's is `Read(OutOfRange)` where the proof has a hash, since its last is over the last place. What
+/// a failing source answers is passed on, and `OutOfMemory` comes where memory is refused.
+pub fn prove_tree<T: TreeHash, R: HashReader, A: Allocator + Copy>(
+    alloc: A,
+    h: T,
+    size: u64,
+    old: u64,
+    reader: &R,
+) -> Result<Vec<Hash, A>, ProveFault>
+    ensures proof { (entries more : List (List ℕ))
+        → R.stands_for reader.now T.digest_of entries
+        → size ≤ length (entries ++ more)
+        → IfOk result (λ proof. proof.items ≡ consistency_proof T.digest_of old (take size (entries ++ more))) }
+    ensures in_range { OnOk result (IsOldSize size old × (consistency_needs size old ≤ readable_size (R.size reader.now))) }
+    ensures faults { IfErr result (GivesProveFault (IsOldSize size old)
+        (R.size reader.now) (R.may_fail reader.now) (consistency_needs size old)) }
+{
+    if old > size || size > 1 << 62 {
+        return Err(ProveFault::BadRange);
+    }
+    if old == 0 || old == size {
+        return Ok(Vec::new(alloc));
+    }
+    let segments = proof_segments(alloc, size, old)?;
+    Ok(read_segments(alloc, h, &segments, reader)?)
+}

@@ -1,0 +1,86 @@
+//! The tree hashes of segments from stored hashes.
+
+ghost use Rattle.std.specs.Prelude.{◌≡◌, ◌≤◌, ◌-◌, ◌^◌, ◌++◌, ℕ, List, length, map, All, IfOk, IfErr, OnOk};
+ghost use Rattle.std.specs.Int.RustNames.{count_ones};
+ghost use Rattle.tl_store.specs.Stored.{stored_hash};
+ghost use Rattle.tl_store.specs.Reader.{readable_size};
+ghost use Rattle.tl_store.specs.Head.{GivesHeadFault};
+ghost use Rattle.tl_proof.specs.Segments.{IsSegment, IsNeeded, AreGroups, subtree_count, segment_root};
+
+use crate::segment::Segment;
+use std::alloc::{AllocError, Allocator};
+use tl_hash::{Hash, TreeHash};
+use tl_store::{HashReader, ReadFault, segment_hash, segment_indexes};
+
+// The numbers of the complete subtrees that cover each segment, one segment after another.
+fn group_indexes<A: Allocator + Copy>(
+    alloc: A,
+    segments: &[Segment],
+) -> Result<Vec<u64, A>, AllocError>
+    requires parts { All IsSegment segments.now }
+    requires small { All (λ s. s.end ≤ 2 ^ 62) segments.now }
+    ensures { IfOk result (λ indexes. AreGroups segments.now indexes.items) }
+{
+    let mut indexes = Vec::new(alloc);
+    for segment in segments {
+        let group = segment_indexes(alloc, segment.start, segment.end)?;
+        indexes.extend_from_slice(&group)?;
+    }
+    Ok(indexes)
+}
+
+// How many complete subtrees cover a segment.
+fn subtrees(segment: Segment) -> usize
+    requires { segment.start ≤ segment.end }
+    ensures { result ≡ count_ones (segment.end - segment.start) }
+{
+    (segment.end - segment.start).count_ones() as usize
+}
+
+// The tree hash of each segment, from the hashes of the complete subtrees that cover it.
+fn group_hashes<T: TreeHash, A: Allocator>(
+    alloc: A,
+    h: T,
+    segments: &[Segment],
+    hashes: &[Hash],
+) -> Result<Vec<Hash, A>, AllocError>
+    requires parts { All IsSegment segments.now }
+    requires count { length hashes.now ≡ subtree_count segments.now }
+    ensures { (entries more : List (List ℕ)) (indexes : List ℕ)
+        → AreGroups segments.now indexes
+        → All (λ s. s.end ≤ length entries) segments.now
+        → hashes.now ≡ map (stored_hash T.digest_of entries) indexes
+        → IfOk result (λ roots. roots.items ≡ map (segment_root T.digest_of (entries ++ more)) segments.now) }
+{
+    let mut roots = Vec::new(alloc);
+    let mut from = 0;
+    for segment in segments {
+        let to = from + subtrees(*segment);
+        roots.push(segment_hash(h, &hashes[from..to]))?;
+        from = to;
+    }
+    Ok(roots)
+}
+
+/// The tree hashes of these segments, in one read. They are the same over any list that begins with the reader's
+/// entries. `OutOfRange` comes where a segment is over a place past the reader's last.
+pub(crate) fn read_segments<T: TreeHash, R: HashReader, A: Allocator + Copy>(
+    alloc: A,
+    h: T,
+    segments: &[Segment],
+    reader: &R,
+) -> Result<Vec<Hash, A>, ReadFault>
+    requires parts { All IsSegment segments.now }
+    requires small { All (λ s. s.end ≤ 2 ^ 62) segments.now }
+    ensures hashes { (entries more : List (List ℕ))
+        → R.stands_for reader.now T.digest_of entries
+        → IfOk result (λ proof. proof.items ≡ map (segment_root T.digest_of (entries ++ more)) segments.now) }
+    ensures in_range { (needed : ℕ) → IsNeeded 0 needed segments.now
+        → OnOk result (needed ≤ readable_size (R.size reader.now)) }
+    ensures faults { (needed : ℕ) → IsNeeded 0 needed segments.now
+        → IfErr result (GivesHeadFault (R.size reader.now) (R.may_fail reader.now) needed) }
+{
+    let indexes = group_indexes(alloc, segments)?;
+    let hashes = reader.read(alloc, &indexes)?;
+    Ok(group_hashes(alloc, h, segments, &hashes)?)
+}

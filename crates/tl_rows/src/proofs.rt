@@ -1,0 +1,293 @@
+//! Proofs: the worked examples, each bit changed, all small sizes, and growths refused in turn.
+
+use crate::vectors::{LEAVES, entries};
+use std::alloc::{AllocError, Global};
+use std::test::Fail;
+use tl_hash::{Hash, Sha256Tree, empty_hash, leaf_hash};
+use tl_proof::{HashList, Link, ProveFault, check_record, check_tree, prove_record, prove_tree};
+use tl_store::{HashStore, ReadFault, tree_hash};
+use tl_testing::Refusing;
+
+// More requests than any of the calls makes, and more entries than any test has.
+const MOST: u64 = 1000;
+
+// What a proof is to show: of an entry by its index and leaf hash, or of an old size and root.
+#[derive(Clone, Copy)]
+struct Claim {
+    is_record: bool,
+    size: u64,
+    root: Hash,
+    place: u64,
+    hash: Hash,
+}
+
+fn accepts(claim: Claim, proof: &[Hash]) -> bool {
+    if claim.is_record {
+        check_record(
+            Sha256Tree,
+            proof,
+            claim.size,
+            claim.root,
+            claim.place,
+            claim.hash,
+        )
+    } else {
+        check_tree(
+            Sha256Tree,
+            proof,
+            claim.size,
+            claim.root,
+            claim.place,
+            claim.hash,
+        )
+    }
+}
+
+// Whether the proof is accepted, and neither without its last hash nor with one more.
+fn is_exact(alloc: Global, claim: Claim, proof: &[Hash]) -> Result<bool, AllocError> {
+    let mut longer = Vec::from_slice(alloc, proof)?;
+    longer.push(claim.root)?;
+    let is_shorter_refused = match proof.split_last() {
+        Some((_last, others)) => !accepts(claim, others),
+        None => true,
+    };
+    Ok(accepts(claim, proof) && is_shorter_refused && !accepts(claim, &longer))
+}
+
+// The proof with this bit of the hash at this place changed.
+fn with_bit_changed(
+    alloc: Global,
+    proof: &[Hash],
+    place: usize,
+    bit: usize,
+) -> Result<Vec<Hash>, AllocError> {
+    let mut changed = Vec::from_slice(alloc, proof)?;
+    if place < changed.len() && bit < 256 {
+        let mut bytes = *changed[place].as_bytes();
+        bytes[bit / 8] ^= 1u8 << (bit % 8);
+        changed[place] = Hash::from_bytes(bytes);
+    }
+    Ok(changed)
+}
+
+// Whether the proof is refused with this bit of the hash at this place changed.
+fn is_bit_needed(
+    alloc: Global,
+    claim: &Claim,
+    proof: &[Hash],
+    place: usize,
+    bit: usize,
+) -> Result<bool, AllocError> {
+    let changed = with_bit_changed(alloc, proof, place, bit)?;
+    Ok(!accepts(*claim, &changed))
+}
+
+// Whether the proof is refused with any one bit of one of its hashes changed.
+fn is_each_bit_needed(alloc: Global, claim: &Claim, proof: &[Hash]) -> Result<bool, AllocError> {
+    let mut is_needed = true;
+    for place in 0..proof.len() {
+        for bit in 0..256 {
+            let is_refused = is_bit_needed(alloc, claim, proof, place, bit)?;
+            is_needed = is_needed & is_refused;
+        }
+    }
+    Ok(is_needed)
+}
+
+fn store_of(alloc: Global, list: &[Vec<u8>]) -> Result<HashStore<Sha256Tree, Global>, AllocError> {
+    let mut store = HashStore::new(alloc, Sha256Tree);
+    for entry in list {
+        if store.size() < MOST {
+            store.append(entry)?;
+        }
+    }
+    Ok(store)
+}
+
+// The hashes in hexadecimal, one after another.
+fn in_hex(alloc: Global, hashes: &[Hash]) -> Result<String, AllocError> {
+    let mut text = String::new(alloc);
+    for hash in hashes {
+        let one = hex::encode(alloc, hash.as_bytes().as_slice())?;
+        text.push_str(&one)?;
+    }
+    Ok(text)
+}
+
+const N23: &str = "5f083f0a1a33ca076a95279832580db3e0ef4584bdff1f54c8a360f50de3031e";
+
+const N45: &str = "0ebc5d3437fbe2db158b9f126a1d118e308181031d0a949f8dededebc558ef6a";
+
+const N67: &str = "ca854ea128ed050b41b35ffc1b87b8eb2bde461e9e3b5596ece6b9d5975a0ae0";
+
+const N03: &str = "d37ee418976dd95753c1c73862b9398fa2a2cf9b4ff0fdfe8b30cd95209614b7";
+
+const N47: &str = "6b47aaf29ee3c2af9af889bc1fb9254dabd31177f16232dd6aab035ca39bf6e4";
+
+fn joined(alloc: Global, texts: [&str; 3]) -> Result<String, AllocError> {
+    let mut text = String::new(alloc);
+    for one in texts {
+        text.push_str(one)?;
+    }
+    Ok(text)
+}
+
+#[test]
+fn proofs_over_the_eight_entries(rt: HostRuntime) -> Result<(), Fail> {
+    let alloc = rt.alloc();
+    let list = entries(alloc, 8)?;
+    let store = store_of(alloc, &list)?;
+    let root = tree_hash(alloc, Sha256Tree, 8, &store)?;
+    for (index, want) in [(0u64, [LEAVES[1], N23, N47]), (5, [LEAVES[4], N67, N03])] {
+        let proof = prove_record(alloc, Sha256Tree, 8, index, &store)?;
+        assert!(rt; in_hex(alloc, &proof)?.as_str() == joined(alloc, want)?.as_str());
+        let entry: &[u8] = if index == 0 { b"" } else { b"\x40\x41\x42\x43" };
+        let claim = Claim {
+            is_record: true,
+            size: 8,
+            root,
+            place: index,
+            hash: leaf_hash(Sha256Tree, entry),
+        };
+        assert!(rt; is_exact(alloc, claim, &proof)?);
+        assert!(rt; is_each_bit_needed(alloc, &claim, &proof)?);
+    }
+    for (old, want) in [(1u64, [LEAVES[1], N23, N47]), (6, [N45, N67, N03])] {
+        let proof = prove_tree(alloc, Sha256Tree, 8, old, &store)?;
+        assert!(rt; in_hex(alloc, &proof)?.as_str() == joined(alloc, want)?.as_str());
+        let hash = tree_hash(alloc, Sha256Tree, old, &store)?;
+        let claim = Claim {
+            is_record: false,
+            size: 8,
+            root,
+            place: old,
+            hash,
+        };
+        assert!(rt; is_exact(alloc, claim, &proof)?);
+        assert!(rt; is_each_bit_needed(alloc, &claim, &proof)?);
+    }
+    assert!(rt; prove_record(alloc, Sha256Tree, 8, 8, &store).err() == Some(ProveFault::BadRange));
+    assert!(rt; prove_tree(alloc, Sha256Tree, 8, 9, &store).err() == Some(ProveFault::BadRange));
+    assert!(rt;
+        prove_tree(alloc, Sha256Tree, (1 << 62) + 1, 0, &store).err() == Some(ProveFault::BadRange)
+    );
+    Ok(())
+}
+
+#[test]
+fn proofs_over_seven_entries_have_these_lengths(rt: HostRuntime) -> Result<(), Fail> {
+    let alloc = rt.alloc();
+    let store = store_of(alloc, &entries(alloc, 7)?)?;
+    for (index, length) in [(0u64, 3usize), (3, 3), (4, 3), (6, 2)] {
+        assert_eq!(rt;
+            prove_record(alloc, Sha256Tree, 7, index, &store)?.len(),
+            length
+        );
+    }
+    for (old, length) in [(3u64, 4usize), (4, 1), (6, 3), (7, 0), (0, 0)] {
+        assert_eq!(rt;
+            prove_tree(alloc, Sha256Tree, 7, old, &store)?.len(),
+            length
+        );
+    }
+    Ok(())
+}
+
+#[test]
+fn sizes_past_the_reader_are_out_of_range_where_a_hash_is(rt: HostRuntime) -> Result<(), Fail> {
+    let alloc = rt.alloc();
+    let store = store_of(alloc, &entries(alloc, 7)?)?;
+    let refused = Some(ProveFault::Read(ReadFault::OutOfRange));
+    assert!(rt; prove_record(alloc, Sha256Tree, 8, 0, &store).err() == refused);
+    assert_eq!(rt; prove_record(alloc, Sha256Tree, 8, 7, &store)?.len(), 3);
+    assert!(rt; prove_tree(alloc, Sha256Tree, 8, 7, &store).err() == refused);
+    assert_eq!(rt; prove_tree(alloc, Sha256Tree, 9, 9, &store)?.len(), 0);
+    Ok(())
+}
+
+#[test]
+fn equal_sizes_and_no_old_entries(rt: HostRuntime) -> Result<(), Fail> {
+    let a = leaf_hash(Sha256Tree, b"a");
+    let b = leaf_hash(Sha256Tree, b"b");
+    let none = empty_hash(Sha256Tree);
+    assert!(rt; check_tree(Sha256Tree, &[], 5, a, 5, a));
+    assert!(rt; !check_tree(Sha256Tree, &[a], 5, a, 5, a));
+    assert!(rt; !check_tree(Sha256Tree, &[], 5, a, 5, b));
+    assert!(rt; check_tree(Sha256Tree, &[], 5, a, 0, none));
+    assert!(rt; !check_tree(Sha256Tree, &[], 5, a, 0, b));
+    assert!(rt; !check_tree(Sha256Tree, &[], 4, a, 5, a));
+    Ok(())
+}
+
+#[test]
+fn every_proof_of_sizes_to_70_is_exact(rt: HostRuntime) -> Result<(), Fail> {
+    let alloc = rt.alloc();
+    let mut store = HashStore::new(alloc, Sha256Tree);
+    for size in 1..71u64 {
+        if store.size() < MOST {
+            store.append(&size.to_be_bytes())?;
+        }
+        let root = tree_hash(alloc, Sha256Tree, size, &store)?;
+        for place in 0..size {
+            let proof = prove_record(alloc, Sha256Tree, size, place, &store)?;
+            let hash = leaf_hash(Sha256Tree, &(place + 1).to_be_bytes());
+            let claim = Claim {
+                is_record: true,
+                size,
+                root,
+                place,
+                hash,
+            };
+            assert!(rt; is_exact(alloc, claim, &proof)?);
+        }
+        for place in 0..size {
+            let proof = prove_tree(alloc, Sha256Tree, size, place, &store)?;
+            let hash = tree_hash(alloc, Sha256Tree, place, &store)?;
+            let claim = Claim {
+                is_record: false,
+                size,
+                root,
+                place,
+                hash,
+            };
+            assert!(rt; is_exact(alloc, claim, &proof)?);
+        }
+    }
+    Ok(())
+}
+
+#[test]
+fn provers_answer_out_of_memory(rt: HostRuntime) -> Result<(), Fail> {
+    let alloc = rt.alloc();
+    let store = store_of(alloc, &entries(alloc, 7)?)?;
+    for number in 1..MOST {
+        let heap = Refusing::at(alloc, number);
+        let fault = prove_record(&heap, Sha256Tree, 7, 4, &store).err();
+        if !heap.refused() {
+            assert!(rt; number > 3 && fault == None);
+            return Ok(());
+        }
+        assert!(rt; fault == Some(ProveFault::OutOfMemory));
+        let heap = Refusing::at(alloc, number);
+        let fault = prove_tree(&heap, Sha256Tree, 7, 3, &store).err();
+        assert!(rt; !heap.refused() || fault == Some(ProveFault::OutOfMemory));
+    }
+    assert!(rt; false, "each run was refused");
+    Ok(())
+}
+
+#[test]
+fn link_keeps_its_hashes(rt: HostRuntime) -> Result<(), Fail> {
+    let alloc = rt.alloc();
+    let a = leaf_hash(Sha256Tree, b"a");
+    let mut hashes = Vec::new(alloc);
+    hashes.push(a)?;
+    let link = Link {
+        size: 1,
+        root: a,
+        proof: HashList::from_vec(hashes),
+    };
+    assert!(rt; link.proof.as_slice() == [a].as_slice());
+    assert!(rt; link.proof.into_vec().as_slice() == [a].as_slice());
+    Ok(())
+}
