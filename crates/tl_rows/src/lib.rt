@@ -20,6 +20,8 @@ mod sequencer;
 #[cfg(test)]
 mod store;
 #[cfg(test)]
+mod tiles;
+#[cfg(test)]
 mod trees;
 #[cfg(test)]
 mod vectors;

@@ -1,0 +1,6 @@
+mod Examples
+pub mod BundleLemmas
+pub mod NeededLemmas
+pub mod OnePath
+pub mod PathLemmas
+pub mod TileTexts

@@ -1,0 +1,20 @@
+use Rattle.std.proofs.Common.{sym, ap, ◌∙◌, ◌++◌, Some}
+use Rattle.std.specs.Prelude.{codes}
+use Rattle.tl_tile.specs.declared.resource.Resource.TheVariants as resource
+use Rattle.tl_tile.proofs.OnePath.{only_path, only_tile}
+use Rattle.tl_tile.proofs.PathLemmas.{no_resource, unlike}
+use Rattle.tl_tile.proofs.path.parse_path.Goals as goal
+
+pub returns-clause-none : goal.returns-clause-none
+returns-clause-none c = no_resource c.args.text.now c.in-Some-after.rest.now c.tile_of.result (unlike c.args.text.now _ c.eq.result c.eq.ensures c.if-eq.false)
+    (λ more e. c.in_default.ensures more (c.as_bytes-bytes.ensures.value ∙ e)) (sym c.as_bytes-bytes.ensures.value ∙ c.in-Some-after.ensures) c.tile_of.ensures
+
+pub returns-clause-only : goal.returns-clause-only
+returns-clause-only c = only_tile c.args.text.now c.in-Some-after.rest.now c.tile_of.result (unlike c.args.text.now _ c.eq.result c.eq.ensures c.if-eq.false)
+    (λ more e. c.in_default.ensures more (c.as_bytes-bytes.ensures.value ∙ e)) (sym c.as_bytes-bytes.ensures.value ∙ c.in-Some-after.ensures) c.tile_of.ensures
+
+pub returns-in-Some-place_of-clause-only : goal.returns-in-Some-place_of-clause-only
+returns-in-Some-place_of-clause-only c =
+    let place = c.in-Some-place_of.ensures in
+    let path = sym c.as_bytes-bytes.ensures.value ∙ c.in-Some.ensures ∙ ap (λ t. codes "tile/entries/" ++ t) place.3 in
+    only_path c.args.text.now (Some (resource.Entries c.in-Some-place_of.index c.in-Some-place_of.width)) ((place.0, place.1, place.2), sym path) tt

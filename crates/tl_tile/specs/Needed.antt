@@ -1,0 +1,21 @@
+-- The resources that a log of a size must serve beside its checkpoint (C2SP tlog-tiles, "Partial Tiles" and "Log
+-- Entries").
+use Rattle.std.specs.Prelude.{ℕ, ◌/◌, ◌%◌, List, [], ◌∷◌, ◌++◌, map, ◌==◌, if◌then◌else◌}
+use Rattle.std.specs.List.{flat_map, range_with_len}
+use Rattle.tl_tile.specs.TileText.{level_count}
+use Rattle.tl_tile.specs.declared.resource.Resource.{Resource}
+use Rattle.tl_tile.specs.declared.resource.Resource.TheVariants as resource
+
+-- a tile of a level, by its index and width
+abbrev pub tile_at : ℕ → ℕ → ℕ → Resource
+tile_at level index width = resource.Tile (record { level = level; index = index; width = width })
+
+-- so many hashes or entries in pieces of 256, by index: full ones, and a partial one for what is left
+abbrev pub pieces : (ℕ → ℕ → Resource) → ℕ → List Resource
+pieces piece count = map (λ index. piece index 256) (range_with_len 0 (count / 256))
+    ++ (if count % 256 == 0 then [] else piece (count / 256) (count % 256) ∷ [])
+
+-- the tiles by level, from 0 to 7, and then the bundles
+abbrev pub needed_resources : ℕ → List Resource
+needed_resources size = flat_map (λ level. pieces (tile_at level) (level_count size level)) (range_with_len 0 8)
+    ++ pieces resource.Entries size

@@ -1,0 +1,116 @@
+//! Entry bundles: entries one after the other, each with its length in front (C2SP tlog-tiles, "Log Entries").
+
+ghost use Rattle.std.specs.Prelude.{◌≡◌, ◌<◌, ◌≤◌, ◌^◌, ◌++◌, length, OnOk, IfOk, OnErr, MatchOption, Any, IsErrOf, map, vec_items};
+ghost use Rattle.tl_tile.specs.Bundle.{bundled_entry, bundle_text, IsShortEntry, AreShortEntries, IsPartialEntry};
+ghost use Rattle.tl_tile.specs.ReadBundle.{ReadsBundle, WritesBundle};
+ghost use Rattle.tl_tile.specs.declared.bundle.BundleFault.TheVariants.{OutOfMemory};
+
+use std::alloc::{AllocError, AllocFailed, Allocator};
+use thiserror::Error;
+
+/// Why a bundle could not be written or read, in the order in which the refusals are checked.
+#[derive(Clone, Copy, Debug, PartialEq, Eq, Error)]
+pub enum BundleFault {
+    /// An entry has more than 65,535 bytes.
+    #[error("an entry is longer than 65535 bytes")]
+    EntryTooLong,
+    /// The bytes end within the bundle, that is, they are the beginning of a bundle of this width, and not all of it.
+    #[error("the entry bundle is truncated")]
+    Truncated,
+    /// The bytes go on past a bundle of this width.
+    #[error("bytes follow the entry bundle")]
+    Trailing,
+    /// Memory ran out.
+    #[error("out of memory")]
+    OutOfMemory,
+}
+
+impl From<AllocError> for BundleFault {
+    ghost from_gives = { λ _ fault. fault ≡ OutOfMemory };
+
+    fn from(_error: AllocError) -> BundleFault {
+        BundleFault::OutOfMemory
+    }
+}
+
+impl<X: Drop> From<AllocFailed<X>> for BundleFault {
+    ghost from_gives = { λ _ fault. fault ≡ OutOfMemory };
+
+    fn from(_error: AllocFailed<X>) -> BundleFault {
+        BundleFault::OutOfMemory
+    }
+}
+
+// Adds one entry with its length in front.
+fn push_entry<A: Allocator>(out: &mut Vec<u8, A>, entry: &[u8]) -> Result<(), AllocError>
+    requires { IsShortEntry entry.now }
+    ensures { OnOk result (out.new.items ≡ out.old.items ++ bundled_entry entry.now) }
+{
+    out.extend_from_slice(&(entry.len() as u16).to_be_bytes())?;
+    out.extend_from_slice(entry)?;
+    Ok(())
+}
+
+/// The bundle of these 1 to 256 entries: each as its length, in 16 bits, big-endian, and its bytes (C2SP tlog-tiles, "Log
+/// Entries"). It fails with `EntryTooLong` where an entry has more than 65,535 bytes, and with `OutOfMemory` where memory
+/// is refused.
+pub fn write_bundle<A: Allocator, B: Allocator>(
+    alloc: A,
+    entries: &[Vec<u8, B>],
+) -> Result<Vec<u8, A>, BundleFault>
+    requires some { 0 < length entries.now }
+    requires at_most_256 { length entries.now ≤ 256 }
+    ensures { WritesBundle (map vec_items entries.now) result }
+{
+    let mut out = Vec::new(alloc);
+    for entry in entries {
+        if entry.len() > 65_535 {
+            return Err(BundleFault::EntryTooLong);
+        }
+        push_entry(&mut out, entry)?;
+    }
+    Ok(out)
+}
+
+// The first entry, and the bytes after it.
+fn first_entry(bytes: &[u8]) -> Option<(&[u8], &[u8])>
+    ensures { MatchOption result (IsPartialEntry bytes.now) (λ x. IsShortEntry x.0.now × (bytes.now ≡ bundled_entry x.0.now ++ x.1.now)) }
+{
+    if bytes.len() < 2 {
+        return None;
+    }
+    let (front, rest) = bytes.split_at(2);
+    let len = u16::from_be_bytes([front[0], front[1]]) as usize;
+    if rest.len() < len {
+        return None;
+    }
+    Some(rest.split_at(len))
+}
+
+/// The entries of a bundle of `width` entries, from 1 to 256 (C2SP tlog-tiles, "Log Entries"). It fails with `Truncated`
+/// exactly where the bytes are the beginning of such a bundle and not all of it, with `Trailing` exactly where such a
+/// bundle is the beginning of the bytes and not all of them, and with `OutOfMemory` where memory is refused.
+pub fn read_bundle<A: Allocator + Copy>(
+    alloc: A,
+    bytes: &[u8],
+    width: u32,
+) -> Result<Vec<Vec<u8, A>, A>, BundleFault>
+    requires some { 0 < width }
+    requires at_most_256 { width ≤ 256 }
+    ensures { ReadsBundle bytes.now width result }
+{
+    let mut entries = Vec::new(alloc);
+    let mut rest = bytes;
+    for _ in 0..width {
+        let Some((entry, after)) = first_entry(rest) else {
+            return Err(BundleFault::Truncated);
+        };
+        let entry = Vec::from_slice(alloc, entry)?;
+        entries.push(entry)?;
+        rest = after;
+    }
+    if !rest.is_empty() {
+        return Err(BundleFault::Trailing);
+    }
+    Ok(entries)
+}

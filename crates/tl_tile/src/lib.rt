@@ -1,0 +1,16 @@
+//! Tiles of a log, entry bundles, and the paths under which a log serves them (C2SP tlog-tiles).
+#![tactic(auto)]
+
+mod bundle;
+mod law;
+mod listing;
+mod path;
+mod resource;
+mod tile;
+
+pub use bundle::{BundleFault, read_bundle, write_bundle};
+pub use law::bundle_has_one_reading;
+pub use listing::needed;
+pub use path::{parse_path, path_of};
+pub use resource::{Resource, Tile};
+pub use tile::tile_bytes;
