@@ -1,6 +1,9 @@
 //! Loops to measure, one word each. The scripts in `bench/` run them beside the program.
 #![tactic(auto)]
 
+mod rings;
+
+use rings::sequencer;
 use sha2::{Digest, Sha256};
 use std::process::ExitCode;
 use std::{env, io};
@@ -39,6 +42,12 @@ fn sha256(rt: &impl Print, words: &[String]) -> io::Result<bool> {
     Ok(true)
 }
 
+// A loop that was measured to its end.
+fn measured(outcome: io::Result<()>) -> io::Result<bool> {
+    outcome?;
+    Ok(true)
+}
+
 fn main(rt: HostRuntime) -> ExitCode {
     let Ok(args) = env::args(&rt) else {
         return ExitCode::from(2);
@@ -48,12 +57,13 @@ fn main(rt: HostRuntime) -> ExitCode {
     };
     let outcome = match words.as_slice() {
         [_, word, rest @ ..] if word.as_str() == "sha256" => sha256(&rt, rest),
+        [_, word] if word.as_str() == "sequencer" => measured(sequencer(&rt, rt.alloc())),
         _ => Ok(false),
     };
     match outcome {
         Ok(true) => ExitCode::SUCCESS,
         Ok(false) => {
-            let _ = rt.eprintln("usage: tl_bench sha256 COUNT LENGTH ..");
+            let _ = rt.eprintln("usage: tl_bench sha256 COUNT LENGTH .. | tl_bench sequencer");
             ExitCode::from(2)
         }
         Err(_) => ExitCode::from(3),

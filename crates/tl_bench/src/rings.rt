@@ -1,0 +1,138 @@
+//! Entries a second through the rings of a sequencer, beside the same through one lock.
+
+use std::alloc::{AllocError, Global};
+use std::sync::{Arc, Mutex, Wait};
+use std::thread::Threads;
+use std::time::{Clock, Duration, Instant};
+use std::{io, thread};
+use tl_sequencer::{Sequencer, Submitter, open};
+
+const LANES: u32 = 4;
+
+// Entries that each thread sends.
+const EACH: u64 = 2_500_000;
+
+const ENTRIES: u64 = 10_000_000;
+
+const BYTES: usize = 32;
+
+// Room in each ring, and the most entries that one `take` gives.
+const CAPACITY: usize = 256;
+
+const BATCH: u64 = 256;
+
+// More entries than are sent, so that the log is never full.
+const LIMIT: u64 = 4_294_967_295;
+
+// Sends an entry when there is room for it.
+fn send_when_free(submitter: &mut Submitter<Global, Global>, entry: Vec<u8>) {
+    let mut entry = entry;
+    for _ in 0..u64::MAX {
+        match submitter.submit(entry) {
+            Ok(_) => return,
+            Err(refused) => entry = refused.entry,
+        }
+        thread::yield_now();
+    }
+}
+
+// What the thread of a lane does.
+fn send_each(alloc: Global, submitter: Submitter<Global, Global>) -> Result<(), AllocError> {
+    let mut submitter = submitter;
+    for _ in 0..EACH {
+        let entry = vec![in alloc; 7; BYTES]?;
+        send_when_free(&mut submitter, entry);
+    }
+    Ok(())
+}
+
+// Takes from the lanes in turn until the log has all entries.
+fn take_each(log: &mut Sequencer<Global, Global>) -> bool {
+    for _ in 0..u64::MAX {
+        let before = log.len();
+        for lane in 0..LANES {
+            if log.take(lane, BATCH).is_err() {
+                return false;
+            }
+        }
+        if log.len() >= ENTRIES {
+            return true;
+        }
+        if log.len() == before {
+            thread::yield_now();
+        }
+    }
+    false
+}
+
+// The time until all entries are in the log, where memory was there for it.
+fn through_rings<R: Threads + Clock>(rt: &R, alloc: Global) -> io::Result<Option<Duration>> {
+    let Ok((mut log, submitters)) = open(alloc, LANES, CAPACITY, LIMIT) else {
+        return Ok(None);
+    };
+    let start = Instant::now(rt)?;
+    let mut threads = Vec::new(alloc);
+    for submitter in submitters {
+        threads.push(thread::spawn(rt, move || send_each(alloc, submitter))?)?;
+    }
+    let whole = take_each(&mut log);
+    let took = start.elapsed(rt)?;
+    for thread in threads {
+        thread.join(rt)?;
+    }
+    Ok(whole.then_some(took))
+}
+
+// What a thread does with a list behind a lock.
+fn push_each(
+    rt: &impl Wait,
+    alloc: Global,
+    log: &Mutex<Vec<(u32, Vec<u8>)>>,
+    who: u32,
+) -> Result<(), AllocError> {
+    for _ in 0..EACH {
+        let entry = vec![in alloc; 7; BYTES]?;
+        log.lock(rt).push((who, entry))?;
+    }
+    Ok(())
+}
+
+// The time until all entries are in the list.
+fn through_lock<R: Threads + Wait + Clock + Copy + Send + 'static>(
+    rt: &R,
+    alloc: Global,
+) -> io::Result<Duration> {
+    let log = Arc::new(alloc, Mutex::new(Vec::new(alloc)))?;
+    let start = Instant::now(rt)?;
+    let mut threads = Vec::new(alloc);
+    for who in 0..LANES {
+        let theirs = Arc::try_clone(&log)?;
+        let handle = *rt;
+        threads.push(thread::spawn(rt, move || push_each(&handle, alloc, &theirs, who))?)?;
+    }
+    for thread in threads {
+        thread.join(rt)?;
+    }
+    start.elapsed(rt)
+}
+
+// Entries a second, if the time is long enough to tell.
+fn rate(took: Duration) -> u128 {
+    match took.as_millis() {
+        0 => 0,
+        millis => ENTRIES as u128 * 1000 / millis,
+    }
+}
+
+/// Prints how many entries a second four threads get into one list: through rings of 256 with batches of 256, and through a lock.
+pub fn sequencer<R: Threads + Wait + Clock + Print + Copy + Send + 'static>(
+    rt: &R,
+    alloc: Global,
+) -> io::Result<()> {
+    match through_rings(rt, alloc)? {
+        Some(took) => println!(rt; "sequencer: rings {} entries a second", rate(took))?,
+        None => println!(rt; "sequencer: rings: out of memory")?,
+    }
+    let took = through_lock(rt, alloc)?;
+    println!(rt; "sequencer: one lock {} entries a second", rate(took))
+}
