@@ -29,11 +29,11 @@ some_piece : (rest : List ℕ) → 0 < length (slice_split is_newline rest)
 some_piece rest = omega (arith, length-slice_split is_newline rest)
 
 -- the step at one byte
-step_newline : (b : ℕ) (rest : List ℕ) → b ≡ 10 → entries_of (b ∷ rest) ≡ [] ∷ entries_of rest
+pub step_newline : (b : ℕ) (rest : List ℕ) → b ≡ 10 → entries_of (b ∷ rest) ≡ [] ∷ entries_of rest
 unfolding entries_of
 step_newline b rest e = ap without_empty_last (slice_split-cons_yes is_newline b rest (eq-eqb b 10 e)) ∙ past_piece [] (slice_split is_newline rest) (some_piece rest)
 
-step_other : (b : ℕ) (rest : List ℕ) → b ≢ 10 → entries_of (b ∷ rest) ≡ onto_first b (entries_of rest)
+pub step_other : (b : ℕ) (rest : List ℕ) → b ≢ 10 → entries_of (b ∷ rest) ≡ onto_first b (entries_of rest)
 unfolding entries_of
 step_other b rest e = ap without_empty_last (slice_split-cons_no is_newline b rest (ne_eqb b 10 e)) ∙ within_piece b (slice_split is_newline rest) (some_piece rest)
 

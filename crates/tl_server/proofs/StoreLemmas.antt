@@ -6,10 +6,10 @@ use Rattle.tl_store.specs.Head.{GivesHeadFault}
 use Rattle.tl_store.specs.declared.reader.ReadFault.{ReadFault}
 use Rattle.tl_store.specs.declared.reader.ReadFault.TheVariants.{OutOfRange, Source, OutOfMemory, BadTile}
 
-pub head_fault_is_memory : (n : ℕ) (fault : ReadFault) → n ≤ 2 ^ 62 → GivesHeadFault n false n fault → fault ≡ OutOfMemory
-head_fault_is_memory n OutOfRange small given =
+pub head_fault_is_memory : (n size : ℕ) (fault : ReadFault) → size ≤ n → n ≤ 2 ^ 62 → GivesHeadFault n false size fault → fault ≡ OutOfMemory
+head_fault_is_memory n size OutOfRange within small given =
     let same : cond (nat_le n (2 ^ 62)) n 0 ≡ n = ap (λ b. cond b n 0) (le-leb n (2 ^ 62) small) in
     absurd (omega (arith, same, given))
-head_fault_is_memory n Source small given = absurd cc
-head_fault_is_memory n OutOfMemory small given = refl
-head_fault_is_memory n (BadTile level index width) small given = absurd cc
+head_fault_is_memory n size Source within small given = absurd cc
+head_fault_is_memory n size OutOfMemory within small given = refl
+head_fault_is_memory n size (BadTile level index width) within small given = absurd cc

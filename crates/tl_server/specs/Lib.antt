@@ -5,3 +5,5 @@ pub mod Faults
 pub mod Run
 pub mod Head
 pub mod DemoKey
+pub mod ProofText
+pub mod ProofCommands

@@ -1,6 +1,7 @@
 -- The entries of an input: its lines.
-use Rattle.std.specs.Prelude.{ℕ, ◌==◌, nat_lt, List, [], ◌∷◌, length, position, Bool, Option}
-use Rattle.std.specs.List.{slice_split}
+use Rattle.std.specs.Prelude.{◌≢◌, ℕ, ◌==◌, nat_lt, List, [], ◌∷◌, length, position, All, Bool, Option}
+use Rattle.std.specs.List.{flat_map, slice_split}
+use Rattle.tl_note.specs.Text.{line}
 
 -- pieces without a last one that is empty
 abbrev pub without_empty_last : List (List ℕ) → List (List ℕ)
@@ -20,3 +21,11 @@ is_too_long entry = nat_lt 65535 (length entry)
 -- the place of the first entry that is too long
 abbrev pub first_too_long : List (List ℕ) → Option ℕ
 first_too_long entries = position is_too_long entries
+
+-- a line's text has no newline
+abbrev pub HasNoNewline : List ℕ → Type 0
+HasNoNewline text = All (λ byte. byte ≢ 10) text
+
+-- lines, each ended by its newline
+abbrev pub lines_text : List (List ℕ) → List ℕ
+lines_text lines = flat_map line lines

@@ -1,3 +1,6 @@
 //! One module for each command.
 
+pub(crate) mod check;
+pub(crate) mod consistency;
 pub(crate) mod head;
+pub(crate) mod inclusion;

@@ -27,8 +27,8 @@ fn first_entry(input: &[u8]) -> (&[u8], &[u8])
     }
 }
 
-// The entries of an input.
-fn split_entries<A: Allocator + Copy>(
+/// The entries of an input.
+pub(crate) fn split_entries<A: Allocator + Copy>(
     alloc: A,
     input: &[u8],
 ) -> Result<Vec<Vec<u8, A>, A>, AllocError>

@@ -6,9 +6,15 @@ mod demonstration;
 mod device;
 mod entries;
 mod fault;
+mod lines;
+mod proof_text;
+mod stored;
 mod words;
 
+pub use commands::check::run_check;
+pub use commands::consistency::run_consistency;
 pub use commands::head::run_head;
+pub use commands::inclusion::run_inclusion;
 pub use demonstration::{DemoKey, demo_key, hmac};
 pub use device::Counted;
 pub use entries::read_entries;

@@ -1,9 +1,11 @@
 //! The command line: from words to a job.
 
 use clap::error::ErrorKind;
-use clap::{Arg, ArgAction, ArgMatches, Command, Error as ClapError};
+use clap::{Arg, ArgAction, ArgMatches, Command, Error as ClapError, value_parser};
 use std::alloc::{AllocError, Global};
 use thiserror::Error;
+
+mod texts;
 
 /// A command of the program, with its options.
 #[derive(Debug, Drop)]
@@ -13,6 +15,18 @@ pub enum Job {
         /// The name of the log.
         origin: String,
     },
+    /// Print the inclusion proof of a line of standard input.
+    Inclusion {
+        /// The place of the line, counted from 0.
+        index: u64,
+    },
+    /// Print the consistency proof from the first lines of standard input to all of them.
+    Consistency {
+        /// The number of the first lines.
+        old: u64,
+    },
+    /// Say whether the proof on standard input is accepted.
+    Check,
 }
 
 /// Why a command line gives no job.
@@ -25,18 +39,6 @@ pub enum WordsFault {
     #[error("out of memory")]
     OutOfMemory,
 }
-
-const STATUSES: &str =
-    "Exit status: 0 done; 1 refused; 2 wrong arguments or a call for help; 3 a device failed.
-A refusal is one line 'tlog: ..' on standard error.";
-
-const HEAD: &str =
-    "Input: the entries of the log, one a line, at most 64 MiB in all and 65,535 bytes a line. A last line without
-a newline counts if it isn't empty.
-Output: the text of the checkpoint (C2SP tlog-checkpoint): the origin, the number of entries and their Merkle tree
-hash (RFC 6962) in base64, each on a line.
-Exit status: 0 done; 1 refused (input too large, an entry too long, a bad origin, out of memory); 2 wrong arguments
-or a call for help; 3 a read or a write failed. A refusal is one line 'tlog: ..' on standard error.";
 
 impl From<AllocError> for WordsFault {
     fn from(_fault: AllocError) -> WordsFault {
@@ -65,6 +67,11 @@ fn required<'a>(alloc: Global, name: &'a str, value: &'a str, help: &'a str) -> 
         .action(ArgAction::Set)
 }
 
+// An option with a number, which has to be given.
+fn number<'a>(alloc: Global, name: &'a str, help: &'a str) -> Arg<'a> {
+    required(alloc, name, "N", help).value_parser(value_parser!(u64))
+}
+
 // The command `head`.
 fn head<'a>(alloc: Global) -> Result<Command<'a>, AllocError> {
     let origin = required(
@@ -75,26 +82,69 @@ fn head<'a>(alloc: Global) -> Result<Command<'a>, AllocError> {
     );
     Command::new(alloc, "head")
         .about("Prints the checkpoint of the log whose entries are the lines of standard input")
-        .after_help(HEAD)
+        .after_help(texts::HEAD)
         .arg(origin)
+}
+
+// The command `inclusion`.
+fn inclusion<'a>(alloc: Global) -> Result<Command<'a>, AllocError> {
+    Command::new(alloc, "inclusion")
+        .about("Prints the inclusion proof of a line of standard input")
+        .after_help(texts::INCLUSION)
+        .arg(number(
+            alloc,
+            "index",
+            "The place of the line, counted from 0",
+        ))
+}
+
+// The command `consistency`.
+fn consistency<'a>(alloc: Global) -> Result<Command<'a>, AllocError> {
+    Command::new(alloc, "consistency")
+        .about("Prints the consistency proof from the first lines of standard input to all of them")
+        .after_help(texts::CONSISTENCY)
+        .arg(number(alloc, "old", "The number of the first lines"))
+}
+
+// The command `check`.
+fn check<'a>(alloc: Global) -> Command<'a> {
+    Command::new(alloc, "check")
+        .about("Says whether the proof on standard input is accepted")
+        .after_help(texts::CHECK)
 }
 
 // The command line that the program takes.
 fn commands<'a>(alloc: Global) -> Result<Command<'a>, AllocError> {
     Command::new(alloc, "tlog")
         .about("A transparency log: a public list that only grows, under the root of a Merkle tree")
-        .after_help(STATUSES)
+        .after_help(texts::STATUSES)
         .subcommand_required(true)
         .disable_help_subcommand(true)
-        .subcommand(head(alloc)?)
+        .subcommand(head(alloc)?)?
+        .subcommand(inclusion(alloc)?)?
+        .subcommand(consistency(alloc)?)?
+        .subcommand(check(alloc))
+}
+
+// The fault where an option isn't there, though the command line was understood.
+fn missing(alloc: Global) -> WordsFault {
+    WordsFault::Usage(String::new(alloc))
 }
 
 // The text of an option that has to be given.
 fn text_of(alloc: Global, options: &ArgMatches<'_>, name: &str) -> Result<String, WordsFault> {
     let Some(text) = options.get_str(name) else {
-        return Err(WordsFault::Usage(String::new(alloc)));
+        return Err(missing(alloc));
     };
     Ok(String::from_str(alloc, text)?)
+}
+
+// The number of an option that has to be given.
+fn number_of(alloc: Global, options: &ArgMatches<'_>, name: &str) -> Result<u64, WordsFault> {
+    match options.get_one::<u64>(name) {
+        Some(number) => Ok(number),
+        None => Err(missing(alloc)),
+    }
 }
 
 /// The job that the words ask for, the first of which is the program's name. Words that are no command of the program with
@@ -109,6 +159,13 @@ pub fn read_words(alloc: Global, words: &[String]) -> Result<Job, WordsFault> {
         Some(("head", options)) => Ok(Job::Head {
             origin: text_of(alloc, options, "origin")?,
         }),
-        _ => Err(WordsFault::Usage(String::new(alloc))),
+        Some(("inclusion", options)) => Ok(Job::Inclusion {
+            index: number_of(alloc, options, "index")?,
+        }),
+        Some(("consistency", options)) => Ok(Job::Consistency {
+            old: number_of(alloc, options, "old")?,
+        }),
+        Some(("check", _)) => Ok(Job::Check),
+        _ => Err(missing(alloc)),
     }
 }

@@ -1,9 +1,6 @@
 //! The command `head`: the checkpoint of the log whose entries are the lines of the input.
 
-ghost use Rattle.std.specs.Prelude.{◌≡◌, ◌<◌, ◌≤◌, ◌^◌, ℕ, List, length, take, map, vec_items, string_bytes, IfOk, IfErr};
-ghost use Rattle.sha2.specs.Sha256.{sha256};
-ghost use Rattle.tl_hash.specs.Tree.{tree_hash as tree_hash_of};
-ghost use Rattle.tl_store.specs.Store.{StandsFor};
+ghost use Rattle.std.specs.Prelude.{◌≡◌, ◌<◌, ◌^◌, length, map, vec_items, string_bytes, IfOk, IfErr};
 ghost use Rattle.tl_checkpoint.specs.Checkpoint.{IsOneLine};
 ghost use Rattle.tl_server.specs.Device.{passage};
 ghost use Rattle.tl_server.specs.Head.{head_text, RunsHead};
@@ -13,53 +10,10 @@ use crate::device::reading::MOST_INPUT;
 use crate::device::writing::write_whole;
 use crate::entries::read_entries;
 use crate::fault::RunFault;
-use std::alloc::{AllocError, Allocator};
+use crate::stored::{root_of, store_of};
+use std::alloc::Allocator;
 use std::io::{Read, Write};
 use tl_checkpoint::{Checkpoint, CheckpointFault, is_one_line, write};
-use tl_hash::{Hash, Sha256Tree};
-use tl_store::{HashStore, ReadFault, tree_hash};
-
-// The store of the hashes of these entries.
-fn store_of<A: Allocator + Copy>(
-    alloc: A,
-    entries: &[Vec<u8, A>],
-) -> Result<HashStore<Sha256Tree, A>, AllocError>
-    requires { length entries.now < 2 ^ 32 }
-    ensures { IfOk result (λ store. StandsFor store sha256 (map vec_items entries.now)) }
-{
-    let mut store = HashStore::new(alloc, Sha256Tree);
-    for entry in entries {
-        store.append(entry)?;
-    }
-    Ok(store)
-}
-
-// A store in memory can be read but for want of memory.
-fn only_memory(fault: ReadFault) -> RunFault
-    requires { fault ≡ ReadFault.OutOfMemory }
-    ensures { result ≡ RunFault.OutOfMemory }
-{
-    match fault {
-        ReadFault::OutOfMemory => RunFault::OutOfMemory,
-        _ => unreachable!(),
-    }
-}
-
-// The root of the tree of all entries of this store.
-fn root_of<A: Allocator + Copy>(
-    alloc: A,
-    store: &HashStore<Sha256Tree, A>,
-) -> Result<Hash, RunFault>
-    requires { store.now.size ≤ 2 ^ 62 }
-    ensures root { (entries : List (List ℕ)) → StandsFor store.now sha256 entries
-        → IfOk result (λ root. root ≡ tree_hash_of sha256 (take store.now.size entries)) }
-    ensures fault { IfErr result (λ fault. fault ≡ RunFault.OutOfMemory) }
-{
-    match tree_hash(alloc, Sha256Tree, store.size(), store) {
-        Ok(root) => Ok(root),
-        Err(fault) => Err(only_memory(fault)),
-    }
-}
 
 // The text of the checkpoint of the log of these entries.
 fn checkpoint_of<A: Allocator + Copy>(
@@ -76,7 +30,7 @@ fn checkpoint_of<A: Allocator + Copy>(
     let checkpoint = Checkpoint {
         origin: String::from_str(alloc, origin)?,
         size: store.size(),
-        root: root_of(alloc, &store)?,
+        root: root_of(alloc, &store, store.size())?,
         extensions: Vec::new(alloc),
     };
     match write(alloc, &checkpoint) {

@@ -1,7 +1,7 @@
 use Rattle.std.proofs.Common.{◌≡◌, map, take, vec_items}
 use Rattle.sha2.specs.Sha256.{sha256}
 use Rattle.tl_store.specs.Store.{StandsFor}
-use Rattle.tl_server.proofs.commands.head.store_of.Given as goal
+use Rattle.tl_server.proofs.stored.store_of.Given as goal
 
 -- the store is of the entries so far
 abbrev pub invariant-loop-entry : goal.invariant-loop-entry

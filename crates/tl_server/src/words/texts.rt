@@ -1,0 +1,33 @@
+//! What the program says of its commands where it is called for help.
+
+pub(super) const STATUSES: &str =
+    "Exit status: 0 done; 1 refused; 2 wrong arguments or a call for help; 3 a device failed.
+A refusal is one line 'tlog: ..' on standard error.";
+
+pub(super) const HEAD: &str =
+    "Input: the entries of the log, one a line, at most 64 MiB in all and 65,535 bytes a line. A last line without
+a newline counts if it isn't empty.
+Output: the text of the checkpoint (C2SP tlog-checkpoint): the origin, the number of entries and their Merkle tree
+hash (RFC 6962) in base64, each on a line.
+Exit status: 0 done; 1 refused (input too large, an entry too long, a bad origin, out of memory); 2 wrong arguments
+or a call for help; 3 a read or a write failed. A refusal is one line 'tlog: ..' on standard error.";
+
+pub(super) const INCLUSION: &str =
+    "Input: the entries of the log, one a line, as for 'tlog head'.
+Output: lines 'inclusion', 'index I', 'size N', 'leaf HASH', 'root HASH', and the hashes of the proof (RFC 6962,
+section 2.1.1), one a line, the one nearest to the leaf first. Hashes are in base64. 'tlog check' reads it.
+Exit status: 0 done; 1 refused (no line at the index, input too large, an entry too long, out of memory); 2 wrong
+arguments or a call for help; 3 a read or a write failed. A refusal is one line 'tlog: ..' on standard error.";
+
+pub(super) const CONSISTENCY: &str =
+    "Input: the entries of the log, one a line, as for 'tlog head'.
+Output: lines 'consistency', 'old M', 'oldroot HASH', 'size N', 'root HASH', and the hashes of the proof (RFC 6962,
+section 2.1.2), one a line. Hashes are in base64. From 0 lines the proof is empty. 'tlog check' reads it.
+Exit status: 0 done; 1 refused (fewer lines than N, input too large, an entry too long, out of memory); 2 wrong
+arguments or a call for help; 3 a read or a write failed. A refusal is one line 'tlog: ..' on standard error.";
+
+pub(super) const CHECK: &str =
+    "Input: the text of a proof, as 'tlog inclusion' and 'tlog consistency' print it.
+Output: 'accepted' where the proof is accepted under SHA-256 (RFC 6962, sections 2.1.1 and 2.1.2), else 'refused'.
+Exit status: 0 accepted; 1 refused, or no such text, or out of memory; 2 wrong arguments or a call for help; 3 a read
+or a write failed.";
