@@ -1,5 +1,5 @@
 -- A number and a hash after a word in a line.
-use Rattle.std.proofs.Common.{◌≡◌, ℕ, ◌+◌, ◌<◌, ◌^◌, List, ◌++◌, length, take, drop, true, false, sym, ap, ◌∙◌, arith, Bor, Some, None, Ok, Err}
+use Rattle.std.proofs.Common.{◌≡◌, ℕ, ◌+◌, List, ◌++◌, length, take, drop, true, false, sym, ap, ◌∙◌, arith, Bor, Some, None, Ok, Err}
 use Rattle.std.specs.Prelude.{◌≢◌, decimal, IsUtf8, MatchOption, IfOk, Option, Result}
 use Rattle.std.specs.Cmp.Lexicographic.{pointwise}
 use Rattle.std.proofs.Math.Dec.{eqb}
@@ -10,7 +10,6 @@ use Rattle.std.proofs.lemmas.Fmt.{IsAscii-decimal}
 use Rattle.std.proofs.lemmas.Str.{IsUtf8-from_ascii}
 use Rattle.base64.proofs.EngineFacts.{IsAscii-encode_of}
 use Rattle.base64.specs.Engines.{standard}
-use Rattle.tl_hash.specs.Bytes.{IsHash}
 use Rattle.tl_note.specs.Text.{number_text, base64_text, IsSize}
 
 pub number_utf8 : (n : ℕ) → IsSize n → IsUtf8 (number_text n)

@@ -1,6 +1,6 @@
 -- Lines and their text: it is cut back into them, and a text is that of its pieces exactly where it ends with a newline.
-use Rattle.std.proofs.Common.{inl, inr, ◌≡◌, ℕ, suc, ◌<◌, ◌-◌, List, [], ◌∷◌, ◌++◌, length, get_or, map, refl, sym, ap, ◌∙◌, arith, eq-eqb, All}
-use Rattle.std.specs.Prelude.{◌≢◌, ◌==◌, MatchBool, Option, Some, None, slice_get}
+use Rattle.std.proofs.Common.{inl, inr, ◌≡◌, ℕ, suc, ◌<◌, ◌-◌, List, [], ◌∷◌, ◌++◌, length, get_or, refl, sym, ap, ◌∙◌, arith, eq-eqb, All}
+use Rattle.std.specs.Prelude.{◌≢◌, ◌==◌, MatchBool, Some, None, slice_get}
 use Rattle.std.specs.List.{flat_map, onto_first}
 use Rattle.std.proofs.lemmas.Bool.{cases_eq, ne_eqb}
 use Rattle.std.proofs.lemmas.List.Concat.{flat_map-cons}

@@ -1,10 +1,10 @@
 -- The lines of a proof's text have no newline, and what the provers give is what the text has.
-use Rattle.std.proofs.Common.{inl, inr, ◌≡◌, ℕ, ◌<◌, ◌≤◌, true, List, [], ◌∷◌, ◌++◌, length, get_or, map, take, refl, sym, ap, ◌∙◌, arith, All, append-nil}
-use Rattle.std.specs.Prelude.{◌≢◌, codes, nat_le, slice_index_or, Bool, false, Ok}
+use Rattle.std.proofs.Common.{◌≡◌, ℕ, ◌<◌, ◌≤◌, true, List, [], ◌∷◌, ◌++◌, length, get_or, map, take, refl, sym, ap, ◌∙◌, arith, All, append-nil}
+use Rattle.std.specs.Prelude.{codes, nat_le, slice_index_or, Bool, false, Ok}
 use Rattle.std.specs.List.{list_all}
 use Rattle.std.proofs.lemmas.Bool.{leb-true}
 use Rattle.std.proofs.lemmas.List.{take_all, get_or-map, length-map}
-use Rattle.std.proofs.lemmas.List.Elements.{All-nil, All-cons, All-append}
+use Rattle.std.proofs.lemmas.List.Elements.{All-cons, All-append}
 use Rattle.std.proofs.lemmas.List.Sums.{AllPass-from_list_all}
 use Rattle.sha2.specs.Sha256.{sha256}
 use Rattle.tl_hash.specs.Bytes.{IsHash}
@@ -80,7 +80,7 @@ inclusion_is entries index size leaf root proof count is_leaf is_root is_proof =
     ∙ ap (λ (h : List ℕ). inclusion index (length entries) h root proof) is_leaf
     ∙ ap (λ (h : List ℕ). inclusion index (length entries) (sha256 (leaf_input (slice_index_or entries index []))) h proof) (is_root ∙ ap (tree_hash sha256) (whole entries size count))
     ∙ ap (λ (hs : List (List ℕ)). inclusion index (length entries) (sha256 (leaf_input (slice_index_or entries index []))) (tree_hash sha256 entries) hs)
-      (is_proof ∙ ap (inclusion_proof sha256 index) (whole_more entries size count))
+    (is_proof ∙ ap (inclusion_proof sha256 index) (whole_more entries size count))
 
 unfoldable consistency : ℕ → List ℕ → ℕ → List ℕ → List (List ℕ) → Consistency
 consistency old old_root size root proof = record { old = old; old_root = old_root; size = size; root = root; proof = proof }
@@ -95,15 +95,17 @@ consistency_is entries old old_root size root proof count is_old is_root is_proo
     ∙ ap (λ (h : List ℕ). consistency old h (length entries) root proof) is_old
     ∙ ap (λ (h : List ℕ). consistency old (tree_hash sha256 (take old entries)) (length entries) h proof) (is_root ∙ ap (tree_hash sha256) (whole entries size count))
     ∙ ap (λ (hs : List (List ℕ)). consistency old (tree_hash sha256 (take old entries)) (length entries) (tree_hash sha256 entries) hs)
-      (is_proof ∙ ap (consistency_proof sha256 old) (whole_more entries size count))
+    (is_proof ∙ ap (consistency_proof sha256 old) (whole_more entries size count))
 
 -- a text of which the answer is no
 pub refusal_comes : (input text : List ℕ) (accepted : Bool) → accepted ≡ false → text ≡ input → AnswersText text (Ok accepted) → CheckComes input (PrintsRefusal (line (codes "refused")))
 refusal_comes input text accepted is same said =
-    let answer = said.0 in
-    (record {
-      proof = answer.proof;
-      lawful = answer.lawful;
-      spelled = sym same ∙ said.1 ∙ ap lines_text answer.spelled;
-      fact = λ accepts. let t : accepted ≡ true = answer.says.1 accepts in cc;
-    }, refl)
+    let answer = said.0 in (
+      record {
+        proof = answer.proof;
+        lawful = answer.lawful;
+        spelled = sym same ∙ said.1 ∙ ap lines_text answer.spelled;
+        fact = λ accepts. let t : accepted ≡ true = answer.says.1 accepts in cc;
+      },
+      refl,
+    )

@@ -1,5 +1,5 @@
 -- A key for demonstrations: HMAC (RFC 2104) with SHA-256.
-use Rattle.std.specs.Prelude.{ℕ, ◌-◌, Bool, false, List, [], ◌∷◌, ◌++◌, length, map, take, replicate, nat_lt, if◌then◌else◌, bit_xor, bytes_eq, codes}
+use Rattle.std.specs.Prelude.{ℕ, ◌-◌, false, List, ◌∷◌, ◌++◌, length, map, take, replicate, nat_lt, if◌then◌else◌, bit_xor, bytes_eq, codes}
 use Rattle.std.specs.Int.{w32, from_be_bytes}
 use Rattle.sha2.specs.Sha256.{sha256}
 use Rattle.tl_note.specs.Key.{Key, SigningKey}

@@ -91,11 +91,7 @@ fn inclusion<'a>(alloc: Global) -> Result<Command<'a>, AllocError> {
     Command::new(alloc, "inclusion")
         .about("Prints the inclusion proof of a line of standard input")
         .after_help(texts::INCLUSION)
-        .arg(number(
-            alloc,
-            "index",
-            "The place of the line, counted from 0",
-        ))
+        .arg(number(alloc, "index", "The place of the line, counted from 0"))
 }
 
 // The command `consistency`.

@@ -23,14 +23,28 @@ use tl_proof::{check_record, check_tree};
 fn accepts_inclusion<A: Allocator>(p: &InclusionProof<A>) -> bool
     ensures { IsTrue result ↔ Accepts sha256 (Included (inclusion_shown p.now)) }
 {
-    check_record(Sha256Tree, p.proof.as_slice(), p.size, p.root, p.index, p.leaf)
+    check_record(
+        Sha256Tree,
+        p.proof.as_slice(),
+        p.size,
+        p.root,
+        p.index,
+        p.leaf,
+    )
 }
 
 // Whether the consistency proof is accepted.
 fn accepts_consistency<A: Allocator>(p: &ConsistencyProof<A>) -> bool
     ensures { IsTrue result ↔ Accepts sha256 (Consistent (consistency_shown p.now)) }
 {
-    check_tree(Sha256Tree, p.proof.as_slice(), p.size, p.root, p.old, p.old_root)
+    check_tree(
+        Sha256Tree,
+        p.proof.as_slice(),
+        p.size,
+        p.root,
+        p.old,
+        p.old_root,
+    )
 }
 
 // Whether the proof of which these are the lines is accepted, if they are those of a proof.

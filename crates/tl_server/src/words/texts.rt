@@ -12,15 +12,13 @@ hash (RFC 6962) in base64, each on a line.
 Exit status: 0 done; 1 refused (input too large, an entry too long, a bad origin, out of memory); 2 wrong arguments
 or a call for help; 3 a read or a write failed. A refusal is one line 'tlog: ..' on standard error.";
 
-pub(super) const INCLUSION: &str =
-    "Input: the entries of the log, one a line, as for 'tlog head'.
+pub(super) const INCLUSION: &str = "Input: the entries of the log, one a line, as for 'tlog head'.
 Output: lines 'inclusion', 'index I', 'size N', 'leaf HASH', 'root HASH', and the hashes of the proof (RFC 6962,
 section 2.1.1), one a line, the one nearest to the leaf first. Hashes are in base64. 'tlog check' reads it.
 Exit status: 0 done; 1 refused (no line at the index, input too large, an entry too long, out of memory); 2 wrong
 arguments or a call for help; 3 a read or a write failed. A refusal is one line 'tlog: ..' on standard error.";
 
-pub(super) const CONSISTENCY: &str =
-    "Input: the entries of the log, one a line, as for 'tlog head'.
+pub(super) const CONSISTENCY: &str = "Input: the entries of the log, one a line, as for 'tlog head'.
 Output: lines 'consistency', 'old M', 'oldroot HASH', 'size N', 'root HASH', and the hashes of the proof (RFC 6962,
 section 2.1.2), one a line. Hashes are in base64. From 0 lines the proof is empty. 'tlog check' reads it.
 Exit status: 0 done; 1 refused (fewer lines than N, input too large, an entry too long, out of memory); 2 wrong

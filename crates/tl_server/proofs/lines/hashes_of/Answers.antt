@@ -1,4 +1,4 @@
-use Rattle.std.proofs.Common.{◌∙◌, sym, ap, vec_items, map, subst, All, ◌≡◌, ◌++◌, ◌∷◌, []}
+use Rattle.std.proofs.Common.{◌∙◌, sym, ap, vec_items, map, subst, All}
 use Rattle.std.proofs.lemmas.List.Elements.{All-push}
 use Rattle.tl_hash.specs.Bytes.{IsHash}
 use Rattle.tl_note.specs.Text.{base64_text}
@@ -16,5 +16,5 @@ loop-line-preserved g c =
     record {
       lawful = subst (All IsHash) (sym c.in_ok-push.ensures.items) (All-push IsHash c.loop-line.hashes.items c.in-Some.hash c.loop-line.invariant.lawful found.0);
       spelled = one_more vec_items base64_text c.args.lines.now c.loop-line.line-index c.line-item.result c.loop-line.hashes.items c.in-Some.hash c.loop-line-test.true c.line-item.is
-      c.loop-line.invariant.spelled (sym c.as_slice.ensures.value ∙ found.1) ∙ ap (map base64_text) (sym c.in_ok-push.ensures.items);
+          c.loop-line.invariant.spelled (sym c.as_slice.ensures.value ∙ found.1) ∙ ap (map base64_text) (sym c.in_ok-push.ensures.items);
     }

@@ -1,7 +1,7 @@
-use Rattle.std.proofs.Common.{◌∙◌, ◌≡◌, ◌++◌, [], List, ℕ, ap, sym, map, vec_items, length, arith, append-nil, get_or}
+use Rattle.std.proofs.Common.{◌∙◌, ◌≡◌, [], List, ℕ, ap, sym, map, vec_items, length, arith, append-nil}
 use Rattle.std.specs.Prelude.{slice_index_or}
 use Rattle.sha2.specs.Sha256.{sha256}
-use Rattle.std.proofs.lemmas.List.{get_or-map, length-map}
+use Rattle.std.proofs.lemmas.List.{get_or-map}
 use Rattle.tl_hash.specs.Tree.{leaf_input}
 use Rattle.tl_server.proofs.ProofTexts.{inclusion_is}
 use Rattle.tl_server.proofs.commands.inclusion.proof_of.Goals as goal

@@ -8,9 +8,10 @@ returns g c =
     let old_root = rw c.in-Some-2.is at c.in_ok-old_root.ensures in
     let size = c.in-Some-number_after.ensures in
     let root = rw c.in-Some-3.is at c.in_ok-root.ensures in
-    let proof = rw c.in-Some-4.is at c.in_ok-proof.ensures in
-    (record { old = old.0; old_root = old_root.0; size = size.0; root = root.0; proof = proof.0 },
-    five_lines vec_items c.args.lines.now c.kind-item.result c.old-item.result c.old_root-item.result c.size-item.result c.root-item.result _ _ _ _ _ _ c.in-len5-up.len_at_least
-    c.kind-item.is c.old-item.is c.old_root-item.is c.size-item.is c.root-item.is
-    (sym c.as_slice.ensures.value ∙ same_word _ _ c.if-ne.ensures ∙ c.as_slice-2.ensures) (sym c.as_slice-3.ensures.value ∙ old.1) (sym c.as_slice-4.ensures.value ∙ old_root.1)
-    (sym c.as_slice-5.ensures.value ∙ size.1) (sym c.as_slice-6.ensures.value ∙ root.1) proof.1)
+    let proof = rw c.in-Some-4.is at c.in_ok-proof.ensures in (
+      record { old = old.0; old_root = old_root.0; size = size.0; root = root.0; proof = proof.0 },
+      five_lines vec_items c.args.lines.now c.kind-item.result c.old-item.result c.old_root-item.result c.size-item.result c.root-item.result _ _ _ _ _ _ c.in-len5-up.len_at_least
+          c.kind-item.is c.old-item.is c.old_root-item.is c.size-item.is c.root-item.is
+          (sym c.as_slice.ensures.value ∙ same_word _ _ c.if-ne.ensures ∙ c.as_slice-2.ensures) (sym c.as_slice-3.ensures.value ∙ old.1) (sym c.as_slice-4.ensures.value ∙ old_root.1)
+          (sym c.as_slice-5.ensures.value ∙ size.1) (sym c.as_slice-6.ensures.value ∙ root.1) proof.1,
+    )
