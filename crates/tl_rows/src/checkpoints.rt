@@ -1,6 +1,5 @@
 //! Checkpoints read and written, and cosignatures of witnesses.
 
-use crate::heads::{NO_ENTRY, TWO_ENTRIES};
 use std::alloc::{AllocError, Allocator, Global};
 use std::test::Fail;
 use tl_checkpoint::{
@@ -9,6 +8,7 @@ use tl_checkpoint::{
 use tl_hash::Hash;
 use tl_note::{NoteFault, Signer, Verifier, parse_note};
 use tl_testing::{LengthKey, Refusing};
+use tl_testing::texts::{NO_ENTRY, TWO_ENTRIES};
 
 // More requests than any of the calls makes.
 const MOST: u64 = 1000;
@@ -202,6 +202,33 @@ fn cosignatures_answer_out_of_memory(rt: HostRuntime) -> Result<(), Fail> {
             }
             Err(fault) => assert_eq!(rt; fault, NoteFault::OutOfMemory),
         }
+    }
+    assert!(rt; false, "each run was refused");
+    Ok(())
+}
+
+#[test]
+fn write_answers_out_of_memory(rt: HostRuntime) -> Result<(), Fail> {
+    let alloc = rt.alloc();
+    let mut extensions = Vec::new(alloc);
+    extensions.push(String::from_str(alloc, "an extension line")?)?;
+    let checkpoint = Checkpoint {
+        origin: String::from_str(alloc, "example.com/log")?,
+        size: 7,
+        root: Hash::from_bytes([3; 32]),
+        extensions,
+    };
+    let want = write(alloc, &checkpoint)?;
+    for number in 1..MOST {
+        let heap = Refusing::at(alloc, number);
+        let answer = write(&heap, &checkpoint);
+        if !heap.refused() {
+            assert!(rt; number > 2);
+            assert_eq!(rt; answer?.as_str(), want.as_str());
+            return Ok(());
+        }
+        assert_eq!(rt; answer.err(), Some(CheckpointFault::OutOfMemory));
+        assert_eq!(rt; write(&heap, &checkpoint)?.as_str(), want.as_str());
     }
     assert!(rt; false, "each run was refused");
     Ok(())

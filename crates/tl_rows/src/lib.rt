@@ -1,20 +1,12 @@
-//! Worked examples that cross crates, growths refused in turn, and devices that fail. It has tests alone.
+//! Worked examples of the libraries that cross crates, and growths refused in turn. It has tests alone.
 #![tactic(auto)]
 
 #[cfg(test)]
 mod checkpoints;
 #[cfg(test)]
-mod devices;
-#[cfg(test)]
-mod heads;
-#[cfg(test)]
-mod keys;
-#[cfg(test)]
 mod notes;
 #[cfg(test)]
 mod proofs;
-#[cfg(test)]
-mod refusals;
 #[cfg(test)]
 mod sequencer;
 #[cfg(test)]
@@ -23,7 +15,3 @@ mod store;
 mod tiles;
 #[cfg(test)]
 mod trees;
-#[cfg(test)]
-mod vectors;
-#[cfg(test)]
-mod words;

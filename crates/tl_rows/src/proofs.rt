@@ -1,12 +1,12 @@
 //! Proofs: the worked examples, each bit changed, all small sizes, and growths refused in turn.
 
-use crate::vectors::{LEAVES, entries};
 use std::alloc::{AllocError, Global};
 use std::test::Fail;
 use tl_hash::{Hash, Sha256Tree, empty_hash, leaf_hash};
 use tl_proof::{HashList, Link, ProveFault, check_record, check_tree, prove_record, prove_tree};
 use tl_store::{HashStore, ReadFault, tree_hash};
 use tl_testing::Refusing;
+use tl_testing::vectors::{LEAVES, entries};
 
 // More requests than any of the calls makes, and more entries than any test has.
 const MOST: u64 = 1000;

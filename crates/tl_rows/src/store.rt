@@ -1,6 +1,5 @@
 //! Stored hashes: the numbers, a store over the worked entries, heads, and refused growths.
 
-use crate::vectors::{ENTRIES, LEAVES, ROOTS, in_hex};
 use std::alloc::{AllocError, Allocator, Global};
 use std::cell::Cell;
 use std::test::Fail;
@@ -9,6 +8,7 @@ use tl_store::{
     HashReader, HashStore, ReadFault, split_index, stored_count, stored_index, tree_hash,
 };
 use tl_testing::Refusing;
+use tl_testing::vectors::{ENTRIES, LEAVES, ROOTS, in_hex};
 
 // More requests than any of the calls makes.
 const MOST: u64 = 1000;

@@ -1,6 +1,5 @@
 //! Tiles, entry bundles and their paths: worked examples, and refused growths.
 
-use crate::vectors::{ENTRIES, LEAVES};
 use std::alloc::{AllocError, Allocator, Global};
 use std::cell::Cell;
 use std::test::Fail;
@@ -10,6 +9,7 @@ use tl_testing::Refusing;
 use tl_tile::{
     BundleFault, Resource, Tile, needed, parse_path, path_of, read_bundle, tile_bytes, write_bundle,
 };
+use tl_testing::vectors::{ENTRIES, LEAVES};
 
 // More requests than any of the calls makes.
 const MOST: u64 = 1000;

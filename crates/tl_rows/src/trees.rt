@@ -1,10 +1,10 @@
 //! Hashes of trees against outside vectors, with SHA-256 and with a weak digest.
 
-use crate::vectors::{ENTRIES, LEAVES, ROOTS, entries, in_hex};
 use std::alloc::{AllocError, Global};
 use std::test::Fail;
 use tl_hash::{Sha256Tree, empty_hash, entry_root, leaf_hash, node_hash};
 use tl_testing::SumDigest;
+use tl_testing::vectors::{ENTRIES, LEAVES, ROOTS, entries, in_hex};
 
 #[test]
 fn leaves_and_roots_of_the_vectors(rt: HostRuntime) -> Result<(), Fail> {

@@ -1,11 +1,13 @@
 //! What the tests of several crates share: an allocator that refuses, devices that fail, a
-//! weak digest, a key.
+//! weak digest, a key, outside vectors.
 #![tactic(auto)]
 
 mod devices;
 mod length_key;
 mod refusing;
 mod sum_digest;
+pub mod texts;
+pub mod vectors;
 
 pub use devices::{FailingReader, FailingWriter};
 pub use length_key::LengthKey;

@@ -1,12 +1,12 @@
 //! The demonstration key, and HMAC against the vectors of RFC 4231.
 
-use crate::heads::NO_ENTRY;
-use crate::vectors::in_hex;
 use std::alloc::{AllocError, Global};
 use std::test::Fail;
 use tl_note::{NoteFault, Signer, Verifier, open_note, sign_note};
 use tl_server::{demo_key, hmac};
 use tl_testing::Refusing;
+use tl_testing::texts::NO_ENTRY;
+use tl_testing::vectors::in_hex;
 
 // More requests than any of the calls makes.
 const MOST: u64 = 1000;

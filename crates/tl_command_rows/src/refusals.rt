@@ -1,42 +1,14 @@
 //! Each call with its first request for memory refused, then its second, and so on, until none is refused.
 
-use crate::heads::TWO_ENTRIES;
 use std::alloc::Global;
 use std::test::Fail;
-use tl_checkpoint::{Checkpoint, CheckpointFault, write};
-use tl_hash::{Hash, Sha256Tree, entry_root};
+use tl_hash::{Sha256Tree, entry_root};
 use tl_server::{Counted, RunFault, fault_line, read_entries, run_head};
 use tl_testing::Refusing;
+use tl_testing::texts::TWO_ENTRIES;
 
 // More requests than any of the calls makes.
 const MOST: u64 = 1000;
-
-#[test]
-fn write_answers_out_of_memory(rt: HostRuntime) -> Result<(), Fail> {
-    let alloc = rt.alloc();
-    let mut extensions = Vec::new(alloc);
-    extensions.push(String::from_str(alloc, "an extension line")?)?;
-    let checkpoint = Checkpoint {
-        origin: String::from_str(alloc, "example.com/log")?,
-        size: 7,
-        root: Hash::from_bytes([3; 32]),
-        extensions,
-    };
-    let want = write(alloc, &checkpoint)?;
-    for number in 1..MOST {
-        let heap = Refusing::at(alloc, number);
-        let answer = write(&heap, &checkpoint);
-        if !heap.refused() {
-            assert!(rt; number > 2);
-            assert_eq!(rt; answer?.as_str(), want.as_str());
-            return Ok(());
-        }
-        assert_eq!(rt; answer.err(), Some(CheckpointFault::OutOfMemory));
-        assert_eq!(rt; write(&heap, &checkpoint)?.as_str(), want.as_str());
-    }
-    assert!(rt; false, "each run was refused");
-    Ok(())
-}
 
 #[test]
 fn read_entries_answers_out_of_memory(rt: HostRuntime) -> Result<(), Fail> {

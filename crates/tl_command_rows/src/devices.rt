@@ -1,10 +1,10 @@
 //! Each read and each write failing in turn, with each kind of failure.
 
-use crate::heads::TWO_ENTRIES;
 use std::alloc::Global;
 use std::io::ErrorKind;
 use std::test::Fail;
 use tl_server::{Counted, RunFault, run_head};
+use tl_testing::texts::TWO_ENTRIES;
 use tl_testing::{FailingReader, FailingWriter};
 
 const INPUT: &[u8] = b"\n\0\n";

@@ -1,0 +1,16 @@
+//! Worked examples of the commands and the demonstration key, growths refused in turn, and devices that fail. It has tests
+//! alone.
+#![tactic(auto)]
+
+#[cfg(test)]
+mod devices;
+#[cfg(test)]
+mod heads;
+#[cfg(test)]
+mod keys;
+#[cfg(test)]
+mod proof_texts;
+#[cfg(test)]
+mod refusals;
+#[cfg(test)]
+mod words;
