@@ -22,7 +22,7 @@ All-reverse P xs d all =
 reversed_hashes : (proof : List (List ℕ)) → All HasHashLength proof → AllByRecursion HasHashLength (reverse proof)
 reversed_hashes proof all = recursion_from_All HasHashLength (reverse proof) (All-reverse HasHashLength proof [] all)
 
-fold_inputs-some : (H : List ℕ → List ℕ) (old new : ℕ) (proof : List (List ℕ)) (root : List ℕ) → 0 < old → fold_inputs H old new proof root ≡ fold_inputs_from H old new true (reverse proof) root
+pub fold_inputs-some : (H : List ℕ → List ℕ) (old new : ℕ) (proof : List (List ℕ)) (root : List ℕ) → 0 < old → fold_inputs H old new proof root ≡ fold_inputs_from H old new true (reverse proof) root
 unfolding fold_inputs
 fold_inputs-some H old new proof root some =
     let differ : old ≡ 0 → ⊥ = λ e. omega (arith, e, some) in
@@ -52,7 +52,7 @@ abbrev LinksMeet : (List ℕ → List ℕ) → List (List ℕ) → ℕ → List 
 LinksMeet H new old old_root links =
     (old ≤ length new) × ((old_root ≡ tree_hash H (take old new)) ⊎ Collision H (step_inputs H new old old_root links) (step_inputs H new old old_root links))
 
-AcceptsConsistency-ordered : (H : List ℕ → List ℕ) (proof : List (List ℕ)) (size : ℕ) (root : List ℕ) (old : ℕ) (old_root : List ℕ) → AcceptsConsistency H proof size root old old_root → old ≤ size
+pub AcceptsConsistency-ordered : (H : List ℕ → List ℕ) (proof : List (List ℕ)) (size : ℕ) (root : List ℕ) (old : ℕ) (old_root : List ℕ) → AcceptsConsistency H proof size root old old_root → old ≤ size
 unfolding AcceptsConsistency
 AcceptsConsistency-ordered H proof size root old old_root (inl a) = omega (arith, a.0)
 AcceptsConsistency-ordered H proof size root old old_root (inr (inl a)) = omega (arith, a.0)

@@ -20,10 +20,10 @@ cases_option : {A : Type 0} (o : Option A) → (o ≡ None) ⊎ ((r : A) × (o �
 cases_option None = inl refl
 cases_option (Some r) = inr (r, refl)
 
-Some-injective : {A : Type 0} (p q : A) → Some p ≡ Some q → p ≡ q
+pub Some-injective : {A : Type 0} (p q : A) → Some p ≡ Some q → p ≡ q
 Some-injective p q e = ap (λ o. unwrap_or o p) e
 
-None-no_Some : {A : Type 0} (o : Option A) (p : A) → o ≡ None → o ≡ Some p → ⊥
+pub None-no_Some : {A : Type 0} (o : Option A) (p : A) → o ≡ None → o ≡ Some p → ⊥
 None-no_Some o p none some = cc
 
 -- every new root that a check leads to is a hash
@@ -73,7 +73,7 @@ fold_inputs_from-right H k old new known last others root s more less =
     let differ : old ≡ new → ⊥ = λ e. omega (arith, e, less) in
     rw (split_point_is k new s, ne_eqb old new differ, lt-leb old k more) refl
 
-roots_from-same : (H : List ℕ → List ℕ) (old new : ℕ) (known : Bool) (last : List ℕ) (others : List (List ℕ)) (root : List ℕ) → old ≡ new
+pub roots_from-same : (H : List ℕ → List ℕ) (old new : ℕ) (known : Bool) (last : List ℕ) (others : List (List ℕ)) (root : List ℕ) → old ≡ new
     → roots_from H old new known (last ∷ others) root ≡ roots_of_whole known (last ∷ others)
 unfolding roots_from
 roots_from-same H old new known last others root same = rw (eq-eqb old new same) refl

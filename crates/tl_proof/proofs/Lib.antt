@@ -4,6 +4,11 @@ pub mod Inclusion
 pub mod Consistency
 pub mod SameSize
 pub mod Folds
+pub mod Forks
+pub mod ForkedLinks
+pub mod ForkedLists
+pub mod Chains
+pub mod AuditAnswers
 pub mod Audits
 pub mod Examples
 pub mod Checks

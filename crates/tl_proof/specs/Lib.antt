@@ -6,3 +6,5 @@ pub mod Needs
 pub mod ReadFaults
 pub mod ProveFaults
 pub mod Segments
+pub mod Forks
+pub mod Audit

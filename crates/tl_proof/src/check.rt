@@ -53,8 +53,8 @@ fn lead_leaf<T: TreeHash>(h: T, index: u64, size: u64, proof: &[Hash], start: Ha
     }
 }
 
-// Whether two hashes are the same.
-fn same(a: Hash, b: Hash) -> bool
+/// Whether two hashes are the same.
+pub(crate) fn same(a: Hash, b: Hash) -> bool
     ensures { IsTrue result ↔ (a ≡ b) }
 {
     a == b
@@ -128,8 +128,8 @@ fn only_hash(known: bool, proof: &[Hash]) -> Option<(Hash, Hash)>
     }
 }
 
-// The old and the new root that the proof leads to. No more than 64 calls stand at once for any u64, as above.
-fn lead_roots<T: TreeHash>(
+/// The old and the new root that the proof leads to. No more than 64 calls stand at once for any u64, as above.
+pub(crate) fn lead_roots<T: TreeHash>(
     h: T,
     old: u64,
     new: u64,

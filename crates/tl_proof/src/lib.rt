@@ -1,17 +1,26 @@
 //! Inclusion and consistency proofs of a Merkle tree, their checks, and the laws of both (RFC 6962, section 2.1).
 #![tactic(auto)]
 
+mod audit;
+mod chain;
 mod check;
 mod fault;
+mod fork;
 pub mod laws;
 mod link;
+mod lists;
 mod plan;
 mod prove;
 mod read;
 mod segment;
 mod split;
+mod strings;
+mod verdict;
+mod walk;
 
+pub use audit::{audit_chain, audit_tree};
 pub use check::{check_record, check_tree};
 pub use fault::ProveFault;
 pub use link::{HashList, Link};
 pub use prove::{prove_record, prove_tree};
+pub use verdict::{AuditFault, Verdict};

@@ -1,0 +1,136 @@
+//! Audits: whether a new list extends an old one, with two strings that collide where accepted proofs say so wrongly.
+
+ghost use Rattle.std.specs.Prelude.{◌≤◌, ◌∷◌, [], List, length, map, vec_items};
+ghost use Rattle.tl_hash.specs.Tree.{tree_hash};
+ghost use Rattle.tl_proof.specs.Collisions.{Step, step_of};
+ghost use Rattle.tl_proof.specs.Forks.{DifferAt, LinksFork, ForksAt};
+ghost use Rattle.tl_proof.specs.Audit.{AreAccepted, Audits, ShowsFork};
+
+use crate::chain::{fork_in_links, links_lead};
+use crate::check::check_tree;
+use crate::fork::Fork;
+use crate::link::Link;
+use crate::lists::{first_difference, walk_lists};
+use crate::strings::strings_of;
+use crate::verdict::{AuditFault, Verdict};
+use crate::walk::fork_in_link;
+use std::alloc::Allocator;
+use tl_hash::{Hash, TreeHash, entry_root};
+
+// The fork that was found in the links, or where there is none that between the old list and as many entries of the new
+// one, on the way to a place at which these differ.
+fn fork_or_lists<T: TreeHash, B: Allocator>(
+    h: T,
+    in_links: Option<Fork>,
+    place: usize,
+    old: &[Vec<u8, B>],
+    new: &[Vec<u8, B>],
+) -> Option<Fork>
+    requires most { length old.now ≤ length new.now }
+    requires differ { DifferAt (map vec_items old.now) (map vec_items new.now) place }
+    ensures { (steps : List Step)
+        → LinksFork T.digest_of in_links (map vec_items old.now) (map vec_items new.now) steps
+        → ForksAt T.digest_of result (map vec_items old.now) (map vec_items new.now) place steps }
+{
+    match in_links {
+        Some(fork) => Some(fork),
+        None => walk_lists(h, place, old, &new[..old.len()]).fork,
+    }
+}
+
+// The verdict with the strings of a fork, or where there is none of the leaves of two entries.
+fn collision_of<A: Allocator + Copy>(
+    alloc: A,
+    fork: Option<Fork>,
+    old: &[u8],
+    new: &[u8],
+) -> Result<Verdict<A>, AuditFault>
+    ensures { ShowsFork fork old.now new.now result }
+{
+    let (first, second) = strings_of(alloc, fork, old, new)?;
+    Ok(Verdict::Collision(first, second))
+}
+
+// The collision in the links, or where there is none the one between the lists, which differ at this place.
+fn show_collision<T: TreeHash, A: Allocator + Copy, B: Allocator>(
+    alloc: A,
+    h: T,
+    in_links: Option<Fork>,
+    place: usize,
+    old: &[Vec<u8, B>],
+    new: &[Vec<u8, B>],
+) -> Result<Verdict<A>, AuditFault>
+    requires most { length old.now ≤ length new.now }
+    requires differ { DifferAt (map vec_items old.now) (map vec_items new.now) place }
+    ensures { (steps : List Step)
+        → AreAccepted T.digest_of (map vec_items old.now) (map vec_items new.now) steps
+        → LinksFork T.digest_of in_links (map vec_items old.now) (map vec_items new.now) steps
+        → Audits T.digest_of (map vec_items old.now) (map vec_items new.now) steps result }
+{
+    let fork = fork_or_lists(h, in_links, place, old, new);
+    collision_of(alloc, fork, old[place].as_slice(), new[place].as_slice())
+}
+
+/// What one accepted consistency proof (RFC 6962, section 2.1.2) shows of two lists: that the old one is a prefix of the
+/// new one, or two different byte strings with one digest, both of which were hashed for the audit. `NotAccepted` comes
+/// where the proof isn't accepted from the old list's size and root to those of the new one, and `OutOfMemory` where
+/// memory for the two strings is refused. Nothing else takes memory. It hashes each list once for its root. Where the old
+/// list isn't a prefix, it hashes the new list once more beside the proof, and unless it finds the two strings there, each
+/// list once more up to the old size; no more than 64 calls stand at once.
+pub fn audit_tree<T: TreeHash, A: Allocator + Copy, B: Allocator>(
+    alloc: A,
+    h: T,
+    old: &[Vec<u8, B>],
+    new: &[Vec<u8, B>],
+    proof: &[Hash],
+) -> Result<Verdict<A>, AuditFault>
+    ensures { Audits T.digest_of (map vec_items old.now) (map vec_items new.now)
+        (record { size = length new.now; root = tree_hash T.digest_of (map vec_items new.now); proof = proof.now } ∷ [])
+        result }
+{
+    let root = entry_root(h, old);
+    let new_root = entry_root(h, new);
+    if !check_tree(h, proof, new.len() as u64, new_root, old.len() as u64, root) {
+        return Err(AuditFault::NotAccepted);
+    }
+    match first_difference(old, new) {
+        None => Ok(Verdict::Extends),
+        Some(place) => {
+            let in_link = fork_in_link(h, proof, old.len(), root, new);
+            show_collision(alloc, h, in_link, place, old, new)
+        }
+    }
+}
+
+/// What a chain of accepted consistency proofs (RFC 6962, section 2.1.2) shows of two lists: that the old one is a prefix
+/// of the new one, or two different byte strings with one digest, both of which were hashed for the audit. The roots
+/// between need not be those of any list. `NotAccepted` comes where a link isn't accepted from the one before it, the
+/// first from the old list's size and root, or where the last hasn't the new list's size and root; with no links the
+/// sizes and the roots must be the same. `OutOfMemory` comes where memory for the two strings is refused. Nothing else
+/// takes memory. It hashes each list once for its root, and one or two strings for each hash of the proofs. Where the old
+/// list isn't a prefix, it walks the links from the last back, and hashes the new list up to each link's size, until it
+/// finds the two strings; and unless it finds them at a link, it hashes each list once more up to the old size. No more
+/// than 64 calls stand at once.
+pub fn audit_chain<T: TreeHash, A: Allocator + Copy, B: Allocator, C: Allocator>(
+    alloc: A,
+    h: T,
+    old: &[Vec<u8, B>],
+    new: &[Vec<u8, B>],
+    links: &[Link<C>],
+) -> Result<Verdict<A>, AuditFault>
+    ensures { Audits T.digest_of (map vec_items old.now) (map vec_items new.now) (map step_of links.now) result }
+{
+    let size = old.len() as u64;
+    let root = entry_root(h, old);
+    let new_root = entry_root(h, new);
+    if !links_lead(h, links, size, root, new.len() as u64, new_root) {
+        return Err(AuditFault::NotAccepted);
+    }
+    match first_difference(old, new) {
+        None => Ok(Verdict::Extends),
+        Some(place) => {
+            let in_links = fork_in_links(h, links, size, root, new);
+            show_collision(alloc, h, in_links, place, old, new)
+        }
+    }
+}
