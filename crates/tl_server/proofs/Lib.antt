@@ -6,3 +6,4 @@ pub mod LineTexts
 pub mod LineFields
 pub mod HashLines
 pub mod ProofTexts
+pub mod CountedLines

@@ -27,13 +27,13 @@ no_newline text plain = λ i d lt e. let visible = plain i d lt in absurd (omega
 word_plain : (word : List ℕ) → list_all (λ byte. nat_le 32 byte) word ≡ true → HasNoControl word
 word_plain word pass = λ i d lt. leb-true 32 (get_or word i d) (AllPass-from_list_all (λ byte. nat_le 32 byte) word pass i d lt)
 
-number_line : (word : List ℕ) (n : ℕ) → list_all (λ byte. nat_le 32 byte) word ≡ true → IsSize n → HasNoNewline (word ++ number_text n)
+pub number_line : (word : List ℕ) (n : ℕ) → list_all (λ byte. nat_le 32 byte) word ≡ true → IsSize n → HasNoNewline (word ++ number_text n)
 number_line word n pass small = no_newline (word ++ number_text n) (All-append IsPlain word (number_text n) (word_plain word pass) (number_plain n (omega arith)))
 
 hash_line : (word hash : List ℕ) → list_all (λ byte. nat_le 32 byte) word ≡ true → IsHash hash → HasNoNewline (word ++ base64_text hash)
 hash_line word hash pass lawful = no_newline (word ++ base64_text hash) (All-append IsPlain word (base64_text hash) (word_plain word pass) (base64_plain hash lawful.bytes))
 
-hash_lines : (hashes : List (List ℕ)) → All IsHash hashes → All HasNoNewline (map base64_text hashes)
+pub hash_lines : (hashes : List (List ℕ)) → All IsHash hashes → All HasNoNewline (map base64_text hashes)
 hash_lines hashes each = λ i d lt.
     let within : i < length hashes = omega (arith, lt, length-map hashes base64_text) in
     rw (get_or-map base64_text hashes i [] d within) (hash_line [] (get_or hashes i []) refl (each i [] within))

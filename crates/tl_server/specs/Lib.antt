@@ -7,3 +7,5 @@ pub mod Head
 pub mod DemoKey
 pub mod ProofText
 pub mod ProofCommands
+pub mod AuditText
+pub mod AuditCommand

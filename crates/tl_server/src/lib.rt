@@ -1,6 +1,7 @@
 //! The commands of the program `tlog`, over any reader and writer.
 #![tactic(auto)]
 
+mod audit_text;
 mod commands;
 mod demonstration;
 mod device;
@@ -11,6 +12,7 @@ mod proof_text;
 mod stored;
 mod words;
 
+pub use commands::audit::run_audit;
 pub use commands::check::run_check;
 pub use commands::consistency::run_consistency;
 pub use commands::head::run_head;

@@ -27,6 +27,8 @@ pub enum Job {
     },
     /// Say whether the proof on standard input is accepted.
     Check,
+    /// Say whether one list on standard input extends another by an accepted proof.
+    Audit,
 }
 
 /// Why a command line gives no job.
@@ -109,6 +111,13 @@ fn check<'a>(alloc: Global) -> Command<'a> {
         .after_help(texts::CHECK)
 }
 
+// The command `audit`.
+fn audit<'a>(alloc: Global) -> Command<'a> {
+    Command::new(alloc, "audit")
+        .about("Says whether one list on standard input extends another by an accepted proof")
+        .after_help(texts::AUDIT)
+}
+
 // The command line that the program takes.
 fn commands<'a>(alloc: Global) -> Result<Command<'a>, AllocError> {
     Command::new(alloc, "tlog")
@@ -119,7 +128,8 @@ fn commands<'a>(alloc: Global) -> Result<Command<'a>, AllocError> {
         .subcommand(head(alloc)?)?
         .subcommand(inclusion(alloc)?)?
         .subcommand(consistency(alloc)?)?
-        .subcommand(check(alloc))
+        .subcommand(check(alloc))?
+        .subcommand(audit(alloc))
 }
 
 // The fault where an option isn't there, though the command line was understood.
@@ -162,6 +172,7 @@ pub fn read_words(alloc: Global, words: &[String]) -> Result<Job, WordsFault> {
             old: number_of(alloc, options, "old")?,
         }),
         Some(("check", _)) => Ok(Job::Check),
+        Some(("audit", _)) => Ok(Job::Audit),
         _ => Err(missing(alloc)),
     }
 }

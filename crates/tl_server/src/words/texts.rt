@@ -29,3 +29,11 @@ pub(super) const CHECK: &str =
 Output: 'accepted' where the proof is accepted under SHA-256 (RFC 6962, sections 2.1.1 and 2.1.2), else 'refused'.
 Exit status: 0 accepted; 1 refused, or no such text, or out of memory; 2 wrong arguments or a call for help; 3 a read
 or a write failed.";
+
+pub(super) const AUDIT: &str =
+    "Input: lines 'old M', M entries, 'new N', N entries, and the hashes of a consistency proof (RFC 6962, section 2.1.2)
+from the first list to the second in base64, one a line.
+Output: 'extends' where the proof is accepted under SHA-256 and the first list is a prefix of the second; else
+'not accepted', or 'collision' and in hexadecimal two different byte strings with one SHA-256, a line each.
+Exit status: 0 extends; 1 another answer, no such text, or out of memory; 2 wrong arguments or a call for help; 3 a
+read or a write failed.";

@@ -1,0 +1,26 @@
+use Rattle.std.proofs.Common.{◌∙◌, ◌≡◌, sym, ap, subst, map, vec_items, All}
+use Rattle.tl_server.specs.AuditText.{audit_lines, audit_shown}
+use Rattle.tl_server.specs.Lines.{entries_of, lines_text, HasNoNewline}
+use Rattle.tl_server.proofs.CountedLines.{audit_plain, entries_of_audit, entries_plain, read_is_audit}
+use Rattle.tl_server.proofs.commands.audit.answer_to.Goals as goal
+
+pub returns-in_default : goal.returns-in_default
+returns-in_default g c = λ a lawful e. (rw c.in_default.is at c.in_ok-lines.ensures) (audit_lines a) (audit_plain a lawful) e
+
+pub returns-in-Some-2 : goal.returns-in-Some-2
+returns-in-Some-2 g c =
+    let found = rw c.in-Some.is at c.in_ok-lines.ensures in
+    let read = rw c.in-Some-2.is at c.in_ok-parts.ensures in
+    let lines : entries_of c.args.text.now ≡ audit_lines (audit_shown c.in-Some-2.parts) = sym (ap (map vec_items) c.as_slice.ensures.value ∙ found.0) ∙ read.1 in
+    record {
+      audit = audit_shown c.in-Some-2.parts;
+      lawful = read_is_audit (audit_shown c.in-Some-2.parts) read.0 (subst (All HasNoNewline) lines (entries_plain c.args.text.now));
+      spelled = found.1 ∙ ap lines_text lines;
+      fact = c.in_ok-answer_of-in-Some-2.ensures;
+    }
+
+pub returns : goal.returns
+returns g c = λ a lawful e.
+    let found = rw c.in-Some.is at c.in_ok-lines.ensures in
+    let none = rw c.in-None.is at c.in_ok-parts.ensures in
+    none a lawful (ap (map vec_items) c.as_slice.ensures.value ∙ found.0 ∙ entries_of_audit a c.args.text.now lawful e)

@@ -1,0 +1,61 @@
+-- The command `audit`.
+use Rattle.std.specs.Prelude.{◌≡◌, ◌≢◌, ◌⊎◌, ℕ, true, false, List, [], ◌∷◌, ◌++◌, length, codes, vec_items, Result, Ok, Err}
+use Rattle.hex.specs.Hex.{encode_lower}
+use Rattle.tl_hash.specs.Tree.{tree_hash}
+use Rattle.tl_note.specs.Text.{line}
+use Rattle.tl_proof.specs.Audit.{AreAccepted}
+use Rattle.tl_proof.specs.Collisions.{Step, IsPrefix, Exhibits, audit_inputs}
+use Rattle.tl_server.specs.AuditText.{Audit, IsAudit, audit_text}
+use Rattle.tl_server.specs.Run.{Outcome, Prints, PrintsRefusal, Fails}
+use Rattle.tl_server.specs.declared.commands.audit.Answer.{Answer}
+use Rattle.tl_server.specs.declared.fault.RunFault.{RunFault}
+use Rattle.tl_server.specs.declared.fault.RunFault.TheVariants.{Malformed, OutOfMemory}
+
+-- the one step of an audit: to the new list's size and root by the proof
+abbrev pub steps_of : (List ℕ → List ℕ) → Audit → List Step
+steps_of H a = record { size = length a.new; root = tree_hash H a.new; proof = a.proof } ∷ []
+
+-- the proof is accepted from the old list's size and root to the new list's (RFC 6962, section 2.1.2)
+abbrev pub IsAccepted : (List ℕ → List ℕ) → Audit → Type 0
+IsAccepted H a = AreAccepted H a.old a.new (steps_of H a)
+
+-- the text tells of two different byte strings that were hashed for the audit and have one digest
+pub record ShowsCollision (H : List ℕ → List ℕ) (a : Audit) (text : List ℕ) : Type 0 where
+  pub first : List ℕ
+  pub second : List ℕ
+  pub collide : Exhibits H first second (audit_inputs H a.old a.new (steps_of H a))
+  pub spelled : text ≡ line (codes "collision") ++ line (encode_lower first) ++ line (encode_lower second)
+
+-- what is printed where the answer is no
+abbrev pub AuditRefuses : (List ℕ → List ℕ) → Audit → List ℕ → Type 0
+AuditRefuses H a text =
+    (¬ (IsAccepted H a) × (text ≡ line (codes "not accepted")))
+    ⊎ (IsAccepted H a × ¬ (IsPrefix a.old a.new) × ShowsCollision H a text)
+
+-- the input is the text of an audit of which this holds
+pub record IsAuditOf (Fact : Audit → Type 0) (input : List ℕ) : Type 0 where
+  pub audit : Audit
+  pub lawful : IsAudit audit
+  pub spelled : input ≡ audit_text audit
+  pub fact : Fact audit
+
+-- what is answered of an audit: that the new list extends the old one, or that the answer is no
+abbrev pub AnswersAudit : {A : Type 0} → (List ℕ → List ℕ) → Audit → Answer A → Type 0
+AnswersAudit H a answer =
+    ((answer.yes ≡ true) × IsAccepted H a × IsPrefix a.old a.new × (vec_items answer.text ≡ line (codes "extends")))
+    ⊎ ((answer.yes ≡ false) × AuditRefuses H a (vec_items answer.text))
+
+-- what is answered to a text: an answer of its audit, or that it is no audit's
+abbrev pub AnswersAuditText : {A : Type 0} → (List ℕ → List ℕ) → List ℕ → Result (Answer A) RunFault → Type 0
+AnswersAuditText H text (Ok answer) = IsAuditOf (λ a. AnswersAudit H a answer) text
+AnswersAuditText H text (Err Malformed) = (a : Audit) → IsAudit a → text ≢ audit_text a
+AnswersAuditText H text (Err OutOfMemory) = Unit {0}
+AnswersAuditText H text (Err fault) = ⊥
+
+-- what comes of an input: the proof is accepted and the old list is a prefix of the new one, or the answer is no, or the
+-- input is malformed
+abbrev pub AuditComes : (List ℕ → List ℕ) → List ℕ → Outcome → Type 0
+AuditComes H input (Prints text) = IsAuditOf (λ a. IsAccepted H a × IsPrefix a.old a.new) input × (text ≡ line (codes "extends"))
+AuditComes H input (PrintsRefusal text) = IsAuditOf (λ a. AuditRefuses H a text) input
+AuditComes H input (Fails Malformed) = (a : Audit) → IsAudit a → input ≢ audit_text a
+AuditComes H input (Fails fault) = ⊥
