@@ -4,3 +4,6 @@ pub mod NeededLemmas
 pub mod OnePath
 pub mod PathLemmas
 pub mod TileTexts
+pub mod Runs
+pub mod Levels
+pub mod Below

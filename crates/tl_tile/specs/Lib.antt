@@ -5,4 +5,6 @@ pub mod ReadBundle
 pub mod Needed
 pub mod TileText
 pub mod ReadTile
+pub mod Run
+pub mod RightEdge
 pub mod Law

@@ -2,6 +2,8 @@
 #![tactic(auto)]
 
 mod bundle;
+mod edge;
+mod fold;
 mod law;
 mod listing;
 mod path;
@@ -9,6 +11,7 @@ mod resource;
 mod tile;
 
 pub use bundle::{BundleFault, read_bundle, write_bundle};
+pub use edge::Edge;
 pub use law::bundle_has_one_reading;
 pub use listing::needed;
 pub use path::{parse_path, path_of};
