@@ -7,3 +7,5 @@ pub mod TileTexts
 pub mod Runs
 pub mod Levels
 pub mod Below
+pub mod FillSteps
+pub mod Fills

@@ -4,12 +4,13 @@ ghost use Rattle.std.specs.Prelude.{◌≡◌, ◌≤◌, ◌<◌, ◌+◌, ◌-
 ghost use Rattle.tl_hash.specs.Tree.{tree_hash};
 ghost use Rattle.tl_tile.specs.RightEdge.{shown_partial, shown_filled, hashes_below, count_below, IsEdgeOf};
 
+use crate::filling::fill;
 use crate::fold::fold_level;
 use crate::resource::Tile;
 use crate::tile::join;
 use std::alloc::{AllocError, Allocator};
 use std::marker::Model;
-use tl_hash::{Hash, TreeHash, empty_hash};
+use tl_hash::{Hash, TreeHash, empty_hash, leaf_hash};
 
 /// The right edge of a log: the number of its entries and the hashes of the partial tiles of that size (C2SP tlog-tiles,
 /// "Partial Tiles"), at most 255 for each level, and nothing else. Contracts see the size and the kept hashes.
@@ -120,5 +121,32 @@ impl<T: TreeHash, A: Allocator + Copy> Edge<T, A> {
             width,
         };
         Ok(Some((tile, bytes)))
+    }
+
+    /// Adds one entry at the end, and gives the full tiles that it completes with their bytes, by level: those that a log
+    /// serves with this entry and didn't serve before. The edge takes up to 2^32 - 1 entries. Where memory is refused it
+    /// stays as it was. An entry costs one leaf hash, and 255 node hashes for each tile that it completes; one that
+    /// completes none takes no memory but for the edge's own hash.
+    pub fn append(&mut self, entry: &[u8]) -> Result<Vec<(Tile, Vec<u8, A>), A>, AllocError>
+        requires { self.old.size < 2 ^ 32 - 1 }
+        ensures entry { (entries : List (List ℕ))
+            → IsEdgeOf self.old T.digest_of entries
+            → OnOk result (IsEdgeOf self.new T.digest_of (entries ++ entry.now ∷ [])) }
+        ensures tiles { (entries : List (List ℕ))
+            → IsEdgeOf self.old T.digest_of entries
+            → IfOk result (λ tiles. map (λ t. (t.0, vec_items t.1)) tiles.items
+            ≡ shown_filled T.digest_of (entries ++ entry.now ∷ [])) }
+        ensures size { OnOk result (self.new.size ≡ self.old.size + 1) }
+        ensures unchanged { OnErr result (self.new ≡ self.old) }
+    {
+        let size = self.size + 1;
+        let alloc = *self.kept.allocator();
+        let leaf = leaf_hash(self.digest, entry);
+        let filled = fill(alloc, self.digest, &self.kept, size, leaf)?;
+        self.kept.reserve(1)?;
+        self.kept.truncate(filled.left);
+        self.kept.push_reserved(filled.hash);
+        self.size = size;
+        Ok(filled.tiles)
     }
 }

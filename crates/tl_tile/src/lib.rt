@@ -3,6 +3,7 @@
 
 mod bundle;
 mod edge;
+mod filling;
 mod fold;
 mod law;
 mod listing;
