@@ -85,7 +85,7 @@ before_count size level count filled =
     ap (λ (x : ℕ). x / u) sum ∙ div-mul-add (count - 1) u (u - 1) (omega (arith, positive))
 
 -- where a level is not full, one entry fewer has as many places
-same_count : (size level : ℕ) → 0 < size % 256 ^ level → level_count (size - 1) level ≡ level_count size level
+pub same_count : (size level : ℕ) → 0 < size % 256 ^ level → level_count (size - 1) level ≡ level_count size level
 same_count size level some =
     let u : ℕ = 256 ^ level in
     let sum : size - 1 ≡ level_count size level * u + (size % u - 1) = omega (arith, level_parts size level, some) in

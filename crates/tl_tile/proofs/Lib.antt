@@ -9,3 +9,5 @@ pub mod Levels
 pub mod Below
 pub mod FillSteps
 pub mod Fills
+pub mod FilledTiles
+pub mod Members

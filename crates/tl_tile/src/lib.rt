@@ -13,7 +13,7 @@ mod tile;
 
 pub use bundle::{BundleFault, read_bundle, write_bundle};
 pub use edge::Edge;
-pub use law::bundle_has_one_reading;
+pub use law::{bundle_has_one_reading, filled_tiles_are_new};
 pub use listing::needed;
 pub use path::{parse_path, path_of};
 pub use resource::{Resource, Tile};
