@@ -11,3 +11,9 @@ pub mod FillSteps
 pub mod Fills
 pub mod FilledTiles
 pub mod Members
+pub mod Segments
+pub mod Walks
+pub mod Subtrees
+pub mod Edges
+pub mod Checked
+pub mod Honest

@@ -13,7 +13,7 @@ use Rattle.tl_tile.specs.Run.{part, place_hash, IsRun}
 use Rattle.tl_tile.proofs.TileTexts.{scaled_le}
 
 -- a split scales
-IsSplit-scaled : (k n u : ℕ) → IsPowerOfTwo u → IsSplit k n → IsSplit (k * u) (n * u)
+pub IsSplit-scaled : (k n u : ℕ) → IsPowerOfTwo u → IsSplit k n → IsSplit (k * u) (n * u)
 IsSplit-scaled k n u (j, e) s =
     let more : (k + 1) * u ≤ n * u = scaled_le (k + 1) n u (omega (arith, s.below)) in
     let most : n * u ≤ 2 * k * u = scaled_le n (2 * k) u s.largest in

@@ -8,3 +8,6 @@ pub mod ReadTile
 pub mod Run
 pub mod RightEdge
 pub mod Law
+pub mod Known
+pub mod KnownEdge
+pub mod TileLaws

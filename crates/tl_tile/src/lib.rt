@@ -10,6 +10,7 @@ mod listing;
 mod path;
 mod resource;
 mod tile;
+mod tile_law;
 
 pub use bundle::{BundleFault, read_bundle, write_bundle};
 pub use edge::Edge;
@@ -18,3 +19,4 @@ pub use listing::needed;
 pub use path::{parse_path, path_of};
 pub use resource::{Resource, Tile};
 pub use tile::tile_bytes;
+pub use tile_law::{checked_tiles_law, honest_tiles_law, known_hashes_law};
