@@ -5,6 +5,8 @@ use Rattle.std.specs.Fmt.{digits}
 use Rattle.tl_tile.specs.declared.resource.Resource.TheVariants as resource
 use Rattle.tl_tile.specs.Path.{path_text}
 use Rattle.tl_tile.specs.Needed.{tile_at, needed_resources}
+use Rattle.tl_tile.specs.TileText.{full_tile}
+use Rattle.tl_tile.specs.RightEdge.{filled_tiles}
 use Rattle.tl_tile.specs.Bundle.{bundle_text}
 
 large_index : path_text (tile_at 0 1234067 256) ≡ codes "tile/0/x001/x234/067"
@@ -25,3 +27,12 @@ needed_of_70000 = refl
 
 two_entries : bundle_text ([] ∷ codes "a" ∷ []) ≡ 0 ∷ 0 ∷ 0 ∷ 1 ∷ 97 ∷ []
 two_entries = refl
+
+filled_by_255 : filled_tiles 255 ≡ []
+filled_by_255 = refl
+
+filled_by_256 : filled_tiles 256 ≡ full_tile 0 0 ∷ []
+filled_by_256 = refl
+
+filled_by_65536 : filled_tiles 65536 ≡ full_tile 0 255 ∷ full_tile 1 0 ∷ []
+filled_by_65536 = refl

@@ -4,3 +4,16 @@ pub mod NeededLemmas
 pub mod OnePath
 pub mod PathLemmas
 pub mod TileTexts
+pub mod Runs
+pub mod Levels
+pub mod Below
+pub mod FillSteps
+pub mod Fills
+pub mod FilledTiles
+pub mod Members
+pub mod Segments
+pub mod Walks
+pub mod Subtrees
+pub mod Edges
+pub mod Checked
+pub mod Honest

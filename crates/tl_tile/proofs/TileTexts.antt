@@ -19,7 +19,7 @@ pub scaled_le : (a b u : ℕ) → a ≤ b → a * u ≤ b * u
 scaled_le a b u less = mul-le a u b u less (omega arith)
 
 -- 2 ^ level in tiles of height 8
-pow_of_256 : (level : ℕ) → 256 ^ level ≡ 2 ^ (level * 8)
+pub pow_of_256 : (level : ℕ) → 256 ^ level ≡ 2 ^ (level * 8)
 pow_of_256 zero = refl
 pow_of_256 (suc level) =
     let sum : 8 + level * 8 ≡ suc level * 8 = omega arith in

@@ -1,5 +1,9 @@
 -- What holds of the definitions alone.
-use Rattle.std.specs.Prelude.{◌≡◌, ℕ, List}
+use Rattle.std.specs.Prelude.{◌≡◌, ℕ, ◌+◌, List, Contains, ◌↔◌}
+use Rattle.tl_tile.specs.declared.resource.Tile.{Tile}
+use Rattle.tl_tile.specs.declared.resource.Resource.TheVariants as resource
+use Rattle.tl_tile.specs.Needed.{needed_resources}
+use Rattle.tl_tile.specs.RightEdge.{filled_tiles}
 use Rattle.tl_tile.specs.Bundle.{AreEntries, bundle_text, IsTruncated, HasTrailing}
 
 -- bytes are at most one bundle of a width; then they don't end too soon, and have nothing behind
@@ -14,3 +18,10 @@ BundlesAreOne = (bytes : List ℕ) (width : ℕ) (entries : List (List ℕ)) →
 -- no bytes both end within a bundle and go on past one
 abbrev pub BundleFaultsApart : Type 0
 BundleFaultsApart = (bytes : List ℕ) (width : ℕ) → IsTruncated bytes width → HasTrailing bytes width → ⊥
+
+-- the tiles that an entry fills are the full ones that are needed with it and were not before it
+abbrev pub FilledTilesAreNew : Type 0
+FilledTilesAreNew =
+    (n : ℕ) (t : Tile)
+    → Contains (filled_tiles (n + 1)) t
+    ↔ ((t.width ≡ 256) × Contains (needed_resources (n + 1)) (resource.Tile t) × (Contains (needed_resources n) (resource.Tile t) → ⊥))

@@ -5,4 +5,9 @@ pub mod ReadBundle
 pub mod Needed
 pub mod TileText
 pub mod ReadTile
+pub mod Run
+pub mod RightEdge
 pub mod Law
+pub mod Known
+pub mod KnownEdge
+pub mod TileLaws

@@ -1,5 +1,5 @@
 -- The bytes of a tile (C2SP tlog-tiles, "Merkle Tree").
-use Rattle.std.specs.Prelude.{ℕ, ◌+◌, ◌*◌, ◌/◌, ◌^◌, List, take, drop}
+use Rattle.std.specs.Prelude.{ℕ, ◌+◌, ◌*◌, ◌/◌, ◌%◌, ◌^◌, List, take, drop, nat_lt, if◌then◌else◌}
 use Rattle.std.specs.List.{flat_map, range_with_len}
 use Rattle.tl_hash.specs.Tree.{tree_hash}
 use Rattle.tl_tile.specs.declared.resource.Tile.{Tile}
@@ -20,3 +20,18 @@ level_hashes H level place count entries =
 -- the bytes of a tile: its hashes, one after the other
 abbrev pub tile_text : (List ℕ → List ℕ) → Tile → List (List ℕ) → List ℕ
 tile_text H t entries = level_hashes H t.level (t.index * 256) t.width entries
+
+-- the full tile of a level with this index
+abbrev pub full_tile : ℕ → ℕ → Tile
+full_tile level index = record { level = level; index = index; width = 256 }
+
+-- the partial tile of a level: the hashes after its last full tile; where there are none its width is 0
+abbrev pub partial_tile : ℕ → ℕ → Tile
+partial_tile size level =
+    record { level = level; index = level_count size level / 256; width = level_count size level % 256 }
+
+-- the tile that has the hash at this place of a level
+abbrev pub tile_with : ℕ → ℕ → ℕ → Tile
+tile_with size level place =
+    if nat_lt (place / 256) (level_count size level / 256) then full_tile level (place / 256)
+    else partial_tile size level

@@ -2,15 +2,21 @@
 #![tactic(auto)]
 
 mod bundle;
+mod edge;
+mod filling;
+mod fold;
 mod law;
 mod listing;
 mod path;
 mod resource;
 mod tile;
+mod tile_law;
 
 pub use bundle::{BundleFault, read_bundle, write_bundle};
-pub use law::bundle_has_one_reading;
+pub use edge::Edge;
+pub use law::{bundle_has_one_reading, filled_tiles_are_new};
 pub use listing::needed;
 pub use path::{parse_path, path_of};
 pub use resource::{Resource, Tile};
 pub use tile::tile_bytes;
+pub use tile_law::{checked_tiles_law, honest_tiles_law, known_hashes_law};

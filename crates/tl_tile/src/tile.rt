@@ -27,7 +27,7 @@ fn numbers_of<A: Allocator>(alloc: A, tile: Tile) -> Result<Vec<u64, A>, ReadFau
 }
 
 // The hashes, one after the other.
-fn join<A: Allocator>(alloc: A, hashes: &[Hash]) -> Result<Vec<u8, A>, AllocError>
+pub(crate) fn join<A: Allocator>(alloc: A, hashes: &[Hash]) -> Result<Vec<u8, A>, AllocError>
     ensures { IfOk result (λ bytes. bytes.items ≡ flat_map (λ hash. hash) hashes.now) }
 {
     let mut bytes = Vec::new(alloc);

@@ -1,0 +1,8 @@
+use Rattle.tl_tile.proofs.Honest.{honest_tiles_tell_root, honest_tiles_tell_above}
+use Rattle.tl_tile.proofs.tile_law.honest_tiles_law.Goals as goal
+
+pub returns-clause-root : goal.returns-clause-root
+returns-clause-root c = honest_tiles_tell_root
+
+pub returns-clause-above : goal.returns-clause-above
+returns-clause-above c = honest_tiles_tell_above

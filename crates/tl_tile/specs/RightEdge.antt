@@ -1,0 +1,64 @@
+-- The right edge of a growing log: the partial tiles of its size, and the full tiles that an entry completes (C2SP
+-- tlog-tiles, "Partial Tiles"). The levels of tiles are 0 to 7.
+use Rattle.std.specs.Prelude.{◌≡◌, ℕ, zero, suc, ◌+◌, ◌-◌, ◌*◌, ◌/◌, ◌%◌, ◌^◌, ◌<◌, List, [], ◌++◌, length, map, filter, ◌==◌, Option, Some, None, if◌then◌else◌}
+use Rattle.std.specs.List.{range_with_len}
+use Rattle.tl_hash.specs.Tree.{tree_hash}
+use Rattle.tl_tile.specs.declared.resource.Tile.{Tile}
+use Rattle.tl_tile.specs.TileText.{level_count, entries_under, full_tile, partial_tile, tile_text}
+
+-- ---- tiles that are shown
+
+-- a tile with its bytes over the entries
+abbrev pub shown : (List ℕ → List ℕ) → List (List ℕ) → Tile → Tile × List ℕ
+shown H entries t = (t, tile_text H t entries)
+
+-- the partial tile of a level with its bytes, where there is one
+abbrev pub shown_partial : (List ℕ → List ℕ) → List (List ℕ) → ℕ → Option (Tile × List ℕ)
+shown_partial H entries level =
+    if level_count (length entries) level % 256 == 0 then None
+    else Some (shown H entries (partial_tile (length entries) level))
+
+-- the levels whose last tile is full with the n-th entry, from 0 up
+abbrev pub filled_levels : ℕ → List ℕ
+filled_levels n = filter (λ level. n % 256 ^ (level + 1) == 0) (range_with_len 0 8)
+
+-- the tiles that the n-th entry fills, by level
+abbrev pub filled_tiles : ℕ → List Tile
+filled_tiles n = map (λ level. full_tile level (n / 256 ^ (level + 1) - 1)) (filled_levels n)
+
+-- the full tiles that the last of the entries fills, with their bytes
+abbrev pub shown_filled : (List ℕ → List ℕ) → List (List ℕ) → List (Tile × List ℕ)
+shown_filled H entries = map (shown H entries) (filled_tiles (length entries))
+
+-- ---- what a right edge keeps
+
+-- the hash of a level at a place
+abbrev pub hash_at : (List ℕ → List ℕ) → List (List ℕ) → ℕ → ℕ → List ℕ
+hash_at H entries level place = tree_hash H (entries_under level place entries)
+
+-- the hashes of a level's partial tile
+abbrev pub partial_hashes : (List ℕ → List ℕ) → List (List ℕ) → ℕ → List (List ℕ)
+partial_hashes H entries level =
+    let count : ℕ = level_count (length entries) level in
+    map (hash_at H entries level) (range_with_len (count / 256 * 256) (count % 256))
+
+-- the hashes of the partial tiles of the levels below this one, the highest level first
+unfoldable pub hashes_below : (List ℕ → List ℕ) → List (List ℕ) → ℕ → List (List ℕ)
+hashes_below H entries zero = []
+hashes_below H entries (suc level) = partial_hashes H entries level ++ hashes_below H entries level
+
+-- how many these are for so many entries
+unfoldable pub count_below : ℕ → ℕ → ℕ
+count_below size zero = 0
+count_below size (suc level) = level_count size level % 256 + count_below size level
+
+-- the number of entries, and the hashes of all partial tiles
+pub record EdgeContents : Type 0 where
+  pub size : ℕ
+  pub kept : List (List ℕ)
+
+-- the edge has the size of these entries, fewer than 2 ^ 32, and the hashes of their partial tiles under this digest
+-- function, those of the highest level first
+abbrev pub IsEdgeOf : EdgeContents → (List ℕ → List ℕ) → List (List ℕ) → Type 0
+IsEdgeOf edge H entries =
+    (length entries ≡ edge.size) × (length entries < 2 ^ 32) × (edge.kept ≡ hashes_below H entries 8)

@@ -1,0 +1,152 @@
+//! The right edge of a growing log: its size and the hashes of its partial tiles.
+
+ghost use Rattle.std.specs.Prelude.{◌≡◌, ◌≤◌, ◌<◌, ◌+◌, ◌-◌, ◌^◌, ℕ, [], ◌∷◌, ◌++◌, List, length, map, vec_items, option_map, MatchOption, IfOk, OnOk, OnErr};
+ghost use Rattle.tl_hash.specs.Tree.{tree_hash};
+ghost use Rattle.tl_tile.specs.RightEdge.{shown_partial, shown_filled, hashes_below, count_below, IsEdgeOf};
+
+use crate::filling::fill;
+use crate::fold::fold_level;
+use crate::resource::Tile;
+use crate::tile::join;
+use std::alloc::{AllocError, Allocator};
+use std::marker::Model;
+use tl_hash::{Hash, TreeHash, empty_hash, leaf_hash};
+
+/// The right edge of a log: the number of its entries and the hashes of the partial tiles of that size (C2SP tlog-tiles,
+/// "Partial Tiles"), at most 255 for each level, and nothing else. Contracts see the size and the kept hashes.
+#[derive(Drop)]
+pub struct Edge<T: TreeHash, A: Allocator> {
+    digest: T,
+    kept: Vec<Hash, A>,
+    size: u64,
+}
+
+impl<T: TreeHash, A: Allocator> Model for Edge<T, A> {
+    ghost use Rattle.std.specs.Prelude.{◌≡◌, ◌<◌, ◌^◌, length};
+    ghost use Rattle.tl_tile.specs.RightEdge.{EdgeContents, count_below};
+
+    ghost Value = { EdgeContents };
+
+    ghost view = { λ e. record { size = e.size; kept = e.kept.items } };
+
+    ghost invariant = { λ e. (length e.kept.items ≡ count_below e.size 8) × (e.size < 2 ^ 32) };
+}
+
+// How many hashes are kept for the levels below this one.
+fn count_of(size: u64, level: u32) -> usize
+    requires { level ≤ 8 }
+    ensures { result ≡ count_below size level }
+{
+    let mut kept = 0;
+    let mut count = size;
+    for _lower in 0..level {
+        kept += (count % 256) as usize;
+        count /= 256;
+    }
+    kept
+}
+
+// The tree hash over the kept hashes, from the lowest level up; none of no entries.
+fn root_of<T: TreeHash>(h: T, kept: &[Hash], size: u64) -> Option<Hash>
+    requires small { size < 2 ^ 32 }
+    requires counted { length kept.now ≡ count_below size 8 }
+    ensures { (entries : List (List ℕ))
+        → length entries ≡ size
+        → kept.now ≡ hashes_below T.digest_of entries 8
+        → MatchOption result (size ≡ 0) (λ root. root ≡ tree_hash T.digest_of entries) }
+{
+    let mut below = None;
+    let mut end = kept.len();
+    let mut count = size;
+    for _level in 0..8u32 {
+        let start = end - (count % 256) as usize;
+        below = fold_level(h, &kept[start..end], below);
+        end = start;
+        count /= 256;
+    }
+    below
+}
+
+impl<T: TreeHash, A: Allocator + Copy> Edge<T, A> {
+    /// The edge of a log with no entries, whose hashes `h` makes. It takes no memory.
+    pub fn new(alloc: A, h: T) -> Edge<T, A>
+        ensures { IsEdgeOf result T.digest_of [] }
+    {
+        Edge {
+            digest: h,
+            kept: Vec::new(alloc),
+            size: 0,
+        }
+    }
+
+    /// The number of entries.
+    pub fn size(&self) -> u64
+        ensures { result ≡ self.now.size }
+    {
+        self.size
+    }
+
+    /// The tree hash of the entries (RFC 6962, section 2.1). It takes no memory.
+    pub fn root(&self) -> Hash
+        ensures { (entries : List (List ℕ))
+            → IsEdgeOf self.now T.digest_of entries
+            → result ≡ tree_hash T.digest_of entries }
+    {
+        match root_of(self.digest, &self.kept, self.size) {
+            None => empty_hash(self.digest),
+            Some(root) => root,
+        }
+    }
+
+    /// The partial tile of a level with its bytes, or `None` where the level has none. `level` is from 0 to 7; there are
+    /// no partial tiles above level 3. It fails only where memory is refused.
+    pub fn partial(&self, level: u32) -> Result<Option<(Tile, Vec<u8, A>)>, AllocError>
+        requires { level ≤ 7 }
+        ensures { (entries : List (List ℕ))
+            → IsEdgeOf self.now T.digest_of entries
+            → IfOk result (λ found. option_map (λ t. (t.0, vec_items t.1)) found
+            ≡ shown_partial T.digest_of entries level) }
+    {
+        let end = self.kept.len() - count_of(self.size, level);
+        let count = self.size >> (8 * level);
+        let width = (count % 256) as u32;
+        if width == 0 {
+            return Ok(None);
+        }
+        let alloc = *self.kept.allocator();
+        let bytes = join(alloc, &self.kept[end - width as usize..end])?;
+        let tile = Tile {
+            level,
+            index: count / 256,
+            width,
+        };
+        Ok(Some((tile, bytes)))
+    }
+
+    /// Adds one entry at the end, and gives the full tiles that it completes with their bytes, by level: those that a log
+    /// serves with this entry and didn't serve before. The edge takes up to 2^32 - 1 entries. Where memory is refused it
+    /// stays as it was. An entry costs one leaf hash, and 255 node hashes for each tile that it completes; one that
+    /// completes none takes no memory but for the edge's own hash.
+    pub fn append(&mut self, entry: &[u8]) -> Result<Vec<(Tile, Vec<u8, A>), A>, AllocError>
+        requires { self.old.size < 2 ^ 32 - 1 }
+        ensures entry { (entries : List (List ℕ))
+            → IsEdgeOf self.old T.digest_of entries
+            → OnOk result (IsEdgeOf self.new T.digest_of (entries ++ entry.now ∷ [])) }
+        ensures tiles { (entries : List (List ℕ))
+            → IsEdgeOf self.old T.digest_of entries
+            → IfOk result (λ tiles. map (λ t. (t.0, vec_items t.1)) tiles.items
+            ≡ shown_filled T.digest_of (entries ++ entry.now ∷ [])) }
+        ensures size { OnOk result (self.new.size ≡ self.old.size + 1) }
+        ensures unchanged { OnErr result (self.new ≡ self.old) }
+    {
+        let size = self.size + 1;
+        let alloc = *self.kept.allocator();
+        let leaf = leaf_hash(self.digest, entry);
+        let filled = fill(alloc, self.digest, &self.kept, size, leaf)?;
+        self.kept.reserve(1)?;
+        self.kept.truncate(filled.left);
+        self.kept.push_reserved(filled.hash);
+        self.size = size;
+        Ok(filled.tiles)
+    }
+}
