@@ -1,11 +1,15 @@
 //! Loops to measure, one word each. The scripts in `bench/` run them beside the program.
 #![tactic(auto)]
 
+mod proving;
 mod rings;
 
+use proving::proofs;
 use rings::sequencer;
 use sha2::{Digest, Sha256};
+use std::alloc::Global;
 use std::process::ExitCode;
+use std::time::Clock;
 use std::{env, io};
 
 // The digest of the first bytes of a message, written over its front.
@@ -48,6 +52,11 @@ fn measured(outcome: io::Result<()>) -> io::Result<bool> {
     Ok(true)
 }
 
+// Proofs over a small log and a large one.
+fn both_sizes<R: Clock + Print>(rt: &R, alloc: Global) -> io::Result<bool> {
+    Ok(proofs(rt, alloc, 1_000)? && proofs(rt, alloc, 1_000_000)?)
+}
+
 fn main(rt: HostRuntime) -> ExitCode {
     let Ok(args) = env::args(&rt) else {
         return ExitCode::from(2);
@@ -58,12 +67,13 @@ fn main(rt: HostRuntime) -> ExitCode {
     let outcome = match words.as_slice() {
         [_, word, rest @ ..] if word.as_str() == "sha256" => sha256(&rt, rest),
         [_, word] if word.as_str() == "sequencer" => measured(sequencer(&rt, rt.alloc())),
+        [_, word] if word.as_str() == "proofs" => both_sizes(&rt, rt.alloc()),
         _ => Ok(false),
     };
     match outcome {
         Ok(true) => ExitCode::SUCCESS,
         Ok(false) => {
-            let _ = rt.eprintln("usage: tl_bench sha256 COUNT LENGTH .. | tl_bench sequencer");
+            let _ = rt.eprintln("usage: tl_bench sha256 COUNT LENGTH .. | sequencer | proofs");
             ExitCode::from(2)
         }
         Err(_) => ExitCode::from(3),
