@@ -30,6 +30,8 @@ fn each_command_with_its_options(rt: HostRuntime) -> Result<(), Fail> {
     assert!(rt; matches!(&job, Ok(Job::Consistency { old }) if *old == 0));
     let job = job_of(rt.alloc(), &["tlog", "check"])?;
     assert!(rt; matches!(&job, Ok(Job::Check)));
+    let job = job_of(rt.alloc(), &["tlog", "audit"])?;
+    assert!(rt; matches!(&job, Ok(Job::Audit)));
     Ok(())
 }
 

@@ -1,5 +1,5 @@
 -- What an audit answers: accepted steps, and the strings that collide.
-use Rattle.std.proofs.Common.{◌≡◌, ◌≢◌, ℕ, ◌-◌, ◌<◌, ◌≤◌, ◌⊎◌, ◌↔◌, inl, inr, List, [], ◌∷◌, ◌++◌, length, map, take, drop, Option, Some, None, Result, Ok, Err, Contains, refl, sym, ap, subst, ◌∙◌, arith}
+use Rattle.std.proofs.Common.{◌≡◌, ℕ, ◌-◌, ◌<◌, ◌≤◌, ◌↔◌, inl, inr, List, [], ◌∷◌, ◌++◌, length, take, drop, Option, Some, None, Result, Ok, Err, Contains, refl, sym, ap, subst, ◌∙◌, arith}
 use Rattle.std.proofs.lemmas.Bool.{cases_lt}
 use Rattle.std.proofs.lemmas.List.{get_or-take, length-take-le, take_all}
 use Rattle.std.proofs.lemmas.List.Elements.{Contains-append_left, Contains-append_right}
@@ -8,8 +8,8 @@ use Rattle.tl_hash.specs.Tree.{tree_hash, inputs, leaf_input}
 use Rattle.tl_hash.proofs.TreeLemmas.{split_induction, length_first, length_rest}
 use Rattle.tl_proof.specs.Acceptance.{AcceptsConsistency}
 use Rattle.tl_proof.specs.Collisions.{Step, Collides, fold_inputs, Linked, EndsWith, step_inputs, audit_inputs}
-use Rattle.tl_proof.specs.Forks.{input_of, SameOrForks, entry_at, DifferAt, LinksFork, ForksAt, IsListsWalk}
-use Rattle.tl_proof.specs.Audit.{AreAccepted, Audits, ShowsFork}
+use Rattle.tl_proof.specs.Forks.{input_of, SameOrForks, entry_at, DifferAt, LinksFork, ForksAt, ShowsFork, IsListsWalk}
+use Rattle.tl_proof.specs.Audit.{AreAccepted, Audits}
 use Rattle.tl_proof.specs.declared.fork.Fork.{Fork}
 use Rattle.tl_proof.specs.declared.fork.ListsWalk.{ListsWalk}
 use Rattle.tl_proof.specs.declared.verdict.Verdict.{Verdict}
@@ -132,9 +132,10 @@ AreAccepted-ordered H old new steps accepted = linked_most H steps (length old) 
 pub AreAccepted-one : (H : List ℕ → List ℕ) (old new : List (List ℕ)) (proof : List (List ℕ)) (m n : ℕ) → m ≡ length old → n ≡ length new
     → AcceptsConsistency H proof n (tree_hash H new) m (tree_hash H old) ↔ AreAccepted H old new (record { size = n; root = tree_hash H new; proof = proof } ∷ [])
 unfolding Linked EndsWith
-AreAccepted-one H old new proof m n m_is n_is =
-    (λ a. ((subst (λ (z : ℕ). AcceptsConsistency H proof n (tree_hash H new) z (tree_hash H old)) m_is a, tt), (n_is, refl)),
-    λ a. subst (λ (z : ℕ). AcceptsConsistency H proof n (tree_hash H new) z (tree_hash H old)) (sym m_is) a.0.0)
+AreAccepted-one H old new proof m n m_is n_is = (
+  λ a. ((subst (λ (z : ℕ). AcceptsConsistency H proof n (tree_hash H new) z (tree_hash H old)) m_is a, tt), (n_is, refl)),
+  λ a. subst (λ (z : ℕ). AcceptsConsistency H proof n (tree_hash H new) z (tree_hash H old)) (sym m_is) a.0.0,
+)
 
 -- a fork in one link is one of the chain of this link alone
 links_fork-here : (H : List ℕ → List ℕ) (old new : List (List ℕ)) (proof : List (List ℕ)) (fork : Option Fork)

@@ -1,13 +1,13 @@
 -- The link of a chain at which an old root isn't that of the list's prefix.
-use Rattle.std.proofs.Common.{◌≡◌, ℕ, ◌<◌, ◌≤◌, ◌⊎◌, inl, inr, true, List, [], ◌∷◌, ◌++◌, length, map, take, drop, reverse, Option, Some, None, Contains, refl, sym, ap, subst, ◌∙◌, arith}
-use Rattle.std.proofs.lemmas.List.{take_all, length-map}
+use Rattle.std.proofs.Common.{◌≡◌, ℕ, ◌⊎◌, inl, inr, true, List, length, take, reverse, Some, None, sym, ap, ◌∙◌, arith}
+use Rattle.std.proofs.lemmas.List.{take_all}
 use Rattle.tl_hash.specs.Tree.{tree_hash, inputs}
 use Rattle.tl_hash.proofs.TreeLemmas.{tree_hash-none}
 use Rattle.tl_proof.specs.Acceptance.{roots_from, AcceptsConsistency}
-use Rattle.tl_proof.specs.Collisions.{Step, fold_inputs, fold_inputs_from, Linked, EndsWith, step_inputs}
-use Rattle.tl_proof.specs.Forks.{SameOrForks, IsCheckWalk, end_size, end_root}
+use Rattle.tl_proof.specs.Collisions.{fold_inputs, fold_inputs_from}
+use Rattle.tl_proof.specs.Forks.{SameOrForks, IsCheckWalk}
 use Rattle.tl_proof.specs.declared.fork.CheckWalk.{CheckWalk}
-use Rattle.tl_proof.proofs.Audits.{fold_inputs-some, AcceptsConsistency-ordered}
+use Rattle.tl_proof.proofs.Audits.{fold_inputs-some}
 use Rattle.tl_proof.proofs.Folds.{Some-injective, None-no_Some}
 use Rattle.tl_proof.proofs.Forks.{SameOrForks-among}
 

@@ -1,11 +1,11 @@
 -- Two lists of one length with one root that differ at a place: two nodes on the way there, or the leaves.
-use Rattle.std.proofs.Common.{◌≡◌, ◌≢◌, ℕ, zero, suc, ◌+◌, ◌-◌, ◌<◌, ◌≤◌, List, [], ◌∷◌, ◌++◌, length, map, take, drop, get_or, Option, Some, None, Contains, refl, sym, ap, subst, ◌∙◌, arith}
-use Rattle.std.proofs.lemmas.List.{take_all, take-map, drop-map, length-map, length-take-le, get_or-take, get_or-drop, get_or-map}
+use Rattle.std.proofs.Common.{◌≡◌, ◌≢◌, ℕ, ◌+◌, ◌-◌, ◌<◌, ◌≤◌, List, [], length, map, take, drop, get_or, None, Contains, sym, ap, ◌∙◌, arith}
+use Rattle.std.proofs.lemmas.List.{take_all, take-map, drop-map, length-map, get_or-take, get_or-drop, get_or-map}
 use Rattle.tl_hash.specs.Split.{IsSplit}
 use Rattle.tl_hash.specs.Tree.{tree_hash, inputs, node_input, leaf_input}
 use Rattle.tl_hash.proofs.TreeLemmas.{tree_hash-split, tree_hash-map_one}
 use Rattle.tl_proof.specs.Collisions.{IsPrefix}
-use Rattle.tl_proof.specs.Forks.{SameOrForks, fork_of, IsForkOver, IsListsWalk, entry_at, DifferAt}
+use Rattle.tl_proof.specs.Forks.{fork_of, IsForkOver, IsListsWalk, entry_at, DifferAt}
 use Rattle.tl_proof.specs.declared.fork.ListsWalk.{ListsWalk}
 use Rattle.tl_proof.proofs.Forks.{SameOrForks-among, forks_over}
 use Rattle.tl_proof.proofs.SameSize.{inputs-root, inputs-first, inputs-rest}
@@ -130,3 +130,8 @@ DifferAt-place f old new i x y within most at_old at_new differ =
 pub DifferAt-no_prefix : (old new : List (List ℕ)) (place : ℕ) → DifferAt old new place → IsPrefix old new → ⊥
 DifferAt-no_prefix old new place differ prefix =
     differ.1 (ap (λ (z : List (List ℕ)). entry_at z place) prefix ∙ get_or-take (length old) new place [] differ.0)
+
+-- the entry of the value at a place
+pub entry_at-value : {X : Type 0} (f : X → List ℕ) (xs : List X) (i : ℕ) (x : X) (a : List ℕ) → i < length (map f xs) → x ≡ get_or xs i x → a ≡ f x → a ≡ entry_at (map f xs) i
+entry_at-value f xs i x a within is a_is =
+    a_is ∙ ap f is ∙ sym (get_or-map f xs i x [] (omega (arith, within, length-map xs f)))

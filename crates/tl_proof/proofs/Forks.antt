@@ -1,14 +1,13 @@
 -- Forks: two nodes over other hashes with one digest, on the way down two trees.
-use Rattle.std.proofs.Common.{◌≡◌, ◌≢◌, ℕ, ◌+◌, ◌-◌, ◌<◌, ◌≤◌, ◌⊎◌, inl, inr, Bool, true, false, ◌&&◌, eqb, List, [], ◌∷◌, ◌++◌, length, take, drop, reverse, get_or, map, Option, Some, None, option_map, MatchOption, Contains, refl, sym, ap, subst, ◌∙◌, arith}
+use Rattle.std.proofs.Common.{◌≡◌, ◌≢◌, ℕ, ◌-◌, ◌<◌, ◌≤◌, ◌⊎◌, inl, inr, Bool, true, false, ◌&&◌, eqb, List, [], ◌∷◌, ◌++◌, length, take, drop, reverse, get_or, map, Option, Some, None, option_map, MatchOption, Contains, refl, sym, ap, subst, ◌∙◌, arith}
 use Rattle.std.proofs.lemmas.Bool.{cases_Bool, and_parts, eqb-true}
 use Rattle.std.proofs.lemmas.List.{take_all, take-take, take-map, drop-map, length-map, length-take-le, length-drop, length-reverse}
 use Rattle.tl_hash.specs.Split.{IsSplit}
 use Rattle.tl_hash.specs.Tree.{tree_hash, inputs, node_input}
 use Rattle.tl_hash.proofs.TreeLemmas.{length_first, length_rest, tree_hash-split, tree_hash-prefix}
 use Rattle.tl_proof.specs.Acceptance.{roots_from, roots_of_whole}
-use Rattle.tl_proof.specs.Collisions.{Collides, fold_inputs_from, inputs_on_left, inputs_on_right}
+use Rattle.tl_proof.specs.Collisions.{fold_inputs_from, inputs_on_left, inputs_on_right}
 use Rattle.tl_proof.specs.Forks.{input_of, SameOrForks, fork_of, IsForkOver, IsCheckWalk}
-use Rattle.tl_proof.specs.declared.fork.Children.{Children}
 use Rattle.tl_proof.specs.declared.fork.Fork.{Fork}
 use Rattle.tl_proof.specs.declared.fork.CheckWalk.{CheckWalk}
 use Rattle.tl_proof.proofs.Bytes.{cases_bytes}

@@ -12,7 +12,6 @@ pub mod AuditAnswers
 pub mod Audits
 pub mod Examples
 pub mod Checks
-pub mod Entries
 pub mod Plans
 pub mod SegmentReads
 pub mod ProveFaultLemmas

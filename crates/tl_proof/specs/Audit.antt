@@ -1,9 +1,7 @@
 -- What an audit answers (RFC 6962, sections 2.1 and 2.1.2).
-use Rattle.std.specs.Prelude.{◌≡◌, ℕ, List, length, Option, Result, Ok, Err}
+use Rattle.std.specs.Prelude.{ℕ, List, length, Result, Ok, Err}
 use Rattle.tl_hash.specs.Tree.{tree_hash}
 use Rattle.tl_proof.specs.Collisions.{Step, IsPrefix, Exhibits, Linked, EndsWith, audit_inputs}
-use Rattle.tl_proof.specs.Forks.{first_string, second_string}
-use Rattle.tl_proof.specs.declared.fork.Fork.{Fork}
 use Rattle.tl_proof.specs.declared.verdict.Verdict.{Verdict}
 use Rattle.tl_proof.specs.declared.verdict.Verdict.TheVariants.{Extends, Collision}
 use Rattle.tl_proof.specs.declared.verdict.AuditFault.{AuditFault}
@@ -22,10 +20,3 @@ Audits H old new steps (Ok (Collision x y)) =
     AreAccepted H old new steps × ¬ (IsPrefix old new) × Exhibits H x.items y.items (audit_inputs H old new steps)
 Audits H old new steps (Err NotAccepted) = ¬ (AreAccepted H old new steps)
 Audits H old new steps (Err OutOfMemory) = Unit {0}
-
--- the answer with the strings of a fork, or where there is none of the leaves of two entries
-abbrev pub ShowsFork : {A : Type 0} → Option Fork → List ℕ → List ℕ → Result (Verdict A) AuditFault → Type 0
-ShowsFork fork a b (Ok Extends) = ⊥
-ShowsFork fork a b (Ok (Collision x y)) = (x.items ≡ first_string fork a) × (y.items ≡ second_string fork b)
-ShowsFork fork a b (Err NotAccepted) = ⊥
-ShowsFork fork a b (Err OutOfMemory) = Unit {0}

@@ -1,7 +1,6 @@
 -- What an audit shows where one list does not extend another: two of the byte strings that were hashed
 -- (RFC 6962, sections 2.1 and 2.1.2).
 use Rattle.std.specs.Prelude.{◌≡◌, ◌≢◌, ℕ, ◌-◌, Bool, true, false, List, [], ◌∷◌, ◌++◌, length, take, reverse, nat_le, ◌==◌, if◌then◌else◌, Contains, Option, Some, None}
-use Rattle.std.specs.declared.vec.Vec.{Vec}
 use Rattle.tl_hash.specs.Split.{split_point}
 use Rattle.tl_hash.specs.Tree.{node_input, tree_hash, inputs}
 use Rattle.tl_proof.specs.Acceptance.{roots_from, AcceptsConsistency}
@@ -55,12 +54,6 @@ pub record Collides (H : List ℕ → List ℕ) (x y : List ℕ) (firsts seconds
 -- two different byte strings of a list with one digest
 abbrev pub Exhibits : (List ℕ → List ℕ) → List ℕ → List ℕ → List (List ℕ) → Type 0
 Exhibits H x y strings = Collides H x y strings strings
-
--- what a walk down two trees with one root finds: that the lists are the same, or two of their inputs
--- that collide
-abbrev pub SameOrCollides : {A : Type 0} → (List ℕ → List ℕ) → Option (Vec ℕ A × Vec ℕ A) → List (List ℕ) → List (List ℕ) → Type 0
-SameOrCollides H None old new = old ≡ new
-SameOrCollides H (Some pair) old new = Collides H pair.0.items pair.1.items (inputs H old) (inputs H new)
 
 -- each step is accepted from the one before, the first from this size and root
 unfoldable pub Linked : (List ℕ → List ℕ) → ℕ → List ℕ → List Step → Type 0

@@ -1,6 +1,6 @@
 -- What the walks of an audit find (RFC 6962, sections 2.1 and 2.1.2): two nodes over other hashes, or the
 -- entries at one place.
-use Rattle.std.specs.Prelude.{◌≡◌, ◌≢◌, ℕ, ◌<◌, Bool, List, [], ◌∷◌, length, Option, Some, None, slice_index_or, take}
+use Rattle.std.specs.Prelude.{◌≡◌, ◌≢◌, ℕ, ◌<◌, Bool, List, [], ◌∷◌, length, take, Option, Some, None, Result, Ok, Err, slice_index_or}
 use Rattle.tl_hash.specs.Tree.{tree_hash, inputs, leaf_input, node_input}
 use Rattle.tl_proof.specs.Acceptance.{roots_from}
 use Rattle.tl_proof.specs.Collisions.{Step, Collides, Exhibits, fold_inputs_from, step_inputs, audit_inputs}
@@ -8,6 +8,10 @@ use Rattle.tl_proof.specs.declared.fork.Children.{Children}
 use Rattle.tl_proof.specs.declared.fork.Fork.{Fork}
 use Rattle.tl_proof.specs.declared.fork.CheckWalk.{CheckWalk}
 use Rattle.tl_proof.specs.declared.fork.ListsWalk.{ListsWalk}
+use Rattle.tl_proof.specs.declared.verdict.Verdict.{Verdict}
+use Rattle.tl_proof.specs.declared.verdict.Verdict.TheVariants.{Extends, Collision}
+use Rattle.tl_proof.specs.declared.verdict.AuditFault.{AuditFault}
+use Rattle.tl_proof.specs.declared.verdict.AuditFault.TheVariants.{NotAccepted, OutOfMemory}
 
 -- what the hash of a node over two hashes is the digest of
 abbrev pub input_of : Children → List ℕ
@@ -81,3 +85,10 @@ LinksFork H fork old new steps =
 abbrev pub ForksAt : (List ℕ → List ℕ) → Option Fork → List (List ℕ) → List (List ℕ) → ℕ → List Step → Type 0
 ForksAt H fork old new place steps =
     Exhibits H (first_string fork (entry_at old place)) (second_string fork (entry_at new place)) (audit_inputs H old new steps)
+
+-- the answer with the strings of a fork, or where there is none of the leaves of two entries
+abbrev pub ShowsFork : {A : Type 0} → Option Fork → List ℕ → List ℕ → Result (Verdict A) AuditFault → Type 0
+ShowsFork fork a b (Ok Extends) = ⊥
+ShowsFork fork a b (Ok (Collision x y)) = (x.items ≡ first_string fork a) × (y.items ≡ second_string fork b)
+ShowsFork fork a b (Err NotAccepted) = ⊥
+ShowsFork fork a b (Err OutOfMemory) = Unit {0}

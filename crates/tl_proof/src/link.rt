@@ -39,7 +39,8 @@ impl<A: Allocator> HashList<A> {
     pub fn into_vec(self) -> Vec<Hash, A>
         ensures { result.items ≡ self }
     {
-        self.hashes
+        let Self { hashes } = self;
+        hashes
     }
 }
 

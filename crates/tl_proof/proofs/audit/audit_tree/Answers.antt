@@ -1,4 +1,4 @@
-use Rattle.std.proofs.Common.{length, map, vec_items, sym, arith}
+use Rattle.std.proofs.Common.{length, map, vec_items, sym}
 use Rattle.std.proofs.lemmas.Bool.{both_ways}
 use Rattle.std.proofs.lemmas.List.{length-map}
 use Rattle.tl_proof.proofs.Audits.{AcceptsConsistency-ordered}
