@@ -1,8 +1,8 @@
 //! More of an input: a part of a line, the end of a line, a piece of any bytes.
 
-ghost use Rattle.std.specs.Prelude.{◌≡◌, ◌<◌, ◌≤◌, ◌+◌, ◌-◌, ◌^◌, ◌∷◌, [], ◌++◌, ℕ, List, length, vec_items, OnOk};
-ghost use Rattle.tl_server.specs.Growing.{IsGrowing, IsGrown};
-ghost use Rattle.tl_server.specs.Lines.{HasNoNewline};
+ghost use Rattle.std.specs.Prelude.{◌≡◌, ◌<◌, ◌≤◌, ◌+◌, ◌-◌, ◌^◌, ◌∷◌, [], ◌++◌, ℕ, List, length, take, vec_items, None, OnOk};
+ghost use Rattle.tl_server.specs.Growing.{IsGrowing, IsOutcome, IsTold};
+ghost use Rattle.tl_server.specs.Lines.{entries_of, HasNoNewline};
 
 use super::Growing;
 use crate::fault::RunFault;
@@ -17,7 +17,8 @@ const MOST_KEPT: usize = 65_536;
 impl<A: Allocator + Copy> Growing<A> {
     /// What is kept of no input.
     pub(crate) fn new(alloc: A) -> Growing<A>
-        ensures { IsGrowing result [] }
+        ensures size { result.edge.size ≡ 0 }
+        ensures grows { IsGrowing result [] }
     {
         Growing {
             edge: Edge::new(alloc, Sha256Tree),
@@ -29,10 +30,28 @@ impl<A: Allocator + Copy> Growing<A> {
     // More of the last line.
     fn extend(&mut self, part: &[u8]) -> Result<(), AllocError>
         requires { HasNoNewline part.now }
-        ensures { (input : List ℕ) → IsGrowing self.old input → OnOk result (IsGrowing self.new (input ++ part.now)) }
+        ensures size { OnOk result (self.new.edge.size ≡ self.old.edge.size) }
+        ensures grows { (input : List ℕ) → IsGrowing self.old input → OnOk result (IsGrowing self.new (input ++ part.now)) }
     {
         let room = MOST_KEPT.saturating_sub(self.line.len());
         self.line.extend_from_slice(&part[..room.min(part.len())])?;
+        Ok(())
+    }
+
+    // Notes that the last line is too long, or adds it to the log.
+    fn log_line(&mut self) -> Result<(), AllocError>
+        requires size { self.old.edge.size < 2 ^ 32 - 1 }
+        requires none { self.old.too_long ≡ None }
+        ensures size { OnOk result (self.new.edge.size ≤ self.old.edge.size + 1) }
+        ensures line { OnOk result (self.new.line ≡ self.old.line) }
+        ensures told { (lines : List (List ℕ)) (last : List ℕ) → IsTold self.old lines → vec_items self.old.line ≡ take 65536 last
+            → OnOk result (IsTold self.new (lines ++ last ∷ [])) }
+    {
+        if self.line.len() == MOST_KEPT {
+            self.too_long = Some(self.edge.size());
+            return Ok(());
+        }
+        self.edge.append(self.line.as_slice())?;
         Ok(())
     }
 
@@ -43,13 +62,11 @@ impl<A: Allocator + Copy> Growing<A> {
         ensures ended { OnOk result (vec_items self.new.line ≡ []) }
         ensures grows { (input : List ℕ) → IsGrowing self.old input → OnOk result (IsGrowing self.new (input ++ 10 ∷ [])) }
     {
-        if self.too_long.is_none() {
-            if self.line.len() == MOST_KEPT {
-                self.too_long = Some(self.edge.size());
-            } else {
-                self.edge.append(self.line.as_slice())?;
-            }
+        if self.too_long.is_some() {
+            self.line.clear();
+            return Ok(());
         }
+        self.log_line()?;
         self.line.clear();
         Ok(())
     }
@@ -70,15 +87,10 @@ impl<A: Allocator + Copy> Growing<A> {
         Ok(())
     }
 
-    /// The end of the input: a last line that isn't empty is one of its lines. Gives the right edge of the log of them, or the
-    /// place of the first that is too long.
-    pub(crate) fn finish(mut self) -> Result<Edge<Sha256Tree, A>, RunFault>
-        requires { self.edge.size < 2 ^ 32 - 1 }
-        ensures { (input : List ℕ) → IsGrowing self input → IsGrown input result }
+    // What is told of the lines.
+    fn outcome(self) -> Result<Edge<Sha256Tree, A>, RunFault>
+        ensures { (lines : List (List ℕ)) → IsTold self lines → IsOutcome lines result }
     {
-        if !self.line.is_empty() {
-            self.end_line()?;
-        }
         let Growing {
             edge,
             line: _,
@@ -88,5 +100,18 @@ impl<A: Allocator + Copy> Growing<A> {
             Some(place) => Err(RunFault::EntryTooLong(place)),
             None => Ok(edge),
         }
+    }
+
+    /// The end of the input: a last line that isn't empty is one of its lines. Gives the right edge of the log of them, or the
+    /// place of the first that is too long.
+    pub(crate) fn finish(mut self) -> Result<Edge<Sha256Tree, A>, RunFault>
+        requires { self.edge.size < 2 ^ 32 - 1 }
+        ensures { (input : List ℕ) → IsGrowing self input → IsOutcome (entries_of input) result }
+    {
+        if self.line.is_empty() {
+            return self.outcome();
+        }
+        self.end_line()?;
+        self.outcome()
     }
 }
