@@ -7,3 +7,4 @@ pub mod LineFields
 pub mod HashLines
 pub mod ProofTexts
 pub mod CountedLines
+pub mod GrowingLemmas

@@ -14,7 +14,7 @@ abbrev IsOther : ℕ → Type 0
 IsOther byte = byte ≢ 10
 
 -- a line is the first piece
-entries_of_line : (text rest : List ℕ) → HasNoNewline text → entries_of (line text ++ rest) ≡ text ∷ entries_of rest
+pub entries_of_line : (text rest : List ℕ) → HasNoNewline text → entries_of (line text ++ rest) ≡ text ∷ entries_of rest
 entries_of_line [] rest plain = step_newline 10 rest refl
 entries_of_line (b ∷ text) rest plain =
     step_other b (line text ++ rest) (All-head IsOther b text plain) ∙ ap (λ (es : List (List ℕ)). onto_first b es) (entries_of_line text rest (All-tail IsOther b text plain))

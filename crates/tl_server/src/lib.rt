@@ -7,6 +7,7 @@ mod demonstration;
 mod device;
 mod entries;
 mod fault;
+mod growing;
 mod lines;
 mod proof_text;
 mod stored;
