@@ -74,9 +74,11 @@ fn show_collision<T: TreeHash, A: Allocator + Copy, B: Allocator>(
 /// What one accepted consistency proof (RFC 6962, section 2.1.2) shows of two lists: that the old one is a prefix of the
 /// new one, or two different byte strings with one digest, both of which were hashed for the audit. `NotAccepted` comes
 /// where the proof isn't accepted from the old list's size and root to those of the new one, and `OutOfMemory` where
-/// memory for the two strings is refused. Nothing else takes memory. It hashes each list once for its root. Where the old
-/// list isn't a prefix, it hashes the new list once more beside the proof, and unless it finds the two strings there, each
-/// list once more up to the old size; no more than 64 calls stand at once.
+/// memory for the two strings is refused. Nothing else takes memory, and no entry is copied but into these strings.
+///
+/// It computes two digests for each entry of the two lists and one or two for each hash of the proof, and compares the
+/// entries. Where the old list isn't a prefix, it computes two more for each entry of the new list, and where it finds no
+/// collision beside the proof, four for each entry of the old one. No more than 64 calls stand at once.
 pub fn audit_tree<T: TreeHash, A: Allocator + Copy, B: Allocator>(
     alloc: A,
     h: T,
@@ -107,10 +109,12 @@ pub fn audit_tree<T: TreeHash, A: Allocator + Copy, B: Allocator>(
 /// between need not be those of any list. `NotAccepted` comes where a link isn't accepted from the one before it, the
 /// first from the old list's size and root, or where the last hasn't the new list's size and root; with no links the
 /// sizes and the roots must be the same. `OutOfMemory` comes where memory for the two strings is refused. Nothing else
-/// takes memory. It hashes each list once for its root, and one or two strings for each hash of the proofs. Where the old
-/// list isn't a prefix, it walks the links from the last back, and hashes the new list up to each link's size, until it
-/// finds the two strings; and unless it finds them at a link, it hashes each list once more up to the old size. No more
-/// than 64 calls stand at once.
+/// takes memory, and no entry is copied but into these strings.
+///
+/// It computes two digests for each entry of the two lists and one or two for each hash of the proofs, and compares the
+/// entries. Where the old list isn't a prefix, it walks the links from the last back until it finds a collision, each with
+/// two digests for each entry up to the link's size; this grows as the number of links times that of the entries. Where
+/// no link has one, four more follow for each entry of the old list. No more than 64 calls stand at once.
 pub fn audit_chain<T: TreeHash, A: Allocator + Copy, B: Allocator, C: Allocator>(
     alloc: A,
     h: T,
