@@ -3,11 +3,15 @@
 
 mod bundle;
 mod edge;
+mod fetched;
 mod filling;
 mod fold;
+mod known;
+mod known_root;
 mod law;
 mod listing;
 mod path;
+mod place;
 mod resource;
 mod tile;
 mod tile_law;
