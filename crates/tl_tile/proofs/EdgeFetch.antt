@@ -1,5 +1,5 @@
 -- Fetching the partial tiles, from the highest level down.
-use Rattle.std.proofs.Common.{◌≡◌, ℕ, ◌+◌, ◌*◌, ◌%◌, ◌<◌, inl, inr, List, [], ◌∷◌, ◌++◌, length, refl, sym, ap, subst, ◌∙◌, arith}
+use Rattle.std.proofs.Common.{◌≡◌, ℕ, suc, ◌*◌, ◌/◌, ◌^◌, ◌+◌, ◌%◌, ◌<◌, ◌≤◌, inl, inr, List, [], ◌∷◌, ◌++◌, length, refl, sym, ap, subst, ◌∙◌, arith}
 use Rattle.std.proofs.lemmas.Bool.{cases_eq}
 use Rattle.std.proofs.lemmas.List.Elements.{All-nil, All-push}
 use Rattle.tl_tile.specs.declared.resource.Tile.{Tile}
@@ -8,6 +8,10 @@ use Rattle.tl_tile.specs.Known.{KnownRoot}
 use Rattle.tl_tile.specs.KnownEdge.{IsEdgeLevel, HasEdge}
 use Rattle.tl_tile.specs.Fetched.{tiles_of}
 use Rattle.tl_tile.specs.Source.{AreLong, AreFetched, AreEdgeFetched}
+use Rattle.std.proofs.Math.Nat.{pow-succ'}
+use Rattle.std.proofs.Math.Pow.{pow_mono}
+use Rattle.std.proofs.lemmas.Nat.{div-mul-add}
+use Rattle.tl_tile.proofs.TileTexts.{pow_of_256}
 use Rattle.tl_tile.proofs.Push.{tiles_of-old, tiles_of-cases, there-more}
 
 pub edge-none : (may_answer : Tile → List ℕ → Type 0) (size : ℕ) (xs : List (Tile × List ℕ)) → xs ≡ [] → AreEdgeFetched may_answer size 8 xs
@@ -76,3 +80,12 @@ edge-all H may_answer size root known xs edge (strings, fold) same = record {
 
 pub edge-has : (may_answer : Tile → List ℕ → Type 0) (size : ℕ) (xs shown : List (Tile × List ℕ)) → shown ≡ xs → AreEdgeFetched may_answer size 0 xs → HasEdge (tiles_of shown) size
 edge-has may_answer size xs shown is edge = subst (λ (list : List (Tile × List ℕ)). HasEdge (tiles_of list) size) (sym is) (λ l low wide. edge.edge l (omega arith) low wide)
+
+-- no level above the highest partial tile has a hash
+pub none_above : (size j level : ℕ) → size < 2 * 2 ^ j → j / 8 < level → level_count size level % 256 ≡ 0
+none_above size j level small above =
+    let power : 256 ^ level ≡ 2 ^ (level * 8) = pow_of_256 level in
+    let most : 2 ^ suc j ≤ 2 ^ (level * 8) = pow_mono (omega (arith, above)) in
+    let less : size < 256 ^ level = omega (arith, small, pow-succ' 2 j, most, power) in
+    let sum : size ≡ 0 * 256 ^ level + size = omega arith in
+    ap (λ (x : ℕ). x % 256) (ap (λ (x : ℕ). x / 256 ^ level) sum ∙ div-mul-add 0 (256 ^ level) size less)

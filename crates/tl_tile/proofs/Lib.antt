@@ -23,3 +23,4 @@ pub mod Push
 pub mod EdgeFetch
 pub mod Reading
 pub mod HonestSource
+pub mod Numbers

@@ -1,13 +1,17 @@
 -- One fetched tile more.
-use Rattle.std.proofs.Common.{◌≡◌, ℕ, ◌+◌, ◌-◌, ◌*◌, ◌/◌, ◌%◌, ◌^◌, ◌<◌, ◌≤◌, ◌⊎◌, inl, inr, Bool, true, false, ◌&&◌, eqb, List, [], ◌∷◌, ◌++◌, length, Option, Some, None, refl, sym, ap, subst, ◌∙◌, arith}
+use Rattle.std.proofs.Common.{◌≡◌, ℕ, ◌+◌, ◌-◌, ◌*◌, ◌/◌, ◌%◌, ◌^◌, ◌<◌, ◌≤◌, ◌⊎◌, inl, inr, Bool, true, false, ◌&&◌, eqb, List, [], ◌∷◌, ◌++◌, length, map, Option, Some, None, refl, sym, ap, subst, ◌∙◌, arith}
 use Rattle.std.proofs.lemmas.Bool.{cases_Bool, cases_lt, and_parts, eqb-true, eq-eqb}
 use Rattle.std.proofs.lemmas.List.Elements.{All-push}
+use Rattle.std.specs.Prelude.{vec_items}
+use Rattle.std.specs.declared.vec.Vec.{Vec}
+use Rattle.std.proofs.lemmas.List.{map-append}
 use Rattle.tl_tile.specs.declared.resource.Tile.{Tile}
 use Rattle.tl_tile.specs.TileText.{level_count, full_tile, partial_tile, tile_with}
 use Rattle.tl_tile.specs.Known.{Tiles, IsFold, nothing, given, split, IsEdgeHash, IsInAbove}
 use Rattle.tl_tile.specs.KnownEdge.{HasEdge, Part}
-use Rattle.tl_tile.specs.Fetched.{same_tile, tiles_of}
-use Rattle.tl_tile.specs.Source.{AreFetched, HasTileWith, IsSameAsAbove, IsThere}
+use Rattle.tl_tile.specs.Fetched.{same_tile, tiles_of, texts_of}
+use Rattle.tl_tile.specs.Source.{AreAnswers, AreFetched, HasTileWith, IsSameAsAbove, IsThere}
+use Rattle.tl_tile.specs.SourceFaults.{Answers, IsBadFull}
 use Rattle.tl_tile.proofs.Edges.{Some-injective, under_within}
 use Rattle.tl_tile.proofs.Checked.{level_count-above, tile_with-full, tile_with-partial}
 
@@ -190,3 +194,41 @@ full-there tiles size level place is (text, found) = (text, ap tiles is ∙ foun
 
 pub grows-push : (xs ys : List (Tile × List ℕ)) (f : Tile × List ℕ) → ys ≡ xs ++ f ∷ [] → (t : Tile) (text : List ℕ) → tiles_of xs t ≡ Some text → tiles_of ys t ≡ Some text
 grows-push xs ys f pushed t text found = ap (λ (list : List (Tile × List ℕ)). tiles_of list t) pushed ∙ tiles_of-old xs f t text found
+
+-- the texts of one tile more
+pub texts-push : {A : Type 0} (xs ys : List (Tile × Vec ℕ A)) (tile : Tile) (text : Vec ℕ A) → ys ≡ xs ++ (tile, text) ∷ [] → texts_of ys ≡ texts_of xs ++ (tile, vec_items text) ∷ []
+texts-push {A = A} xs ys tile text pushed =
+    let view : Tile × Vec ℕ A → Tile × List ℕ = λ t. (t.0, vec_items t.1) in
+    ap (map view) pushed ∙ map-append view xs ((tile, text) ∷ [])
+
+-- a full tile whose hash is another than the tile above has
+bad_full-by : (H : List ℕ → List ℕ) (may_answer : Tile → List ℕ → Type 0) (size : ℕ) (xs : List (Tile × List ℕ)) (level index : ℕ) (text hash : List ℕ) (answer : Bool) → AreAnswers (Answers may_answer size) xs
+    → index < level_count size (level + 1) → IsSameAsAbove (tiles_of xs) size (level + 1) index hash answer → answer ≡ false
+    → Part H text 0 256 hash → Answers may_answer size (full_tile level index) text → IsBadFull H may_answer size (full_tile level index)
+bad_full-by H may_answer size xs level index text hash true answers below says fails part own = absurd (cc)
+bad_full-by H may_answer size xs level index text hash false answers below (above, other, found, told, differ) fails part own = record {
+  fetched = xs;
+  text = text;
+  above = above;
+  own = other;
+  hash = hash;
+  strings = part.0;
+  full = refl;
+  has_above = below;
+  answer = own;
+  answers = answers;
+  found = found;
+  told = told;
+  tells = part.1;
+  differ = differ;
+}
+
+pub bad_full : (H : List ℕ → List ℕ) (may_answer : Tile → List ℕ → Type 0) (size : ℕ) (shown xs : List (Tile × List ℕ)) (level index : ℕ) (tile : Tile) (text seen hash : List ℕ) (answer : Bool) → AreAnswers (Answers may_answer size) xs
+    → shown ≡ xs → seen ≡ text → tile ≡ full_tile level index → index < level_count size (level + 1) → IsSameAsAbove (tiles_of shown) size (level + 1) index hash answer → answer ≡ false
+    → Part H seen 0 256 hash → Answers may_answer size tile text → IsBadFull H may_answer size tile
+bad_full H may_answer size shown xs level index tile text seen hash answer answers shown_is seen_is tile_is below says fails part own =
+    subst (IsBadFull H may_answer size) (sym tile_is)
+    (bad_full-by H may_answer size xs level index text hash answer answers below
+    (subst (λ (list : List (Tile × List ℕ)). IsSameAsAbove (tiles_of list) size (level + 1) index hash answer) shown_is says) fails
+    (subst (λ (x : List ℕ). Part H x 0 256 hash) seen_is part)
+    (subst (λ (t : Tile). Answers may_answer size t text) tile_is own))

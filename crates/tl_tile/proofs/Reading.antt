@@ -1,5 +1,5 @@
 -- What is read from checked tiles.
-use Rattle.std.proofs.Common.{◌≡◌, ℕ, suc, ◌+◌, ◌*◌, ◌/◌, ◌%◌, ◌^◌, ◌<◌, ◌≤◌, ◌⊎◌, inl, inr, List, [], ◌∷◌, ◌++◌, length, map, take, get_or, All, Some, refl, sym, ap, subst, ◌∙◌, arith}
+use Rattle.std.proofs.Common.{◌≡◌, ℕ, ◌+◌, ◌*◌, ◌/◌, ◌%◌, ◌^◌, ◌<◌, ◌≤◌, ◌⊎◌, inl, inr, List, [], ◌∷◌, ◌++◌, length, map, take, get_or, Some, refl, sym, ap, subst, ◌∙◌, arith}
 use Rattle.std.specs.List.{AllZip}
 use Rattle.std.proofs.Math.Nat.{div-le_self}
 use Rattle.std.proofs.lemmas.Nat.{pow_pos, le-div}
@@ -7,13 +7,15 @@ use Rattle.std.proofs.lemmas.Bool.{cases_lt}
 use Rattle.std.proofs.lemmas.List.{take_more, take_all}
 use Rattle.tl_hash.specs.Tree.{tree_hash}
 use Rattle.tl_tile.proofs.Segments.{HasHashLength}
+use Rattle.tl_store.specs.Stored.{stored_hash}
+use Rattle.tl_tile.specs.SourceFaults.{Answers}
 use Rattle.tl_tile.specs.declared.resource.Tile.{Tile}
 use Rattle.tl_tile.specs.declared.place.Place.{Place}
 use Rattle.tl_tile.specs.TileText.{level_count, tile_with}
 use Rattle.tl_tile.specs.Known.{Tiles, AreChecked, Tells, TilesCollide}
 use Rattle.tl_tile.specs.KnownEdge.{Part}
 use Rattle.tl_tile.specs.Fetched.{tiles_of}
-use Rattle.tl_tile.specs.Source.{AreLong, AreFetched, Grows, IsPlaceIn, stored_at, TellsAll, AreAuthentic}
+use Rattle.tl_tile.specs.Source.{AreLong, AreFetched, Grows, IsPlaceIn, AreAnswers, TellsNumber, TellsAll, AreAuthentic}
 use Rattle.tl_tile.proofs.Edges.{positive_256}
 use Rattle.tl_tile.proofs.Checked.{tile_with-full, tile_with-partial, in_one_tile, power_in_256, height_of_8, checked_tiles_tell_stored_hashes}
 
@@ -60,36 +62,44 @@ tells-later : (H : List ℕ → List ℕ) (xs ys : List (Tile × List ℕ)) (siz
 tells-later H xs ys size level place hash grows told =
     record { text = told.text; strings = told.strings; fetched = grows (tile_with size (level / 8) (place * 2 ^ (level % 8))) told.text told.fetched; known = told.known }
 
-pub all-later : (H : List ℕ → List ℕ) (xs ys : List (Tile × List ℕ)) (size : ℕ) (places : List Place) (hashes : List (List ℕ)) → Grows xs ys → TellsAll H (tiles_of xs) size places hashes → TellsAll H (tiles_of ys) size places hashes
+number-later : (H : List ℕ → List ℕ) (xs ys : List (Tile × List ℕ)) (size index : ℕ) (hash : List ℕ) → Grows xs ys → TellsNumber H (tiles_of xs) size index hash → TellsNumber H (tiles_of ys) size index hash
+number-later H xs ys size index hash grows told =
+    record { place = told.place; within = told.within; number = told.number; tells = tells-later H xs ys size told.place.level told.place.place hash grows told.tells }
+
+pub all-later : (H : List ℕ → List ℕ) (xs ys : List (Tile × List ℕ)) (size : ℕ) (indexes : List ℕ) (hashes : List (List ℕ)) → Grows xs ys → TellsAll H (tiles_of xs) size indexes hashes → TellsAll H (tiles_of ys) size indexes hashes
 all-later H xs ys size [] [] grows told = tt
 all-later H xs ys size [] (h ∷ hashes) grows told = told
-all-later H xs ys size (p ∷ places) [] grows told = told
-all-later H xs ys size (p ∷ places) (h ∷ hashes) grows told = (tells-later H xs ys size p.level p.place h grows told.0, all-later H xs ys size places hashes grows told.1)
+all-later H xs ys size (n ∷ indexes) [] grows told = told
+all-later H xs ys size (n ∷ indexes) (h ∷ hashes) grows told = (number-later H xs ys size n h grows told.0, all-later H xs ys size indexes hashes grows told.1)
 
 -- all that is told is stored, or there is a collision
 all-stored : (H : List ℕ → List ℕ) → ((message : List ℕ) → HasHashLength (H message)) → (tiles : Tiles) (size : ℕ) (root : List ℕ) → AreChecked H tiles size root
     → (entries : List (List ℕ)) → length entries ≡ size → tree_hash H entries ≡ root
-    → (places : List Place) (hashes : List (List ℕ)) → All (IsPlaceIn size) places → TellsAll H tiles size places hashes
-    → (hashes ≡ map (stored_at H entries) places) ⊎ TilesCollide H tiles size entries
-all-stored H wide tiles size root checked entries len is_root [] [] places_in told = inl refl
-all-stored H wide tiles size root checked entries len is_root [] (h ∷ hashes) places_in told = absurd told
-all-stored H wide tiles size root checked entries len is_root (p ∷ places) [] places_in told = absurd told
-all-stored H wide tiles size root checked entries len is_root (p ∷ places) (h ∷ hashes) places_in told =
-    elim (checked_tiles_tell_stored_hashes H wide tiles size root checked p.level p.place h (places_in 0 p (omega arith)).1 told.0 entries len is_root)
-    as (λ _. (h ∷ hashes ≡ map (stored_at H entries) (p ∷ places)) ⊎ TilesCollide H tiles size entries) [
+    → (indexes : List ℕ) (hashes : List (List ℕ)) → TellsAll H tiles size indexes hashes
+    → (hashes ≡ map (stored_hash H entries) indexes) ⊎ TilesCollide H tiles size entries
+all-stored H wide tiles size root checked entries len is_root [] [] told = inl refl
+all-stored H wide tiles size root checked entries len is_root [] (h ∷ hashes) told = absurd told
+all-stored H wide tiles size root checked entries len is_root (n ∷ indexes) [] told = absurd told
+all-stored H wide tiles size root checked entries len is_root (n ∷ indexes) (h ∷ hashes) told =
+    elim (checked_tiles_tell_stored_hashes H wide tiles size root checked told.0.place.level told.0.place.place h told.0.within.1 told.0.tells entries len is_root)
+    as (λ _. (h ∷ hashes ≡ map (stored_hash H entries) (n ∷ indexes)) ⊎ TilesCollide H tiles size entries) [
       | inr found ↦ inr found
       | inl first ↦
-          elim (all-stored H wide tiles size root checked entries len is_root places hashes (λ k d less. places_in (suc k) d (omega (arith, less))) told.1)
-          as (λ _. (h ∷ hashes ≡ map (stored_at H entries) (p ∷ places)) ⊎ TilesCollide H tiles size entries) [
+          elim (all-stored H wide tiles size root checked entries len is_root indexes hashes told.1)
+          as (λ _. (h ∷ hashes ≡ map (stored_hash H entries) (n ∷ indexes)) ⊎ TilesCollide H tiles size entries) [
             | inr found ↦ inr found
-            | inl rest ↦ inl (λ i. first i ∷ rest i)
+            | inl rest ↦ (let own : h ≡ stored_hash H entries n = first ∙ ap (stored_hash H entries) told.0.number in inl (λ i. own i ∷ rest i))
           ]
     ]
 
-pub authentic : (H : List ℕ → List ℕ) → ((message : List ℕ) → HasHashLength (H message)) → (may_answer : Tile → List ℕ → Type 0) (size : ℕ) (root : List ℕ) (xs : List (Tile × List ℕ)) → AreFetched H may_answer size root xs
-    → (places : List Place) (hashes : List (List ℕ)) → All (IsPlaceIn size) places → TellsAll H (tiles_of xs) size places hashes → AreAuthentic H may_answer size root places hashes
-authentic H wide may_answer size root xs fetched places hashes places_in told =
-    (xs, fetched.answers, λ entries len is_root. all-stored H wide (tiles_of xs) size root fetched.checked entries len is_root places hashes places_in told)
+-- fewer answers are allowed
+pub answers-of : (may_answer : Tile → List ℕ → Type 0) (size : ℕ) (xs : List (Tile × List ℕ)) → AreAnswers (Answers may_answer size) xs → AreAnswers may_answer xs
+answers-of may_answer size xs answers = λ k d less. (answers k d less).1
+
+pub authentic : (H : List ℕ → List ℕ) → ((message : List ℕ) → HasHashLength (H message)) → (may_answer : Tile → List ℕ → Type 0) (size : ℕ) (root : List ℕ) (xs : List (Tile × List ℕ)) → AreFetched H (Answers may_answer size) size root xs
+    → (indexes : List ℕ) (hashes : List (List ℕ)) → TellsAll H (tiles_of xs) size indexes hashes → AreAuthentic H may_answer size root indexes hashes
+authentic H wide may_answer size root xs fetched indexes hashes told =
+    (xs, answers-of may_answer size xs fetched.answers, λ entries len is_root. all-stored H wide (tiles_of xs) size root fetched.checked entries len is_root indexes hashes told)
 
 -- in the words of the code, which has the first hash's place and their number
 pub part_inside : (tiles : Tiles) (size : ℕ) (p : Place) (first count : ℕ) (tile : Tile) (text : List ℕ) → first ≡ first_of p → count ≡ count_of p → IsPlaceIn size p → AreLong tiles → tile ≡ tile_with size (p.level / 8) first → tiles tile ≡ Some text
@@ -111,24 +121,24 @@ first_below size p count count_is is =
 pub first_small : (size : ℕ) (p : Place) (count : ℕ) → count ≡ count_of p → IsPlaceIn size p → size ≤ 2 ^ 62 → p.place * count < 2 ^ 64
 first_small size p count count_is is small = omega (arith, first_below size p count count_is is, div-le_self size (256 ^ (p.level / 8)), small)
 
-zip-push : (R : Place → List ℕ → Type 0) (ps : List Place) (hs : List (List ℕ)) (p : Place) (h : List ℕ) → AllZip R ps hs → R p h → AllZip R (ps ++ p ∷ []) (hs ++ h ∷ [])
+zip-push : (R : ℕ → List ℕ → Type 0) (ps : List ℕ) (hs : List (List ℕ)) (p : ℕ) (h : List ℕ) → AllZip R ps hs → R p h → AllZip R (ps ++ p ∷ []) (hs ++ h ∷ [])
 zip-push R [] [] p h all here = (here, tt)
 zip-push R [] (g ∷ hs) p h all here = absurd all
 zip-push R (q ∷ ps) [] p h all here = absurd all
 zip-push R (q ∷ ps) (g ∷ hs) p h all here = (all.0, zip-push R ps hs p h all.1 here)
 
--- one subtree more
-pub told-more : (H : List ℕ → List ℕ) (xs ys : List (Tile × List ℕ)) (size i : ℕ) (places : List Place) (d : Place) (hashes after : List (List ℕ)) (hash : List ℕ) → i < length places
-    → Grows xs ys → TellsAll H (tiles_of xs) size (take i places) hashes → Tells H (tiles_of ys) size (get_or places i d).level (get_or places i d).place hash → after ≡ hashes ++ hash ∷ []
-    → TellsAll H (tiles_of ys) size (take (i + 1) places) after
-told-more H xs ys size i places d hashes after hash within grows told here pushed =
-    let R : Place → List ℕ → Type 0 = λ x h. Tells H (tiles_of ys) size x.level x.place h in
-    let p : Place = get_or places i d in
-    let all : AllZip R (take i places ++ p ∷ []) (hashes ++ hash ∷ []) = zip-push R (take i places) hashes p hash (all-later H xs ys size (take i places) hashes grows told) here in
-    subst (λ (list : List Place). AllZip R list after) (sym (take_more places i d within)) (subst (λ (list : List (List ℕ)). AllZip R (take i places ++ p ∷ []) list) (sym pushed) all)
+-- one number more
+pub told-more : (H : List ℕ → List ℕ) (xs ys : List (Tile × List ℕ)) (size i : ℕ) (indexes : List ℕ) (d : ℕ) (hashes after : List (List ℕ)) (hash : List ℕ) → i < length indexes
+    → Grows xs ys → TellsAll H (tiles_of xs) size (take i indexes) hashes → TellsNumber H (tiles_of ys) size (get_or indexes i d) hash → after ≡ hashes ++ hash ∷ []
+    → TellsAll H (tiles_of ys) size (take (i + 1) indexes) after
+told-more H xs ys size i indexes d hashes after hash within grows told here pushed =
+    let R : ℕ → List ℕ → Type 0 = λ x h. TellsNumber H (tiles_of ys) size x h in
+    let n : ℕ = get_or indexes i d in
+    let all : AllZip R (take i indexes ++ n ∷ []) (hashes ++ hash ∷ []) = zip-push R (take i indexes) hashes n hash (all-later H xs ys size (take i indexes) hashes grows told) here in
+    subst (λ (list : List ℕ). AllZip R list after) (sym (take_more indexes i d within)) (subst (λ (list : List (List ℕ)). AllZip R (take i indexes ++ n ∷ []) list) (sym pushed) all)
 
-pub authentic-all : (H : List ℕ → List ℕ) → ((message : List ℕ) → HasHashLength (H message)) → (may_answer : Tile → List ℕ → Type 0) (size : ℕ) (root : List ℕ) (xs : List (Tile × List ℕ)) → AreFetched H may_answer size root xs
-    → (places : List Place) (i : ℕ) (hashes : List (List ℕ)) → length places ≤ i → All (IsPlaceIn size) places → TellsAll H (tiles_of xs) size (take i places) hashes → AreAuthentic H may_answer size root places hashes
-authentic-all H wide may_answer size root xs fetched places i hashes over places_in told =
-    authentic H wide may_answer size root xs fetched places hashes places_in
-    (subst (λ (list : List Place). TellsAll H (tiles_of xs) size list hashes) (take_all i places over) told)
+pub authentic-all : (H : List ℕ → List ℕ) → ((message : List ℕ) → HasHashLength (H message)) → (may_answer : Tile → List ℕ → Type 0) (size : ℕ) (root : List ℕ) (xs : List (Tile × List ℕ)) → AreFetched H (Answers may_answer size) size root xs
+    → (indexes : List ℕ) (i : ℕ) (hashes : List (List ℕ)) → length indexes ≤ i → TellsAll H (tiles_of xs) size (take i indexes) hashes → AreAuthentic H may_answer size root indexes hashes
+authentic-all H wide may_answer size root xs fetched indexes i hashes over told =
+    authentic H wide may_answer size root xs fetched indexes hashes
+    (subst (λ (list : List ℕ). TellsAll H (tiles_of xs) size list hashes) (take_all i indexes over) told)

@@ -2,8 +2,6 @@
 use Rattle.std.specs.Prelude.{◌≡◌, ◌≢◌, ℕ, ◌+◌, ◌*◌, ◌/◌, ◌%◌, ◌^◌, ◌<◌, ◌≤◌, Bool, true, false, List, All, map, length, Some, ◌⊎◌}
 use Rattle.std.specs.List.{AllZip}
 use Rattle.tl_hash.specs.Tree.{tree_hash}
-use Rattle.tl_store.specs.declared.reader.ReadFault.{ReadFault}
-use Rattle.tl_store.specs.declared.reader.ReadFault.TheVariants.{OutOfRange, Source, OutOfMemory, BadTile}
 use Rattle.tl_store.specs.Stored.{stored_index, stored_hash}
 use Rattle.tl_tile.specs.declared.resource.Tile.{Tile}
 use Rattle.tl_tile.specs.declared.place.Place.{Place}
@@ -32,15 +30,6 @@ pub record AreFetched (H : List ℕ → List ℕ) (may_answer : Tile → List �
 abbrev pub HasTileWith : Tiles → ℕ → ℕ → ℕ → Type 0
 HasTileWith tiles size level place = (text : List ℕ) × (tiles (tile_with size level place) ≡ Some text)
 
--- what a fault of one fetch says: the source may lack the tile, or its text has another length
-abbrev pub GivesFetchFault : (Tile → List ℕ → Type 0) → (Tile → Type 0) → Tile → ReadFault → Type 0
-GivesFetchFault may_answer may_lack t OutOfRange = ⊥
-GivesFetchFault may_answer may_lack t Source = may_lack t
-GivesFetchFault may_answer may_lack t OutOfMemory = Unit {0}
-GivesFetchFault may_answer may_lack t (BadTile level index width) =
-    (t ≡ record { level = level; index = index; width = width })
-    × (text : List ℕ) × may_answer t text × (length text ≢ 32 * t.width)
-
 -- whether a hash is the one that the tile with this place has there
 abbrev pub IsSameAsAbove : Tiles → ℕ → ℕ → ℕ → List ℕ → Bool → Type 0
 IsSameAsAbove tiles size level place hash true =
@@ -68,19 +57,22 @@ Grows fetched after = (t : Tile) (text : List ℕ) → tiles_of fetched t ≡ So
 abbrev pub IsPlaceIn : ℕ → Place → Type 0
 IsPlaceIn size p = (p.level ≤ 62) × ((p.place + 1) * 2 ^ p.level ≤ size)
 
--- the stored hash of a complete subtree
-abbrev pub stored_at : (List ℕ → List ℕ) → List (List ℕ) → Place → List ℕ
-stored_at H entries p = stored_hash H entries (stored_index p.level p.place)
+-- the tiles tell this hash of the subtree with this number among the stored hashes
+pub record TellsNumber (H : List ℕ → List ℕ) (tiles : Tiles) (size index : ℕ) (hash : List ℕ) : Type 0 where
+  pub place : Place
+  pub within : IsPlaceIn size place
+  pub number : stored_index place.level place.place ≡ index
+  pub tells : Tells H tiles size place.level place.place hash
 
--- the hashes that the tiles tell of these subtrees
-abbrev pub TellsAll : (List ℕ → List ℕ) → Tiles → ℕ → List Place → List (List ℕ) → Type 0
-TellsAll H tiles size places hashes = AllZip (λ p hash. Tells H tiles size p.level p.place hash) places hashes
+-- the hashes that the tiles tell of the subtrees with these numbers
+abbrev pub TellsAll : (List ℕ → List ℕ) → Tiles → ℕ → List ℕ → List (List ℕ) → Type 0
+TellsAll H tiles size indexes hashes = AllZip (λ index hash. TellsNumber H tiles size index hash) indexes hashes
 
 -- authenticated hashes: there are tiles, with texts that the source may answer, such that for each list of
 -- entries of this size and root the hashes are its stored hashes, or one of its inputs and a string that
 -- was hashed for the tiles collide
-abbrev pub AreAuthentic : (List ℕ → List ℕ) → (Tile → List ℕ → Type 0) → ℕ → List ℕ → List Place → List (List ℕ) → Type 0
-AreAuthentic H may_answer size root places hashes =
+abbrev pub AreAuthentic : (List ℕ → List ℕ) → (Tile → List ℕ → Type 0) → ℕ → List ℕ → List ℕ → List (List ℕ) → Type 0
+AreAuthentic H may_answer size root indexes hashes =
     (fetched : List (Tile × List ℕ)) × AreAnswers may_answer fetched
     × ((entries : List (List ℕ)) → length entries ≡ size → tree_hash H entries ≡ root
-    → (hashes ≡ map (stored_at H entries) places) ⊎ TilesCollide H (tiles_of fetched) size entries)
+    → (hashes ≡ map (stored_hash H entries) indexes) ⊎ TilesCollide H (tiles_of fetched) size entries)

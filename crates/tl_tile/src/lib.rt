@@ -2,6 +2,7 @@
 #![tactic(auto)]
 
 mod bundle;
+mod checker;
 mod edge;
 mod fetched;
 mod filling;
@@ -13,6 +14,8 @@ mod listing;
 mod path;
 mod place;
 mod resource;
+mod source;
+mod telling;
 mod tile;
 mod tile_law;
 
@@ -22,5 +25,6 @@ pub use law::{bundle_has_one_reading, filled_tiles_are_new};
 pub use listing::needed;
 pub use path::{parse_path, path_of};
 pub use resource::{Resource, Tile};
+pub use source::{SourceFault, TileSource};
 pub use tile::tile_bytes;
 pub use tile_law::{checked_tiles_law, honest_tiles_law, known_hashes_law};
