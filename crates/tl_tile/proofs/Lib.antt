@@ -24,3 +24,4 @@ pub mod EdgeFetch
 pub mod Reading
 pub mod HonestSource
 pub mod Numbers
+pub mod Readers

@@ -14,3 +14,4 @@ pub mod TileLaws
 pub mod Fetched
 pub mod Source
 pub mod SourceFaults
+pub mod TileReader
