@@ -17,3 +17,11 @@ pub mod Subtrees
 pub mod Edges
 pub mod Checked
 pub mod Honest
+pub mod Parts
+pub mod EdgeFolds
+pub mod Push
+pub mod EdgeFetch
+pub mod Reading
+pub mod HonestSource
+pub mod Numbers
+pub mod Readers

@@ -11,3 +11,7 @@ pub mod Law
 pub mod Known
 pub mod KnownEdge
 pub mod TileLaws
+pub mod Fetched
+pub mod Source
+pub mod SourceFaults
+pub mod TileReader

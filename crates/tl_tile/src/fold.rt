@@ -9,7 +9,7 @@ ghost use Rattle.tl_tile.specs.RightEdge.{partial_hashes};
 use tl_hash::{Hash, TreeHash, node_hash};
 
 // Where a tree over so many subtrees splits: the largest power of two below their number.
-fn split_of(count: usize) -> usize
+pub(crate) fn split_of(count: usize) -> usize
     requires { 1 < count }
     ensures { IsSplit result count }
 {

@@ -1,0 +1,8 @@
+use Rattle.std.proofs.Common.{ap, arith}
+use Rattle.tl_tile.specs.declared.resource.Tile.{Tile}
+use Rattle.tl_tile.proofs.EdgeFetch.{none_above}
+use Rattle.tl_tile.proofs.checker.highest_tile.Goals as goal
+
+pub returns-clause-highest : goal.returns-clause-highest
+returns-clause-highest c level above =
+    none_above c.args.size c.ilog2.result level c.ilog2.ensures.next_power_gt (omega (arith, above, ap (λ (t : Tile). t.level) c.partial_tile.ensures))

@@ -1,0 +1,17 @@
+-- Tiles that were fetched, in the order of their fetching.
+use Rattle.std.specs.Prelude.{ℕ, Bool, List, [], ◌∷◌, map, vec_items, Some, None, ◌&&◌, ◌==◌, if◌then◌else◌}
+use Rattle.std.specs.declared.vec.Vec.{Vec}
+use Rattle.tl_tile.specs.declared.resource.Tile.{Tile}
+use Rattle.tl_tile.specs.Known.{Tiles}
+
+abbrev pub same_tile : Tile → Tile → Bool
+same_tile a b = a.level == b.level && a.index == b.index && a.width == b.width
+
+-- the texts by their tiles
+abbrev pub tiles_of : List (Tile × List ℕ) → Tiles
+tiles_of [] t = None
+tiles_of (f ∷ more) t = if same_tile f.0 t then Some f.1 else tiles_of more t
+
+-- tiles with their texts
+abbrev pub texts_of : {A : Type 0} → List (Tile × Vec ℕ A) → List (Tile × List ℕ)
+texts_of tiles = map (λ t. (t.0, vec_items t.1)) tiles

@@ -1,0 +1,69 @@
+//! Sources of tiles.
+
+ghost use Rattle.std.specs.Prelude.{◌≡◌, ℕ, List, IfOk, IfErr};
+ghost use Rattle.tl_store.specs.declared.reader.ReadFault.TheVariants.{BadTile};
+
+use crate::resource::Tile;
+use std::alloc::{AllocError, AllocFailed, Allocator};
+use thiserror::Error;
+use tl_store::ReadFault;
+
+/// Why a tile could not be fetched.
+#[derive(Clone, Copy, Debug, PartialEq, Eq, Error)]
+pub enum SourceFault {
+    /// The source has not got the tile.
+    #[error("the tile is unavailable")]
+    Unavailable,
+    /// Memory ran out.
+    #[error("out of memory")]
+    OutOfMemory,
+}
+
+impl From<AllocError> for SourceFault {
+    ghost use Rattle.tl_tile.specs.declared.source.SourceFault.TheVariants.{OutOfMemory};
+
+    ghost from_gives = { λ _ fault. fault ≡ OutOfMemory };
+
+    fn from(_error: AllocError) -> SourceFault {
+        SourceFault::OutOfMemory
+    }
+}
+
+impl<X: Drop> From<AllocFailed<X>> for SourceFault {
+    ghost use Rattle.tl_tile.specs.declared.source.SourceFault.TheVariants.{OutOfMemory};
+
+    ghost from_gives = { λ _ fault. fault ≡ OutOfMemory };
+
+    fn from(_error: AllocFailed<X>) -> SourceFault {
+        SourceFault::OutOfMemory
+    }
+}
+
+/// Fetches tiles of a log (C2SP tlog-tiles, "Merkle Tree"). Nothing is known of the bytes but what the source says that
+/// it may answer: it may lie.
+pub trait TileSource {
+    ghost use Rattle.tl_tile.specs.declared.resource.Tile.{Tile};
+    ghost use Rattle.tl_tile.specs.declared.source.SourceFault.TheVariants.{Unavailable};
+
+    /// Which bytes it may answer for a tile.
+    ghost may_answer: { Self → Tile → List ℕ → Type 0 };
+
+    /// Which tiles it may not have.
+    ghost may_lack: { Self → Tile → Type 0 };
+
+    /// The bytes of a tile. `Unavailable` where the source has not got it.
+    fn fetch<A: Allocator + Copy>(&self, alloc: A, tile: Tile) -> Result<Vec<u8, A>, SourceFault>
+        ensures text { IfOk result (λ text. may_answer self.now tile text.items) }
+        ensures lacks { IfErr result (λ fault. fault ≡ Unavailable → may_lack self.now tile) };
+}
+
+// This tile is not the one that the root was made with.
+pub(crate) fn bad_tile(tile: Tile) -> ReadFault
+    ensures { result ≡ BadTile tile.level tile.index tile.width }
+{
+    ReadFault::BadTile {
+        level: tile.level,
+        index: tile.index,
+        width: tile.width,
+    }
+}

@@ -1,0 +1,105 @@
+//! Stored hashes from tiles that are checked against a root.
+
+ghost use Rattle.std.specs.Prelude.{◌≡◌, ◌≤◌, ◌<◌, ℕ, List, length, map, All, Any, MatchBool, IfOk, IfErr, OnOk, true};
+ghost use Rattle.tl_store.specs.Stored.{stored_hash};
+ghost use Rattle.tl_store.specs.Reader.{readable_count, AreReadable, GivesFault};
+ghost use Rattle.tl_tile.specs.Source.{AreAuthentic};
+ghost use Rattle.tl_tile.specs.TileReader.{StandsAgainst, GivesNumbersFault};
+
+use crate::checker::Checker;
+use crate::source::TileSource;
+use std::alloc::Allocator;
+use std::marker::Model;
+use tl_hash::{Hash, TreeHash};
+use tl_store::{HashReader, ReadFault, stored_count};
+
+/// Reads stored hashes from a source of tiles that may lie, and checks each tile against a size and a root (C2SP
+/// tlog-tiles, "Merkle Tree"). Contracts see the source, the size and the root.
+#[derive(Drop)]
+pub struct TileHashReader<T: TreeHash, S: TileSource, A: Allocator> {
+    alloc: A,
+    checker: Checker<T, S>,
+}
+
+impl<T: TreeHash, S: TileSource, A: Allocator> Model for TileHashReader<T, S, A> {
+    ghost use Rattle.tl_tile.specs.TileReader.{Against};
+
+    ghost Value = { Against S };
+
+    ghost view = { λ r. record { source = r.checker.source; size = r.checker.size; root = r.checker.root } };
+}
+
+impl<T: TreeHash, S: TileSource, A: Allocator> TileHashReader<T, S, A> {
+    /// A reader of the stored hashes of a log of this size and root, over this source. A read keeps the tiles that it
+    /// fetches in memory from `alloc` as long as it lasts.
+    pub fn new(alloc: A, h: T, size: u64, root: Hash, source: S) -> TileHashReader<T, S, A>
+        ensures { result ≡ record { source = source; size = size; root = root } }
+    {
+        TileHashReader {
+            alloc,
+            checker: Checker {
+                h,
+                size,
+                root,
+                source,
+            },
+        }
+    }
+}
+
+// The number of hashes that a reader of this size has.
+fn count_of(size: u64) -> u64
+    ensures { result ≡ readable_count size }
+{
+    if size <= 1 << 62 {
+        stored_count(size)
+    } else {
+        0
+    }
+}
+
+// Whether each number is below the count.
+fn are_below(indexes: &[u64], count: u64) -> bool
+    ensures { MatchBool result
+        (All (λ index. index < count) indexes.now)
+        (Any (λ index. count ≤ index) indexes.now) }
+{
+    indexes.iter().all(|index| *index < count)
+}
+
+impl<T: TreeHash, S: TileSource, A: Allocator + Copy> HashReader for TileHashReader<T, S, A> {
+    ghost size = { λ r. r.size };
+
+    ghost stands_for = { λ r H entries. StandsAgainst T.digest_of (S.may_answer r.source) r.size r.root H entries };
+
+    ghost may_fail = { λ r. true };
+
+    /// The stored hashes with these numbers. First all numbers are checked; with none nothing is fetched. Then the partial
+    /// tiles of the size are fetched, from the highest level down, and have to give the root; then for each number the full
+    /// tiles that it needs, from the top down, each of which has to give the hash that the tile above has for it. No tile
+    /// is fetched twice. `BadTile` names the highest partial tile where they don't give the root, and otherwise the tile
+    /// that has another length than its width says or another hash than the tile above.
+    fn read<B: Allocator>(&self, alloc: B, indexes: &[u64]) -> Result<Vec<Hash, B>, ReadFault>
+        ensures hashes { (H : List ℕ → List ℕ) (entries : List (List ℕ))
+            → StandsAgainst T.digest_of (S.may_answer self.now.source) self.now.size self.now.root H entries
+            → IfOk result (λ hashes. hashes.items ≡ map (stored_hash H entries) indexes.now) }
+        ensures count { IfOk result (λ hashes. length hashes.items ≡ length indexes.now) }
+        ensures in_range { OnOk result (AreReadable self.now.size indexes.now) }
+        ensures faults { IfErr result (GivesFault self.now.size true indexes.now) }
+        ensures authentic { IfOk result (λ hashes. AreAuthentic T.digest_of (S.may_answer self.now.source) self.now.size self.now.root indexes.now hashes.items) }
+        ensures source { IfErr result (GivesNumbersFault T.digest_of (S.may_answer self.now.source) (S.may_lack self.now.source) self.now.size self.now.root indexes.now) }
+    {
+        if !are_below(indexes, count_of(self.checker.size)) {
+            return Err(ReadFault::OutOfRange);
+        }
+        if indexes.is_empty() {
+            return Ok(Vec::new(alloc));
+        }
+        match self.checker.read_numbers(self.alloc, alloc, indexes) {
+            Ok(hashes) => Ok(hashes),
+            Err(fault) => Err(fault),
+        }
+    }
+
+    ghost stands_size = { λ reader H entries stands. (stands.0, stands.1) };
+}
