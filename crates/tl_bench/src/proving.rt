@@ -44,10 +44,13 @@ struct Made {
     proof: Vec<Hash>,
 }
 
-// The store of so many entries, each of which is its place.
+// The store of so many entries, each of which is its place; none of more than 1,000,000.
 fn store_of(alloc: Global, size: u64) -> Option<Store> {
     let mut store = HashStore::new(alloc, Sha256Tree);
-    for place in 0..size.min(1_000_000) {
+    for place in 0..size {
+        if store.size() >= 1_000_000 {
+            return None;
+        }
         store.append(&place.to_be_bytes()).ok()?;
     }
     Some(store)
@@ -82,7 +85,7 @@ fn consistency_proofs(alloc: Global, store: &Store) -> Option<Vec<Made>> {
     let hash = Hash::from_bytes([0; 32]);
     let mut made = Vec::new(alloc);
     for number in 0..PROOFS {
-        let old = place_of(number, size) + 1;
+        let old = place_of(number, size).max(1);
         let proof = prove_tree(alloc, Sha256Tree, size, old, store).ok()?;
         made.push(Made {
             number: old,
@@ -229,7 +232,7 @@ fn consistency<R: Clock + Print>(
 }
 
 /// Prints how many proofs a second are made over a store of so many entries, at most 1,000,000, and checked, with the digests that the
-/// checks took. False where memory was refused.
+/// checks took. False where memory was refused, or the entries are more.
 pub fn proofs<R: Clock + Print>(rt: &R, alloc: Global, size: u64) -> io::Result<bool> {
     let Some(store) = store_of(alloc, size) else {
         return Ok(false);
