@@ -12,7 +12,8 @@ use Rattle.tl_tile.specs.TileText.{entries_under, tile_text, full_tile}
 use Rattle.tl_tile.specs.Fetched.{same_tile, tiles_of}
 use Rattle.tl_tile.specs.Source.{AreAnswers}
 use Rattle.tl_tile.specs.TileLaws.{AreHonest}
-use Rattle.tl_tile.specs.SourceFaults.{IsTileOf, Answers, HonestSourceIsRead}
+use Rattle.tl_tile.specs.SourceFaults.{HonestSourceIsRead}
+use Rattle.tl_tile.specs.Source.{IsTileOf, Answers}
 use Rattle.tl_tile.proofs.Edges.{Some-injective}
 use Rattle.tl_tile.proofs.Push.{same_tile-is}
 use Rattle.tl_tile.proofs.Honest.{honest_tiles_tell_root, text_tells_above}

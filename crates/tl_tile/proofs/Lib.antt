@@ -25,3 +25,4 @@ pub mod Reading
 pub mod HonestSource
 pub mod Numbers
 pub mod Readers
+pub mod HonestHashes

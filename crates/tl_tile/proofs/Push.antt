@@ -11,7 +11,8 @@ use Rattle.tl_tile.specs.Known.{Tiles, IsFold, nothing, given, split, IsEdgeHash
 use Rattle.tl_tile.specs.KnownEdge.{HasEdge, Part}
 use Rattle.tl_tile.specs.Fetched.{same_tile, tiles_of, texts_of}
 use Rattle.tl_tile.specs.Source.{AreAnswers, AreFetched, HasTileWith, IsSameAsAbove, IsThere}
-use Rattle.tl_tile.specs.SourceFaults.{Answers, IsBadFull}
+use Rattle.tl_tile.specs.SourceFaults.{IsBadFull}
+use Rattle.tl_tile.specs.Source.{Answers}
 use Rattle.tl_tile.proofs.Edges.{Some-injective, under_within}
 use Rattle.tl_tile.proofs.Checked.{level_count-above, tile_with-full, tile_with-partial}
 

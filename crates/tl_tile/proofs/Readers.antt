@@ -47,7 +47,7 @@ all_stored size indexes small readable = λ k d less. omega (arith, readable k d
 -- authentic hashes are those of each list that the reader stands for
 pub authentic_stands : (own : List ℕ → List ℕ) (may_answer : Tile → List ℕ → Type 0) (size : ℕ) (root : List ℕ) (indexes : List ℕ) (hashes : List (List ℕ)) → AreAuthentic own may_answer size root indexes hashes
     → (H : List ℕ → List ℕ) (entries : List (List ℕ)) → StandsAgainst own may_answer size root H entries → hashes ≡ map (stored_hash H entries) indexes
-authentic_stands own may_answer size root indexes hashes (fetched, answers, told) H entries (sized, small, same, is_root, apart) =
+authentic_stands own may_answer size root indexes hashes (fetched, answers, told, honest) H entries (sized, small, same, is_root, apart) =
     elim (told entries sized (ap (λ (G : List ℕ → List ℕ). tree_hash G entries) (sym same) ∙ is_root)) as (λ _. hashes ≡ map (stored_hash H entries) indexes) [
       | inl stored ↦ stored ∙ ap (λ (G : List ℕ → List ℕ). map (stored_hash G entries) indexes) (sym same)
       | inr collide ↦ absurd (apart fetched answers (subst (λ (G : List ℕ → List ℕ). TilesCollide G (tiles_of fetched) size entries) (sym same) collide))
@@ -55,7 +55,7 @@ authentic_stands own may_answer size root indexes hashes (fetched, answers, told
 
 -- no hashes are those of no numbers
 pub authentic_none : (own : List ℕ → List ℕ) (may_answer : Tile → List ℕ → Type 0) (size : ℕ) (root : List ℕ) (indexes : List ℕ) (hashes : List (List ℕ)) → length indexes ≡ 0 → hashes ≡ [] → AreAuthentic own may_answer size root indexes hashes
-authentic_none own may_answer size root [] hashes none is = ([], (λ k d less. absurd (omega (arith, less))), λ entries sized is_root. inl is)
+authentic_none own may_answer size root [] hashes none is = ([], (λ k d less. absurd (omega (arith, less))), (λ entries sized is_root. inl is), (λ entries sized honest. is))
 authentic_none own may_answer size root (index ∷ indexes) hashes none is = absurd (omega (arith, none))
 
 -- the faults of a read whose numbers are all in range

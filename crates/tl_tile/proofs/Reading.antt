@@ -8,14 +8,16 @@ use Rattle.std.proofs.lemmas.List.{take_more, take_all}
 use Rattle.tl_hash.specs.Tree.{tree_hash}
 use Rattle.tl_tile.proofs.Segments.{HasHashLength}
 use Rattle.tl_store.specs.Stored.{stored_hash}
-use Rattle.tl_tile.specs.SourceFaults.{Answers}
+use Rattle.tl_tile.specs.Source.{Answers}
 use Rattle.tl_tile.specs.declared.resource.Tile.{Tile}
 use Rattle.tl_tile.specs.declared.place.Place.{Place}
 use Rattle.tl_tile.specs.TileText.{level_count, tile_with}
 use Rattle.tl_tile.specs.Known.{Tiles, AreChecked, Tells, TilesCollide}
 use Rattle.tl_tile.specs.KnownEdge.{Part}
 use Rattle.tl_tile.specs.Fetched.{tiles_of}
-use Rattle.tl_tile.specs.Source.{AreLong, AreFetched, Grows, IsPlaceIn, AreAnswers, TellsNumber, TellsAll, AreAuthentic}
+use Rattle.tl_tile.specs.Source.{AreLong, AreFetched, Grows, IsPlaceIn, TellsNumber, TellsAll, AreAuthentic}
+use Rattle.tl_tile.specs.TileLaws.{AreHonest}
+use Rattle.tl_tile.proofs.HonestHashes.{honest_tiles_tell_stored_hashes}
 use Rattle.tl_tile.proofs.Edges.{positive_256}
 use Rattle.tl_tile.proofs.Checked.{tile_with-full, tile_with-partial, in_one_tile, power_in_256, height_of_8, checked_tiles_tell_stored_hashes}
 
@@ -92,14 +94,26 @@ all-stored H wide tiles size root checked entries len is_root (n ∷ indexes) (h
           ]
     ]
 
--- fewer answers are allowed
-pub answers-of : (may_answer : Tile → List ℕ → Type 0) (size : ℕ) (xs : List (Tile × List ℕ)) → AreAnswers (Answers may_answer size) xs → AreAnswers may_answer xs
-answers-of may_answer size xs answers = λ k d less. (answers k d less).1
+-- where the tiles are honest, all that is told is stored
+all-honest : (H : List ℕ → List ℕ) → ((message : List ℕ) → HasHashLength (H message)) → (tiles : Tiles) (entries : List (List ℕ)) → AreHonest H tiles entries
+    → (indexes : List ℕ) (hashes : List (List ℕ)) → TellsAll H tiles (length entries) indexes hashes → hashes ≡ map (stored_hash H entries) indexes
+all-honest H wide tiles entries honest [] [] told = refl
+all-honest H wide tiles entries honest [] (h ∷ hashes) told = absurd told
+all-honest H wide tiles entries honest (n ∷ indexes) [] told = absurd told
+all-honest H wide tiles entries honest (n ∷ indexes) (h ∷ hashes) told =
+    let first : h ≡ stored_hash H entries n =
+    honest_tiles_tell_stored_hashes H wide tiles entries honest told.0.place.level told.0.place.place h told.0.within.1 told.0.tells ∙ ap (stored_hash H entries) told.0.number in
+    let rest = all-honest H wide tiles entries honest indexes hashes told.1 in
+    λ i. first i ∷ rest i
 
 pub authentic : (H : List ℕ → List ℕ) → ((message : List ℕ) → HasHashLength (H message)) → (may_answer : Tile → List ℕ → Type 0) (size : ℕ) (root : List ℕ) (xs : List (Tile × List ℕ)) → AreFetched H (Answers may_answer size) size root xs
     → (indexes : List ℕ) (hashes : List (List ℕ)) → TellsAll H (tiles_of xs) size indexes hashes → AreAuthentic H may_answer size root indexes hashes
-authentic H wide may_answer size root xs fetched indexes hashes told =
-    (xs, answers-of may_answer size xs fetched.answers, λ entries len is_root. all-stored H wide (tiles_of xs) size root fetched.checked entries len is_root indexes hashes told)
+authentic H wide may_answer size root xs fetched indexes hashes told = (
+  xs,
+  fetched.answers,
+  (λ entries len is_root. all-stored H wide (tiles_of xs) size root fetched.checked entries len is_root indexes hashes told),
+  (λ entries len honest. all-honest H wide (tiles_of xs) entries honest indexes hashes (subst (λ (s : ℕ). TellsAll H (tiles_of xs) s indexes hashes) (sym len) told)),
+)
 
 -- in the words of the code, which has the first hash's place and their number
 pub part_inside : (tiles : Tiles) (size : ℕ) (p : Place) (first count : ℕ) (tile : Tile) (text : List ℕ) → first ≡ first_of p → count ≡ count_of p → IsPlaceIn size p → AreLong tiles → tile ≡ tile_with size (p.level / 8) first → tiles tile ≡ Some text

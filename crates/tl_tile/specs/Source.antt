@@ -5,10 +5,21 @@ use Rattle.tl_hash.specs.Tree.{tree_hash}
 use Rattle.tl_store.specs.Stored.{stored_index, stored_hash}
 use Rattle.tl_tile.specs.declared.resource.Tile.{Tile}
 use Rattle.tl_tile.specs.declared.place.Place.{Place}
-use Rattle.tl_tile.specs.TileText.{level_count, full_tile, tile_with}
+use Rattle.tl_tile.specs.TileText.{level_count, full_tile, partial_tile, tile_with}
+use Rattle.tl_tile.specs.TileLaws.{AreHonest}
 use Rattle.tl_tile.specs.Known.{Tiles, IsHashAt, AreChecked, Tells, TilesCollide}
 use Rattle.tl_tile.specs.KnownEdge.{IsEdgeLevel, HasEdge}
 use Rattle.tl_tile.specs.Fetched.{tiles_of}
+
+-- a tile of a log of this size
+abbrev pub IsTileOf : ℕ → Tile → Type 0
+IsTileOf size t =
+    ((t ≡ full_tile t.level t.index) × (t.index < level_count size (t.level + 1)))
+    ⊎ ((t ≡ partial_tile size t.level) × (0 < t.width))
+
+-- a text that the source may answer for a tile of a log of this size
+abbrev pub Answers : (Tile → List ℕ → Type 0) → ℕ → Tile → List ℕ → Type 0
+Answers may_answer size t text = IsTileOf size t × may_answer t text
 
 -- each text is one that the source may answer for its tile
 abbrev pub AreAnswers : (Tile → List ℕ → Type 0) → List (Tile × List ℕ) → Type 0
@@ -68,11 +79,13 @@ pub record TellsNumber (H : List ℕ → List ℕ) (tiles : Tiles) (size index :
 abbrev pub TellsAll : (List ℕ → List ℕ) → Tiles → ℕ → List ℕ → List (List ℕ) → Type 0
 TellsAll H tiles size indexes hashes = AllZip (λ index hash. TellsNumber H tiles size index hash) indexes hashes
 
--- authenticated hashes: there are tiles, with texts that the source may answer, such that for each list of
--- entries of this size and root the hashes are its stored hashes, or one of its inputs and a string that
--- was hashed for the tiles collide
+-- authenticated hashes: there are tiles of a log of this size, with texts that the source may answer, such that for each
+-- list of entries of this size and root the hashes are its stored hashes, or one of its inputs and a string that was
+-- hashed for the tiles collide; and where the tiles are those over a list, the hashes are its stored hashes
 abbrev pub AreAuthentic : (List ℕ → List ℕ) → (Tile → List ℕ → Type 0) → ℕ → List ℕ → List ℕ → List (List ℕ) → Type 0
 AreAuthentic H may_answer size root indexes hashes =
-    (fetched : List (Tile × List ℕ)) × AreAnswers may_answer fetched
+    (fetched : List (Tile × List ℕ)) × AreAnswers (Answers may_answer size) fetched
     × ((entries : List (List ℕ)) → length entries ≡ size → tree_hash H entries ≡ root
     → (hashes ≡ map (stored_hash H entries) indexes) ⊎ TilesCollide H (tiles_of fetched) size entries)
+    × ((entries : List (List ℕ)) → length entries ≡ size → AreHonest H (tiles_of fetched) entries
+    → hashes ≡ map (stored_hash H entries) indexes)

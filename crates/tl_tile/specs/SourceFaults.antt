@@ -7,17 +7,7 @@ use Rattle.tl_tile.specs.declared.resource.Tile.{Tile}
 use Rattle.tl_tile.specs.TileText.{level_count, full_tile, partial_tile, tile_with, tile_text}
 use Rattle.tl_tile.specs.Known.{IsHashAt, KnownRoot, KnownTile}
 use Rattle.tl_tile.specs.Fetched.{tiles_of}
-use Rattle.tl_tile.specs.Source.{AreAnswers}
-
--- a tile of a log of this size
-abbrev pub IsTileOf : ℕ → Tile → Type 0
-IsTileOf size t =
-    ((t ≡ full_tile t.level t.index) × (t.index < level_count size (t.level + 1)))
-    ⊎ ((t ≡ partial_tile size t.level) × (0 < t.width))
-
--- a text that the source may answer for a tile of a log of this size
-abbrev pub Answers : (Tile → List ℕ → Type 0) → ℕ → Tile → List ℕ → Type 0
-Answers may_answer size t text = IsTileOf size t × may_answer t text
+use Rattle.tl_tile.specs.Source.{IsTileOf, Answers, AreAnswers}
 
 -- a text of another length
 abbrev pub HasBadLength : (Tile → List ℕ → Type 0) → ℕ → Tile → Type 0

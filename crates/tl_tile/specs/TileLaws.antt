@@ -44,3 +44,11 @@ KnownHashesAreOne =
     (H : List ℕ → List ℕ) (tiles : Tiles) (size : ℕ) (text hash other : List ℕ) (strings others : List (List ℕ))
     → (KnownRoot H tiles size hash strings → KnownRoot H tiles size other others → hash ≡ other)
     × (KnownTile H text hash strings → KnownTile H text other others → hash ≡ other)
+
+-- what honest tiles tell is stored
+abbrev pub HonestTilesTellStoredHashes : Type 0
+HonestTilesTellStoredHashes =
+    (H : List ℕ → List ℕ) → ((message : List ℕ) → length (H message) ≡ 32)
+    → (tiles : Tiles) (entries : List (List ℕ)) → AreHonest H tiles entries
+    → (level place : ℕ) (hash : List ℕ) → (place + 1) * 2 ^ level ≤ length entries → Tells H tiles (length entries) level place hash
+    → hash ≡ stored_hash H entries (stored_index level place)

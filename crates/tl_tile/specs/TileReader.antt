@@ -7,7 +7,7 @@ use Rattle.tl_store.specs.declared.reader.ReadFault.TheVariants.{OutOfRange, Sou
 use Rattle.tl_tile.specs.declared.resource.Tile.{Tile}
 use Rattle.tl_tile.specs.Known.{TilesCollide}
 use Rattle.tl_tile.specs.Fetched.{tiles_of}
-use Rattle.tl_tile.specs.Source.{AreAnswers}
+use Rattle.tl_tile.specs.Source.{Answers, AreAnswers}
 use Rattle.tl_tile.specs.SourceFaults.{GivesReadFault}
 
 -- a source, and the size and the root that its tiles are checked against
@@ -21,7 +21,7 @@ pub record Against (S : Type 0) : Type 0 where
 abbrev pub StandsAgainst : (List ℕ → List ℕ) → (Tile → List ℕ → Type 0) → ℕ → List ℕ → (List ℕ → List ℕ) → List (List ℕ) → Type 0
 StandsAgainst own may_answer size root H entries =
     (length entries ≡ size) × (length entries ≤ 2 ^ 62) × (H ≡ own) × (tree_hash H entries ≡ root)
-    × ((fetched : List (Tile × List ℕ)) → AreAnswers may_answer fetched → TilesCollide H (tiles_of fetched) size entries → ⊥)
+    × ((fetched : List (Tile × List ℕ)) → AreAnswers (Answers may_answer size) fetched → TilesCollide H (tiles_of fetched) size entries → ⊥)
 
 -- when reading these numbers gives this fault
 abbrev pub GivesNumbersFault : (List ℕ → List ℕ) → (Tile → List ℕ → Type 0) → (Tile → Type 0) → ℕ → List ℕ → List ℕ → ReadFault → Type 0

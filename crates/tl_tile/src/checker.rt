@@ -4,8 +4,8 @@ ghost use Rattle.std.specs.Prelude.{◌≡◌, ◌↔◌, ◌≤◌, ◌<◌, �
 ghost use Rattle.tl_tile.specs.TileText as spec;
 ghost use Rattle.tl_tile.specs.Known.{Tells};
 ghost use Rattle.tl_tile.specs.Fetched.{tiles_of, texts_of};
-ghost use Rattle.tl_tile.specs.Source.{AreFetched, HasTileWith, IsSameAsAbove, IsThere, AreEdgeFetched, Grows, IsPlaceIn};
-ghost use Rattle.tl_tile.specs.SourceFaults.{IsTileOf, Answers, GivesReadFault};
+ghost use Rattle.tl_tile.specs.Source.{AreFetched, HasTileWith, IsSameAsAbove, IsThere, AreEdgeFetched, Grows, IsTileOf, Answers};
+ghost use Rattle.tl_tile.specs.SourceFaults.{GivesReadFault};
 
 use crate::fetched::text_of;
 use crate::known::{hash_in, known_part};

@@ -4,8 +4,8 @@ ghost use Rattle.std.specs.Prelude.{◌≡◌, ◌≤◌, ◌<◌, ◌*◌, ◌/
 ghost use Rattle.tl_store.specs.Stored as stored;
 ghost use Rattle.tl_tile.specs.Known.{Tells};
 ghost use Rattle.tl_tile.specs.Fetched.{tiles_of, texts_of};
-ghost use Rattle.tl_tile.specs.Source.{AreFetched, HasTileWith, Grows, IsPlaceIn, AreAuthentic};
-ghost use Rattle.tl_tile.specs.SourceFaults.{Answers, GivesReadFault};
+ghost use Rattle.tl_tile.specs.Source.{AreFetched, HasTileWith, Grows, IsPlaceIn, AreAuthentic, Answers};
+ghost use Rattle.tl_tile.specs.SourceFaults.{GivesReadFault};
 
 use crate::checker::{Checker, tile_with};
 use crate::fetched::text_of;

@@ -1,4 +1,5 @@
 use Rattle.tl_tile.proofs.Honest.{honest_tiles_tell_root, honest_tiles_tell_above}
+use Rattle.tl_tile.proofs.HonestHashes.{honest_tiles_tell_stored_hashes}
 use Rattle.tl_tile.proofs.tile_law.honest_tiles_law.Goals as goal
 
 pub returns-clause-root : goal.returns-clause-root
@@ -6,3 +7,6 @@ returns-clause-root c = honest_tiles_tell_root
 
 pub returns-clause-above : goal.returns-clause-above
 returns-clause-above c = honest_tiles_tell_above
+
+pub returns-clause-stored : goal.returns-clause-stored
+returns-clause-stored c = honest_tiles_tell_stored_hashes

@@ -1,5 +1,5 @@
 use Rattle.tl_tile.specs.Fetched.{texts_of}
-use Rattle.tl_tile.specs.SourceFaults.{Answers}
+use Rattle.tl_tile.specs.Source.{Answers}
 use Rattle.tl_tile.proofs.EdgeFetch.{edge-all}
 use Rattle.tl_tile.proofs.checker.Checker.fetch_edge.Goals as goal
 

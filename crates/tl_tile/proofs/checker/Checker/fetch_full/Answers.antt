@@ -2,7 +2,8 @@ use Rattle.std.proofs.Common.{◌+◌, inr, ap, sym, subst}
 use Rattle.std.specs.Prelude.{vec_items}
 use Rattle.tl_tile.specs.Fetched.{tiles_of, texts_of}
 use Rattle.tl_tile.specs.Source.{HasTileWith}
-use Rattle.tl_tile.specs.SourceFaults.{Answers, GivesReadFault}
+use Rattle.tl_tile.specs.SourceFaults.{GivesReadFault}
+use Rattle.tl_tile.specs.Source.{Answers}
 use Rattle.tl_tile.proofs.Push.{in_above, fetched-more, there-more, grows-push, texts-push, bad_full}
 use Rattle.tl_tile.proofs.checker.Checker.fetch_full.Goals as goal
 

@@ -1,7 +1,7 @@
 use Rattle.std.proofs.Common.{◌-◌}
 use Rattle.tl_tile.specs.Fetched.{texts_of}
 use Rattle.tl_tile.specs.Source.{AreEdgeFetched}
-use Rattle.tl_tile.specs.SourceFaults.{Answers}
+use Rattle.tl_tile.specs.Source.{Answers}
 use Rattle.tl_tile.proofs.checker.Checker.fetch_levels.Given as goal
 
 abbrev pub invariant-loop-above : goal.invariant-loop-above

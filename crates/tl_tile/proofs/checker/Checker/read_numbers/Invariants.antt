@@ -1,7 +1,7 @@
 use Rattle.std.proofs.Common.{◌≡◌, take, length}
 use Rattle.tl_tile.specs.Fetched.{tiles_of, texts_of}
 use Rattle.tl_tile.specs.Source.{AreFetched, TellsAll}
-use Rattle.tl_tile.specs.SourceFaults.{Answers}
+use Rattle.tl_tile.specs.Source.{Answers}
 use Rattle.tl_tile.proofs.checker.Checker.read_numbers.Given as goal
 
 abbrev pub invariant-loop-index : goal.invariant-loop-index

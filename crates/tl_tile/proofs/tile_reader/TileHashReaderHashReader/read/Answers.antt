@@ -1,8 +1,8 @@
-use Rattle.std.proofs.Common.{◌<◌, length, subst, arith, rules}
+use Rattle.std.proofs.Common.{◌≡◌, ◌<◌, length, subst, arith, rules}
 use Rattle.tl_store.specs.Reader.{AreReadable}
 use Rattle.tl_tile.specs.Source.{AreAuthentic}
 use Rattle.tl_tile.specs.TileReader.{GivesNumbersFault}
-use Rattle.tl_tile.proofs.Readers.{some_readable, all_stored, authentic_stands, numbers_fault}
+use Rattle.tl_tile.proofs.Readers.{some_readable, all_stored, authentic_stands, authentic_none, numbers_fault}
 use Rattle.tl_tile.proofs.tile_reader.TileHashReaderHashReader.read.Goals as goal
 
 pub read_numbers-requires-clause-size : goal.read_numbers-requires-clause-size
@@ -33,3 +33,12 @@ returns-in-Err-clause-source g c =
     let readable : AreReadable c.self.inside.checker.size c.args.indexes.now = λ k d less. omega (arith, c.if-not-are_below.ensures k d less, c.count_of.ensures) in
     subst (λ r. GivesNumbersFault g.T.TreeHash.digest_of (g.S.TileSource.may_answer r.source) (g.S.TileSource.may_lack r.source) r.size r.root c.args.indexes.now c.in-Err.fault) c.self.view_is
     (numbers_fault g.T.TreeHash.digest_of (g.S.TileSource.may_answer c.self.inside.checker.source) (g.S.TileSource.may_lack c.self.inside.checker.source) c.self.inside.checker.size c.self.inside.checker.root c.args.indexes.now c.in-Err.fault readable c.in-Err.ensures.faults)
+
+pub returns-in-Ok-clause-authentic : goal.returns-in-Ok-clause-authentic
+returns-in-Ok-clause-authentic g c =
+    subst (λ r. AreAuthentic g.T.TreeHash.digest_of (g.S.TileSource.may_answer r.source) r.size r.root c.args.indexes.now c.in-Ok.hashes.items) c.self.view_is c.in-Ok.ensures.authentic
+
+pub returns-then-is_empty-clause-authentic : goal.returns-then-is_empty-clause-authentic
+returns-then-is_empty-clause-authentic g c =
+    let none : length c.args.indexes.now ≡ 0 = search rules in
+    authentic_none g.T.TreeHash.digest_of (g.S.TileSource.may_answer c.args.self.now.source) c.args.self.now.size c.args.self.now.root c.args.indexes.now c.new.result.items none c.new.ensures.items
