@@ -1,11 +1,11 @@
 //! The right edge of a log: worked examples, a table beside a store of all hashes, and refused growths.
 
-use crate::vectors::{ENTRIES, LEAVES, ROOT};
 use std::alloc::{AllocError, Allocator, Global};
 use std::test::Fail;
 use tl_hash::{Sha256Tree, empty_hash, entry_root};
 use tl_store::{HashStore, ReadFault, tree_hash};
 use tl_testing::Refusing;
+use tl_testing::vectors::{ENTRIES, LEAVES, ROOTS};
 use tl_tile::{Edge, Resource, Tile, needed, tile_bytes};
 
 // More entries than any of the tests appends.
@@ -53,7 +53,7 @@ fn edge_of_the_worked_entries(rt: HostRuntime) -> Result<(), Fail> {
     }
     assert_eq!(rt; edge.size(), 8);
     let root = hex::encode(alloc, edge.root().as_bytes().as_slice())?;
-    assert_eq!(rt; root.as_str(), ROOT);
+    assert_eq!(rt; root.as_str(), ROOTS[7].1);
     let (shown, bytes) = edge.partial(0)?.ok_or("a tile of level 0")?;
     assert!(rt; shown == tile(0, 0, 8));
     assert_eq!(rt; bytes.len(), 256);
