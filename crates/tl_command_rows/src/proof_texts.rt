@@ -183,7 +183,12 @@ fn texts_of_no_proof(rt: HostRuntime) -> Result<(), Fail> {
         ("leaf ", "AAAA"),
         ("root ", EMPTY_LEAF),
     ];
-    says(&rt, &short_hash, "", malformed)?;
+    says(&rt, &short_hash, "", malformed)
+}
+
+#[test]
+fn lines_that_are_not_those_of_a_proof(rt: HostRuntime) -> Result<(), Fail> {
+    let malformed = Err(RunFault::Malformed);
     let empty_line = [
         ("inclusion", ""),
         ("index ", "0"),
