@@ -2,9 +2,11 @@
 #![tactic(auto)]
 
 mod proving;
+mod reading;
 mod rings;
 
 use proving::proofs;
+use reading::tiles;
 use rings::sequencer;
 use sha2::{Digest, Sha256};
 use std::alloc::Global;
@@ -68,12 +70,15 @@ fn main(rt: HostRuntime) -> ExitCode {
         [_, word, rest @ ..] if word.as_str() == "sha256" => sha256(&rt, rest),
         [_, word] if word.as_str() == "sequencer" => measured(sequencer(&rt, rt.alloc())),
         [_, word] if word.as_str() == "proofs" => both_sizes(&rt, rt.alloc()),
+        [_, word] if word.as_str() == "tiles" => tiles(&rt, rt.alloc()),
         _ => Ok(false),
     };
     match outcome {
         Ok(true) => ExitCode::SUCCESS,
         Ok(false) => {
-            let _ = rt.eprintln("usage: tl_bench sha256 COUNT LENGTH .. | sequencer | proofs");
+            let _ = rt.eprintln(
+                "usage: tl_bench sha256 COUNT LENGTH .. | sequencer | proofs | tiles",
+            );
             ExitCode::from(2)
         }
         Err(_) => ExitCode::from(3),

@@ -1,0 +1,139 @@
+//! Stored hashes read a second from a source of tiles in memory, each tile checked against the root.
+
+use std::alloc::{Allocator, Global};
+use std::io;
+use std::time::{Clock, Duration, Instant};
+use tl_hash::{Hash, Sha256Tree};
+use tl_store::{HashReader, HashStore, stored_index, tree_hash};
+use tl_tile::{Resource, SourceFault, Tile, TileHashReader, TileSource, needed, tile_bytes};
+
+// The entries of the log.
+const SIZE: u64 = 1_000_000;
+
+// The hashes that one read asks for: those of one tile.
+const WIDTH: u64 = 256;
+
+// The reads that are made.
+const READS: u64 = 2_000;
+
+// The bytes of tiles, by level and index.
+#[derive(Drop)]
+struct Memory {
+    levels: Vec<Vec<Vec<u8>>>,
+}
+
+impl TileSource for &Memory {
+    ghost may_answer = { λ s t text. Unit {0} };
+
+    ghost may_lack = { λ s t. Unit {0} };
+
+    fn fetch<A: Allocator + Copy>(&self, alloc: A, tile: Tile) -> Result<Vec<u8, A>, SourceFault> {
+        let Some(level) = self.levels.get(tile.level as usize) else {
+            return Err(SourceFault::Unavailable);
+        };
+        let Ok(index) = usize::try_from(tile.index) else {
+            return Err(SourceFault::Unavailable);
+        };
+        match level.get(index) {
+            Some(bytes) => Ok(Vec::from_slice(alloc, bytes)?),
+            None => Err(SourceFault::Unavailable),
+        }
+    }
+}
+
+type Store = HashStore<Sha256Tree, Global>;
+
+// The store of the entries, each of which is its place.
+fn store_of(alloc: Global) -> Option<Store> {
+    let mut store = HashStore::new(alloc, Sha256Tree);
+    for place in 0..SIZE {
+        if store.size() >= SIZE {
+            return None;
+        }
+        store.append(&place.to_be_bytes()).ok()?;
+    }
+    Some(store)
+}
+
+// The bytes of a tile, of the three lowest levels.
+fn bytes_of(alloc: Global, store: &Store, tile: Tile) -> Option<Vec<u8>> {
+    if tile.index >= SIZE || tile.width == 0 || tile.width > 256 {
+        return None;
+    }
+    match tile.level {
+        0 => tile_bytes(alloc, Tile { level: 0, ..tile }, store).ok(),
+        1 => tile_bytes(alloc, Tile { level: 1, ..tile }, store).ok(),
+        2 => tile_bytes(alloc, Tile { level: 2, ..tile }, store).ok(),
+        _ => None,
+    }
+}
+
+// All tiles of the log.
+fn memory_of(alloc: Global, store: &Store) -> Option<Memory> {
+    let mut levels = Vec::new(alloc);
+    for _level in 0..8 {
+        levels.push(Vec::new(alloc)).ok()?;
+    }
+    for resource in needed(alloc, SIZE).ok()? {
+        if let Resource::Tile(tile) = resource {
+            let bytes = bytes_of(alloc, store, tile)?;
+            levels.get_mut(tile.level as usize)?.push(bytes).ok()?;
+        }
+    }
+    Some(Memory { levels })
+}
+
+// The numbers of the leaves of one tile.
+fn numbers_of(alloc: Global, read: u64) -> Option<Vec<u64>> {
+    let first = read.wrapping_mul(7) % 3_900;
+    let mut numbers = Vec::new(alloc);
+    for place in 0..WIDTH {
+        numbers.push(stored_index(0, first * WIDTH + place)).ok()?;
+    }
+    Some(numbers)
+}
+
+// How many hashes the reads gave.
+fn read_all(alloc: Global, memory: &Memory, root: Hash) -> Option<u64> {
+    let mut count = 0u64;
+    for read in 0..READS {
+        let reader = TileHashReader::new(alloc, Sha256Tree, SIZE, root, memory);
+        let hashes = reader
+            .read(alloc, numbers_of(alloc, read)?.as_slice())
+            .ok()?;
+        count = count.wrapping_add(hashes.len() as u64);
+    }
+    Some(count)
+}
+
+// Hashes a second, if the time is long enough to tell.
+fn rate(count: u64, took: Duration) -> u128 {
+    match took.as_micros() {
+        0 => 0,
+        micros => count as u128 * 1_000_000 / micros,
+    }
+}
+
+/// Prints how many stored hashes a second are read from tiles in memory, 256 of one tile a read, over a log of 1,000,000 entries.
+/// False where a read or memory was refused.
+pub fn tiles<R: Clock + Print>(rt: &R, alloc: Global) -> io::Result<bool> {
+    let Some(store) = store_of(alloc) else {
+        return Ok(false);
+    };
+    let (Ok(root), Some(memory)) = (
+        tree_hash(alloc, Sha256Tree, SIZE, &store),
+        memory_of(alloc, &store),
+    ) else {
+        return Ok(false);
+    };
+    let start = Instant::now(rt)?;
+    let Some(count) = read_all(alloc, &memory, root) else {
+        return Ok(false);
+    };
+    let took = start.elapsed(rt)?;
+    println!(rt;
+        "tiles: {count} hashes of 1000000 entries, {} a second",
+        rate(count, took)
+    )?;
+    Ok(true)
+}
