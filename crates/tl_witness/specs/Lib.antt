@@ -1,0 +1,9 @@
+-- The definitions of a witness (C2SP tlog-witness).
+pub mod Cases
+pub mod Request
+pub mod ChainLine
+pub mod Chain
+pub mod Saver
+pub mod Witnessed
+pub mod Decide
+pub mod Book
