@@ -7,3 +7,4 @@ pub mod Saver
 pub mod Witnessed
 pub mod Decide
 pub mod Book
+pub mod ReadRequest

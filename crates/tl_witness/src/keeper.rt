@@ -1,15 +1,20 @@
 //! What the witness keeps of one origin, and how it answers a request for it.
 
 ghost use Rattle.std.specs.Prelude.{◌≡◌, [], ◌⊎◌};
+ghost use Rattle.tl_note.specs.Note.{Note};
 ghost use Rattle.tl_proof.specs.Collisions.{step_of};
 ghost use Rattle.tl_witness.specs.Chain.{first_head, last_head};
 ghost use Rattle.tl_witness.specs.ChainLine.{IsChainLine};
-ghost use Rattle.tl_witness.specs.Decide.{Refuses, DecidesFrom};
+ghost use Rattle.tl_witness.specs.Decide.{Refuses, DecidesFrom, Decides};
+ghost use Rattle.tl_witness.specs.Book.{asked_of};
+ghost use Rattle.tl_witness.specs.ReadRequest.{body_of, signed_of};
 
 use crate::chain::Chain;
-use crate::cosign::{cosign, size_body};
+use crate::cosign::{cosign, is_open, size_body};
 use crate::reply::{Reply, refusal};
+use crate::request::AddRequest;
 use crate::saver::Saver;
+use crate::signed::SignedCheckpoint;
 use std::alloc::{Allocator, Global};
 use tl_hash::TreeHash;
 use tl_note::{Signer, Verifier};
@@ -106,5 +111,48 @@ impl<T: TreeHash, A: Allocator + Copy> Keeper<T, A> {
             status: 200,
             body: line,
         }
+    }
+
+    /// Answers a request for this origin.
+    pub(crate) fn answer<S: Saver>(
+        &mut self,
+        tools: Tools<T, A>,
+        origin: &str,
+        request: AddRequest<'_, A>,
+        signed: &SignedCheckpoint<'_, A>,
+        time: u64,
+        saver: &mut S,
+    ) -> Reply<A>
+        requires line { IsChainLine (record { origin = origin.now; step = (asked_of (body_of request) (signed_of signed.now) time).step }) }
+        requires note { Note request.note.now (signed_of signed.now).text (signed_of signed.now).lines }
+        ensures { Decides T.digest_of (asked_of (body_of request.entry) (signed_of signed.now) time)
+            (record {
+              status = result.status;
+              body = result.body.items;
+              saved = S.saved saver.old;
+              saved_after = S.saved saver.new;
+              one = ⟦<Keeper<T, A> as Shown>⟧.shown origin.now self.old;
+              one_after = ⟦<Keeper<T, A> as Shown>⟧.shown origin.now self.new;
+            }) }
+    {
+        match is_open(tools.alloc, request.note, self.verifiers.as_slice()) {
+            Some(true) => {}
+            Some(false) => return refusal(tools.alloc, 403),
+            None => return refusal(tools.alloc, 500),
+        }
+        let link = Link {
+            size: signed.checkpoint.size,
+            root: signed.checkpoint.root,
+            proof: request.proof,
+        };
+        self.settle(
+            tools,
+            origin,
+            request.old,
+            link,
+            signed.note.text,
+            time,
+            saver,
+        )
     }
 }

@@ -1,0 +1,28 @@
+//! Where an origin stands in a list.
+
+ghost use Rattle.std.specs.Prelude.{◌≡◌, ◌≢◌, ◌↔◌, ◌<◌, ℕ, IsTrue, IfSome, IfNone, Some, length, map, slice_get};
+
+/// What has an origin.
+pub(crate) trait OfOrigin {
+    ghost use Rattle.std.specs.Prelude.{List, ℕ};
+
+    ghost origin_of: { Self → List ℕ };
+
+    /// Whether it is of this origin.
+    fn is_of(&self, origin: &str) -> bool
+        ensures { IsTrue result ↔ (origin_of self.now ≡ origin.now) };
+}
+
+/// A place of what has this origin.
+pub(crate) fn place_of<N: OfOrigin>(list: &[N], origin: &str) -> Option<usize>
+    ensures room { IfSome result (λ i. i < length list.now) }
+    ensures found { IfSome result (λ i. slice_get (map N.origin_of list.now) i ≡ Some origin.now) }
+    ensures none { IfNone result ((i : ℕ) → slice_get (map N.origin_of list.now) i ≢ Some origin.now) }
+{
+    for i in 0..list.len() {
+        if list[i].is_of(origin) {
+            return Some(i);
+        }
+    }
+    None
+}
