@@ -29,6 +29,11 @@ pub linked-none : (H : List ℕ → List ℕ) (old : TreeHead) → IsLinked H ol
 unfolding Linked
 linked-none H old = tt
 
+-- one step that follows is linked
+pub linked-one : (H : List ℕ → List ℕ) (old : TreeHead) (step : Step) → Follows H old step → IsLinked H old (step ∷ [])
+unfolding Linked
+linked-one H old step follows = (follows, tt)
+
 -- the steps after the first ones are linked from where those lead
 pub linked-after : (H : List ℕ → List ℕ) (old : TreeHead) (steps more : List Step)
     → IsLinked H old (steps ++ more) → IsLinked H (last_head old steps) more

@@ -6,3 +6,6 @@ pub mod SignedFaults
 pub mod ProofLines
 pub mod RequestLaws
 pub mod LineOf
+pub mod RunLaws
+pub mod SharedLaws
+pub mod Moved

@@ -8,3 +8,5 @@ pub mod Witnessed
 pub mod Decide
 pub mod Book
 pub mod ReadRequest
+pub mod Runs
+pub mod Shared

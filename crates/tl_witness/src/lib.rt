@@ -3,15 +3,20 @@
 
 mod book;
 mod chain;
+mod copy;
 mod cosign;
 mod keeper;
+mod law;
 mod place;
 mod reply;
 mod request;
 mod saver;
+mod shared;
 mod signed;
 
 pub use book::{Book, Shown};
+pub use law::{books_only_grow, chains_are_linked_from_each_step, chains_only_grow};
 pub use reply::Reply;
 pub use request::{AddRequest, RequestFault, parse_request};
 pub use saver::{SaveFault, Saver};
+pub use shared::{BookBack, Origins, SharedWitness};
