@@ -9,3 +9,6 @@ pub mod LineOf
 pub mod RunLaws
 pub mod SharedLaws
 pub mod Moved
+pub mod ListLaws
+pub mod OpeningLaws
+pub mod OpeningFaults

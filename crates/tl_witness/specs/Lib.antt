@@ -10,3 +10,5 @@ pub mod Book
 pub mod ReadRequest
 pub mod Runs
 pub mod Shared
+pub mod Open
+pub mod Opening

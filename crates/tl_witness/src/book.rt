@@ -45,6 +45,10 @@ impl<T: TreeHash, A: Allocator> ShownEntry for Entry<T, A> {
 impl<T: TreeHash, A: Allocator> OfOrigin for Entry<T, A> {
     ghost origin_of = { λ e. string_bytes e.origin };
 
+    fn origin(&self) -> &str {
+        self.origin.as_str()
+    }
+
     fn is_of(&self, origin: &str) -> bool {
         self.origin.as_str() == origin
     }

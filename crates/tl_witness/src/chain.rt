@@ -1,16 +1,17 @@
 //! The links of one origin.
 
-ghost use Rattle.std.specs.Prelude.{◌≡◌, [], ◌∷◌, ◌++◌, OnOk, OnErr, IsErrOf, map};
+ghost use Rattle.std.specs.Prelude.{◌≡◌, [], ◌∷◌, ◌++◌, IfErr, IfOk, OnOk, OnErr, IsErrOf, MatchOption, map};
 ghost use Rattle.tl_proof.specs.Collisions.{step_of};
 ghost use Rattle.tl_witness.specs.Chain.{first_head, last_head, Follows, IsChain};
 ghost use Rattle.tl_witness.specs.ChainLine.{IsChainLine};
+ghost use Rattle.tl_witness.specs.Open.{IsFirstBreak};
 ghost use Rattle.tl_witness.specs.Saver.{Keeps, Fails};
 
 use crate::saver::Saver;
 use std::alloc::Allocator;
 use std::marker::Model;
 use tl_hash::{Hash, TreeHash, empty_hash};
-use tl_proof::Link;
+use tl_proof::{Link, check_tree};
 
 /// The links of one origin, each accepted from the one before, and the first from size 0 and the hash of no bytes. A contract
 /// sees the steps that they say.
@@ -97,5 +98,42 @@ impl<T: TreeHash, A: Allocator + Copy> Chain<T, A> {
         }
         self.links.push_reserved(link);
         Ok(())
+    }
+}
+
+// The first of these links that isn't accepted from the one before.
+fn first_break<T: TreeHash, A: Allocator>(tree: T, links: &[Link<A>]) -> Option<usize>
+    ensures { MatchOption result (IsChain T.digest_of (map step_of links.now)) (IsFirstBreak T.digest_of (map step_of links.now)) }
+{
+    let mut size = 0;
+    let mut root = empty_hash(tree);
+    for i in 0..links.len() {
+        let link = &links[i];
+        if !check_tree(
+            tree,
+            link.proof.as_slice(),
+            link.size,
+            link.root,
+            size,
+            root,
+        ) {
+            return Some(i);
+        }
+        size = link.size;
+        root = link.root;
+    }
+    None
+}
+
+impl<T: TreeHash, A: Allocator> Chain<T, A> {
+    /// The chain of these links. Else it tells the place of the first that isn't accepted from the one before.
+    pub(crate) fn from_links(tree: T, links: Vec<Link<A>, A>) -> Result<Self, usize>
+        ensures ok { IfOk result (λ chain. (chain ≡ map step_of links.items) × IsChain T.digest_of (map step_of links.items)) }
+        ensures err { IfErr result (IsFirstBreak T.digest_of (map step_of links.items)) }
+    {
+        if let Some(place) = first_break(tree, links.as_slice()) {
+            return Err(place);
+        }
+        Ok(Chain { tree, links })
     }
 }

@@ -34,6 +34,10 @@ struct Guarded<T: TreeHash, A: Allocator> {
 impl<T: TreeHash, A: Allocator> OfOrigin for Guarded<T, A> {
     ghost origin_of = { λ e. string_bytes e.origin };
 
+    fn origin(&self) -> &str {
+        self.origin.as_str()
+    }
+
     fn is_of(&self, origin: &str) -> bool {
         self.origin.as_str() == origin
     }
