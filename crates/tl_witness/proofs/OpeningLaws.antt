@@ -95,6 +95,7 @@ entered_more saved left now trusts book t one taken entered once takes o v s c =
         append x [] is = absurd is
         append x (y ∷ os) (inl same) = inl same
         append x (y ∷ os) (inr later) = inr (append x os later)
+
     last : (x : List ℕ) → x ≡ t.origin → IsAmong x (trusted_origins trusts ++ t.origin ∷ [])
     last x same = at_end (trusted_origins trusts)
       where
@@ -108,7 +109,7 @@ pub took_at : {A : Type 0} (f : A → SavedChain) (items : List A) (place : ℕ)
 took_at f items place origin e after taken lt read before then =
     let there = shows_at f items (length items) place e (origin, taken) refl lt read before in
     let set : slice_set (map f items) place (origin, []) ≡ map f (slice_set items place after) =
-        ap (λ (c : SavedChain). slice_set (map f items) place c) (sym then) ∙ sym (map-set f items place after) in
+    ap (λ (c : SavedChain). slice_set (map f items) place c) (sym then) ∙ sym (map-set f items place after) in
     subst (λ (new : List SavedChain). TakesChain origin (map f items) new taken) set (took_one origin (map f items) place taken there)
 
 pub took_nothing : {A : Type 0} (f : A → SavedChain) (g : A → List ℕ) (items : List A) (origin : List ℕ) (taken : List Step) → ((x : A) → g x ≡ (f x).0)

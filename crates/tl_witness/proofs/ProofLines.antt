@@ -48,10 +48,10 @@ after_done (a ∷ done) [] left note count d p few e =
     absurd (text_of_hash a one (sym cut.0))
 after_done (a ∷ done) (b ∷ proof) left note count d p few e =
     let opened : line (base64_text b) ++ (hash_lines proof ++ 10 ∷ note) ≡ line (base64_text a) ++ (hash_lines done ++ left) =
-        sym (append_assoc (hash_line b) (hash_lines proof) (10 ∷ note)) ∙ ap (λ (t : List ℕ). t ++ 10 ∷ note) (sym (flat_map-cons hash_line b proof))
-        ∙ e ∙ ap (λ (t : List ℕ). t ++ left) (flat_map-cons hash_line a done) ∙ append_assoc (hash_line a) (hash_lines done) left in
+    sym (append_assoc (hash_line b) (hash_lines proof) (10 ∷ note)) ∙ ap (λ (t : List ℕ). t ++ 10 ∷ note) (sym (flat_map-cons hash_line b proof))
+    ∙ e ∙ ap (λ (t : List ℕ). t ++ left) (flat_map-cons hash_line a done) ∙ append_assoc (hash_line a) (hash_lines done) left in
     let cut = one_line (base64_text b) (base64_text a) (hash_lines proof ++ 10 ∷ note) (hash_lines done ++ left)
-        (base64_plain b (All-head IsHash b proof p).bytes) (base64_plain a (All-head IsHash a done d).bytes) opened in
+    (base64_plain b (All-head IsHash b proof p).bytes) (base64_plain a (All-head IsHash a done d).bytes) opened in
     after_done done proof left note count (All-tail IsHash a done d) (All-tail IsHash b proof p) (omega arith) cut.1
 
 -- what is left goes on as the text does

@@ -125,9 +125,13 @@ set_later H [] at one after lawful there is = absurd cc
 set_later H (first ∷ book) zero one after lawful there is =
     let same : first ≡ one = cc in
     (after, book, refl, subst (λ (o : Witnessed). IsLater H o after) (sym same) is, book-refl H book (All-tail (HasChain H) first book lawful))
-set_later H (first ∷ book) (suc at) one after lawful there is =
-    (first, slice_set book at after, refl, one-refl H first (All-head (HasChain H) first book lawful),
-    set_later H book at one after (All-tail (HasChain H) first book lawful) there is)
+set_later H (first ∷ book) (suc at) one after lawful there is = (
+  first,
+  slice_set book at after,
+  refl,
+  one-refl H first (All-head (HasChain H) first book lawful),
+  set_later H book at one after (All-tail (HasChain H) first book lawful) there is,
+)
 
 place_lawful : (H : List ℕ → List ℕ) (book : List Witnessed) (at : ℕ) (one : Witnessed) → IsLawful H book → slice_get book at ≡ Some one → IsChain H one.chain
 place_lawful H [] at one lawful there = absurd cc

@@ -114,7 +114,7 @@ no_origin H origins body time answer request signed is reads note none =
 pub at_origin : (H : List ℕ → List ℕ) (origins : List (List ℕ)) (body : List ℕ) (time : ℕ) (answer : Answer) (request : Body) (signed : Signed) (at : ℕ) (one after : Witnessed)
     → IsRequest body request → IsSigned request.note signed → slice_get origins at ≡ Some signed.head.origin → one.origin ≡ signed.head.origin → IsChain H one.chain
     → Decides H (asked_of request signed time)
-        (record { status = answer.status; body = answer.body; saved = answer.saved; saved_after = answer.saved_after; one = one; one_after = after })
+    (record { status = answer.status; body = answer.body; saved = answer.saved; saved_after = answer.saved_after; one = one; one_after = after })
     → AnswersFromSome H origins body time answer
 at_origin H origins body time answer request signed at one after reads note there named is decided =
     let stands : slice_get origins at ≡ Some one.origin = there ∙ ap (λ (x : List ℕ). Some x) (sym named) in

@@ -34,9 +34,9 @@ pub in_lines : (text : List ℕ) (h : Head) → IsHead h → text ≡ checkpoint
 in_lines text h is e = record {
   joined = e ∙ joined h;
   plain =
-    All-cons HasNoControl h.origin (number_text h.size ∷ base64_text h.root ∷ h.extensions) is.origin.plain
-    (All-cons HasNoControl (number_text h.size) (base64_text h.root ∷ h.extensions) (number_plain h.size (omega (arith, is.size)))
-    (All-cons HasNoControl (base64_text h.root) h.extensions (base64_plain h.root is.root.bytes) (plain_ones h.extensions is.extensions)));
+      All-cons HasNoControl h.origin (number_text h.size ∷ base64_text h.root ∷ h.extensions) is.origin.plain
+      (All-cons HasNoControl (number_text h.size) (base64_text h.root ∷ h.extensions) (number_plain h.size (omega (arith, is.size)))
+      (All-cons HasNoControl (base64_text h.root) h.extensions (base64_plain h.root is.root.bytes) (plain_ones h.extensions is.extensions)));
   enough = omega arith;
   extensions = is.extensions;
 }

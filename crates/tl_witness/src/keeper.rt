@@ -98,7 +98,14 @@ impl<T: TreeHash, A: Allocator + Copy> Keeper<T, A> {
                 Err(_) => refusal(tools.alloc, 500),
             };
         }
-        if !check_tree(tools.tree, link.proof.as_slice(), link.size, link.root, size, root) {
+        if !check_tree(
+            tools.tree,
+            link.proof.as_slice(),
+            link.size,
+            link.root,
+            size,
+            root,
+        ) {
             return refusal(tools.alloc, 422);
         }
         let Some(line) = cosign(tools.alloc, tools.global, &self.cosigner, time, text) else {

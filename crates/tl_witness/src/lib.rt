@@ -3,6 +3,7 @@
 
 mod book;
 mod chain;
+mod chain_line;
 mod copy;
 mod cosign;
 mod keeper;
@@ -17,6 +18,7 @@ mod signed;
 mod trust;
 
 pub use book::{Book, Shown};
+pub use chain_line::write_chain_line;
 pub use law::{books_only_grow, chains_are_linked_from_each_step, chains_only_grow};
 pub use opening::BookFault;
 pub use reply::Reply;

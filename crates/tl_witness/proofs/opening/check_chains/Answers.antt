@@ -25,13 +25,12 @@ loop-origin-init g c =
 pub loop-origin-preserved : goal.loop-origin-preserved
 loop-origin-preserved g c =
     let step = ap length c.in-Some.ensures.steps.0 in
-    let shown = ap (λ (s : List Step). saved_chain (string_bytes c.in-Some.origin) s) c.in-Ok.ensures.ok.0 in
-    (
+    let shown = ap (λ (s : List Step). saved_chain (string_bytes c.in-Some.origin) s) c.in-Ok.ensures.ok.0 in (
       tt,
       tt,
       rw c.in_ok-push.ensures.items (moved _ (λ x. saved_chain (string_bytes x.origin) x.chain) c.loop-origin.checked.items _ (c.in-Some.origin, c.in-Some.links) _ c.next.new.self.rest.items _ shown c.in-Some.ensures.steps.0 c.loop-origin.invariant.2),
       rw c.in_ok-push.ensures.items (moved_each (λ (d : SavedChain). IsChain g.T.TreeHash.digest_of d.1) (λ x. saved_chain (string_bytes x.origin) x.chain) c.loop-origin.checked.items _ c.loop-origin.invariant.3
-      (subst (IsChain g.T.TreeHash.digest_of) (sym c.in-Ok.ensures.ok.0) c.in-Ok.ensures.ok.1)),
+          (subst (IsChain g.T.TreeHash.digest_of) (sym c.in-Ok.ensures.ok.0) c.in-Ok.ensures.ok.1)),
       omega (arith, c.in-Some.ensures.steps.1, c.loop-origin.invariant.4),
     )
 

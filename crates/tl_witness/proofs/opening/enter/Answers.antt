@@ -13,13 +13,12 @@ pub loop-trust-preserved : goal.loop-trust-preserved
 loop-trust-preserved g c =
     let step = ap length c.in-Some.ensures.steps.0 in
     let whole = rw c.in-Some.ensures.steps.0 at c.loop-trust.invariant.2 in
-    let takes = rw c.as_str.ensures.value at c.take_chain-chain.ensures in
-    (
+    let takes = rw c.as_str.ensures.value at c.take_chain-chain.ensures in (
       tt,
       tt,
       moved _ _ c.loop-trust.yielded c.in-Some.trust c.in-Some.trust _ c.next.new.self.rest.items _ refl c.in-Some.ensures.steps.0 c.loop-trust.invariant.2,
       rw c.in_ok-push.ensures.items (entered_push _ _ _ _ _ c.loop-trust.yielded c.loop-trust.entries.items c.in-Some.trust _ c.take_chain-chain.result c.loop-trust.invariant.3
-      (not_before _ _ _ _ whole c.requires) takes refl refl refl refl),
+          (not_before _ _ _ _ whole c.requires) takes refl refl refl refl),
       omega (arith, c.in-Some.ensures.steps.1, c.loop-trust.invariant.4),
     )
 

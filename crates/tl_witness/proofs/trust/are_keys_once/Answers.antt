@@ -8,7 +8,7 @@ pub returns-then-not-has_each_key_once : goal.returns-then-not-has_each_key_once
 returns-then-not-has_each_key_once g c = (
   λ f. absurd cc,
   λ each. absurd (all_fails g.N.HasKeys.keys HasEachKeyOnce c.args.trusts.now c.loop-i.i c.index-trusts-i.result c.loop-i-test.true c.index-trusts-i.is
-    (λ is. let wrong = c.if-not-has_each_key_once.ensures.1 is in absurd cc) each),
+      (λ is. let wrong = c.if-not-has_each_key_once.ensures.1 is in absurd cc) each),
 )
 
 pub loop-i-preserved : goal.loop-i-preserved

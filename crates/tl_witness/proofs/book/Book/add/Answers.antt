@@ -6,7 +6,7 @@ use Rattle.tl_witness.proofs.PlaceLaws.{no_place, place_at, named_at}
 use Rattle.tl_witness.proofs.book.Book.add.Goals as goal
 
 pub returns-in-None : goal.returns-in-None
-returns-in-None g c = 
+returns-in-None g c =
     let nowhere = rw (c.as_slice.ensures.value, c.as_str.ensures.value) at c.in-None.ensures.none in
     inr (inr (
       _,

@@ -20,8 +20,7 @@ pub loop-entry-preserved : goal.loop-entry-preserved
 loop-entry-preserved g c =
     let step = ap length c.in-Some.ensures.steps.0 in
     let pushed = ap length c.push_reserved.ensures.items in
-    let longer = length-append c.loop-entry.entries.items (record { origin = c.in-Some.entry.origin; keeper = c.new.result } ∷ []) in
-    (
+    let longer = length-append c.loop-entry.entries.items (record { origin = c.in-Some.entry.origin; keeper = c.new.result } ∷ []) in (
       tt,
       tt,
       rw c.push_reserved.ensures.items (moved (λ e. string_bytes e.origin) (λ e. string_bytes e.origin) c.loop-entry.entries.items _ c.in-Some.entry _ c.next.new.self.rest.items _ refl c.in-Some.ensures.steps.0 c.loop-entry.invariant.2),
