@@ -1,5 +1,5 @@
 -- What opening a note answers, of the one text and the lines that the note has.
-use Rattle.std.proofs.Common.{◌≡◌, ℕ, List, [], ◌∷◌, refl, sym, ◌∙◌, Result, Ok, Err, Some, None, ap, arith, rules, length, ◌<◌}
+use Rattle.std.proofs.Common.{◌≡◌, ℕ, List, [], refl, Err, Some, None, ap, arith, length, ◌<◌}
 use Rattle.tl_note.specs.declared.view.OpenedNote.{OpenedNote}
 use Rattle.tl_note.specs.declared.fault.NoteFault.{NoteFault}
 use Rattle.tl_note.specs.declared.fault.NoteFault.TheVariants.{Malformed, BadName, Ambiguous, InvalidSignature, Unverified, Sign, OutOfMemory}

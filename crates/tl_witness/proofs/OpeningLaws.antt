@@ -1,5 +1,5 @@
 -- Laws of opening a book.
-use Rattle.std.proofs.Common.{◌≡◌, ◌≢◌, ◌<◌, ℕ, zero, suc, List, [], ◌∷◌, ◌++◌, Some, ◌⊎◌, inl, inr, refl, sym, ap, subst, ◌∙◌, map, take, length, slice_get, slice_index_or, All}
+use Rattle.std.proofs.Common.{◌≡◌, ◌≢◌, ◌<◌, ℕ, zero, suc, List, [], ◌∷◌, ◌++◌, Some, inl, inr, refl, sym, ap, subst, ◌∙◌, map, length, slice_get, slice_index_or, All}
 use Rattle.std.specs.Prelude.{slice_set}
 use Rattle.std.specs.List.{AllZip}
 use Rattle.std.proofs.lemmas.List.{map-set, map-append}
@@ -11,7 +11,7 @@ use Rattle.tl_witness.specs.Opening.{TakesChain}
 use Rattle.tl_witness.specs.Witnessed.{Witnessed}
 use Rattle.tl_witness.proofs.Moved.{shown_twice}
 use Rattle.tl_witness.proofs.PlaceLaws.{shows_at}
-use Rattle.tl_witness.proofs.ListLaws.{among_at, among_none, among_or, comes_again, next_there, done_there, zip_more}
+use Rattle.tl_witness.proofs.ListLaws.{among_at, among_none, comes_again, next_there, done_there, zip_more}
 
 -- nothing was taken
 pub took_none : (origin : List ℕ) (chains : List SavedChain) → ((i : ℕ) → slice_get (chain_origins chains) i ≢ Some origin) → TakesChain origin chains chains []

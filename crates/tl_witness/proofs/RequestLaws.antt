@@ -1,8 +1,8 @@
 -- Bytes that are no request.
-use Rattle.std.proofs.Common.{◌≡◌, ◌≢◌, ℕ, ◌<◌, ◌≤◌, List, [], ◌∷◌, ◌++◌, refl, sym, ap, subst, ◌∙◌, append_assoc, arith, All}
+use Rattle.std.proofs.Common.{◌≡◌, ◌≢◌, ℕ, ◌≤◌, List, [], ◌∷◌, ◌++◌, sym, subst, ◌∙◌, append_assoc, arith}
 use Rattle.std.specs.Prelude.{IsUtf8, codes, Err}
 use Rattle.std.specs.Str.{IsAscii}
-use Rattle.std.proofs.lemmas.Fmt.{IsAscii-decimal, decimal_injective}
+use Rattle.std.proofs.lemmas.Fmt.{IsAscii-decimal}
 use Rattle.std.proofs.lemmas.List.Concat.{flat_map-cons}
 use Rattle.std.proofs.lemmas.List.Elements.{All-append, All-cons, All-nil}
 use Rattle.std.proofs.lemmas.Str.{IsUtf8-append, IsUtf8-from_ascii, IsAscii-append}
@@ -15,7 +15,7 @@ use Rattle.tl_note.proofs.PlainText.{number_plain}
 use Rattle.tl_checkpoint.specs.Pieces.{IsNoLine, IsNoSize}
 use Rattle.tl_witness.specs.declared.request.RequestFault.{RequestFault}
 use Rattle.tl_witness.specs.declared.request.RequestFault.TheVariants.{Malformed, OutOfMemory}
-use Rattle.tl_witness.specs.Request.{Body, IsBody, IsRequest, hash_lines, body_text}
+use Rattle.tl_witness.specs.Request.{Body, IsRequest, hash_lines, body_text}
 use Rattle.tl_witness.specs.ReadRequest.{IsProofText, ReadsProof, ParsesRequest}
 
 -- the first line of a request

@@ -1,12 +1,12 @@
 -- Laws of runs.
-use Rattle.std.proofs.Common.{◌≡◌, ℕ, zero, suc, ◌+◌, ◌<◌, List, [], ◌∷◌, ◌++◌, Some, ◌⊎◌, inl, inr, refl, ap, sym, ◌∙◌, subst, append_assoc, append-nil, drop, slice_get, length, arith, All}
+use Rattle.std.proofs.Common.{◌≡◌, ℕ, zero, suc, ◌+◌, List, [], ◌∷◌, ◌++◌, Some, ◌⊎◌, inl, inr, refl, ap, sym, ◌∙◌, subst, append_assoc, append-nil, drop, slice_get, arith}
 use Rattle.std.specs.Prelude.{slice_set}
 use Rattle.std.proofs.lemmas.List.Elements.{All-head, All-tail, All-cons, All-nil}
 use Rattle.tl_proof.specs.Collisions.{Step, Linked}
 use Rattle.tl_witness.specs.Chain.{TreeHead, head_of, first_head, last_head, Follows, IsLinked, IsChain}
 use Rattle.tl_witness.specs.Witnessed.{Witnessed, with_step}
 use Rattle.tl_witness.specs.Decide.{Asked, Outcome, Decides, Settles, KeepsStep}
-use Rattle.tl_witness.specs.Book.{BookOutcome, Decide, IsLawful, Place, asked_of}
+use Rattle.tl_witness.specs.Book.{BookOutcome, Decide, IsLawful, asked_of}
 use Rattle.tl_witness.specs.Runs.{IsLaterChain, IsRun, ChainsOnlyGrow, IsBookRun, IsLater, IsLaterBook, BooksOnlyGrow, ChainsAreLinkedFromEachStep}
 use Rattle.tl_witness.proofs.ChainLaws.{linked-none, linked-one, linked-after, linked-snoc}
 

@@ -1,13 +1,12 @@
 -- Books made up round one origin that is known.
-use Rattle.std.proofs.Common.{◌≡◌, ◌≢◌, ℕ, zero, suc, ◌<◌, List, [], ◌∷◌, Some, false, refl, sym, ap, subst, ◌∙◌, map, length, slice_get, slice_index_or, All, inl, inr}
+use Rattle.std.proofs.Common.{◌≡◌, ◌≢◌, ℕ, zero, suc, List, [], ◌∷◌, Some, false, refl, sym, ap, ◌∙◌, map, slice_get, inl, inr}
 use Rattle.std.specs.Prelude.{slice_set, Contains}
 use Rattle.std.proofs.lemmas.List.Elements.{All-nil, All-cons}
 use Rattle.std.proofs.lemmas.Option.{slice_get_within, get_or_from_slice_get, slice_get-get_or}
-use Rattle.tl_witness.specs.Book.{Place, IsPlaceOf, IsLawful, Decide, BookOutcome, RefusesAll, Signed, IsSigned, asked_of}
+use Rattle.tl_witness.specs.Book.{Place, IsPlaceOf, IsLawful, Decide, BookOutcome, Signed, IsSigned, asked_of}
 use Rattle.tl_witness.specs.Chain.{IsChain, first_head}
 use Rattle.tl_witness.specs.Decide.{Decides}
 use Rattle.tl_witness.specs.Request.{Body, IsRequest}
-use Rattle.tl_witness.specs.Saver.{Saved}
 use Rattle.tl_witness.specs.Shared.{Answer, AnswersFromSome}
 use Rattle.tl_witness.specs.Witnessed.{Witnessed}
 use Rattle.tl_witness.proofs.ChainLaws.{linked-none}

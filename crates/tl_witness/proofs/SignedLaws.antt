@@ -1,5 +1,5 @@
 -- Bytes that are no note of a checkpoint.
-use Rattle.std.proofs.Common.{◌≡◌, ◌≢◌, ℕ, ◌+◌, ◌<◌, ◌≤◌, List, [], ◌∷◌, ◌++◌, refl, sym, ap, subst, ◌∙◌, append_assoc, length, arith, All}
+use Rattle.std.proofs.Common.{◌≡◌, ◌≢◌, ℕ, List, [], ◌∷◌, ◌++◌, refl, sym, ap, ◌∙◌, append_assoc, length, arith, All}
 use Rattle.std.specs.Prelude.{Err}
 use Rattle.std.specs.List.{flat_map}
 use Rattle.std.proofs.lemmas.List.Elements.{All-cons}
@@ -10,7 +10,7 @@ use Rattle.tl_note.proofs.Lines.{lines_once}
 use Rattle.tl_note.proofs.OneNote.{one_note}
 use Rattle.tl_note.proofs.PlainText.{number_plain, base64_plain}
 use Rattle.tl_checkpoint.specs.Checkpoint.{Head, IsHead, IsOneLine, checkpoint_text}
-use Rattle.tl_checkpoint.specs.ParseCheckpoint.{IsInLines, HasLines, ParsesCheckpoint}
+use Rattle.tl_checkpoint.specs.ParseCheckpoint.{IsInLines, ParsesCheckpoint}
 use Rattle.tl_checkpoint.specs.declared.checkpoint.CheckpointFault.{CheckpointFault}
 use Rattle.tl_checkpoint.specs.declared.checkpoint.CheckpointFault.TheVariants.{Lines, Origin, Size, Root, OutOfMemory}
 use Rattle.tl_witness.specs.Book.{Signed, IsSigned}

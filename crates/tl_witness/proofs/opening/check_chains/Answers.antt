@@ -1,4 +1,4 @@
-use Rattle.std.proofs.Common.{◌≡◌, ℕ, List, [], ◌∷◌, map, length, string_bytes, refl, sym, ap, subst, arith, All}
+use Rattle.std.proofs.Common.{◌≡◌, List, map, length, string_bytes, refl, sym, ap, subst, arith, All}
 use Rattle.std.proofs.lemmas.List.{length-map}
 use Rattle.std.proofs.lemmas.List.Elements.{All-nil}
 use Rattle.tl_proof.specs.Collisions.{Step, step_of}

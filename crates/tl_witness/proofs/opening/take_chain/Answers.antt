@@ -1,6 +1,6 @@
 use Rattle.std.proofs.Common.{ℕ, List, refl, ap, sym, ◌∙◌, string_bytes}
 use Rattle.tl_proof.specs.Collisions.{Step}
-use Rattle.tl_witness.specs.Open.{SavedChain, saved_chain}
+use Rattle.tl_witness.specs.Open.{saved_chain}
 use Rattle.tl_witness.proofs.PlaceLaws.{named_at}
 use Rattle.tl_witness.proofs.OpeningLaws.{took_at, took_nothing}
 use Rattle.tl_witness.proofs.opening.take_chain.Goals as goal

@@ -1,4 +1,3 @@
-use Rattle.std.proofs.Common.{refl}
 use Rattle.tl_witness.proofs.SignedLaws.{no_signed}
 use Rattle.tl_witness.proofs.SignedFaults.{signed_fault}
 use Rattle.tl_witness.proofs.signed.read_signed.Goals as goal

@@ -1,4 +1,4 @@
-use Rattle.std.proofs.Common.{◌≡◌, ◌++◌, ◌+◌, map, length, ◌≤◌, string_bytes, List, ℕ}
+use Rattle.std.proofs.Common.{◌≡◌, ◌++◌, ◌+◌, map, length, ◌≤◌, string_bytes}
 use Rattle.std.specs.Prelude.{vec_capacity}
 use Rattle.tl_witness.proofs.shared.SharedWitness.new.Given as goal
 

@@ -1,0 +1,7 @@
+//! Worked examples of a witness. It has tests alone.
+#![tactic(auto)]
+
+#[cfg(test)]
+mod books;
+#[cfg(test)]
+mod posts;
