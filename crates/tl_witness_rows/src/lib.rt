@@ -4,4 +4,8 @@
 #[cfg(test)]
 mod books;
 #[cfg(test)]
+mod opening;
+#[cfg(test)]
 mod posts;
+#[cfg(test)]
+mod shared;

@@ -4,7 +4,8 @@ ghost use Rattle.std.specs.Prelude.{◌≡◌, ◌<◌, ◌-◌, ◌^◌, ◌⊎
 ghost use Rattle.tl_proof.specs.Collisions.{step_of};
 
 use std::alloc::{AllocError, Allocator, Global};
-use tl_hash::Sha256Tree;
+use tl_checkpoint::hash_of;
+use tl_hash::{Hash, Sha256Tree};
 use tl_note::{Signer, Verifier};
 use tl_proof::{HashList, Link};
 use tl_testing::LengthKey;
@@ -154,5 +155,13 @@ impl Saver for LastSaver {
             }
             Err(_) => self.fail(),
         }
+    }
+}
+
+/// The hash that a text is in base64, or one of zeros where it is none.
+pub fn hash(alloc: Global, text: &str) -> Result<Hash, AllocError> {
+    match hash_of(alloc, text)? {
+        Some(hash) => Ok(hash),
+        None => Ok(Hash::from_bytes([0; 32])),
     }
 }
