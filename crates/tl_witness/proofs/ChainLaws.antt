@@ -1,0 +1,98 @@
+-- Laws of chains.
+use Rattle.std.proofs.Common.{◌≡◌, ℕ, zero, suc, ◌+◌, ◌-◌, List, [], ◌∷◌, ◌++◌, Some, refl, ap, sym, subst, ◌∙◌, length, map, take, get_or, arith, slice_get, ◌<◌}
+use Rattle.std.proofs.lemmas.List.{length-map, map_more, take-map, get_or-map}
+use Rattle.std.proofs.lemmas.Option.{slice_get_within, slice_get-map, slice_get-get_or}
+use Rattle.std.specs.Option.{option_map}
+use Rattle.tl_proof.specs.Collisions.{Step, Linked}
+use Rattle.tl_witness.specs.Chain.{TreeHead, head_of, first_head, Follows, IsLinked, IsChain, last_head}
+use Rattle.tl_witness.specs.Open.{IsFirstBreak}
+
+-- the steps lead where the last of them leads
+pub last_head-snoc : (old : TreeHead) (steps : List Step) (step : Step) → last_head old (steps ++ step ∷ []) ≡ head_of step
+last_head-snoc old [] step = refl
+last_head-snoc old (s ∷ steps) step = last_head-snoc (head_of s) steps step
+
+-- linked steps are followed by more that are linked from where they lead
+pub linked-append : (H : List ℕ → List ℕ) (old : TreeHead) (steps more : List Step)
+    → IsLinked H old steps → IsLinked H (last_head old steps) more → IsLinked H old (steps ++ more)
+unfolding Linked
+linked-append H old [] more first then = then
+linked-append H old (s ∷ steps) more first then = (first.0, linked-append H (head_of s) steps more first.1 then)
+
+-- a chain grows by a step that follows its last head
+pub linked-snoc : (H : List ℕ → List ℕ) (old : TreeHead) (steps : List Step) (step : Step)
+    → IsLinked H old steps → Follows H (last_head old steps) step → IsLinked H old (steps ++ step ∷ [])
+unfolding Linked
+linked-snoc H old steps step first then = linked-append H old steps (step ∷ []) first (then, tt)
+
+-- no steps are linked
+pub linked-none : (H : List ℕ → List ℕ) (old : TreeHead) → IsLinked H old []
+unfolding Linked
+linked-none H old = tt
+
+-- one step that follows is linked
+pub linked-one : (H : List ℕ → List ℕ) (old : TreeHead) (step : Step) → Follows H old step → IsLinked H old (step ∷ [])
+unfolding Linked
+linked-one H old step follows = (follows, tt)
+
+-- the steps after the first ones are linked from where those lead
+pub linked-after : (H : List ℕ → List ℕ) (old : TreeHead) (steps more : List Step)
+    → IsLinked H old (steps ++ more) → IsLinked H (last_head old steps) more
+unfolding Linked
+linked-after H old [] more all = all
+linked-after H old (s ∷ steps) more all = linked-after H (head_of s) steps more all.1
+
+-- the head after the steps is that of the step at the last place
+pub last_head-at : (old : TreeHead) (steps : List Step) (i : ℕ) (step : Step)
+    → slice_get steps i ≡ Some step → i + 1 ≡ length steps → last_head old steps ≡ head_of step
+last_head-at old [] i step there last = absurd (omega arith)
+last_head-at old (s ∷ []) zero step there last = (let e : s ≡ step = cc in ap head_of e)
+last_head-at old (s ∷ (m ∷ steps)) zero step there last = absurd (omega arith)
+last_head-at old (s ∷ steps) (suc i) step there last = last_head-at (head_of s) steps i step there (omega arith)
+
+-- the same of the last place
+pub last_head-last : (old : TreeHead) (steps : List Step) (step : Step)
+    → slice_get steps (length steps - 1) ≡ Some step → last_head old steps ≡ head_of step
+last_head-last old steps step there =
+    let within = slice_get_within steps (length steps - 1) step there in
+    last_head-at old steps (length steps - 1) step there (omega arith)
+
+-- the same of a list that shows the steps
+pub last_head-map : {A : Type 0} (f : A → Step) (old : TreeHead) (xs : List A) (x : A)
+    → Some x ≡ slice_get xs (length xs - 1) → last_head old (map f xs) ≡ head_of (f x)
+last_head-map f old xs x there =
+    let shown : slice_get (map f xs) (length xs - 1) ≡ Some (f x) = slice_get-map f xs (length xs - 1) ∙ ap (option_map f) (sym there) in
+    last_head-last old (map f xs) (f x) (ap (λ n. slice_get (map f xs) (n - 1)) (length-map xs f) ∙ shown)
+
+-- what the steps before a place lead to, and the step there
+pub record HasCome {A : Type 0} (H : List ℕ → List ℕ) (f : A → Step) (xs : List A) (i size : ℕ) (root : List ℕ) : Type 0 where
+  pub chain : IsChain H (map f (take i xs))
+  pub size_is : (last_head (first_head H) (map f (take i xs))).size ≡ size
+  pub root_is : (last_head (first_head H) (map f (take i xs))).root ≡ root
+
+pub come_first : {A : Type 0} (H : List ℕ → List ℕ) (f : A → Step) (xs : List A) → HasCome H f xs 0 0 (H [])
+come_first H f xs = record { chain = linked-none H (first_head H); size_is = refl; root_is = refl }
+
+follows_here : {A : Type 0} (H : List ℕ → List ℕ) (f : A → Step) (xs : List A) (i size : ℕ) (root : List ℕ) (step : Step) → HasCome H f xs i size root
+    → Follows H (record { size = size; root = root }) step → Follows H (last_head (first_head H) (map f (take i xs))) step
+follows_here H f xs i size root step come follows = rw (come.size_is, come.root_is) follows
+
+pub come_more : {A : Type 0} (H : List ℕ → List ℕ) (f : A → Step) (xs : List A) (i size : ℕ) (root : List ℕ) (x : A) → i < length xs → x ≡ get_or xs i x
+    → HasCome H f xs i size root → Follows H (record { size = size; root = root }) (f x) → HasCome H f xs (i + 1) (f x).size (f x).root
+come_more H f xs i size root x lt is come follows =
+    let more : map f (take (i + 1) xs) ≡ map f (take i xs) ++ f x ∷ [] = map_more f xs i x lt ∙ ap (λ (y : _). map f (take i xs) ++ f y ∷ []) (sym is) in
+    let leads : last_head (first_head H) (map f (take (i + 1) xs)) ≡ head_of (f x) = ap (last_head (first_head H)) more ∙ last_head-snoc (first_head H) (map f (take i xs)) (f x) in
+    record {
+      chain = subst (IsChain H) (sym more) (linked-snoc H (first_head H) (map f (take i xs)) (f x) come.chain (follows_here H f xs i size root (f x) come follows));
+      size_is = ap (λ (h : TreeHead). h.size) leads;
+      root_is = ap (λ (h : TreeHead). h.root) leads;
+    }
+
+pub come_break : {A : Type 0} (H : List ℕ → List ℕ) (f : A → Step) (xs : List A) (i size : ℕ) (root : List ℕ) (x : A) → i < length xs → x ≡ get_or xs i x
+    → HasCome H f xs i size root → ¬ (Follows H (record { size = size; root = root }) (f x)) → IsFirstBreak H (map f xs) i
+come_break H f xs i size root x lt is come breaks = record {
+  step = f x;
+  there = slice_get-get_or (map f xs) i (f x) (omega (arith, length-map xs f)) ∙ ap (λ (s : Step). Some s) (get_or-map f xs i x (f x) lt ∙ ap f (sym is));
+  before = subst (IsChain H) (sym (take-map f i xs)) come.chain;
+  breaks = λ follows. breaks (rw (← come.size_is, ← come.root_is) (subst (λ (l : List Step). Follows H (last_head (first_head H) l) (f x)) (take-map f i xs) follows));
+}

@@ -1,0 +1,14 @@
+pub mod ChainLaws
+pub mod OpenLaws
+pub mod PlaceLaws
+pub mod SignedLaws
+pub mod SignedFaults
+pub mod ProofLines
+pub mod RequestLaws
+pub mod LineOf
+pub mod RunLaws
+pub mod SharedLaws
+pub mod Moved
+pub mod ListLaws
+pub mod OpeningLaws
+pub mod OpeningFaults

@@ -1,0 +1,29 @@
+-- A list that is moved, one element after the other, into another.
+use Rattle.std.proofs.Common.{◌≡◌, List, [], ◌∷◌, ◌++◌, refl, sym, ap, subst, ◌∙◌, map, length, append_assoc, append-nil, arith, All}
+use Rattle.std.proofs.lemmas.List.Elements.{All-push}
+use Rattle.std.proofs.lemmas.List.{map-append}
+
+-- what was moved shows as it did
+pub moved : {E G Y : Type 0} (f : E → Y) (h : G → Y) (done : List G) (one : G) (first : E) (left now : List E) (all : List Y)
+    → h one ≡ f first → left ≡ first ∷ now → map h done ++ map f left ≡ all → map h (done ++ one ∷ []) ++ map f now ≡ all
+moved f h done one first left now all same next so_far =
+    ap (λ (t : List _). t ++ map f now) (map-append h done (one ∷ []))
+    ∙ append_assoc (map h done) (h one ∷ []) (map f now)
+    ∙ ap (λ (x : _). map h done ++ x ∷ map f now) same
+    ∙ ap (λ (t : List _). map h done ++ map f t) (sym next)
+    ∙ so_far
+
+-- and all of it, once nothing is left
+pub moved_all : {E G Y : Type 0} (f : E → Y) (h : G → Y) (done : List G) (left : List E) (all : List Y)
+    → length left ≡ 0 → map h done ++ map f left ≡ all → map h done ≡ all
+moved_all f h done [] all none so_far = sym (append-nil (map h done)) ∙ so_far
+moved_all f h done (x ∷ left) all none so_far = absurd (omega arith)
+
+-- what shows of what shows
+pub shown_twice : {E W Y : Type 0} (view : E → W) (g : W → Y) (f : E → Y) (xs : List E) → ((x : E) → f x ≡ g (view x)) → map f xs ≡ map g (map view xs)
+shown_twice view g f [] same = refl
+shown_twice view g f (x ∷ xs) same = ap (λ (t : _). t ∷ map f xs) (same x) ∙ ap (λ (ts : List _). g (view x) ∷ ts) (shown_twice view g f xs same)
+
+-- what holds of all that was moved, and of the next
+pub moved_each : {G Y : Type 0} (P : Y → Type 0) (h : G → Y) (done : List G) (one : G) → All P (map h done) → P (h one) → All P (map h (done ++ one ∷ []))
+moved_each P h done one each is = subst (All P) (sym (map-append h done (one ∷ []))) (All-push P (map h done) (h one) each is)

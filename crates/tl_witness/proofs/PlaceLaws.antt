@@ -1,0 +1,73 @@
+-- Laws of places of a book, which is seen through a view of what stands there.
+use Rattle.std.proofs.Common.{◌≡◌, ◌≢◌, ℕ, zero, suc, ◌+◌, ◌<◌, ◌≤◌, List, [], ◌∷◌, Some, refl, sym, ap, ◌∙◌, map, length, slice_get, slice_index_or, arith, ◌⊎◌, inl, inr}
+use Rattle.std.proofs.lemmas.Option.{slice_get-map, slice_get_read, slice_get_within, get_or_from_slice_get}
+use Rattle.std.proofs.lemmas.List.{length-map}
+use Rattle.std.specs.Option.{option_map}
+use Rattle.tl_witness.specs.Witnessed.{Witnessed}
+use Rattle.tl_witness.specs.Book.{Place, IsPlaceOf}
+
+-- what is read at a place shows there
+pub shows_at : {A B : Type 0} (f : A → B) (xs : List A) (n i : ℕ) (x : A) (y : B)
+    → n ≡ length xs → i < n → x ≡ slice_index_or xs i x → f x ≡ y → slice_get (map f xs) i ≡ Some y
+shows_at f xs n i x y whole within read shown =
+    slice_get-map f xs i ∙ (ap (option_map f) (slice_get_read xs n i x whole within read) ∙ ap Some shown)
+
+-- what shows at a place stands there
+pub stands_at : {A B : Type 0} (f : A → B) (xs : List A) (i : ℕ) (y : B)
+    → slice_get (map f xs) i ≡ Some y → (x : A) × (slice_get xs i ≡ Some x) × (f x ≡ y)
+stands_at f [] i y there = absurd (cc)
+stands_at f (x ∷ xs) zero y there = let e : f x ≡ y = cc in (x, refl, e)
+stands_at f (x ∷ xs) (suc i) y there = stands_at f xs i y there
+
+-- nothing that shows below i + 1 is y, where nothing below i is, and at i it is not
+pub not_below : {A B : Type 0} (f : A → B) (xs : List A) (n i : ℕ) (x : A) (y : B)
+    → n ≡ length xs → i < n → x ≡ slice_index_or xs i x → ¬ (f x ≡ y)
+    → ((j : ℕ) → j < i → slice_get (map f xs) j ≢ Some y) → (j : ℕ) → j < i + 1 → slice_get (map f xs) j ≢ Some y
+not_below f xs n i x y whole within read differs below j less there =
+    elim (at_most j i (omega arith)) [
+      | inl lower ↦ below j lower there
+      | inr here ↦
+          let at : slice_get (map f xs) i ≡ Some (f x) = shows_at f xs n i x (f x) whole within read refl in
+          let e : f x ≡ y = cc in
+          differs e
+    ]
+  where
+    at_most : (j i : ℕ) → j ≤ i → (j < i) ⊎ (j ≡ i)
+    at_most j i less = grind arith
+
+-- y shows nowhere, where it shows at no place below one that is past the end
+pub nowhere : {A B : Type 0} (f : A → B) (xs : List A) (n i : ℕ) (y : B)
+    → n ≡ length xs → n ≤ i → ((j : ℕ) → j < i → slice_get (map f xs) j ≢ Some y) → (j : ℕ) → slice_get (map f xs) j ≢ Some y
+nowhere f xs n i y whole past below j there =
+    let within = slice_get_within (map f xs) j y there in
+    let long = length-map xs f in
+    below j (omega arith) there
+
+-- no place is of an origin that shows nowhere
+pub no_place : {A : Type 0} (keepers : List A) (view : A → Witnessed) (origin_of : A → List ℕ) (origin : List ℕ)
+    → ((k : A) → (view k).origin ≡ origin_of k)
+    → ((i : ℕ) → slice_get (map origin_of keepers) i ≢ Some origin) → (place : Place) → ¬ (IsPlaceOf (map view keepers) origin place)
+no_place keepers view origin_of origin same nowhere place is =
+    let k = stands_at view keepers place.at place.one is.0 in
+    let named : origin_of k.0 ≡ origin = sym (same k.0) ∙ (ap (λ (w : Witnessed). w.origin) k.2 ∙ is.1) in
+    nowhere place.at (slice_get-map origin_of keepers place.at ∙ (ap (option_map origin_of) k.1 ∙ ap Some named))
+
+-- where an origin shows, there is a place of it
+pub place_at : {A : Type 0} (keepers : List A) (view : A → Witnessed) (origin_of : A → List ℕ) (i : ℕ) (origin : List ℕ) (k : A)
+    → ((k : A) → (view k).origin ≡ origin_of k)
+    → slice_get (map origin_of keepers) i ≡ Some origin → k ≡ slice_index_or keepers i k
+    → IsPlaceOf (map view keepers) origin (record { at = i; one = view k })
+place_at keepers view origin_of i origin k same shows read =
+    let it = stands_at origin_of keepers i origin shows in
+    let here : it.0 ≡ k = sym (get_or_from_slice_get keepers i it.0 k it.1) ∙ sym read in (
+      slice_get-map view keepers i ∙ (ap (option_map view) it.1 ∙ ap (λ x. Some (view x)) here),
+      same k ∙ (ap origin_of (sym here) ∙ it.2),
+    )
+
+-- what is read where an origin shows is of it
+pub named_at : {A : Type 0} (keepers : List A) (origin_of : A → List ℕ) (i : ℕ) (origin : List ℕ) (k : A)
+    → slice_get (map origin_of keepers) i ≡ Some origin → k ≡ slice_index_or keepers i k → origin_of k ≡ origin
+named_at keepers origin_of i origin k shows read =
+    let it = stands_at origin_of keepers i origin shows in
+    let here : it.0 ≡ k = sym (get_or_from_slice_get keepers i it.0 k it.1) ∙ sym read in
+    ap origin_of (sym here) ∙ it.2

@@ -1,0 +1,13 @@
+use Rattle.std.proofs.Common.{string_bytes, refl}
+use Rattle.tl_witness.proofs.PlaceLaws.{no_place, place_at}
+use Rattle.tl_witness.proofs.book.Book.chain.Goals as goal
+
+pub returns-in-None : goal.returns-in-None
+returns-in-None g c =
+    let nowhere = rw c.as_slice.ensures.value at c.in-None.ensures.none in
+    no_place c.args.self.now.entries.items _ (λ e. string_bytes e.origin) _ (λ e. refl) nowhere
+
+pub returns : goal.returns
+returns g c =
+    let shows = rw c.as_slice.ensures.value at c.in-Some.ensures.found in
+    (_, place_at c.args.self.now.entries.items _ (λ e. string_bytes e.origin) _ _ _ (λ e. refl) shows c.index.ensures, c.links.ensures)

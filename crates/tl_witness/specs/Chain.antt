@@ -1,0 +1,35 @@
+-- An origin's chain: what the witness has cosigned for it, in order (C2SP tlog-witness, "add-checkpoint"). H is the digest
+-- function.
+use Rattle.std.specs.Prelude.{ℕ, List, [], ◌∷◌}
+use Rattle.tl_proof.specs.Acceptance.{AcceptsConsistency}
+use Rattle.tl_proof.specs.Collisions.{Step, Linked}
+
+-- a tree head: a size and a root hash
+pub record TreeHead : Type 0 where
+  pub size : ℕ
+  pub root : List ℕ
+
+-- the head that a step leads to
+abbrev pub head_of : Step → TreeHead
+head_of step = record { size = step.size; root = step.root }
+
+-- the step's proof is accepted for its head, from this older head
+abbrev pub Follows : (List ℕ → List ℕ) → TreeHead → Step → Type 0
+Follows H old step = AcceptsConsistency H step.proof step.size step.root old.size old.root
+
+-- each step follows the one before, and the first follows this head
+abbrev pub IsLinked : (List ℕ → List ℕ) → TreeHead → List Step → Type 0
+IsLinked H old steps = Linked H old.size old.root steps
+
+-- the head that the steps lead to, from this one
+abbrev pub last_head : TreeHead → List Step → TreeHead
+last_head old [] = old
+last_head old (step ∷ steps) = last_head (head_of step) steps
+
+-- the first head of every origin: size 0 and the hash of no bytes
+abbrev pub first_head : (List ℕ → List ℕ) → TreeHead
+first_head H = record { size = 0; root = H [] }
+
+-- the steps of a witness for one origin
+abbrev pub IsChain : (List ℕ → List ℕ) → List Step → Type 0
+IsChain H steps = IsLinked H (first_head H) steps

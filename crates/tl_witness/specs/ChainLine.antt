@@ -1,0 +1,61 @@
+-- Links that a witness saved, as lines (a format of this project).
+use Rattle.std.specs.Prelude.{◌≡◌, ◌≢◌, ℕ, ◌≤◌, not, List, [], ◌∷◌, ◌++◌, length, All, map, filter, take, IsUtf8, bytes_eq}
+use Rattle.std.specs.List.{flat_map, list_any, enumerate_from}
+use Rattle.tl_hash.specs.Bytes.{IsHash}
+use Rattle.tl_note.specs.Text.{line, number_text, base64_text, IsSize}
+use Rattle.tl_checkpoint.specs.Checkpoint.{IsOneLine}
+use Rattle.tl_proof.specs.Collisions.{Step}
+
+-- a step of the chain of an origin
+pub record ChainLine : Type 0 where
+  pub origin : List ℕ
+  pub step : Step
+
+-- what has a line
+pub record IsChainLine (l : ChainLine) : Type 0 where
+  pub origin : IsOneLine l.origin
+  pub utf8 : IsUtf8 l.origin
+  pub size : IsSize l.step.size
+  pub root : IsHash l.step.root
+  pub few : length l.step.proof ≤ 63
+  pub hashes : All IsHash l.step.proof
+
+-- hashes, each behind a space
+abbrev pub spaced_hashes : List (List ℕ) → List ℕ
+spaced_hashes hashes = flat_map (λ hash. 32 ∷ base64_text hash) hashes
+
+-- size, root, the number of hashes, the hashes, and the origin to the end of the line
+abbrev pub chain_line : ChainLine → List ℕ
+chain_line l =
+    line (number_text l.step.size ++ 32 ∷ base64_text l.step.root ++ 32 ∷ number_text (length l.step.proof) ++ spaced_hashes l.step.proof ++ 32 ∷ l.origin)
+
+-- lines, one after the other
+abbrev pub chain_text : List ChainLine → List ℕ
+chain_text lines = flat_map chain_line lines
+
+-- bytes are these lines
+pub record IsChainText (bytes : List ℕ) (lines : List ChainLine) : Type 0 where
+  pub each : All IsChainLine lines
+  pub spelled : bytes ≡ chain_text lines
+
+-- the first lines are well formed, and no line follows them, though bytes do
+pub record IsMalformedAt (bytes : List ℕ) (place : ℕ) : Type 0 where
+  pub before : List ChainLine
+  pub rest : List ℕ
+  pub each : All IsChainLine before
+  pub count : length before ≡ place
+  pub joined : bytes ≡ chain_text before ++ rest
+  pub more : rest ≢ []
+  pub no_line : (l : ChainLine) (after : List ℕ) → IsChainLine l → rest ≢ chain_line l ++ after
+
+-- the origins, each where it comes first
+abbrev pub origins : List ChainLine → List (List ℕ)
+origins lines = map (λ p. p.1.origin) (filter (λ p. not (list_any (λ l. bytes_eq l.origin p.1.origin) (take p.0 lines))) (enumerate_from 0 lines))
+
+-- the steps of one origin, in order
+abbrev pub steps_of : List ℕ → List ChainLine → List Step
+steps_of origin lines = map (λ l. l.step) (filter (λ l. bytes_eq l.origin origin) lines)
+
+-- each origin with its steps
+abbrev pub chains : List ChainLine → List (List ℕ × List Step)
+chains lines = map (λ origin. (origin, steps_of origin lines)) (origins lines)

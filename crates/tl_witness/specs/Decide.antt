@@ -1,0 +1,82 @@
+-- What a witness answers to a request for one origin, and what it then keeps (C2SP tlog-witness, "add-checkpoint").
+use Rattle.std.specs.Prelude.{◌≡◌, ℕ, ◌<◌, ◌≤◌, ◌⊎◌, List, []}
+use Rattle.tl_note.specs.Text.{line, number_text}
+use Rattle.tl_note.specs.Key.{SigningKey, IsKeyName}
+use Rattle.tl_note.specs.Note.{Signature}
+use Rattle.tl_note.specs.Open.{Opened}
+use Rattle.tl_checkpoint.specs.Cosignature.{Cosigns, MayFailToCosign}
+use Rattle.tl_proof.specs.Acceptance.{AcceptsConsistency}
+use Rattle.tl_proof.specs.Collisions.{Step}
+use Rattle.tl_witness.specs.Cases.{Unless}
+use Rattle.tl_witness.specs.Chain.{TreeHead, first_head, last_head}
+use Rattle.tl_witness.specs.Saver.{Saved, Keeps, Fails}
+use Rattle.tl_witness.specs.Witnessed.{Witnessed, with_step}
+
+-- what is asked: the old size, the step to the new head, the text of the note and its signature lines, and the time
+pub record Asked : Type 0 where
+  pub old : ℕ
+  pub step : Step
+  pub text : List ℕ
+  pub lines : List Signature
+  pub time : ℕ
+
+-- what came of it: the reply, and the saver and the origin before and after
+pub record Outcome : Type 0 where
+  pub status : ℕ
+  pub body : List ℕ
+  pub saved : Saved
+  pub saved_after : Saved
+  pub one : Witnessed
+  pub one_after : Witnessed
+
+-- nothing was saved and nothing changed
+abbrev pub Stays : Outcome → Type 0
+Stays out = (out.saved_after ≡ out.saved) × (out.one_after ≡ out.one)
+
+-- the reply is this status with no body, and nothing changed
+abbrev pub Refuses : Outcome → ℕ → Type 0
+Refuses out status = (out.status ≡ status) × (out.body ≡ []) × Stays out
+
+-- the reply is 409 with the last cosigned size as its body, and nothing changed
+abbrev pub Conflicts : Outcome → ℕ → Type 0
+Conflicts out size = (out.status ≡ 409) × (out.body ≡ line (number_text size)) × Stays out
+
+-- the cosigner has no key's name, or may refuse this text or give no bytes for it
+abbrev pub MayNotCosign : List ℕ → ℕ → SigningKey → Type 0
+MayNotCosign text time cosigner = ¬ (IsKeyName cosigner.name) ⊎ MayFailToCosign text time cosigner
+
+-- a save failed: the reply is 500, and the origin stays
+abbrev pub SaveFails : Outcome → Type 0
+SaveFails out = (out.status ≡ 500) × (out.body ≡ []) × Fails out.saved out.saved_after × (out.one_after ≡ out.one)
+
+-- for an equal size nothing changed; for a larger one the step was saved and then kept
+abbrev pub KeepsStep : Outcome → ℕ → Step → Type 0
+KeepsStep out size step =
+    ((step.size ≡ size) × Stays out)
+    ⊎ ((size < step.size) × Keeps out.saved out.saved_after out.one.origin step × (out.one_after ≡ with_step out.one step))
+
+-- the reply is 200 with a cosignature line over the note's text
+abbrev pub Attests : Outcome → Asked → Type 0
+Attests out asked = (out.status ≡ 200) × Cosigns asked.text asked.time out.one.cosigner out.body
+
+-- the outcomes once the proof is accepted, from this last size
+abbrev pub Settles : Outcome → ℕ → Asked → Type 0
+Settles out size asked =
+    (MayNotCosign asked.text asked.time out.one.cosigner × Refuses out 500)
+    ⊎ ((size < asked.step.size) × SaveFails out)
+    ⊎ (Attests out asked × KeepsStep out size asked.step)
+
+-- the cases from the last head on, of which the first that applies decides
+abbrev pub DecidesFrom : (List ℕ → List ℕ) → TreeHead → Asked → Outcome → Type 0
+DecidesFrom H last asked out =
+    Unless (asked.old ≤ asked.step.size) (Refuses out 400)
+    (Unless (asked.old ≡ last.size) (Conflicts out last.size)
+    (Unless (asked.step.size ≡ last.size → asked.step.root ≡ last.root) (Conflicts out last.size)
+    (Unless (AcceptsConsistency H asked.step.proof asked.step.size asked.step.root last.size last.root) (Refuses out 422)
+    (Settles out last.size asked))))
+
+-- the same where the note is open to the origin's verifiers, and 403 else; or a growth of memory was refused
+abbrev pub Decides : (List ℕ → List ℕ) → Asked → Outcome → Type 0
+Decides H asked out =
+    Refuses out 500
+    ⊎ Unless (Opened out.one.verifiers asked.text asked.lines) (Refuses out 403) (DecidesFrom H (last_head (first_head H) out.one.chain) asked out)

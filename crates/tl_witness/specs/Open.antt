@@ -1,0 +1,107 @@
+-- When a book can be opened with whom it trusts and the chains that were saved, and what it then keeps (C2SP tlog-witness,
+-- "Configuration" and "add-checkpoint"). H is the digest function.
+use Rattle.std.specs.Prelude.{◌≡◌, ℕ, ◌⊎◌, List, [], ◌∷◌, Some, slice_get, take, map, All, ⊤}
+use Rattle.std.specs.List.{AllZip}
+use Rattle.tl_note.specs.Key.{Key, SigningKey, IsKeyName}
+use Rattle.tl_proof.specs.Collisions.{Step}
+use Rattle.tl_witness.specs.declared.opening.BookFault.{BookFault}
+use Rattle.tl_witness.specs.declared.opening.BookFault.TheVariants.{TwiceNamed, NoTrust, BadName, BadChain, OutOfMemory}
+use Rattle.tl_witness.specs.Chain.{first_head, last_head, Follows, IsChain}
+use Rattle.tl_witness.specs.Witnessed.{Witnessed}
+
+-- whom a witness trusts for an origin, and its cosigner
+pub record Trusted : Type 0 where
+  pub origin : List ℕ
+  pub verifiers : List Key
+  pub cosigner : SigningKey
+
+-- a chain that was saved, and its origin
+abbrev pub SavedChain : Type 0
+SavedChain = List ℕ × List Step
+
+abbrev pub saved_chain : List ℕ → List Step → SavedChain
+saved_chain origin steps = (origin, steps)
+
+abbrev pub trusted_origins : List Trusted → List (List ℕ)
+trusted_origins trusts = map (λ t. t.origin) trusts
+
+abbrev pub chain_origins : List SavedChain → List (List ℕ)
+chain_origins chains = map (λ c. c.0) chains
+
+-- x is one of these
+abbrev pub IsAmong : {A : Type 0} → A → List A → Type 0
+IsAmong x [] = ⊥
+IsAmong x (y ∷ ys) = (y ≡ x) ⊎ IsAmong x ys
+
+-- one of these stands there twice
+abbrev pub HasTwice : {A : Type 0} → List A → Type 0
+HasTwice [] = ⊥
+HasTwice (x ∷ xs) = IsAmong x xs ⊎ HasTwice xs
+
+-- a key's name and identifier
+abbrev pub key_name : Key → List ℕ × ℕ
+key_name key = (key.name, key.id)
+
+-- no two verifiers have one name and identifier
+abbrev pub HasEachKeyOnce : List Key → Type 0
+HasEachKeyOnce keys = ¬ (HasTwice (map key_name keys))
+
+-- no origin is in two trusts or two chains, and no trust has two verifiers of one name and identifier
+pub record AreNamedOnce (trusts : List Trusted) (chains : List SavedChain) : Type 0 where
+  pub trusts_once : ¬ (HasTwice (trusted_origins trusts))
+  pub chains_once : ¬ (HasTwice (chain_origins chains))
+  pub keys_once : All HasEachKeyOnce (map (λ t. t.verifiers) trusts)
+
+-- the first that is not so
+pub record IsFirstNot {A : Type 0} (IsSo : A → Type 0) (xs : List A) (place : ℕ) : Type 0 where
+  pub first : A
+  pub there : slice_get xs place ≡ Some first
+  pub is_not : ¬ (IsSo first)
+  pub before : All IsSo (take place xs)
+
+-- every chain is of an origin that is trusted
+abbrev pub IsTrusted : List Trusted → List ℕ → Type 0
+IsTrusted trusts origin = IsAmong origin (trusted_origins trusts)
+
+-- the names of cosigners
+abbrev pub cosigner_names : List Trusted → List (List ℕ)
+cosigner_names trusts = map (λ t. t.cosigner.name) trusts
+
+-- the first step that isn't accepted from the one before
+pub record IsFirstBreak (H : List ℕ → List ℕ) (steps : List Step) (place : ℕ) : Type 0 where
+  pub step : Step
+  pub there : slice_get steps place ≡ Some step
+  pub before : IsChain H (take place steps)
+  pub breaks : ¬ (Follows H (last_head (first_head H) (take place steps)) step)
+
+-- the first chain that breaks, and where it first does
+pub record IsFirstBroken (H : List ℕ → List ℕ) (chains : List SavedChain) (place link : ℕ) : Type 0 where
+  pub broken : SavedChain
+  pub there : slice_get chains place ≡ Some broken
+  pub before : All (λ c. IsChain H c.1) (take place chains)
+  pub breaks : IsFirstBreak H broken.1 link
+
+-- why a book is not opened: the first of these that applies, or that memory was refused
+abbrev pub RefusesBook : (List ℕ → List ℕ) → List Trusted → List SavedChain → BookFault → Type 0
+RefusesBook H trusts chains TwiceNamed = ¬ (AreNamedOnce trusts chains)
+RefusesBook H trusts chains (NoTrust place) = AreNamedOnce trusts chains × IsFirstNot (IsTrusted trusts) (chain_origins chains) place
+RefusesBook H trusts chains (BadName place) =
+    AreNamedOnce trusts chains × All (IsTrusted trusts) (chain_origins chains) × IsFirstNot IsKeyName (cosigner_names trusts) place
+RefusesBook H trusts chains (BadChain place link) =
+    AreNamedOnce trusts chains × All (IsTrusted trusts) (chain_origins chains) × All IsKeyName (cosigner_names trusts) × IsFirstBroken H chains place link
+RefusesBook H trusts chains OutOfMemory = ⊤
+
+-- what is kept for a trust: its chain, or none
+pub record IsKept (chains : List SavedChain) (trust : Trusted) (one : Witnessed) : Type 0 where
+  pub origin : one.origin ≡ trust.origin
+  pub verifiers : one.verifiers ≡ trust.verifiers
+  pub cosigner : one.cosigner ≡ trust.cosigner
+  pub chain : IsAmong (trust.origin, one.chain) chains ⊎ (¬ (IsAmong trust.origin (chain_origins chains)) × (one.chain ≡ []))
+
+-- the book keeps what is kept for each trust, in order
+pub record OpensBook (H : List ℕ → List ℕ) (trusts : List Trusted) (chains : List SavedChain) (book : List Witnessed) : Type 0 where
+  pub once : AreNamedOnce trusts chains
+  pub trusted : All (IsTrusted trusts) (chain_origins chains)
+  pub named : All IsKeyName (cosigner_names trusts)
+  pub lawful : All (λ c. IsChain H c.1) chains
+  pub kept : AllZip (IsKept chains) trusts book

@@ -1,0 +1,18 @@
+-- The steps of opening a book.
+use Rattle.std.specs.Prelude.{◌≡◌, ◌≢◌, ℕ, ◌⊎◌, List, [], ⊤}
+use Rattle.tl_proof.specs.Collisions.{Step}
+use Rattle.tl_witness.specs.declared.opening.BookFault.{BookFault}
+use Rattle.tl_witness.specs.declared.opening.BookFault.TheVariants.{BadChain, OutOfMemory}
+use Rattle.tl_witness.specs.Open.{SavedChain, IsAmong, IsFirstBroken, chain_origins}
+
+-- a chain breaks, or memory was refused
+abbrev pub ChecksChains : (List ℕ → List ℕ) → List SavedChain → BookFault → Type 0
+ChecksChains H chains (BadChain place link) = IsFirstBroken H chains place link
+ChecksChains H chains OutOfMemory = ⊤
+ChecksChains H chains _ = ⊥
+
+-- the chain of this origin was taken, or one of no steps where there is none; the others stay
+pub record TakesChain (origin : List ℕ) (old new : List SavedChain) (taken : List Step) : Type 0 where
+  pub same_origins : chain_origins new ≡ chain_origins old
+  pub others : (c : SavedChain) → IsAmong c new → c.0 ≢ origin → IsAmong c old
+  pub chain : IsAmong (origin, taken) old ⊎ (¬ (IsAmong origin (chain_origins old)) × (taken ≡ []))

@@ -1,0 +1,44 @@
+-- What reading a request answers (C2SP tlog-witness, "add-checkpoint").
+use Rattle.std.specs.Prelude.{◌≡◌, ℕ, ◌≤◌, List, ◌∷◌, ◌++◌, length, All, IsUtf8, Result, Ok, Err, ⊤}
+use Rattle.std.specs.Borrow.{Bor}
+use Rattle.tl_hash.specs.Bytes.{IsHash}
+use Rattle.tl_checkpoint.specs.Checkpoint.{head_of}
+use Rattle.tl_witness.specs.declared.request.AddRequest.{AddRequest}
+use Rattle.tl_witness.specs.declared.request.RequestFault.{RequestFault}
+use Rattle.tl_witness.specs.declared.request.RequestFault.TheVariants.{Malformed, OutOfMemory}
+use Rattle.tl_witness.specs.declared.signed.SignedCheckpoint.{SignedCheckpoint}
+use Rattle.tl_witness.specs.Request.{Body, IsRequest, hash_lines}
+use Rattle.tl_witness.specs.Book.{Signed, IsSigned}
+
+-- what a request asks, whatever memory it is in
+abbrev pub body_of : {A : Type 0} → AddRequest A → Body
+body_of request = record { old = request.old; proof = request.proof; note = request.note.now }
+
+-- the request that the bytes are, or that they are none
+abbrev pub ParsesRequest : {A : Type 0} → List ℕ → Result (AddRequest A) RequestFault → Type 0
+ParsesRequest bytes (Ok request) = IsRequest bytes (body_of request)
+ParsesRequest bytes (Err Malformed) = (request : Body) → ¬ (IsRequest bytes request)
+ParsesRequest bytes (Err OutOfMemory) = ⊤
+
+-- the text is the lines of these hashes, at most 63, an empty line and the note
+pub record IsProofText (text : List ℕ) (proof : List (List ℕ)) (note : List ℕ) : Type 0 where
+  pub few : length proof ≤ 63
+  pub hashes : All IsHash proof
+  pub utf8 : IsUtf8 note
+  pub spelled : text ≡ hash_lines proof ++ 10 ∷ note
+
+-- the hashes and the note of such a text, or that it is none
+abbrev pub ReadsProof : List ℕ → Result (List (List ℕ) × Bor (List ℕ)) RequestFault → Type 0
+ReadsProof text (Ok read) = IsProofText text read.0 read.1.now
+ReadsProof text (Err Malformed) = (proof : List (List ℕ)) (note : List ℕ) → ¬ (IsProofText text proof note)
+ReadsProof text (Err OutOfMemory) = ⊤
+
+-- what a signed checkpoint says
+abbrev pub signed_of : {A : Type 0} → SignedCheckpoint A → Signed
+signed_of signed = record { text = signed.note.text.now; lines = signed.note.signatures.items; head = head_of signed.checkpoint }
+
+-- the note and checkpoint that the bytes are, or that they are none
+abbrev pub ReadsSigned : {A : Type 0} → List ℕ → Result (SignedCheckpoint A) RequestFault → Type 0
+ReadsSigned bytes (Ok signed) = IsSigned bytes (signed_of signed)
+ReadsSigned bytes (Err Malformed) = (signed : Signed) → ¬ (IsSigned bytes signed)
+ReadsSigned bytes (Err OutOfMemory) = ⊤

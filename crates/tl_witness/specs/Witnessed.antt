@@ -1,0 +1,15 @@
+-- What a witness keeps of one origin.
+use Rattle.std.specs.Prelude.{ℕ, List, ◌++◌, ◌∷◌, []}
+use Rattle.tl_note.specs.Key.{Key, SigningKey}
+use Rattle.tl_proof.specs.Collisions.{Step}
+
+-- one origin: whom the witness trusts for it, its cosigner, and its chain
+pub record Witnessed : Type 0 where
+  pub origin : List ℕ
+  pub verifiers : List Key
+  pub cosigner : SigningKey
+  pub chain : List Step
+
+-- the same, with one step more
+abbrev pub with_step : Witnessed → Step → Witnessed
+with_step one step = record one { chain = one.chain ++ step ∷ [] }

@@ -1,0 +1,46 @@
+//! The line of a link that was accepted (a format of this project, for savers).
+
+ghost use Rattle.std.specs.Prelude.{◌≡◌, ◌++◌, IfOk, OnOk, string_bytes};
+ghost use Rattle.tl_proof.specs.Collisions.{step_of};
+ghost use Rattle.tl_witness.specs.ChainLine.{IsChainLine, chain_line, spaced_hashes};
+
+use base64::engine::general_purpose::STANDARD;
+use itoa::Buffer;
+use std::alloc::{AllocError, Allocator};
+use tl_hash::Hash;
+use tl_proof::Link;
+
+// Appends the hashes, each behind a space.
+fn push_hashes<A: Allocator>(out: &mut String<A>, hashes: &[Hash]) -> Result<(), AllocError>
+    ensures { OnOk result (string_bytes out.new ≡ string_bytes out.old ++ spaced_hashes hashes.now) }
+{
+    for hash in hashes {
+        out.push_str(" ")?;
+        STANDARD.encode_string(hash.as_bytes(), out)?;
+    }
+    Ok(())
+}
+
+/// The line of a link of an origin: the size, the root, the number of hashes of the proof, these hashes, and the origin, with
+/// spaces between, and a newline. Sizes are decimal, hashes base64. It fails only where a growth was refused.
+pub fn write_chain_line<A: Allocator, B: Allocator>(
+    alloc: A,
+    origin: &str,
+    link: &Link<B>,
+) -> Result<String<A>, AllocError>
+    requires { IsChainLine (record { origin = origin.now; step = step_of link.now }) }
+    ensures { IfOk result (λ line. string_bytes line ≡ chain_line (record { origin = origin.now; step = step_of link.now })) }
+{
+    let hashes = link.proof.as_slice();
+    let mut line = String::new(alloc);
+    line.push_str(Buffer::new().format(link.size))?;
+    line.push_str(" ")?;
+    STANDARD.encode_string(link.root.as_bytes(), &mut line)?;
+    line.push_str(" ")?;
+    line.push_str(Buffer::new().format(hashes.len()))?;
+    push_hashes(&mut line, hashes)?;
+    line.push_str(" ")?;
+    line.push_str(origin)?;
+    line.push_str("\n")?;
+    Ok(line)
+}

@@ -1,0 +1,28 @@
+//! A witness of transparency logs: it cosigns checkpoints that extend those it cosigned before (C2SP tlog-witness).
+#![tactic(auto)]
+
+mod book;
+mod chain;
+mod chain_line;
+mod copy;
+mod cosign;
+mod keeper;
+mod law;
+mod opening;
+mod place;
+mod reply;
+mod request;
+mod saver;
+mod shared;
+mod signed;
+mod trust;
+
+pub use book::{Book, Shown};
+pub use chain_line::write_chain_line;
+pub use law::{books_only_grow, chains_are_linked_from_each_step, chains_only_grow};
+pub use opening::BookFault;
+pub use reply::Reply;
+pub use request::{AddRequest, RequestFault, parse_request};
+pub use saver::{SaveFault, Saver};
+pub use shared::{BookBack, Origins, SharedWitness};
+pub use trust::{ShownTrust, Trust};

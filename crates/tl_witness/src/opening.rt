@@ -1,0 +1,211 @@
+//! Opening a book with whom it trusts and the chains that were saved.
+
+ghost use Rattle.std.specs.Prelude.{◌≡◌, ◌↔◌, All, IfErr, IfOk, IsTrue, map, string_bytes};
+ghost use Rattle.std.specs.List.{AllZip};
+ghost use Rattle.tl_proof.specs.Collisions.{step_of};
+ghost use Rattle.tl_witness.specs.Chain.{IsChain};
+ghost use Rattle.tl_witness.specs.Open.{HasEachKeyOnce, HasTwice, IsKept, OpensBook, RefusesBook, saved_chain, trusted_origins};
+ghost use Rattle.tl_witness.specs.Opening.{ChecksChains, TakesChain};
+
+use crate::book::{Book, Entry, Shown, ShownEntry};
+use crate::chain::Chain;
+use crate::keeper::{Keeper, Tools};
+use crate::place::{OfOrigin, first_unknown, is_twice, place_of};
+use crate::trust::{HasKeys, ShownTrust, Trust, are_keys_once, first_bad_name};
+use std::alloc::{AllocError, AllocFailed, Allocator, Global};
+use std::mem;
+use thiserror::Error;
+use tl_hash::TreeHash;
+use tl_proof::Link;
+
+/// Why a book is not opened. Trusts, chains and links are counted from 0.
+#[derive(Clone, Copy, Debug, PartialEq, Eq, Error)]
+pub enum BookFault {
+    /// An origin is in two trusts or two chains, or two verifiers of a trust have one name and identifier.
+    #[error("an origin or a verifier is named twice")]
+    TwiceNamed,
+    /// This chain is of no origin that is trusted.
+    #[error("chain {0} is of no origin that is trusted")]
+    NoTrust(usize),
+    /// The cosigner of this trust has no key's name.
+    #[error("the cosigner of trust {0} has a bad name")]
+    BadName(usize),
+    /// This link of this chain isn't accepted from the one before.
+    #[error("link {link} of chain {chain} isn't accepted")]
+    BadChain {
+        /// The place of the chain.
+        chain: usize,
+        /// The place of the link in it.
+        link: usize,
+    },
+    /// A growth was refused.
+    #[error("out of memory")]
+    OutOfMemory,
+}
+
+impl<X: Drop> From<AllocFailed<X>> for BookFault {
+    ghost use Rattle.tl_witness.specs.declared.opening.BookFault.TheVariants.{OutOfMemory};
+
+    ghost from_gives = { λ _ fault. fault ≡ OutOfMemory };
+
+    fn from(_fault: AllocFailed<X>) -> BookFault {
+        BookFault::OutOfMemory
+    }
+}
+
+impl<A: Allocator> OfOrigin for (String<A>, Vec<Link<A>, A>) {
+    ghost origin_of = { λ c. string_bytes c.0 };
+
+    fn origin(&self) -> &str {
+        self.0.as_str()
+    }
+
+    fn is_of(&self, origin: &str) -> bool {
+        self.0.as_str() == origin
+    }
+}
+
+// A chain, and its origin.
+#[derive(Drop)]
+struct Checked<T: TreeHash, A: Allocator> {
+    origin: String<A>,
+    chain: Chain<T, A>,
+}
+
+impl<T: TreeHash, A: Allocator> OfOrigin for Checked<T, A> {
+    ghost origin_of = { λ c. string_bytes c.origin };
+
+    fn origin(&self) -> &str {
+        self.origin.as_str()
+    }
+
+    fn is_of(&self, origin: &str) -> bool {
+        self.origin.as_str() == origin
+    }
+}
+
+// The chains of these links. A chain that breaks is told with its place and its link's.
+fn check_chains<T: TreeHash, A: Allocator + Copy>(
+    alloc: A,
+    tree: T,
+    chains: Vec<(String<A>, Vec<Link<A>, A>), A>,
+) -> Result<Vec<Checked<T, A>, A>, BookFault>
+    ensures ok { IfOk result (λ checked. (map (λ c. saved_chain (string_bytes c.origin) c.chain) checked.items ≡ map (λ c. saved_chain (string_bytes c.0) (map step_of c.1.items)) chains.items)
+        × All (λ c. IsChain T.digest_of c.1) (map (λ c. saved_chain (string_bytes c.0) (map step_of c.1.items)) chains.items)) }
+    ensures err { IfErr result (ChecksChains T.digest_of (map (λ c. saved_chain (string_bytes c.0) (map step_of c.1.items)) chains.items)) }
+{
+    let mut checked = Vec::new(alloc);
+    for (origin, links) in chains {
+        let chain = match Chain::from_links(tree, links) {
+            Ok(chain) => chain,
+            Err(link) => {
+                return Err(BookFault::BadChain {
+                    chain: checked.len(),
+                    link,
+                });
+            }
+        };
+        checked.push(Checked { origin, chain })?;
+    }
+    Ok(checked)
+}
+
+// Takes the chain of an origin, or one of no links where there is none.
+fn take_chain<T: TreeHash, A: Allocator + Copy>(
+    alloc: A,
+    tree: T,
+    chains: &mut Vec<Checked<T, A>, A>,
+    origin: &str,
+) -> Chain<T, A>
+    ensures { TakesChain origin.now (map (λ c. saved_chain (string_bytes c.origin) c.chain) chains.old.items) (map (λ c. saved_chain (string_bytes c.origin) c.chain) chains.new.items) result }
+{
+    match place_of(chains.as_slice(), origin) {
+        Some(place) => {
+            let checked = &mut chains[place];
+            mem::replace(&mut checked.chain, Chain::new(alloc, tree))
+        }
+        None => Chain::new(alloc, tree),
+    }
+}
+
+// What is kept for each trust, in order: its chain, or one of no links. It fails only where a growth was refused.
+fn enter<T: TreeHash, A: Allocator + Copy>(
+    alloc: A,
+    tree: T,
+    trusts: Vec<Trust<A>, A>,
+    chains: Vec<Checked<T, A>, A>,
+) -> Result<Vec<Entry<T, A>, A>, AllocError>
+    requires { ¬ (HasTwice (trusted_origins (map (λ t. ⟦<Trust<A> as ShownTrust>⟧.trusted t) trusts.items))) }
+    ensures { IfOk result (λ entries. AllZip (IsKept (map (λ c. saved_chain (string_bytes c.origin) c.chain) chains.items))
+        (map (λ t. ⟦<Trust<A> as ShownTrust>⟧.trusted t) trusts.items) (map (λ e. ⟦<Entry<T, A> as ShownEntry>⟧.shown_entry e) entries.items)) }
+{
+    let mut left = chains;
+    let mut entries = Vec::new(alloc);
+    for trust in trusts {
+        let chain = take_chain(alloc, tree, &mut left, trust.origin.as_str());
+        let Trust {
+            origin,
+            verifiers,
+            cosigner,
+        } = trust;
+        let keeper = Keeper {
+            verifiers,
+            cosigner,
+            chain,
+        };
+        entries.push(Entry { origin, keeper })?;
+    }
+    Ok(entries)
+}
+
+// Whether no origin is in two trusts or two chains, and no trust has two verifiers of one name and identifier.
+fn are_named_once<N: OfOrigin + HasKeys, M: OfOrigin>(trusts: &[N], chains: &[M]) -> bool
+    ensures { IsTrue result ↔ (¬ (HasTwice (map N.origin_of trusts.now)) × ¬ (HasTwice (map M.origin_of chains.now)) × All HasEachKeyOnce (map N.keys trusts.now)) }
+{
+    !is_twice(trusts) && !is_twice(chains) && are_keys_once(trusts)
+}
+
+impl<T: TreeHash, A: Allocator + Copy> Book<T, A> {
+    /// The book of whom a witness trusts for each origin, and of the chains that were saved. An origin without a chain begins with
+    /// size 0 and the hash of no bytes. `global` is what the cosigners take memory from.
+    ///
+    /// The faults are found in their order: `TwiceNamed`, then the first chain without a trust, the first cosigner without a key's
+    /// name, and the first chain that breaks with the first link that isn't accepted.
+    pub fn open(
+        alloc: A,
+        global: Global,
+        tree: T,
+        trusts: Vec<Trust<A>, A>,
+        chains: Vec<(String<A>, Vec<Link<A>, A>), A>,
+    ) -> Result<Self, BookFault>
+        ensures ok { IfOk result (λ book. OpensBook T.digest_of (map (λ t. ⟦<Trust<A> as ShownTrust>⟧.trusted t) trusts.items)
+            (map (λ c. saved_chain (string_bytes c.0) (map step_of c.1.items)) chains.items) (⟦<Book<T, A> as Shown>⟧.shown book)) }
+        ensures err { IfErr result (RefusesBook T.digest_of (map (λ t. ⟦<Trust<A> as ShownTrust>⟧.trusted t) trusts.items)
+            (map (λ c. saved_chain (string_bytes c.0) (map step_of c.1.items)) chains.items)) }
+    {
+        if !are_named_once(trusts.as_slice(), chains.as_slice()) {
+            return Err(BookFault::TwiceNamed);
+        }
+        if let Some(chain) = first_unknown(trusts.as_slice(), chains.as_slice()) {
+            return Err(BookFault::NoTrust(chain));
+        }
+        if let Some(trust) = first_bad_name(trusts.as_slice()) {
+            return Err(BookFault::BadName(trust));
+        }
+        let checked = match check_chains(alloc, tree, chains) {
+            Ok(checked) => checked,
+            Err(fault) => return Err(fault),
+        };
+        let Ok(entries) = enter(alloc, tree, trusts, checked) else {
+            return Err(BookFault::OutOfMemory);
+        };
+        Ok(Book {
+            tools: Tools {
+                tree,
+                alloc,
+                global,
+            },
+            entries,
+        })
+    }
+}
