@@ -7,8 +7,8 @@ use tl_checkpoint::{
 };
 use tl_hash::Hash;
 use tl_note::{NoteFault, Signer, Verifier, parse_note};
-use tl_testing::{LengthKey, Refusing};
 use tl_testing::texts::{NO_ENTRY, TWO_ENTRIES};
+use tl_testing::{LengthKey, Refusing};
 
 // More requests than any of the calls makes.
 const MOST: u64 = 1000;

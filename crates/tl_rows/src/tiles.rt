@@ -6,10 +6,10 @@ use std::test::Fail;
 use tl_hash::{Hash, Sha256Tree};
 use tl_store::{HashReader, HashStore, ReadFault};
 use tl_testing::Refusing;
+use tl_testing::vectors::{ENTRIES, LEAVES};
 use tl_tile::{
     BundleFault, Resource, Tile, needed, parse_path, path_of, read_bundle, tile_bytes, write_bundle,
 };
-use tl_testing::vectors::{ENTRIES, LEAVES};
 
 // More requests than any of the calls makes.
 const MOST: u64 = 1000;
