@@ -1,9 +1,13 @@
 //! Requests to a book, one after the other.
 
-use crate::posts::{COSIGNATURE, E0, E1, E2, F1, LastSaver, TIME, body, fresh_book, signed_body};
+use crate::posts::{
+    COSIGNATURE, E0, E1, E2, F1, LastSaver, TIME, body, fresh_book, log_key, signed_body,
+    witness_key,
+};
 use std::alloc::{AllocError, Global};
 use std::test::Fail;
 use tl_hash::Sha256Tree;
+use tl_note::{Signer, Verifier};
 use tl_witness::Book;
 
 // How many links the book has of this origin.
@@ -27,7 +31,9 @@ fn long_body(alloc: Global) -> Result<String, AllocError> {
 #[test]
 fn a_log_from_its_first_entry(rt: HostRuntime) -> Result<(), Fail> {
     let alloc = rt.alloc();
-    let mut book = fresh_book(alloc)?;
+    let log: Box<dyn Verifier> = Box::new(alloc, log_key(alloc)?)?;
+    let cosigner: Box<dyn Signer> = Box::new(alloc, witness_key(alloc)?)?;
+    let mut book = fresh_book(alloc, log, cosigner)?;
     let mut saver = LastSaver::new(alloc);
     let first = body(alloc, 0, "", 1, E1)?;
     let reply = book.add(first.as_bytes(), TIME, &mut saver);
@@ -49,7 +55,9 @@ fn a_log_from_its_first_entry(rt: HostRuntime) -> Result<(), Fail> {
 #[test]
 fn requests_that_are_refused(rt: HostRuntime) -> Result<(), Fail> {
     let alloc = rt.alloc();
-    let mut book = fresh_book(alloc)?;
+    let log: Box<dyn Verifier> = Box::new(alloc, log_key(alloc)?)?;
+    let cosigner: Box<dyn Signer> = Box::new(alloc, witness_key(alloc)?)?;
+    let mut book = fresh_book(alloc, log, cosigner)?;
     let mut saver = LastSaver::new(alloc);
     let first = body(alloc, 0, "", 1, E1)?;
     assert_eq!(rt; book.add(first.as_bytes(), TIME, &mut saver).status, 200);
@@ -81,7 +89,9 @@ fn requests_that_are_refused(rt: HostRuntime) -> Result<(), Fail> {
 #[test]
 fn a_save_that_fails(rt: HostRuntime) -> Result<(), Fail> {
     let alloc = rt.alloc();
-    let mut book = fresh_book(alloc)?;
+    let log: Box<dyn Verifier> = Box::new(alloc, log_key(alloc)?)?;
+    let cosigner: Box<dyn Signer> = Box::new(alloc, witness_key(alloc)?)?;
+    let mut book = fresh_book(alloc, log, cosigner)?;
     let mut saver = LastSaver::new(alloc);
     let first = body(alloc, 0, "", 1, E1)?;
     assert_eq!(rt; book.add(first.as_bytes(), TIME, &mut saver).status, 200);
@@ -102,7 +112,9 @@ fn a_save_that_fails(rt: HostRuntime) -> Result<(), Fail> {
 #[test]
 fn the_log_of_no_entries(rt: HostRuntime) -> Result<(), Fail> {
     let alloc = rt.alloc();
-    let mut book = fresh_book(alloc)?;
+    let log: Box<dyn Verifier> = Box::new(alloc, log_key(alloc)?)?;
+    let cosigner: Box<dyn Signer> = Box::new(alloc, witness_key(alloc)?)?;
+    let mut book = fresh_book(alloc, log, cosigner)?;
     let mut saver = LastSaver::new(alloc);
     let empty = body(alloc, 0, "", 0, E0)?;
     assert_eq!(rt; book.add(empty.as_bytes(), TIME, &mut saver).status, 200);

@@ -1,9 +1,10 @@
 //! Books opened with chains that were saved.
 
-use crate::posts::{E1, E2, F1, hash, trust};
+use crate::posts::{E1, E2, F1, hash, log_key, trust, witness_key};
 use std::alloc::{AllocError, Global};
 use std::test::Fail;
 use tl_hash::Sha256Tree;
+use tl_note::{Signer, Verifier};
 use tl_proof::{HashList, Link};
 use tl_witness::{Book, BookFault};
 
@@ -34,7 +35,9 @@ fn fault(
 ) -> Result<Option<BookFault>, AllocError> {
     let mut known = Vec::new(alloc);
     for _ in 0..trusts {
-        known.push(trust(alloc, "example.com/log")?)?;
+        let log: Box<dyn Verifier> = Box::new(alloc, log_key(alloc)?)?;
+        let cosigner: Box<dyn Signer> = Box::new(alloc, witness_key(alloc)?)?;
+        known.push(trust(alloc, log, cosigner)?)?;
     }
     let mut chains = Vec::new(alloc);
     chains.push((String::from_str(alloc, origin)?, two_links(alloc, proof)?))?;

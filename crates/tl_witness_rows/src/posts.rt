@@ -23,19 +23,25 @@ pub const COSIGNATURE: &str = "— witness.example CgsMDQAAAABlU/EAAAAAAAAAAF4=\
 
 pub const TIME: u64 = 1700000000;
 
-/// The log's key as verifier, and the witness's as cosigner, for one origin.
-pub fn trust(alloc: Global, origin: &str) -> Result<Trust<Global>, AllocError> {
-    let mut verifiers: Vec<Box<dyn Verifier>> = Vec::new(alloc);
-    let log: Box<dyn Verifier> = Box::new(
-        alloc,
-        LengthKey::new(alloc, "example.com/log", 0x01020304)?,
-    )?;
+/// The log's key.
+pub fn log_key(alloc: Global) -> Result<LengthKey, AllocError> {
+    LengthKey::new(alloc, "example.com/log", 0x01020304)
+}
+
+/// The witness's key.
+pub fn witness_key(alloc: Global) -> Result<LengthKey, AllocError> {
+    LengthKey::new(alloc, "witness.example", 0x0A0B0C0D)
+}
+
+/// The trust in one verifier for `example.com/log`.
+pub fn trust(
+    alloc: Global,
+    log: Box<dyn Verifier>,
+    cosigner: Box<dyn Signer>,
+) -> Result<Trust<Global>, AllocError> {
+    let mut verifiers = Vec::new(alloc);
     verifiers.push(log)?;
-    let cosigner: Box<dyn Signer> = Box::new(
-        alloc,
-        LengthKey::new(alloc, "witness.example", 0x0A0B0C0D)?,
-    )?;
-    let origin = String::from_str(alloc, origin)?;
+    let origin = String::from_str(alloc, "example.com/log")?;
     Ok(Trust {
         origin,
         verifiers,
@@ -44,9 +50,13 @@ pub fn trust(alloc: Global, origin: &str) -> Result<Trust<Global>, AllocError> {
 }
 
 /// A book of one origin, `example.com/log`, without links.
-pub fn fresh_book(alloc: Global) -> Result<Book<Sha256Tree, Global>, BookFault> {
+pub fn fresh_book(
+    alloc: Global,
+    log: Box<dyn Verifier>,
+    cosigner: Box<dyn Signer>,
+) -> Result<Book<Sha256Tree, Global>, BookFault> {
     let mut trusts = Vec::new(alloc);
-    let Ok(trust) = trust(alloc, "example.com/log") else {
+    let Ok(trust) = trust(alloc, log, cosigner) else {
         return Err(BookFault::OutOfMemory);
     };
     trusts.push(trust)?;

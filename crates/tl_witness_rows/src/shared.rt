@@ -1,13 +1,18 @@
 //! The requests of the first log, to a witness that threads share.
 
-use crate::posts::{COSIGNATURE, E1, E2, F1, LastSaver, TIME, body, fresh_book};
+use crate::posts::{
+    COSIGNATURE, E1, E2, F1, LastSaver, TIME, body, fresh_book, log_key, witness_key,
+};
 use std::test::Fail;
+use tl_note::{Signer, Verifier};
 use tl_witness::SharedWitness;
 
 #[test]
 fn the_same_replies(rt: HostRuntime) -> Result<(), Fail> {
     let alloc = rt.alloc();
-    let Ok(witness) = SharedWitness::new(fresh_book(alloc)?) else {
+    let log: Box<dyn Verifier> = Box::new(alloc, log_key(alloc)?)?;
+    let cosigner: Box<dyn Signer> = Box::new(alloc, witness_key(alloc)?)?;
+    let Ok(witness) = SharedWitness::new(fresh_book(alloc, log, cosigner)?) else {
         assert!(rt; false, "out of memory");
         return Ok(());
     };
