@@ -1,11 +1,11 @@
 //! Audits: lists that extend, lists that collide under a weak digest, proofs that are refused, and growths refused in turn.
 
-use crate::vectors::entries;
 use std::alloc::{AllocError, Allocator, Global};
 use std::test::Fail;
 use tl_hash::{Hash, Sha256Tree, entry_root};
 use tl_proof::{AuditFault, HashList, Link, Verdict, audit_chain, audit_tree, prove_tree};
 use tl_store::HashStore;
+use tl_testing::vectors::entries;
 use tl_testing::{Refusing, SumDigest};
 
 // More requests than any of the calls makes.
