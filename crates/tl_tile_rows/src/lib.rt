@@ -4,6 +4,8 @@
 #[cfg(test)]
 mod edge;
 #[cfg(test)]
+mod fetches;
+#[cfg(test)]
 mod reader;
 #[cfg(test)]
 mod tables;

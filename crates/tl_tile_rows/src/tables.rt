@@ -13,21 +13,21 @@ use tl_tile::{Resource, SourceFault, Tile, TileHashReader, TileSource, needed};
 // More entries than any of the tests appends.
 const MOST: u64 = 100_000;
 
-// What a source does to the bytes of a tile.
+/// What a source does to the bytes of a tile.
 #[derive(Clone, Copy)]
-enum Trick {
+pub(crate) enum Trick {
     Nothing,
     ChangesBit,
     AddsByte,
     ExchangesHashes,
 }
 
-// A source over a store, which plays its trick at one tile.
+/// A source over a store, which plays its trick at one tile.
 #[derive(Drop)]
-struct TrickSource<'s, T: TreeHash> {
-    store: &'s HashStore<T, Global>,
-    tile: Tile,
-    trick: Trick,
+pub(crate) struct TrickSource<'s, T: TreeHash> {
+    pub(crate) store: &'s HashStore<T, Global>,
+    pub(crate) tile: Tile,
+    pub(crate) trick: Trick,
 }
 
 // The bytes with the first two hashes exchanged.
@@ -67,8 +67,8 @@ impl<T: TreeHash> TileSource for TrickSource<'_, T> {
     }
 }
 
-// A store of so many entries: each is its place in two bytes, the last ones of it.
-fn store_of<T: TreeHash>(
+/// A store of so many entries: each is its place in two bytes, the last ones of it.
+pub(crate) fn store_of<T: TreeHash>(
     alloc: Global,
     h: T,
     size: u64,
