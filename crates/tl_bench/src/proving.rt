@@ -34,7 +34,8 @@ impl TreeHash for Counting<'_> {
     ghost digest_length = { length-sha256 };
 }
 
-type Store = HashStore<Sha256Tree, Global>;
+/// A store of stored hashes under SHA-256.
+pub(crate) type Store = HashStore<Sha256Tree, Global>;
 
 // A proof, and what it is about: the place or the old size, and the leaf hash or the old root.
 #[derive(Drop)]
@@ -44,8 +45,8 @@ struct Made {
     proof: Vec<Hash>,
 }
 
-// The store of so many entries, each of which is its place; none of more than 1,000,000.
-fn store_of(alloc: Global, size: u64) -> Option<Store> {
+/// The store of so many entries, each of which is its place; none of more than 1,000,000.
+pub(crate) fn store_of(alloc: Global, size: u64) -> Option<Store> {
     let mut store = HashStore::new(alloc, Sha256Tree);
     for place in 0..size {
         if store.size() >= 1_000_000 {

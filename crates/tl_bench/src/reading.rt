@@ -1,10 +1,11 @@
 //! Stored hashes read a second from a source of tiles in memory, each tile checked against the root.
 
+use crate::proving::{Store, store_of};
 use std::alloc::{Allocator, Global};
 use std::io;
 use std::time::{Clock, Duration, Instant};
 use tl_hash::{Hash, Sha256Tree};
-use tl_store::{HashReader, HashStore, stored_index, tree_hash};
+use tl_store::{HashReader, stored_index, tree_hash};
 use tl_tile::{Resource, SourceFault, Tile, TileHashReader, TileSource, needed, tile_bytes};
 
 // The entries of the log.
@@ -39,20 +40,6 @@ impl TileSource for &Memory {
             None => Err(SourceFault::Unavailable),
         }
     }
-}
-
-type Store = HashStore<Sha256Tree, Global>;
-
-// The store of the entries, each of which is its place.
-fn store_of(alloc: Global) -> Option<Store> {
-    let mut store = HashStore::new(alloc, Sha256Tree);
-    for place in 0..SIZE {
-        if store.size() >= SIZE {
-            return None;
-        }
-        store.append(&place.to_be_bytes()).ok()?;
-    }
-    Some(store)
 }
 
 // The bytes of a tile, of the three lowest levels.
@@ -117,7 +104,7 @@ fn rate(count: u64, took: Duration) -> u128 {
 /// Prints how many stored hashes a second are read from tiles in memory, 256 of one tile a read, over a log of 1,000,000 entries.
 /// False where a read or memory was refused.
 pub fn tiles<R: Clock + Print>(rt: &R, alloc: Global) -> io::Result<bool> {
-    let Some(store) = store_of(alloc) else {
+    let Some(store) = store_of(alloc, SIZE) else {
         return Ok(false);
     };
     let (Ok(root), Some(memory)) = (
