@@ -63,7 +63,7 @@ chars_plain : (cs : List ℕ) → All IsNameChar cs → HasNoControl (encode_utf
 chars_plain [] each = All-nil IsPlain
 chars_plain (c ∷ cs) each = All-append IsPlain (encode_utf8 c) (encode_utf8_all cs) (char_plain c (All-head IsNameChar c cs each).no_control) (chars_plain cs (All-tail IsNameChar c cs each))
 
-name_plain : (name : List ℕ) → IsKeyName name → HasNoControl name
+pub name_plain : (name : List ℕ) → IsKeyName name → HasNoControl name
 name_plain name is = subst HasNoControl (encodes-chars name is.text) (chars_plain (chars name) is.each)
 
 bytes_cons : (b : ℕ) (rest : List ℕ) → b < 256 → IsBytes rest → IsBytes (b ∷ rest)

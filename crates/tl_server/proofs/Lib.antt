@@ -8,3 +8,4 @@ pub mod HashLines
 pub mod ProofTexts
 pub mod CountedLines
 pub mod GrowingLemmas
+pub mod CheckpointTexts

@@ -2,6 +2,7 @@
 #![tactic(auto)]
 
 mod audit_text;
+mod checkpoint_text;
 mod commands;
 mod demonstration;
 mod device;
@@ -13,6 +14,7 @@ mod proof_text;
 mod stored;
 mod words;
 
+pub use checkpoint_text::checkpoint_of;
 pub use commands::audit::run_audit;
 pub use commands::check::run_check;
 pub use commands::consistency::run_consistency;
@@ -20,6 +22,9 @@ pub use commands::head::run_head;
 pub use commands::inclusion::run_inclusion;
 pub use demonstration::{DemoKey, demo_key, hmac};
 pub use device::Counted;
+pub use device::reading::MOST_INPUT;
+pub use device::writing::write_whole;
 pub use entries::read_entries;
 pub use fault::{RunFault, exit_of, fault_line};
+pub use stored::{root_of, store_of};
 pub use words::{Job, WordsFault, read_words};

@@ -11,7 +11,7 @@ use std::alloc::Allocator;
 use std::io::Read;
 
 /// The most bytes that a command reads, 64 MiB.
-pub(crate) const MOST_INPUT: u64 = 67_108_864;
+pub const MOST_INPUT: u64 = 67_108_864;
 
 impl<R: Read> Counted<R> {
     // One read of the device, which gives the number of bytes read. Any error of it is a failure.

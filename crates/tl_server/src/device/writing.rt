@@ -27,8 +27,9 @@ impl<W: Write> Counted<W> {
         }
     }
 }
-// Writes the whole text.
-pub(crate) fn write_whole<W: Write>(writer: &mut Counted<W>, text: &[u8]) -> Result<(), RunFault>
+
+/// Writes the whole text. A write that fails or takes no byte is `Write`, after which a prefix of the text was written.
+pub fn write_whole<W: Write>(writer: &mut Counted<W>, text: &[u8]) -> Result<(), RunFault>
     ensures whole { OnOk result (WroteWhole (passage W.contents writer.old writer.new) text.now) }
     ensures fault { IfErr result (λ fault. fault ≡ RunFault.Write) }
     ensures part { OnErr result (WrotePart (passage W.contents writer.old writer.new) text.now) }

@@ -1,0 +1,4 @@
+pub mod NeededParts
+pub mod Bundles
+pub mod DemoNotes
+pub mod Wanted

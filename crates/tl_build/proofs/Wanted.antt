@@ -1,0 +1,160 @@
+-- From the resource that is wanted to the path that was asked for.
+use Rattle.std.proofs.Common.{◌≡◌, ℕ, ◌^◌, ◌<◌, Bool, true, false, List, length, sym, ap, subst, ◌∙◌, All, ◌≤◌, get_or, inl, inr, ◌⊎◌, ◌↔◌, IsTrue, arith}
+use Rattle.std.specs.Prelude.{Contains, None, Some, Option, Result, Ok, Err, IfOk, IfErr}
+use Rattle.std.specs.declared.vec.Vec.{Vec}
+use Rattle.std.proofs.lemmas.Bool.{true≢false}
+use Rattle.std.proofs.lemmas.List.{get_or_default}
+use Rattle.tl_note.specs.Key.{IsKeyName}
+use Rattle.tl_tile.specs.declared.resource.Resource.{Resource}
+use Rattle.tl_tile.proofs.OnePath.{only_path}
+use Rattle.tl_server.specs.Device.{Passage, IsUnwritten}
+use Rattle.tl_server.specs.Lines.{entries_of, first_too_long}
+use Rattle.tl_server.specs.Run.{Outcome, Prints, PrintsRefusal, Fails, Runs, CameOf, ReadEntries, most_input}
+use Rattle.tl_server.specs.declared.fault.RunFault.{RunFault}
+use Rattle.tl_server.specs.declared.fault.RunFault.TheVariants as fault
+use Rattle.tl_server.proofs.LinesLemmas.{length-entries_of}
+use Rattle.tl_build.specs.Mirror.{checkpoint_note, mirrored, resource_text, listing_text}
+use Rattle.tl_build.specs.Build.{IsPrinted, IsMissing, BuildComes, IsLawfulPath, RunsBuild}
+use Rattle.tl_build.specs.Steps.{IsAsked, IsServed, IsShown, AnswersWanted, WantedComes}
+use Rattle.tl_build.proofs.NeededParts.{lies, lawful}
+
+-- a list has each of its elements
+pub has_all : {X : Type 0} (xs ys : List X) → xs ≡ ys → All (Contains ys) xs
+has_all xs ys same = subst (λ (t : List _). All (Contains t) xs) same (λ k d lt. (k, lt, get_or_default xs k (get_or xs k d) d lt))
+
+-- the test of the resources tells of those of the log
+pub served : (shown : List Resource) (n : ℕ) (wanted : Option Resource) (b : Bool) → shown ≡ mirrored n → IsTrue b ↔ IsServed shown wanted → b ≡ true
+    → IsServed (mirrored n) wanted
+served shown n wanted b same told passed = subst (λ (t : List Resource). IsServed t wanted) same (told.0 passed)
+
+pub not_served : (shown : List Resource) (n : ℕ) (wanted : Option Resource) (b : Bool) → shown ≡ mirrored n → IsTrue b ↔ IsServed shown wanted → b ≡ false
+    → ¬ (IsServed (mirrored n) wanted)
+not_served shown n wanted b same told failed = λ has.
+    let holds : IsTrue b = told.1 (subst (λ (t : List Resource). IsServed t wanted) (sym same) has) in
+    absurd (true≢false (sym holds ∙ failed))
+
+asked_shown : (note : List ℕ) (entries : List (List ℕ)) (get : Option (List ℕ)) (wanted : Option Resource) (text : List ℕ)
+    → IsAsked get wanted → IsShown note entries wanted text → IsPrinted note entries get text
+asked_shown note entries None None text asked shown = shown
+asked_shown note entries None (Some r) text asked shown = absurd asked
+asked_shown note entries (Some path) None text asked shown = absurd asked
+asked_shown note entries (Some path) (Some r) text asked shown = record { found = r; served = shown.0; named = asked.1; spelled = shown.1 }
+
+asked_missing : (size : ℕ) (get : Option (List ℕ)) (wanted : Option Resource) → size < 2 ^ 32
+    → IsAsked get wanted → ¬ (IsServed (mirrored size) wanted) → IsMissing size get
+asked_missing size None None small asked absent = absurd (absent tt)
+asked_missing size None (Some r) small asked absent = absurd asked
+asked_missing size (Some path) None small asked absent = absurd asked
+asked_missing size (Some path) (Some r) small asked absent = λ other has named.
+    let one : Some r ≡ Some other = only_path path (Some r) asked tt other (lawful size other (lies size other small has)) named in
+    let same : other ≡ r = cc in
+    absurd (absent (subst (λ (x : Resource). Contains (mirrored size) x) same has))
+
+asked_lawful : (get : Option (List ℕ)) (wanted : Option Resource) → IsAsked get wanted → IsLawfulPath get
+asked_lawful None None asked = tt
+asked_lawful None (Some r) asked = absurd asked
+asked_lawful (Some path) None asked = absurd asked
+asked_lawful (Some path) (Some r) asked = (r, asked.0, asked.1)
+
+-- what comes of an input where a resource is wanted is what comes where its path is asked for
+wanted_comes : (origin secret : List ℕ) (get : Option (List ℕ)) (wanted : Option Resource) (input : List ℕ) (outcome : Outcome) → length input ≤ most_input
+    → IsAsked get wanted → WantedComes origin secret wanted input outcome → BuildComes origin secret get input outcome
+wanted_comes origin secret get wanted input (Prints text) fits asked comes =
+    (comes.0, asked_shown (checkpoint_note origin secret (entries_of input)) (entries_of input) get wanted text asked comes.1)
+wanted_comes origin secret get wanted input (PrintsRefusal text) fits asked comes = absurd comes
+wanted_comes origin secret get wanted input (Fails fault.NotThere) fits asked comes =
+    (comes.0, asked_missing (length (entries_of input)) get wanted (omega (arith, fits, length-entries_of input)) asked comes.1)
+wanted_comes origin secret get wanted input (Fails (fault.EntryTooLong place)) fits asked comes = comes
+wanted_comes origin secret get wanted input (Fails fault.Refused) fits asked comes = absurd comes
+wanted_comes origin secret get wanted input (Fails fault.Read) fits asked comes = absurd comes
+wanted_comes origin secret get wanted input (Fails fault.Write) fits asked comes = absurd comes
+wanted_comes origin secret get wanted input (Fails fault.TooLarge) fits asked comes = absurd comes
+wanted_comes origin secret get wanted input (Fails fault.BadOrigin) fits asked comes = absurd comes
+wanted_comes origin secret get wanted input (Fails fault.BadIndex) fits asked comes = absurd comes
+wanted_comes origin secret get wanted input (Fails fault.BadOld) fits asked comes = absurd comes
+wanted_comes origin secret get wanted input (Fails fault.BadPath) fits asked comes = absurd comes
+wanted_comes origin secret get wanted input (Fails fault.Malformed) fits asked comes = absurd comes
+wanted_comes origin secret get wanted input (Fails (fault.Chain place)) fits asked comes = absurd comes
+wanted_comes origin secret get wanted input (Fails fault.Sign) fits asked comes = absurd comes
+wanted_comes origin secret get wanted input (Fails fault.Operator) fits asked comes = absurd comes
+wanted_comes origin secret get wanted input (Fails fault.Listen) fits asked comes = absurd comes
+wanted_comes origin secret get wanted input (Fails fault.Accept) fits asked comes = absurd comes
+wanted_comes origin secret get wanted input (Fails fault.OutOfMemory) fits asked comes = absurd comes
+
+came : (origin secret : List ℕ) (get : Option (List ℕ)) (wanted : Option Resource) (i : Passage) (outcome : Outcome) → IsAsked get wanted
+    → CameOf (WantedComes origin secret wanted) i outcome → CameOf (BuildComes origin secret get) i outcome
+came origin secret get wanted i outcome asked is =
+    record { input = is.input; whole = is.whole; so = wanted_comes origin secret get wanted is.input outcome is.whole.fits asked is.so }
+
+never : (origin secret : List ℕ) (get : Option (List ℕ)) (wanted : Option Resource) (i o : Passage) (outcome : Outcome) → IsAsked get wanted
+    → CameOf (WantedComes origin secret wanted) i outcome × IsUnwritten o → CameOf (BuildComes origin secret get) i outcome × IsUnwritten o
+never origin secret get wanted i o outcome asked is = (came origin secret get wanted i outcome asked is.0, is.1)
+
+-- a run for a resource that is wanted is a run for the path that was asked for
+pub runs_build : (origin secret : List ℕ) (get : Option (List ℕ)) (wanted : Option Resource) (i o : Passage) (r : Result (Unit {0}) RunFault) → IsKeyName origin → IsAsked get wanted
+    → Runs (WantedComes origin secret wanted) i o r → RunsBuild origin secret get i o r
+runs_build origin secret get wanted i o (Ok done) named asked runs = (named, asked_lawful get wanted asked, record { text = runs.text; came = came origin secret get wanted i (Prints runs.text) asked runs.came; written = runs.written })
+runs_build origin secret get wanted i o (Err fault.Refused) named asked runs = (named, asked_lawful get wanted asked, record { text = runs.text; came = came origin secret get wanted i (PrintsRefusal runs.text) asked runs.came; written = runs.written })
+runs_build origin secret get wanted i o (Err fault.Read) named asked runs = (named, asked_lawful get wanted asked, runs)
+runs_build origin secret get wanted i o (Err fault.Write) named asked runs =
+    let either = elim runs.came as (λ _. CameOf (BuildComes origin secret get) i (Prints runs.text) ⊎ CameOf (BuildComes origin secret get) i (PrintsRefusal runs.text)) [
+      | inl printed ↦ inl (came origin secret get wanted i (Prints runs.text) asked printed)
+      | inr refused ↦ inr (came origin secret get wanted i (PrintsRefusal runs.text) asked refused)
+    ] in
+    (named, asked_lawful get wanted asked, record { text = runs.text; came = either; part = runs.part })
+runs_build origin secret get wanted i o (Err fault.TooLarge) named asked runs = (named, asked_lawful get wanted asked, runs)
+runs_build origin secret get wanted i o (Err fault.OutOfMemory) named asked runs = (named, asked_lawful get wanted asked, runs)
+runs_build origin secret get wanted i o (Err fault.BadOrigin) named asked runs = absurd runs.0.so
+runs_build origin secret get wanted i o (Err fault.BadPath) named asked runs = absurd runs.0.so
+runs_build origin secret get wanted i o (Err (fault.EntryTooLong place)) named asked runs = (named, asked_lawful get wanted asked, never origin secret get wanted i o (Fails (fault.EntryTooLong place)) asked runs)
+runs_build origin secret get wanted i o (Err fault.BadIndex) named asked runs = (named, asked_lawful get wanted asked, never origin secret get wanted i o (Fails fault.BadIndex) asked runs)
+runs_build origin secret get wanted i o (Err fault.BadOld) named asked runs = (named, asked_lawful get wanted asked, never origin secret get wanted i o (Fails fault.BadOld) asked runs)
+runs_build origin secret get wanted i o (Err fault.NotThere) named asked runs = (named, asked_lawful get wanted asked, never origin secret get wanted i o (Fails fault.NotThere) asked runs)
+runs_build origin secret get wanted i o (Err fault.Malformed) named asked runs = (named, asked_lawful get wanted asked, never origin secret get wanted i o (Fails fault.Malformed) asked runs)
+runs_build origin secret get wanted i o (Err (fault.Chain place)) named asked runs = (named, asked_lawful get wanted asked, never origin secret get wanted i o (Fails (fault.Chain place)) asked runs)
+runs_build origin secret get wanted i o (Err fault.Sign) named asked runs = (named, asked_lawful get wanted asked, never origin secret get wanted i o (Fails fault.Sign) asked runs)
+runs_build origin secret get wanted i o (Err fault.Operator) named asked runs = (named, asked_lawful get wanted asked, never origin secret get wanted i o (Fails fault.Operator) asked runs)
+runs_build origin secret get wanted i o (Err fault.Listen) named asked runs = (named, asked_lawful get wanted asked, never origin secret get wanted i o (Fails fault.Listen) asked runs)
+runs_build origin secret get wanted i o (Err fault.Accept) named asked runs = (named, asked_lawful get wanted asked, never origin secret get wanted i o (Fails fault.Accept) asked runs)
+
+-- the bytes of the resource that is wanted are the answer
+pub answers_some : (A : Type 0) (note n : List ℕ) (entries : List (List ℕ)) (size : ℕ) (wanted : Option Resource) (r : Resource) (result : Result (Vec ℕ A) RunFault) → wanted ≡ Some r
+    → n ≡ note → length entries ≡ size → Contains (mirrored size) r → IfOk result (λ bytes. bytes.items ≡ resource_text n entries r) → IfErr result (λ f. f ≡ fault.OutOfMemory)
+    → AnswersWanted note entries wanted result
+answers_some A note n entries size wanted r (Ok text) is same count has shown memory =
+    let there : Contains (mirrored (length entries)) r = subst (λ (k : ℕ). Contains (mirrored k) r) (sym count) has in
+    let spelled : text.items ≡ resource_text note entries r = subst (λ (t : List ℕ). text.items ≡ resource_text t entries r) same shown in
+    subst (λ (w : Option Resource). IsShown note entries w text.items) (sym is) (there, spelled)
+answers_some A note n entries size wanted r (Err f) is same count has shown memory = subst (λ (e : RunFault). AnswersWanted {A = A} note entries wanted (Err e)) (sym memory) tt
+
+-- the listing is the answer where no resource is wanted
+pub shows_all : (note n : List ℕ) (entries : List (List ℕ)) (resources : List Resource) (size : ℕ) (wanted : Option Resource) (text : List ℕ) → wanted ≡ None
+    → n ≡ note → length entries ≡ size → resources ≡ mirrored size → text ≡ listing_text n entries resources → IsShown note entries wanted text
+shows_all note n entries resources size wanted text is same count all spelled =
+    let whole : text ≡ listing_text note entries (mirrored (length entries)) =
+    spelled ∙ ap (λ (t : List ℕ). listing_text t entries resources) same ∙ ap (λ (rs : List Resource). listing_text note entries rs) (all ∙ ap mirrored (sym count)) in
+    subst (λ (w : Option Resource). IsShown note entries w text) (sym is) whole
+
+-- where there is no answer, the run has failed
+pub answer_fails : (A : Type 0) (origin secret : List ℕ) (wanted : Option Resource) (i o : Passage) (f : RunFault) (entries : List (List ℕ)) → ReadEntries i most_input entries → IsUnwritten o
+    → AnswersWanted {A = A} (checkpoint_note origin secret entries) entries wanted (Err f) → Runs (WantedComes origin secret wanted) i o (Err f)
+answer_fails A origin secret wanted i o fault.NotThere entries read none given =
+    let short : first_too_long (entries_of read.input) ≡ None = sym (ap first_too_long read.lines) ∙ read.short in
+    let absent : ¬ (IsServed (mirrored (length (entries_of read.input))) wanted) = subst (λ (es : List (List ℕ)). ¬ (IsServed (mirrored (length es)) wanted)) read.lines given in
+    (record { input = read.input; whole = read.whole; so = (short, absent) }, none)
+answer_fails A origin secret wanted i o fault.OutOfMemory entries read none given = (read.whole.steady, none)
+answer_fails A origin secret wanted i o fault.Refused entries read none given = absurd given
+answer_fails A origin secret wanted i o fault.Read entries read none given = absurd given
+answer_fails A origin secret wanted i o fault.Write entries read none given = absurd given
+answer_fails A origin secret wanted i o fault.TooLarge entries read none given = absurd given
+answer_fails A origin secret wanted i o (fault.EntryTooLong place) entries read none given = absurd given
+answer_fails A origin secret wanted i o fault.BadOrigin entries read none given = absurd given
+answer_fails A origin secret wanted i o fault.BadIndex entries read none given = absurd given
+answer_fails A origin secret wanted i o fault.BadOld entries read none given = absurd given
+answer_fails A origin secret wanted i o fault.BadPath entries read none given = absurd given
+answer_fails A origin secret wanted i o fault.Malformed entries read none given = absurd given
+answer_fails A origin secret wanted i o (fault.Chain place) entries read none given = absurd given
+answer_fails A origin secret wanted i o fault.Sign entries read none given = absurd given
+answer_fails A origin secret wanted i o fault.Operator entries read none given = absurd given
+answer_fails A origin secret wanted i o fault.Listen entries read none given = absurd given
+answer_fails A origin secret wanted i o fault.Accept entries read none given = absurd given

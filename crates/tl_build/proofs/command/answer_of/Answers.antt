@@ -1,0 +1,38 @@
+use Rattle.std.proofs.Common.{ap, sym, subst, ◌∙◌, length, map, vec_items}
+use Rattle.std.proofs.lemmas.List.{length-map}
+use Rattle.tl_build.specs.Mirror.{mirrored}
+use Rattle.tl_build.specs.Steps.{IsServed}
+use Rattle.tl_build.proofs.Wanted.{has_all, served, not_served, answers_some, shows_all}
+use Rattle.tl_build.proofs.command.answer_of.Goals as goal
+
+pub returns-then-not-is_served : goal.returns-then-not-is_served
+returns-then-not-is_served g c =
+    let same = c.as_slice.ensures.value ∙ c.in_ok-resources.ensures ∙ ap mirrored (sym (length-map c.args.entries.now vec_items)) in
+    not_served c.as_slice.result.now (length (map vec_items c.args.entries.now)) c.args.wanted c.is_served.result same c.is_served.ensures c.if-not-is_served.true
+
+pub resource_bytes-requires-clause-served : goal.resource_bytes-requires-clause-served
+resource_bytes-requires-clause-served g c =
+    let same = c.as_slice.ensures.value ∙ c.in_ok-resources.ensures in
+    subst (IsServed (mirrored (length c.args.entries.now))) c.in-Some.is
+    (served c.as_slice.result.now (length c.args.entries.now) c.args.wanted c.is_served.result same c.is_served.ensures c.if-not-is_served.false)
+
+pub listing_of-requires-clause-served : goal.listing_of-requires-clause-served
+listing_of-requires-clause-served g c = has_all c.as_slice-in-None.result.now (mirrored (length c.args.entries.now)) (c.as_slice-in-None.ensures.value ∙ c.in_ok-resources.ensures)
+
+pub returns-in-Some : goal.returns-in-Some
+returns-in-Some g c =
+    let entries = map vec_items c.args.entries.now in
+    let same = c.as_slice.ensures.value ∙ c.in_ok-resources.ensures in
+    let has = subst (IsServed (mirrored (length c.args.entries.now))) c.in-Some.is
+    (served c.as_slice.result.now (length c.args.entries.now) c.args.wanted c.is_served.result same c.is_served.ensures c.if-not-is_served.false) in
+    let note = c.as_str.ensures.value ∙ c.in_ok-note.ensures.note entries c.in_ok-store.ensures in
+    answers_some g.row.A.Denot _ _ entries (length c.args.entries.now) c.args.wanted c.in-Some.resource c.resource_bytes.result c.in-Some.is note (length-map c.args.entries.now vec_items)
+    has c.resource_bytes.ensures.text c.resource_bytes.ensures.fault
+
+pub returns : goal.returns
+returns g c =
+    let entries = map vec_items c.args.entries.now in
+    let note = c.as_str-in-None.ensures.value ∙ c.in_ok-note.ensures.note entries c.in_ok-store.ensures in
+    let all = c.as_slice-in-None.ensures.value ∙ c.in_ok-resources.ensures in
+    shows_all _ _ entries c.as_slice-in-None.result.now (length c.args.entries.now) c.args.wanted c.into_bytes.result.items c.in-None.is note (length-map c.args.entries.now vec_items) all
+    (ap vec_items c.into_bytes.ensures.value ∙ c.in_ok-listing-in-None.ensures.text)

@@ -1,0 +1,47 @@
+-- The command `build`.
+use Rattle.std.specs.Prelude.{◌≡◌, ◌≢◌, ℕ, List, length, Contains, None, Some, Option, Result, Err}
+use Rattle.tl_note.specs.Key.{IsKeyName}
+use Rattle.tl_tile.specs.declared.resource.Resource.{Resource}
+use Rattle.tl_tile.specs.Path.{IsResource, path_text}
+use Rattle.tl_server.specs.Device.{Passage, IsUnread, IsUnwritten}
+use Rattle.tl_server.specs.Lines.{entries_of, first_too_long}
+use Rattle.tl_server.specs.Run.{Outcome, Prints, PrintsRefusal, Fails, Runs, IsEntryFault}
+use Rattle.tl_server.specs.declared.fault.RunFault.{RunFault}
+use Rattle.tl_server.specs.declared.fault.RunFault.TheVariants.{BadOrigin, BadPath, NotThere}
+use Rattle.tl_build.specs.Mirror.{checkpoint_note, mirrored, resource_text, listing_text}
+
+-- a resource of the log of these entries has this path, and this is its text
+pub record IsTextAt (note : List ℕ) (entries : List (List ℕ)) (path text : List ℕ) : Type 0 where
+  pub found : Resource
+  pub served : Contains (mirrored (length entries)) found
+  pub named : path_text found ≡ path
+  pub spelled : text ≡ resource_text note entries found
+
+-- what is printed of the log of these entries: the listing of its resources, or the one with the path that was asked for
+abbrev pub IsPrinted : List ℕ → List (List ℕ) → Option (List ℕ) → List ℕ → Type 0
+IsPrinted note entries None text = text ≡ listing_text note entries (mirrored (length entries))
+IsPrinted note entries (Some path) text = IsTextAt note entries path text
+
+-- the log of so many entries has no resource with the path that was asked for
+abbrev pub IsMissing : ℕ → Option (List ℕ) → Type 0
+IsMissing size None = ⊥
+IsMissing size (Some path) = (r : Resource) → Contains (mirrored size) r → path_text r ≢ path
+
+-- what comes of an input: what is printed of the log of its lines, no such resource, or a line that is too long
+abbrev pub BuildComes : List ℕ → List ℕ → Option (List ℕ) → List ℕ → Outcome → Type 0
+BuildComes origin secret get input (Prints text) =
+    (first_too_long (entries_of input) ≡ None) × IsPrinted (checkpoint_note origin secret (entries_of input)) (entries_of input) get text
+BuildComes origin secret get input (PrintsRefusal text) = ⊥
+BuildComes origin secret get input (Fails NotThere) = (first_too_long (entries_of input) ≡ None) × IsMissing (length (entries_of input)) get
+BuildComes origin secret get input (Fails fault) = IsEntryFault (entries_of input) fault
+
+-- the path that was asked for is that of a resource of some log
+abbrev pub IsLawfulPath : Option (List ℕ) → Type 0
+IsLawfulPath None = Unit {0}
+IsLawfulPath (Some path) = (r : Resource) × IsResource r × (path_text r ≡ path)
+
+-- a run: an origin that is no key's name, and then a path that no resource can have, are refused before anything is read
+abbrev pub RunsBuild : List ℕ → List ℕ → Option (List ℕ) → Passage → Passage → Result (Unit {0}) RunFault → Type 0
+RunsBuild origin secret get i o (Err BadOrigin) = ¬ (IsKeyName origin) × IsUnread i × IsUnwritten o
+RunsBuild origin secret get i o (Err BadPath) = IsKeyName origin × ¬ (IsLawfulPath get) × IsUnread i × IsUnwritten o
+RunsBuild origin secret get i o result = IsKeyName origin × IsLawfulPath get × Runs (BuildComes origin secret get) i o result

@@ -1,0 +1,117 @@
+//! The command `build`: what a static mirror of the log of the lines of the input serves.
+
+ghost use Rattle.std.specs.Prelude.{◌<◌, ◌^◌, ◌↔◌, IsTrue, length, map, vec_items, option_map};
+ghost use Rattle.tl_note.specs.Key.{IsKeyName};
+ghost use Rattle.tl_tile.specs.Bundle.{AreShortEntries};
+ghost use Rattle.tl_server.specs.Device.{passage};
+ghost use Rattle.tl_server.specs.Run.{Runs};
+ghost use Rattle.tl_build.specs.Mirror.{checkpoint_note};
+ghost use Rattle.tl_build.specs.Build.{RunsBuild};
+ghost use Rattle.tl_build.specs.Steps.{ReadsPath, IsServed, AnswersWanted, WantedComes};
+
+use crate::checkpoint_note::checkpoint_note_of;
+use crate::listing::{listing_of, mirrored_of};
+use crate::resource_bytes::resource_bytes;
+use std::alloc::{Allocator, Global};
+use std::io::{Read, Write};
+use tl_note::is_key_name;
+use tl_server::{Counted, MOST_INPUT, RunFault, read_entries, store_of, write_whole};
+use tl_tile::{Resource, parse_path};
+
+// The resource with the path that is asked for.
+fn wanted_of(get: Option<&str>) -> Result<Option<Resource>, RunFault>
+    ensures { ReadsPath (option_map (λ path. path.now) get.entry) result }
+{
+    let Some(path) = get else {
+        return Ok(None);
+    };
+    match parse_path(path) {
+        Some(resource) => Ok(Some(resource)),
+        None => Err(RunFault::BadPath),
+    }
+}
+
+// Whether these resources have the one that is wanted, if one is.
+fn is_served(resources: &[Resource], wanted: Option<Resource>) -> bool
+    ensures { IsTrue result ↔ IsServed resources.now wanted }
+{
+    match wanted {
+        Some(resource) => resources.contains(&resource),
+        None => true,
+    }
+}
+
+// The listing of the log of these entries, or the bytes of the resource that is wanted.
+fn answer_of<A: Allocator + Copy>(
+    alloc: A,
+    global: Global,
+    origin: &str,
+    secret: &[u8],
+    wanted: Option<Resource>,
+    entries: &[Vec<u8, A>],
+) -> Result<Vec<u8, A>, RunFault>
+    requires origin { IsKeyName origin.now }
+    requires few { length entries.now < 2 ^ 32 }
+    requires short { AreShortEntries (map vec_items entries.now) }
+    ensures { AnswersWanted (checkpoint_note origin.now secret.now (map vec_items entries.now)) (map vec_items entries.now) wanted result }
+{
+    let resources = mirrored_of(alloc, entries.len() as u64)?;
+    if !is_served(resources.as_slice(), wanted) {
+        return Err(RunFault::NotThere);
+    }
+    let store = store_of(alloc, entries)?;
+    let note = checkpoint_note_of(alloc, global, origin, secret, &store)?;
+    match wanted {
+        Some(resource) => resource_bytes(alloc, resource, entries, &store, note.as_str()),
+        None => {
+            let listing = listing_of(alloc, resources.as_slice(), entries, &store, note.as_str())?;
+            Ok(listing.into_bytes())
+        }
+    }
+}
+
+// Reads the whole input and writes what is wanted of the log of its lines.
+fn build<A: Allocator + Copy, R: Read, W: Write>(
+    alloc: A,
+    global: Global,
+    origin: &str,
+    secret: &[u8],
+    wanted: Option<Resource>,
+    reader: &mut Counted<R>,
+    writer: &mut Counted<W>,
+) -> Result<(), RunFault>
+    requires { IsKeyName origin.now }
+    ensures { Runs (WantedComes origin.now secret.now wanted) (passage R.remaining reader.old reader.new) (passage W.contents writer.old writer.new) result }
+{
+    let entries = read_entries(alloc, reader, MOST_INPUT)?;
+    let answer = match answer_of(alloc, global, origin, secret, wanted, entries.as_slice()) {
+        Ok(answer) => answer,
+        Err(fault) => return Err(fault),
+    };
+    write_whole(writer, answer.as_slice())?;
+    Ok(())
+}
+
+/// Reads the whole input and writes what a static mirror of the log of its lines serves (C2SP tlog-tiles): with no path a line
+/// `path length` for each resource of the log, tiles by level and index, then entry bundles, then the checkpoint; with a path the
+/// bytes of the resource that has it. The checkpoint is a note, signed by the demonstration key of the origin with this secret,
+/// for which `global` gives the memory. An origin that is no key's name is `BadOrigin`, a path that no resource has is `BadPath`,
+/// both before anything is read; a resource that the log hasn't got is `NotThere`. Nothing is written before the whole input was
+/// read.
+pub fn run_build<A: Allocator + Copy, R: Read, W: Write>(
+    alloc: A,
+    global: Global,
+    origin: &str,
+    secret: &[u8],
+    get: Option<&str>,
+    reader: &mut Counted<R>,
+    writer: &mut Counted<W>,
+) -> Result<(), RunFault>
+    ensures { RunsBuild origin.now secret.now (option_map (λ path. path.now) get.entry) (passage R.remaining reader.old reader.new) (passage W.contents writer.old writer.new) result }
+{
+    if !is_key_name(origin) {
+        return Err(RunFault::BadOrigin);
+    }
+    let wanted = wanted_of(get)?;
+    build(alloc, global, origin, secret, wanted, reader, writer)
+}
