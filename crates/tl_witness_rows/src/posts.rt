@@ -1,15 +1,12 @@
-//! What the tests share: keys, requests, and a saver that is told whether to fail.
-
-ghost use Rattle.std.specs.Prelude.{◌≡◌, ◌<◌, ◌-◌, ◌^◌, ◌⊎◌, IfOk, IsErr, string_bytes};
-ghost use Rattle.tl_proof.specs.Collisions.{step_of};
+//! What the tests share: keys, books, and the bodies of requests.
 
 use std::alloc::{AllocError, Allocator, Global};
-use tl_checkpoint::hash_of;
-use tl_hash::{Hash, Sha256Tree};
+use tl_hash::Sha256Tree;
 use tl_note::{Signer, Verifier};
-use tl_proof::{HashList, Link};
 use tl_testing::LengthKey;
-use tl_witness::{Book, BookFault, SaveFault, Saver, Trust};
+use tl_witness::{Book, BookFault, Trust};
+
+pub const ORIGIN: &str = "example.com/log";
 
 pub const E0: &str = "47DEQpj8HBSa+/TImW+5JCeuQeRkm5NMpJWZG3hSuFU=";
 
@@ -25,7 +22,7 @@ pub const TIME: u64 = 1700000000;
 
 /// The log's key.
 pub fn log_key(alloc: Global) -> Result<LengthKey, AllocError> {
-    LengthKey::new(alloc, "example.com/log", 0x01020304)
+    LengthKey::new(alloc, ORIGIN, 0x01020304)
 }
 
 /// The witness's key.
@@ -33,15 +30,16 @@ pub fn witness_key(alloc: Global) -> Result<LengthKey, AllocError> {
     LengthKey::new(alloc, "witness.example", 0x0A0B0C0D)
 }
 
-/// The trust in one verifier for `example.com/log`.
-pub fn trust(
-    alloc: Global,
+/// The trust in one verifier for an origin.
+pub fn trust<A: Allocator + Copy>(
+    heap: A,
+    origin: &str,
     log: Box<dyn Verifier>,
     cosigner: Box<dyn Signer>,
-) -> Result<Trust<Global>, AllocError> {
-    let mut verifiers = Vec::new(alloc);
+) -> Result<Trust<A>, AllocError> {
+    let mut verifiers = Vec::new(heap);
     verifiers.push(log)?;
-    let origin = String::from_str(alloc, "example.com/log")?;
+    let origin = String::from_str(heap, origin)?;
     Ok(Trust {
         origin,
         verifiers,
@@ -50,17 +48,18 @@ pub fn trust(
 }
 
 /// A book of one origin, `example.com/log`, without links.
-pub fn fresh_book(
+pub fn fresh_book<A: Allocator + Copy>(
     alloc: Global,
+    heap: A,
     log: Box<dyn Verifier>,
     cosigner: Box<dyn Signer>,
-) -> Result<Book<Sha256Tree, Global>, BookFault> {
-    let mut trusts = Vec::new(alloc);
-    let Ok(trust) = trust(alloc, log, cosigner) else {
+) -> Result<Book<Sha256Tree, A>, BookFault> {
+    let mut trusts = Vec::new(heap);
+    let Ok(trust) = trust(heap, ORIGIN, log, cosigner) else {
         return Err(BookFault::OutOfMemory);
     };
     trusts.push(trust)?;
-    Book::open(alloc, alloc, Sha256Tree, trusts, Vec::new(alloc))
+    Book::open(heap, alloc, Sha256Tree, trusts, Vec::new(heap))
 }
 
 /// The body of a request, whose note has this signature field.
@@ -84,94 +83,5 @@ pub fn body(
     size: u64,
     root: &str,
 ) -> Result<String, AllocError> {
-    signed_body(
-        alloc,
-        "example.com/log",
-        old,
-        proof,
-        size,
-        root,
-        "AQIDBAAAAAAAAAA/",
-    )
-}
-
-/// A saver that keeps the last link, counts its calls, and fails where it is told to.
-#[derive(Drop)]
-pub struct LastSaver {
-    pub alloc: Global,
-    pub fails: bool,
-    pub calls: u64,
-    failures: u64,
-    last: Option<(String, Link<Global>)>,
-}
-
-impl LastSaver {
-    /// A saver that was not called yet.
-    pub fn new(alloc: Global) -> LastSaver {
-        LastSaver {
-            alloc,
-            fails: false,
-            calls: 0,
-            failures: 0,
-            last: None,
-        }
-    }
-
-    // One failure more.
-    fn fail(&mut self) -> Result<(), SaveFault>
-        ensures failed { IsErr result }
-        ensures counted { (self.old.failures < self.new.failures) ⊎ (self.old.failures ≡ 2 ^ 64 - 1) }
-    {
-        self.failures = self.failures.saturating_add(1);
-        Err(SaveFault)
-    }
-}
-
-// A copy of an origin and a link.
-fn copied<A: Allocator>(
-    alloc: Global,
-    origin: &str,
-    link: &Link<A>,
-) -> Result<(String, Link<Global>), AllocError>
-    ensures { IfOk result (λ kept. (string_bytes kept.0 ≡ origin.now) × (step_of kept.1 ≡ step_of link.now)) }
-{
-    let hashes = Vec::from_slice(alloc, link.proof.as_slice())?;
-    let name = String::from_str(alloc, origin)?;
-    Ok((
-        name,
-        Link {
-            size: link.size,
-            root: link.root,
-            proof: HashList::from_vec(hashes),
-        },
-    ))
-}
-
-impl Saver for LastSaver {
-    ghost use Rattle.std.specs.Prelude.{option_map, string_bytes};
-    ghost use Rattle.tl_proof.specs.Collisions.{step_of};
-
-    ghost saved = { λ s. record { failures = s.failures; last = option_map (λ p. (string_bytes p.0, step_of p.1)) s.last } };
-
-    fn save<A: Allocator>(&mut self, origin: &str, link: &Link<A>) -> Result<(), SaveFault> {
-        self.calls = self.calls.wrapping_add(1);
-        if self.fails {
-            return self.fail();
-        }
-        match copied(self.alloc, origin, link) {
-            Ok(kept) => {
-                self.last = Some(kept);
-                Ok(())
-            }
-            Err(_) => self.fail(),
-        }
-    }
-}
-
-/// The hash that a text is in base64, or one of zeros where it is none.
-pub fn hash(alloc: Global, text: &str) -> Result<Hash, AllocError> {
-    match hash_of(alloc, text)? {
-        Some(hash) => Ok(hash),
-        None => Ok(Hash::from_bytes([0; 32])),
-    }
+    signed_body(alloc, ORIGIN, old, proof, size, root, "AQIDBAAAAAAAAAA/")
 }
