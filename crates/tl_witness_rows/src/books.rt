@@ -1,16 +1,13 @@
 //! A book before its first link.
 
-use crate::posts::{E0, E1, ORIGIN, TIME, body, fresh_book, log_key, witness_key};
+use crate::posts::{E0, E1, ORIGIN, TIME, body, fresh_book};
 use crate::savers::LastSaver;
 use std::test::Fail;
-use tl_note::{Signer, Verifier};
 
 #[test]
 fn bodies_that_are_no_requests(rt: HostRuntime) -> Result<(), Fail> {
     let alloc = rt.alloc();
-    let log: Box<dyn Verifier> = Box::new(alloc, log_key(alloc)?)?;
-    let cosigner: Box<dyn Signer> = Box::new(alloc, witness_key(alloc)?)?;
-    let mut book = fresh_book(alloc, alloc, log, cosigner)?;
+    let mut book = fresh_book(alloc, alloc, &[ORIGIN])?;
     let mut saver = LastSaver::new(alloc);
     let first = body(alloc, 0, "", 1, E1)?;
     let bytes = first.as_bytes();
@@ -30,9 +27,7 @@ fn bodies_that_are_no_requests(rt: HostRuntime) -> Result<(), Fail> {
 #[test]
 fn the_log_of_no_entries(rt: HostRuntime) -> Result<(), Fail> {
     let alloc = rt.alloc();
-    let log: Box<dyn Verifier> = Box::new(alloc, log_key(alloc)?)?;
-    let cosigner: Box<dyn Signer> = Box::new(alloc, witness_key(alloc)?)?;
-    let mut book = fresh_book(alloc, alloc, log, cosigner)?;
+    let mut book = fresh_book(alloc, alloc, &[ORIGIN])?;
     let mut saver = LastSaver::new(alloc);
     let empty = body(alloc, 0, "", 0, E0)?;
     assert_eq!(rt; book.add(empty.as_bytes(), TIME, &mut saver).status, 200);

@@ -3,12 +3,11 @@
 ghost use Rattle.tl_proof.specs.Collisions.{step_of};
 ghost use Rattle.tl_witness.specs.ChainLine.{IsChainLine};
 
-use crate::posts::{TIME, fresh_book, log_key, witness_key};
+use crate::posts::{ORIGIN, TIME, fresh_book};
 use crate::savers::LastSaver;
 use crate::steps::{LINES, MOST, is_due, steps};
 use std::alloc::{Allocator, Global};
 use std::test::Fail;
-use tl_note::{Signer, Verifier};
 use tl_proof::Link;
 use tl_testing::Refusing;
 use tl_witness::{SaveFault, Saver, write_chain_line};
@@ -63,9 +62,7 @@ impl Saver for TryingSaver {
 #[test]
 fn each_line_with_memory_refused(rt: HostRuntime) -> Result<(), Fail> {
     let alloc = rt.alloc();
-    let log: Box<dyn Verifier> = Box::new(alloc, log_key(alloc)?)?;
-    let cosigner: Box<dyn Signer> = Box::new(alloc, witness_key(alloc)?)?;
-    let mut book = fresh_book(alloc, alloc, log, cosigner)?;
+    let mut book = fresh_book(alloc, alloc, &[ORIGIN])?;
     let mut saver = TryingSaver {
         inner: LastSaver::new(alloc),
         are_right: true,

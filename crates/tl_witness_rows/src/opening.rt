@@ -1,11 +1,10 @@
 //! Books opened with chains that were saved.
 
 use crate::links::two_links;
-use crate::posts::{E1, F1, ORIGIN, log_key, trust, witness_key};
+use crate::posts::{E1, F1, ORIGIN, trust};
 use std::alloc::{AllocError, Global};
 use std::test::Fail;
 use tl_hash::Sha256Tree;
-use tl_note::{Signer, Verifier};
 use tl_witness::{Book, BookFault};
 
 // The fault of opening a book with these trusts and the chain of this origin.
@@ -17,9 +16,7 @@ fn fault(
 ) -> Result<Option<BookFault>, AllocError> {
     let mut known = Vec::new(alloc);
     for _ in 0..trusts {
-        let log: Box<dyn Verifier> = Box::new(alloc, log_key(alloc)?)?;
-        let cosigner: Box<dyn Signer> = Box::new(alloc, witness_key(alloc)?)?;
-        known.push(trust(alloc, ORIGIN, log, cosigner)?)?;
+        known.push(trust(alloc, alloc, ORIGIN)?)?;
     }
     let mut chains = Vec::new(alloc);
     chains.push((String::from_str(alloc, origin)?, two_links(alloc, proof)?))?;

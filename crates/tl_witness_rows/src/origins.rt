@@ -1,7 +1,7 @@
 //! Two threads that post to two origins at once.
 
 use crate::links::{are_first, two_links};
-use crate::posts::{E1, F1, TIME, log_key, signed_body, trust, witness_key};
+use crate::posts::{E1, F1, TIME, fresh_book, signed_body};
 use crate::savers::LastSaver;
 use crate::waiting::{WaitingSaver, is_raised};
 use std::alloc::{AllocError, Global};
@@ -11,10 +11,11 @@ use std::test::Fail;
 use std::thread;
 use std::thread::Threads;
 use tl_hash::Sha256Tree;
-use tl_note::{Signer, Verifier};
-use tl_witness::{Book, BookFault, Reply, SharedWitness, Trust};
+use tl_witness::{Reply, SharedWitness};
 
 type Witness = SharedWitness<Sha256Tree, Global>;
+
+const ORIGINS: [&str; 2] = ["example.com/a", "example.com/b"];
 
 // The cosignature of the text of either origin.
 const SHORTER_COSIGNATURE: &str = "— witness.example CgsMDQAAAABlU/EAAAAAAAAAAFw=\n";
@@ -22,18 +23,6 @@ const SHORTER_COSIGNATURE: &str = "— witness.example CgsMDQAAAABlU/EAAAAAAAAAA
 // The first request of an origin whose name is two bytes shorter than the log's key.
 fn first_body(alloc: Global, origin: &str) -> Result<String, AllocError> {
     signed_body(alloc, origin, 0, "", 1, E1, "AQIDBAAAAAAAAAA9")
-}
-
-// The book of two trusts, without links.
-fn book_of(
-    alloc: Global,
-    one: Trust<Global>,
-    other: Trust<Global>,
-) -> Result<Book<Sha256Tree, Global>, BookFault> {
-    let mut trusts = Vec::new(alloc);
-    trusts.push(one)?;
-    trusts.push(other)?;
-    Book::open(alloc, alloc, Sha256Tree, trusts, Vec::new(alloc))
 }
 
 // Answers a request with this saver.
@@ -89,17 +78,11 @@ fn replies<R: Threads + Wait + Sync>(
 #[test]
 fn a_request_waits_for_no_other_origin(rt: HostRuntime) -> Result<(), Fail> {
     let alloc = rt.alloc();
-    let first = first_body(alloc, "example.com/a")?;
-    let second = first_body(alloc, "example.com/b")?;
+    let first = first_body(alloc, ORIGINS[0])?;
+    let second = first_body(alloc, ORIGINS[1])?;
     let whole = two_links(alloc, F1)?;
     for _ in 0..100 {
-        let log: Box<dyn Verifier> = Box::new(alloc, log_key(alloc)?)?;
-        let cosigner: Box<dyn Signer> = Box::new(alloc, witness_key(alloc)?)?;
-        let one = trust(alloc, "example.com/a", log, cosigner)?;
-        let log: Box<dyn Verifier> = Box::new(alloc, log_key(alloc)?)?;
-        let cosigner: Box<dyn Signer> = Box::new(alloc, witness_key(alloc)?)?;
-        let other = trust(alloc, "example.com/b", log, cosigner)?;
-        let Ok(witness) = SharedWitness::new(book_of(alloc, one, other)?) else {
+        let Ok(witness) = SharedWitness::new(fresh_book(alloc, alloc, &ORIGINS)?) else {
             assert!(rt; false, "out of memory");
             return Ok(());
         };
@@ -114,7 +97,7 @@ fn a_request_waits_for_no_other_origin(rt: HostRuntime) -> Result<(), Fail> {
         assert_eq!(rt; (slow.status, quick.status), (200, 200));
         assert_eq!(rt; slow.body.as_slice(), SHORTER_COSIGNATURE.as_bytes());
         assert_eq!(rt; quick.body.as_slice(), SHORTER_COSIGNATURE.as_bytes());
-        for origin in ["example.com/a", "example.com/b"] {
+        for origin in ORIGINS {
             let links = witness.chain(&rt, origin)?.ok_or("no chain")?;
             assert!(rt; are_first(links.as_slice(), whole.as_slice(), 1));
         }

@@ -6,39 +6,39 @@ use tl_note::{Signer, Verifier};
 use tl_testing::LengthKey;
 use tl_witness::{Book, BookFault, Trust};
 
+/// The origin of the log, which is its key's name.
 pub const ORIGIN: &str = "example.com/log";
 
+/// The root of no entries.
 pub const E0: &str = "47DEQpj8HBSa+/TImW+5JCeuQeRkm5NMpJWZG3hSuFU=";
 
+/// The root of one empty entry.
 pub const E1: &str = "bjQLnP+zepicpUTmu3gKLHiQHT+zNzh2hRGjBhevoB0=";
 
+/// The root of an empty entry and the byte 0.
 pub const E2: &str = "+sVCA+fMaWzw38tCySodnbr3CtnmIfS9jZhmLwDjwSU=";
 
+/// The leaf hash of the byte 0.
 pub const F1: &str = "lqKW0iTyhcZ77pPDD4owkVfw2qNdxbh+QQt4YwoJz8c=";
 
+/// The cosignature of a checkpoint of the log, whose size has one digit.
 pub const COSIGNATURE: &str = "— witness.example CgsMDQAAAABlU/EAAAAAAAAAAF4=\n";
 
+/// The time of the requests.
 pub const TIME: u64 = 1700000000;
 
-/// The log's key.
-pub fn log_key(alloc: Global) -> Result<LengthKey, AllocError> {
-    LengthKey::new(alloc, ORIGIN, 0x01020304)
-}
-
-/// The witness's key.
-pub fn witness_key(alloc: Global) -> Result<LengthKey, AllocError> {
-    LengthKey::new(alloc, "witness.example", 0x0A0B0C0D)
-}
-
-/// The trust in one verifier for an origin.
+/// The trust in the log's key for an origin. The witness cosigns.
 pub fn trust<A: Allocator + Copy>(
+    alloc: Global,
     heap: A,
     origin: &str,
-    log: Box<dyn Verifier>,
-    cosigner: Box<dyn Signer>,
 ) -> Result<Trust<A>, AllocError> {
+    let log = LengthKey::new(alloc, ORIGIN, 0x01020304)?;
+    let witness = LengthKey::new(alloc, "witness.example", 0x0A0B0C0D)?;
+    let verifier: Box<dyn Verifier> = Box::new(alloc, log)?;
+    let cosigner: Box<dyn Signer> = Box::new(alloc, witness)?;
     let mut verifiers = Vec::new(heap);
-    verifiers.push(log)?;
+    verifiers.push(verifier)?;
     let origin = String::from_str(heap, origin)?;
     Ok(Trust {
         origin,
@@ -47,18 +47,19 @@ pub fn trust<A: Allocator + Copy>(
     })
 }
 
-/// A book of one origin, `example.com/log`, without links.
+/// A book of these origins, without links.
 pub fn fresh_book<A: Allocator + Copy>(
     alloc: Global,
     heap: A,
-    log: Box<dyn Verifier>,
-    cosigner: Box<dyn Signer>,
+    origins: &[&str],
 ) -> Result<Book<Sha256Tree, A>, BookFault> {
     let mut trusts = Vec::new(heap);
-    let Ok(trust) = trust(heap, ORIGIN, log, cosigner) else {
-        return Err(BookFault::OutOfMemory);
-    };
-    trusts.push(trust)?;
+    for origin in origins {
+        let Ok(trust) = trust(alloc, heap, origin) else {
+            return Err(BookFault::OutOfMemory);
+        };
+        trusts.push(trust)?;
+    }
     Book::open(heap, alloc, Sha256Tree, trusts, Vec::new(heap))
 }
 

@@ -1,7 +1,7 @@
 //! Two threads that post to one origin at once.
 
 use crate::links::{are_first, first_link_and, two_links};
-use crate::posts::{COSIGNATURE, E1, E2, F1, ORIGIN, TIME, body, fresh_book, log_key, witness_key};
+use crate::posts::{COSIGNATURE, E1, E2, F1, ORIGIN, TIME, body, fresh_book};
 use crate::savers::LastSaver;
 use crate::waiting::meet;
 use std::alloc::Global;
@@ -11,12 +11,12 @@ use std::test::Fail;
 use std::thread;
 use std::thread::Threads;
 use tl_hash::Sha256Tree;
-use tl_note::{Signer, Verifier};
 use tl_witness::{Reply, SharedWitness};
 
-// The root of an empty entry, the byte 0 and the byte 16; and the leaf hash of the last.
+// The root of an empty entry, the byte 0 and the byte 16.
 const E3: &str = "rra8/idLcKFPsGel5VeCZNsPqbUa9eC6FZFY8yngbnc=";
 
+// The leaf hash of the byte 16.
 const F2: &str = "ApjRIpBtz8EIkstTpzmS/FufST6kybrbJ7eRtBJ6f+c=";
 
 // The reply to a request, which is posted when another thread is here too.
@@ -67,9 +67,7 @@ fn one_of_two_requests_is_taken(rt: HostRuntime) -> Result<(), Fail> {
     let with_two = two_links(alloc, F1)?;
     let with_three = first_link_and(alloc, 3, E3, &[F1, F2])?;
     for _ in 0..100 {
-        let log: Box<dyn Verifier> = Box::new(alloc, log_key(alloc)?)?;
-        let cosigner: Box<dyn Signer> = Box::new(alloc, witness_key(alloc)?)?;
-        let Ok(witness) = SharedWitness::new(fresh_book(alloc, alloc, log, cosigner)?) else {
+        let Ok(witness) = SharedWitness::new(fresh_book(alloc, alloc, &[ORIGIN])?) else {
             assert!(rt; false, "out of memory");
             return Ok(());
         };
@@ -88,16 +86,10 @@ fn one_of_two_requests_is_taken(rt: HostRuntime) -> Result<(), Fail> {
             assert!(rt; is_decided(&three, &two, "3\n"));
             assert!(rt; are_first(links.as_slice(), with_three.as_slice(), 2));
         }
-        assert_eq!(rt;
-            witness.add(&rt, to_two.as_bytes(), TIME, &mut saver).status,
-            409
-        );
-        assert_eq!(rt;
-            witness
-                .add(&rt, to_three.as_bytes(), TIME, &mut saver)
-                .status,
-            409
-        );
+        for request in [&to_two, &to_three] {
+            let reply = witness.add(&rt, request.as_bytes(), TIME, &mut saver);
+            assert_eq!(rt; reply.status, 409);
+        }
     }
     Ok(())
 }

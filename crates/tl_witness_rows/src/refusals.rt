@@ -1,13 +1,12 @@
 //! Calls with their first request for memory refused, then their second, and so on, until none is refused.
 
 use crate::links::{are_first, two_links};
-use crate::posts::{E2, F1, ORIGIN, TIME, body, fresh_book, log_key, trust, witness_key};
+use crate::posts::{E2, F1, ORIGIN, TIME, body, fresh_book, trust};
 use crate::savers::LastSaver;
 use crate::steps::{LINES, MOST, Step, is_due, steps};
 use std::alloc::{AllocError, Allocator, Global};
 use std::test::Fail;
 use tl_hash::Sha256Tree;
-use tl_note::{Signer, Verifier};
 use tl_proof::Link;
 use tl_testing::Refusing;
 use tl_witness::{Book, BookFault, RequestFault, parse_request};
@@ -17,11 +16,9 @@ fn saved_book<'h>(
     alloc: Global,
     calm: &'h Refusing<Global>,
     heap: &'h Refusing<Global>,
-    log: Box<dyn Verifier>,
-    cosigner: Box<dyn Signer>,
 ) -> Result<Result<Book<Sha256Tree, &'h Refusing<Global>>, BookFault>, AllocError> {
     let mut trusts = Vec::new(calm);
-    trusts.push(trust(calm, ORIGIN, log, cosigner)?)?;
+    trusts.push(trust(alloc, calm, ORIGIN)?)?;
     let mut chains = Vec::new(calm);
     chains.push((String::from_str(calm, ORIGIN)?, two_links(calm, F1)?))?;
     Ok(Book::open(heap, alloc, Sha256Tree, trusts, chains))
@@ -34,9 +31,7 @@ fn opening_answers_out_of_memory(rt: HostRuntime) -> Result<(), Fail> {
     let calm = Refusing::at(alloc, 0);
     for number in 1..MOST {
         let heap = Refusing::at(alloc, number);
-        let log: Box<dyn Verifier> = Box::new(alloc, log_key(alloc)?)?;
-        let cosigner: Box<dyn Signer> = Box::new(alloc, witness_key(alloc)?)?;
-        let fault = match saved_book(alloc, &calm, &heap, log, cosigner)? {
+        let fault = match saved_book(alloc, &calm, &heap)? {
             Ok(book) => {
                 assert!(rt; !heap.refused());
                 assert!(rt; number > 2);
@@ -48,9 +43,7 @@ fn opening_answers_out_of_memory(rt: HostRuntime) -> Result<(), Fail> {
         };
         assert!(rt; heap.refused());
         assert_eq!(rt; fault, BookFault::OutOfMemory);
-        let log: Box<dyn Verifier> = Box::new(alloc, log_key(alloc)?)?;
-        let cosigner: Box<dyn Signer> = Box::new(alloc, witness_key(alloc)?)?;
-        let book = saved_book(alloc, &calm, &heap, log, cosigner)??;
+        let book = saved_book(alloc, &calm, &heap)??;
         let links = book.chain(ORIGIN).ok_or("no chain")?;
         assert!(rt; are_first(links, whole.as_slice(), 2));
     }
@@ -104,9 +97,7 @@ fn a_book_answers_500(rt: HostRuntime) -> Result<(), Fail> {
     let list = steps(alloc)?;
     for number in 1..MOST {
         let heap = Refusing::at(alloc, number);
-        let log: Box<dyn Verifier> = Box::new(alloc, log_key(alloc)?)?;
-        let cosigner: Box<dyn Signer> = Box::new(alloc, witness_key(alloc)?)?;
-        let Ok(mut book) = fresh_book(alloc, &heap, log, cosigner) else {
+        let Ok(mut book) = fresh_book(alloc, &heap, &[ORIGIN]) else {
             assert!(rt; heap.refused());
             continue;
         };

@@ -1,22 +1,17 @@
 //! Requests in order, to a book and to a witness that threads share.
 
 use crate::links::{are_first, two_links};
-use crate::posts::{F1, ORIGIN, TIME, fresh_book, log_key, witness_key};
+use crate::posts::{F1, ORIGIN, TIME, fresh_book};
 use crate::savers::LastSaver;
 use crate::steps::{LINES, is_due, steps};
 use std::test::Fail;
-use tl_note::{Signer, Verifier};
 use tl_witness::SharedWitness;
 
 #[test]
 fn the_same_replies_and_links(rt: HostRuntime) -> Result<(), Fail> {
     let alloc = rt.alloc();
-    let log: Box<dyn Verifier> = Box::new(alloc, log_key(alloc)?)?;
-    let cosigner: Box<dyn Signer> = Box::new(alloc, witness_key(alloc)?)?;
-    let mut book = fresh_book(alloc, alloc, log, cosigner)?;
-    let log: Box<dyn Verifier> = Box::new(alloc, log_key(alloc)?)?;
-    let cosigner: Box<dyn Signer> = Box::new(alloc, witness_key(alloc)?)?;
-    let Ok(witness) = SharedWitness::new(fresh_book(alloc, alloc, log, cosigner)?) else {
+    let mut book = fresh_book(alloc, alloc, &[ORIGIN])?;
+    let Ok(witness) = SharedWitness::new(fresh_book(alloc, alloc, &[ORIGIN])?) else {
         assert!(rt; false, "out of memory");
         return Ok(());
     };
@@ -46,9 +41,7 @@ fn the_same_replies_and_links(rt: HostRuntime) -> Result<(), Fail> {
 #[test]
 fn each_save_fails_once(rt: HostRuntime) -> Result<(), Fail> {
     let alloc = rt.alloc();
-    let log: Box<dyn Verifier> = Box::new(alloc, log_key(alloc)?)?;
-    let cosigner: Box<dyn Signer> = Box::new(alloc, witness_key(alloc)?)?;
-    let mut book = fresh_book(alloc, alloc, log, cosigner)?;
+    let mut book = fresh_book(alloc, alloc, &[ORIGIN])?;
     let whole = two_links(alloc, F1)?;
     let mut saver = LastSaver::new(alloc);
     let mut count = 0;

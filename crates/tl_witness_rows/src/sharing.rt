@@ -1,14 +1,13 @@
 //! A witness that threads share, with its growths refused in turn.
 
 use crate::links::{are_first, two_links};
-use crate::posts::{F1, ORIGIN, TIME, fresh_book, log_key, witness_key};
+use crate::posts::{F1, ORIGIN, TIME, fresh_book};
 use crate::savers::LastSaver;
 use crate::steps::{LINES, MOST, Step, is_due, steps};
 use std::alloc::{Allocator, Global};
 use std::sync::Wait;
 use std::test::Fail;
 use tl_hash::Sha256Tree;
-use tl_note::{Signer, Verifier};
 use tl_proof::Link;
 use tl_testing::Refusing;
 use tl_witness::{Book, SharedWitness};
@@ -95,9 +94,7 @@ fn a_shared_witness_answers_500(rt: HostRuntime) -> Result<(), Fail> {
     let list = steps(alloc)?;
     for number in 1..MOST {
         let heap = Refusing::at(alloc, number);
-        let log: Box<dyn Verifier> = Box::new(alloc, log_key(alloc)?)?;
-        let cosigner: Box<dyn Signer> = Box::new(alloc, witness_key(alloc)?)?;
-        let Ok(book) = fresh_book(alloc, &heap, log, cosigner) else {
+        let Ok(book) = fresh_book(alloc, &heap, &[ORIGIN]) else {
             assert!(rt; heap.refused());
             continue;
         };
