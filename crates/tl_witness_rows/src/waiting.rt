@@ -1,7 +1,5 @@
 //! Threads that wait for one another, though not forever.
 
-ghost use Rattle.tl_witness.specs.Saver.{Saved};
-
 use crate::savers::LastSaver;
 use std::alloc::{Allocator, Global};
 use std::sync::Arc;
