@@ -4,8 +4,26 @@
 #[cfg(test)]
 mod books;
 #[cfg(test)]
+mod lines;
+#[cfg(test)]
+mod links;
+#[cfg(test)]
 mod opening;
+#[cfg(test)]
+mod origins;
 #[cfg(test)]
 mod posts;
 #[cfg(test)]
-mod shared;
+mod races;
+#[cfg(test)]
+mod refusals;
+#[cfg(test)]
+mod savers;
+#[cfg(test)]
+mod sequence;
+#[cfg(test)]
+mod sharing;
+#[cfg(test)]
+mod steps;
+#[cfg(test)]
+mod waiting;

@@ -1,30 +1,11 @@
 //! Books opened with chains that were saved.
 
-use crate::posts::{E1, E2, F1, hash, log_key, trust, witness_key};
+use crate::links::two_links;
+use crate::posts::{E1, F1, ORIGIN, trust};
 use std::alloc::{AllocError, Global};
 use std::test::Fail;
 use tl_hash::Sha256Tree;
-use tl_note::{Signer, Verifier};
-use tl_proof::{HashList, Link};
 use tl_witness::{Book, BookFault};
-
-// The chain of two links of `example.com/log`, the second with this proof.
-fn two_links(alloc: Global, proof: &str) -> Result<Vec<Link<Global>>, AllocError> {
-    let mut links = Vec::new(alloc);
-    links.push(Link {
-        size: 1,
-        root: hash(alloc, E1)?,
-        proof: HashList::from_vec(Vec::new(alloc)),
-    })?;
-    let mut hashes = Vec::new(alloc);
-    hashes.push(hash(alloc, proof)?)?;
-    links.push(Link {
-        size: 2,
-        root: hash(alloc, E2)?,
-        proof: HashList::from_vec(hashes),
-    })?;
-    Ok(links)
-}
 
 // The fault of opening a book with these trusts and the chain of this origin.
 fn fault(
@@ -35,9 +16,7 @@ fn fault(
 ) -> Result<Option<BookFault>, AllocError> {
     let mut known = Vec::new(alloc);
     for _ in 0..trusts {
-        let log: Box<dyn Verifier> = Box::new(alloc, log_key(alloc)?)?;
-        let cosigner: Box<dyn Signer> = Box::new(alloc, witness_key(alloc)?)?;
-        known.push(trust(alloc, log, cosigner)?)?;
+        known.push(trust(alloc, alloc, ORIGIN)?)?;
     }
     let mut chains = Vec::new(alloc);
     chains.push((String::from_str(alloc, origin)?, two_links(alloc, proof)?))?;
@@ -50,15 +29,12 @@ fn fault(
 #[test]
 fn chains_that_are_taken_and_refused(rt: HostRuntime) -> Result<(), Fail> {
     let alloc = rt.alloc();
-    assert_eq!(rt; fault(alloc, 1, "example.com/log", F1)?, None);
+    assert_eq!(rt; fault(alloc, 1, ORIGIN, F1)?, None);
     assert_eq!(rt;
-        fault(alloc, 1, "example.com/log", E1)?,
+        fault(alloc, 1, ORIGIN, E1)?,
         Some(BookFault::BadChain { chain: 0, link: 1 })
     );
-    assert_eq!(rt;
-        fault(alloc, 2, "example.com/log", F1)?,
-        Some(BookFault::TwiceNamed)
-    );
+    assert_eq!(rt; fault(alloc, 2, ORIGIN, F1)?, Some(BookFault::TwiceNamed));
     assert_eq!(rt;
         fault(alloc, 1, "example.com/x", F1)?,
         Some(BookFault::NoTrust(0))

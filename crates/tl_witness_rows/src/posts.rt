@@ -1,47 +1,45 @@
-//! What the tests share: keys, requests, and a saver that is told whether to fail.
-
-ghost use Rattle.std.specs.Prelude.{◌≡◌, ◌<◌, ◌-◌, ◌^◌, ◌⊎◌, IfOk, IsErr, string_bytes};
-ghost use Rattle.tl_proof.specs.Collisions.{step_of};
+//! What the tests share: keys, books, and the bodies of requests.
 
 use std::alloc::{AllocError, Allocator, Global};
-use tl_checkpoint::hash_of;
-use tl_hash::{Hash, Sha256Tree};
+use tl_hash::Sha256Tree;
 use tl_note::{Signer, Verifier};
-use tl_proof::{HashList, Link};
 use tl_testing::LengthKey;
-use tl_witness::{Book, BookFault, SaveFault, Saver, Trust};
+use tl_witness::{Book, BookFault, Trust};
 
+/// The origin of the log, which is its key's name.
+pub const ORIGIN: &str = "example.com/log";
+
+/// The root of no entries.
 pub const E0: &str = "47DEQpj8HBSa+/TImW+5JCeuQeRkm5NMpJWZG3hSuFU=";
 
+/// The root of one empty entry.
 pub const E1: &str = "bjQLnP+zepicpUTmu3gKLHiQHT+zNzh2hRGjBhevoB0=";
 
+/// The root of an empty entry and the byte 0.
 pub const E2: &str = "+sVCA+fMaWzw38tCySodnbr3CtnmIfS9jZhmLwDjwSU=";
 
+/// The leaf hash of the byte 0.
 pub const F1: &str = "lqKW0iTyhcZ77pPDD4owkVfw2qNdxbh+QQt4YwoJz8c=";
 
+/// The cosignature of a checkpoint of the log, whose size has one digit.
 pub const COSIGNATURE: &str = "— witness.example CgsMDQAAAABlU/EAAAAAAAAAAF4=\n";
 
+/// The time of the requests.
 pub const TIME: u64 = 1700000000;
 
-/// The log's key.
-pub fn log_key(alloc: Global) -> Result<LengthKey, AllocError> {
-    LengthKey::new(alloc, "example.com/log", 0x01020304)
-}
-
-/// The witness's key.
-pub fn witness_key(alloc: Global) -> Result<LengthKey, AllocError> {
-    LengthKey::new(alloc, "witness.example", 0x0A0B0C0D)
-}
-
-/// The trust in one verifier for `example.com/log`.
-pub fn trust(
+/// The trust in the log's key for an origin. The witness cosigns.
+pub fn trust<A: Allocator + Copy>(
     alloc: Global,
-    log: Box<dyn Verifier>,
-    cosigner: Box<dyn Signer>,
-) -> Result<Trust<Global>, AllocError> {
-    let mut verifiers = Vec::new(alloc);
-    verifiers.push(log)?;
-    let origin = String::from_str(alloc, "example.com/log")?;
+    heap: A,
+    origin: &str,
+) -> Result<Trust<A>, AllocError> {
+    let log = LengthKey::new(alloc, ORIGIN, 0x01020304)?;
+    let witness = LengthKey::new(alloc, "witness.example", 0x0A0B0C0D)?;
+    let verifier: Box<dyn Verifier> = Box::new(alloc, log)?;
+    let cosigner: Box<dyn Signer> = Box::new(alloc, witness)?;
+    let mut verifiers = Vec::new(heap);
+    verifiers.push(verifier)?;
+    let origin = String::from_str(heap, origin)?;
     Ok(Trust {
         origin,
         verifiers,
@@ -49,18 +47,20 @@ pub fn trust(
     })
 }
 
-/// A book of one origin, `example.com/log`, without links.
-pub fn fresh_book(
+/// A book of these origins, without links.
+pub fn fresh_book<A: Allocator + Copy>(
     alloc: Global,
-    log: Box<dyn Verifier>,
-    cosigner: Box<dyn Signer>,
-) -> Result<Book<Sha256Tree, Global>, BookFault> {
-    let mut trusts = Vec::new(alloc);
-    let Ok(trust) = trust(alloc, log, cosigner) else {
-        return Err(BookFault::OutOfMemory);
-    };
-    trusts.push(trust)?;
-    Book::open(alloc, alloc, Sha256Tree, trusts, Vec::new(alloc))
+    heap: A,
+    origins: &[&str],
+) -> Result<Book<Sha256Tree, A>, BookFault> {
+    let mut trusts = Vec::new(heap);
+    for origin in origins {
+        let Ok(trust) = trust(alloc, heap, origin) else {
+            return Err(BookFault::OutOfMemory);
+        };
+        trusts.push(trust)?;
+    }
+    Book::open(heap, alloc, Sha256Tree, trusts, Vec::new(heap))
 }
 
 /// The body of a request, whose note has this signature field.
@@ -84,94 +84,5 @@ pub fn body(
     size: u64,
     root: &str,
 ) -> Result<String, AllocError> {
-    signed_body(
-        alloc,
-        "example.com/log",
-        old,
-        proof,
-        size,
-        root,
-        "AQIDBAAAAAAAAAA/",
-    )
-}
-
-/// A saver that keeps the last link, counts its calls, and fails where it is told to.
-#[derive(Drop)]
-pub struct LastSaver {
-    pub alloc: Global,
-    pub fails: bool,
-    pub calls: u64,
-    failures: u64,
-    last: Option<(String, Link<Global>)>,
-}
-
-impl LastSaver {
-    /// A saver that was not called yet.
-    pub fn new(alloc: Global) -> LastSaver {
-        LastSaver {
-            alloc,
-            fails: false,
-            calls: 0,
-            failures: 0,
-            last: None,
-        }
-    }
-
-    // One failure more.
-    fn fail(&mut self) -> Result<(), SaveFault>
-        ensures failed { IsErr result }
-        ensures counted { (self.old.failures < self.new.failures) ⊎ (self.old.failures ≡ 2 ^ 64 - 1) }
-    {
-        self.failures = self.failures.saturating_add(1);
-        Err(SaveFault)
-    }
-}
-
-// A copy of an origin and a link.
-fn copied<A: Allocator>(
-    alloc: Global,
-    origin: &str,
-    link: &Link<A>,
-) -> Result<(String, Link<Global>), AllocError>
-    ensures { IfOk result (λ kept. (string_bytes kept.0 ≡ origin.now) × (step_of kept.1 ≡ step_of link.now)) }
-{
-    let hashes = Vec::from_slice(alloc, link.proof.as_slice())?;
-    let name = String::from_str(alloc, origin)?;
-    Ok((
-        name,
-        Link {
-            size: link.size,
-            root: link.root,
-            proof: HashList::from_vec(hashes),
-        },
-    ))
-}
-
-impl Saver for LastSaver {
-    ghost use Rattle.std.specs.Prelude.{option_map, string_bytes};
-    ghost use Rattle.tl_proof.specs.Collisions.{step_of};
-
-    ghost saved = { λ s. record { failures = s.failures; last = option_map (λ p. (string_bytes p.0, step_of p.1)) s.last } };
-
-    fn save<A: Allocator>(&mut self, origin: &str, link: &Link<A>) -> Result<(), SaveFault> {
-        self.calls = self.calls.wrapping_add(1);
-        if self.fails {
-            return self.fail();
-        }
-        match copied(self.alloc, origin, link) {
-            Ok(kept) => {
-                self.last = Some(kept);
-                Ok(())
-            }
-            Err(_) => self.fail(),
-        }
-    }
-}
-
-/// The hash that a text is in base64, or one of zeros where it is none.
-pub fn hash(alloc: Global, text: &str) -> Result<Hash, AllocError> {
-    match hash_of(alloc, text)? {
-        Some(hash) => Ok(hash),
-        None => Ok(Hash::from_bytes([0; 32])),
-    }
+    signed_body(alloc, ORIGIN, old, proof, size, root, "AQIDBAAAAAAAAAA/")
 }

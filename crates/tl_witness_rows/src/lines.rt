@@ -1,0 +1,78 @@
+//! The line of each saved link, with its growths refused in turn.
+
+ghost use Rattle.tl_proof.specs.Collisions.{step_of};
+ghost use Rattle.tl_witness.specs.ChainLine.{IsChainLine};
+
+use crate::posts::{ORIGIN, TIME, fresh_book};
+use crate::savers::LastSaver;
+use crate::steps::{LINES, MOST, is_due, steps};
+use std::alloc::{Allocator, Global};
+use std::test::Fail;
+use tl_proof::Link;
+use tl_testing::Refusing;
+use tl_witness::{SaveFault, Saver, write_chain_line};
+
+// Whether the link's line is this one, and OutOfMemory comes where a growth is refused, of which there are some.
+fn is_line_refused<A: Allocator>(alloc: Global, origin: &str, link: &Link<A>, line: &str) -> bool
+    requires { IsChainLine (record { origin = origin.now; step = step_of link.now }) }
+{
+    for number in 1..MOST {
+        let heap = Refusing::at(alloc, number);
+        let is_written = match write_chain_line(&heap, origin, link) {
+            Ok(written) => written.as_str() == line,
+            Err(_) => false,
+        };
+        if is_written == heap.refused() {
+            return false;
+        }
+        if is_written {
+            return number > 1;
+        }
+        let is_written = match write_chain_line(&heap, origin, link) {
+            Ok(written) => written.as_str() == line,
+            Err(_) => false,
+        };
+        if !is_written {
+            return false;
+        }
+    }
+    false
+}
+
+// A saver that tries the lines of its links with growths refused, and then saves them.
+#[derive(Drop)]
+struct TryingSaver {
+    inner: LastSaver,
+    are_right: bool,
+}
+
+impl Saver for TryingSaver {
+    ghost saved = { λ s. ⟦<LastSaver as Saver>⟧.saved s.inner };
+
+    fn save<A: Allocator>(&mut self, origin: &str, link: &Link<A>) -> Result<(), SaveFault> {
+        let is_right = match write_chain_line(self.inner.alloc, origin, link) {
+            Ok(line) => is_line_refused(self.inner.alloc, origin, link, line.as_str()),
+            Err(_) => false,
+        };
+        self.are_right = self.are_right && is_right;
+        self.inner.save(origin, link)
+    }
+}
+
+#[test]
+fn each_line_with_memory_refused(rt: HostRuntime) -> Result<(), Fail> {
+    let alloc = rt.alloc();
+    let mut book = fresh_book(alloc, alloc, &[ORIGIN])?;
+    let mut saver = TryingSaver {
+        inner: LastSaver::new(alloc),
+        are_right: true,
+    };
+    for step in steps(alloc)? {
+        saver.inner.fails = step.save_fails;
+        let reply = book.add(step.body.as_bytes(), TIME, &mut saver);
+        assert!(rt; is_due(&reply, &step));
+    }
+    assert_eq!(rt; saver.inner.lines.as_str(), LINES);
+    assert!(rt; saver.are_right);
+    Ok(())
+}

@@ -1,0 +1,153 @@
+//! Calls with their first request for memory refused, then their second, and so on, until none is refused.
+
+use crate::links::{are_first, two_links};
+use crate::posts::{E2, F1, ORIGIN, TIME, body, fresh_book, trust};
+use crate::savers::LastSaver;
+use crate::steps::{LINES, MOST, Step, is_due, steps};
+use std::alloc::{AllocError, Allocator, Global};
+use std::test::Fail;
+use tl_hash::Sha256Tree;
+use tl_proof::Link;
+use tl_testing::Refusing;
+use tl_witness::{Book, BookFault, RequestFault, parse_request};
+
+// A book of one origin and its chain of two links. What is handed in is made on another heap.
+fn saved_book<'h>(
+    alloc: Global,
+    calm: &'h Refusing<Global>,
+    heap: &'h Refusing<Global>,
+) -> Result<Result<Book<Sha256Tree, &'h Refusing<Global>>, BookFault>, AllocError> {
+    let mut trusts = Vec::new(calm);
+    trusts.push(trust(alloc, calm, ORIGIN)?)?;
+    let mut chains = Vec::new(calm);
+    chains.push((String::from_str(calm, ORIGIN)?, two_links(calm, F1)?))?;
+    Ok(Book::open(heap, alloc, Sha256Tree, trusts, chains))
+}
+
+#[test]
+fn opening_answers_out_of_memory(rt: HostRuntime) -> Result<(), Fail> {
+    let alloc = rt.alloc();
+    let whole = two_links(alloc, F1)?;
+    let calm = Refusing::at(alloc, 0);
+    for number in 1..MOST {
+        let heap = Refusing::at(alloc, number);
+        let fault = match saved_book(alloc, &calm, &heap)? {
+            Ok(book) => {
+                assert!(rt; !heap.refused());
+                assert!(rt; number > 2);
+                let links = book.chain(ORIGIN).ok_or("no chain")?;
+                assert!(rt; are_first(links, whole.as_slice(), 2));
+                return Ok(());
+            }
+            Err(fault) => fault,
+        };
+        assert!(rt; heap.refused());
+        assert_eq!(rt; fault, BookFault::OutOfMemory);
+        let book = saved_book(alloc, &calm, &heap)??;
+        let links = book.chain(ORIGIN).ok_or("no chain")?;
+        assert!(rt; are_first(links, whole.as_slice(), 2));
+    }
+    assert!(rt; false, "each opening was refused");
+    Ok(())
+}
+
+// Whether the links of the book are the first of a chain, so many of them.
+fn has_links<A: Allocator + Copy>(
+    book: &Book<Sha256Tree, A>,
+    whole: &[Link<Global>],
+    count: usize,
+) -> bool {
+    match book.chain(ORIGIN) {
+        Some(links) => are_first(links, whole, count),
+        None => false,
+    }
+}
+
+// Puts a request to a book, once more where memory was refused. Whether each reply is the one that is due, and a refusal
+// left the book as it was, with so many links, and saved nothing.
+fn is_taken(
+    book: &mut Book<Sha256Tree, &Refusing<Global>>,
+    heap: &Refusing<Global>,
+    saver: &mut LastSaver,
+    step: &Step,
+    whole: &[Link<Global>],
+    count: usize,
+) -> bool {
+    let was_refused = heap.refused();
+    let calls = saver.calls;
+    saver.fails = step.save_fails;
+    let reply = book.add(step.body.as_bytes(), TIME, saver);
+    if heap.refused() == was_refused {
+        return is_due(&reply, step) && has_links(book, whole, step.links);
+    }
+    if reply.status != 500 || !reply.body.is_empty() {
+        return false;
+    }
+    if saver.calls != calls || !has_links(book, whole, count) {
+        return false;
+    }
+    let again = book.add(step.body.as_bytes(), TIME, saver);
+    is_due(&again, step) && has_links(book, whole, step.links)
+}
+
+#[test]
+fn a_book_answers_500(rt: HostRuntime) -> Result<(), Fail> {
+    let alloc = rt.alloc();
+    let whole = two_links(alloc, F1)?;
+    let list = steps(alloc)?;
+    for number in 1..MOST {
+        let heap = Refusing::at(alloc, number);
+        let Ok(mut book) = fresh_book(alloc, &heap, &[ORIGIN]) else {
+            assert!(rt; heap.refused());
+            continue;
+        };
+        let mut saver = LastSaver::new(alloc);
+        let mut count = 0;
+        for step in list.iter() {
+            let is_right = is_taken(&mut book, &heap, &mut saver, step, whole.as_slice(), count);
+            assert!(rt; is_right, "with request {number} refused, to {}", step.body);
+            count = step.links;
+        }
+        assert_eq!(rt; saver.calls, 3);
+        assert_eq!(rt; saver.lines.as_str(), LINES);
+        if !heap.refused() {
+            assert!(rt; number > 100);
+            return Ok(());
+        }
+    }
+    assert!(rt; false, "each run was refused");
+    Ok(())
+}
+
+// Whether a body is read as a request for size 2 with this proof, or OutOfMemory comes where memory was refused.
+fn is_read(heap: &Refusing<Global>, body: &str, link: &Link<Global>) -> bool {
+    match parse_request(heap, body.as_bytes()) {
+        Ok(request) => {
+            request.old == 1
+                && request.proof.as_slice() == link.proof.as_slice()
+                && request.note.len() == 101
+                && body.ends_with(request.note)
+        }
+        Err(fault) => fault == RequestFault::OutOfMemory && heap.refused(),
+    }
+}
+
+#[test]
+fn parse_request_answers_out_of_memory(rt: HostRuntime) -> Result<(), Fail> {
+    let alloc = rt.alloc();
+    let request = body(alloc, 1, format!(in alloc; "{F1}\n")?.as_str(), 2, E2)?;
+    let whole = two_links(alloc, F1)?;
+    let link = whole.last().ok_or("no link")?;
+    for number in 1..MOST {
+        let heap = Refusing::at(alloc, number);
+        assert!(rt; is_read(&heap, request.as_str(), link));
+        if !heap.refused() {
+            assert!(rt; number > 1);
+            return Ok(());
+        }
+        let calm = Refusing::at(alloc, 0);
+        assert!(rt; is_read(&calm, request.as_str(), link));
+    }
+    assert!(rt; false, "each reading was refused");
+    Ok(())
+}

@@ -1,0 +1,88 @@
+//! A saver that keeps the lines of what it saved, and is told whether to fail.
+
+ghost use Rattle.std.specs.Prelude.{◌≡◌, ◌<◌, ◌-◌, ◌^◌, ◌⊎◌, IfOk, IsErr, string_bytes};
+ghost use Rattle.tl_proof.specs.Collisions.{step_of};
+
+use std::alloc::{AllocError, Allocator, Global};
+use tl_proof::{HashList, Link};
+use tl_witness::{SaveFault, Saver, write_chain_line};
+
+/// A saver that keeps the last link, counts its calls, and fails where it is told to.
+#[derive(Drop)]
+pub struct LastSaver {
+    pub alloc: Global,
+    pub fails: bool,
+    pub calls: u64,
+    /// The lines of the links that were saved.
+    pub lines: String,
+    failures: u64,
+    last: Option<(String, Link<Global>)>,
+}
+
+impl LastSaver {
+    /// A saver that was not called yet.
+    pub fn new(alloc: Global) -> LastSaver {
+        LastSaver {
+            alloc,
+            fails: false,
+            calls: 0,
+            lines: String::new(alloc),
+            failures: 0,
+            last: None,
+        }
+    }
+
+    // One failure more.
+    fn fail(&mut self) -> Result<(), SaveFault>
+        ensures failed { IsErr result }
+        ensures counted { (self.old.failures < self.new.failures) ⊎ (self.old.failures ≡ 2 ^ 64 - 1) }
+    {
+        self.failures = self.failures.saturating_add(1);
+        Err(SaveFault)
+    }
+}
+
+// A copy of an origin and a link.
+fn copied<A: Allocator>(
+    alloc: Global,
+    origin: &str,
+    link: &Link<A>,
+) -> Result<(String, Link<Global>), AllocError>
+    ensures { IfOk result (λ kept. (string_bytes kept.0 ≡ origin.now) × (step_of kept.1 ≡ step_of link.now)) }
+{
+    let hashes = Vec::from_slice(alloc, link.proof.as_slice())?;
+    let name = String::from_str(alloc, origin)?;
+    Ok((
+        name,
+        Link {
+            size: link.size,
+            root: link.root,
+            proof: HashList::from_vec(hashes),
+        },
+    ))
+}
+
+impl Saver for LastSaver {
+    ghost use Rattle.std.specs.Prelude.{option_map, string_bytes};
+    ghost use Rattle.tl_proof.specs.Collisions.{step_of};
+
+    ghost saved = { λ s. record { failures = s.failures; last = option_map (λ p. (string_bytes p.0, step_of p.1)) s.last } };
+
+    fn save<A: Allocator>(&mut self, origin: &str, link: &Link<A>) -> Result<(), SaveFault> {
+        self.calls = self.calls.wrapping_add(1);
+        if self.fails {
+            return self.fail();
+        }
+        let Ok(line) = write_chain_line(self.alloc, origin, link) else {
+            return self.fail();
+        };
+        let Ok(kept) = copied(self.alloc, origin, link) else {
+            return self.fail();
+        };
+        if self.lines.push_str(line.as_str()).is_err() {
+            return self.fail();
+        }
+        self.last = Some(kept);
+        Ok(())
+    }
+}
