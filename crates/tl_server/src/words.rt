@@ -15,6 +15,15 @@ pub enum Job {
         /// The name of the log.
         origin: String,
     },
+    /// Print what a static mirror of the log of the lines of standard input serves.
+    Build {
+        /// The name of the log, a key's name.
+        origin: String,
+        /// The secret of the log's demonstration key.
+        secret: String,
+        /// The path of the one resource to print; without it, the listing of all of them.
+        get: Option<String>,
+    },
     /// Print the inclusion proof of a line of standard input.
     Inclusion {
         /// The place of the line, counted from 0.
@@ -59,14 +68,18 @@ fn usage(alloc: Global, error: ClapError) -> WordsFault {
     }
 }
 
-// An option with a value, which has to be given.
-fn required<'a>(alloc: Global, name: &'a str, value: &'a str, help: &'a str) -> Arg<'a> {
+// An option with a value.
+fn option<'a>(alloc: Global, name: &'a str, value: &'a str, help: &'a str) -> Arg<'a> {
     Arg::new(alloc, name)
         .long(name)
         .value_name(value)
         .help(help)
-        .required(true)
         .action(ArgAction::Set)
+}
+
+// An option with a value, which has to be given.
+fn required<'a>(alloc: Global, name: &'a str, value: &'a str, help: &'a str) -> Arg<'a> {
+    option(alloc, name, value, help).required(true)
 }
 
 // An option with a number, which has to be given.
@@ -86,6 +99,24 @@ fn head<'a>(alloc: Global) -> Result<Command<'a>, AllocError> {
         .about("Prints the checkpoint of the log whose entries are the lines of standard input")
         .after_help(texts::HEAD)
         .arg(origin)
+}
+
+// The command `build`.
+fn build<'a>(alloc: Global) -> Result<Command<'a>, AllocError> {
+    let origin = required(alloc, "origin", "NAME", "The name of the log, a key's name");
+    let secret = required(
+        alloc,
+        "secret",
+        "SECRET",
+        "The secret of the log's demonstration key",
+    );
+    let get = option(alloc, "get", "PATH", "Print the resource with this path");
+    Command::new(alloc, "build")
+        .about("Prints what a static mirror of the log of the lines of standard input serves")
+        .after_help(texts::BUILD)
+        .arg(origin)?
+        .arg(secret)?
+        .arg(get)
 }
 
 // The command `inclusion`.
@@ -126,6 +157,7 @@ fn commands<'a>(alloc: Global) -> Result<Command<'a>, AllocError> {
         .subcommand_required(true)
         .disable_help_subcommand(true)
         .subcommand(head(alloc)?)?
+        .subcommand(build(alloc)?)?
         .subcommand(inclusion(alloc)?)?
         .subcommand(consistency(alloc)?)?
         .subcommand(check(alloc))?
@@ -143,6 +175,18 @@ fn text_of(alloc: Global, options: &ArgMatches<'_>, name: &str) -> Result<String
         return Err(missing(alloc));
     };
     Ok(String::from_str(alloc, text)?)
+}
+
+// The text of an option that may be left out.
+fn text_if_given(
+    alloc: Global,
+    options: &ArgMatches<'_>,
+    name: &str,
+) -> Result<Option<String>, AllocError> {
+    match options.get_str(name) {
+        Some(text) => Ok(Some(String::from_str(alloc, text)?)),
+        None => Ok(None),
+    }
 }
 
 // The number of an option that has to be given.
@@ -164,6 +208,11 @@ pub fn read_words(alloc: Global, words: &[String]) -> Result<Job, WordsFault> {
     match matches.subcommand() {
         Some(("head", options)) => Ok(Job::Head {
             origin: text_of(alloc, options, "origin")?,
+        }),
+        Some(("build", options)) => Ok(Job::Build {
+            origin: text_of(alloc, options, "origin")?,
+            secret: text_of(alloc, options, "secret")?,
+            get: text_if_given(alloc, options, "get")?,
         }),
         Some(("inclusion", options)) => Ok(Job::Inclusion {
             index: number_of(alloc, options, "index")?,

@@ -12,6 +12,14 @@ hash (RFC 6962) in base64, each on a line.
 Exit status: 0 done; 1 refused (input too large, an entry too long, a bad origin, out of memory); 2 wrong arguments
 or a call for help; 3 a read or a write failed. A refusal is one line 'tlog: ..' on standard error.";
 
+pub(super) const BUILD: &str = "Input: the entries of the log, one a line, as for 'tlog head'.
+Output: a line 'PATH LENGTH' for each resource of the log (C2SP tlog-tiles): its tiles of hashes, its entry bundles and
+its checkpoint. With --get the bytes of the resource with that path. The checkpoint is a signed note, by a key for
+demonstrations alone: HMAC with SHA-256 under the secret.
+Exit status: 0 done; 1 refused (a bad origin, no such path, not there, input too large, an entry too long, out of
+memory); 2 wrong arguments or a call for help; 3 a read or a write failed. A refusal is one line 'tlog: ..' on standard
+error.";
+
 pub(super) const INCLUSION: &str = "Input: the entries of the log, one a line, as for 'tlog head'.
 Output: lines 'inclusion', 'index I', 'size N', 'leaf HASH', 'root HASH', and the hashes of the proof (RFC 6962,
 section 2.1.1), one a line, the one nearest to the leaf first. Hashes are in base64. 'tlog check' reads it.
