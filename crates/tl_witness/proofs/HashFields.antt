@@ -5,6 +5,7 @@ use Rattle.std.proofs.lemmas.List.{length-append}
 use Rattle.std.proofs.lemmas.List.Elements.{All-head, All-tail, All-push}
 use Rattle.tl_hash.specs.Bytes.{IsHash}
 use Rattle.tl_note.specs.Text.{base64_text}
+use Rattle.tl_note.proofs.PlainText.{base64_once}
 use Rattle.tl_witness.specs.ChainFields.{field, hashes_before, HasNoHash, HasNoHashes}
 use Rattle.tl_witness.proofs.FieldTexts.{one_end}
 use Rattle.tl_witness.proofs.FieldLaws.{hash_without}
@@ -45,12 +46,15 @@ pub no_hashes : (count : ℕ) (text left : List ℕ) (done : List (List ℕ)) �
 no_hashes count text left done read room none = λ hashes rest each number e.
     after_done done hashes left rest read.each each (omega arith) (sym e ∙ read.whole) none
 
--- hashes that are so many are one list
-pub fields_once : (xs ys : List (List ℕ)) (left rest : List ℕ) → All IsHash xs → All IsHash ys → length xs ≡ length ys → hashes_before xs left ≡ hashes_before ys rest → left ≡ rest
-fields_once [] [] left rest each others number e = e
-fields_once [] (y ∷ ys) left rest each others number e = absurd (omega arith)
-fields_once (x ∷ xs) [] left rest each others number e = absurd (omega arith)
-fields_once (x ∷ xs) (y ∷ ys) left rest each others number e =
-    let cut = one_end 32 (base64_text x) (base64_text y) (hashes_before xs left) (hashes_before ys rest)
-    (hash_without x (All-head IsHash x xs each)) (hash_without y (All-head IsHash y ys others)) e in
-    fields_once xs ys left rest (All-tail IsHash x xs each) (All-tail IsHash y ys others) (omega arith) cut.1
+-- as many hashes before a text are one list
+pub hashes_once : (xs ys : List (List ℕ)) (x y : List ℕ) → All IsHash xs → All IsHash ys → length xs ≡ length ys → hashes_before xs x ≡ hashes_before ys y → (xs ≡ ys) × (x ≡ y)
+hashes_once [] [] x y each others number e = (refl, e)
+hashes_once [] (b ∷ ys) x y each others number e = absurd (omega arith)
+hashes_once (a ∷ xs) [] x y each others number e = absurd (omega arith)
+hashes_once (a ∷ xs) (b ∷ ys) x y each others number e =
+    let is_a = All-head IsHash a xs each in
+    let is_b = All-head IsHash b ys others in
+    let cut = one_end 32 (base64_text a) (base64_text b) (hashes_before xs x) (hashes_before ys y) (hash_without a is_a) (hash_without b is_b) e in
+    let same : a ≡ b = base64_once a b is_a.bytes is_b.bytes cut.0 in
+    let rest = hashes_once xs ys x y (All-tail IsHash a xs each) (All-tail IsHash b ys others) (omega arith) cut.1 in
+    (ap (λ (h : List ℕ). h ∷ xs) same ∙ ap (λ (hs : List (List ℕ)). b ∷ hs) rest.0, rest.1)

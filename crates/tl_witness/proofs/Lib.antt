@@ -21,3 +21,4 @@ pub mod PutLaws
 pub mod Grouping
 pub mod LineText
 pub mod SavedLines
+pub mod OneReading

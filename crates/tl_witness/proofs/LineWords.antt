@@ -8,24 +8,24 @@ use Rattle.tl_witness.specs.ChainLine.{ChainLine, IsChainLine}
 use Rattle.tl_witness.specs.ChainFields.{field, hashes_before, chain_words, HasNoNumber, HasNoHash, HasNoHashes, IsNoChainLine}
 use Rattle.tl_witness.proofs.FieldTexts.{one_end}
 use Rattle.tl_witness.proofs.FieldLaws.{number_without, hash_without}
-use Rattle.tl_witness.proofs.HashFields.{fields_once}
+use Rattle.tl_witness.proofs.HashFields.{hashes_once}
 
-abbrev after_count : ChainLine → List ℕ
+abbrev pub after_count : ChainLine → List ℕ
 after_count l = hashes_before l.step.proof l.origin
 
-abbrev after_root : ChainLine → List ℕ
+abbrev pub after_root : ChainLine → List ℕ
 after_root l = field (number_text (length l.step.proof)) (after_count l)
 
-abbrev after_size : ChainLine → List ℕ
+abbrev pub after_size : ChainLine → List ℕ
 after_size l = field (base64_text l.step.root) (after_root l)
 
 -- a number in front is one
-number_cut : (m n : ℕ) (x y : List ℕ) → IsSize m → IsSize n → field (number_text m) x ≡ field (number_text n) y → (m ≡ n) × (x ≡ y)
+pub number_cut : (m n : ℕ) (x y : List ℕ) → IsSize m → IsSize n → field (number_text m) x ≡ field (number_text n) y → (m ≡ n) × (x ≡ y)
 number_cut m n x y small_m small_n e =
     let cut = one_end 32 (number_text m) (number_text n) x y (number_without m small_m) (number_without n small_n) e in
     (decimal_injective m n (omega arith) (omega arith) cut.0, cut.1)
 
-count_size : (l : ChainLine) → IsChainLine l → IsSize (length l.step.proof)
+pub count_size : (l : ChainLine) → IsChainLine l → IsSize (length l.step.proof)
 count_size l is = omega (arith, is.few)
 
 -- the size was read, and this is left
@@ -89,5 +89,5 @@ pub no_origin : (words : List ℕ) (count : ℕ) (left origin : List ℕ) (proof
     → left ≡ hashes_before proof origin → ¬ (IsOneLine origin) → IsNoChainLine words
 no_origin words count left origin proof read each number whole none = λ l is e.
     let cut = count_left words count left l read is e in
-    let same : origin ≡ l.origin = fields_once proof l.step.proof origin l.origin each is.hashes (number ∙ cut.0) (sym whole ∙ cut.1) in
+    let same : origin ≡ l.origin = (hashes_once proof l.step.proof origin l.origin each is.hashes (number ∙ cut.0) (sym whole ∙ cut.1)).1 in
     none (rw same is.origin)

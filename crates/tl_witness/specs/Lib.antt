@@ -14,3 +14,4 @@ pub mod Open
 pub mod Opening
 pub mod ChainFields
 pub mod ReadChain
+pub mod OneReading
