@@ -12,3 +12,13 @@ pub mod Moved
 pub mod ListLaws
 pub mod OpeningLaws
 pub mod OpeningFaults
+pub mod FieldTexts
+pub mod FieldLaws
+pub mod HashFields
+pub mod LineWords
+pub mod NewlineLaws
+pub mod PutLaws
+pub mod Grouping
+pub mod LineText
+pub mod SavedLines
+pub mod OneReading

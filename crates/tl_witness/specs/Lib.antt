@@ -12,3 +12,6 @@ pub mod Runs
 pub mod Shared
 pub mod Open
 pub mod Opening
+pub mod ChainFields
+pub mod ReadChain
+pub mod OneReading

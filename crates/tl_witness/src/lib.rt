@@ -3,7 +3,9 @@
 
 mod book;
 mod chain;
+mod chain_fields;
 mod chain_line;
+mod chain_reading;
 mod copy;
 mod cosign;
 mod keeper;
@@ -19,7 +21,11 @@ mod trust;
 
 pub use book::{Book, Shown};
 pub use chain_line::write_chain_line;
-pub use law::{books_only_grow, chains_are_linked_from_each_step, chains_only_grow};
+pub use chain_reading::{ChainFault, read_chain};
+pub use law::{
+    books_only_grow, chains_are_linked_from_each_step, chains_only_grow,
+    saved_links_have_one_reading,
+};
 pub use opening::BookFault;
 pub use reply::Reply;
 pub use request::{AddRequest, RequestFault, parse_request};

@@ -10,8 +10,8 @@ use tl_checkpoint::{first_line, hash_of, size_of};
 use tl_hash::Hash;
 use tl_proof::HashList;
 
-// No proof between sizes below 2^63 has more hashes.
-const MOST_HASHES: usize = 63;
+/// No proof between sizes below 2^63 has more hashes.
+pub(crate) const MOST_HASHES: usize = 63;
 
 /// What an add-checkpoint request asks (C2SP tlog-witness, "add-checkpoint").
 #[derive(Drop)]

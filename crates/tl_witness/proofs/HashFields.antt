@@ -1,0 +1,60 @@
+-- Reading the hashes of a chain line, one after the other.
+use Rattle.std.proofs.Common.{◌≡◌, ℕ, ◌<◌, ◌≤◌, List, [], ◌∷◌, ◌++◌, length, refl, sym, ap, ◌∙◌, arith, All}
+use Rattle.std.specs.Prelude.{IsUtf8}
+use Rattle.std.proofs.lemmas.List.{length-append}
+use Rattle.std.proofs.lemmas.List.Elements.{All-head, All-tail, All-push}
+use Rattle.tl_hash.specs.Bytes.{IsHash}
+use Rattle.tl_note.specs.Text.{base64_text}
+use Rattle.tl_note.proofs.PlainText.{base64_once}
+use Rattle.tl_witness.specs.ChainFields.{field, hashes_before, HasNoHash, HasNoHashes}
+use Rattle.tl_witness.proofs.FieldTexts.{one_end}
+use Rattle.tl_witness.proofs.FieldLaws.{hash_without}
+
+-- what was read of so many, and what is left to read
+pub record HasRead (count : ℕ) (text : List ℕ) (done : List (List ℕ)) (left : List ℕ) : Type 0 where
+  pub utf8 : IsUtf8 left
+  pub each : All IsHash done
+  pub few : length done ≤ count
+  pub whole : text ≡ hashes_before done left
+
+-- one hash more
+fields_more : (done : List (List ℕ)) (hash rest : List ℕ) → hashes_before (done ++ hash ∷ []) rest ≡ hashes_before done (field (base64_text hash) rest)
+fields_more [] hash rest = refl
+fields_more (d ∷ done) hash rest = ap (λ (t : List ℕ). field (base64_text d) t) (fields_more done hash rest)
+
+pub reads_more : (count : ℕ) (text left rest hash : List ℕ) (done : List (List ℕ)) → HasRead count text done left → length done < count → IsHash hash
+    → left ≡ field (base64_text hash) rest → IsUtf8 rest → HasRead count text (done ++ hash ∷ []) rest
+reads_more count text left rest hash done read room is e utf8 = record {
+  utf8 = utf8;
+  each = All-push IsHash done hash read.each is;
+  few = omega (arith, length-append done (hash ∷ []));
+  whole = read.whole ∙ ap (hashes_before done) e ∙ sym (fields_more done hash rest);
+}
+
+-- what is left goes on as the text does, with a hash where some are missing
+after_done : (done hashes : List (List ℕ)) (left rest : List ℕ) → All IsHash done → All IsHash hashes → length done < length hashes
+    → hashes_before hashes rest ≡ hashes_before done left → HasNoHash left → ⊥
+after_done [] [] left rest d h less e none = absurd (omega arith)
+after_done [] (b ∷ hashes) left rest d h less e none = none b (hashes_before hashes rest) (All-head IsHash b hashes h) (sym e)
+after_done (a ∷ done) [] left rest d h less e none = absurd (omega arith)
+after_done (a ∷ done) (b ∷ hashes) left rest d h less e none =
+    let cut = one_end 32 (base64_text b) (base64_text a) (hashes_before hashes rest) (hashes_before done left)
+    (hash_without b (All-head IsHash b hashes h)) (hash_without a (All-head IsHash a done d)) e in
+    after_done done hashes left rest (All-tail IsHash a done d) (All-tail IsHash b hashes h) (omega arith) cut.1 none
+
+pub no_hashes : (count : ℕ) (text left : List ℕ) (done : List (List ℕ)) → HasRead count text done left → length done < count → HasNoHash left → HasNoHashes count text
+no_hashes count text left done read room none = λ hashes rest each number e.
+    after_done done hashes left rest read.each each (omega arith) (sym e ∙ read.whole) none
+
+-- as many hashes before a text are one list
+pub hashes_once : (xs ys : List (List ℕ)) (x y : List ℕ) → All IsHash xs → All IsHash ys → length xs ≡ length ys → hashes_before xs x ≡ hashes_before ys y → (xs ≡ ys) × (x ≡ y)
+hashes_once [] [] x y each others number e = (refl, e)
+hashes_once [] (b ∷ ys) x y each others number e = absurd (omega arith)
+hashes_once (a ∷ xs) [] x y each others number e = absurd (omega arith)
+hashes_once (a ∷ xs) (b ∷ ys) x y each others number e =
+    let is_a = All-head IsHash a xs each in
+    let is_b = All-head IsHash b ys others in
+    let cut = one_end 32 (base64_text a) (base64_text b) (hashes_before xs x) (hashes_before ys y) (hash_without a is_a) (hash_without b is_b) e in
+    let same : a ≡ b = base64_once a b is_a.bytes is_b.bytes cut.0 in
+    let rest = hashes_once xs ys x y (All-tail IsHash a xs each) (All-tail IsHash b ys others) (omega arith) cut.1 in
+    (ap (λ (h : List ℕ). h ∷ xs) same ∙ ap (λ (hs : List (List ℕ)). b ∷ hs) rest.0, rest.1)

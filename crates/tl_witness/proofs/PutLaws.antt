@@ -1,0 +1,38 @@
+-- A link is put behind those of its origin, or begins a new chain.
+use Rattle.std.proofs.Common.{◌≡◌, ◌≢◌, ◌<◌, ℕ, List, [], ◌∷◌, ◌++◌, Some, inl, inr, refl, ap, subst, ◌∙◌, map, length, slice_get, slice_index_or}
+use Rattle.std.specs.Prelude.{slice_set}
+use Rattle.std.proofs.lemmas.List.{map-set, map-append}
+use Rattle.tl_proof.specs.Collisions.{Step}
+use Rattle.tl_witness.specs.Open.{SavedChain, saved_chain}
+use Rattle.tl_witness.specs.ChainFields.{PutsStep}
+use Rattle.tl_witness.proofs.Moved.{shown_twice}
+use Rattle.tl_witness.proofs.PlaceLaws.{shows_at, named_at}
+
+pub same_chain : (o p : List ℕ) (xs ys : List Step) → o ≡ p → xs ≡ ys → saved_chain o xs ≡ saved_chain p ys
+same_chain o p xs ys e f = ap (λ (q : List ℕ). saved_chain q xs) e ∙ ap (λ (steps : List Step). saved_chain p steps) f
+
+pub puts_known : {A : Type 0} (view : A → SavedChain) (xs : List A) (place : ℕ) (origin : List ℕ) (step : Step) (old new : A)
+    → place < length xs → slice_get (map (λ x. (view x).0) xs) place ≡ Some origin → old ≡ slice_index_or xs place old
+    → (view new).0 ≡ (view old).0 → (view new).1 ≡ (view old).1 ++ step ∷ []
+    → PutsStep origin step (map view xs) (map view (slice_set xs place new))
+puts_known view xs place origin step old new room shows read same put =
+    let named : (view old).0 ≡ origin = named_at xs (λ x. (view x).0) place origin old shows read in
+    let made = same_chain (view new).0 origin (view new).1 ((view old).1 ++ step ∷ []) (same ∙ named) put in
+    inl (
+      place,
+      (view old).1,
+      shows_at view xs (length xs) place old (origin, (view old).1) refl room read (ap (λ (o : List ℕ). (o, (view old).1)) named),
+      map-set view xs place new ∙ ap (λ (c : SavedChain). slice_set (map view xs) place c) made,
+    )
+
+-- a chain of one link
+pub one_step : {A B : Type 0} (f : A → B) (empty links : List A) (link : A) → empty ≡ [] → links ≡ empty ++ link ∷ [] → map f links ≡ f link ∷ []
+one_step {A} f empty links link none now = ap (map f) now ∙ ap (λ (ls : List A). map f (ls ++ link ∷ [])) none
+
+pub puts_new : {A : Type 0} (view : A → SavedChain) (xs : List A) (origin : List ℕ) (step : Step) (new : A)
+    → ((place : ℕ) → slice_get (map (λ x. (view x).0) xs) place ≢ Some origin) → (view new).0 ≡ origin → (view new).1 ≡ step ∷ []
+    → PutsStep origin step (map view xs) (map view (xs ++ new ∷ []))
+puts_new view xs origin step new none named one = inr (
+  subst (λ (os : List (List ℕ)). (place : ℕ) → slice_get os place ≢ Some origin) (shown_twice view (λ c. c.0) (λ x. (view x).0) xs (λ x. refl)) none,
+  map-append view xs (new ∷ []) ∙ ap (λ (c : SavedChain). map view xs ++ c ∷ []) (same_chain (view new).0 origin (view new).1 (step ∷ []) named one),
+)

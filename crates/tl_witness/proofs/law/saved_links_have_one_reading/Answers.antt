@@ -1,0 +1,5 @@
+use Rattle.tl_witness.proofs.OneReading.{saved_links_are_one}
+use Rattle.tl_witness.proofs.law.saved_links_have_one_reading.Goals as goal
+
+pub returns : goal.returns
+returns c = saved_links_are_one

@@ -1,0 +1,48 @@
+-- The fields of a chain line, and the change that a link makes.
+use Rattle.std.specs.Prelude.{◌≡◌, ◌≢◌, ℕ, ◌⊎◌, List, [], ◌∷◌, ◌++◌, length, All, IsUtf8, Some, slice_get, slice_set}
+use Rattle.tl_hash.specs.Bytes.{IsHash}
+use Rattle.tl_note.specs.Text.{number_text, base64_text, IsSize}
+use Rattle.tl_proof.specs.Collisions.{Step}
+use Rattle.tl_witness.specs.ChainLine.{ChainLine, IsChainLine}
+use Rattle.tl_witness.specs.Open.{SavedChain, chain_origins}
+
+-- no byte of the text is this one
+abbrev pub IsWithout : ℕ → List ℕ → Type 0
+IsWithout mark text = All (λ byte. byte ≢ mark) text
+
+-- a field, the space behind it, and what follows
+abbrev pub field : List ℕ → List ℕ → List ℕ
+field words rest = words ++ 32 ∷ rest
+
+-- hashes, each a field, and what follows
+abbrev pub hashes_before : List (List ℕ) → List ℕ → List ℕ
+hashes_before [] rest = rest
+hashes_before (hash ∷ hashes) rest = field (base64_text hash) (hashes_before hashes rest)
+
+-- a chain line without its newline
+abbrev pub chain_words : ChainLine → List ℕ
+chain_words l =
+    field (number_text l.step.size) (field (base64_text l.step.root) (field (number_text (length l.step.proof)) (hashes_before l.step.proof l.origin)))
+
+-- no text line is in front
+abbrev pub HasNoLine : List ℕ → Type 0
+HasNoLine bytes = (words rest : List ℕ) → IsWithout 10 words → IsUtf8 words → bytes ≢ words ++ 10 ∷ rest
+
+abbrev pub HasNoNumber : List ℕ → Type 0
+HasNoNumber text = (n : ℕ) (rest : List ℕ) → IsSize n → text ≢ field (number_text n) rest
+
+abbrev pub HasNoHash : List ℕ → Type 0
+HasNoHash text = (hash rest : List ℕ) → IsHash hash → text ≢ field (base64_text hash) rest
+
+abbrev pub HasNoHashes : ℕ → List ℕ → Type 0
+HasNoHashes count text = (hashes : List (List ℕ)) (rest : List ℕ) → All IsHash hashes → length hashes ≡ count → text ≢ hashes_before hashes rest
+
+-- no line of a link has these words
+abbrev pub IsNoChainLine : List ℕ → Type 0
+IsNoChainLine words = (l : ChainLine) → IsChainLine l → words ≢ chain_words l
+
+-- the step is put behind those of its origin, or begins a new chain
+abbrev pub PutsStep : List ℕ → Step → List SavedChain → List SavedChain → Type 0
+PutsStep origin step old new =
+    ((place : ℕ) × (before : List Step) × (slice_get old place ≡ Some (origin, before)) × (new ≡ slice_set old place (origin, before ++ step ∷ [])))
+    ⊎ (((place : ℕ) → slice_get (chain_origins old) place ≢ Some origin) × (new ≡ old ++ (origin, step ∷ []) ∷ []))

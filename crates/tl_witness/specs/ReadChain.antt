@@ -1,0 +1,25 @@
+-- What reading saved links answers.
+use Rattle.std.specs.Prelude.{◌≡◌, ℕ, List, map, string_bytes, vec_items, String, Result, Ok, Err, ⊤}
+use Rattle.std.specs.declared.vec.Vec.{Vec}
+use Rattle.tl_proof.specs.declared.link.Link.{Link}
+use Rattle.tl_proof.specs.Collisions.{step_of}
+use Rattle.tl_witness.specs.declared.chain_reading.ChainFault.{ChainFault}
+use Rattle.tl_witness.specs.declared.chain_reading.ChainFault.TheVariants.{Malformed, OutOfMemory}
+use Rattle.tl_witness.specs.ChainLine.{ChainLine, IsChainText, IsMalformedAt, chains}
+use Rattle.tl_witness.specs.Open.{SavedChain, saved_chain}
+
+-- what saved links say, whatever memory they are in
+abbrev pub chains_shown : {A : Type 0} → List (String A × Vec (Link A) A) → List SavedChain
+chains_shown saved = map (λ c. saved_chain (string_bytes c.0) (map step_of (vec_items c.1))) saved
+
+-- the bytes are lines of which these are the chains
+pub record AreChainsOf (bytes : List ℕ) (saved : List SavedChain) : Type 0 where
+  pub lines : List ChainLine
+  pub text : IsChainText bytes lines
+  pub same : saved ≡ chains lines
+
+-- the chains of the lines that the bytes are, or the first line that is none
+abbrev pub ReadsChain : {A : Type 0} → List ℕ → Result (Vec (String A × Vec (Link A) A) A) ChainFault → Type 0
+ReadsChain bytes (Ok read) = AreChainsOf bytes (chains_shown (vec_items read))
+ReadsChain bytes (Err (Malformed place)) = IsMalformedAt bytes place
+ReadsChain bytes (Err OutOfMemory) = ⊤
