@@ -1,5 +1,5 @@
 -- The demonstration key signs every text.
-use Rattle.std.proofs.Common.{◌≡◌, ℕ, zero, suc, inl, inr, false, List, [], ◌∷◌, ◌++◌, length, refl, sym, ap, subst, ◌∙◌, arith}
+use Rattle.std.proofs.Common.{◌≡◌, ℕ, zero, suc, inl, inr, false, List, [], ◌∷◌, ◌++◌, length, refl, sym, ap, subst, arith}
 use Rattle.std.specs.Prelude.{Err, Some, IsTrue, slice_get, bytes_eq}
 use Rattle.sha2.specs.Sha256.{sha256}
 use Rattle.tl_hash.specs.Sha256Length.{length-sha256}
@@ -8,12 +8,11 @@ use Rattle.tl_server.proofs.HashLines.{same_word}
 use Rattle.tl_note.specs.declared.fault.NoteFault.{NoteFault}
 use Rattle.tl_note.specs.declared.fault.NoteFault.TheVariants.{Malformed, BadName, Ambiguous, InvalidSignature, Unverified, Sign, OutOfMemory}
 use Rattle.tl_note.specs.Key.{SigningKey, IsKeyName}
-use Rattle.tl_note.specs.Note.{Signature, Note, IsNoteText, note_bytes}
-use Rattle.tl_note.specs.SignNote.{IsSignedBy, AreSigned, SignsNote}
+use Rattle.tl_note.specs.Note.{IsNoteText}
+use Rattle.tl_note.specs.SignNote.{SignsNote}
 use Rattle.tl_note.proofs.OneNote.{name_plain}
 use Rattle.tl_checkpoint.specs.Checkpoint.{IsOneLine}
-use Rattle.tl_server.specs.DemoKey.{Demo, padded_secret, hmac, demo_id, demo_signing_key}
-use Rattle.tl_build.specs.Mirror.{demo_signature}
+use Rattle.tl_server.specs.DemoKey.{Demo, padded_secret, hmac, demo_signing_key}
 
 -- a key's name is one line
 pub name_is_one_line : (name : List ℕ) → IsKeyName name → IsOneLine name
@@ -47,28 +46,6 @@ demo_fault A demo text (Sign place) named readable given =
       | inr nothing ↦ (let none : IsTrue (bytes_eq [] (hmac demo.secret text)) = subst (λ (k : SigningKey). IsTrue (k.may_give text [])) (sym same) nothing in absurd (no_hmac demo.secret text none))
     ]
 demo_fault A demo text OutOfMemory named readable given = refl
-
-abbrev made : List ℕ → ℕ → List ℕ → Signature
-made name id bytes = record { name = name; id = id; bytes = bytes }
-
-one_signature : (name secret message : List ℕ) (line : Signature) → IsSignedBy message (demo_signing_key (record { name = name; secret = secret })) line
-    → line ≡ demo_signature name secret message
-one_signature name secret message line by =
-    let bytes : line.bytes ≡ hmac secret message = same_word line.bytes (hmac secret message) (sym (not_from_true (bytes_eq line.bytes (hmac secret message)) by.given)) in
-    ap (λ (t : List ℕ). made t line.id line.bytes) by.name ∙ ap (λ (k : ℕ). made name k line.bytes) by.id ∙ ap (λ (t : List ℕ). made name (demo_id name secret) t) bytes
-
--- the demonstration key gives one line
-one_line : (name secret message : List ℕ) (lines : List Signature) → AreSigned message (demo_signing_key (record { name = name; secret = secret }) ∷ []) lines
-    → lines ≡ demo_signature name secret message ∷ []
-one_line name secret message [] signed = absurd signed
-one_line name secret message (line ∷ []) signed = ap (λ (s : Signature). s ∷ []) (one_signature name secret message line signed.0)
-one_line name secret message (line ∷ other ∷ more) signed = absurd signed.1
-
--- the note by the one signer
-pub demo_note : (keys : List SigningKey) (name secret text note : List ℕ) (lines : List Signature) → keys ≡ demo_signing_key (record { name = name; secret = secret }) ∷ []
-    → Note note text lines → AreSigned text keys lines → note ≡ note_bytes text (demo_signature name secret text ∷ [])
-demo_note keys name secret text note lines one is signed =
-    is.spelled ∙ ap (λ (ls : List Signature). note_bytes text ls) (one_line name secret text lines (subst (λ (ks : List SigningKey). AreSigned text ks lines) one signed))
 
 pub demo_refuses_none : (A : Type 0) (keys : List SigningKey) (name secret text : List ℕ) (fault : NoteFault) → keys ≡ demo_signing_key (record { name = name; secret = secret }) ∷ []
     → IsKeyName name → IsNoteText text → SignsNote {A = A} text keys (Err fault) → fault ≡ OutOfMemory
