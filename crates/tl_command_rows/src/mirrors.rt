@@ -202,3 +202,18 @@ fn bundles_and_tiles_alone_give_the_root(rt: HostRuntime) -> Result<(), Fail> {
     }
     Ok(())
 }
+
+#[test]
+fn a_tile_of_level_2_has_the_root_of_65536_empty_lines(rt: HostRuntime) -> Result<(), Fail> {
+    let alloc = rt.alloc();
+    let input = vec![in alloc; 10u8; 65_536]?;
+    let path = Some("tile/2/000.p/1");
+    let (tile, outcome) = build(alloc, alloc, ORIGIN, path, input.as_slice());
+    assert_eq!(rt; outcome, Ok(()));
+    let mut root = leaf_hash(Sha256Tree, b"");
+    for _ in 0..16 {
+        root = node_hash(Sha256Tree, root, root);
+    }
+    assert!(rt; tile.as_slice() == root.as_bytes().as_slice());
+    Ok(())
+}
