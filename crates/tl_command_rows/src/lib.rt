@@ -1,15 +1,19 @@
-//! Worked examples of the commands and the demonstration key, growths refused in turn, and devices that fail. It has tests
-//! alone.
+//! Worked examples of the commands and the demonstration key, mirrors read by their clients, growths refused in turn, and
+//! devices that fail. It has tests alone.
 #![tactic(auto)]
 
 #[cfg(test)]
 mod audits;
+#[cfg(test)]
+mod builds;
 #[cfg(test)]
 mod devices;
 #[cfg(test)]
 mod heads;
 #[cfg(test)]
 mod keys;
+#[cfg(test)]
+mod mirrors;
 #[cfg(test)]
 mod proof_texts;
 #[cfg(test)]

@@ -1,6 +1,8 @@
 //! Each call with its first request for memory refused, then its second, and so on, until none is refused.
 
+use crate::builds::{BUNDLE, INPUT, LISTING, NOTE, ORIGIN, build, tile_of};
 use std::alloc::Global;
+use std::process::Abort;
 use std::test::Fail;
 use tl_hash::{Sha256Tree, entry_root};
 use tl_server::{Counted, RunFault, fault_line, read_entries, run_head};
@@ -63,6 +65,70 @@ fn head_answers_out_of_memory(rt: HostRuntime) -> Result<(), Fail> {
     }
     assert!(rt; false, "each run was refused");
     Ok(())
+}
+
+// Checks that each request of `build` refused is `OutOfMemory` with nothing written, and that the next call gives this.
+fn build_answers_out_of_memory(rt: &(impl Abort + AllocGlobal), get: Option<&str>, want: &[u8]) {
+    for number in 1..MOST {
+        let heap = Refusing::at(rt.alloc(), number);
+        let (text, outcome) = build(&heap, rt.alloc(), ORIGIN, get, INPUT);
+        if !heap.refused() {
+            assert!(rt; number > 10);
+            assert_eq!(rt; outcome, Ok(()));
+            assert_eq!(rt; text.as_slice(), want);
+            return;
+        }
+        assert_eq!(rt;
+            outcome,
+            Err(RunFault::OutOfMemory),
+            "{get:?} at request {number}"
+        );
+        assert_eq!(rt; text.len(), 0);
+        let (text, outcome) = build(&heap, rt.alloc(), ORIGIN, get, INPUT);
+        assert_eq!(rt; outcome, Ok(()));
+        assert_eq!(rt; text.as_slice(), want);
+    }
+    assert!(rt; false, "each run was refused");
+}
+
+#[test]
+fn the_listing_and_each_resource_answer_out_of_memory(rt: HostRuntime) -> Result<(), Fail> {
+    let alloc = rt.alloc();
+    let tile = tile_of(alloc)?;
+    build_answers_out_of_memory(&rt, None, LISTING.as_bytes());
+    build_answers_out_of_memory(&rt, Some("tile/0/000.p/2"), tile.as_slice());
+    build_answers_out_of_memory(&rt, Some("tile/entries/000.p/2"), BUNDLE);
+    build_answers_out_of_memory(&rt, Some("checkpoint"), NOTE.as_bytes());
+    Ok(())
+}
+
+#[test]
+fn a_missing_resource_is_told_or_memory_is_out(rt: HostRuntime) {
+    let absent = Some("tile/0/000");
+    for number in 1..MOST {
+        let heap = Refusing::at(rt.alloc(), number);
+        let (text, outcome) = build(&heap, rt.alloc(), ORIGIN, absent, INPUT);
+        assert_eq!(rt; text.len(), 0);
+        if !heap.refused() {
+            assert!(rt; number > 5);
+            assert_eq!(rt; outcome, Err(RunFault::NotThere));
+            return;
+        }
+        assert_eq!(rt; outcome, Err(RunFault::OutOfMemory), "at request {number}");
+        let (_, outcome) = build(&heap, rt.alloc(), ORIGIN, absent, INPUT);
+        assert_eq!(rt; outcome, Err(RunFault::NotThere));
+    }
+    assert!(rt; false, "each run was refused");
+}
+
+#[test]
+fn a_bad_origin_and_a_bad_path_need_no_memory(rt: HostRuntime) {
+    let heap = Refusing::since(rt.alloc(), 1);
+    let (_, outcome) = build(&heap, rt.alloc(), "a b", Some("checkpoint"), INPUT);
+    assert_eq!(rt; outcome, Err(RunFault::BadOrigin));
+    let (_, outcome) = build(&heap, rt.alloc(), ORIGIN, Some("tile/0/67"), INPUT);
+    assert_eq!(rt; outcome, Err(RunFault::BadPath));
+    assert!(rt; !heap.refused());
 }
 
 #[test]

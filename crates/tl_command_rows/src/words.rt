@@ -36,8 +36,37 @@ fn each_command_with_its_options(rt: HostRuntime) -> Result<(), Fail> {
 }
 
 #[test]
+fn build_with_and_without_a_path(rt: HostRuntime) -> Result<(), Fail> {
+    let words = ["tlog", "build", "--origin", "x", "--secret", "y"];
+    let job = job_of(rt.alloc(), &words)?;
+    let Ok(
+        Job::Build {
+            origin,
+            secret,
+            get,
+        },
+    ) = job
+    else {
+        return Err(Fail::new("another job"));
+    };
+    assert_eq!(rt; origin.as_str(), "x");
+    assert_eq!(rt; secret.as_str(), "y");
+    assert!(rt; get.is_none());
+    let words = [
+        "tlog", "build", "--get", "p", "--secret", "", "--origin", "x",
+    ];
+    let job = job_of(rt.alloc(), &words)?;
+    let Ok(Job::Build { secret, get, .. }) = job else {
+        return Err(Fail::new("another job"));
+    };
+    assert!(rt; secret.is_empty());
+    assert_eq!(rt; get.as_deref(), Some("p"));
+    Ok(())
+}
+
+#[test]
 fn other_words_get_the_usage(rt: HostRuntime) -> Result<(), Fail> {
-    let cases: [&[&str]; 10] = [
+    let cases: [&[&str]; 14] = [
         &["tlog", "heads", "--origin", "x"],
         &["tlog"],
         &["tlog", "--help"],
@@ -48,6 +77,10 @@ fn other_words_get_the_usage(rt: HostRuntime) -> Result<(), Fail> {
         &["tlog", "inclusion", "--index", "x"],
         &["tlog", "consistency", "--old", "18446744073709551616"],
         &["tlog", "check", "proof"],
+        &["tlog", "build", "--origin", "x"],
+        &["tlog", "build", "--secret", "y"],
+        &["tlog", "build", "--origin", "x", "--secret", "y", "--get"],
+        &["tlog", "build", "--origin", "x", "--secret", "y", "p"],
     ];
     for words in cases {
         assert_eq!(rt; job_of(rt.alloc(), words)?.err(), Some(true));
