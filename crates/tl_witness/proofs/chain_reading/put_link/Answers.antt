@@ -16,7 +16,7 @@ returns-in_ok-push-in-Some g c =
 pub returns-in_ok-push-in-None-2 : goal.returns-in_ok-push-in-None-2
 returns-in_ok-push-in-None-2 g c =
     let none = rw c.as_slice.ensures.value at c.in-None.ensures.none in
-    let links = one_step step_of _ _ c.args.link c.new-links.ensures.items c.in_ok-push-in-None.ensures.items in
+    let links = one_step step_of (vec_items c.new-links.result) (vec_items c.push-in-None.new.self) c.args.link c.new-links.ensures.items c.in_ok-push-in-None.ensures.items in
     rw c.in_ok-push-in-None-2.ensures.items
     (puts_new (λ x. saved_chain (string_bytes x.0) (map step_of (vec_items x.1))) c.args.chains.now.items c.args.origin.now (step_of c.args.link)
     (c.in_ok-from_str-in-None.field-0, c.push-in-None.new.self) none
