@@ -16,7 +16,7 @@ use Rattle.tl_server.proofs.LinesLemmas.{length-entries_of}
 use Rattle.tl_build.specs.Mirror.{checkpoint_note, mirrored, resource_text, listing_text}
 use Rattle.tl_build.specs.Build.{IsPrinted, IsMissing, BuildComes, IsLawfulPath, RunsBuild}
 use Rattle.tl_build.specs.Steps.{IsAsked, IsServed, IsShown, AnswersWanted, WantedComes}
-use Rattle.tl_build.proofs.NeededParts.{lies, lawful}
+use Rattle.tl_build.proofs.NeededParts.{LiesIn, lies, lawful}
 
 -- a list has each of its elements
 pub has_all : {X : Type 0} (xs ys : List X) → xs ≡ ys → All (Contains ys) xs
@@ -26,6 +26,15 @@ has_all xs ys same = subst (λ (t : List _). All (Contains t) xs) same (λ k d l
 pub served : (shown : List Resource) (n : ℕ) (wanted : Option Resource) (b : Bool) → shown ≡ mirrored n → IsTrue b ↔ IsServed shown wanted → b ≡ true
     → IsServed (mirrored n) wanted
 served shown n wanted b same told passed = subst (λ (t : List Resource). IsServed t wanted) same (told.0 passed)
+
+-- a resource that is wanted and there is one of the log, and lies in it
+pub wanted_served : (shown : List Resource) (n : ℕ) (wanted : Option Resource) (b : Bool) (r : Resource) → shown ≡ mirrored n → IsTrue b ↔ IsServed shown wanted → b ≡ true
+    → wanted ≡ Some r → Contains (mirrored n) r
+wanted_served shown n wanted b r same told passed is = subst (IsServed (mirrored n)) is (served shown n wanted b same told passed)
+
+pub wanted_lies : (shown : List Resource) (n : ℕ) (wanted : Option Resource) (b : Bool) (r : Resource) → n < 2 ^ 32 → shown ≡ mirrored n → IsTrue b ↔ IsServed shown wanted → b ≡ true
+    → wanted ≡ Some r → LiesIn n r
+wanted_lies shown n wanted b r small same told passed is = lies n r small (wanted_served shown n wanted b r same told passed is)
 
 pub not_served : (shown : List Resource) (n : ℕ) (wanted : Option Resource) (b : Bool) → shown ≡ mirrored n → IsTrue b ↔ IsServed shown wanted → b ≡ false
     → ¬ (IsServed (mirrored n) wanted)

@@ -1,8 +1,9 @@
 //! The command `build`: what a static mirror of the log of the lines of the input serves.
 
-ghost use Rattle.std.specs.Prelude.{◌<◌, ◌^◌, ◌↔◌, IsTrue, length, map, vec_items, option_map};
+ghost use Rattle.std.specs.Prelude.{◌≡◌, ◌<◌, ◌^◌, ◌↔◌, IsTrue, IfSome, Some, length, map, vec_items, option_map};
 ghost use Rattle.tl_note.specs.Key.{IsKeyName};
 ghost use Rattle.tl_tile.specs.Bundle.{AreShortEntries};
+ghost use Rattle.tl_tile.specs.declared.resource.Resource.TheVariants as resource;
 ghost use Rattle.tl_server.specs.Device.{passage};
 ghost use Rattle.tl_server.specs.Run.{Runs};
 ghost use Rattle.tl_build.specs.Mirror.{checkpoint_note};
@@ -11,7 +12,7 @@ ghost use Rattle.tl_build.specs.Steps.{ReadsPath, IsServed, AnswersWanted, Wante
 
 use crate::checkpoint_note::checkpoint_note_of;
 use crate::listing::{listing_of, mirrored_of};
-use crate::resource_bytes::resource_bytes;
+use crate::resource_bytes::{bundle_of, resource_bytes};
 use std::alloc::{Allocator, Global};
 use std::io::{Read, Write};
 use tl_note::is_key_name;
@@ -41,7 +42,20 @@ fn is_served(resources: &[Resource], wanted: Option<Resource>) -> bool
     }
 }
 
-// The listing of the log of these entries, or the bytes of the resource that is wanted.
+// The index and the width of the entry bundle that is wanted, if one is.
+fn bundle_in(wanted: Option<Resource>) -> Option<(u64, u32)>
+    ensures { IfSome result (λ bundle. wanted ≡ Some (resource.Entries bundle.0 bundle.1)) }
+{
+    let Some(resource) = wanted else {
+        return None;
+    };
+    match resource {
+        Resource::Entries { index, width } => Some((index, width)),
+        _ => None,
+    }
+}
+
+// The listing of the log of these entries, or the bytes of the resource that is wanted. A bundle needs no hash.
 fn answer_of<A: Allocator + Copy>(
     alloc: A,
     global: Global,
@@ -58,6 +72,9 @@ fn answer_of<A: Allocator + Copy>(
     let resources = mirrored_of(alloc, entries.len() as u64)?;
     if !is_served(resources.as_slice(), wanted) {
         return Err(RunFault::NotThere);
+    }
+    if let Some((index, width)) = bundle_in(wanted) {
+        return bundle_of(alloc, index, width, entries);
     }
     let store = store_of(alloc, entries)?;
     let note = checkpoint_note_of(alloc, global, origin, secret, &store)?;

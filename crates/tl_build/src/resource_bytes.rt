@@ -46,8 +46,8 @@ fn only_memory(fault: BundleFault) -> RunFault
     }
 }
 
-// The entry bundle of this index and width, which lies within the entries.
-fn bundle_of<A: Allocator + Copy>(
+/// The entry bundle of this index and width, which lies within the entries. It fails for want of memory alone.
+pub(crate) fn bundle_of<A: Allocator + Copy>(
     alloc: A,
     index: u64,
     width: u32,

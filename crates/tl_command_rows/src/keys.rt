@@ -1,8 +1,9 @@
 //! The demonstration key, and HMAC against the vectors of RFC 4231.
 
+use crate::builds::verifiers;
 use std::alloc::{AllocError, Global};
 use std::test::Fail;
-use tl_note::{NoteFault, Signer, Verifier, open_note, sign_note};
+use tl_note::{NoteFault, Signer, open_note, sign_note};
 use tl_server::{demo_key, hmac};
 use tl_testing::Refusing;
 use tl_testing::texts::NO_ENTRY;
@@ -53,13 +54,6 @@ fn hmac_of_the_vectors(rt: HostRuntime) -> Result<(), Fail> {
         assert_eq!(rt; tag.as_str(), want);
     }
     Ok(())
-}
-
-// The verifier of the demonstration key of the log of the worked examples, with this secret.
-fn verifiers(alloc: Global, secret: &[u8]) -> Result<Vec<Box<dyn Verifier>>, NoteFault> {
-    let mut verifiers: Vec<Box<dyn Verifier>> = Vec::new(alloc);
-    verifiers.push(Box::new(alloc, demo_key(alloc, "example.com/log", secret)?)?)?;
-    Ok(verifiers)
 }
 
 // Its signer.

@@ -73,7 +73,7 @@ fn build_answers_out_of_memory(rt: &(impl Abort + AllocGlobal), get: Option<&str
         let heap = Refusing::at(rt.alloc(), number);
         let (text, outcome) = build(&heap, rt.alloc(), ORIGIN, get, INPUT);
         if !heap.refused() {
-            assert!(rt; number > 10);
+            assert!(rt; number > 5);
             assert_eq!(rt; outcome, Ok(()));
             assert_eq!(rt; text.as_slice(), want);
             return;
