@@ -174,16 +174,16 @@ covering-within start end _ n (more s e level place rest at fits largest coverin
     ]
 
 -- a fault of the read is one of the tree hash
-pub head_fault : (count : ℕ) (may_fail : Bool) (size : ℕ) (indexes : List ℕ) (fault : ReadFault) → 0 < size → AreCovering 0 size indexes → GivesFault count may_fail indexes fault → GivesHeadFault count may_fail size fault
-head_fault count may_fail size indexes OutOfRange some covering gives =
+pub head_fault : (count : ℕ) (may_fail : ReadFault → Type 0) (size : ℕ) (indexes : List ℕ) (fault : ReadFault) → 0 < size → size ≤ 2 ^ 62 → AreCovering 0 size indexes → GivesFault count may_fail indexes fault → GivesHeadFault count may_fail size fault
+head_fault count may_fail size indexes OutOfRange some small covering gives =
     elim (cases_lt (readable_size count) size) as (λ _. readable_size count < size) [
       | inl above ↦ above
       | inr within ↦
           absurd (omega (arith, gives.3, gives.4, covering-below 0 size indexes covering gives.0 gives.1 gives.2, stored_count-mono size (readable_size count) within))
     ]
-head_fault count may_fail size indexes Source some covering gives = (gives.0, covering-within 0 size indexes (readable_size count) covering some gives.1)
-head_fault count may_fail size indexes OutOfMemory some covering gives = tt
-head_fault count may_fail size indexes (BadTile level index width) some covering gives = (gives.0, covering-within 0 size indexes (readable_size count) covering some gives.1)
+head_fault count may_fail size indexes Source some small covering gives = (gives.0, covering-within 0 size indexes (readable_size count) covering some gives.1)
+head_fault count may_fail size indexes OutOfMemory some small covering gives = (some, small)
+head_fault count may_fail size indexes (BadTile level index width) some small covering gives = (gives.0, covering-within 0 size indexes (readable_size count) covering some gives.1)
 
 -- ---- in the words of the code
 

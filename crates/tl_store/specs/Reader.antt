@@ -1,5 +1,5 @@
 -- What a reader of stored hashes answers (HashReader of Go's golang.org/x/mod/sumdb/tlog).
-use Rattle.std.specs.Prelude.{ℕ, ◌<◌, ◌≤◌, ◌^◌, Bool, List, All, Any, IsTrue, nat_le, if◌then◌else◌}
+use Rattle.std.specs.Prelude.{ℕ, ◌<◌, ◌≤◌, ◌^◌, List, length, All, Any, nat_le, if◌then◌else◌}
 use Rattle.tl_store.specs.Stored.{stored_count}
 use Rattle.tl_store.specs.declared.reader.ReadFault.{ReadFault}
 use Rattle.tl_store.specs.declared.reader.ReadFault.TheVariants.{OutOfRange, Source, OutOfMemory, BadTile}
@@ -16,9 +16,10 @@ readable_count size = stored_count (readable_size size)
 abbrev pub AreReadable : ℕ → List ℕ → Type 0
 AreReadable size indexes = All (λ index. index < readable_count size) indexes
 
--- when a reader of this size gives this fault; `may_fail` says whether its source may fail
-abbrev pub GivesFault : ℕ → Bool → List ℕ → ReadFault → Type 0
+-- when a reader of this size gives this fault; `may_fail` says which faults its source may give. It asks for memory only
+-- where it has all of the hashes, and some are asked for
+abbrev pub GivesFault : ℕ → (ReadFault → Type 0) → List ℕ → ReadFault → Type 0
 GivesFault size may_fail indexes OutOfRange = Any (λ index. readable_count size ≤ index) indexes
-GivesFault size may_fail indexes Source = IsTrue may_fail × AreReadable size indexes
-GivesFault size may_fail indexes OutOfMemory = Unit {0}
-GivesFault size may_fail indexes (BadTile level index width) = IsTrue may_fail × AreReadable size indexes
+GivesFault size may_fail indexes Source = may_fail Source × AreReadable size indexes
+GivesFault size may_fail indexes OutOfMemory = AreReadable size indexes × (0 < length indexes)
+GivesFault size may_fail indexes (BadTile level index width) = may_fail (BadTile level index width) × AreReadable size indexes

@@ -7,6 +7,8 @@ use Rattle.tl_store.specs.Stored.{stored_hashes}
 pub record Contents : Type 0 where
   pub size : ℕ
   pub hashes : List (List ℕ)
+  -- how many hashes there is memory for
+  pub room : ℕ
 
 -- the store has the size of these entries, at most 2 ^ 62, and the hashes stored for them under this
 -- digest function

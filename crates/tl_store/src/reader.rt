@@ -1,6 +1,6 @@
 //! Reading stored hashes by their numbers, and why it fails.
 
-ghost use Rattle.std.specs.Prelude.{◌≡◌, ◌≤◌, ◌^◌, ℕ, Bool, List, length, map, IfOk, IfErr, OnOk};
+ghost use Rattle.std.specs.Prelude.{◌≡◌, ◌≤◌, ◌^◌, ℕ, List, length, map, IfOk, IfErr, OnOk};
 
 use std::alloc::{AllocError, AllocFailed, Allocator};
 use thiserror::Error;
@@ -48,6 +48,7 @@ impl<X: Drop> From<AllocFailed<X>> for ReadFault {
 pub trait HashReader {
     ghost use Rattle.tl_store.specs.Stored.{stored_hash};
     ghost use Rattle.tl_store.specs.Reader.{AreReadable, GivesFault};
+    ghost use Rattle.tl_store.specs.declared.reader.ReadFault.{ReadFault};
 
     /// The number of entries.
     ghost size: { Self → ℕ };
@@ -55,8 +56,8 @@ pub trait HashReader {
     /// Whether it stands for this list of entries under this digest function.
     ghost stands_for: { Self → (List ℕ → List ℕ) → List (List ℕ) → Type 0 };
 
-    /// Whether it may answer `Source` or `BadTile`.
-    ghost may_fail: { Self → Bool };
+    /// Which of `Source` and `BadTile` it may answer.
+    ghost may_fail: { Self → ReadFault → Type 0 };
 
     /// The stored hashes with these numbers, in this order; a number may come more than once.
     fn read<B: Allocator>(&self, alloc: B, indexes: &[u64]) -> Result<Vec<Hash, B>, ReadFault>

@@ -1,6 +1,6 @@
 //! Stored hashes in memory.
 
-ghost use Rattle.std.specs.Prelude.{◌≡◌, ◌≤◌, ◌<◌, ◌+◌, ◌-◌, ◌^◌, ℕ, [], ◌∷◌, ◌++◌, List, length, false, All, Any, MatchBool, IfOk, OnOk, OnErr};
+ghost use Rattle.std.specs.Prelude.{◌≡◌, ◌≤◌, ◌<◌, ◌+◌, ◌-◌, ◌^◌, ℕ, [], ◌∷◌, ◌++◌, List, length, vec_capacity, All, Any, MatchBool, IfOk, OnOk, OnErr};
 ghost use Rattle.tl_hash.specs.Tree.{leaf_input};
 ghost use Rattle.tl_store.specs.Stored.{stored_count, stored_hashes};
 ghost use Rattle.tl_store.specs.Store.{StandsFor};
@@ -20,13 +20,13 @@ pub struct HashStore<T: TreeHash, A: Allocator> {
 }
 
 impl<T: TreeHash, A: Allocator> Model for HashStore<T, A> {
-    ghost use Rattle.std.specs.Prelude.{◌≡◌, ◌≤◌, ◌^◌, length};
+    ghost use Rattle.std.specs.Prelude.{◌≡◌, ◌≤◌, ◌^◌, length, vec_capacity};
     ghost use Rattle.tl_store.specs.Stored.{stored_count};
     ghost use Rattle.tl_store.specs.Store.{Contents};
 
     ghost Value = { Contents };
 
-    ghost view = { λ s. record { size = s.size; hashes = s.hashes.items } };
+    ghost view = { λ s. record { size = s.size; hashes = s.hashes.items; room = vec_capacity s.hashes } };
 
     ghost invariant = { λ s. (length s.hashes.items ≡ stored_count s.size) × (s.size ≤ 2 ^ 62) };
 }
@@ -43,8 +43,8 @@ impl<T: TreeHash, A: Allocator> HashStore<T, A> {
         }
     }
 
-    /// Adds one entry at the end and gives its index, counted from 0. The store takes up to 2^32 - 1 entries. Where
-    /// memory is refused it stays as it was. An entry costs one leaf hash, and one node hash for each subtree that it
+    /// Adds one entry at the end and gives its index, counted from 0. The store takes up to 2^32 - 1 entries. It fails
+    /// only where it has no room for the hashes that come, and then stays as it was. An entry costs one leaf hash, and one node hash for each subtree that it
     /// completes.
     pub fn append(&mut self, entry: &[u8]) -> Result<u64, AllocError>
         requires { self.old.size < 2 ^ 32 - 1 }
@@ -54,6 +54,7 @@ impl<T: TreeHash, A: Allocator> HashStore<T, A> {
         ensures index { IfOk result (λ index. index ≡ self.old.size) }
         ensures size { OnOk result (self.new.size ≡ self.old.size + 1) }
         ensures unchanged { OnErr result (self.new ≡ self.old) }
+        ensures full { OnErr result (self.old.room < stored_count (self.old.size + 1)) }
     {
         let index = self.size;
         push_subtrees(
@@ -92,6 +93,8 @@ fn push_subtrees<T: TreeHash, A: Allocator>(
         → leaf ≡ T.digest_of (leaf_input entry)
         → OnOk result (hashes.new.items ≡ stored_hashes T.digest_of (entries ++ entry ∷ [])) }
     ensures unchanged { OnErr result (hashes.new.items ≡ hashes.old.items) }
+    ensures room { OnErr result (vec_capacity hashes.new ≡ vec_capacity hashes.old) }
+    ensures full { OnErr result (vec_capacity hashes.old < stored_count size) }
 {
     let levels = size.trailing_zeros();
     hashes.reserve(levels as usize + 1)?;
@@ -119,7 +122,7 @@ impl<T: TreeHash, A: Allocator> HashReader for HashStore<T, A> {
 
     ghost stands_for = { StandsFor };
 
-    ghost may_fail = { λ s. false };
+    ghost may_fail = { λ s fault. ⊥ };
 
     fn read<B: Allocator>(&self, alloc: B, indexes: &[u64]) -> Result<Vec<Hash, B>, ReadFault> {
         if !are_below(indexes, self.hashes.len()) {

@@ -12,7 +12,7 @@ returns-in_err-hashes-clause-faults g c =
     let p = err_from_is_err_and c.from_residual-in_err-hashes.result c.from_residual-in_err-hashes.ensures.1 in
     rw (p.1, p.2)
     (head_fault (g.R.HashReader.size c.args.reader.now) (g.R.HashReader.may_fail c.args.reader.now) c.args.size c.in_ok-indexes.indexes.items c.in_err-hashes.field-0.0
-    (omega (arith, c.if-size-eq0.false)) c.in_ok-indexes.ensures.covering (rw c.deref.ensures.value at c.in_err-hashes.ensures.faults))
+    (omega (arith, c.if-size-eq0.false)) c.if-size.false c.in_ok-indexes.ensures.covering (rw c.deref.ensures.value at c.in_err-hashes.ensures.faults))
 
 pub returns-clause-root : goal.returns-clause-root
 returns-clause-root g c entries stands =

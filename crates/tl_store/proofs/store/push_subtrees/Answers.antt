@@ -1,6 +1,8 @@
-use Rattle.std.proofs.Common.{◌+◌, [], ◌∷◌, ◌++◌, length, ap, ◌∙◌, arith}
+use Rattle.std.proofs.Common.{◌+◌, [], ◌∷◌, ◌++◌, length, ap, ◌∙◌, arith, vec_len, w64}
+use Rattle.std.proofs.lemmas.Result.{err_from_is_err_and}
+use Rattle.std.specs.Int.{trailing_zeros}
 use Rattle.std.proofs.lemmas.List.{get_or_read}
-use Rattle.tl_store.proofs.Completed.{left_there, pushed-first, pushed-next, pushed-all, counted-all, two_at, number_at, last_level}
+use Rattle.tl_store.proofs.Completed.{left_there, pushed-first, pushed-next, pushed-all, counted-all, two_at, number_at, last_level, highest-is}
 use Rattle.tl_store.proofs.store.push_subtrees.Goals as goal
 
 pub loop-level-init : goal.loop-level-init
@@ -38,3 +40,9 @@ pub returns-clause-added : goal.returns-clause-added
 returns-clause-added g c entries entry =
     pushed-all g.T.TreeHash.digest_of c.args.size c.args.leaf c.loop-level.level c.loop-level.hash c.args.hashes.now.items c.loop-level.hashes.items c.requires.some
     (last_level c.args.size c.loop-level.level c.requires.some c.requires.small c.loop-level.auto.level-end c.loop-level-test.false) c.loop-level.invariant.pushed entries entry
+
+pub returns-in_err-reserve-clause-full : goal.returns-in_err-reserve-clause-full
+returns-in_err-reserve-clause-full g c =
+    let count = counted-all c.args.size (trailing_zeros w64 c.args.size) (length c.args.hashes.now.items + (trailing_zeros w64 c.args.size + 1)) c.requires.some (highest-is c.args.size c.requires.some c.requires.small).1 (omega (arith, c.requires.counted)) in
+    let p = err_from_is_err_and c.from_residual.result c.from_residual.ensures.1 in
+    rw p.1 (omega (arith, c.in_err-reserve.ensures.full, count))
