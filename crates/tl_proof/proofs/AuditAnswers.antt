@@ -122,7 +122,8 @@ audits-of H old new steps fork place a b (Ok Extends) accepted differ forks a_is
 audits-of H old new steps fork place a b (Ok (Collision x y)) accepted differ forks a_is b_is shows =
     (accepted, DifferAt-no_prefix old new place differ, rw (shows.0, shows.1, a_is, b_is) forks)
 audits-of H old new steps fork place a b (Err NotAccepted) accepted differ forks a_is b_is shows = absurd shows
-audits-of H old new steps fork place a b (Err OutOfMemory) accepted differ forks a_is b_is shows = tt
+audits-of H old new steps fork place a b (Err OutOfMemory) accepted differ forks a_is b_is shows =
+    (accepted, DifferAt-no_prefix old new place differ)
 
 -- an accepted new list is no shorter
 pub AreAccepted-ordered : (H : List ℕ → List ℕ) (old new : List (List ℕ)) (steps : List Step) → AreAccepted H old new steps → length old ≤ length new

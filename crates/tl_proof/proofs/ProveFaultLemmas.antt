@@ -6,9 +6,9 @@ use Rattle.tl_store.specs.declared.reader.ReadFault.TheVariants.{OutOfRange, Sou
 use Rattle.tl_proof.specs.ReadFaults.{from_read}
 use Rattle.tl_proof.specs.ProveFaults.{GivesProveFault}
 
-pub read_fault : (in_range : Type 0) (count : ℕ) (may_fail : Bool) (needed : ℕ) (fault : ReadFault) → in_range → GivesHeadFault count may_fail needed fault
+pub read_fault : (in_range : Type 0) (count : ℕ) (may_fail : ReadFault → Type 0) (needed : ℕ) (fault : ReadFault) → in_range → GivesHeadFault count may_fail needed fault
     → GivesProveFault in_range count may_fail needed (from_read fault)
 read_fault in_range count may_fail needed OutOfRange inside gives = (inside, tt, gives)
 read_fault in_range count may_fail needed Source inside gives = (inside, tt, gives)
-read_fault in_range count may_fail needed OutOfMemory inside gives = inside
+read_fault in_range count may_fail needed OutOfMemory inside gives = (inside, gives.0)
 read_fault in_range count may_fail needed (BadTile level index width) inside gives = (inside, tt, gives)

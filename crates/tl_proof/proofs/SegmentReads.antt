@@ -1,5 +1,5 @@
 -- The tree hashes of segments from stored hashes.
-use Rattle.std.proofs.Common.{◌≡◌, ℕ, get_or, ◌+◌, ◌-◌, ◌^◌, ◌<◌, ◌≤◌, inl, inr, Bool, All, List, [], ◌∷◌, ◌++◌, length, take, drop, map, refl, sym, ap, subst, ◌∙◌, append_assoc, arith}
+use Rattle.std.proofs.Common.{◌≡◌, ℕ, suc, get_or, ◌+◌, ◌-◌, ◌^◌, ◌<◌, ◌≤◌, inl, inr, Bool, All, List, [], ◌∷◌, ◌++◌, length, take, drop, map, refl, sym, ap, subst, ◌∙◌, append_assoc, arith}
 use Rattle.std.specs.Int.RustNames.{count_ones}
 use Rattle.std.proofs.Math.Seq.{take-append_seam, drop-append_seam}
 use Rattle.std.proofs.lemmas.Bool.{cases_lt}
@@ -83,10 +83,30 @@ needed-within needed n segments indexes need groups parts below =
       | inr none ↦ omega (arith, none)
     ]
 
+-- where there is a segment, some entries are needed
+pub needed-some : (needed : ℕ) (segments : List Segment) → IsNeeded 0 needed segments → All IsSegment segments → 0 < length segments → 0 < needed
+needed-some needed [] need parts some = absurd (let none : length {A = Segment} [] ≡ 0 = refl in omega arith)
+needed-some needed (s ∷ segments) need parts some =
+    omega (arith, (All-head IsSegment s segments parts).some, All-head (λ (x : Segment). x.end ≤ needed) s segments need.most)
+
+-- and no more than all segments have
+pub needed-small : (needed most : ℕ) (segments : List Segment) → IsNeeded 0 needed segments → All (λ s. s.end ≤ most) segments → needed ≤ most
+needed-small needed most segments need small =
+    elim (cases_lt 0 needed) as (λ _. needed ≤ most) [
+      | inl some ↦ need.least some most small
+      | inr none ↦ omega (arith, none)
+    ]
+
+-- where a number is read there is a segment
+pub groups-some : (segments : List Segment) (indexes : List ℕ) → AreGroups segments indexes → 0 < length indexes → 0 < length segments
+groups-some [] [] no_group some = some
+groups-some [] (_ ∷ _) groups some = elim groups [ ]
+groups-some (s ∷ segments) indexes groups some = let count : length (s ∷ segments) ≡ suc (length segments) = refl in omega arith
+
 -- a fault of the read
-pub segments_fault : (count : ℕ) (may_fail : Bool) (needed : ℕ) (segments : List Segment) (indexes : List ℕ) (fault : ReadFault) → IsNeeded 0 needed segments → AreGroups segments indexes → All IsSegment segments
+pub segments_fault : (count : ℕ) (may_fail : ReadFault → Type 0) (needed : ℕ) (segments : List Segment) (indexes : List ℕ) (fault : ReadFault) → IsNeeded 0 needed segments → needed ≤ 2 ^ 62 → AreGroups segments indexes → All IsSegment segments
     → GivesFault count may_fail indexes fault → GivesHeadFault count may_fail needed fault
-segments_fault count may_fail needed segments indexes OutOfRange need groups parts gives =
+segments_fault count may_fail needed segments indexes OutOfRange need small groups parts gives =
     elim (cases_lt (readable_size count) needed) as (λ _. readable_size count < needed) [
       | inl above ↦ above
       | inr within ↦
@@ -94,9 +114,11 @@ segments_fault count may_fail needed segments indexes OutOfRange need groups par
           All-weaker (λ (s : Segment). s.end ≤ needed) (λ (s : Segment). s.end ≤ readable_size count) (λ s h. omega (arith, h, within)) segments need.most in
           absurd (omega (arith, gives.3, gives.4, groups-below (readable_size count) segments indexes groups all gives.0 gives.1 gives.2))
     ]
-segments_fault count may_fail needed segments indexes Source need groups parts gives = (gives.0, needed-within needed (readable_size count) segments indexes need groups parts gives.1)
-segments_fault count may_fail needed segments indexes OutOfMemory need groups parts gives = tt
-segments_fault count may_fail needed segments indexes (BadTile level index width) need groups parts gives = (gives.0, needed-within needed (readable_size count) segments indexes need groups parts gives.1)
+segments_fault count may_fail needed segments indexes Source need small groups parts gives =
+    (gives.0, needed-within needed (readable_size count) segments indexes need groups parts gives.1, needed-some needed segments need parts (groups-some segments indexes groups gives.2))
+segments_fault count may_fail needed segments indexes OutOfMemory need small groups parts gives = (needed-some needed segments need parts (groups-some segments indexes groups gives.1), small)
+segments_fault count may_fail needed segments indexes (BadTile level index width) need small groups parts gives =
+    (gives.0, needed-within needed (readable_size count) segments indexes need groups parts gives.1, needed-some needed segments need parts (groups-some segments indexes groups gives.2))
 
 -- ---- the hashes
 

@@ -13,10 +13,11 @@ AreAccepted H old new steps =
     Linked H (length old) (tree_hash H old) steps
     × EndsWith (length old) (tree_hash H old) steps (length new) (tree_hash H new)
 
--- the answer of an audit from the old list over the steps to the new list
+-- the answer of an audit from the old list over the steps to the new list. It asks for memory only where it has a
+-- collision to show
 abbrev pub Audits : {A : Type 0} → (List ℕ → List ℕ) → List (List ℕ) → List (List ℕ) → List Step → Result (Verdict A) AuditFault → Type 0
 Audits H old new steps (Ok Extends) = AreAccepted H old new steps × IsPrefix old new
 Audits H old new steps (Ok (Collision x y)) =
     AreAccepted H old new steps × ¬ (IsPrefix old new) × Exhibits H x.items y.items (audit_inputs H old new steps)
 Audits H old new steps (Err NotAccepted) = ¬ (AreAccepted H old new steps)
-Audits H old new steps (Err OutOfMemory) = Unit {0}
+Audits H old new steps (Err OutOfMemory) = AreAccepted H old new steps × ¬ (IsPrefix old new)

@@ -1,6 +1,6 @@
 //! Which parts of the entries the hashes of a proof are over.
 
-ghost use Rattle.std.specs.Prelude.{◌<◌, ◌≤◌, ◌-◌, ◌^◌, Bool, true, IfOk, OnOk};
+ghost use Rattle.std.specs.Prelude.{◌<◌, ◌≤◌, ◌-◌, ◌^◌, Bool, true, IfOk, OnOk, OnErr};
 ghost use Rattle.tl_proof.specs.Segments.{Appends, IsPathPlan, IsProofPlan};
 
 use crate::segment::Segment;
@@ -17,7 +17,8 @@ fn push_path<A: Allocator>(
 ) -> Result<(), AllocError>
     requires first { start ≤ index }
     requires last { index < end }
-    ensures { OnOk result (Appends (IsPathPlan index start end) segments.old.items segments.new.items) }
+    ensures added { OnOk result (Appends (IsPathPlan index start end) segments.old.items segments.new.items) }
+    ensures some { OnErr result (1 < end - start) }
 {
     if end - start == 1 {
         return Ok(());
@@ -40,7 +41,8 @@ pub(crate) fn path_segments<A: Allocator>(
     index: u64,
 ) -> Result<Vec<Segment, A>, AllocError>
     requires { index < size }
-    ensures { IfOk result (λ segments. IsPathPlan index 0 size segments.items) }
+    ensures plan { IfOk result (λ segments. IsPathPlan index 0 size segments.items) }
+    ensures some { OnErr result (1 < size) }
 {
     let mut segments = Vec::new(alloc);
     push_path(&mut segments, index, 0, size)?;

@@ -1,6 +1,6 @@
 //! The tree hashes of segments from stored hashes.
 
-ghost use Rattle.std.specs.Prelude.{◌≡◌, ◌≤◌, ◌-◌, ◌^◌, ◌++◌, ℕ, List, length, map, All, IfOk, IfErr, OnOk};
+ghost use Rattle.std.specs.Prelude.{◌≡◌, ◌≤◌, ◌<◌, ◌-◌, ◌^◌, ◌++◌, ℕ, List, length, map, All, IfOk, IfErr, OnOk, OnErr};
 ghost use Rattle.std.specs.Int.RustNames.{count_ones};
 ghost use Rattle.tl_store.specs.Stored.{stored_hash};
 ghost use Rattle.tl_store.specs.Reader.{readable_size};
@@ -19,7 +19,8 @@ fn group_indexes<A: Allocator + Copy>(
 ) -> Result<Vec<u64, A>, AllocError>
     requires parts { All IsSegment segments.now }
     requires small { All (λ s. s.end ≤ 2 ^ 62) segments.now }
-    ensures { IfOk result (λ indexes. AreGroups segments.now indexes.items) }
+    ensures groups { IfOk result (λ indexes. AreGroups segments.now indexes.items) }
+    ensures some { OnErr result (0 < length segments.now) }
 {
     let mut indexes = Vec::new(alloc);
     for segment in segments {
@@ -46,11 +47,12 @@ fn group_hashes<T: TreeHash, A: Allocator>(
 ) -> Result<Vec<Hash, A>, AllocError>
     requires parts { All IsSegment segments.now }
     requires count { length hashes.now ≡ subtree_count segments.now }
-    ensures { (entries more : List (List ℕ)) (indexes : List ℕ)
+    ensures hashes { (entries more : List (List ℕ)) (indexes : List ℕ)
         → AreGroups segments.now indexes
         → All (λ s. s.end ≤ length entries) segments.now
         → hashes.now ≡ map (stored_hash T.digest_of entries) indexes
         → IfOk result (λ roots. roots.items ≡ map (segment_root T.digest_of (entries ++ more)) segments.now) }
+    ensures some { OnErr result (0 < length segments.now) }
 {
     let mut roots = Vec::new(alloc);
     let mut from = 0;

@@ -181,9 +181,9 @@ head_fault count may_fail size indexes OutOfRange some small covering gives =
       | inr within ↦
           absurd (omega (arith, gives.3, gives.4, covering-below 0 size indexes covering gives.0 gives.1 gives.2, stored_count-mono size (readable_size count) within))
     ]
-head_fault count may_fail size indexes Source some small covering gives = (gives.0, covering-within 0 size indexes (readable_size count) covering some gives.1)
+head_fault count may_fail size indexes Source some small covering gives = (gives.0, covering-within 0 size indexes (readable_size count) covering some gives.1, some)
 head_fault count may_fail size indexes OutOfMemory some small covering gives = (some, small)
-head_fault count may_fail size indexes (BadTile level index width) some small covering gives = (gives.0, covering-within 0 size indexes (readable_size count) covering some gives.1)
+head_fault count may_fail size indexes (BadTile level index width) some small covering gives = (gives.0, covering-within 0 size indexes (readable_size count) covering some gives.1, some)
 
 -- ---- in the words of the code
 

@@ -6,13 +6,13 @@ use Rattle.tl_store.specs.declared.reader.ReadFault.{ReadFault}
 use Rattle.tl_store.specs.declared.reader.ReadFault.TheVariants.{OutOfRange, Source, OutOfMemory, BadTile}
 
 -- when the tree hash of the first `size` entries, over a reader of `count` entries, fails with this;
--- `may_fail` says which faults the reader's source may give. It asks for memory only for sizes from 1 to 2 ^ 62
+-- `may_fail` says which faults the reader's source may give. For size 0 it reads nothing and gives no fault
 abbrev pub GivesHeadFault : ℕ → (ReadFault → Type 0) → ℕ → ReadFault → Type 0
 GivesHeadFault count may_fail size OutOfRange = readable_size count < size
-GivesHeadFault count may_fail size Source = may_fail Source × (size ≤ readable_size count)
+GivesHeadFault count may_fail size Source = may_fail Source × (size ≤ readable_size count) × (0 < size)
 GivesHeadFault count may_fail size OutOfMemory = (0 < size) × (size ≤ 2 ^ 62)
 GivesHeadFault count may_fail size (BadTile level index width) =
-    may_fail (BadTile level index width) × (size ≤ readable_size count)
+    may_fail (BadTile level index width) × (size ≤ readable_size count) × (0 < size)
 
 -- `start` is a multiple of a power of two that is no less than the number of entries from it up to `end`:
 -- so the entries lie in one complete subtree, and begin where it begins

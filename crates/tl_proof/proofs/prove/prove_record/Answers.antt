@@ -9,13 +9,13 @@ use Rattle.tl_proof.proofs.ProveFaultLemmas.{read_fault}
 use Rattle.tl_proof.proofs.prove.prove_record.Goals as goal
 
 pub read_segments-requires-clause-parts : goal.read_segments-requires-clause-parts
-read_segments-requires-clause-parts g c = subst (All IsSegment) (sym c.deref.ensures.value) (c.in_ok-segments.ensures.parts (aligned-all c.args.size c.if-size.false))
+read_segments-requires-clause-parts g c = subst (All IsSegment) (sym c.deref.ensures.value) (c.in_ok-segments.ensures.plan.parts (aligned-all c.args.size c.if-size.false))
 
 pub returns-in_err-read_segments-clause-faults : goal.returns-in_err-read_segments-clause-faults
 returns-in_err-read_segments-clause-faults g c =
     let p = err_from_is_err_and c.from_residual-in_err-read_segments.result c.from_residual-in_err-read_segments.ensures.1 in
     let need : IsNeeded 0 (inclusion_needs c.args.size c.args.index) c.deref.result.now =
-    subst (IsNeeded 0 (inclusion_needs c.args.size c.args.index)) (sym c.deref.ensures.value) c.in_ok-segments.ensures.needed in
+    subst (IsNeeded 0 (inclusion_needs c.args.size c.args.index)) (sym c.deref.ensures.value) c.in_ok-segments.ensures.plan.needed in
     rw (p.1, p.2)
     (read_fault (IsIndex c.args.size c.args.index) (g.R.HashReader.size c.args.reader.now) (g.R.HashReader.may_fail c.args.reader.now) (inclusion_needs c.args.size c.args.index) c.in_err-read_segments.field-0.0
     (c.if-index-size.false, c.if-size.false) (c.in_err-read_segments.ensures.faults (inclusion_needs c.args.size c.args.index) need))
@@ -24,10 +24,10 @@ pub returns-clause-path : goal.returns-clause-path
 returns-clause-path g c entries more stands within =
     c.in_ok-read_segments.ensures.hashes entries more stands
     ∙ ap (map (segment_root g.T.TreeHash.digest_of (entries ++ more))) c.deref.ensures.value
-    ∙ path-all g.T.TreeHash.digest_of c.args.index c.args.size c.in_ok-segments.segments.items (entries ++ more) c.in_ok-segments.ensures within
+    ∙ path-all g.T.TreeHash.digest_of c.args.index c.args.size c.in_ok-segments.segments.items (entries ++ more) c.in_ok-segments.ensures.plan within
 
 pub returns-clause-in_range : goal.returns-clause-in_range
 returns-clause-in_range g c =
     let need : IsNeeded 0 (inclusion_needs c.args.size c.args.index) c.deref.result.now =
-    subst (IsNeeded 0 (inclusion_needs c.args.size c.args.index)) (sym c.deref.ensures.value) c.in_ok-segments.ensures.needed in
+    subst (IsNeeded 0 (inclusion_needs c.args.size c.args.index)) (sym c.deref.ensures.value) c.in_ok-segments.ensures.plan.needed in
     ((c.if-index-size.false, c.if-size.false), c.in_ok-read_segments.ensures.in_range (inclusion_needs c.args.size c.args.index) need)

@@ -17,5 +17,5 @@ slice_bounds-segment_hash-end g c =
     roots-enough g.T.TreeHash.digest_of c.args.segments.now c.args.hashes.now c.loop-segment.segment-index c.loop-segment.from c.subtrees.result c.loop-segment.roots.items no_segment (slice_index_or c.args.segments.now c.loop-segment.segment-index no_segment)
     c.loop-segment-test.true refl c.subtrees.ensures c.loop-segment.invariant
 
-pub returns : goal.returns
-returns g c = roots-all g.T.TreeHash.digest_of c.args.segments.now c.args.hashes.now c.loop-segment.segment-index c.loop-segment.from c.loop-segment.roots.items c.loop-segment-test.false c.loop-segment.invariant
+pub returns-clause-hashes : goal.returns-clause-hashes
+returns-clause-hashes g c = roots-all g.T.TreeHash.digest_of c.args.segments.now c.args.hashes.now c.loop-segment.segment-index c.loop-segment.from c.loop-segment.roots.items c.loop-segment-test.false c.loop-segment.invariant

@@ -10,5 +10,5 @@ loop-segment-preserved g c =
     groups-more c.args.segments.now c.loop-segment.segment-index no_segment (slice_index_or c.args.segments.now c.loop-segment.segment-index no_segment) c.in_ok-group.group.items c.loop-segment.indexes.items c.extend_from_slice.new.self.items
     c.loop-segment-test.true refl c.in_ok-group.ensures.covering (rw c.deref.ensures.value at c.in_ok-extend_from_slice.ensures.items) c.loop-segment.invariant
 
-pub returns : goal.returns
-returns g c = groups-all c.args.segments.now c.loop-segment.segment-index c.loop-segment.indexes.items c.loop-segment-test.false c.loop-segment.invariant
+pub returns-clause-groups : goal.returns-clause-groups
+returns-clause-groups g c = groups-all c.args.segments.now c.loop-segment.segment-index c.loop-segment.indexes.items c.loop-segment-test.false c.loop-segment.invariant
