@@ -45,7 +45,7 @@ leaf_at-split H k entries s first rest place within =
           (rest (place - k) (omega (arith, more, within, length_rest k entries, s.below))))
     ]
 
-inputs-leaf : (H : List ℕ → List ℕ) (entries : List (List ℕ)) (place : ℕ) → place < length entries → Contains (inputs H entries) (leaf_input (entry_at entries place))
+pub inputs-leaf : (H : List ℕ → List ℕ) (entries : List (List ℕ)) (place : ℕ) → place < length entries → Contains (inputs H entries) (leaf_input (entry_at entries place))
 inputs-leaf H entries = split_induction (LeafAt H) (leaf_at-none H) (leaf_at-one H) (leaf_at-split H) entries
 
 -- what is hashed for the old list, for the new one's prefix and for the steps is hashed for the audit

@@ -19,7 +19,7 @@ All-reverse P xs d all =
     let other : length xs - 1 - i < length xs = omega (arith, inside) in
     rw (get_or-reverse xs i d inside) (All-get_or P xs (length xs - 1 - i) d other all))
 
-reversed_hashes : (proof : List (List ℕ)) → All HasHashLength proof → AllByRecursion HasHashLength (reverse proof)
+pub reversed_hashes : (proof : List (List ℕ)) → All HasHashLength proof → AllByRecursion HasHashLength (reverse proof)
 reversed_hashes proof all = recursion_from_All HasHashLength (reverse proof) (All-reverse HasHashLength proof [] all)
 
 pub fold_inputs-some : (H : List ℕ → List ℕ) (old new : ℕ) (proof : List (List ℕ)) (root : List ℕ) → 0 < old → fold_inputs H old new proof root ≡ fold_inputs_from H old new true (reverse proof) root

@@ -16,7 +16,7 @@ use Rattle.tl_proof.proofs.Bytes.{cases_bytes, node_input-injective}
 use Rattle.tl_proof.proofs.Equations.{roots_from-left, roots_from-right}
 use Rattle.tl_proof.proofs.SameSize.{Collision, Collision-among, Contains-head, Contains-tail, inputs-root, inputs-first, inputs-rest}
 
-cases_option : {A : Type 0} (o : Option A) → (o ≡ None) ⊎ ((r : A) × (o ≡ Some r))
+pub cases_option : {A : Type 0} (o : Option A) → (o ≡ None) ⊎ ((r : A) × (o ≡ Some r))
 cases_option None = inl refl
 cases_option (Some r) = inr (r, refl)
 
@@ -27,7 +27,7 @@ pub None-no_Some : {A : Type 0} (o : Option A) (p : A) → o ≡ None → o ≡ 
 None-no_Some o p none some = cc
 
 -- every new root that a check leads to is a hash
-IfSome-map : {A B : Type 0} (f : A → B) (P : B → Type 0) → ((a : A) → P (f a)) → (o : Option A) → IfSome (option_map f o) P
+pub IfSome-map : {A B : Type 0} (f : A → B) (P : B → Type 0) → ((a : A) → P (f a)) → (o : Option A) → IfSome (option_map f o) P
 IfSome-map f P all None = tt
 IfSome-map f P all (Some a) = all a
 
@@ -90,7 +90,7 @@ meets-whole H old new known proof root entries a b len same equal is =
     inl (equal ∙ is ∙ ap (tree_hash H) (sym (take_all old entries (omega (arith, len, same)))))
 
 -- a node of the check and a node of the list with one hash: over the same hashes, or their inputs collide
-nodes_meet : (H : List ℕ → List ℕ) → ((message : List ℕ) → HasHashLength (H message)) → (k : ℕ) (a b : List ℕ) (strings entries : List (List ℕ)) → IsSplit k (length entries)
+pub nodes_meet : (H : List ℕ → List ℕ) → ((message : List ℕ) → HasHashLength (H message)) → (k : ℕ) (a b : List ℕ) (strings entries : List (List ℕ)) → IsSplit k (length entries)
     → HasHashLength a → Contains strings (node_input a b) → H (node_input a b) ≡ tree_hash H entries
     → ((a ≡ tree_hash H (take k entries)) × (b ≡ tree_hash H (drop k entries))) ⊎ Collision H strings (inputs H entries)
 nodes_meet H wide k a b strings entries s is found same =

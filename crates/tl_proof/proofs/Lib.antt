@@ -10,6 +10,7 @@ pub mod ForkedLists
 pub mod Chains
 pub mod AuditAnswers
 pub mod Audits
+pub mod Soundness
 pub mod Examples
 pub mod Checks
 pub mod Plans

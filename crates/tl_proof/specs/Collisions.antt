@@ -1,9 +1,9 @@
 -- What an audit shows where one list does not extend another: two of the byte strings that were hashed
 -- (RFC 6962, sections 2.1 and 2.1.2).
-use Rattle.std.specs.Prelude.{◌≡◌, ◌≢◌, ℕ, ◌-◌, Bool, true, false, List, [], ◌∷◌, ◌++◌, length, take, reverse, nat_le, ◌==◌, if◌then◌else◌, Contains, Option, Some, None}
+use Rattle.std.specs.Prelude.{◌≡◌, ◌≢◌, ℕ, ◌-◌, Bool, true, false, List, [], ◌∷◌, ◌++◌, length, take, reverse, nat_lt, nat_le, ◌==◌, if◌then◌else◌, Contains, Option, Some, None}
 use Rattle.tl_hash.specs.Split.{split_point}
-use Rattle.tl_hash.specs.Tree.{node_input, tree_hash, inputs}
-use Rattle.tl_proof.specs.Acceptance.{roots_from, AcceptsConsistency}
+use Rattle.tl_hash.specs.Tree.{leaf_input, node_input, tree_hash, inputs}
+use Rattle.tl_proof.specs.Acceptance.{root_from_leaf, roots_from, AcceptsConsistency}
 use Rattle.tl_proof.specs.declared.link.Link.{Link}
 
 -- a size and a root, with the consistency proof that leads there
@@ -19,6 +19,30 @@ step_of link = record { size = link.size; root = link.root; proof = link.proof }
 -- the first list is a prefix of the second
 abbrev pub IsPrefix : List (List ℕ) → List (List ℕ) → Type 0
 IsPrefix old new = old ≡ take (length old) new
+
+-- the byte string hashed where a root goes on from its left part
+abbrev pub input_on_left : Option (List ℕ) → List ℕ → List (List ℕ)
+input_on_left None last = []
+input_on_left (Some root) last = node_input root last ∷ []
+
+-- the byte string hashed where a root goes on from its right part
+abbrev pub input_on_right : Option (List ℕ) → List ℕ → List (List ℕ)
+input_on_right None last = []
+input_on_right (Some root) last = node_input last root ∷ []
+
+-- the byte strings whose digests `root_from_leaf` takes
+unfoldable pub path_inputs_from : (List ℕ → List ℕ) → ℕ → ℕ → List (List ℕ) → List ℕ → List (List ℕ)
+path_inputs_from H index size [] leaf = []
+path_inputs_from H index size (last ∷ others) leaf =
+    let k : ℕ = split_point size in
+    if nat_lt index k
+    then input_on_left (root_from_leaf H index k others leaf) last ++ path_inputs_from H index k others leaf
+    else input_on_right (root_from_leaf H (index - k) (size - k) others leaf) last ++ path_inputs_from H (index - k) (size - k) others leaf
+
+-- the byte strings hashed for an entry's leaf and for the check of its inclusion proof
+unfoldable pub path_inputs : (List ℕ → List ℕ) → ℕ → ℕ → List (List ℕ) → List ℕ → List (List ℕ)
+path_inputs H index size proof entry =
+    leaf_input entry ∷ path_inputs_from H index size (reverse proof) (H (leaf_input entry))
 
 -- the byte string hashed where a new root goes on from its left part
 abbrev pub inputs_on_left : Option (List ℕ × List ℕ) → List ℕ → List (List ℕ)

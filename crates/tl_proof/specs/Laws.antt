@@ -1,9 +1,9 @@
 -- The laws of proofs (RFC 6962, sections 2.1.1 and 2.1.2), over any digest function H.
 use Rattle.std.specs.Prelude.{◌≡◌, ℕ, ◌<◌, ◌≤◌, ◌⊎◌, List, [], length, take, All, slice_index_or}
-use Rattle.tl_hash.specs.Tree.{leaf_input, tree_hash}
+use Rattle.tl_hash.specs.Tree.{leaf_input, tree_hash, inputs}
 use Rattle.tl_proof.specs.Proofs.{inclusion_proof, consistency_proof}
 use Rattle.tl_proof.specs.Acceptance.{AcceptsInclusion, AcceptsConsistency}
-use Rattle.tl_proof.specs.Collisions.{Step, IsPrefix, Exhibits, Linked, EndsWith, audit_inputs}
+use Rattle.tl_proof.specs.Collisions.{Step, IsPrefix, Collides, Exhibits, Linked, EndsWith, path_inputs, audit_inputs}
 
 -- the inclusion proof of each entry is accepted
 abbrev pub InclusionIsAccepted : Type 0
@@ -22,6 +22,16 @@ ConsistencyIsAccepted =
 -- the length of a hash is 32
 abbrev pub HasHashLength : List ℕ → Type 0
 HasHashLength hash = length hash ≡ 32
+
+-- an inclusion proof that is accepted for an entry under the root of a list is of the list's own entry at this index, or one
+-- of the byte strings hashed for its check and one of those hashed for the list are different and have one digest
+abbrev pub InclusionShowsEntry : Type 0
+InclusionShowsEntry =
+    (H : List ℕ → List ℕ) → ((message : List ℕ) → HasHashLength (H message))
+    → (entries : List (List ℕ)) (index : ℕ) (entry : List ℕ) (proof : List (List ℕ)) → All HasHashLength proof
+    → AcceptsInclusion H proof (length entries) (tree_hash H entries) index (H (leaf_input entry))
+    → (entry ≡ slice_index_or entries index [])
+    ⊎ ((x : List ℕ) × (y : List ℕ) × Collides H x y (path_inputs H index (length entries) proof entry) (inputs H entries))
 
 -- the root and the proof of a step are made of hashes
 abbrev pub MadeOfHashes : Step → Type 0
