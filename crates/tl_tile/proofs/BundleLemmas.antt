@@ -4,13 +4,13 @@ use Rattle.std.specs.Prelude.{◌≢◌}
 use Rattle.std.specs.declared.vec.Vec.{Vec}
 use Rattle.std.specs.Int.{w16, to_be_bytes, from_be_bytes}
 use Rattle.std.proofs.lemmas.Bool.{cases_lt}
-use Rattle.std.proofs.lemmas.List.{append-nil, length-append, length-take, get_or-take, get_or_past, take-append-drop, length-replicate, take_at, drop_at, map-append, length-map, get_or-map, take_more}
+use Rattle.std.proofs.lemmas.List.{append-nil, length-append, length-take, get_or-take, get_or_past, take-append-drop, length-replicate, take_at, drop_at, map-append, length-map, get_or-map, take_more, take_all}
 use Rattle.std.proofs.lemmas.Nat.{be_bytes_2, from_be_bytes-to_be_bytes_2}
 use Rattle.std.proofs.lemmas.Grind.{flat_map-append}
 use Rattle.std.proofs.lemmas.List.Concat.{flat_map-cons}
 use Rattle.std.proofs.lemmas.List.Elements.{All-append, All-cons, All-replicate, All-nil, All-push, All-head, All-tail}
 use Rattle.tl_tile.specs.Law.{BundlesAreOne, BundleFaultsApart}
-use Rattle.tl_tile.specs.Bundle.{bundled_entry, bundle_text, IsShortEntry, AreShortEntries, AreEntries, IsPartialEntry, IsTruncated}
+use Rattle.tl_tile.specs.Bundle.{bundled_entry, bundle_text, IsShortEntry, AreShortEntries, AreEntries, IsPartialEntry, IsBundle, IsTruncated, HasTrailing}
 
 abbrev pub IsBytes : List ℕ → Type 0
 IsBytes bytes = (i : ℕ) → get_or bytes i 0 < 256
@@ -99,17 +99,31 @@ pub too_long_at : {A : Type 0} (entries : List (Vec ℕ A)) (i : ℕ) (v : Vec �
     → Any (λ entry. 2 ^ 16 ≤ length entry) (map vec_items entries)
 too_long_at entries i v less at long = (i, v.items, omega (arith, less, length-map entries vec_items), get_or-map vec_items entries i v v.items less ∙ ap vec_items (sym at), long)
 
-abbrev pub HasWritten : {A : Type 0} → List (Vec ℕ A) → List ℕ → Type 0
-HasWritten entries bytes = AreShortEntries (map vec_items entries) × (bytes ≡ bundle_text (map vec_items entries))
-
-pub has_written_more : {A : Type 0} (entries : List (Vec ℕ A)) (i : ℕ) (v : Vec ℕ A) (before after : List ℕ) → i < length entries → v ≡ get_or entries i v → length v.items < 2 ^ 16
-    → HasWritten (take i entries) before → after ≡ before ++ bundled_entry v.items → HasWritten (take (i + 1) entries) after
-has_written_more entries i v before after less at short (all_short, so_far) added =
+-- the entries up to the next
+entries_more : {A : Type 0} (entries : List (Vec ℕ A)) (i : ℕ) (v : Vec ℕ A) → i < length entries → v ≡ get_or entries i v
+    → map vec_items (take (i + 1) entries) ≡ map vec_items (take i entries) ++ v.items ∷ []
+entries_more entries i v less at =
     let one : take (i + 1) entries ≡ take i entries ++ v ∷ [] = take_more entries i v less ∙ ap (λ (x : _). take i entries ++ x ∷ []) (sym at) in
-    let mapped : map vec_items (take (i + 1) entries) ≡ map vec_items (take i entries) ++ v.items ∷ [] = ap (map vec_items) one ∙ map-append vec_items (take i entries) (v ∷ []) in
+    ap (map vec_items) one ∙ map-append vec_items (take i entries) (v ∷ [])
+
+pub short_more : {A : Type 0} (entries : List (Vec ℕ A)) (i : ℕ) (v : Vec ℕ A) → i < length entries → v ≡ get_or entries i v → length v.items < 2 ^ 16
+    → AreShortEntries (map vec_items (take i entries)) → AreShortEntries (map vec_items (take (i + 1) entries))
+short_more entries i v less at short so_far =
+    subst AreShortEntries (sym (entries_more entries i v less at)) (All-push IsShortEntry (map vec_items (take i entries)) v.items so_far short)
+
+pub short_all : {A : Type 0} (entries : List (Vec ℕ A)) (i : ℕ) → length entries ≤ i → AreShortEntries (map vec_items (take i entries)) → AreShortEntries (map vec_items entries)
+short_all entries i over so_far = subst (λ (list : List (Vec ℕ _)). AreShortEntries (map vec_items list)) (take_all i entries over) so_far
+
+pub short_at : {A : Type 0} (entries : List (Vec ℕ A)) (i : ℕ) (v : Vec ℕ A) → i < length entries → v ≡ get_or entries i v → AreShortEntries (map vec_items entries) → IsShortEntry v.items
+short_at entries i v less at short =
+    subst IsShortEntry (get_or-map vec_items entries i v v.items less ∙ ap vec_items (sym at)) (short i v.items (omega (arith, less, length-map entries vec_items)))
+
+pub written_more : {A : Type 0} (entries : List (Vec ℕ A)) (i : ℕ) (v : Vec ℕ A) (before after : List ℕ) → i < length entries → v ≡ get_or entries i v
+    → before ≡ bundle_text (map vec_items (take i entries)) → after ≡ before ++ bundled_entry v.items → after ≡ bundle_text (map vec_items (take (i + 1) entries))
+written_more entries i v before after less at so_far added =
     let text : bundle_text (map vec_items (take i entries) ++ v.items ∷ []) ≡ before ++ bundled_entry v.items =
     flat_map-append bundled_entry (map vec_items (take i entries)) (v.items ∷ []) ∙ ap (λ (t : List ℕ). t ++ (bundled_entry v.items ++ [])) (sym so_far) ∙ ap (λ (t : List ℕ). before ++ t) (append-nil (bundled_entry v.items)) in
-    (subst AreShortEntries (sym mapped) (All-push IsShortEntry (map vec_items (take i entries)) v.items all_short short), added ∙ sym text ∙ ap bundle_text (sym mapped))
+    added ∙ sym text ∙ ap bundle_text (sym (entries_more entries i v less at))
 
 pub partial_at : (bytes front rest : List ℕ) (n : ℕ) → IsBytes bytes → 2 ≤ length bytes → front ≡ take 2 bytes → rest ≡ drop 2 bytes → n < 2 ^ 16
     → n ≡ get_or front 0 0 * 256 + get_or front 1 0 → length rest < n → IsPartialEntry bytes
@@ -153,6 +167,16 @@ bundles_are_one bytes width entries is spelled = record {
   whole = λ (others, them, longer). longer.more (no_longer entries others longer.rest is.short them.short (is.count ∙ sym them.count) (ap (λ (t : List ℕ). t ++ longer.rest) (sym spelled) ∙ sym longer.joined));
   ended = λ (others, them, longer). longer.more (no_longer others entries longer.rest them.short is.short (them.count ∙ sym is.count) (sym longer.joined ∙ spelled));
 }
+
+-- reading a bundle ends at its end
+pub not_truncated : (bytes : List ℕ) (width : ℕ) → IsBundle bytes width → IsTruncated bytes width → ⊥
+not_truncated bytes width (entries, are, spelled) ends = (bundles_are_one bytes width entries are spelled).whole ends
+
+pub read_whole : (bytes : List ℕ) (width : ℕ) (es : List (List ℕ)) (rest : List ℕ) → IsBundle bytes width → HasRead bytes width es rest → AreEntries width es × (bytes ≡ bundle_text es)
+read_whole bytes width es [] whole read = all_read bytes width es [] read refl
+read_whole bytes width es (b ∷ rest) (entries, are, spelled) read =
+    let trailing : HasTrailing bytes width = (es, record { short = read.short; count = read.len }, record { rest = b ∷ rest; joined = read.joined; more = not_nil (b ∷ rest) (omega arith) }) in
+    absurd ((bundles_are_one bytes width entries are spelled).ended trailing)
 
 pub faults_apart : BundleFaultsApart
 faults_apart bytes width (cs, is_a, within) (bs, is_b, past) =

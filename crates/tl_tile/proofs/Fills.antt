@@ -102,6 +102,13 @@ next_filled size level count filled whole =
       some = omega (arith, parts, whole, filled.some);
     }
 
+-- so the size is a multiple of a tile's width
+pub filled_whole : (size level count : ℕ) → IsFilled size level count → count % 256 ≡ 0 → size % 256 ≡ 0
+filled_whole size level count filled whole =
+    let next = next_filled size level count filled whole in
+    let product : count / 256 * 256 ^ (level + 1) ≡ count / 256 * 256 ^ level * 256 = ap (λ (x : ℕ). count / 256 * x) (next_power level) ∙ omega arith in
+    omega (arith, next.scaled, product)
+
 -- the last of the places before
 pub before_wide : (size level count : ℕ) → IsFilled size level count → count % 256 ≡ 0 → wide_of (size - 1) level ≡ 255
 before_wide size level count filled whole =

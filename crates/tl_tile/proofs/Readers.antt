@@ -1,5 +1,5 @@
 -- What a reader over tiles answers, by the numbers that were asked.
-use Rattle.std.proofs.Common.{◌≡◌, ℕ, ◌^◌, ◌<◌, ◌≤◌, inl, inr, Bool, true, cond, List, [], ◌∷◌, length, map, All, refl, sym, ap, subst, ◌∙◌, arith}
+use Rattle.std.proofs.Common.{◌≡◌, ℕ, ◌^◌, ◌<◌, ◌≤◌, inl, inr, Bool, cond, List, [], ◌∷◌, length, map, All, refl, sym, ap, subst, ◌∙◌, arith}
 use Rattle.std.proofs.lemmas.Bool.{cases_lt, lt-leb, le-leb}
 use Rattle.tl_hash.specs.Tree.{tree_hash}
 use Rattle.tl_store.specs.Stored.{stored_count, stored_hash}
@@ -59,16 +59,16 @@ authentic_none own may_answer size root [] hashes none is = ([], (λ k d less. a
 authentic_none own may_answer size root (index ∷ indexes) hashes none is = absurd (omega (arith, none))
 
 -- the faults of a read whose numbers are all in range
-pub numbers_fault : (H : List ℕ → List ℕ) (may_answer : Tile → List ℕ → Type 0) (may_lack : Tile → Type 0) (size : ℕ) (root indexes : List ℕ) (fault : ReadFault) → AreReadable size indexes
+pub numbers_fault : (H : List ℕ → List ℕ) (may_answer : Tile → List ℕ → Type 0) (may_lack : Tile → Type 0) (size : ℕ) (root indexes : List ℕ) (fault : ReadFault) → AreReadable size indexes → 0 < length indexes
     → GivesReadFault H may_answer may_lack size root fault → GivesNumbersFault H may_answer may_lack size root indexes fault
-numbers_fault H may_answer may_lack size root indexes OutOfRange readable gives = absurd gives
-numbers_fault H may_answer may_lack size root indexes Source readable gives = (readable, gives)
-numbers_fault H may_answer may_lack size root indexes OutOfMemory readable gives = tt
-numbers_fault H may_answer may_lack size root indexes (BadTile level index width) readable gives = (readable, gives)
+numbers_fault H may_answer may_lack size root indexes OutOfRange readable some gives = absurd gives
+numbers_fault H may_answer may_lack size root indexes Source readable some gives = (readable, gives)
+numbers_fault H may_answer may_lack size root indexes OutOfMemory readable some gives = (readable, some)
+numbers_fault H may_answer may_lack size root indexes (BadTile level index width) readable some gives = (readable, gives)
 
-pub reader_fault : (H : List ℕ → List ℕ) (may_answer : Tile → List ℕ → Type 0) (may_lack : Tile → Type 0) (size : ℕ) (root indexes : List ℕ) (fault : ReadFault) → AreReadable size indexes
-    → GivesReadFault H may_answer may_lack size root fault → GivesFault size true indexes fault
-reader_fault H may_answer may_lack size root indexes OutOfRange readable gives = absurd gives
-reader_fault H may_answer may_lack size root indexes Source readable gives = (refl, readable)
-reader_fault H may_answer may_lack size root indexes OutOfMemory readable gives = tt
-reader_fault H may_answer may_lack size root indexes (BadTile level index width) readable gives = (refl, readable)
+pub reader_fault : (H : List ℕ → List ℕ) (may_answer : Tile → List ℕ → Type 0) (may_lack : Tile → Type 0) (size : ℕ) (root indexes : List ℕ) (fault : ReadFault) → AreReadable size indexes → 0 < length indexes
+    → GivesReadFault H may_answer may_lack size root fault → GivesFault size (GivesReadFault H may_answer may_lack size root) indexes fault
+reader_fault H may_answer may_lack size root indexes OutOfRange readable some gives = absurd gives
+reader_fault H may_answer may_lack size root indexes Source readable some gives = (gives, readable, some)
+reader_fault H may_answer may_lack size root indexes OutOfMemory readable some gives = (readable, some)
+reader_fault H may_answer may_lack size root indexes (BadTile level index width) readable some gives = (gives, readable, some)

@@ -1,5 +1,5 @@
 -- A tile's text is made of stored hashes.
-use Rattle.std.proofs.Common.{◌≡◌, ℕ, zero, suc, ◌+◌, ◌-◌, ◌*◌, ◌^◌, ◌<◌, ◌≤◌, List, [], ◌∷◌, ◌++◌, length, map, take, drop, Bool, Any, slice_index_or, subst, refl, sym, ap, ◌∙◌, arith}
+use Rattle.std.proofs.Common.{◌≡◌, ℕ, zero, suc, ◌+◌, ◌-◌, ◌*◌, ◌^◌, ◌<◌, ◌≤◌, List, [], ◌∷◌, ◌++◌, length, map, take, drop, Any, slice_index_or, subst, refl, sym, ap, ◌∙◌, arith}
 use Rattle.std.specs.List.{flat_map, range_with_len}
 use Rattle.std.proofs.Math.Nat.{pow-succ'}
 use Rattle.std.proofs.lemmas.Nat.{pow-add, mul-le}
@@ -83,7 +83,7 @@ has_no_tile t size numbers are (i, number, within, at, beyond) has =
     omega (arith, beyond, number_is, is-readable size (8 * t.level) (t.index * 256 + i) has.0 (hash_within t.level t.index i t.width less has.1))
 
 -- a fault of the reader is one of the tile
-pub tile_fault : (t : Tile) (size : ℕ) (may_fail : Bool) (numbers : List ℕ) (fault : ReadFault) → 0 < t.width → numbers ≡ tile_numbers t → GivesFault size may_fail numbers fault → GivesTileFault size may_fail t fault
+pub tile_fault : (t : Tile) (size : ℕ) (may_fail : ReadFault → Type 0) (numbers : List ℕ) (fault : ReadFault) → 0 < t.width → numbers ≡ tile_numbers t → GivesFault size may_fail numbers fault → GivesTileFault size may_fail t fault
 tile_fault t size may_fail numbers OutOfRange wide are gives = has_no_tile t size numbers are gives
 tile_fault t size may_fail numbers Source wide are gives = (gives.0, has_tile t size numbers wide are gives.1)
 tile_fault t size may_fail numbers OutOfMemory wide are gives = tt

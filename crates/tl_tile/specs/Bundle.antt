@@ -34,6 +34,10 @@ pub record AreEntries (width : ℕ) (entries : List (List ℕ)) : Type 0 where
   pub short : AreShortEntries entries
   pub count : length entries ≡ width
 
+-- bytes are a bundle of so many entries
+abbrev pub IsBundle : List ℕ → ℕ → Type 0
+IsBundle bytes width = (entries : List (List ℕ)) × AreEntries width entries × (bytes ≡ bundle_text entries)
+
 -- bytes end within a bundle of so many entries
 abbrev pub IsTruncated : List ℕ → ℕ → Type 0
 IsTruncated bytes width = (entries : List (List ℕ)) × AreEntries width entries × IsProperPrefix bytes (bundle_text entries)

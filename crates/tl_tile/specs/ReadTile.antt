@@ -1,5 +1,5 @@
 -- What reading a tile (C2SP tlog-tiles, "Merkle Tree") through a reader of stored hashes answers.
-use Rattle.std.specs.Prelude.{ℕ, ◌+◌, ◌*◌, ◌^◌, ◌≤◌, Bool, List, map, IsTrue}
+use Rattle.std.specs.Prelude.{ℕ, ◌+◌, ◌*◌, ◌^◌, ◌≤◌, List, map}
 use Rattle.std.specs.List.{range_with_len}
 use Rattle.tl_store.specs.Stored.{stored_index}
 use Rattle.tl_store.specs.declared.reader.ReadFault.{ReadFault}
@@ -18,9 +18,10 @@ HasTile size t = (size ≤ 2 ^ 62) × (end_of t ≤ size)
 abbrev pub tile_numbers : Tile → List ℕ
 tile_numbers t = map (λ i. stored_index (8 * t.level) (t.index * 256 + i)) (range_with_len 0 t.width)
 
--- when reading a tile through a reader of this size gives this fault; `may_fail` says whether its source may fail
-abbrev pub GivesTileFault : ℕ → Bool → Tile → ReadFault → Type 0
+-- when reading a tile through a reader of this size gives this fault; `may_fail` says which of `Source` and `BadTile` the
+-- reader may give. A tile has a hash, so that memory is asked for at each call
+abbrev pub GivesTileFault : ℕ → (ReadFault → Type 0) → Tile → ReadFault → Type 0
 GivesTileFault size may_fail t OutOfRange = HasTile size t → ⊥
-GivesTileFault size may_fail t Source = IsTrue may_fail × HasTile size t
+GivesTileFault size may_fail t Source = may_fail Source × HasTile size t
 GivesTileFault size may_fail t OutOfMemory = Unit {0}
-GivesTileFault size may_fail t (BadTile level index width) = IsTrue may_fail × HasTile size t
+GivesTileFault size may_fail t (BadTile level index width) = may_fail (BadTile level index width) × HasTile size t

@@ -56,6 +56,8 @@ count_below size (suc level) = level_count size level % 256 + count_below size l
 pub record EdgeContents : Type 0 where
   pub size : ℕ
   pub kept : List (List ℕ)
+  -- how many hashes there is memory for
+  pub room : ℕ
 
 -- the edge has the size of these entries, fewer than 2 ^ 32, and the hashes of their partial tiles under this digest
 -- function, those of the highest level first

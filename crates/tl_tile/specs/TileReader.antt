@@ -1,5 +1,5 @@
 -- A reader of stored hashes over a source of tiles that is not trusted, against a size and a root.
-use Rattle.std.specs.Prelude.{◌≡◌, ◌≤◌, ◌^◌, ℕ, List, length, Any}
+use Rattle.std.specs.Prelude.{◌≡◌, ◌<◌, ◌≤◌, ◌^◌, ℕ, List, length, Any}
 use Rattle.tl_hash.specs.Tree.{tree_hash}
 use Rattle.tl_store.specs.Reader.{readable_count, AreReadable}
 use Rattle.tl_store.specs.declared.reader.ReadFault.{ReadFault}
@@ -27,6 +27,6 @@ StandsAgainst own may_answer size root H entries =
 abbrev pub GivesNumbersFault : (List ℕ → List ℕ) → (Tile → List ℕ → Type 0) → (Tile → Type 0) → ℕ → List ℕ → List ℕ → ReadFault → Type 0
 GivesNumbersFault H may_answer may_lack size root indexes OutOfRange = Any (λ index. readable_count size ≤ index) indexes
 GivesNumbersFault H may_answer may_lack size root indexes Source = AreReadable size indexes × GivesReadFault H may_answer may_lack size root Source
-GivesNumbersFault H may_answer may_lack size root indexes OutOfMemory = Unit {0}
+GivesNumbersFault H may_answer may_lack size root indexes OutOfMemory = AreReadable size indexes × (0 < length indexes)
 GivesNumbersFault H may_answer may_lack size root indexes (BadTile level index width) =
     AreReadable size indexes × GivesReadFault H may_answer may_lack size root (BadTile level index width)

@@ -1,8 +1,8 @@
 //! Entry bundles: entries one after the other, each with its length in front (C2SP tlog-tiles, "Log Entries").
 
-ghost use Rattle.std.specs.Prelude.{◌≡◌, ◌<◌, ◌≤◌, ◌^◌, ◌++◌, length, OnOk, IfOk, OnErr, MatchOption, Any, IsErrOf, map, vec_items};
-ghost use Rattle.tl_tile.specs.Bundle.{bundled_entry, bundle_text, IsShortEntry, AreShortEntries, IsPartialEntry};
-ghost use Rattle.tl_tile.specs.ReadBundle.{ReadsBundle, WritesBundle};
+ghost use Rattle.std.specs.Prelude.{◌≡◌, ◌<◌, ◌≤◌, ◌^◌, ◌++◌, length, OnOk, IfOk, MatchOption, MatchBool, Any, map, vec_items};
+ghost use Rattle.tl_tile.specs.Bundle.{bundled_entry, bundle_text, IsShortEntry, AreShortEntries, AreEntries, IsBundle, IsPartialEntry};
+ghost use Rattle.tl_tile.specs.ReadBundle.{ReadsBundle, WritesBundle, ChecksBundle};
 ghost use Rattle.tl_tile.specs.declared.bundle.BundleFault.TheVariants.{OutOfMemory};
 
 use std::alloc::{AllocError, AllocFailed, Allocator};
@@ -51,9 +51,38 @@ fn push_entry<A: Allocator>(out: &mut Vec<u8, A>, entry: &[u8]) -> Result<(), Al
     Ok(())
 }
 
+// Whether each entry has at most 65,535 bytes.
+fn are_short<B: Allocator>(entries: &[Vec<u8, B>]) -> bool
+    ensures { MatchBool result
+        (AreShortEntries (map vec_items entries.now))
+        (Any (λ entry. 2 ^ 16 ≤ length entry) (map vec_items entries.now)) }
+{
+    for entry in entries {
+        if entry.len() > 65_535 {
+            return false;
+        }
+    }
+    true
+}
+
+// The entries, each with its length in front.
+fn join_entries<A: Allocator, B: Allocator>(
+    alloc: A,
+    entries: &[Vec<u8, B>],
+) -> Result<Vec<u8, A>, AllocError>
+    requires { AreShortEntries (map vec_items entries.now) }
+    ensures { IfOk result (λ text. text.items ≡ bundle_text (map vec_items entries.now)) }
+{
+    let mut out = Vec::new(alloc);
+    for entry in entries {
+        push_entry(&mut out, entry)?;
+    }
+    Ok(out)
+}
+
 /// The bundle of these 1 to 256 entries: each as its length, in 16 bits, big-endian, and its bytes (C2SP tlog-tiles, "Log
-/// Entries"). It fails with `EntryTooLong` where an entry has more than 65,535 bytes, and with `OutOfMemory` where memory
-/// is refused.
+/// Entries"). It fails with `EntryTooLong` exactly where an entry has more than 65,535 bytes, before it asks for memory,
+/// and with `OutOfMemory` where memory is refused.
 pub fn write_bundle<A: Allocator, B: Allocator>(
     alloc: A,
     entries: &[Vec<u8, B>],
@@ -62,14 +91,11 @@ pub fn write_bundle<A: Allocator, B: Allocator>(
     requires at_most_256 { length entries.now ≤ 256 }
     ensures { WritesBundle (map vec_items entries.now) result }
 {
-    let mut out = Vec::new(alloc);
-    for entry in entries {
-        if entry.len() > 65_535 {
-            return Err(BundleFault::EntryTooLong);
-        }
-        push_entry(&mut out, entry)?;
+    if !are_short(entries) {
+        return Err(BundleFault::EntryTooLong);
     }
-    Ok(out)
+    let text = join_entries(alloc, entries)?;
+    Ok(text)
 }
 
 // The first entry, and the bytes after it.
@@ -87,9 +113,49 @@ fn first_entry(bytes: &[u8]) -> Option<(&[u8], &[u8])>
     Some(rest.split_at(len))
 }
 
+// Checks that the bytes are a bundle of so many entries. It takes no memory.
+fn check_bundle(bytes: &[u8], width: u32) -> Result<(), BundleFault>
+    ensures { ChecksBundle bytes.now width result }
+{
+    let mut rest = bytes;
+    for _ in 0..width {
+        let Some((_, after)) = first_entry(rest) else {
+            return Err(BundleFault::Truncated);
+        };
+        rest = after;
+    }
+    if !rest.is_empty() {
+        return Err(BundleFault::Trailing);
+    }
+    Ok(())
+}
+
+// The entries of a bundle of so many.
+fn split_bundle<A: Allocator + Copy>(
+    alloc: A,
+    bytes: &[u8],
+    width: u32,
+) -> Result<Vec<Vec<u8, A>, A>, AllocError>
+    requires { IsBundle bytes.now width }
+    ensures { IfOk result (λ entries. AreEntries width (map vec_items entries.items) × (bytes.now ≡ bundle_text (map vec_items entries.items))) }
+{
+    let mut entries = Vec::new(alloc);
+    let mut rest = bytes;
+    for _ in 0..width {
+        let Some((entry, after)) = first_entry(rest) else {
+            unreachable!();
+        };
+        let entry = Vec::from_slice(alloc, entry)?;
+        entries.push(entry)?;
+        rest = after;
+    }
+    Ok(entries)
+}
+
 /// The entries of a bundle of `width` entries, from 1 to 256 (C2SP tlog-tiles, "Log Entries"). It fails with `Truncated`
-/// exactly where the bytes are the beginning of such a bundle and not all of it, with `Trailing` exactly where such a
-/// bundle is the beginning of the bytes and not all of them, and with `OutOfMemory` where memory is refused.
+/// exactly where the bytes are the beginning of such a bundle and not all of it, and with `Trailing` exactly where such a
+/// bundle is the beginning of the bytes and not all of them, before it asks for memory; with `OutOfMemory` where memory
+/// is refused.
 pub fn read_bundle<A: Allocator + Copy>(
     alloc: A,
     bytes: &[u8],
@@ -99,18 +165,7 @@ pub fn read_bundle<A: Allocator + Copy>(
     requires at_most_256 { width ≤ 256 }
     ensures { ReadsBundle bytes.now width result }
 {
-    let mut entries = Vec::new(alloc);
-    let mut rest = bytes;
-    for _ in 0..width {
-        let Some((entry, after)) = first_entry(rest) else {
-            return Err(BundleFault::Truncated);
-        };
-        let entry = Vec::from_slice(alloc, entry)?;
-        entries.push(entry)?;
-        rest = after;
-    }
-    if !rest.is_empty() {
-        return Err(BundleFault::Trailing);
-    }
+    check_bundle(bytes, width)?;
+    let entries = split_bundle(alloc, bytes, width)?;
     Ok(entries)
 }

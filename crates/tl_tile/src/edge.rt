@@ -1,7 +1,8 @@
 //! The right edge of a growing log: its size and the hashes of its partial tiles.
 
-ghost use Rattle.std.specs.Prelude.{◌≡◌, ◌≤◌, ◌<◌, ◌+◌, ◌-◌, ◌^◌, ℕ, [], ◌∷◌, ◌++◌, List, length, map, vec_items, option_map, MatchOption, IfOk, OnOk, OnErr};
+ghost use Rattle.std.specs.Prelude.{◌≡◌, ◌≤◌, ◌<◌, ◌+◌, ◌-◌, ◌%◌, ◌^◌, ◌⊎◌, ℕ, [], ◌∷◌, ◌++◌, List, length, map, vec_items, option_map, MatchOption, IfOk, OnOk, OnErr};
 ghost use Rattle.tl_hash.specs.Tree.{tree_hash};
+ghost use Rattle.tl_tile.specs.TileText.{level_count};
 ghost use Rattle.tl_tile.specs.RightEdge.{shown_partial, shown_filled, hashes_below, count_below, IsEdgeOf};
 
 use crate::filling::fill;
@@ -13,7 +14,8 @@ use std::marker::Model;
 use tl_hash::{Hash, TreeHash, empty_hash, leaf_hash};
 
 /// The right edge of a log: the number of its entries and the hashes of the partial tiles of that size (C2SP tlog-tiles,
-/// "Partial Tiles"), at most 255 for each level, and nothing else. Contracts see the size and the kept hashes.
+/// "Partial Tiles"), at most 255 for each level, and nothing else. Contracts see the size, the kept hashes and how many there
+/// is memory for.
 #[derive(Drop)]
 pub struct Edge<T: TreeHash, A: Allocator> {
     digest: T,
@@ -22,12 +24,12 @@ pub struct Edge<T: TreeHash, A: Allocator> {
 }
 
 impl<T: TreeHash, A: Allocator> Model for Edge<T, A> {
-    ghost use Rattle.std.specs.Prelude.{◌≡◌, ◌<◌, ◌^◌, length};
+    ghost use Rattle.std.specs.Prelude.{◌≡◌, ◌<◌, ◌^◌, length, vec_capacity};
     ghost use Rattle.tl_tile.specs.RightEdge.{EdgeContents, count_below};
 
     ghost Value = { EdgeContents };
 
-    ghost view = { λ e. record { size = e.size; kept = e.kept.items } };
+    ghost view = { λ e. record { size = e.size; kept = e.kept.items; room = vec_capacity e.kept } };
 
     ghost invariant = { λ e. (length e.kept.items ≡ count_below e.size 8) × (e.size < 2 ^ 32) };
 }
@@ -99,13 +101,14 @@ impl<T: TreeHash, A: Allocator + Copy> Edge<T, A> {
     }
 
     /// The partial tile of a level with its bytes, or `None` where the level has none. `level` is from 0 to 7; there are
-    /// no partial tiles above level 3. It fails only where memory is refused.
+    /// no partial tiles above level 3. It fails only where memory is refused, and asks for none where there is no such tile.
     pub fn partial(&self, level: u32) -> Result<Option<(Tile, Vec<u8, A>)>, AllocError>
         requires { level ≤ 7 }
-        ensures { (entries : List (List ℕ))
+        ensures tile { (entries : List (List ℕ))
             → IsEdgeOf self.now T.digest_of entries
             → IfOk result (λ found. option_map (λ t. (t.0, vec_items t.1)) found
             ≡ shown_partial T.digest_of entries level) }
+        ensures memory { OnErr result (0 < level_count self.now.size level % 256) }
     {
         let end = self.kept.len() - count_of(self.size, level);
         let count = self.size >> (8 * level);
@@ -124,9 +127,9 @@ impl<T: TreeHash, A: Allocator + Copy> Edge<T, A> {
     }
 
     /// Adds one entry at the end, and gives the full tiles that it completes with their bytes, by level: those that a log
-    /// serves with this entry and didn't serve before. The edge takes up to 2^32 - 1 entries. Where memory is refused it
-    /// stays as it was. An entry costs one leaf hash, and 255 node hashes for each tile that it completes; one that
-    /// completes none takes no memory but for the edge's own hash.
+    /// serves with this entry and didn't serve before. The edge takes up to 2^32 - 1 entries. An entry costs one leaf hash,
+    /// and 255 node hashes for each tile that it completes. It fails only where the edge has no room for one hash more, or
+    /// where the entry completes a tile and memory is refused for it; the edge then stays as it was.
     pub fn append(&mut self, entry: &[u8]) -> Result<Vec<(Tile, Vec<u8, A>), A>, AllocError>
         requires { self.old.size < 2 ^ 32 - 1 }
         ensures entry { (entries : List (List ℕ))
@@ -138,6 +141,7 @@ impl<T: TreeHash, A: Allocator + Copy> Edge<T, A> {
             ≡ shown_filled T.digest_of (entries ++ entry.now ∷ [])) }
         ensures size { OnOk result (self.new.size ≡ self.old.size + 1) }
         ensures unchanged { OnErr result (self.new ≡ self.old) }
+        ensures full { OnErr result ((self.old.room ≤ length self.old.kept) ⊎ ((self.old.size + 1) % 256 ≡ 0)) }
     {
         let size = self.size + 1;
         let alloc = *self.kept.allocator();

@@ -1,6 +1,6 @@
 //! The full tiles that an entry completes.
 
-ghost use Rattle.std.specs.Prelude.{◌≡◌, ◌≤◌, ◌<◌, ◌+◌, ◌-◌, ◌^◌, ℕ, [], ◌∷◌, ◌++◌, List, length, take, map, vec_items, IfOk};
+ghost use Rattle.std.specs.Prelude.{◌≡◌, ◌≤◌, ◌<◌, ◌+◌, ◌-◌, ◌%◌, ◌^◌, ℕ, [], ◌∷◌, ◌++◌, List, length, take, map, vec_items, IfOk, OnErr};
 ghost use Rattle.std.specs.List.{flat_map};
 ghost use Rattle.tl_hash.specs.Tree.{leaf_input};
 ghost use Rattle.tl_tile.specs.RightEdge.{shown_filled, hashes_below, count_below};
@@ -54,6 +54,7 @@ pub(crate) fn fill<T: TreeHash, A: Allocator + Copy>(
         → leaf ≡ T.digest_of (leaf_input entry)
         → IfOk result (λ filled. map (λ t. (t.0, vec_items t.1)) filled.tiles.items
         ≡ shown_filled T.digest_of (entries ++ entry ∷ [])) }
+    ensures memory { OnErr result (size % 256 ≡ 0) }
 {
     let mut tiles = Vec::new(alloc);
     let mut left = kept.len();

@@ -1,9 +1,10 @@
 //! Stored hashes from tiles that are checked against a root.
 
-ghost use Rattle.std.specs.Prelude.{◌≡◌, ◌≤◌, ◌<◌, ℕ, List, length, map, All, Any, MatchBool, IfOk, IfErr, OnOk, true};
+ghost use Rattle.std.specs.Prelude.{◌≡◌, ◌≤◌, ◌<◌, ℕ, List, length, map, All, Any, MatchBool, IfOk, IfErr, OnOk};
 ghost use Rattle.tl_store.specs.Stored.{stored_hash};
 ghost use Rattle.tl_store.specs.Reader.{readable_count, AreReadable, GivesFault};
 ghost use Rattle.tl_tile.specs.Source.{AreAuthentic};
+ghost use Rattle.tl_tile.specs.SourceFaults.{GivesReadFault};
 ghost use Rattle.tl_tile.specs.TileReader.{StandsAgainst, GivesNumbersFault};
 
 use crate::checker::Checker;
@@ -72,7 +73,7 @@ impl<T: TreeHash, S: TileSource, A: Allocator + Copy> HashReader for TileHashRea
 
     ghost stands_for = { λ r H entries. StandsAgainst T.digest_of (S.may_answer r.source) r.size r.root H entries };
 
-    ghost may_fail = { λ r. true };
+    ghost may_fail = { λ r fault. GivesReadFault T.digest_of (S.may_answer r.source) (S.may_lack r.source) r.size r.root fault };
 
     /// The stored hashes with these numbers. First all numbers are checked; with none nothing is fetched. Then the partial
     /// tiles of the size are fetched, from the highest level down, and have to give the root; then for each number the full
@@ -85,7 +86,7 @@ impl<T: TreeHash, S: TileSource, A: Allocator + Copy> HashReader for TileHashRea
             → IfOk result (λ hashes. hashes.items ≡ map (stored_hash H entries) indexes.now) }
         ensures count { IfOk result (λ hashes. length hashes.items ≡ length indexes.now) }
         ensures in_range { OnOk result (AreReadable self.now.size indexes.now) }
-        ensures faults { IfErr result (GivesFault self.now.size true indexes.now) }
+        ensures faults { IfErr result (GivesFault self.now.size (λ fault. GivesReadFault T.digest_of (S.may_answer self.now.source) (S.may_lack self.now.source) self.now.size self.now.root fault) indexes.now) }
         ensures authentic { IfOk result (λ hashes. AreAuthentic T.digest_of (S.may_answer self.now.source) self.now.size self.now.root indexes.now hashes.items) }
         ensures source { IfErr result (GivesNumbersFault T.digest_of (S.may_answer self.now.source) (S.may_lack self.now.source) self.now.size self.now.root indexes.now) }
     {

@@ -1,6 +1,7 @@
 use Rattle.std.proofs.Common.{◌-◌, length, map, ap, arith, refl}
 use Rattle.std.specs.Prelude.{vec_items}
-use Rattle.tl_tile.proofs.Fills.{low_level}
+use Rattle.std.proofs.lemmas.Result.{err_from_is_err_and}
+use Rattle.tl_tile.proofs.Fills.{low_level, filled_whole}
 use Rattle.tl_tile.proofs.FillSteps.{filling-start, filling-room, filling-more, filling-kept, filling-tiles, filling-count}
 use Rattle.tl_tile.proofs.filling.fill.Goals as goal
 
@@ -45,3 +46,13 @@ pub returns-clause-tiles : goal.returns-clause-tiles
 returns-clause-tiles g c =
     filling-tiles g.T.TreeHash.digest_of c.args.size c.args.leaf c.args.kept.now c.loop-count.level c.loop-count.count c.loop-count.left c.loop-count.hash (map (λ t. (t.0, vec_items t.1)) c.loop-count.tiles.items)
     c.requires.small c.loop-count.invariant c.loop-count-test.false
+
+pub returns-in_err-join_with-clause-memory : goal.returns-in_err-join_with-clause-memory
+returns-in_err-join_with-clause-memory g c =
+    let p = err_from_is_err_and c.from_residual.result c.from_residual.ensures.1 in
+    rw p.1 (filled_whole c.args.size c.loop-count.level c.loop-count.count c.loop-count.invariant.filled c.loop-count-test.true)
+
+pub returns-in_err-push-clause-memory : goal.returns-in_err-push-clause-memory
+returns-in_err-push-clause-memory g c =
+    let p = err_from_is_err_and c.from_residual-in_err-push.result c.from_residual-in_err-push.ensures.1 in
+    rw p.1 (filled_whole c.args.size c.loop-count.level c.loop-count.count c.loop-count.invariant.filled c.loop-count-test.true)

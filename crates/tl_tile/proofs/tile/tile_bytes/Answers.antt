@@ -18,4 +18,4 @@ returns-clause-text g c = λ H entries stands.
 
 pub returns-in-Err-clause-faults : goal.returns-in-Err-clause-faults
 returns-in-Err-clause-faults g c =
-    tile_fault c.args.tile _ _ _ _ c.requires.lawful.wide (c.deref.ensures.value ∙ c.in_ok-numbers.ensures.numbers) c.in-Err.ensures.faults
+    tile_fault c.args.tile _ (g.R.HashReader.may_fail c.args.reader.now) _ _ c.requires.lawful.wide (c.deref.ensures.value ∙ c.in_ok-numbers.ensures.numbers) c.in-Err.ensures.faults

@@ -1,8 +1,9 @@
 use Rattle.std.proofs.Common.{◌≡◌, ◌<◌, length, subst, arith, rules}
-use Rattle.tl_store.specs.Reader.{AreReadable}
+use Rattle.tl_store.specs.Reader.{AreReadable, GivesFault}
+use Rattle.tl_tile.specs.SourceFaults.{GivesReadFault}
 use Rattle.tl_tile.specs.Source.{AreAuthentic}
 use Rattle.tl_tile.specs.TileReader.{GivesNumbersFault}
-use Rattle.tl_tile.proofs.Readers.{some_readable, all_stored, authentic_stands, authentic_none, numbers_fault}
+use Rattle.tl_tile.proofs.Readers.{some_readable, all_stored, authentic_stands, authentic_none, numbers_fault, reader_fault}
 use Rattle.tl_tile.proofs.tile_reader.TileHashReaderHashReader.read.Goals as goal
 
 pub read_numbers-requires-clause-size : goal.read_numbers-requires-clause-size
@@ -32,7 +33,13 @@ pub returns-in-Err-clause-source : goal.returns-in-Err-clause-source
 returns-in-Err-clause-source g c =
     let readable : AreReadable c.self.inside.checker.size c.args.indexes.now = λ k d less. omega (arith, c.if-not-are_below.ensures k d less, c.count_of.ensures) in
     subst (λ r. GivesNumbersFault g.T.TreeHash.digest_of (g.S.TileSource.may_answer r.source) (g.S.TileSource.may_lack r.source) r.size r.root c.args.indexes.now c.in-Err.fault) c.self.view_is
-    (numbers_fault g.T.TreeHash.digest_of (g.S.TileSource.may_answer c.self.inside.checker.source) (g.S.TileSource.may_lack c.self.inside.checker.source) c.self.inside.checker.size c.self.inside.checker.root c.args.indexes.now c.in-Err.fault readable c.in-Err.ensures.faults)
+    (numbers_fault g.T.TreeHash.digest_of (g.S.TileSource.may_answer c.self.inside.checker.source) (g.S.TileSource.may_lack c.self.inside.checker.source) c.self.inside.checker.size c.self.inside.checker.root c.args.indexes.now c.in-Err.fault readable (search rules) c.in-Err.ensures.faults)
+
+pub returns-in-Err-clause-faults : goal.returns-in-Err-clause-faults
+returns-in-Err-clause-faults g c =
+    let readable : AreReadable c.self.inside.checker.size c.args.indexes.now = λ k d less. omega (arith, c.if-not-are_below.ensures k d less, c.count_of.ensures) in
+    subst (λ r. GivesFault r.size (λ fault. GivesReadFault g.T.TreeHash.digest_of (g.S.TileSource.may_answer r.source) (g.S.TileSource.may_lack r.source) r.size r.root fault) c.args.indexes.now c.in-Err.fault) c.self.view_is
+    (reader_fault g.T.TreeHash.digest_of (g.S.TileSource.may_answer c.self.inside.checker.source) (g.S.TileSource.may_lack c.self.inside.checker.source) c.self.inside.checker.size c.self.inside.checker.root c.args.indexes.now c.in-Err.fault readable (search rules) c.in-Err.ensures.faults)
 
 pub returns-in-Ok-clause-authentic : goal.returns-in-Ok-clause-authentic
 returns-in-Ok-clause-authentic g c =
