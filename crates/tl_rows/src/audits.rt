@@ -2,9 +2,9 @@
 
 use std::alloc::{AllocError, Allocator, Global};
 use std::test::Fail;
-use tl_hash::{Hash, Sha256Tree, entry_root};
+use tl_hash::{Hash, Sha256Tree, TreeHash, entry_root};
 use tl_proof::{AuditFault, HashList, Link, Verdict, audit_chain, audit_tree, prove_tree};
-use tl_store::HashStore;
+use tl_store::{HashStore, tree_hash};
 use tl_testing::vectors::entries;
 use tl_testing::{Refusing, SumDigest};
 
@@ -142,6 +142,50 @@ fn a_chain_of_two_links(rt: HostRuntime) -> Result<(), Fail> {
     assert_eq!(rt; told(alloc, answer)?.as_str(), "not accepted");
     let answer = audit_chain(alloc, SumDigest, &old, &new, &links.as_slice()[..1]);
     assert_eq!(rt; told(alloc, answer)?.as_str(), "not accepted");
+    Ok(())
+}
+
+// The links that lead from the first `from` of these entries to all of them, each by one entry.
+fn links_over<T: TreeHash>(
+    alloc: Global,
+    h: T,
+    list: &[Vec<u8>],
+    from: u64,
+) -> Result<Vec<Link<Global>>, Fail> {
+    let mut store = HashStore::new(alloc, h);
+    let mut links = Vec::new(alloc);
+    for entry in list {
+        if store.size() < MOST {
+            store.append(entry)?;
+        }
+        let size = store.size();
+        if size > from {
+            links.push(Link {
+                size,
+                root: tree_hash(alloc, h, size, &store)?,
+                proof: HashList::from_vec(prove_tree(alloc, h, size, size - 1, &store)?),
+            })?;
+        }
+    }
+    Ok(links)
+}
+
+#[test]
+fn a_chain_of_twelve_links(rt: HostRuntime) -> Result<(), Fail> {
+    let alloc = rt.alloc();
+    let new = letters(alloc, b"abcdefghijklmn")?;
+    let old = letters(alloc, b"ab")?;
+    let links = links_over(alloc, Sha256Tree, &new, 2)?;
+    assert_eq!(rt; links.len(), 12);
+    let answer = audit_chain(alloc, Sha256Tree, &old, &new, links.as_slice());
+    assert_eq!(rt; told(alloc, answer)?.as_str(), "extends");
+    let answer = audit_chain(alloc, Sha256Tree, &old, &new, &links.as_slice()[..11]);
+    assert_eq!(rt; told(alloc, answer)?.as_str(), "not accepted");
+    let swapped = letters(alloc, b"ba")?;
+    let links = links_over(alloc, SumDigest, &new, 2)?;
+    let answer = audit_chain(alloc, SumDigest, &swapped, &new, links.as_slice());
+    let want = nodes_text(alloc, ["61", "62"], ["62", "61"])?;
+    assert_eq!(rt; told(alloc, answer)?.as_str(), want.as_str());
     Ok(())
 }
 

@@ -154,6 +154,19 @@ fn a_witness_cosigns_the_empty_log(rt: HostRuntime) -> Result<(), Fail> {
 }
 
 #[test]
+fn late_times_are_cosigned_and_read_back(rt: HostRuntime) -> Result<(), Fail> {
+    let alloc = rt.alloc();
+    let key: Box<dyn Signer> = Box::new(alloc, witness(alloc, "witness.example")?)?;
+    for time in [0, u32::MAX as u64 + 1, 1 << 40, u64::MAX] {
+        let line = cosign_line(alloc, alloc, NO_ENTRY, time, &*key)?;
+        let note = format!(in alloc; "{NO_ENTRY}\n{line}")?;
+        let found = time_of(alloc, alloc, NO_ENTRY, note.as_str(), "witness.example")?;
+        assert_eq!(rt; found, Some(time));
+    }
+    Ok(())
+}
+
+#[test]
 fn a_cosignature_is_of_its_text_alone(rt: HostRuntime) -> Result<(), Fail> {
     let alloc = rt.alloc();
     let note = format!(in alloc; "{NO_ENTRY}\n{COSIGNATURE}")?;

@@ -6,9 +6,13 @@ mod audits;
 #[cfg(test)]
 mod checkpoints;
 #[cfg(test)]
+mod large;
+#[cfg(test)]
 mod notes;
 #[cfg(test)]
 mod proofs;
+#[cfg(test)]
+mod readers;
 #[cfg(test)]
 mod sequencer;
 #[cfg(test)]

@@ -4,6 +4,7 @@ ghost use Rattle.std.specs.List.{All};
 ghost use Rattle.tl_sequencer.specs.Log.{IsEndOf, IsSenderOf, rings_of};
 
 mod base;
+mod many;
 mod threads;
 
 use std::alloc::{AllocError, Allocator, Global};
@@ -133,9 +134,10 @@ fn pair<A: Allocator>(
     (log, zero, one)
 }
 
-// The same, opened on this heap. It is tried once more where memory was refused.
+// The same, opened on this heap with rings of so many entries. It is tried once more where memory was refused.
 fn opened<A: Allocator + Copy>(
     heap: A,
+    capacity: usize,
     limit: u64,
     refused: &mut bool,
 ) -> Result<
@@ -149,11 +151,11 @@ fn opened<A: Allocator + Copy>(
     ensures zero { IfOk result (λ r. IsSenderOf r.1 r.0) }
     ensures one { IfOk result (λ r. IsSenderOf r.2 r.0) }
 {
-    if let Ok((log, submitters)) = open(heap, 2, 4, limit) {
+    if let Ok((log, submitters)) = open(heap, 2, capacity, limit) {
         return Ok(pair(log, submitters));
     }
     *refused = true;
-    let (log, submitters) = open(heap, 2, 4, limit)?;
+    let (log, submitters) = open(heap, 2, capacity, limit)?;
     Ok(pair(log, submitters))
 }
 
@@ -161,7 +163,7 @@ fn opened<A: Allocator + Copy>(
 fn full_log_takes_nothing(rt: HostRuntime) -> Result<(), Fail> {
     let alloc = rt.alloc();
     let mut refused = false;
-    let (mut log, mut zero, mut one) = opened(alloc, 2, &mut refused)?;
+    let (mut log, mut zero, mut one) = opened(alloc, 4, 2, &mut refused)?;
     assert_eq!(rt; sent(&mut zero, bytes(alloc, "a1")?), Ok(0));
     assert_eq!(rt; sent(&mut zero, bytes(alloc, "a2")?), Ok(1));
     assert_eq!(rt; sent(&mut one, bytes(alloc, "b1")?), Ok(0));
@@ -234,7 +236,7 @@ fn whole_life<A: Allocator + Copy>(
     heap: A,
     refused: &mut bool,
 ) -> Result<Option<Complete<Global, A>>, AllocError> {
-    let Ok((mut log, mut zero, mut one)) = opened(heap, 9, refused) else {
+    let Ok((mut log, mut zero, mut one)) = opened(heap, 4, 9, refused) else {
         return Ok(None);
     };
     if sent(&mut zero, bytes(alloc, "a1")?) != Ok(0)

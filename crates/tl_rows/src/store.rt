@@ -1,14 +1,17 @@
 //! Stored hashes: the numbers, a store over the worked entries, heads, and refused growths.
 
+use crate::readers::FailingReader;
 use std::alloc::{AllocError, Allocator, Global};
 use std::cell::Cell;
 use std::test::Fail;
 use tl_hash::{Hash, Sha256Tree, empty_hash, entry_root};
+use tl_proof::{ProveFault, prove_record, prove_tree};
 use tl_store::{
     HashReader, HashStore, ReadFault, split_index, stored_count, stored_index, tree_hash,
 };
 use tl_testing::Refusing;
 use tl_testing::vectors::{ENTRIES, LEAVES, ROOTS, in_hex};
+use tl_tile::{Tile, tile_bytes};
 
 // More requests than any of the calls makes.
 const MOST: u64 = 1000;
@@ -204,14 +207,13 @@ struct CountedReader {
 }
 
 impl HashReader for CountedReader {
-    ghost use Rattle.std.specs.Prelude.{false};
     ghost use Rattle.tl_store.specs.Store.{StandsFor};
 
     ghost size = { λ r. r.store.size };
 
     ghost stands_for = { λ r H entries. StandsFor r.store H entries };
 
-    ghost may_fail = { λ r. false };
+    ghost may_fail = { λ r fault. ⊥ };
 
     fn read<B: Allocator>(&self, alloc: B, indexes: &[u64]) -> Result<Vec<Hash, B>, ReadFault> {
         self.reads.set(self.reads.get().saturating_add(1));
@@ -239,62 +241,34 @@ fn head_is_one_read_of_the_covering_subtrees(rt: HostRuntime) -> Result<(), Fail
     Ok(())
 }
 
-// A reader whose source fails: it has the count of a store, and answers this fault in the place of its hashes.
-#[derive(Drop)]
-struct FailingReader {
-    store: HashStore<Sha256Tree, Global>,
-    tile: Option<u64>,
-}
-
-impl HashReader for FailingReader {
-    ghost use Rattle.std.specs.Prelude.{true};
-
-    ghost size = { λ r. r.store.size };
-
-    ghost stands_for = { λ r H entries. ⊥ };
-
-    ghost may_fail = { λ r. true };
-
-    fn read<B: Allocator>(&self, alloc: B, indexes: &[u64]) -> Result<Vec<Hash, B>, ReadFault> {
-        let _hashes = self.store.read(alloc, indexes)?;
-        match self.tile {
-            None => Err(ReadFault::Source),
-            Some(index) => Err(ReadFault::BadTile {
-                level: 1,
-                index,
-                width: 256,
-            }),
-        }
-    }
-
-    ghost stands_size = { λ r H entries stands. absurd stands };
-}
-
 #[test]
 fn what_a_failing_source_answers_is_passed_on(rt: HostRuntime) -> Result<(), Fail> {
     let alloc = rt.alloc();
-    let broken = FailingReader {
-        store: store_of(alloc, &ENTRIES)?,
-        tile: None,
-    };
-    assert_eq!(rt;
-        tree_hash(alloc, Sha256Tree, 7, &broken).err(),
-        Some(ReadFault::Source)
-    );
-    assert_eq!(rt;
-        tree_hash(alloc, Sha256Tree, 9, &broken).err(),
-        Some(ReadFault::OutOfRange)
-    );
-    assert!(rt; tree_hash(alloc, Sha256Tree, 0, &broken)? == empty_hash(Sha256Tree));
-    let changed = FailingReader {
-        store: store_of(alloc, &ENTRIES)?,
-        tile: Some(5),
-    };
-    let bad = ReadFault::BadTile {
-        level: 1,
-        index: 5,
-        width: 256,
-    };
-    assert_eq!(rt; tree_hash(alloc, Sha256Tree, 7, &changed).err(), Some(bad));
+    for tile in [None, Some(5), Some((1 << 40) + 3)] {
+        let broken = FailingReader {
+            store: store_of(alloc, &ENTRIES)?,
+            tile,
+        };
+        let fault = broken.fault();
+        assert_eq!(rt; tree_hash(alloc, Sha256Tree, 7, &broken).err(), Some(fault));
+        assert_eq!(rt;
+            tree_hash(alloc, Sha256Tree, 9, &broken).err(),
+            Some(ReadFault::OutOfRange)
+        );
+        assert!(rt; tree_hash(alloc, Sha256Tree, 0, &broken)? == empty_hash(Sha256Tree));
+        let failed = Some(ProveFault::Read(fault));
+        assert_eq!(rt;
+            prove_record(alloc, Sha256Tree, 7, 2, &broken).err(),
+            failed
+        );
+        assert_eq!(rt; prove_tree(alloc, Sha256Tree, 7, 2, &broken).err(), failed);
+        assert!(rt; prove_tree(alloc, Sha256Tree, 7, 7, &broken)?.is_empty());
+        let tile = Tile {
+            level: 0,
+            index: 0,
+            width: 8,
+        };
+        assert_eq!(rt; tile_bytes(alloc, tile, &broken).err(), Some(fault));
+    }
     Ok(())
 }

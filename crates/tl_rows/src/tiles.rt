@@ -235,14 +235,13 @@ struct CountedReader {
 }
 
 impl HashReader for CountedReader {
-    ghost use Rattle.std.specs.Prelude.{false};
     ghost use Rattle.tl_store.specs.Store.{StandsFor};
 
     ghost size = { λ r. r.store.size };
 
     ghost stands_for = { λ r H entries. StandsFor r.store H entries };
 
-    ghost may_fail = { λ r. false };
+    ghost may_fail = { λ r fault. ⊥ };
 
     fn read<B: Allocator>(&self, alloc: B, indexes: &[u64]) -> Result<Vec<Hash, B>, ReadFault> {
         self.reads.set(self.reads.get().saturating_add(1));

@@ -1,0 +1,79 @@
+//! Many entries at once: hundreds waiting in a ring, many lanes, and batches smaller than what waits.
+use super::{closed, ended, opened, sent, taken};
+use std::alloc::{AllocError, Global};
+use std::test::Fail;
+use tl_sequencer::{Submitter, open};
+
+// Sends so many entries, each the number of the lane and its own. It tells whether each was taken.
+fn send_many(
+    alloc: Global,
+    submitter: &mut Submitter<Global, Global>,
+    lane: u32,
+    count: u64,
+) -> Result<bool, AllocError>
+    ensures { IfOk result (λ _. (submitter.new.ring ≡ submitter.old.ring) × (submitter.new.lane ≡ submitter.old.lane)) }
+{
+    for number in 0..count {
+        let mut entry = Vec::from_slice(alloc, &lane.to_be_bytes())?;
+        entry.extend_from_slice(&number.to_be_bytes())?;
+        if sent(submitter, entry) != Ok(number) {
+            return Ok(false);
+        }
+    }
+    Ok(true)
+}
+
+ghost use Rattle.std.specs.Prelude.{◌≡◌, IfOk};
+
+#[test]
+fn hundreds_waiting_are_taken_in_batches_and_ended(rt: HostRuntime) -> Result<(), Fail> {
+    let alloc = rt.alloc();
+    let mut refused = false;
+    let (mut log, mut zero, mut one) = opened(alloc, 1000, 4_000_000_000, &mut refused)?;
+    assert!(rt; send_many(alloc, &mut zero, 0, 700)?);
+    assert!(rt; send_many(alloc, &mut one, 1, 300)?);
+    let zero = closed(zero)?;
+    let one = closed(one)?;
+    assert_eq!(rt; taken(&mut log, 0, 256, &mut refused), Ok(256));
+    assert_eq!(rt; taken(&mut log, 1, 256, &mut refused), Ok(256));
+    assert_eq!(rt; ended(&mut log, zero, &mut refused), Ok(444));
+    assert_eq!(rt; ended(&mut log, one, &mut refused), Ok(44));
+    let Ok(complete) = log.close() else {
+        return Err(Fail::new("a lane has not ended"));
+    };
+    assert_eq!(rt; complete.len(), 1000);
+    assert_eq!(rt; complete.place_of(0, 255), Some(255));
+    assert_eq!(rt; complete.place_of(1, 0), Some(256));
+    assert_eq!(rt; complete.place_of(0, 256), Some(512));
+    assert_eq!(rt; complete.place_of(0, 699), Some(955));
+    assert_eq!(rt; complete.place_of(1, 299), Some(999));
+    assert_eq!(rt; complete.place_of(1, 300), None);
+    let last = [0, 0, 0, 1, 0, 0, 0, 0, 0, 0, 1, 43];
+    assert!(rt; complete.entry(999) == Some(last.as_slice()));
+    Ok(())
+}
+
+#[test]
+fn logs_of_3_and_5_and_64_lanes(rt: HostRuntime) -> Result<(), Fail> {
+    let alloc = rt.alloc();
+    for lanes in [3u32, 5, 64] {
+        let (mut log, submitters) = open(alloc, lanes, 300, 1_000_000)?;
+        let mut lane = 0;
+        for submitter in submitters {
+            let mut submitter = submitter;
+            assert!(rt; send_many(alloc, &mut submitter, lane, 300)?);
+            lane = lane.saturating_add(1);
+        }
+        for lane in 0..lanes {
+            assert_eq!(rt; log.take(lane, 256), Ok(256), "lane {lane} of {lanes}");
+        }
+        for lane in 0..lanes {
+            assert_eq!(rt; log.take(lane, 256), Ok(44), "lane {lane} of {lanes}");
+        }
+        assert_eq!(rt; log.len(), lanes as u64 * 300);
+        let last = lanes as u64 * 300 - 1;
+        assert_eq!(rt; log.who(last), Some(lanes - 1));
+        assert_eq!(rt; log.place_of(lanes - 1, 299), Some(last));
+    }
+    Ok(())
+}
