@@ -18,8 +18,8 @@ pub enum SignFault {
 }
 
 /// Who signs messages. Its meaning is a `SigningKey`: a name, an identifier, which signatures it may give for a message and
-/// which messages it may refuse.
-pub trait Signer: Send + Drop {
+/// which messages it may refuse. Threads may share it.
+pub trait Signer: Send + Sync + Drop {
     ghost signing_key: { Self → SigningKey };
 
     /// The key's name.
@@ -37,8 +37,8 @@ pub trait Signer: Send + Drop {
 }
 
 /// Who tells the valid signatures of a message from others. Its meaning is a `Key`: a name, an identifier, and which signatures
-/// of a message it accepts.
-pub trait Verifier: Send + Drop {
+/// of a message it accepts. Threads may share it.
+pub trait Verifier: Send + Sync + Drop {
     ghost key: { Self → Key };
 
     /// The key's name.
