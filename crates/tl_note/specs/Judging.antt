@@ -1,5 +1,5 @@
 -- The steps of opening a note: what is found of one line, and of all lines.
-use Rattle.std.specs.Prelude.{◌≡◌, ℕ, Bool, true, false, List, Result, Ok, Err, None, Some, ⊤}
+use Rattle.std.specs.Prelude.{◌≡◌, ℕ, true, false, List, Result, Ok, Err, None, ⊤}
 use Rattle.std.specs.declared.vec.Vec.{Vec}
 use Rattle.tl_note.specs.declared.fault.NoteFault.{NoteFault}
 use Rattle.tl_note.specs.declared.fault.NoteFault.TheVariants.{Ambiguous, InvalidSignature, OutOfMemory}
@@ -7,14 +7,14 @@ use Rattle.tl_note.specs.declared.open.Standing.{Standing}
 use Rattle.tl_note.specs.declared.open.Standing.TheVariants.{Unknown, Repeated, Verified}
 use Rattle.tl_note.specs.Key.{Key}
 use Rattle.tl_note.specs.Note.{Signature}
-use Rattle.tl_note.specs.Open.{Placed, is_known, is_repeated, is_ambiguous, is_valid, counting_lines, unknown_lines, first_wrong, places}
+use Rattle.tl_note.specs.Open.{Placed, is_known, is_repeated, is_ambiguous, is_valid, counting_lines, unknown_lines, places, first_wrong, FindsWrong, NeedsMemory}
 
 -- whether the signature of a line is right
 abbrev pub VerifiesLine : List Key → List ℕ → Placed → Result ⊤ NoteFault → Type 0
 VerifiesLine keys text p (Ok _) = (is_ambiguous keys p ≡ false) × (is_valid keys text p ≡ true)
 VerifiesLine keys text p (Err (Ambiguous place)) = (p.0 ≡ place) × (is_ambiguous keys p ≡ true)
 VerifiesLine keys text p (Err (InvalidSignature place)) = (p.0 ≡ place) × (is_ambiguous keys p ≡ false) × (is_valid keys text p ≡ false)
-VerifiesLine keys text p (Err OutOfMemory) = ⊤
+VerifiesLine keys text p (Err OutOfMemory) = is_ambiguous keys p ≡ false
 VerifiesLine keys text p (Err _) = ⊥
 
 -- what a line is found to be: a fault is only of a line that counts
@@ -24,14 +24,10 @@ JudgesLine keys text lines p (Ok Repeated) = (is_known keys p ≡ true) × (is_r
 JudgesLine keys text lines p (Ok Verified) = (is_known keys p ≡ true) × (is_repeated lines p ≡ false) × VerifiesLine keys text p (Ok tt)
 JudgesLine keys text lines p (Err fault) = (is_known keys p ≡ true) × (is_repeated lines p ≡ false) × VerifiesLine keys text p (Err fault)
 
--- the first wrong line is at this place, and is ambiguous or isn't
-abbrev pub FindsWrong : List Key → List ℕ → List Signature → ℕ → Bool → Type 0
-FindsWrong keys text lines place ambiguous = (p : Placed) × (first_wrong keys text lines ≡ Some p) × (p.0 ≡ place) × (is_ambiguous keys p ≡ ambiguous)
-
 -- the places of the lines that count, each valid, and of the unknown lines
 abbrev pub SortsLines : {A : Type 0} → List Key → List ℕ → List Signature → Result (Vec ℕ A × Vec ℕ A) NoteFault → Type 0
 SortsLines keys text lines (Ok found) = (first_wrong keys text lines ≡ None) × (found.0.items ≡ places (counting_lines keys lines)) × (found.1.items ≡ places (unknown_lines keys lines))
 SortsLines keys text lines (Err (Ambiguous place)) = FindsWrong keys text lines place true
 SortsLines keys text lines (Err (InvalidSignature place)) = FindsWrong keys text lines place false
-SortsLines keys text lines (Err OutOfMemory) = ⊤
+SortsLines keys text lines (Err OutOfMemory) = NeedsMemory keys lines
 SortsLines keys text lines (Err _) = ⊥

@@ -1,5 +1,5 @@
 -- Which lines of a note count, and which are wrong (C2SP signed-note, "Verification"; Go's sumdb/note).
-use Rattle.std.specs.Prelude.{◌≡◌, ℕ, ◌<◌, Bool, ◌&&◌, ◌||◌, not, List, length, map, filter, find, take, count_by, ◌==◌, nat_lt, bytes_eq, Option, None}
+use Rattle.std.specs.Prelude.{◌≡◌, ℕ, ◌<◌, Bool, ◌&&◌, ◌||◌, not, List, length, map, filter, find, take, count_by, ◌==◌, nat_lt, bytes_eq, slice_get, false, Option, None, Some}
 use Rattle.std.specs.List.{list_any, list_all, enumerate_from}
 use Rattle.tl_note.specs.Key.{Key}
 use Rattle.tl_note.specs.Note.{Signature}
@@ -53,9 +53,17 @@ is_wrong keys text p = is_ambiguous keys p || not (is_valid keys text p)
 abbrev pub first_wrong : List Key → List ℕ → List Signature → Option Placed
 first_wrong keys text lines = find (is_wrong keys text) (counting_lines keys lines)
 
+-- the first wrong line is at this place, and is ambiguous or isn't
+abbrev pub FindsWrong : List Key → List ℕ → List Signature → ℕ → Bool → Type 0
+FindsWrong keys text lines place ambiguous = (p : Placed) × (first_wrong keys text lines ≡ Some p) × (p.0 ≡ place) × (is_ambiguous keys p ≡ ambiguous)
+
 -- the places of lines
 abbrev pub places : List Placed → List ℕ
 places lines = map (λ p. p.0) lines
+
+-- verifying asks for memory: there is a first line, and not two verifiers have its key
+abbrev pub NeedsMemory : List Key → List Signature → Type 0
+NeedsMemory keys lines = (line : Signature) × (slice_get lines 0 ≡ Some line) × (is_ambiguous keys (0, line) ≡ false)
 
 -- the note opens: some line counts, and none that counts is wrong
 pub record Opened (keys : List Key) (text : List ℕ) (lines : List Signature) : Type 0 where

@@ -2,6 +2,7 @@
 #![tactic(auto)]
 
 mod fault;
+mod field;
 mod keys;
 mod law;
 mod line;
@@ -17,7 +18,7 @@ pub use keys::{SignFault, Signer, Verifier};
 pub use law::bytes_are_one_note;
 pub use line::{SigView, write_signature_line};
 pub use name::is_key_name;
-pub use open::open_note;
+pub use open::{open_note, verify_note};
 pub use parse::parse_note;
 pub use sign::sign_note;
 pub use view::{NoteView, OpenedNote};

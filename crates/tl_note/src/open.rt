@@ -5,14 +5,14 @@ ghost use Rattle.tl_note.specs.Note.{Signature};
 ghost use Rattle.std.specs.List.{list_any};
 ghost use Rattle.tl_note.specs.Judging.{JudgesLine, SortsLines};
 ghost use Rattle.tl_note.specs.Open.{is_same_key};
-ghost use Rattle.tl_note.specs.OpenNote.{OpensNote};
+ghost use Rattle.tl_note.specs.OpenNote.{OpensNote, VerifiesNote};
 
 use crate::fault::NoteFault;
 use crate::keys::Verifier;
 use crate::line::SigView;
 use crate::parse::parse_note;
 use crate::verify::{is_known, verify_line};
-use crate::view::OpenedNote;
+use crate::view::{NoteView, OpenedNote};
 use std::alloc::Allocator;
 
 // What a line is found to be.
@@ -26,12 +26,8 @@ enum Standing {
     Verified,
 }
 
-/// Reads a note, and verifies its signatures (C2SP signed-note, "Verification"). A line counts where a verifier has its key and no earlier
-/// line names that key. The note opens where some line counts, each that counts is of one verifier, and each of their signatures is
-/// valid.
-///
-/// The message is read as a whole first: `Malformed` where it is no note. Then the first line that counts and is of two verifiers
-/// (`Ambiguous`) or isn't valid (`InvalidSignature`) decides. `Unverified`: no line counts.
+/// Reads a note, and verifies it as `verify_note` does. The message is read as a whole first: it is `Malformed` exactly
+/// where it is no note, and the faults of `verify_note` are of a note alone.
 pub fn open_note<'m, A: Allocator + Copy>(
     alloc: A,
     message: &'m str,
@@ -40,6 +36,23 @@ pub fn open_note<'m, A: Allocator + Copy>(
     ensures { OpensNote message.now (map (λ verifier. key verifier) verifiers.now) result }
 {
     let note = parse_note(alloc, message)?;
+    verify_note(alloc, note, verifiers)
+}
+
+/// Verifies the signatures of a note that was read (C2SP signed-note, "Verification"). A line counts where a verifier
+/// has its key and no earlier line names that key. The note opens where some line counts, each that counts is of one
+/// verifier, and each of their signatures is valid.
+///
+/// The first line that counts and is of two verifiers (`Ambiguous`) or isn't valid (`InvalidSignature`) decides.
+/// `Unverified`: no line counts. No memory is asked for where there is no line, or two verifiers have the first line's
+/// key.
+pub fn verify_note<'m, A: Allocator + Copy>(
+    alloc: A,
+    note: NoteView<'m, A>,
+    verifiers: &[Box<dyn Verifier>],
+) -> Result<OpenedNote<'m, A>, NoteFault>
+    ensures { VerifiesNote (map (λ verifier. key verifier) verifiers.now) note.entry.text.now note.entry.signatures.items result }
+{
     let (verified, unverified) = sort_lines(
         alloc,
         note.text,

@@ -1,6 +1,6 @@
 use Rattle.std.proofs.Common.{◌+◌, ◌++◌, ◌∷◌, [], List, map}
 use Rattle.tl_note.specs.Key.{Key}
-use Rattle.tl_note.proofs.OpenLemmas.{sorted_same, sorts_unknown, sorts_repeated, sorts_verified, sorts_fault}
+use Rattle.tl_note.proofs.OpenLemmas.{sorted_same, sorts_unknown, sorts_repeated, sorts_verified, sorts_fault, sorts_refused, needs_memory, unknown_clear}
 use Rattle.tl_note.proofs.open.sort_lines.Goals as goal
 use Rattle.tl_note.proofs.open.sort_lines.Goals.{in-Unknown+in_ok-push-in-Unknown, in-Repeated, in-Verified+in_ok-push-in-Verified}
 
@@ -32,3 +32,19 @@ loop-place-preserved g c =
           sorted_same keys text lines (n + 1) c.match-branch-2.verified.items (verified ++ n ∷ []) c.match-branch-2.unverified.items unverified (cc w.in_ok-push-in-Verified.ensures.items) (cc)
           (sorts_verified keys text lines n judged.0 judged.1 verified unverified c.loop-place.invariant found.0 found.1 found.2)
     ]
+
+pub returns-in_err-push-in-Unknown : goal.returns-in_err-push-in-Unknown
+returns-in_err-push-in-Unknown g c =
+    let keys : List Key = map (λ b. (goal.Verifier-dyn g (b.vtable, b.value)).key b.value) c.args.verifiers.now in
+    let judged = c.in_ok-judge_line.ensures in
+    let found = rw c.in-Unknown.is at judged.2 in
+    sorts_refused keys c.args.text.now c.args.lines.now c.from_residual-in_err-push-in-Unknown.result c.from_residual-in_err-push-in-Unknown.ensures.1
+    (needs_memory keys c.args.lines.now c.loop-place.place judged.0 judged.1 c.loop-place.invariant.begun (unknown_clear keys c.loop-place.place judged.0 found))
+
+pub returns-in_err-push-in-Verified : goal.returns-in_err-push-in-Verified
+returns-in_err-push-in-Verified g c =
+    let keys : List Key = map (λ b. (goal.Verifier-dyn g (b.vtable, b.value)).key b.value) c.args.verifiers.now in
+    let judged = c.in_ok-judge_line.ensures in
+    let found = rw c.in-Verified.is at judged.2 in
+    sorts_refused keys c.args.text.now c.args.lines.now c.from_residual-in_err-push-in-Verified.result c.from_residual-in_err-push-in-Verified.ensures.1
+    (needs_memory keys c.args.lines.now c.loop-place.place judged.0 judged.1 c.loop-place.invariant.begun found.2.0)
