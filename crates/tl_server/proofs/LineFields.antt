@@ -25,12 +25,6 @@ pub after_word : {X : Type 0} (Fits : X → Type 0) (spelled : X → List ℕ) (
 after_word Fits spelled whole word text is None none = λ x fits e. none x fits (append_cancel_left word text (spelled x) (sym is ∙ e))
 after_word Fits spelled whole word text is (Some x) found = (found.0, is ∙ ap (λ (t : List ℕ). word ++ t) found.1)
 
-pub after_word_ok : {X E : Type 0} (Fits : X → Type 0) (spelled : X → List ℕ) (whole word text : List ℕ) → whole ≡ word ++ text → (r : Result (Option X) E)
-    → IfOk r (λ found. MatchOption found ((x : X) → Fits x → text ≢ spelled x) (λ x. Fits x × (text ≡ spelled x)))
-    → IfOk r (λ found. MatchOption found ((x : X) → Fits x → whole ≢ word ++ spelled x) (λ x. Fits x × (whole ≡ word ++ spelled x)))
-after_word_ok Fits spelled whole word text is (Ok found) read = after_word Fits spelled whole word text is found read
-after_word_ok Fits spelled whole word text is (Err fault) read = read
-
 -- what a prefix was stripped of
 pub stripped : (whole word : List ℕ) (r : Option (Bor (List ℕ)))
     → MatchOption r (pointwise eqb (take (length word) whole) word ≡ false) (λ x. (pointwise eqb (take (length word) whole) word ≡ true) × (x.now ≡ drop (length word) whole) × (length x.now + length word ≡ length whole))

@@ -118,7 +118,7 @@ pub fn demo_key<A: Allocator + Copy>(
     })
 }
 
-impl<A: Allocator + Send> Signer for DemoKey<A> {
+impl<A: Allocator + Send + Sync> Signer for DemoKey<A> {
     ghost use Rattle.tl_server.specs.DemoKey.{demo_signing_key};
 
     ghost signing_key = { λ k. demo_signing_key k };
@@ -140,7 +140,7 @@ impl<A: Allocator + Send> Signer for DemoKey<A> {
     }
 }
 
-impl<A: Allocator + Send> Verifier for DemoKey<A> {
+impl<A: Allocator + Send + Sync> Verifier for DemoKey<A> {
     ghost use Rattle.tl_server.specs.DemoKey.{demo_verifier_key};
 
     ghost key = { λ k. demo_verifier_key k };

@@ -60,19 +60,15 @@ pub(crate) fn number_after(line: &[u8], word: &[u8]) -> Option<u64>
 }
 
 /// The hash that follows a word in a line, in base64.
-pub(crate) fn hash_after<A: Allocator>(
-    alloc: A,
-    line: &[u8],
-    word: &[u8],
-) -> Result<Option<Hash>, AllocError>
-    ensures { IfOk result (λ found. MatchOption found
+pub(crate) fn hash_after(line: &[u8], word: &[u8]) -> Option<Hash>
+    ensures { MatchOption result
         ((hash : List ℕ) → IsHash hash → line.now ≢ word.now ++ base64_text hash)
-        (λ hash. IsHash hash × (line.now ≡ word.now ++ base64_text hash))) }
+        (λ hash. IsHash hash × (line.now ≡ word.now ++ base64_text hash)) }
 {
     let Some(text) = text_after(line, word) else {
-        return Ok(None);
+        return None;
     };
-    hash_of(alloc, text)
+    hash_of(text)
 }
 
 /// The hashes that lines have, one each, in base64.
@@ -86,7 +82,7 @@ pub(crate) fn hashes_of<A: Allocator + Copy, B: Allocator>(
 {
     let mut hashes = Vec::new(alloc);
     for line in lines {
-        let Some(hash) = hash_after(alloc, line.as_slice(), b"")? else {
+        let Some(hash) = hash_after(line.as_slice(), b"") else {
             return Ok(None);
         };
         hashes.push(hash)?;

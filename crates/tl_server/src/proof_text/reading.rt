@@ -28,10 +28,10 @@ pub(crate) fn read_inclusion<A: Allocator + Copy, B: Allocator>(
     let Some(size) = number_after(size.as_slice(), b"size ") else {
         return Ok(None);
     };
-    let Some(leaf) = hash_after(alloc, leaf.as_slice(), b"leaf ")? else {
+    let Some(leaf) = hash_after(leaf.as_slice(), b"leaf ") else {
         return Ok(None);
     };
-    let Some(root) = hash_after(alloc, root.as_slice(), b"root ")? else {
+    let Some(root) = hash_after(root.as_slice(), b"root ") else {
         return Ok(None);
     };
     let Some(proof) = hashes_of(alloc, proof)? else {
@@ -64,13 +64,13 @@ pub(crate) fn read_consistency<A: Allocator + Copy, B: Allocator>(
     let Some(old) = number_after(old.as_slice(), b"old ") else {
         return Ok(None);
     };
-    let Some(old_root) = hash_after(alloc, old_root.as_slice(), b"oldroot ")? else {
+    let Some(old_root) = hash_after(old_root.as_slice(), b"oldroot ") else {
         return Ok(None);
     };
     let Some(size) = number_after(size.as_slice(), b"size ") else {
         return Ok(None);
     };
-    let Some(root) = hash_after(alloc, root.as_slice(), b"root ")? else {
+    let Some(root) = hash_after(root.as_slice(), b"root ") else {
         return Ok(None);
     };
     let Some(proof) = hashes_of(alloc, proof)? else {

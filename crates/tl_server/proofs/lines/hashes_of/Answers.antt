@@ -8,11 +8,11 @@ use Rattle.tl_server.proofs.lines.hashes_of.Goals as goal
 pub returns-in_default : goal.returns-in_default
 returns-in_default g c =
     none_at vec_items base64_text IsHash c.args.lines.now c.loop-line.line-index c.line-item.result c.loop-line-test.true c.line-item.is
-    (λ value fits e. (rw c.in_default.is at c.in_ok-hash.ensures) value fits (c.as_slice.ensures.value ∙ e))
+    (λ value fits e. c.in_default.ensures value fits (c.as_slice.ensures.value ∙ e))
 
 pub loop-line-preserved : goal.loop-line-preserved
 loop-line-preserved g c =
-    let found = rw c.in-Some.is at c.in_ok-hash.ensures in
+    let found = c.in-Some.ensures in
     record {
       lawful = subst (All IsHash) (sym c.in_ok-push.ensures.items) (All-push IsHash c.loop-line.hashes.items c.in-Some.hash c.loop-line.invariant.lawful found.0);
       spelled = one_more vec_items base64_text c.args.lines.now c.loop-line.line-index c.line-item.result c.loop-line.hashes.items c.in-Some.hash c.loop-line-test.true c.line-item.is

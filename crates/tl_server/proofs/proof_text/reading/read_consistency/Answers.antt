@@ -5,10 +5,10 @@ use Rattle.tl_server.proofs.proof_text.reading.read_consistency.Goals as goal
 pub returns : goal.returns
 returns g c =
     let old = c.in-Some.ensures in
-    let old_root = rw c.in-Some-2.is at c.in_ok-old_root.ensures in
+    let old_root = c.in-Some-hash_after.ensures in
     let size = c.in-Some-number_after.ensures in
-    let root = rw c.in-Some-3.is at c.in_ok-root.ensures in
-    let proof = rw c.in-Some-4.is at c.in_ok-proof.ensures in (
+    let root = c.in-Some-hash_after-2.ensures in
+    let proof = rw c.in-Some-2.is at c.in_ok-proof.ensures in (
       record { old = old.0; old_root = old_root.0; size = size.0; root = root.0; proof = proof.0 },
       five_lines vec_items c.args.lines.now c.kind-item.result c.old-item.result c.old_root-item.result c.size-item.result c.root-item.result _ _ _ _ _ _ c.in-len5-up.len_at_least
           c.kind-item.is c.old-item.is c.old_root-item.is c.size-item.is c.root-item.is
