@@ -1,5 +1,5 @@
 -- An honest source is read.
-use Rattle.std.proofs.Common.{◌≡◌, ℕ, zero, suc, ◌+◌, ◌*◌, inl, inr, List, [], ◌∷◌, length, Some, refl, sym, ap, subst, ◌∙◌, arith}
+use Rattle.std.proofs.Common.{◌≡◌, ℕ, zero, suc, ◌+◌, ◌*◌, inl, inr, List, [], ◌∷◌, length, All, Some, refl, sym, ap, subst, ◌∙◌, arith}
 use Rattle.std.specs.List.{flat_map, range_with_len}
 use Rattle.std.proofs.lemmas.Bool.{cases_Bool}
 use Rattle.std.proofs.lemmas.List.{length-append}
@@ -12,7 +12,7 @@ use Rattle.tl_tile.specs.TileText.{entries_under, tile_text, full_tile}
 use Rattle.tl_tile.specs.Fetched.{same_tile, tiles_of}
 use Rattle.tl_tile.specs.Source.{AreAnswers}
 use Rattle.tl_tile.specs.TileLaws.{AreHonest}
-use Rattle.tl_tile.specs.SourceFaults.{HonestSourceIsRead}
+use Rattle.tl_tile.specs.SourceFaults.{IsBadTile, HonestSourceIsRead}
 use Rattle.tl_tile.specs.Source.{IsTileOf, Answers}
 use Rattle.tl_tile.proofs.Edges.{Some-injective}
 use Rattle.tl_tile.proofs.Push.{same_tile-is}
@@ -26,7 +26,7 @@ pub length-tile_text : (H : List ℕ → List ℕ) → ((message : List ℕ) →
 length-tile_text H wide t entries = length-pieces (λ i. tree_hash H (entries_under t.level (t.index * 256 + i) entries)) (λ i. length-tree_hash H wide (entries_under t.level (t.index * 256 + i) entries)) 0 t.width
 
 -- what was found is an answer
-pub found-answer : (R : Tile → List ℕ → Type 0) (xs : List (Tile × List ℕ)) → AreAnswers R xs → (t : Tile) (text : List ℕ) → tiles_of xs t ≡ Some text → R t text
+pub found-answer : (R : Tile → List ℕ → Type 0) (xs : List (Tile × List ℕ)) → All (λ f. R f.0 f.1) xs → (t : Tile) (text : List ℕ) → tiles_of xs t ≡ Some text → R t text
 found-answer R [] answers t text found = absurd (cc)
 found-answer R (x ∷ xs) answers t text found =
     elim (cases_Bool (same_tile x.0 t)) as (λ _. R t text) [
@@ -38,23 +38,27 @@ found-answer R (x ∷ xs) answers t text found =
     ]
 
 -- each fault but want of memory contradicts honesty
-are_honest : (may_answer : Tile → List ℕ → Type 0) (H : List ℕ → List ℕ) (entries : List (List ℕ))
+pub are_honest : (may_answer : Tile → List ℕ → Type 0) (H : List ℕ → List ℕ) (entries : List (List ℕ))
     → ((t : Tile) (text : List ℕ) → IsTileOf (length entries) t → may_answer t text → text ≡ tile_text H t entries)
-    → (xs : List (Tile × List ℕ)) → AreAnswers (Answers may_answer (length entries)) xs → AreHonest H (tiles_of xs) entries
+    → (xs : List (Tile × List ℕ)) → AreAnswers may_answer (length entries) xs → AreHonest H (tiles_of xs) entries
 are_honest may_answer H entries honest xs answers t text found =
     let answer = found-answer (Answers may_answer (length entries)) xs answers t text found in honest t text answer.0 answer.1
 
+not-bad : (H : List ℕ → List ℕ) → ((message : List ℕ) → HasHashLength (H message)) → (entries : List (List ℕ)) (xs : List (Tile × List ℕ)) → AreHonest H (tiles_of xs) entries
+    → (t : Tile) → IsBadTile H (length entries) (tree_hash H entries) xs t → ⊥
+not-bad H wide entries xs honest t bad =
+    let text_is : bad.text ≡ tile_text H t entries = honest t bad.text bad.found in
+    elim bad.because as (λ _. ⊥) [
+      | inl long ↦ long (ap length text_is ∙ length-tile_text H wide t entries)
+      | inr (inl edge) ↦ edge.differ (honest_tiles_tell_root H wide (tiles_of xs) entries honest edge.known edge.strings edge.tells)
+      | inr (inr full) ↦
+          full.differ (sym (text_tells_above H wide (tiles_of xs) entries honest t.level t.index bad.text full.hash full.strings full.below
+          (text_is ∙ ap (λ (u : Tile). tile_text H u entries) full.full) full.tells full.above.0 full.own full.above.1 full.above.2))
+    ]
+
 pub honest_source_is_read : (may_answer : Tile → List ℕ → Type 0) (may_lack : Tile → Type 0) → HonestSourceIsRead may_answer may_lack
-honest_source_is_read may_answer may_lack H wide entries honest has OutOfRange gives = absurd gives
-honest_source_is_read may_answer may_lack H wide entries honest has Source gives = absurd (has gives.0 gives.1 gives.2)
-honest_source_is_read may_answer may_lack H wide entries honest has OutOfMemory gives = refl
-honest_source_is_read may_answer may_lack H wide entries honest has (BadTile level index width) (inl (text, (of_size, answer), long)) =
-    let t : Tile = record { level = level; index = index; width = width } in
-    absurd (long (ap length (honest t text of_size answer) ∙ length-tile_text H wide t entries))
-honest_source_is_read may_answer may_lack H wide entries honest has (BadTile level index width) (inr (inl bad)) =
-    absurd (bad.differ (honest_tiles_tell_root H wide (tiles_of bad.fetched) entries (are_honest may_answer H entries honest bad.fetched bad.answers) bad.known bad.strings bad.tells))
-honest_source_is_read may_answer may_lack H wide entries honest has (BadTile level index width) (inr (inr bad)) =
-    let t : Tile = record { level = level; index = index; width = width } in
-    let text_is : bad.text ≡ tile_text H (full_tile level index) entries = honest t bad.text bad.answer.0 bad.answer.1 ∙ ap (λ (u : Tile). tile_text H u entries) bad.full in
-    absurd (bad.differ (sym (text_tells_above H wide (tiles_of bad.fetched) entries (are_honest may_answer H entries honest bad.fetched bad.answers) level index bad.text bad.hash bad.strings bad.has_above
-    text_is bad.tells bad.above bad.own bad.found bad.told)))
+honest_source_is_read may_answer may_lack H wide entries honest has OutOfRange (xs, answers, gives) = absurd gives
+honest_source_is_read may_answer may_lack H wide entries honest has Source (xs, answers, (t, gives)) = absurd (has t gives.of_log gives.lacks)
+honest_source_is_read may_answer may_lack H wide entries honest has OutOfMemory (xs, answers, gives) = refl
+honest_source_is_read may_answer may_lack H wide entries honest has (BadTile level index width) (xs, answers, bad) =
+    absurd (not-bad H wide entries xs (are_honest may_answer H entries honest xs answers) (record { level = level; index = index; width = width }) bad)

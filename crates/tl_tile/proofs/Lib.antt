@@ -20,6 +20,7 @@ pub mod Honest
 pub mod Parts
 pub mod EdgeFolds
 pub mod Push
+pub mod Orders
 pub mod EdgeFetch
 pub mod Reading
 pub mod HonestSource

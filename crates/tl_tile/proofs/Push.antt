@@ -1,22 +1,22 @@
 -- One fetched tile more.
-use Rattle.std.proofs.Common.{◌≡◌, ℕ, ◌+◌, ◌-◌, ◌*◌, ◌/◌, ◌%◌, ◌^◌, ◌<◌, ◌≤◌, ◌⊎◌, inl, inr, Bool, true, false, ◌&&◌, eqb, List, [], ◌∷◌, ◌++◌, length, map, Option, Some, None, refl, sym, ap, subst, ◌∙◌, arith}
+use Rattle.std.proofs.Common.{◌≡◌, ℕ, ◌+◌, ◌-◌, ◌*◌, ◌/◌, ◌%◌, ◌^◌, ◌<◌, ◌≤◌, ◌⊎◌, inl, inr, Bool, true, false, ◌&&◌, eqb, List, [], ◌∷◌, ◌++◌, append_assoc, length, map, Option, Some, None, refl, sym, ap, subst, ◌∙◌, arith}
 use Rattle.std.proofs.lemmas.Bool.{cases_Bool, cases_lt, and_parts, eqb-true, eq-eqb}
-use Rattle.std.proofs.lemmas.List.Elements.{All-push}
-use Rattle.std.specs.Prelude.{vec_items}
+use Rattle.std.specs.Prelude.{◌≢◌, vec_items}
 use Rattle.std.specs.declared.vec.Vec.{Vec}
 use Rattle.std.proofs.lemmas.List.{map-append}
 use Rattle.tl_tile.specs.declared.resource.Tile.{Tile}
 use Rattle.tl_tile.specs.TileText.{level_count, full_tile, partial_tile, tile_with}
 use Rattle.tl_tile.specs.Known.{Tiles, IsFold, nothing, given, split, IsEdgeHash, IsInAbove}
 use Rattle.tl_tile.specs.KnownEdge.{HasEdge, Part}
-use Rattle.tl_tile.specs.Fetched.{same_tile, tiles_of, texts_of}
-use Rattle.tl_tile.specs.Source.{AreAnswers, AreFetched, HasTileWith, IsSameAsAbove, IsThere}
-use Rattle.tl_tile.specs.SourceFaults.{IsBadFull}
-use Rattle.tl_tile.specs.Source.{Answers}
+use Rattle.tl_tile.specs.Fetched.{same_tile, tiles_of, tiles_in, texts_of}
+use Rattle.tl_tile.specs.Source.{IsTileOf, HasTileWith, IsHashWith, IsMissing, IsThere}
+use Rattle.tl_tile.specs.Fetching.{BeginsWithEdge, IsNextFull, edge_tiles}
+use Rattle.tl_tile.specs.Verified.{AreVerified}
+use Rattle.tl_tile.specs.SourceFaults.{IsBadFull, IsBadTile}
 use Rattle.tl_tile.proofs.Edges.{Some-injective, under_within}
 use Rattle.tl_tile.proofs.Checked.{level_count-above, tile_with-full, tile_with-partial}
 
-cases_option : {A : Type 0} (o : Option A) → (o ≡ None) ⊎ ((r : A) × (o ≡ Some r))
+pub cases_option : {A : Type 0} (o : Option A) → (o ≡ None) ⊎ ((r : A) × (o ≡ Some r))
 cases_option None = inl refl
 cases_option (Some r) = inr (r, refl)
 
@@ -74,11 +74,17 @@ IsFold-map H F G to from start count hash strings (split s c k left right lefts 
     split s c k left right lefts rights (λ h is. none h (from s c h is)) at
     (IsFold-map H F G to from s k left lefts first) (IsFold-map H F G to from (s + k) (c - k) right rights second)
 
+-- the first tiles stay the first
+pub first-push : (size : ℕ) (xs : List (Tile × List ℕ)) (f : Tile × List ℕ) → BeginsWithEdge size xs → BeginsWithEdge size (xs ++ f ∷ [])
+first-push size xs f (rest, is) =
+    let view : Tile × List ℕ → Tile = λ x. x.0 in
+    (rest ++ f.0 ∷ [], map-append view xs (f ∷ []) ∙ ap (λ (list : List Tile). list ++ f.0 ∷ []) is ∙ append_assoc (edge_tiles size) rest (f.0 ∷ []))
+
 -- a full tile more, with its hash in the tile above, which was fetched before
-pub fetched-push : (H : List ℕ → List ℕ) (may_answer : Tile → List ℕ → Type 0) (size : ℕ) (root : List ℕ) (xs : List (Tile × List ℕ)) (f : Tile × List ℕ) → AreFetched H may_answer size root xs
-    → (level index : ℕ) → f.0 ≡ full_tile level index → may_answer f.0 f.1 → length f.1 ≡ 32 * 256
-    → IsInAbove H (tiles_of xs) size level index f.1 → AreFetched H may_answer size root (xs ++ f ∷ [])
-fetched-push H may_answer size root xs f before level index is answer long above =
+pub verified-push : (H : List ℕ → List ℕ) (size : ℕ) (root : List ℕ) (xs : List (Tile × List ℕ)) (f : Tile × List ℕ) → AreVerified H size root xs
+    → (level index : ℕ) → f.0 ≡ full_tile level index → length f.1 ≡ 32 * 256
+    → IsInAbove H (tiles_of xs) size level index f.1 → AreVerified H size root (xs ++ f ∷ [])
+verified-push H size root xs f before level index is long above =
     let now : Tiles = tiles_of (xs ++ f ∷ []) in
     let was : Tiles = tiles_of xs in
     let keeps : (l i : ℕ) (text : List ℕ) → IsInAbove H was size l i text → IsInAbove H now size l i text =
@@ -93,7 +99,7 @@ fetched-push H may_answer size root xs f before level index is answer long above
     let from : (s c : ℕ) (h : List ℕ) → IsEdgeHash now size s c h → IsEdgeHash was size s c h =
     (λ s c h e. record { level = e.level; place = e.place; text = e.text; starts = e.starts; counts = e.counts; on_edge = e.on_edge; fetched = partial_was e.level e.text e.fetched; told = e.told }) in
     record {
-      answers = All-push (λ (x : Tile × List ℕ). may_answer x.0 x.1) xs f before.answers answer;
+      first = first-push size xs f before.first;
       long = λ t text found.
           elim (tiles_of-cases xs f t text found) as (λ _. length text ≡ 32 * t.width) [
             | inl same ↦ before.long t text same
@@ -118,27 +124,6 @@ fetched-push H may_answer size root xs f before level index is answer long above
       };
     }
 
--- a full tile and its hash in the tile above
-in_above-by : (H : List ℕ → List ℕ) (tiles : Tiles) (size level index : ℕ) (text hash : List ℕ) (answer : Bool) → IsSameAsAbove tiles size (level + 1) index hash answer → answer ≡ true
-    → Part H text 0 256 hash → IsInAbove H tiles size level index text
-in_above-by H tiles size level index text hash true (above, fetched, told) holds part =
-    record { above = above; hash = hash; strings = part.0; fetched = fetched; told = told; known = part.1 }
-in_above-by H tiles size level index text hash false same holds part = absurd (cc)
-
-pub in_above : (H : List ℕ → List ℕ) (shown xs : List (Tile × List ℕ)) (size level index : ℕ) (text seen hash : List ℕ) (answer : Bool) → shown ≡ xs → seen ≡ text
-    → IsSameAsAbove (tiles_of shown) size (level + 1) index hash answer → answer ≡ true → Part H seen 0 256 hash → IsInAbove H (tiles_of xs) size level index text
-in_above H shown xs size level index text seen hash answer shown_is is same holds part =
-    in_above-by H (tiles_of xs) size level index text hash answer
-    (subst (λ (list : List (Tile × List ℕ)). IsSameAsAbove (tiles_of list) size (level + 1) index hash answer) shown_is same) holds
-    (subst (λ (x : List ℕ). Part H x 0 256 hash) is part)
-
-pub fetched-more : (H : List ℕ → List ℕ) (may_answer : Tile → List ℕ → Type 0) (size : ℕ) (root : List ℕ) (xs ys : List (Tile × List ℕ)) (f : Tile × List ℕ) → AreFetched H may_answer size root xs → ys ≡ xs ++ f ∷ []
-    → (level index : ℕ) → f.0 ≡ full_tile level index → may_answer f.0 f.1 → length f.1 ≡ 32 * f.0.width
-    → IsInAbove H (tiles_of xs) size level index f.1 → AreFetched H may_answer size root ys
-fetched-more H may_answer size root xs ys f before pushed level index is answer long above =
-    subst (AreFetched H may_answer size root) (sym pushed)
-    (fetched-push H may_answer size root xs f before level index is answer (long ∙ ap (λ (t : Tile). 32 * t.width) is) above)
-
 pub there-more : (xs ys : List (Tile × List ℕ)) (f : Tile × List ℕ) (t : Tile) → ys ≡ xs ++ f ∷ [] → f.0 ≡ t → (text : List ℕ) × (tiles_of ys t ≡ Some text)
 there-more xs ys f t pushed is =
     subst (λ (zs : List (Tile × List ℕ)). (text : List ℕ) × (tiles_of zs t ≡ Some text)) (sym pushed)
@@ -149,9 +134,9 @@ there-more xs ys f t pushed is =
 
 -- a tile that was not fetched is a full one
 pub full_when_missing : (tiles : Tiles) (size level place : ℕ) → HasEdge tiles size → size ≤ 2 ^ 62 → level ≤ 7 → place < level_count size level → tiles (tile_with size level place) ≡ None
-    → (level < 7) × (place / 256 < level_count size (level + 1)) × (tile_with size level place ≡ full_tile level (place / 256))
+    → IsMissing tiles size level place
 full_when_missing tiles size level place edge small low less missing =
-    elim (cases_lt (place / 256) (level_count size level / 256)) as (λ _. (level < 7) × (place / 256 < level_count size (level + 1)) × (tile_with size level place ≡ full_tile level (place / 256))) [
+    elim (cases_lt (place / 256) (level_count size level / 256)) as (λ _. IsMissing tiles size level place) [
       | inr more ↦
           let here = edge level (omega (arith, low)) (omega (arith, more, less)) in
           let both : Some here.0 ≡ None = sym here.1.fetched ∙ ap tiles (sym (tile_with-partial size level place more)) ∙ missing in
@@ -159,8 +144,9 @@ full_when_missing tiles size level place edge small low less missing =
       | inl full ↦
           let above : place / 256 < level_count size (level + 1) = omega (arith, full, level_count-above size level) in
           let within : (place / 256 + 1) * 256 ^ (level + 1) ≤ size = under_within size (level + 1) (place / 256) above in
-          elim (cases_lt level 7) as (λ _. (level < 7) × (place / 256 < level_count size (level + 1)) × (tile_with size level place ≡ full_tile level (place / 256))) [
-            | inl below ↦ (below, above, tile_with-full size level place full)
+          let is : tile_with size level place ≡ full_tile level (place / 256) = tile_with-full size level place full in
+          elim (cases_lt level 7) as (λ _. IsMissing tiles size level place) [
+            | inl below ↦ record { low = below; above = above; full = is; none = ap tiles (sym is) ∙ missing }
             | inr top ↦
                 let eight : level + 1 ≡ 8 = omega (arith, top, low) in
                 let power : (place / 256 + 1) * 256 ^ (level + 1) ≡ (place / 256 + 1) * 256 ^ 8 = ap (λ (x : ℕ). (place / 256 + 1) * 256 ^ x) eight in
@@ -175,26 +161,17 @@ is_there-by tiles size level place tile is edge small low less missing = full_wh
 pub there-by : (tiles : Tiles) (size level place : ℕ) (tile : Tile) (text : List ℕ) → tile ≡ tile_with size level place → tiles tile ≡ Some text → HasTileWith tiles size level place
 there-by tiles size level place tile text is found = (text, ap tiles (sym is) ∙ found)
 
--- what the test says of the tiles that it was shown
-there-true : (tiles : Tiles) (size level place : ℕ) (answer : Bool) → IsThere tiles size level place answer → answer ≡ true → HasTileWith tiles size level place
+-- what the test says of the tiles
+pub there-true : (tiles : Tiles) (size level place : ℕ) (answer : Bool) → IsThere tiles size level place answer → answer ≡ true → HasTileWith tiles size level place
 there-true tiles size level place true is holds = is
 there-true tiles size level place false is holds = absurd (cc)
 
-there-false : (tiles : Tiles) (size level place : ℕ) (answer : Bool) → IsThere tiles size level place answer → answer ≡ false → IsThere tiles size level place false
+pub there-false : (tiles : Tiles) (size level place : ℕ) (answer : Bool) → IsThere tiles size level place answer → answer ≡ false → IsMissing tiles size level place
 there-false tiles size level place true is holds = absurd (cc)
 there-false tiles size level place false is holds = is
 
-pub shown-there : (shown xs : List (Tile × List ℕ)) (size level place : ℕ) (answer : Bool) → shown ≡ xs → IsThere (tiles_of shown) size level place answer → answer ≡ true → HasTileWith (tiles_of xs) size level place
-shown-there shown xs size level place answer is says holds = there-true (tiles_of xs) size level place answer (subst (λ (list : List (Tile × List ℕ)). IsThere (tiles_of list) size level place answer) is says) holds
-
-pub shown-full : (shown : List (Tile × List ℕ)) (size level place : ℕ) (answer : Bool) → IsThere (tiles_of shown) size level place answer → answer ≡ false → (level < 7) × (place / 256 < level_count size (level + 1)) × (tile_with size level place ≡ full_tile level (place / 256))
-shown-full shown size level place answer says holds = there-false (tiles_of shown) size level place answer says holds
-
 pub full-there : (tiles : Tiles) (size level place : ℕ) → tile_with size level place ≡ full_tile level (place / 256) → (text : List ℕ) × (tiles (full_tile level (place / 256)) ≡ Some text) → HasTileWith tiles size level place
 full-there tiles size level place is (text, found) = (text, ap tiles is ∙ found)
-
-pub grows-push : (xs ys : List (Tile × List ℕ)) (f : Tile × List ℕ) → ys ≡ xs ++ f ∷ [] → (t : Tile) (text : List ℕ) → tiles_of xs t ≡ Some text → tiles_of ys t ≡ Some text
-grows-push xs ys f pushed t text found = ap (λ (list : List (Tile × List ℕ)). tiles_of list t) pushed ∙ tiles_of-old xs f t text found
 
 -- the texts of one tile more
 pub texts-push : {A : Type 0} (xs ys : List (Tile × Vec ℕ A)) (tile : Tile) (text : Vec ℕ A) → ys ≡ xs ++ (tile, text) ∷ [] → texts_of ys ≡ texts_of xs ++ (tile, vec_items text) ∷ []
@@ -202,34 +179,67 @@ texts-push {A = A} xs ys tile text pushed =
     let view : Tile × Vec ℕ A → Tile × List ℕ = λ t. (t.0, vec_items t.1) in
     ap (map view) pushed ∙ map-append view xs ((tile, text) ∷ [])
 
--- a full tile whose hash is another than the tile above has
-bad_full-by : (H : List ℕ → List ℕ) (may_answer : Tile → List ℕ → Type 0) (size : ℕ) (xs : List (Tile × List ℕ)) (level index : ℕ) (text hash : List ℕ) (answer : Bool) → AreAnswers (Answers may_answer size) xs
-    → index < level_count size (level + 1) → IsSameAsAbove (tiles_of xs) size (level + 1) index hash answer → answer ≡ false
-    → Part H text 0 256 hash → Answers may_answer size (full_tile level index) text → IsBadFull H may_answer size (full_tile level index)
-bad_full-by H may_answer size xs level index text hash true answers below says fails part own = absurd (cc)
-bad_full-by H may_answer size xs level index text hash false answers below (above, other, found, told, differ) fails part own = record {
-  fetched = xs;
-  text = text;
-  above = above;
-  own = other;
-  hash = hash;
-  strings = part.0;
-  full = refl;
-  has_above = below;
-  answer = own;
-  answers = answers;
-  found = found;
-  told = told;
-  tells = part.1;
-  differ = differ;
-}
+-- ---- a full tile that was fetched, and is compared with the tile above
 
-pub bad_full : (H : List ℕ → List ℕ) (may_answer : Tile → List ℕ → Type 0) (size : ℕ) (shown xs : List (Tile × List ℕ)) (level index : ℕ) (tile : Tile) (text seen hash : List ℕ) (answer : Bool) → AreAnswers (Answers may_answer size) xs
-    → shown ≡ xs → seen ≡ text → tile ≡ full_tile level index → index < level_count size (level + 1) → IsSameAsAbove (tiles_of shown) size (level + 1) index hash answer → answer ≡ false
-    → Part H seen 0 256 hash → Answers may_answer size tile text → IsBadFull H may_answer size tile
-bad_full H may_answer size shown xs level index tile text seen hash answer answers shown_is seen_is tile_is below says fails part own =
-    subst (IsBadFull H may_answer size) (sym tile_is)
-    (bad_full-by H may_answer size xs level index text hash answer answers below
-    (subst (λ (list : List (Tile × List ℕ)). IsSameAsAbove (tiles_of list) size (level + 1) index hash answer) shown_is says) fails
-    (subst (λ (x : List ℕ). Part H x 0 256 hash) seen_is part)
-    (subst (λ (t : Tile). Answers may_answer size t text) tile_is own))
+-- the text that is found for a new tile
+pub new-text : (old new : List (Tile × List ℕ)) (tile : Tile) (text seen : List ℕ) → tiles_of old tile ≡ None → new ≡ old ++ (tile, text) ∷ [] → tiles_of new tile ≡ Some seen → text ≡ seen
+new-text old new tile text seen none pushed found =
+    Some-injective text seen (sym (ap (λ (list : List (Tile × List ℕ)). tiles_of list tile) pushed ∙ tiles_of-new old (tile, text) tile refl none) ∙ found)
+
+pub verified-full : (H : List ℕ → List ℕ) (size : ℕ) (root : List ℕ) (old new : List (Tile × List ℕ)) (level index : ℕ) (tile : Tile) (text seen own hash : List ℕ) → AreVerified H size root old
+    → tile ≡ full_tile level index → tiles_of old tile ≡ None → new ≡ old ++ (tile, text) ∷ [] → length text ≡ 32 * tile.width → tiles_of new tile ≡ Some seen
+    → IsHashWith (tiles_of old) size (level + 1) index own → Part H seen 0 256 hash → own ≡ hash → AreVerified H size root new
+verified-full H size root old new level index tile text seen own hash before is none pushed long found above part same =
+    let seen_is : text ≡ seen = new-text old new tile text seen none pushed found in
+    let known_is : Part H text 0 256 own = subst (λ (x : List ℕ). Part H x 0 256 own) (sym seen_is) (subst (λ (x : List ℕ). Part H seen 0 256 x) (sym same) part) in
+    let in_above : IsInAbove H (tiles_of old) size level index text = record {
+      above = above.0;
+      hash = own;
+      strings = known_is.0;
+      fetched = above.1;
+      told = above.2;
+      known = known_is.1;
+    } in
+    subst (AreVerified H size root) (sym pushed)
+    (verified-push H size root old (tile, text) before level index is (long ∙ ap (λ (t : Tile). 32 * t.width) is) in_above)
+
+pub bad-full : (H : List ℕ → List ℕ) (size : ℕ) (root : List ℕ) (old new : List (Tile × List ℕ)) (level index : ℕ) (tile : Tile) (text seen own hash : List ℕ) → tile ≡ full_tile level index
+    → index < level_count size (level + 1) → tiles_of old tile ≡ None → new ≡ old ++ (tile, text) ∷ [] → tiles_of new tile ≡ Some seen
+    → IsHashWith (tiles_of old) size (level + 1) index own → Part H seen 0 256 hash → own ≢ hash → IsBadTile H size root new tile
+bad-full H size root old new level index tile text seen own hash is below none pushed found above part differ =
+    let level_is : level ≡ tile.level = ap (λ (t : Tile). t.level) (sym is) in
+    let index_is : index ≡ tile.index = ap (λ (t : Tile). t.index) (sym is) in
+    let full : tile ≡ full_tile tile.level tile.index = is ∙ (λ i. full_tile (level_is i) (index_is i)) in
+    let there : tile.index < level_count size (tile.level + 1) = subst (λ (x : ℕ). x < level_count size (tile.level + 1)) index_is (subst (λ (x : ℕ). index < level_count size (x + 1)) level_is below) in
+    let still : tiles_of new (tile_with size (level + 1) index) ≡ Some above.0 =
+    ap (λ (list : List (Tile × List ℕ)). tiles_of list (tile_with size (level + 1) index)) pushed ∙ tiles_of-old old (tile, text) (tile_with size (level + 1) index) above.0 above.1 in
+    let later : IsHashWith (tiles_of new) size (level + 1) index own = (above.0, still, above.2) in
+    record {
+      text = seen;
+      found = found;
+      of_log = inl (full, there);
+      because = inr (inr (record {
+        own = own;
+        hash = hash;
+        strings = part.0;
+        full = full;
+        below = there;
+        above = subst (λ (x : ℕ). IsHashWith (tiles_of new) size (tile.level + 1) x own) index_is (subst (λ (x : ℕ). IsHashWith (tiles_of new) size (x + 1) index own) level_is later);
+        tells = part.1;
+        differ = differ;
+      }));
+    }
+
+-- a full tile comes next
+pub next-full : (size : ℕ) (xs : List (Tile × List ℕ)) (level index : ℕ) → BeginsWithEdge size xs → tiles_of xs (full_tile level index) ≡ None → HasTileWith (tiles_of xs) size (level + 1) index → IsNextFull size xs (full_tile level index)
+next-full size xs level index first new above = record { full = refl; edge = first; new = new; above = above }
+
+-- a tile that was added is there
+pub none-not : (old new : List (Tile × List ℕ)) (tile : Tile) (text : List ℕ) → new ≡ old ++ (tile, text) ∷ [] → tiles_of new tile ≡ None → ⊥
+none-not old new tile text pushed none =
+    let there = there-more old new (tile, text) tile pushed refl in
+    let both : Some there.0 ≡ None = sym there.1 ∙ none in
+    absurd (cc)
+
+pub not_same : (answer : Bool) → answer ≡ true → answer ≡ false → ⊥
+not_same answer is isnt = let both : true ≡ false = sym is ∙ isnt in absurd (cc)

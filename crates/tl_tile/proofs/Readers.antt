@@ -1,6 +1,7 @@
 -- What a reader over tiles answers, by the numbers that were asked.
 use Rattle.std.proofs.Common.{◌≡◌, ℕ, ◌^◌, ◌<◌, ◌≤◌, inl, inr, Bool, cond, List, [], ◌∷◌, length, map, All, refl, sym, ap, subst, ◌∙◌, arith}
 use Rattle.std.proofs.lemmas.Bool.{cases_lt, lt-leb, le-leb}
+use Rattle.std.specs.Prelude.{Result, Ok, Err, IfOk}
 use Rattle.tl_hash.specs.Tree.{tree_hash}
 use Rattle.tl_store.specs.Stored.{stored_count, stored_hash}
 use Rattle.tl_store.specs.Reader.{readable_count, AreReadable, GivesFault}
@@ -9,9 +10,9 @@ use Rattle.tl_store.specs.declared.reader.ReadFault.TheVariants.{OutOfRange, Sou
 use Rattle.tl_tile.specs.declared.resource.Tile.{Tile}
 use Rattle.tl_tile.specs.Known.{TilesCollide}
 use Rattle.tl_tile.specs.Fetched.{tiles_of}
-use Rattle.tl_tile.specs.Source.{AreAuthentic}
-use Rattle.tl_tile.specs.SourceFaults.{GivesReadFault}
-use Rattle.tl_tile.specs.TileReader.{StandsAgainst, GivesNumbersFault}
+use Rattle.tl_tile.specs.Source.{AreAnswers}
+use Rattle.tl_tile.specs.SourceFaults.{GivesReadFault, MayGive}
+use Rattle.tl_tile.specs.TileReader.{Reading, AreAuthentic, StandsAgainst, GivesNumbersFault}
 
 pub readable_is : (size : ℕ) → size ≤ 2 ^ 62 → readable_count size ≡ stored_count size
 readable_is size small = ap (λ (b : Bool). stored_count (cond b size 0)) (le-leb size (2 ^ 62) small)
@@ -45,30 +46,36 @@ pub all_stored : (size : ℕ) (indexes : List ℕ) → size ≤ 2 ^ 62 → AreRe
 all_stored size indexes small readable = λ k d less. omega (arith, readable k d less, readable_is size small)
 
 -- authentic hashes are those of each list that the reader stands for
-pub authentic_stands : (own : List ℕ → List ℕ) (may_answer : Tile → List ℕ → Type 0) (size : ℕ) (root : List ℕ) (indexes : List ℕ) (hashes : List (List ℕ)) → AreAuthentic own may_answer size root indexes hashes
-    → (H : List ℕ → List ℕ) (entries : List (List ℕ)) → StandsAgainst own may_answer size root H entries → hashes ≡ map (stored_hash H entries) indexes
-authentic_stands own may_answer size root indexes hashes (fetched, answers, told, honest) H entries (sized, small, same, is_root, apart) =
-    elim (told entries sized (ap (λ (G : List ℕ → List ℕ). tree_hash G entries) (sym same) ∙ is_root)) as (λ _. hashes ≡ map (stored_hash H entries) indexes) [
-      | inl stored ↦ stored ∙ ap (λ (G : List ℕ → List ℕ). map (stored_hash G entries) indexes) (sym same)
-      | inr collide ↦ absurd (apart fetched answers (subst (λ (G : List ℕ → List ℕ). TilesCollide G (tiles_of fetched) size entries) (sym same) collide))
+pub authentic_stands : (own : List ℕ → List ℕ) (may_answer : Tile → List ℕ → Type 0) (read : Reading) (hashes : List (List ℕ)) → AreAnswers may_answer read.size read.fetched → AreAuthentic own read hashes
+    → (H : List ℕ → List ℕ) (entries : List (List ℕ)) → StandsAgainst own may_answer read.size read.root H entries → hashes ≡ map (stored_hash H entries) read.indexes
+authentic_stands own may_answer read hashes answers authentic H entries (sized, small, same, is_root, apart) =
+    elim (authentic.stored entries sized (ap (λ (G : List ℕ → List ℕ). tree_hash G entries) (sym same) ∙ is_root)) as (λ _. hashes ≡ map (stored_hash H entries) read.indexes) [
+      | inl stored ↦ stored ∙ ap (λ (G : List ℕ → List ℕ). map (stored_hash G entries) read.indexes) (sym same)
+      | inr collide ↦ absurd (apart read.fetched answers (subst (λ (G : List ℕ → List ℕ). TilesCollide G (tiles_of read.fetched) read.size entries) (sym same) collide))
     ]
 
+pub if_ok_weaker : {X E : Type 0} (P Q : X → Type 0) (r : Result X E) → ((x : X) → P x → Q x) → IfOk r P → IfOk r Q
+if_ok_weaker P Q (Ok x) weaker holds = weaker x holds
+if_ok_weaker P Q (Err e) weaker holds = tt
+
 -- no hashes are those of no numbers
-pub authentic_none : (own : List ℕ → List ℕ) (may_answer : Tile → List ℕ → Type 0) (size : ℕ) (root : List ℕ) (indexes : List ℕ) (hashes : List (List ℕ)) → length indexes ≡ 0 → hashes ≡ [] → AreAuthentic own may_answer size root indexes hashes
-authentic_none own may_answer size root [] hashes none is = ([], (λ k d less. absurd (omega (arith, less))), (λ entries sized is_root. inl is), (λ entries sized honest. is))
-authentic_none own may_answer size root (index ∷ indexes) hashes none is = absurd (omega (arith, none))
+pub authentic_none : (H : List ℕ → List ℕ) (size : ℕ) (root indexes : List ℕ) (fetched : List (Tile × List ℕ)) (hashes : List (List ℕ)) → length indexes ≡ 0 → hashes ≡ []
+    → AreAuthentic H (record { size = size; root = root; indexes = indexes; fetched = fetched }) hashes
+authentic_none H size root [] fetched hashes none is = record { stored = λ entries sized is_root. inl is; honest = λ entries sized honest. is }
+authentic_none H size root (index ∷ indexes) fetched hashes none is = absurd (omega (arith, none))
 
 -- the faults of a read whose numbers are all in range
-pub numbers_fault : (H : List ℕ → List ℕ) (may_answer : Tile → List ℕ → Type 0) (may_lack : Tile → Type 0) (size : ℕ) (root indexes : List ℕ) (fault : ReadFault) → AreReadable size indexes → 0 < length indexes
-    → GivesReadFault H may_answer may_lack size root fault → GivesNumbersFault H may_answer may_lack size root indexes fault
-numbers_fault H may_answer may_lack size root indexes OutOfRange readable some gives = absurd gives
-numbers_fault H may_answer may_lack size root indexes Source readable some gives = (readable, gives)
-numbers_fault H may_answer may_lack size root indexes OutOfMemory readable some gives = (readable, some)
-numbers_fault H may_answer may_lack size root indexes (BadTile level index width) readable some gives = (readable, gives)
+pub numbers_fault : (H : List ℕ → List ℕ) (may_lack : Tile → Type 0) (read : Reading) (fault : ReadFault) → AreReadable read.size read.indexes → 0 < length read.indexes
+    → GivesReadFault H may_lack read.size read.root read.fetched fault → GivesNumbersFault H may_lack read fault
+numbers_fault H may_lack read OutOfRange readable some gives = absurd gives
+numbers_fault H may_lack read Source readable some gives = ((readable, some), gives)
+numbers_fault H may_lack read OutOfMemory readable some gives = (readable, some)
+numbers_fault H may_lack read (BadTile level index width) readable some gives = ((readable, some), gives)
 
-pub reader_fault : (H : List ℕ → List ℕ) (may_answer : Tile → List ℕ → Type 0) (may_lack : Tile → Type 0) (size : ℕ) (root indexes : List ℕ) (fault : ReadFault) → AreReadable size indexes → 0 < length indexes
-    → GivesReadFault H may_answer may_lack size root fault → GivesFault size (GivesReadFault H may_answer may_lack size root) indexes fault
-reader_fault H may_answer may_lack size root indexes OutOfRange readable some gives = absurd gives
-reader_fault H may_answer may_lack size root indexes Source readable some gives = (gives, readable, some)
-reader_fault H may_answer may_lack size root indexes OutOfMemory readable some gives = (readable, some)
-reader_fault H may_answer may_lack size root indexes (BadTile level index width) readable some gives = (gives, readable, some)
+-- the faults of a reader
+pub reader_fault : (H : List ℕ → List ℕ) (may_answer : Tile → List ℕ → Type 0) (may_lack : Tile → Type 0) (read : Reading) (fault : ReadFault) → AreAnswers may_answer read.size read.fetched
+    → GivesNumbersFault H may_lack read fault → GivesFault read.size (MayGive H may_answer may_lack read.size read.root) read.indexes fault
+reader_fault H may_answer may_lack read OutOfRange answers gives = gives.0
+reader_fault H may_answer may_lack read Source answers gives = ((read.fetched, answers, gives.1), gives.0.0, gives.0.1)
+reader_fault H may_answer may_lack read OutOfMemory answers gives = gives
+reader_fault H may_answer may_lack read (BadTile level index width) answers gives = ((read.fetched, answers, gives.1), gives.0.0, gives.0.1)

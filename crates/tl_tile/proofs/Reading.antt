@@ -8,14 +8,14 @@ use Rattle.std.proofs.lemmas.List.{take_more, take_all}
 use Rattle.tl_hash.specs.Tree.{tree_hash}
 use Rattle.tl_tile.proofs.Segments.{HasHashLength}
 use Rattle.tl_store.specs.Stored.{stored_hash}
-use Rattle.tl_tile.specs.Source.{Answers}
 use Rattle.tl_tile.specs.declared.resource.Tile.{Tile}
 use Rattle.tl_tile.specs.declared.place.Place.{Place}
 use Rattle.tl_tile.specs.TileText.{level_count, tile_with}
 use Rattle.tl_tile.specs.Known.{Tiles, AreChecked, Tells, TilesCollide}
 use Rattle.tl_tile.specs.KnownEdge.{Part}
 use Rattle.tl_tile.specs.Fetched.{tiles_of}
-use Rattle.tl_tile.specs.Source.{AreLong, AreFetched, Grows, IsPlaceIn, TellsNumber, TellsAll, AreAuthentic}
+use Rattle.tl_tile.specs.Source.{AreLong, IsPlaceIn, TellsNumber, TellsAll}
+use Rattle.tl_tile.specs.TileReader.{Reading, AreAuthentic}
 use Rattle.tl_tile.specs.TileLaws.{AreHonest}
 use Rattle.tl_tile.proofs.HonestHashes.{honest_tiles_tell_stored_hashes}
 use Rattle.tl_tile.proofs.Edges.{positive_256}
@@ -58,6 +58,10 @@ text_within tiles size p tile text is long at found =
 pub tells-by : (H : List ℕ → List ℕ) (tiles : Tiles) (size : ℕ) (p : Place) (tile : Tile) (text hash : List ℕ) → tile ≡ tile_with size (p.level / 8) (first_of p) → tiles tile ≡ Some text
     → Part H text (first_of p % 256) (count_of p) hash → Tells H tiles size p.level p.place hash
 tells-by H tiles size p tile text hash at found part = record { text = text; strings = part.0; fetched = ap tiles (sym at) ∙ found; known = part.1 }
+
+-- what was fetched stays
+abbrev pub Grows : List (Tile × List ℕ) → List (Tile × List ℕ) → Type 0
+Grows fetched after = (t : Tile) (text : List ℕ) → tiles_of fetched t ≡ Some text → tiles_of after t ≡ Some text
 
 -- what was told stays told
 tells-later : (H : List ℕ → List ℕ) (xs ys : List (Tile × List ℕ)) (size level place : ℕ) (hash : List ℕ) → Grows xs ys → Tells H (tiles_of xs) size level place hash → Tells H (tiles_of ys) size level place hash
@@ -106,14 +110,12 @@ all-honest H wide tiles entries honest (n ∷ indexes) (h ∷ hashes) told =
     let rest = all-honest H wide tiles entries honest indexes hashes told.1 in
     λ i. first i ∷ rest i
 
-pub authentic : (H : List ℕ → List ℕ) → ((message : List ℕ) → HasHashLength (H message)) → (may_answer : Tile → List ℕ → Type 0) (size : ℕ) (root : List ℕ) (xs : List (Tile × List ℕ)) → AreFetched H (Answers may_answer size) size root xs
-    → (indexes : List ℕ) (hashes : List (List ℕ)) → TellsAll H (tiles_of xs) size indexes hashes → AreAuthentic H may_answer size root indexes hashes
-authentic H wide may_answer size root xs fetched indexes hashes told = (
-  xs,
-  fetched.answers,
-  (λ entries len is_root. all-stored H wide (tiles_of xs) size root fetched.checked entries len is_root indexes hashes told),
-  (λ entries len honest. all-honest H wide (tiles_of xs) entries honest indexes hashes (subst (λ (s : ℕ). TellsAll H (tiles_of xs) s indexes hashes) (sym len) told)),
-)
+pub authentic : (H : List ℕ → List ℕ) → ((message : List ℕ) → HasHashLength (H message)) → (read : Reading) → AreChecked H (tiles_of read.fetched) read.size read.root
+    → (hashes : List (List ℕ)) → TellsAll H (tiles_of read.fetched) read.size read.indexes hashes → AreAuthentic H read hashes
+authentic H wide read checked hashes told = record {
+  stored = λ entries len is_root. all-stored H wide (tiles_of read.fetched) read.size read.root checked entries len is_root read.indexes hashes told;
+  honest = λ entries len honest. all-honest H wide (tiles_of read.fetched) entries honest read.indexes hashes (subst (λ (s : ℕ). TellsAll H (tiles_of read.fetched) s read.indexes hashes) (sym len) told);
+}
 
 -- in the words of the code, which has the first hash's place and their number
 pub part_inside : (tiles : Tiles) (size : ℕ) (p : Place) (first count : ℕ) (tile : Tile) (text : List ℕ) → first ≡ first_of p → count ≡ count_of p → IsPlaceIn size p → AreLong tiles → tile ≡ tile_with size (p.level / 8) first → tiles tile ≡ Some text
@@ -151,8 +153,11 @@ told-more H xs ys size i indexes d hashes after hash within grows told here push
     let all : AllZip R (take i indexes ++ n ∷ []) (hashes ++ hash ∷ []) = zip-push R (take i indexes) hashes n hash (all-later H xs ys size (take i indexes) hashes grows told) here in
     subst (λ (list : List ℕ). AllZip R list after) (sym (take_more indexes i d within)) (subst (λ (list : List (List ℕ)). AllZip R (take i indexes ++ n ∷ []) list) (sym pushed) all)
 
-pub authentic-all : (H : List ℕ → List ℕ) → ((message : List ℕ) → HasHashLength (H message)) → (may_answer : Tile → List ℕ → Type 0) (size : ℕ) (root : List ℕ) (xs : List (Tile × List ℕ)) → AreFetched H (Answers may_answer size) size root xs
-    → (indexes : List ℕ) (i : ℕ) (hashes : List (List ℕ)) → length indexes ≤ i → TellsAll H (tiles_of xs) size (take i indexes) hashes → AreAuthentic H may_answer size root indexes hashes
-authentic-all H wide may_answer size root xs fetched indexes i hashes over told =
-    authentic H wide may_answer size root xs fetched indexes hashes
-    (subst (λ (list : List ℕ). TellsAll H (tiles_of xs) size list hashes) (take_all i indexes over) told)
+pub authentic-all : (H : List ℕ → List ℕ) → ((message : List ℕ) → HasHashLength (H message)) → (read : Reading) → AreChecked H (tiles_of read.fetched) read.size read.root
+    → (i : ℕ) (hashes : List (List ℕ)) → length read.indexes ≤ i → TellsAll H (tiles_of read.fetched) read.size (take i read.indexes) hashes → AreAuthentic H read hashes
+authentic-all H wide read checked i hashes over told =
+    authentic H wide read checked hashes
+    (subst (λ (list : List ℕ). TellsAll H (tiles_of read.fetched) read.size list hashes) (take_all i read.indexes over) told)
+
+pub told-none : (H : List ℕ → List ℕ) (xs : List (Tile × List ℕ)) (size : ℕ) (indexes : List ℕ) (hashes : List (List ℕ)) → hashes ≡ [] → TellsAll H (tiles_of xs) size (take 0 indexes) hashes
+told-none H xs size indexes hashes none = subst (λ (list : List (List ℕ)). TellsAll H (tiles_of xs) size (take 0 indexes) list) (sym none) tt

@@ -12,6 +12,10 @@ abbrev pub tiles_of : List (Tile × List ℕ) → Tiles
 tiles_of [] t = None
 tiles_of (f ∷ more) t = if same_tile f.0 t then Some f.1 else tiles_of more t
 
+-- the tiles without their texts
+abbrev pub tiles_in : List (Tile × List ℕ) → List Tile
+tiles_in fetched = map (λ f. f.0) fetched
+
 -- tiles with their texts
 abbrev pub texts_of : {A : Type 0} → List (Tile × Vec ℕ A) → List (Tile × List ℕ)
 texts_of tiles = map (λ t. (t.0, vec_items t.1)) tiles

@@ -13,5 +13,7 @@ pub mod KnownEdge
 pub mod TileLaws
 pub mod Fetched
 pub mod Source
+pub mod Fetching
+pub mod Verified
 pub mod SourceFaults
 pub mod TileReader

@@ -1,16 +1,16 @@
 //! Fetching tiles and checking each against a root.
 
-ghost use Rattle.std.specs.Prelude.{◌≡◌, ◌↔◌, ◌≤◌, ◌<◌, ◌+◌, ◌*◌, ◌%◌, ◌^◌, ℕ, List, length, IfOk, IfErr, IsTrue, Some};
+ghost use Rattle.std.specs.Prelude.{◌≡◌, ◌↔◌, ◌≤◌, ◌<◌, ◌+◌, ◌*◌, ◌%◌, ◌^◌, ◌∷◌, ◌++◌, ℕ, List, [], length, IfErr, OnOk, IsTrue, Some, None};
 ghost use Rattle.tl_tile.specs.TileText as spec;
-ghost use Rattle.tl_tile.specs.Known.{Tells};
-ghost use Rattle.tl_tile.specs.Fetched.{tiles_of, texts_of};
-ghost use Rattle.tl_tile.specs.Source.{AreFetched, HasTileWith, IsSameAsAbove, IsThere, AreEdgeFetched, Grows, IsTileOf, Answers};
+ghost use Rattle.tl_tile.specs.Fetched.{tiles_of, tiles_in};
+ghost use Rattle.tl_tile.specs.Source.{HasTileWith, IsHashWith, IsThere, IsTileOf};
+ghost use Rattle.tl_tile.specs.Fetching.{IsNextPartial, ComesNext, edge_tiles, AddsOnly, AddsOver};
+ghost use Rattle.tl_tile.specs.Verified.{AreFetched, AreVerified, AreEdgeFrom};
 ghost use Rattle.tl_tile.specs.SourceFaults.{GivesReadFault};
 
-use crate::fetched::text_of;
+use crate::fetched::FetchedTiles;
 use crate::known::{hash_in, known_part};
 use crate::known_root::{known_root, partial_tile};
-use crate::place::Place;
 use crate::resource::Tile;
 use crate::source::{SourceFault, TileSource, bad_tile};
 use std::alloc::Allocator;
@@ -45,6 +45,8 @@ pub(crate) fn tile_with(size: u64, level: u32, place: u64) -> Tile
 fn highest_tile(size: u64) -> Tile
     requires { 0 < size }
     ensures partial { result ≡ spec.partial_tile size result.level }
+    ensures wide { 0 < result.width }
+    ensures level { result.level < 8 }
     ensures highest { (level : ℕ) → result.level < level → spec.level_count size level % 256 ≡ 0 }
 {
     partial_tile(size, size.ilog2() / 8)
@@ -67,151 +69,158 @@ pub(crate) struct Checker<T: TreeHash, S: TileSource> {
 }
 
 impl<T: TreeHash, S: TileSource> Checker<T, S> {
-    // The bytes of a tile of the log, where they are as long as the tile is wide.
-    fn fetch_tile<A: Allocator + Copy>(&self, alloc: A, tile: Tile) -> Result<Vec<u8, A>, ReadFault>
+    // Fetches a tile of the log that wasn't fetched yet, and checks the length of its text.
+    fn fetch_tile<A: Allocator + Copy>(
+        &self,
+        tile: Tile,
+        fetched: &mut FetchedTiles<A>,
+    ) -> Result<(), ReadFault>
         requires of { IsTileOf self.now.size tile }
         requires narrow { tile.width ≤ 256 }
-        ensures text { IfOk result (λ text. Answers (S.may_answer self.now.source) self.now.size tile text.items) }
-        ensures long { IfOk result (λ text. length text.items ≡ 32 * tile.width) }
-        ensures faults { IfErr result (GivesReadFault T.digest_of (S.may_answer self.now.source) (S.may_lack self.now.source) self.now.size self.now.root) }
+        requires new { tiles_of fetched.old tile ≡ None }
+        requires next { ComesNext self.now.size fetched.old tile }
+        requires fetched { AreFetched (S.may_answer self.now.source) self.now.size fetched.old }
+        ensures text { OnOk result ((text : List ℕ) × (fetched.new ≡ fetched.old ++ (tile, text) ∷ []) × (length text ≡ 32 * tile.width)) }
+        ensures adds { AddsOnly tile fetched.old fetched.new }
+        ensures fetched { AreFetched (S.may_answer self.now.source) self.now.size fetched.new }
+        ensures faults { IfErr result (GivesReadFault T.digest_of (S.may_lack self.now.source) self.now.size self.now.root fetched.new) }
     {
-        match self.source.fetch(alloc, tile) {
-            Ok(text) => {
-                if text.len() != 32 * tile.width as usize {
-                    return Err(bad_tile(tile));
-                }
-                Ok(text)
-            }
-            Err(SourceFault::Unavailable) => Err(ReadFault::Source),
-            Err(SourceFault::OutOfMemory) => Err(ReadFault::OutOfMemory),
+        let len = match fetched.fetch(&self.source, tile) {
+            Ok(len) => len,
+            Err(SourceFault::Unavailable) => return Err(ReadFault::Source),
+            Err(SourceFault::OutOfMemory) => return Err(ReadFault::OutOfMemory),
+        };
+        if len != 32 * tile.width as usize {
+            return Err(bad_tile(tile));
         }
+        Ok(())
     }
 
     // Fetches the partial tile of a level, where there is one.
     fn fetch_level<A: Allocator + Copy>(
         &self,
-        alloc: A,
-        tiles: Vec<(Tile, Vec<u8, A>), A>,
         level: u32,
-    ) -> Result<Vec<(Tile, Vec<u8, A>), A>, ReadFault>
+        fetched: &mut FetchedTiles<A>,
+    ) -> Result<(), ReadFault>
         requires level { level ≤ 7 }
-        requires edge { AreEdgeFetched (Answers (S.may_answer self.now.source) self.now.size) self.now.size (level + 1) (texts_of tiles.items) }
-        ensures edge { IfOk result (λ tiles. AreEdgeFetched (Answers (S.may_answer self.now.source) self.now.size) self.now.size level (texts_of tiles.items)) }
-        ensures faults { IfErr result (GivesReadFault T.digest_of (S.may_answer self.now.source) (S.may_lack self.now.source) self.now.size self.now.root) }
+        requires edge { AreEdgeFrom self.now.size (level + 1) fetched.old }
+        requires fetched { AreFetched (S.may_answer self.now.source) self.now.size fetched.old }
+        ensures edge { OnOk result (AreEdgeFrom self.now.size level fetched.new) }
+        ensures partial { (rest : List Tile) × (edge_tiles self.now.size ≡ tiles_in fetched.new ++ rest) }
+        ensures fetched { AreFetched (S.may_answer self.now.source) self.now.size fetched.new }
+        ensures faults { IfErr result (GivesReadFault T.digest_of (S.may_lack self.now.source) self.now.size self.now.root fetched.new) }
     {
         let tile = partial_tile(self.size, level);
         if tile.width == 0 {
-            return Ok(tiles);
+            return Ok(());
         }
-        let text = match self.fetch_tile(alloc, tile) {
-            Ok(text) => text,
-            Err(fault) => return Err(fault),
-        };
-        let mut tiles = tiles;
-        tiles.push((tile, text))?;
-        Ok(tiles)
+        self.fetch_tile(tile, fetched)
     }
 
     // Fetches the partial tiles, from the highest down.
     fn fetch_levels<A: Allocator + Copy>(
         &self,
-        alloc: A,
-    ) -> Result<Vec<(Tile, Vec<u8, A>), A>, ReadFault>
-        ensures edge { IfOk result (λ tiles. AreEdgeFetched (Answers (S.may_answer self.now.source) self.now.size) self.now.size 0 (texts_of tiles.items)) }
-        ensures faults { IfErr result (GivesReadFault T.digest_of (S.may_answer self.now.source) (S.may_lack self.now.source) self.now.size self.now.root) }
+        fetched: &mut FetchedTiles<A>,
+    ) -> Result<(), ReadFault>
+        requires { fetched.old ≡ [] }
+        ensures edge { OnOk result (AreEdgeFrom self.now.size 0 fetched.new) }
+        ensures partial { (rest : List Tile) × (edge_tiles self.now.size ≡ tiles_in fetched.new ++ rest) }
+        ensures fetched { AreFetched (S.may_answer self.now.source) self.now.size fetched.new }
+        ensures faults { IfErr result (GivesReadFault T.digest_of (S.may_lack self.now.source) self.now.size self.now.root fetched.new) }
     {
-        let mut tiles = Vec::new(alloc);
         for above in 0..8u32 {
-            tiles = match self.fetch_level(alloc, tiles, 7 - above) {
-                Ok(tiles) => tiles,
-                Err(fault) => return Err(fault),
-            };
+            self.fetch_level(7 - above, fetched)?;
         }
-        Ok(tiles)
+        Ok(())
     }
 
     // Fetches the right edge and checks it against the root.
     pub(crate) fn fetch_edge<A: Allocator + Copy>(
         &self,
-        alloc: A,
-    ) -> Result<Vec<(Tile, Vec<u8, A>), A>, ReadFault>
-        requires { 0 < self.now.size }
-        ensures fetched { IfOk result (λ tiles. AreFetched T.digest_of (Answers (S.may_answer self.now.source) self.now.size) self.now.size self.now.root (texts_of tiles.items)) }
-        ensures faults { IfErr result (GivesReadFault T.digest_of (S.may_answer self.now.source) (S.may_lack self.now.source) self.now.size self.now.root) }
+        fetched: &mut FetchedTiles<A>,
+    ) -> Result<(), ReadFault>
+        requires some { 0 < self.now.size }
+        requires none { fetched.old ≡ [] }
+        ensures verified { OnOk result (AreVerified T.digest_of self.now.size self.now.root fetched.new) }
+        ensures partial { (rest : List Tile) × (edge_tiles self.now.size ≡ tiles_in fetched.new ++ rest) }
+        ensures fetched { AreFetched (S.may_answer self.now.source) self.now.size fetched.new }
+        ensures faults { IfErr result (GivesReadFault T.digest_of (S.may_lack self.now.source) self.now.size self.now.root fetched.new) }
     {
-        let tiles = match self.fetch_levels(alloc) {
-            Ok(tiles) => tiles,
-            Err(fault) => return Err(fault),
-        };
-        let Some(known) = known_root(alloc, self.h, &tiles, self.size)? else {
+        self.fetch_levels(fetched)?;
+        let Some(known) = known_root(self.h, fetched, self.size)? else {
             unreachable!();
         };
-        if same(known, self.root) {
-            return Ok(tiles);
+        if !same(known, self.root) {
+            return Err(bad_tile(highest_tile(self.size)));
         }
-        Err(bad_tile(highest_tile(self.size)))
+        Ok(())
     }
 
-    // Whether this is the hash that the tile above has at this place.
-    fn is_in_above<A: Allocator>(
+    // The hash at this place of a level, as the tile has it that was fetched for it.
+    fn hash_with<A: Allocator + Copy>(
         &self,
-        tiles: &[(Tile, Vec<u8, A>)],
         level: u32,
         place: u64,
-        hash: Hash,
-    ) -> bool
+        fetched: &FetchedTiles<A>,
+    ) -> Hash
         requires level { level ≤ 7 }
         requires place { place < spec.level_count self.now.size level }
-        requires fetched { AreFetched T.digest_of (Answers (S.may_answer self.now.source) self.now.size) self.now.size self.now.root (texts_of tiles.now) }
-        requires there { HasTileWith (tiles_of (texts_of tiles.now)) self.now.size level place }
-        ensures { IsSameAsAbove (tiles_of (texts_of tiles.now)) self.now.size level place hash result }
+        requires verified { AreVerified T.digest_of self.now.size self.now.root fetched.now }
+        requires there { HasTileWith (tiles_of fetched.now) self.now.size level place }
+        ensures { IsHashWith (tiles_of fetched.now) self.now.size level place result }
     {
-        let Some(above) = text_of(tiles, tile_with(self.size, level, place)) else {
-            return false;
+        let Some(text) = fetched.text_of(tile_with(self.size, level, place)) else {
+            unreachable!();
         };
-        same(hash_in(above, (place % 256) as usize), hash)
+        hash_in(text, (place % 256) as usize)
     }
 
     // Fetches a full tile and checks it against the tile above.
     fn fetch_full<A: Allocator + Copy>(
         &self,
-        alloc: A,
-        tiles: Vec<(Tile, Vec<u8, A>), A>,
         level: u32,
         index: u64,
-    ) -> Result<Vec<(Tile, Vec<u8, A>), A>, ReadFault>
+        fetched: &mut FetchedTiles<A>,
+    ) -> Result<(), ReadFault>
         requires level { level < 7 }
         requires index { index < spec.level_count self.now.size (level + 1) }
-        requires fetched { AreFetched T.digest_of (Answers (S.may_answer self.now.source) self.now.size) self.now.size self.now.root (texts_of tiles.items) }
-        requires there { HasTileWith (tiles_of (texts_of tiles.items)) self.now.size (level + 1) index }
-        ensures fetched { IfOk result (λ tiles. AreFetched T.digest_of (Answers (S.may_answer self.now.source) self.now.size) self.now.size self.now.root (texts_of tiles.items)) }
-        ensures there { IfOk result (λ tiles. (text : List ℕ) × (tiles_of (texts_of tiles.items) (spec.full_tile level index) ≡ Some text)) }
-        ensures keeps { IfOk result (λ after. Grows (texts_of tiles.items) (texts_of after.items)) }
-        ensures faults { IfErr result (GivesReadFault T.digest_of (S.may_answer self.now.source) (S.may_lack self.now.source) self.now.size self.now.root) }
+        requires new { tiles_of fetched.old (spec.full_tile level index) ≡ None }
+        requires above { HasTileWith (tiles_of fetched.old) self.now.size (level + 1) index }
+        requires verified { AreVerified T.digest_of self.now.size self.now.root fetched.old }
+        requires fetched { AreFetched (S.may_answer self.now.source) self.now.size fetched.old }
+        ensures there { OnOk result ((text : List ℕ) × (tiles_of fetched.new (spec.full_tile level index) ≡ Some text)) }
+        ensures verified { OnOk result (AreVerified T.digest_of self.now.size self.now.root fetched.new) }
+        ensures adds { AddsOnly (spec.full_tile level index) fetched.old fetched.new }
+        ensures fetched { AreFetched (S.may_answer self.now.source) self.now.size fetched.new }
+        ensures faults { IfErr result (GivesReadFault T.digest_of (S.may_lack self.now.source) self.now.size self.now.root fetched.new) }
     {
         let tile = full_tile(level, index);
-        let text = match self.fetch_tile(alloc, tile) {
-            Ok(text) => text,
-            Err(fault) => return Err(fault),
+        let own = self.hash_with(level + 1, index, fetched);
+        self.fetch_tile(tile, fetched)?;
+        let Some(text) = fetched.text_of(tile) else {
+            unreachable!();
         };
-        let hash = known_part(self.h, &text, 0, 256);
-        if !self.is_in_above(&tiles, level + 1, index, hash) {
+        let hash = known_part(self.h, text, 0, 256);
+        if !same(own, hash) {
             return Err(bad_tile(tile));
         }
-        let mut tiles = tiles;
-        tiles.push((tile, text))?;
-        Ok(tiles)
+        Ok(())
     }
 
     // Whether the tile that has the hash at this place of a level was fetched.
-    fn is_there<A: Allocator>(&self, tiles: &[(Tile, Vec<u8, A>)], level: u32, place: u64) -> bool
+    fn is_there<A: Allocator + Copy>(
+        &self,
+        level: u32,
+        place: u64,
+        fetched: &FetchedTiles<A>,
+    ) -> bool
         requires size { self.now.size ≤ 2 ^ 62 }
         requires level { level ≤ 7 }
         requires place { place < spec.level_count self.now.size level }
-        requires fetched { AreFetched T.digest_of (Answers (S.may_answer self.now.source) self.now.size) self.now.size self.now.root (texts_of tiles.now) }
-        ensures { IsThere (tiles_of (texts_of tiles.now)) self.now.size level place result }
+        requires verified { AreVerified T.digest_of self.now.size self.now.root fetched.now }
+        ensures { IsThere (tiles_of fetched.now) self.now.size level place result }
     {
-        match text_of(tiles, tile_with(self.size, level, place)) {
+        match fetched.text_of(tile_with(self.size, level, place)) {
             Some(_) => true,
             None => false,
         }
@@ -220,31 +229,25 @@ impl<T: TreeHash, S: TileSource> Checker<T, S> {
     // Fetches the tile that has the hash at this place of a level, and those above it that are not there yet.
     pub(crate) fn fetch_with<A: Allocator + Copy>(
         &self,
-        alloc: A,
-        tiles: Vec<(Tile, Vec<u8, A>), A>,
         level: u32,
         place: u64,
-    ) -> Result<Vec<(Tile, Vec<u8, A>), A>, ReadFault>
+        fetched: &mut FetchedTiles<A>,
+    ) -> Result<(), ReadFault>
         requires size { self.now.size ≤ 2 ^ 62 }
         requires level { level ≤ 7 }
         requires place { place < spec.level_count self.now.size level }
-        requires fetched { AreFetched T.digest_of (Answers (S.may_answer self.now.source) self.now.size) self.now.size self.now.root (texts_of tiles.items) }
-        ensures fetched { IfOk result (λ tiles. AreFetched T.digest_of (Answers (S.may_answer self.now.source) self.now.size) self.now.size self.now.root (texts_of tiles.items)) }
-        ensures there { IfOk result (λ tiles. HasTileWith (tiles_of (texts_of tiles.items)) self.now.size level place) }
-        ensures keeps { IfOk result (λ after. Grows (texts_of tiles.items) (texts_of after.items)) }
-        ensures faults { IfErr result (GivesReadFault T.digest_of (S.may_answer self.now.source) (S.may_lack self.now.source) self.now.size self.now.root) }
+        requires verified { AreVerified T.digest_of self.now.size self.now.root fetched.old }
+        requires fetched { AreFetched (S.may_answer self.now.source) self.now.size fetched.old }
+        ensures there { OnOk result (HasTileWith (tiles_of fetched.new) self.now.size level place) }
+        ensures verified { OnOk result (AreVerified T.digest_of self.now.size self.now.root fetched.new) }
+        ensures adds { AddsOver level place fetched.old fetched.new }
+        ensures fetched { AreFetched (S.may_answer self.now.source) self.now.size fetched.new }
+        ensures faults { IfErr result (GivesReadFault T.digest_of (S.may_lack self.now.source) self.now.size self.now.root fetched.new) }
     {
-        if self.is_there(&tiles, level, place) {
-            return Ok(tiles);
+        if self.is_there(level, place, fetched) {
+            return Ok(());
         }
-        let tiles = match self.fetch_with(alloc, tiles, level + 1, place / 256) {
-            Ok(tiles) => tiles,
-            Err(fault) => return Err(fault),
-        };
-        let tiles = match self.fetch_full(alloc, tiles, level, place / 256) {
-            Ok(tiles) => tiles,
-            Err(fault) => return Err(fault),
-        };
-        Ok(tiles)
+        self.fetch_with(level + 1, place / 256, fetched)?;
+        self.fetch_full(level, place / 256, fetched)
     }
 }

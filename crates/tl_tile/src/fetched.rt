@@ -1,10 +1,13 @@
 //! Tiles that were fetched, with their texts.
 
-ghost use Rattle.std.specs.Prelude.{◌≡◌, MatchOption, Some, None};
+ghost use Rattle.std.specs.Prelude.{◌≡◌, ◌∷◌, ◌++◌, ℕ, List, [], length, MatchOption, IfOk, IfErr, OnErr, Some, None};
 ghost use Rattle.tl_tile.specs.Fetched.{same_tile, tiles_of, texts_of};
+ghost use Rattle.tl_tile.specs.declared.source.SourceFault.TheVariants.{Unavailable};
 
 use crate::resource::Tile;
+use crate::source::{SourceFault, TileSource};
 use std::alloc::Allocator;
+use std::marker::Model;
 
 // Whether two tiles are the same.
 fn is_same(a: Tile, b: Tile) -> bool
@@ -13,8 +16,8 @@ fn is_same(a: Tile, b: Tile) -> bool
     a.level == b.level && a.index == b.index && a.width == b.width
 }
 
-// The text of a tile, where it was fetched.
-pub(crate) fn text_of<A: Allocator>(tiles: &[(Tile, Vec<u8, A>)], tile: Tile) -> Option<&[u8]>
+// The text of a tile, where it is among these.
+fn text_in<A: Allocator>(tiles: &[(Tile, Vec<u8, A>)], tile: Tile) -> Option<&[u8]>
     ensures { MatchOption result
         (tiles_of (texts_of tiles.now) tile ≡ None)
         (λ text. tiles_of (texts_of tiles.now) tile ≡ Some text.now) }
@@ -25,4 +28,83 @@ pub(crate) fn text_of<A: Allocator>(tiles: &[(Tile, Vec<u8, A>)], tile: Tile) ->
         }
     }
     None
+}
+
+/// Tiles of a log as a source answered them, in the order of fetching. Contracts see the list of the tiles with their
+/// texts.
+#[derive(Drop)]
+pub struct FetchedTiles<A: Allocator> {
+    tiles: Vec<(Tile, Vec<u8, A>), A>,
+}
+
+impl<A: Allocator> Model for FetchedTiles<A> {
+    ghost use Rattle.std.specs.Prelude.{ℕ, List};
+    ghost use Rattle.tl_tile.specs.declared.resource.Tile.{Tile};
+    ghost use Rattle.tl_tile.specs.Fetched.{texts_of};
+
+    ghost Value = { List (Tile × List ℕ) };
+
+    ghost view = { λ f. texts_of f.tiles.items };
+}
+
+impl<A: Allocator> FetchedTiles<A> {
+    /// No tiles. Texts will be kept in memory from `alloc`; until then it takes none.
+    pub fn new(alloc: A) -> FetchedTiles<A>
+        ensures { result ≡ [] }
+    {
+        FetchedTiles {
+            tiles: Vec::new(alloc),
+        }
+    }
+
+    /// The tiles with their texts.
+    pub fn as_slice(&self) -> &[(Tile, Vec<u8, A>)]
+        ensures { texts_of result.now ≡ self.now }
+    {
+        &self.tiles
+    }
+
+    /// The text of a tile, where it is among these.
+    pub fn text_of(&self, tile: Tile) -> Option<&[u8]>
+        ensures { MatchOption result
+            (tiles_of self.now tile ≡ None)
+            (λ text. tiles_of self.now tile ≡ Some text.now) }
+    {
+        text_in(&self.tiles, tile)
+    }
+
+    // Lets all tiles go.
+    pub(crate) fn clear(&mut self)
+        ensures { self.new ≡ [] }
+    {
+        self.tiles.clear();
+    }
+}
+
+impl<A: Allocator + Copy> FetchedTiles<A> {
+    // What memory is asked from.
+    pub(crate) fn allocator(&self) -> A {
+        *self.tiles.allocator()
+    }
+
+    // Fetches a tile, keeps it with its text, and gives the text's length. Its room is taken first, so that no text that
+    // was fetched is lost.
+    pub(crate) fn fetch<S: TileSource>(
+        &mut self,
+        source: &S,
+        tile: Tile,
+    ) -> Result<usize, SourceFault>
+        ensures text { IfOk result (λ len. (text : List ℕ) × (self.new ≡ self.old ++ (tile, text) ∷ []) × S.may_answer source.now tile text × (len ≡ length text)) }
+        ensures unchanged { OnErr result (self.new ≡ self.old) }
+        ensures lacks { IfErr result (λ fault. fault ≡ Unavailable → S.may_lack source.now tile) }
+    {
+        self.tiles.reserve(1)?;
+        let text = match source.fetch(*self.tiles.allocator(), tile) {
+            Ok(text) => text,
+            Err(fault) => return Err(fault),
+        };
+        let len = text.len();
+        self.tiles.push_reserved((tile, text));
+        Ok(len)
+    }
 }

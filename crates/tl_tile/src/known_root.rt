@@ -4,9 +4,9 @@ ghost use Rattle.std.specs.Prelude.{◌≡◌, ◌+◌, ◌*◌, ◌<◌, ◌≤
 ghost use Rattle.tl_tile.specs.TileText as spec;
 ghost use Rattle.tl_tile.specs.Known.{KnownRoot};
 ghost use Rattle.tl_tile.specs.KnownEdge.{HasEdge, Joined, KnownBelow};
-ghost use Rattle.tl_tile.specs.Fetched.{tiles_of, texts_of};
+ghost use Rattle.tl_tile.specs.Fetched.{tiles_of};
 
-use crate::fetched::text_of;
+use crate::fetched::FetchedTiles;
 use crate::known::known_part;
 use crate::resource::Tile;
 use std::alloc::{AllocError, Allocator};
@@ -50,45 +50,43 @@ fn join_last<T: TreeHash, A: Allocator + Copy>(
 
 // What the partial tiles up to this level tell, from what those below it tell.
 fn add_level<T: TreeHash, A: Allocator + Copy>(
-    alloc: A,
     h: T,
-    tiles: &[(Tile, Vec<u8, A>)],
+    fetched: &FetchedTiles<A>,
     size: u64,
     level: u32,
     below: Option<Hash>,
 ) -> Result<Option<Hash>, AllocError>
     requires level { level ≤ 7 }
-    requires edge { HasEdge (tiles_of (texts_of tiles.now)) size }
-    requires below { KnownBelow T.digest_of (tiles_of (texts_of tiles.now)) size level below }
-    ensures { IfOk result (λ known. KnownBelow T.digest_of (tiles_of (texts_of tiles.now)) size (level + 1) known) }
+    requires edge { HasEdge (tiles_of fetched.now) size }
+    requires below { KnownBelow T.digest_of (tiles_of fetched.now) size level below }
+    ensures { IfOk result (λ known. KnownBelow T.digest_of (tiles_of fetched.now) size (level + 1) known) }
 {
     let tile = partial_tile(size, level);
     if tile.width == 0 {
         return Ok(below);
     }
-    let Some(text) = text_of(tiles, tile) else {
+    let Some(text) = fetched.text_of(tile) else {
         return Ok(None);
     };
-    let hash = join_last(alloc, h, text, tile.width as usize, below)?;
+    let hash = join_last(fetched.allocator(), h, text, tile.width as usize, below)?;
     Ok(Some(hash))
 }
 
 // The root that the partial tiles tell of a log; none of no entries.
 pub(crate) fn known_root<T: TreeHash, A: Allocator + Copy>(
-    alloc: A,
     h: T,
-    tiles: &[(Tile, Vec<u8, A>)],
+    fetched: &FetchedTiles<A>,
     size: u64,
 ) -> Result<Option<Hash>, AllocError>
-    requires edge { HasEdge (tiles_of (texts_of tiles.now)) size }
+    requires edge { HasEdge (tiles_of fetched.now) size }
     ensures { IfOk result (λ known. MatchOption known
         (size ≡ 0)
         (λ root. (strings : List (List ℕ))
-        × KnownRoot T.digest_of (tiles_of (texts_of tiles.now)) size root strings)) }
+        × KnownRoot T.digest_of (tiles_of fetched.now) size root strings)) }
 {
     let mut known = None;
     for level in 0..8 {
-        known = add_level(alloc, h, tiles, size, level, known)?;
+        known = add_level(h, fetched, size, level, known)?;
     }
     Ok(known)
 }

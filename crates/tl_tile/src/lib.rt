@@ -23,6 +23,7 @@ mod tile_reader;
 
 pub use bundle::{BundleFault, read_bundle, write_bundle};
 pub use edge::Edge;
+pub use fetched::FetchedTiles;
 pub use law::{bundle_has_one_reading, filled_tiles_are_new};
 pub use listing::needed;
 pub use path::{parse_path, path_of};

@@ -3,11 +3,15 @@
 ghost use Rattle.std.specs.Prelude.{◌≡◌, ◌≤◌, ◌<◌, ℕ, List, length, map, All, Any, MatchBool, IfOk, IfErr, OnOk};
 ghost use Rattle.tl_store.specs.Stored.{stored_hash};
 ghost use Rattle.tl_store.specs.Reader.{readable_count, AreReadable, GivesFault};
-ghost use Rattle.tl_tile.specs.Source.{AreAuthentic};
-ghost use Rattle.tl_tile.specs.SourceFaults.{GivesReadFault};
-ghost use Rattle.tl_tile.specs.TileReader.{StandsAgainst, GivesNumbersFault};
+ghost use Rattle.tl_tile.specs.Known.{AreChecked};
+ghost use Rattle.tl_tile.specs.Fetched.{tiles_of};
+ghost use Rattle.tl_tile.specs.Source.{AreAnswers};
+ghost use Rattle.tl_tile.specs.Fetching.{IsNeededFor, AreInOrder};
+ghost use Rattle.tl_tile.specs.SourceFaults.{MayGive};
+ghost use Rattle.tl_tile.specs.TileReader.{StandsAgainst, AreAuthentic, AreAuthenticOver, GivesNumbersFault};
 
 use crate::checker::Checker;
+use crate::fetched::FetchedTiles;
 use crate::source::TileSource;
 use std::alloc::Allocator;
 use std::marker::Model;
@@ -31,7 +35,7 @@ impl<T: TreeHash, S: TileSource, A: Allocator> Model for TileHashReader<T, S, A>
 }
 
 impl<T: TreeHash, S: TileSource, A: Allocator> TileHashReader<T, S, A> {
-    /// A reader of the stored hashes of a log of this size and root, over this source. A read keeps the tiles that it
+    /// A reader of the stored hashes of a log of this size and root, over this source. A `read` keeps the tiles that it
     /// fetches in memory from `alloc` as long as it lasts.
     pub fn new(alloc: A, h: T, size: u64, root: Hash, source: S) -> TileHashReader<T, S, A>
         ensures { result ≡ record { source = source; size = size; root = root } }
@@ -68,38 +72,57 @@ fn are_below(indexes: &[u64], count: u64) -> bool
     indexes.iter().all(|index| *index < count)
 }
 
-impl<T: TreeHash, S: TileSource, A: Allocator + Copy> HashReader for TileHashReader<T, S, A> {
-    ghost size = { λ r. r.size };
-
-    ghost stands_for = { λ r H entries. StandsAgainst T.digest_of (S.may_answer r.source) r.size r.root H entries };
-
-    ghost may_fail = { λ r fault. GivesReadFault T.digest_of (S.may_answer r.source) (S.may_lack r.source) r.size r.root fault };
-
-    /// The stored hashes with these numbers. First all numbers are checked; with none nothing is fetched. Then the partial
-    /// tiles of the size are fetched, from the highest level down, and have to give the root; then for each number the full
-    /// tiles that it needs, from the top down, each of which has to give the hash that the tile above has for it. No tile
-    /// is fetched twice. `BadTile` names the highest partial tile where they don't give the root, and otherwise the tile
-    /// that has another length than its width says or another hash than the tile above.
-    fn read<B: Allocator>(&self, alloc: B, indexes: &[u64]) -> Result<Vec<Hash, B>, ReadFault>
-        ensures hashes { (H : List ℕ → List ℕ) (entries : List (List ℕ))
-            → StandsAgainst T.digest_of (S.may_answer self.now.source) self.now.size self.now.root H entries
-            → IfOk result (λ hashes. hashes.items ≡ map (stored_hash H entries) indexes.now) }
+impl<T: TreeHash, S: TileSource, A: Allocator + Copy> TileHashReader<T, S, A> {
+    /// The stored hashes with these numbers, in this order, and in `fetched` the tiles that were fetched for them, also after
+    /// a fault; what it held before is let go. First all numbers are checked; with none nothing is fetched. Then the partial
+    /// tiles come, from the highest level down, and have to give the root; then for each number the full tiles over it, from
+    /// the top down, each of which has to give the hash that the tile above has for it. `BadTile` names the highest
+    /// partial tile where they don't give the root, and else the tile fetched last.
+    pub fn read_checked<B: Allocator>(
+        &self,
+        alloc: B,
+        indexes: &[u64],
+        fetched: &mut FetchedTiles<A>,
+    ) -> Result<Vec<Hash, B>, ReadFault>
+        ensures authentic { IfOk result (λ hashes. AreAuthentic T.digest_of (record { size = self.now.size; root = self.now.root; indexes = indexes.now; fetched = fetched.new }) hashes.items) }
+        ensures checked { OnOk result (0 < length indexes.now → AreChecked T.digest_of (tiles_of fetched.new) self.now.size self.now.root) }
         ensures count { IfOk result (λ hashes. length hashes.items ≡ length indexes.now) }
         ensures in_range { OnOk result (AreReadable self.now.size indexes.now) }
-        ensures faults { IfErr result (GivesFault self.now.size (λ fault. GivesReadFault T.digest_of (S.may_answer self.now.source) (S.may_lack self.now.source) self.now.size self.now.root fault) indexes.now) }
-        ensures authentic { IfOk result (λ hashes. AreAuthentic T.digest_of (S.may_answer self.now.source) self.now.size self.now.root indexes.now hashes.items) }
-        ensures source { IfErr result (GivesNumbersFault T.digest_of (S.may_answer self.now.source) (S.may_lack self.now.source) self.now.size self.now.root indexes.now) }
+        ensures answers { AreAnswers (S.may_answer self.now.source) self.now.size fetched.new }
+        ensures needed { All (λ f. IsNeededFor self.now.size indexes.now f.0) fetched.new }
+        ensures order { AreInOrder self.now.size fetched.new }
+        ensures faults { IfErr result (GivesNumbersFault T.digest_of (S.may_lack self.now.source) (record { size = self.now.size; root = self.now.root; indexes = indexes.now; fetched = fetched.new })) }
     {
+        fetched.clear();
         if !are_below(indexes, count_of(self.checker.size)) {
             return Err(ReadFault::OutOfRange);
         }
         if indexes.is_empty() {
             return Ok(Vec::new(alloc));
         }
-        match self.checker.read_numbers(self.alloc, alloc, indexes) {
-            Ok(hashes) => Ok(hashes),
-            Err(fault) => Err(fault),
-        }
+        self.checker.read_numbers(alloc, indexes, fetched)
+    }
+}
+
+impl<T: TreeHash, S: TileSource, A: Allocator + Copy> HashReader for TileHashReader<T, S, A> {
+    ghost size = { λ r. r.size };
+
+    ghost stands_for = { λ r H entries. StandsAgainst T.digest_of (S.may_answer r.source) r.size r.root H entries };
+
+    ghost may_fail = { λ r fault. MayGive T.digest_of (S.may_answer r.source) (S.may_lack r.source) r.size r.root fault };
+
+    /// As `read_checked`, without the tiles.
+    fn read<B: Allocator>(&self, alloc: B, indexes: &[u64]) -> Result<Vec<Hash, B>, ReadFault>
+        ensures hashes { (H : List ℕ → List ℕ) (entries : List (List ℕ))
+            → StandsAgainst T.digest_of (S.may_answer self.now.source) self.now.size self.now.root H entries
+            → IfOk result (λ hashes. hashes.items ≡ map (stored_hash H entries) indexes.now) }
+        ensures count { IfOk result (λ hashes. length hashes.items ≡ length indexes.now) }
+        ensures in_range { OnOk result (AreReadable self.now.size indexes.now) }
+        ensures faults { IfErr result (GivesFault self.now.size (λ fault. MayGive T.digest_of (S.may_answer self.now.source) (S.may_lack self.now.source) self.now.size self.now.root fault) indexes.now) }
+        ensures authentic { IfOk result (λ hashes. AreAuthenticOver (S.may_answer self.now.source) T.digest_of self.now.size self.now.root indexes.now hashes.items) }
+    {
+        let mut fetched = FetchedTiles::new(self.alloc);
+        self.read_checked(alloc, indexes, &mut fetched)
     }
 
     ghost stands_size = { λ reader H entries stands. (stands.0, stands.1) };

@@ -1,38 +1,44 @@
-use Rattle.std.proofs.Common.{◌+◌, inr, ap, sym, subst}
-use Rattle.std.specs.Prelude.{vec_items}
-use Rattle.tl_tile.specs.Fetched.{tiles_of, texts_of}
-use Rattle.tl_tile.specs.Source.{HasTileWith}
+use Rattle.std.proofs.Common.{None, subst, sym, arith, ◌∙◌, ap, length, inr}
+use Rattle.tl_tile.specs.declared.resource.Tile.{Tile}
+use Rattle.tl_tile.specs.Fetched.{tiles_of}
+use Rattle.tl_tile.specs.Fetching.{ComesNext}
 use Rattle.tl_tile.specs.SourceFaults.{GivesReadFault}
-use Rattle.tl_tile.specs.Source.{Answers}
-use Rattle.tl_tile.proofs.Push.{in_above, fetched-more, there-more, grows-push, texts-push, bad_full}
+use Rattle.tl_tile.proofs.Push.{there-more, new-text, next-full, verified-full, bad-full, none-not, not_same}
 use Rattle.tl_tile.proofs.checker.Checker.fetch_full.Goals as goal
 
-pub is_in_above-requires-clause-there : goal.is_in_above-requires-clause-there
-is_in_above-requires-clause-there g c =
-    subst (λ list. HasTileWith (tiles_of (texts_of list)) c.args.self.now.size (c.args.level + 1) c.args.index) (sym c.deref-2.ensures.value) c.requires.there
+pub fetch_tile-requires-clause-next : goal.fetch_tile-requires-clause-next
+fetch_tile-requires-clause-next g c =
+    subst (ComesNext c.args.self.now.size c.args.fetched.now) (sym c.full_tile-tile.ensures)
+    (inr (next-full c.args.self.now.size c.args.fetched.now c.args.level c.args.index c.requires.verified.first c.requires.new c.requires.above))
 
-pub returns-then-not-is_in_above-clause-faults : goal.returns-then-not-is_in_above-clause-faults
-returns-then-not-is_in_above-clause-faults g c =
-    let bad = bad_full g.T.TreeHash.digest_of (g.S.TileSource.may_answer c.args.self.now.source) c.args.self.now.size (texts_of c.deref-2.result.now) (texts_of c.args.tiles.items) c.args.level c.args.index
-    c.full_tile-tile.result c.in-Ok.text.items c.deref.result.now c.known_part-hash.result c.is_in_above.result c.requires.fetched.answers
-    (ap texts_of c.deref-2.ensures.value) c.deref.ensures.value c.full_tile-tile.ensures c.requires.index c.is_in_above.ensures c.if-not-is_in_above.true c.known_part-hash.ensures c.in-Ok.ensures.text in
-    subst (GivesReadFault g.T.TreeHash.digest_of (g.S.TileSource.may_answer c.args.self.now.source) (g.S.TileSource.may_lack c.args.self.now.source) c.args.self.now.size c.args.self.now.root) (sym c.bad_tile.ensures)
-    (inr (inr bad))
+pub unreachable-requires : goal.unreachable-requires
+unreachable-requires g c =
+    let read = c.in_ok-fetch_tile.ensures.text in
+    none-not c.args.fetched.now c.fetch_tile.new.fetched c.full_tile-tile.result read.0 read.1 c.in_default.ensures
 
-pub returns-clause-fetched : goal.returns-clause-fetched
-returns-clause-fetched g c =
-    let pushed = texts-push c.args.tiles.items c.push.new.self.items c.full_tile-tile.result c.in-Ok.text c.in_ok-push.ensures.items in
-    fetched-more g.T.TreeHash.digest_of (Answers (g.S.TileSource.may_answer c.args.self.now.source) c.args.self.now.size) c.args.self.now.size c.args.self.now.root (texts_of c.args.tiles.items) (texts_of c.push.new.self.items) (c.full_tile-tile.result, vec_items c.in-Ok.text)
-    c.requires.fetched pushed c.args.level c.args.index c.full_tile-tile.ensures c.in-Ok.ensures.text c.in-Ok.ensures.long
-    (in_above g.T.TreeHash.digest_of (texts_of c.deref-2.result.now) (texts_of c.args.tiles.items) c.args.self.now.size c.args.level c.args.index c.in-Ok.text.items c.deref.result.now c.known_part-hash.result c.is_in_above.result
-    (ap texts_of c.deref-2.ensures.value) c.deref.ensures.value c.is_in_above.ensures c.if-not-is_in_above.false c.known_part-hash.ensures)
+pub known_part-hash-requires-clause-inside : goal.known_part-hash-requires-clause-inside
+known_part-hash-requires-clause-inside g c =
+    let read = c.in_ok-fetch_tile.ensures.text in
+    let none = ap (tiles_of c.args.fetched.now) c.full_tile-tile.ensures ∙ c.requires.new in
+    let same = new-text c.args.fetched.now c.fetch_tile.new.fetched c.full_tile-tile.result read.0 c.in-Some.text.now none read.1 c.in-Some.ensures in
+    omega (arith, read.2, ap length same, ap (λ (t : Tile). t.width) c.full_tile-tile.ensures)
+
+pub returns-then-not-same-clause-faults : goal.returns-then-not-same-clause-faults
+returns-then-not-same-clause-faults g c =
+    let read = c.in_ok-fetch_tile.ensures.text in
+    let none = ap (tiles_of c.args.fetched.now) c.full_tile-tile.ensures ∙ c.requires.new in
+    subst (GivesReadFault g.T.TreeHash.digest_of (g.S.TileSource.may_lack c.args.self.now.source) c.args.self.now.size c.args.self.now.root c.fetch_tile.new.fetched) (sym c.bad_tile.ensures)
+    (bad-full g.T.TreeHash.digest_of c.args.self.now.size c.args.self.now.root c.args.fetched.now c.fetch_tile.new.fetched c.args.level c.args.index c.full_tile-tile.result read.0 c.in-Some.text.now c.hash_with-own.result c.known_part-hash.result
+    c.full_tile-tile.ensures c.requires.index none read.1 c.in-Some.ensures c.hash_with-own.ensures c.known_part-hash.ensures (λ same. not_same _ (c.same.ensures.1 same) c.if-not-same.true))
 
 pub returns-clause-there : goal.returns-clause-there
 returns-clause-there g c =
-    there-more (texts_of c.args.tiles.items) (texts_of c.push.new.self.items) (c.full_tile-tile.result, vec_items c.in-Ok.text) _
-    (texts-push c.args.tiles.items c.push.new.self.items c.full_tile-tile.result c.in-Ok.text c.in_ok-push.ensures.items) c.full_tile-tile.ensures
+    let read = c.in_ok-fetch_tile.ensures.text in
+    there-more c.args.fetched.now c.fetch_tile.new.fetched (c.full_tile-tile.result, read.0) _ read.1 c.full_tile-tile.ensures
 
-pub returns-clause-keeps : goal.returns-clause-keeps
-returns-clause-keeps g c =
-    grows-push (texts_of c.args.tiles.items) (texts_of c.push.new.self.items) (c.full_tile-tile.result, vec_items c.in-Ok.text)
-    (texts-push c.args.tiles.items c.push.new.self.items c.full_tile-tile.result c.in-Ok.text c.in_ok-push.ensures.items)
+pub returns-clause-verified : goal.returns-clause-verified
+returns-clause-verified g c =
+    let read = c.in_ok-fetch_tile.ensures.text in
+    let none = ap (tiles_of c.args.fetched.now) c.full_tile-tile.ensures ∙ c.requires.new in
+    verified-full g.T.TreeHash.digest_of c.args.self.now.size c.args.self.now.root c.args.fetched.now c.fetch_tile.new.fetched c.args.level c.args.index c.full_tile-tile.result read.0 c.in-Some.text.now c.hash_with-own.result c.known_part-hash.result
+    c.requires.verified c.full_tile-tile.ensures none read.1 read.2 c.in-Some.ensures c.hash_with-own.ensures c.known_part-hash.ensures (c.same.ensures.0 c.if-not-same.false)

@@ -1,20 +1,42 @@
-use Rattle.std.proofs.Common.{length, ap, arith}
+use Rattle.std.proofs.Common.{length, ap, arith, refl}
 use Rattle.std.proofs.lemmas.List.{length_push}
-use Rattle.tl_tile.specs.Fetched.{texts_of}
-use Rattle.tl_tile.proofs.Reading.{told-more, authentic-all}
+use Rattle.tl_tile.proofs.Orders.{needed-edge, needed-more, found-later}
+use Rattle.tl_tile.proofs.Reading.{told-more, told-none, authentic-all}
 use Rattle.tl_tile.proofs.checker.Checker.read_numbers.Goals as goal
+
+pub returns-in_err-fetch_edge-clause-needed : goal.returns-in_err-fetch_edge-clause-needed
+returns-in_err-fetch_edge-clause-needed g c = needed-edge c.args.self.now.size c.args.indexes.now c.fetch_edge.new.fetched c.requires.asked c.fetch_edge.ensures.partial
+
+pub loop-index-init : goal.loop-index-init
+loop-index-init g c = record {
+  verified = c.in_ok-fetch_edge.ensures.verified;
+  fetched = c.fetch_edge.ensures.fetched;
+  needed = needed-edge c.args.self.now.size c.args.indexes.now c.fetch_edge.new.fetched c.requires.asked c.fetch_edge.ensures.partial;
+  told = told-none g.T.TreeHash.digest_of c.fetch_edge.new.fetched c.args.self.now.size c.args.indexes.now c.new-hashes.result.items c.new-hashes.ensures.items;
+  count = ap length c.new-hashes.ensures.items;
+}
+
+pub returns-in_err-hash-clause-needed : goal.returns-in_err-hash-clause-needed
+returns-in_err-hash-clause-needed g c =
+    needed-more c.args.self.now.size c.loop-index.index-index c.args.indexes.now c.place_of-place.result c.loop-index.fetched c.read_place.new.fetched c.loop-index-test.true c.place_of-place.ensures.number c.read_place.ensures.adds c.loop-index.invariant.needed
+
+pub returns-in_err-push-clause-needed : goal.returns-in_err-push-clause-needed
+returns-in_err-push-clause-needed g c =
+    needed-more c.args.self.now.size c.loop-index.index-index c.args.indexes.now c.place_of-place.result c.loop-index.fetched c.read_place.new.fetched c.loop-index-test.true c.place_of-place.ensures.number c.read_place.ensures.adds c.loop-index.invariant.needed
 
 pub loop-index-preserved : goal.loop-index-preserved
 loop-index-preserved g c = record {
-  fetched = c.in-Ok-read_place.ensures.fetched;
-  told = told-more g.T.TreeHash.digest_of (texts_of c.loop-index.tiles.items) (texts_of c.in-Ok-read_place.read.0.items) c.args.self.now.size c.loop-index.index-index c.args.indexes.now 0 c.loop-index.hashes.items c.push.new.self.items c.in-Ok-read_place.read.1
-      c.loop-index-test.true c.in-Ok-read_place.ensures.keeps c.loop-index.invariant.told
-      (record { place = c.place_of-place.result; within = c.place_of-place.ensures.within; number = c.place_of-place.ensures.number; tells = c.in-Ok-read_place.ensures.tells })
+  verified = c.in_ok-hash.ensures.verified;
+  fetched = c.read_place.ensures.fetched;
+  needed = needed-more c.args.self.now.size c.loop-index.index-index c.args.indexes.now c.place_of-place.result c.loop-index.fetched c.read_place.new.fetched c.loop-index-test.true c.place_of-place.ensures.number c.read_place.ensures.adds c.loop-index.invariant.needed;
+  told = told-more g.T.TreeHash.digest_of c.loop-index.fetched c.read_place.new.fetched c.args.self.now.size c.loop-index.index-index c.args.indexes.now 0 c.loop-index.hashes.items c.push.new.self.items c.in_ok-hash.hash
+      c.loop-index-test.true (found-later _ _ c.loop-index.fetched c.read_place.new.fetched c.read_place.ensures.adds) c.loop-index.invariant.told
+      (record { place = c.place_of-place.result; within = c.place_of-place.ensures.within; number = c.place_of-place.ensures.number; tells = c.in_ok-hash.ensures.tells })
       c.in_ok-push.ensures.items;
-  count = omega (arith, c.loop-index.invariant.count, ap length c.in_ok-push.ensures.items, length_push c.loop-index.hashes.items c.in-Ok-read_place.read.1);
+  count = omega (arith, c.loop-index.invariant.count, ap length c.in_ok-push.ensures.items, length_push c.loop-index.hashes.items c.in_ok-hash.hash);
 }
 
 pub returns-clause-authentic : goal.returns-clause-authentic
 returns-clause-authentic g c =
-    authentic-all g.T.TreeHash.digest_of g.met.T.TreeHash.digest_length (g.S.TileSource.may_answer c.args.self.now.source) c.args.self.now.size c.args.self.now.root (texts_of c.loop-index.tiles.items) c.loop-index.invariant.fetched
-    c.args.indexes.now c.loop-index.index-index c.loop-index.hashes.items c.loop-index-test.false c.loop-index.invariant.told
+    authentic-all g.T.TreeHash.digest_of g.met.T.TreeHash.digest_length (record { size = c.args.self.now.size; root = c.args.self.now.root; indexes = c.args.indexes.now; fetched = c.loop-index.fetched }) c.loop-index.invariant.verified.checked
+    c.loop-index.index-index c.loop-index.hashes.items c.loop-index-test.false c.loop-index.invariant.told

@@ -1,0 +1,228 @@
+-- Tiles in the order of a read, and those that it needs.
+use Rattle.std.proofs.Common.{◌≡◌, ℕ, zero, suc, ◌+◌, ◌-◌, ◌*◌, ◌/◌, ◌%◌, ◌^◌, ◌<◌, ◌≤◌, ◌⊎◌, inl, inr, Bool, true, false, cond, List, [], ◌∷◌, ◌++◌, append_assoc, length, map, filter, reverse, nat_lt, All, Any, get_or, Some, None, refl, sym, ap, subst, ◌∙◌, arith}
+use Rattle.std.specs.Prelude.{◌≢◌}
+use Rattle.std.specs.List.{range_with_len}
+use Rattle.std.proofs.Math.Nat.{pow-succ', div-div-eq-div-mul}
+use Rattle.std.proofs.lemmas.Bool.{cases_Bool, lt-ltb, ltb-true}
+use Rattle.std.proofs.lemmas.Grind.{reverse_onto}
+use Rattle.std.proofs.lemmas.List.{append-nil, map-append, get_or_default}
+use Rattle.std.proofs.lemmas.List.Elements.{All-nil, All-push, All-append, All-head, All-tail, All-cons, filter-append}
+use Rattle.tl_store.specs.Stored.{stored_index}
+use Rattle.tl_tile.specs.declared.resource.Tile.{Tile}
+use Rattle.tl_tile.specs.declared.place.Place.{Place}
+use Rattle.tl_tile.specs.TileText.{level_count, full_tile, partial_tile}
+use Rattle.tl_tile.specs.Fetched.{same_tile, tiles_of, tiles_in}
+use Rattle.tl_tile.specs.Source.{IsTileOf, Answers, AreAnswers}
+use Rattle.tl_tile.specs.Fetching.{IsOver, IsOverNumber, IsNeededFor, edge_from, edge_tiles, IsNextPartial, ComesNext, AreNext, AreInOrder, AddsOnly, AddsOver}
+use Rattle.tl_tile.specs.Verified.{AreFetched}
+use Rattle.tl_tile.specs.SourceFaults.{IsBadTile, IsLacking}
+use Rattle.tl_tile.proofs.Push.{same_tile-is, tiles_of-new}
+
+-- ---- one tile more
+
+next-push : (size : ℕ) (before more : List (Tile × List ℕ)) (f : Tile × List ℕ) → AreNext size before more → ComesNext size (before ++ more) f.0 → AreNext size before (more ++ f ∷ [])
+next-push size before [] f order next = (subst (λ (list : List (Tile × List ℕ)). ComesNext size list f.0) (append-nil before) next, tt)
+next-push size before (m ∷ more) f order next =
+    (order.0, next-push size (before ++ m ∷ []) more f order.1 (subst (λ (list : List (Tile × List ℕ)). ComesNext size list f.0) (sym (append_assoc before (m ∷ []) more)) next))
+
+pub fetched-push : (may_answer : Tile → List ℕ → Type 0) (size : ℕ) (old new : List (Tile × List ℕ)) (tile : Tile) (text : List ℕ) → AreFetched may_answer size old → IsTileOf size tile → ComesNext size old tile
+    → new ≡ old ++ (tile, text) ∷ [] → may_answer tile text → AreFetched may_answer size new
+fetched-push may_answer size old new tile text before of next pushed answer =
+    subst (AreFetched may_answer size) (sym pushed) (record {
+      answers = All-push (λ (f : Tile × List ℕ). Answers may_answer size f.0 f.1) old (tile, text) before.answers (of, answer);
+      order = next-push size [] old (tile, text) before.order next;
+    })
+
+pub fetched-same : (may_answer : Tile → List ℕ → Type 0) (size : ℕ) (old new : List (Tile × List ℕ)) → new ≡ old → AreFetched may_answer size old → AreFetched may_answer size new
+fetched-same may_answer size old new same before = subst (AreFetched may_answer size) (sym same) before
+
+pub fetched-none : (may_answer : Tile → List ℕ → Type 0) (size : ℕ) (xs : List (Tile × List ℕ)) → xs ≡ [] → AreFetched may_answer size xs
+fetched-none may_answer size xs none = subst (AreFetched may_answer size) (sym none) (record { answers = All-nil (λ (f : Tile × List ℕ). Answers may_answer size f.0 f.1); order = tt })
+
+-- a new text of another length
+pub bad-length : (H : List ℕ → List ℕ) (size : ℕ) (root : List ℕ) (old new : List (Tile × List ℕ)) (tile : Tile) (text : List ℕ) → IsTileOf size tile → tiles_of old tile ≡ None
+    → new ≡ old ++ (tile, text) ∷ [] → length text ≢ 32 * tile.width → IsBadTile H size root new tile
+bad-length H size root old new tile text of none pushed differ = record {
+  text = text;
+  found = ap (λ (list : List (Tile × List ℕ)). tiles_of list tile) pushed ∙ tiles_of-new old (tile, text) tile refl none;
+  of_log = of;
+  because = inl differ;
+}
+
+pub lacking : (may_lack : Tile → Type 0) (size : ℕ) (old new : List (Tile × List ℕ)) (tile : Tile) → IsTileOf size tile → tiles_of old tile ≡ None → new ≡ old → may_lack tile → IsLacking may_lack size new tile
+lacking may_lack size old new tile of none same lacks = record { of_log = of; lacks = lacks; none = ap (λ (list : List (Tile × List ℕ)). tiles_of list tile) same ∙ none }
+
+-- ---- the partial tiles
+
+edge-more : (size level : ℕ) → level ≤ 7 → edge_from size level ≡ edge_from size (level + 1) ++ cond (nat_lt 0 (level_count size level % 256)) (partial_tile size level ∷ []) []
+edge-more size level low =
+    let wide : Tile → Bool = λ t. nat_lt 0 t.width in
+    let count : 8 - level ≡ suc (8 - (level + 1)) = omega (arith, low) in
+    let levels : List ℕ = range_with_len (level + 1) (8 - (level + 1)) in
+    let turned : reverse (range_with_len level (8 - level)) ≡ reverse levels ++ level ∷ [] = ap (λ (n : ℕ). reverse (range_with_len level n)) count ∙ reverse_onto levels level [] in
+    ap (λ (list : List ℕ). filter wide (map (partial_tile size) list)) turned
+    ∙ ap (filter wide) (map-append (partial_tile size) (reverse levels) (level ∷ []))
+    ∙ filter-append wide (map (partial_tile size) (reverse levels)) (partial_tile size level ∷ [])
+
+pub edge-skipped : (size level : ℕ) → level ≤ 7 → level_count size level % 256 ≡ 0 → edge_from size level ≡ edge_from size (level + 1)
+edge-skipped size level low none =
+    edge-more size level low ∙ ap (λ (n : ℕ). edge_from size (level + 1) ++ cond (nat_lt 0 n) (partial_tile size level ∷ []) []) none ∙ append-nil (edge_from size (level + 1))
+
+pub edge-next : (size level : ℕ) → level ≤ 7 → 0 < level_count size level % 256 → edge_from size level ≡ edge_from size (level + 1) ++ partial_tile size level ∷ []
+edge-next size level low some =
+    edge-more size level low ∙ ap (λ (b : Bool). edge_from size (level + 1) ++ cond b (partial_tile size level ∷ []) []) (lt-ltb 0 (level_count size level % 256) some)
+
+-- those of the upper levels are the first
+edge-prefix-at : (size level : ℕ) → level ≤ 8 → (rest : List Tile) × (edge_tiles size ≡ edge_from size level ++ rest)
+edge-prefix-at size zero low = ([], sym (append-nil (edge_tiles size)))
+edge-prefix-at size (suc level) low =
+    let before = edge-prefix-at size level (omega (arith, low)) in
+    let own : List Tile = cond (nat_lt 0 (level_count size level % 256)) (partial_tile size level ∷ []) [] in
+    let next : level + 1 ≡ suc level = omega arith in
+    (
+      own ++ before.0,
+      before.1 ∙ ap (λ (list : List Tile). list ++ before.0) (edge-more size level (omega (arith, low)) ∙ ap (λ (l : ℕ). edge_from size l ++ own) next)
+      ∙ append_assoc (edge_from size (suc level)) own before.0,
+    )
+
+pub edge-prefix : (size level : ℕ) (xs : List (Tile × List ℕ)) → level ≤ 8 → tiles_in xs ≡ edge_from size level → (rest : List Tile) × (edge_tiles size ≡ tiles_in xs ++ rest)
+edge-prefix size level xs low are =
+    let p = edge-prefix-at size level low in
+    (p.0, p.1 ∙ ap (λ (list : List Tile). list ++ p.0) (sym are))
+
+pub next-partial : (size level : ℕ) (xs : List (Tile × List ℕ)) (tile : Tile) → level ≤ 7 → tiles_in xs ≡ edge_from size (level + 1) → tile ≡ partial_tile size level → 0 < tile.width → IsNextPartial size xs tile
+next-partial size level xs tile low are is wide =
+    let p = edge-prefix-at size level (omega (arith, low)) in
+    let some : 0 < level_count size level % 256 = omega (arith, wide, ap (λ (t : Tile). t.width) is) in
+    (
+      p.0,
+      p.1 ∙ ap (λ (list : List Tile). list ++ p.0) (edge-next size level low some) ∙ append_assoc (edge_from size (level + 1)) (partial_tile size level ∷ []) p.0
+      ∙ (λ i. sym are i ++ sym is i ∷ p.0),
+    )
+
+-- ---- what numbers need
+
+abbrev pub IsWidePartial : ℕ → Tile → Type 0
+IsWidePartial size t = (0 < t.width) × (t ≡ partial_tile size t.level)
+
+edge-partial-in : (size : ℕ) (levels : List ℕ) → All (IsWidePartial size) (filter (λ t. nat_lt 0 t.width) (map (partial_tile size) levels))
+edge-partial-in size [] = All-nil (IsWidePartial size)
+edge-partial-in size (level ∷ levels) =
+    let rest = edge-partial-in size levels in
+    let P : Bool → Type 0 = λ b. All (IsWidePartial size) (cond b (partial_tile size level ∷ filter (λ t. nat_lt 0 t.width) (map (partial_tile size) levels)) (filter (λ t. nat_lt 0 t.width) (map (partial_tile size) levels))) in
+    elim (cases_Bool (nat_lt 0 (level_count size level % 256))) as (λ _. All (IsWidePartial size) (filter (λ t. nat_lt 0 t.width) (map (partial_tile size) (level ∷ levels)))) [
+      | inl yes_wide ↦ subst P (sym yes_wide) (All-cons (IsWidePartial size) (partial_tile size level) (filter (λ t. nat_lt 0 t.width) (map (partial_tile size) levels)) (ltb-true 0 (level_count size level % 256) yes_wide, refl) rest)
+      | inr not_wide ↦ subst P (sym not_wide) rest
+    ]
+
+all-front : {X : Type 0} (P : X → Type 0) (xs ys : List X) → All P (xs ++ ys) → All P xs
+all-front P [] ys all = All-nil P
+all-front P (x ∷ xs) ys all = All-cons P x xs (All-head P x (xs ++ ys) all) (all-front P xs ys (All-tail P x (xs ++ ys) all))
+
+needed-each : (size : ℕ) (indexes : List ℕ) (xs : List (Tile × List ℕ)) → 0 < length indexes → All (IsWidePartial size) (tiles_in xs) → All (λ f. IsNeededFor size indexes f.0) xs
+needed-each size indexes [] some all = All-nil (λ (f : Tile × List ℕ). IsNeededFor size indexes f.0)
+needed-each size indexes (f ∷ xs) some all =
+    let here : IsWidePartial size f.0 = All-head (IsWidePartial size) f.0 (tiles_in xs) all in
+    All-cons (λ (x : Tile × List ℕ). IsNeededFor size indexes x.0) f xs (inl (some, here.0, here.1)) (needed-each size indexes xs some (All-tail (IsWidePartial size) f.0 (tiles_in xs) all))
+
+-- the first of the partial tiles are needed
+pub needed-edge : (size : ℕ) (indexes : List ℕ) (xs : List (Tile × List ℕ)) → 0 < length indexes → ((rest : List Tile) × (edge_tiles size ≡ tiles_in xs ++ rest)) → All (λ f. IsNeededFor size indexes f.0) xs
+needed-edge size indexes xs some (rest, are) =
+    let all : All (IsWidePartial size) (tiles_in xs) = all-front (IsWidePartial size) (tiles_in xs) rest (subst (All (IsWidePartial size)) are (edge-partial-in size (reverse (range_with_len 0 8)))) in
+    needed-each size indexes xs some all
+
+-- the tiles over a number's subtree are needed
+over-needed : (size i : ℕ) (indexes : List ℕ) (p : Place) (t : Tile) → i < length indexes → stored_index p.level p.place ≡ get_or indexes i 0 → IsOver (p.level / 8) (p.place * 2 ^ (p.level % 8)) t → IsNeededFor size indexes t
+over-needed size i indexes p t less number over =
+    let index : ℕ = get_or indexes i 0 in
+    inr (i, index, less, get_or_default indexes i index 0 less, record { place = p; number = number; over = over })
+
+overs-needed : (size i : ℕ) (indexes : List ℕ) (p : Place) (xs : List (Tile × List ℕ)) → i < length indexes → stored_index p.level p.place ≡ get_or indexes i 0
+    → All (λ f. IsOver (p.level / 8) (p.place * 2 ^ (p.level % 8)) f.0) xs → All (λ f. IsNeededFor size indexes f.0) xs
+overs-needed size i indexes p [] less number all = All-nil (λ (f : Tile × List ℕ). IsNeededFor size indexes f.0)
+overs-needed size i indexes p (f ∷ xs) less number all =
+    let P : Tile × List ℕ → Type 0 = λ x. IsOver (p.level / 8) (p.place * 2 ^ (p.level % 8)) x.0 in
+    All-cons (λ (x : Tile × List ℕ). IsNeededFor size indexes x.0) f xs (over-needed size i indexes p f.0 less number (All-head P f xs all)) (overs-needed size i indexes p xs less number (All-tail P f xs all))
+
+pub needed-more : (size i : ℕ) (indexes : List ℕ) (p : Place) (old new : List (Tile × List ℕ)) → i < length indexes → stored_index p.level p.place ≡ get_or indexes i 0
+    → AddsOver (p.level / 8) (p.place * 2 ^ (p.level % 8)) old new → All (λ f. IsNeededFor size indexes f.0) old → All (λ f. IsNeededFor size indexes f.0) new
+needed-more size i indexes p old new less number adds before =
+    let P : Tile × List ℕ → Type 0 = λ f. IsNeededFor size indexes f.0 in
+    subst (All P) (sym adds.joined) (All-append P old adds.added before (overs-needed size i indexes p adds.added less number adds.over))
+
+-- ---- tiles over a place
+
+-- what lies over the place above lies over this one
+over-up : (level place : ℕ) (t : Tile) → IsOver (level + 1) (place / 256) t → IsOver level place t
+over-up level place t over =
+    let height : level + 1 + over.up ≡ level + (over.up + 1) = omega arith in
+    let power : 256 * 256 ^ (over.up + 1) ≡ 256 ^ (over.up + 1 + 1) = sym (pow-succ' 256 (over.up + 1)) ∙ ap (λ (x : ℕ). 256 ^ x) (omega arith) in
+    let index : place / 256 / 256 ^ (over.up + 1) ≡ place / 256 ^ (over.up + 1 + 1) = div-div-eq-div-mul place 256 (256 ^ (over.up + 1)) ∙ ap (λ (x : ℕ). place / x) power in
+    record { up = over.up + 1; tile = over.tile ∙ (λ i. full_tile (height i) (index i)) }
+
+pub over-here : (level place : ℕ) → IsOver level place (full_tile level (place / 256))
+over-here level place =
+    let height : level ≡ level + 0 = omega arith in
+    record { up = 0; tile = ap (λ (l : ℕ). full_tile l (place / 256)) height }
+
+overs-up : (level place : ℕ) (xs : List (Tile × List ℕ)) → All (λ f. IsOver (level + 1) (place / 256) f.0) xs → All (λ f. IsOver level place f.0) xs
+overs-up level place [] all = All-nil (λ (f : Tile × List ℕ). IsOver level place f.0)
+overs-up level place (f ∷ xs) all =
+    let P : Tile × List ℕ → Type 0 = λ x. IsOver (level + 1) (place / 256) x.0 in
+    All-cons (λ (x : Tile × List ℕ). IsOver level place x.0) f xs (over-up level place f.0 (All-head P f xs all)) (overs-up level place xs (All-tail P f xs all))
+
+pub adds-none : (level place : ℕ) (xs : List (Tile × List ℕ)) → AddsOver level place xs xs
+adds-none level place xs = record { added = []; joined = sym (append-nil xs); over = All-nil (λ (f : Tile × List ℕ). IsOver level place f.0) }
+
+pub adds-up : (level place : ℕ) (old new : List (Tile × List ℕ)) → AddsOver (level + 1) (place / 256) old new → AddsOver level place old new
+adds-up level place old new adds = record { added = adds.added; joined = adds.joined; over = overs-up level place adds.added adds.over }
+
+-- the tiles above, and then the one with the place
+pub adds-more : (level place : ℕ) (old middle new : List (Tile × List ℕ)) → AddsOver (level + 1) (place / 256) old middle → AddsOnly (full_tile level (place / 256)) middle new → AddsOver level place old new
+adds-more level place old middle new adds (inl same) = subst (AddsOver level place old) (sym same) (adds-up level place old middle adds)
+adds-more level place old middle new adds (inr (text, pushed)) =
+    let up = adds-up level place old middle adds in
+    let f : Tile × List ℕ = (full_tile level (place / 256), text) in
+    record {
+      added = up.added ++ f ∷ [];
+      joined = pushed ∙ ap (λ (list : List (Tile × List ℕ)). list ++ f ∷ []) up.joined ∙ append_assoc old up.added (f ∷ []);
+      over = All-push (λ (x : Tile × List ℕ). IsOver level place x.0) up.added f up.over (over-here level place);
+    }
+
+-- a tile of a lower level is none of those added
+none-among : (level place : ℕ) (t : Tile) (xs : List (Tile × List ℕ)) → t.level < level → All (λ f. IsOver level place f.0) xs → tiles_of xs t ≡ None
+none-among level place t [] low all = refl
+none-among level place t (f ∷ xs) low all =
+    let P : Tile × List ℕ → Type 0 = λ x. IsOver level place x.0 in
+    elim (cases_Bool (same_tile f.0 t)) as (λ _. tiles_of (f ∷ xs) t ≡ None) [
+      | inl same ↦
+          let over = All-head P f xs all in
+          let height : t.level ≡ level + over.up = ap (λ (x : Tile). x.level) (sym (same_tile-is f.0 t same) ∙ over.tile) in
+          absurd (omega (arith, height, low))
+      | inr differ ↦ rw differ (none-among level place t xs low (All-tail P f xs all))
+    ]
+
+none-append : (xs ys : List (Tile × List ℕ)) (t : Tile) → tiles_of xs t ≡ None → tiles_of ys t ≡ None → tiles_of (xs ++ ys) t ≡ None
+none-append [] ys t none more = more
+none-append (x ∷ xs) ys t none more =
+    elim (cases_Bool (same_tile x.0 t)) as (λ _. tiles_of (x ∷ xs ++ ys) t ≡ None) [
+      | inl same ↦ (let found = rw same at none in absurd (cc))
+      | inr differ ↦ rw differ (none-append xs ys t (rw differ at none) more)
+    ]
+
+pub none-later : (level place : ℕ) (old new : List (Tile × List ℕ)) (t : Tile) → t.level < level → AddsOver level place old new → tiles_of old t ≡ None → tiles_of new t ≡ None
+none-later level place old new t low adds none =
+    ap (λ (list : List (Tile × List ℕ)). tiles_of list t) adds.joined ∙ none-append old adds.added t none (none-among level place t adds.added low adds.over)
+
+-- what was fetched stays
+found-append : (xs ys : List (Tile × List ℕ)) (t : Tile) (text : List ℕ) → tiles_of xs t ≡ Some text → tiles_of (xs ++ ys) t ≡ Some text
+found-append [] ys t text found = absurd (cc)
+found-append (x ∷ xs) ys t text found =
+    elim (cases_Bool (same_tile x.0 t)) as (λ _. tiles_of (x ∷ xs ++ ys) t ≡ Some text) [
+      | inl same ↦ rw same (rw same at found)
+      | inr differ ↦ rw differ (found-append xs ys t text (rw differ at found))
+    ]
+
+pub found-later : (level place : ℕ) (old new : List (Tile × List ℕ)) → AddsOver level place old new → (t : Tile) (text : List ℕ) → tiles_of old t ≡ Some text → tiles_of new t ≡ Some text
+found-later level place old new adds t text found =
+    ap (λ (list : List (Tile × List ℕ)). tiles_of list t) adds.joined ∙ found-append old adds.added t text found
