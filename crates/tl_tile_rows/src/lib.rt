@@ -4,6 +4,8 @@
 #[cfg(test)]
 mod edge;
 #[cfg(test)]
+mod equal;
+#[cfg(test)]
 mod fetches;
 #[cfg(test)]
 mod reader;
