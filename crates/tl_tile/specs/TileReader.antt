@@ -10,6 +10,7 @@ use Rattle.tl_tile.specs.Known.{TilesCollide}
 use Rattle.tl_tile.specs.TileLaws.{AreHonest}
 use Rattle.tl_tile.specs.Fetched.{tiles_of}
 use Rattle.tl_tile.specs.Source.{AreAnswers}
+use Rattle.tl_tile.specs.Fetching.{IsNeededFor}
 use Rattle.tl_tile.specs.SourceFaults.{GivesReadFault}
 
 -- a source, and the size and the root that its tiles are checked against
@@ -47,7 +48,8 @@ IsAsking read = AreReadable read.size read.indexes × (0 < length read.indexes)
 -- what a fault of a read says of the tiles that were fetched
 abbrev pub GivesNumbersFault : (List ℕ → List ℕ) → (Tile → Type 0) → Reading → ReadFault → Type 0
 GivesNumbersFault H may_lack read OutOfRange = Any (λ index. readable_count read.size ≤ index) read.indexes × (read.fetched ≡ [])
-GivesNumbersFault H may_lack read Source = IsAsking read × GivesReadFault H may_lack read.size read.root read.fetched Source
+GivesNumbersFault H may_lack read Source =
+    IsAsking read × GivesReadFault H (λ t. may_lack t × IsNeededFor read.size read.indexes t) read.size read.root read.fetched Source
 GivesNumbersFault H may_lack read OutOfMemory = IsAsking read
 GivesNumbersFault H may_lack read (BadTile level index width) =
     IsAsking read × GivesReadFault H may_lack read.size read.root read.fetched (BadTile level index width)
