@@ -45,16 +45,16 @@ pub bad-length : (H : List ℕ → List ℕ) (size : ℕ) (root : List ℕ) (old
 bad-length H size root old new tile text of pushed differ = record { of_log = of; because = inl (text, (old, pushed), differ) }
 
 -- a tile that the source lacks
-pub lacking : (H : List ℕ → List ℕ) (may_lack : Tile → Type 0) (size : ℕ) (root : List ℕ) (old new : List (Tile × List ℕ)) (tile : Tile) → IsTileOf size tile → ComesNext H size root old tile → tiles_of old tile ≡ None
+pub lacking : (H : List ℕ → List ℕ) (may_lack : Tile → Type 0) (size : ℕ) (root : List ℕ) (old new : List (Tile × List ℕ)) (tile : Tile) → IsTileOf size tile → ComesNext H size root old tile
     → new ≡ old → may_lack tile → IsLacking H may_lack size root new tile
-lacking H may_lack size root old new tile of next none same lacks =
-    subst (λ (list : List (Tile × List ℕ)). IsLacking H may_lack size root list tile) (sym same) (record { lacks = lacks; of_log = of; next = next; none = none })
+lacking H may_lack size root old new tile of next same lacks =
+    subst (λ (list : List (Tile × List ℕ)). IsLacking H may_lack size root list tile) (sym same) (record { lacks = lacks; of_log = of; next = next })
 
 -- a fault where more tiles may be lacking
 pub fault-weaker : (H : List ℕ → List ℕ) (few many : Tile → Type 0) (size : ℕ) (root : List ℕ) (fetched : List (Tile × List ℕ)) (fault : ReadFault) → ((t : Tile) → few t → many t)
     → GivesReadFault H few size root fetched fault → GivesReadFault H many size root fetched fault
 fault-weaker H few many size root fetched OutOfRange weaker gives = absurd gives
-fault-weaker H few many size root fetched Source weaker (t, gives) = (t, record { lacks = weaker t gives.lacks; of_log = gives.of_log; next = gives.next; none = gives.none })
+fault-weaker H few many size root fetched Source weaker (t, gives) = (t, record { lacks = weaker t gives.lacks; of_log = gives.of_log; next = gives.next })
 fault-weaker H few many size root fetched OutOfMemory weaker gives = tt
 fault-weaker H few many size root fetched (BadTile level index width) weaker gives = gives
 

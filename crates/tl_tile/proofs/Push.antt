@@ -9,9 +9,10 @@ use Rattle.tl_tile.specs.TileText.{level_count, full_tile, partial_tile, tile_wi
 use Rattle.tl_tile.specs.Known.{Tiles, IsFold, nothing, given, split, IsEdgeHash, IsInAbove}
 use Rattle.tl_tile.specs.KnownEdge.{HasEdge, Part}
 use Rattle.tl_tile.specs.Fetched.{same_tile, tiles_of, tiles_in, texts_of}
-use Rattle.tl_tile.specs.Source.{IsTileOf, HasTileWith, IsHashWith, IsMissing, IsThere}
+use Rattle.tl_tile.specs.Source.{IsTileOf, HasTileWith, IsHashWith}
+use Rattle.tl_tile.specs.Steps.{IsMissing, IsThere}
 use Rattle.tl_tile.specs.Fetching.{BeginsWithEdge, edge_tiles}
-use Rattle.tl_tile.specs.Verified.{AreVerified, IsNextFull}
+use Rattle.tl_tile.specs.Verified.{AreVerified, ComesNext}
 use Rattle.tl_tile.specs.SourceFaults.{IsBadFull, IsBadTile}
 use Rattle.tl_tile.proofs.Edges.{Some-injective, under_within}
 use Rattle.tl_tile.proofs.Checked.{level_count-above, tile_with-full, tile_with-partial}
@@ -233,8 +234,8 @@ bad-full H size root old new level index tile text seen own hash is below none p
 
 -- a full tile comes next
 pub next-full : (H : List ℕ → List ℕ) (size : ℕ) (root : List ℕ) (xs : List (Tile × List ℕ)) (level index : ℕ) → AreVerified H size root xs → tiles_of xs (full_tile level index) ≡ None → HasTileWith (tiles_of xs) size (level + 1) index
-    → IsNextFull H size root xs (full_tile level index)
-next-full H size root xs level index passed new above = record { full = refl; passed = passed; new = new; above = above }
+    → ComesNext H size root xs (full_tile level index)
+next-full H size root xs level index passed new above = record { new = new; next = inr (record { full = refl; passed = passed; above = above }) }
 
 -- a tile that was added is there
 pub none-not : (old new : List (Tile × List ℕ)) (tile : Tile) (text : List ℕ) → new ≡ old ++ (tile, text) ∷ [] → tiles_of new tile ≡ None → ⊥

@@ -1,5 +1,5 @@
 -- When reading from a source of tiles fails.
-use Rattle.std.specs.Prelude.{◌≡◌, ◌≢◌, ℕ, ◌+◌, ◌*◌, ◌%◌, ◌<◌, List, [], ◌∷◌, ◌++◌, length, None, ◌⊎◌}
+use Rattle.std.specs.Prelude.{◌≡◌, ◌≢◌, ℕ, ◌+◌, ◌*◌, ◌%◌, ◌<◌, List, [], ◌∷◌, ◌++◌, length, ◌⊎◌}
 use Rattle.tl_hash.specs.Tree.{tree_hash}
 use Rattle.tl_store.specs.declared.reader.ReadFault.{ReadFault}
 use Rattle.tl_store.specs.declared.reader.ReadFault.TheVariants.{OutOfRange, Source, OutOfMemory, BadTile}
@@ -52,7 +52,6 @@ pub record IsLacking (H : List ℕ → List ℕ) (may_lack : Tile → Type 0) (s
   pub lacks : may_lack t
   pub of_log : IsTileOf size t
   pub next : ComesNext H size root fetched t
-  pub none : tiles_of fetched t ≡ None
 
 -- what a fault of a read with all numbers in range says of the tiles that were fetched
 abbrev pub GivesReadFault : (List ℕ → List ℕ) → (Tile → Type 0) → ℕ → List ℕ → List (Tile × List ℕ) → ReadFault → Type 0

@@ -26,9 +26,9 @@ pub record Reading : Type 0 where
   pub indexes : List ℕ
   pub fetched : List (Tile × List ℕ)
 
--- authenticated hashes: for each list of entries of this size and root they are its stored hashes, or one of its inputs
--- and a string that was hashed for these tiles collide; and where these tiles are those over a list, they are its stored
--- hashes
+-- authenticated hashes: for each list of entries of this size and root they are its stored hashes, or one of its
+-- inputs and a string that was hashed for these tiles collide; and where these tiles are those over a list, they are
+-- its stored hashes
 pub record AreAuthentic (H : List ℕ → List ℕ) (read : Reading) (hashes : List (List ℕ)) : Type 0 where
   pub stored : (entries : List (List ℕ)) → length entries ≡ read.size → tree_hash H entries ≡ read.root
       → (hashes ≡ map (stored_hash H entries) read.indexes) ⊎ TilesCollide H (tiles_of read.fetched) read.size entries
@@ -54,8 +54,8 @@ GivesNumbersFault H may_lack read OutOfMemory = IsAsking read
 GivesNumbersFault H may_lack read (BadTile level index width) =
     IsAsking read × GivesReadFault H may_lack read.size read.root read.fetched (BadTile level index width)
 
--- the reader stands for the lists of its size and root, under its own digest function, with no input that collides with a
--- string hashed for tiles that the source may answer
+-- the reader stands for the lists of its size and root, under its own digest function, with no input that collides
+-- with a string hashed for tiles that the source may answer
 abbrev pub StandsAgainst : (List ℕ → List ℕ) → (Tile → List ℕ → Type 0) → ℕ → List ℕ → (List ℕ → List ℕ) → List (List ℕ) → Type 0
 StandsAgainst own may_answer size root H entries =
     (length entries ≡ size) × (length entries ≤ 2 ^ 62) × (H ≡ own) × (tree_hash H entries ≡ root)

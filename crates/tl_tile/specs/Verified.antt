@@ -19,16 +19,16 @@ pub record AreVerified (H : List ℕ → List ℕ) (size : ℕ) (root : List ℕ
 abbrev pub IsNextPartial : ℕ → List (Tile × List ℕ) → Tile → Type 0
 IsNextPartial size before t = (rest : List Tile) × (edge_tiles size ≡ tiles_in before ++ t ∷ rest)
 
--- after tiles that passed all checks, a full tile that isn't among them, where the tile above it is
+-- after tiles that passed all checks, a full tile, where the tile above it is among them
 pub record IsNextFull (H : List ℕ → List ℕ) (size : ℕ) (root : List ℕ) (before : List (Tile × List ℕ)) (t : Tile) : Type 0 where
   pub full : t ≡ full_tile t.level t.index
   pub passed : AreVerified H size root before
-  pub new : tiles_of before t ≡ None
   pub above : HasTileWith (tiles_of before) size (t.level + 1) t.index
 
--- a tile that a read may fetch after these
-abbrev pub ComesNext : (List ℕ → List ℕ) → ℕ → List ℕ → List (Tile × List ℕ) → Tile → Type 0
-ComesNext H size root before t = IsNextPartial size before t ⊎ IsNextFull H size root before t
+-- a tile that a read may fetch after these: it isn't among them
+pub record ComesNext (H : List ℕ → List ℕ) (size : ℕ) (root : List ℕ) (before : List (Tile × List ℕ)) (t : Tile) : Type 0 where
+  pub new : tiles_of before t ≡ None
+  pub next : IsNextPartial size before t ⊎ IsNextFull H size root before t
 
 -- after some tiles, each of these comes next
 abbrev pub AreNext : (List ℕ → List ℕ) → ℕ → List ℕ → List (Tile × List ℕ) → List (Tile × List ℕ) → Type 0

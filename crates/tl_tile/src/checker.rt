@@ -3,10 +3,10 @@
 ghost use Rattle.std.specs.Prelude.{◌≡◌, ◌↔◌, ◌≤◌, ◌<◌, ◌+◌, ◌*◌, ◌%◌, ◌^◌, ◌∷◌, ◌++◌, ℕ, List, [], length, IfErr, OnOk, IsTrue, Some, None};
 ghost use Rattle.tl_tile.specs.TileText as spec;
 ghost use Rattle.tl_tile.specs.Fetched.{tiles_of, tiles_in};
-ghost use Rattle.tl_tile.specs.Source.{HasTileWith, IsHashWith, IsThere, IsTileOf};
+ghost use Rattle.tl_tile.specs.Source.{HasTileWith, IsHashWith, IsTileOf};
 ghost use Rattle.tl_tile.specs.Fetching.{IsOver, IsPartialOf, edge_tiles};
 ghost use Rattle.tl_tile.specs.Verified.{AreVerified, ComesNext};
-ghost use Rattle.tl_tile.specs.Steps.{AreFetched, AreEdgeFrom, AddsOnly, AddsOver};
+ghost use Rattle.tl_tile.specs.Steps.{AreFetched, AreEdgeFrom, AddsOnly, AddsOver, IsThere};
 ghost use Rattle.tl_tile.specs.SourceFaults.{GivesReadFault};
 
 use crate::fetched::FetchedTiles;
@@ -78,7 +78,6 @@ impl<T: TreeHash, S: TileSource> Checker<T, S> {
     ) -> Result<(), ReadFault>
         requires of { IsTileOf self.now.size tile }
         requires narrow { tile.width ≤ 256 }
-        requires new { tiles_of fetched.old tile ≡ None }
         requires next { ComesNext T.digest_of self.now.size self.now.root fetched.old tile }
         requires fetched { AreFetched (S.may_answer self.now.source) T.digest_of self.now.size self.now.root fetched.old }
         ensures text { OnOk result ((text : List ℕ) × (fetched.new ≡ fetched.old ++ (tile, text) ∷ []) × (length text ≡ 32 * tile.width)) }

@@ -4,10 +4,10 @@ ghost use Rattle.std.specs.Prelude.{◌≡◌, ◌≤◌, ◌<◌, ◌*◌, ◌/
 ghost use Rattle.tl_store.specs.Stored as stored;
 ghost use Rattle.tl_tile.specs.Known.{Tells};
 ghost use Rattle.tl_tile.specs.Fetched.{tiles_of};
-ghost use Rattle.tl_tile.specs.Source.{HasTileWith, IsPlaceIn};
+ghost use Rattle.tl_tile.specs.Source.{HasTileWith};
 ghost use Rattle.tl_tile.specs.Fetching.{IsOver, IsNeededFor};
 ghost use Rattle.tl_tile.specs.Verified.{AreVerified};
-ghost use Rattle.tl_tile.specs.Steps.{AreFetched, AddsOver};
+ghost use Rattle.tl_tile.specs.Steps.{AreFetched, AddsOver, IsPlaceIn};
 ghost use Rattle.tl_tile.specs.SourceFaults.{GivesReadFault};
 ghost use Rattle.tl_tile.specs.TileReader.{AreAuthentic};
 

@@ -12,7 +12,7 @@ use Rattle.tl_tile.proofs.checker.Checker.fetch_full.Goals as goal
 pub fetch_tile-requires-clause-next : goal.fetch_tile-requires-clause-next
 fetch_tile-requires-clause-next g c =
     subst (ComesNext g.T.TreeHash.digest_of c.args.self.now.size c.args.self.now.root c.args.fetched.now) (sym c.full_tile-tile.ensures)
-    (inr (next-full g.T.TreeHash.digest_of c.args.self.now.size c.args.self.now.root c.args.fetched.now c.args.level c.args.index c.requires.verified c.requires.new c.requires.above))
+    (next-full g.T.TreeHash.digest_of c.args.self.now.size c.args.self.now.root c.args.fetched.now c.args.level c.args.index c.requires.verified c.requires.new c.requires.above)
 
 pub unreachable-requires : goal.unreachable-requires
 unreachable-requires g c =
