@@ -1,5 +1,5 @@
 -- Fetching the partial tiles, from the highest level down.
-use Rattle.std.proofs.Common.{◌≡◌, ℕ, suc, ◌*◌, ◌/◌, ◌^◌, ◌+◌, ◌%◌, ◌<◌, ◌≤◌, inl, inr, List, [], ◌∷◌, ◌++◌, length, map, None, refl, sym, ap, subst, ◌∙◌, arith}
+use Rattle.std.proofs.Common.{◌≡◌, ℕ, suc, ◌*◌, ◌/◌, ◌^◌, ◌+◌, ◌%◌, ◌<◌, ◌≤◌, inl, inr, List, [], ◌∷◌, ◌++◌, length, None, refl, sym, ap, subst, ◌∙◌, arith}
 use Rattle.std.specs.Prelude.{◌≢◌}
 use Rattle.std.proofs.lemmas.Bool.{cases_eq, cases_lt}
 use Rattle.std.proofs.lemmas.List.{append-nil, map-append}
@@ -9,7 +9,7 @@ use Rattle.tl_tile.specs.Known.{KnownRoot}
 use Rattle.tl_tile.specs.KnownEdge.{IsEdgeLevel, HasEdge}
 use Rattle.tl_tile.specs.Fetched.{tiles_of, tiles_in}
 use Rattle.tl_tile.specs.Source.{AreLong}
-use Rattle.tl_tile.specs.Fetching.{edge_from, edge_tiles}
+use Rattle.tl_tile.specs.Fetching.{edge_tiles}
 use Rattle.tl_tile.specs.Verified.{AreVerified}
 use Rattle.tl_tile.specs.Steps.{AreEdgeFrom, AddsOnly}
 use Rattle.tl_tile.specs.SourceFaults.{IsBadTile}

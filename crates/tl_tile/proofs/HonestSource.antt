@@ -9,7 +9,7 @@ use Rattle.tl_hash.proofs.TreeLemmas.{length-tree_hash}
 use Rattle.tl_tile.proofs.Segments.{HasHashLength}
 use Rattle.tl_store.specs.declared.reader.ReadFault.TheVariants.{OutOfRange, Source, OutOfMemory, BadTile}
 use Rattle.tl_tile.specs.declared.resource.Tile.{Tile}
-use Rattle.tl_tile.specs.TileText.{entries_under, tile_text, full_tile}
+use Rattle.tl_tile.specs.TileText.{entries_under, tile_text}
 use Rattle.tl_tile.specs.Fetched.{same_tile, tiles_of}
 use Rattle.tl_tile.specs.Source.{AreAnswers}
 use Rattle.tl_tile.specs.TileLaws.{AreHonest}

@@ -1,5 +1,5 @@
 -- Tiles in the order of a read, and those that it needs.
-use Rattle.std.proofs.Common.{◌≡◌, ℕ, zero, suc, ◌+◌, ◌-◌, ◌*◌, ◌/◌, ◌%◌, ◌^◌, ◌<◌, ◌≤◌, ◌⊎◌, inl, inr, Bool, true, false, cond, List, [], ◌∷◌, ◌++◌, append_assoc, length, map, filter, reverse, nat_lt, All, Any, get_or, Some, None, refl, sym, ap, subst, ◌∙◌, arith}
+use Rattle.std.proofs.Common.{◌≡◌, ℕ, zero, suc, ◌+◌, ◌-◌, ◌*◌, ◌/◌, ◌%◌, ◌^◌, ◌<◌, ◌≤◌, inl, inr, Bool, cond, List, [], ◌∷◌, ◌++◌, append_assoc, length, map, filter, reverse, nat_lt, All, get_or, Some, None, refl, sym, ap, subst, ◌∙◌, arith}
 use Rattle.std.specs.Prelude.{◌≢◌, Result, Ok, Err, IfErr}
 use Rattle.std.specs.List.{range_with_len}
 use Rattle.std.proofs.Math.Nat.{pow-succ', div-div-eq-div-mul}
@@ -12,10 +12,10 @@ use Rattle.tl_tile.specs.declared.resource.Tile.{Tile}
 use Rattle.tl_tile.specs.declared.place.Place.{Place}
 use Rattle.tl_tile.specs.TileText.{level_count, full_tile, partial_tile}
 use Rattle.tl_tile.specs.Fetched.{same_tile, tiles_of, tiles_in}
-use Rattle.tl_tile.specs.Source.{IsTileOf, Answers, AreAnswers}
+use Rattle.tl_tile.specs.Source.{IsTileOf, Answers}
 use Rattle.tl_store.specs.declared.reader.ReadFault.{ReadFault}
 use Rattle.tl_store.specs.declared.reader.ReadFault.TheVariants.{OutOfRange, Source, OutOfMemory, BadTile}
-use Rattle.tl_tile.specs.Fetching.{IsOver, IsOverNumber, IsPartialOf, IsNeededFor, edge_from, edge_tiles}
+use Rattle.tl_tile.specs.Fetching.{IsOver, IsPartialOf, IsNeededFor, edge_from, edge_tiles}
 use Rattle.tl_tile.specs.Verified.{IsNextPartial, ComesNext, AreNext}
 use Rattle.tl_tile.specs.Steps.{AreFetched, AddsOnly, AddsOver}
 use Rattle.tl_tile.specs.SourceFaults.{IsBadTile, IsLacking, GivesReadFault}
@@ -88,11 +88,10 @@ edge-prefix-at size zero low = ([], sym (append-nil (edge_tiles size)))
 edge-prefix-at size (suc level) low =
     let before = edge-prefix-at size level (omega (arith, low)) in
     let own : List Tile = cond (nat_lt 0 (level_count size level % 256)) (partial_tile size level ∷ []) [] in
-    let next : level + 1 ≡ suc level = omega arith in
-    (
+    let next : level + 1 ≡ suc level = omega arith in (
       own ++ before.0,
       before.1 ∙ ap (λ (list : List Tile). list ++ before.0) (edge-more size level (omega (arith, low)) ∙ ap (λ (l : ℕ). edge_from size l ++ own) next)
-      ∙ append_assoc (edge_from size (suc level)) own before.0,
+          ∙ append_assoc (edge_from size (suc level)) own before.0,
     )
 
 pub edge-prefix : (size level : ℕ) (xs : List (Tile × List ℕ)) → level ≤ 8 → tiles_in xs ≡ edge_from size level → (rest : List Tile) × (edge_tiles size ≡ tiles_in xs ++ rest)
@@ -103,11 +102,10 @@ edge-prefix size level xs low are =
 pub next-partial : (size level : ℕ) (xs : List (Tile × List ℕ)) (tile : Tile) → level ≤ 7 → tiles_in xs ≡ edge_from size (level + 1) → tile ≡ partial_tile size level → 0 < tile.width → IsNextPartial size xs tile
 next-partial size level xs tile low are is wide =
     let p = edge-prefix-at size level (omega (arith, low)) in
-    let some : 0 < level_count size level % 256 = omega (arith, wide, ap (λ (t : Tile). t.width) is) in
-    (
+    let some : 0 < level_count size level % 256 = omega (arith, wide, ap (λ (t : Tile). t.width) is) in (
       p.0,
       p.1 ∙ ap (λ (list : List Tile). list ++ p.0) (edge-next size level low some) ∙ append_assoc (edge_from size (level + 1)) (partial_tile size level ∷ []) p.0
-      ∙ (λ i. sym are i ++ sym is i ∷ p.0),
+          ∙ (λ i. sym are i ++ sym is i ∷ p.0),
     )
 
 -- ---- what numbers need

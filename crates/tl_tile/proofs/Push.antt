@@ -8,12 +8,12 @@ use Rattle.tl_tile.specs.declared.resource.Tile.{Tile}
 use Rattle.tl_tile.specs.TileText.{level_count, full_tile, partial_tile, tile_with}
 use Rattle.tl_tile.specs.Known.{Tiles, IsFold, nothing, given, split, IsEdgeHash, IsInAbove}
 use Rattle.tl_tile.specs.KnownEdge.{HasEdge, Part}
-use Rattle.tl_tile.specs.Fetched.{same_tile, tiles_of, tiles_in, texts_of}
-use Rattle.tl_tile.specs.Source.{IsTileOf, HasTileWith, IsHashWith}
+use Rattle.tl_tile.specs.Fetched.{same_tile, tiles_of, texts_of}
+use Rattle.tl_tile.specs.Source.{HasTileWith, IsHashWith}
 use Rattle.tl_tile.specs.Steps.{IsMissing, IsThere}
 use Rattle.tl_tile.specs.Fetching.{BeginsWithEdge, edge_tiles}
 use Rattle.tl_tile.specs.Verified.{AreVerified, ComesNext}
-use Rattle.tl_tile.specs.SourceFaults.{IsBadFull, IsBadTile}
+use Rattle.tl_tile.specs.SourceFaults.{IsBadTile}
 use Rattle.tl_tile.proofs.Edges.{Some-injective, under_within}
 use Rattle.tl_tile.proofs.Checked.{level_count-above, tile_with-full, tile_with-partial}
 

@@ -1,4 +1,4 @@
-use Rattle.std.proofs.Common.{◌≡◌, None, subst, sym, arith, ◌∙◌, ap, length, inr}
+use Rattle.std.proofs.Common.{◌≡◌, subst, sym, arith, ◌∙◌, ap, length}
 use Rattle.tl_tile.specs.declared.resource.Tile.{Tile}
 use Rattle.tl_tile.specs.Fetched.{tiles_of}
 use Rattle.tl_tile.specs.TileText.{full_tile}

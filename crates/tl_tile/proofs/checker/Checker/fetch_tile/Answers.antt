@@ -1,4 +1,4 @@
-use Rattle.std.proofs.Common.{◌≡◌, subst, sym, arith, ◌∙◌, ap}
+use Rattle.std.proofs.Common.{◌≡◌, subst, sym, ◌∙◌}
 use Rattle.tl_tile.specs.SourceFaults.{GivesReadFault}
 use Rattle.tl_tile.proofs.Orders.{fetched-push, bad-length}
 use Rattle.tl_tile.proofs.checker.Checker.fetch_tile.Goals as goal
