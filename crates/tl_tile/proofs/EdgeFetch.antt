@@ -1,5 +1,5 @@
 -- Fetching the partial tiles, from the highest level down.
-use Rattle.std.proofs.Common.{◌≡◌, ℕ, suc, ◌*◌, ◌/◌, ◌^◌, ◌+◌, ◌%◌, ◌<◌, ◌≤◌, inl, inr, List, [], ◌∷◌, ◌++◌, length, map, None, refl, sym, ap, subst, ◌∙◌, arith}
+use Rattle.std.proofs.Common.{◌≡◌, ℕ, suc, ◌*◌, ◌/◌, ◌^◌, ◌+◌, ◌%◌, ◌<◌, ◌≤◌, inl, inr, List, [], ◌∷◌, ◌++◌, length, None, refl, sym, ap, subst, ◌∙◌, arith}
 use Rattle.std.specs.Prelude.{◌≢◌}
 use Rattle.std.proofs.lemmas.Bool.{cases_eq, cases_lt}
 use Rattle.std.proofs.lemmas.List.{append-nil, map-append}
@@ -9,8 +9,9 @@ use Rattle.tl_tile.specs.Known.{KnownRoot}
 use Rattle.tl_tile.specs.KnownEdge.{IsEdgeLevel, HasEdge}
 use Rattle.tl_tile.specs.Fetched.{tiles_of, tiles_in}
 use Rattle.tl_tile.specs.Source.{AreLong}
-use Rattle.tl_tile.specs.Fetching.{edge_from, edge_tiles, AddsOnly}
-use Rattle.tl_tile.specs.Verified.{AreVerified, AreEdgeFrom}
+use Rattle.tl_tile.specs.Fetching.{edge_tiles}
+use Rattle.tl_tile.specs.Verified.{AreVerified}
+use Rattle.tl_tile.specs.Steps.{AreEdgeFrom, AddsOnly}
 use Rattle.tl_tile.specs.SourceFaults.{IsBadTile}
 use Rattle.std.proofs.Math.Nat.{pow-succ', div-mul-le_self}
 use Rattle.std.proofs.Math.Pow.{pow_mono}
@@ -114,15 +115,11 @@ edge-has size xs edge l low wide = edge.edge l (omega arith) low wide
 -- or which tell another root
 pub bad-edge : (H : List ℕ → List ℕ) (size : ℕ) (root known : List ℕ) (xs : List (Tile × List ℕ)) (tile : Tile) → AreEdgeFrom size 0 xs
     → ((strings : List (List ℕ)) × KnownRoot H (tiles_of xs) size known strings) → known ≢ root
-    → tile ≡ partial_tile size tile.level → 0 < tile.width → tile.level < 8 → ((level : ℕ) → tile.level < level → level_count size level % 256 ≡ 0) → IsBadTile H size root xs tile
-bad-edge H size root known xs tile edge (strings, fold) differ is wide low highest =
-    let there = edge.edge tile.level (omega arith) low (omega (arith, wide, ap (λ (t : Tile). t.width) is)) in
-    record {
-      text = there.0;
-      found = ap (tiles_of xs) is ∙ there.1.fetched;
-      of_log = inr (is, wide);
-      because = inr (inl (record { known = known; strings = strings; partial = is; highest = highest; tells = fold; differ = differ }));
-    }
+    → tile ≡ partial_tile size tile.level → 0 < tile.width → ((level : ℕ) → tile.level < level → level_count size level % 256 ≡ 0) → IsBadTile H size root xs tile
+bad-edge H size root known xs tile edge (strings, fold) differ is wide highest = record {
+  of_log = inr (is, wide);
+  because = inr (inl (record { known = known; strings = strings; all = edge.tiles; partial = is; highest = highest; tells = fold; differ = differ }));
+}
 
 -- no level above the highest partial tile has a hash
 pub none_above : (size j level : ℕ) → size < 2 * 2 ^ j → j / 8 < level → level_count size level % 256 ≡ 0

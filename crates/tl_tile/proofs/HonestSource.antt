@@ -1,14 +1,15 @@
 -- An honest source is read.
-use Rattle.std.proofs.Common.{◌≡◌, ℕ, zero, suc, ◌+◌, ◌*◌, inl, inr, List, [], ◌∷◌, length, All, Some, refl, sym, ap, subst, ◌∙◌, arith}
+use Rattle.std.proofs.Common.{◌≡◌, ℕ, zero, suc, ◌+◌, ◌*◌, inl, inr, List, [], ◌∷◌, ◌++◌, length, All, Some, refl, sym, ap, subst, ◌∙◌, arith}
 use Rattle.std.specs.List.{flat_map, range_with_len}
 use Rattle.std.proofs.lemmas.Bool.{cases_Bool}
 use Rattle.std.proofs.lemmas.List.{length-append}
+use Rattle.std.proofs.lemmas.List.Elements.{All-head, All-tail}
 use Rattle.tl_hash.specs.Tree.{tree_hash}
 use Rattle.tl_hash.proofs.TreeLemmas.{length-tree_hash}
 use Rattle.tl_tile.proofs.Segments.{HasHashLength}
 use Rattle.tl_store.specs.declared.reader.ReadFault.TheVariants.{OutOfRange, Source, OutOfMemory, BadTile}
 use Rattle.tl_tile.specs.declared.resource.Tile.{Tile}
-use Rattle.tl_tile.specs.TileText.{entries_under, tile_text, full_tile}
+use Rattle.tl_tile.specs.TileText.{entries_under, tile_text}
 use Rattle.tl_tile.specs.Fetched.{same_tile, tiles_of}
 use Rattle.tl_tile.specs.Source.{AreAnswers}
 use Rattle.tl_tile.specs.TileLaws.{AreHonest}
@@ -44,15 +45,29 @@ pub are_honest : (may_answer : Tile → List ℕ → Type 0) (H : List ℕ → L
 are_honest may_answer H entries honest xs answers t text found =
     let answer = found-answer (Answers may_answer (length entries)) xs answers t text found in honest t text answer.0 answer.1
 
-not-bad : (H : List ℕ → List ℕ) → ((message : List ℕ) → HasHashLength (H message)) → (entries : List (List ℕ)) (xs : List (Tile × List ℕ)) → AreHonest H (tiles_of xs) entries
-    → (t : Tile) → IsBadTile H (length entries) (tree_hash H entries) xs t → ⊥
-not-bad H wide entries xs honest t bad =
-    let text_is : bad.text ≡ tile_text H t entries = honest t bad.text bad.found in
+at_end : (R : Tile × List ℕ → Type 0) (before : List (Tile × List ℕ)) (f : Tile × List ℕ) → All R (before ++ f ∷ []) → R f
+at_end R [] f all = All-head R f [] all
+at_end R (x ∷ before) f all = at_end R before f (All-tail R x (before ++ f ∷ []) all)
+
+-- the text that was fetched last is an answer
+last-answer : (R : Tile × List ℕ → Type 0) (xs before : List (Tile × List ℕ)) (f : Tile × List ℕ) → All R xs → xs ≡ before ++ f ∷ [] → R f
+last-answer R xs before f all is = at_end R before f (subst (All R) is all)
+
+not-bad : (may_answer : Tile → List ℕ → Type 0) (H : List ℕ → List ℕ) → ((message : List ℕ) → HasHashLength (H message)) → (entries : List (List ℕ))
+    → ((t : Tile) (text : List ℕ) → IsTileOf (length entries) t → may_answer t text → text ≡ tile_text H t entries)
+    → (xs : List (Tile × List ℕ)) → AreAnswers may_answer (length entries) xs → (t : Tile) → IsBadTile H (length entries) (tree_hash H entries) xs t → ⊥
+not-bad may_answer H wide entries honest xs answers t bad =
+    let P : Tile × List ℕ → Type 0 = λ f. Answers may_answer (length entries) f.0 f.1 in
+    let all : AreHonest H (tiles_of xs) entries = are_honest may_answer H entries honest xs answers in
     elim bad.because as (λ _. ⊥) [
-      | inl long ↦ long (ap length text_is ∙ length-tile_text H wide t entries)
-      | inr (inl edge) ↦ edge.differ (honest_tiles_tell_root H wide (tiles_of xs) entries honest edge.known edge.strings edge.tells)
+      | inl (text, last, differ) ↦
+          let answer = last-answer P xs last.0 (t, text) answers last.1 in
+          differ (ap length (honest t text answer.0 answer.1) ∙ length-tile_text H wide t entries)
+      | inr (inl edge) ↦ edge.differ (honest_tiles_tell_root H wide (tiles_of xs) entries all edge.known edge.strings edge.tells)
       | inr (inr full) ↦
-          full.differ (sym (text_tells_above H wide (tiles_of xs) entries honest t.level t.index bad.text full.hash full.strings full.below
+          let answer = last-answer P xs full.last.0 (t, full.text) answers full.last.1 in
+          let text_is : full.text ≡ tile_text H t entries = honest t full.text answer.0 answer.1 in
+          full.differ (sym (text_tells_above H wide (tiles_of xs) entries all t.level t.index full.text full.hash full.strings full.below
           (text_is ∙ ap (λ (u : Tile). tile_text H u entries) full.full) full.tells full.above.0 full.own full.above.1 full.above.2))
     ]
 
@@ -61,4 +76,4 @@ honest_source_is_read may_answer may_lack H wide entries honest has OutOfRange (
 honest_source_is_read may_answer may_lack H wide entries honest has Source (xs, answers, (t, gives)) = absurd (has t gives.of_log gives.lacks)
 honest_source_is_read may_answer may_lack H wide entries honest has OutOfMemory (xs, answers, gives) = refl
 honest_source_is_read may_answer may_lack H wide entries honest has (BadTile level index width) (xs, answers, bad) =
-    absurd (not-bad H wide entries xs (are_honest may_answer H entries honest xs answers) (record { level = level; index = index; width = width }) bad)
+    absurd (not-bad may_answer H wide entries honest xs answers (record { level = level; index = index; width = width }) bad)

@@ -1,6 +1,6 @@
 -- Tiles in the order of a read, and those that it needs.
-use Rattle.std.proofs.Common.{◌≡◌, ℕ, zero, suc, ◌+◌, ◌-◌, ◌*◌, ◌/◌, ◌%◌, ◌^◌, ◌<◌, ◌≤◌, ◌⊎◌, inl, inr, Bool, true, false, cond, List, [], ◌∷◌, ◌++◌, append_assoc, length, map, filter, reverse, nat_lt, All, Any, get_or, Some, None, refl, sym, ap, subst, ◌∙◌, arith}
-use Rattle.std.specs.Prelude.{◌≢◌}
+use Rattle.std.proofs.Common.{◌≡◌, ℕ, zero, suc, ◌+◌, ◌-◌, ◌*◌, ◌/◌, ◌%◌, ◌^◌, ◌<◌, ◌≤◌, inl, inr, Bool, cond, List, [], ◌∷◌, ◌++◌, append_assoc, length, map, filter, reverse, nat_lt, All, get_or, Some, None, refl, sym, ap, subst, ◌∙◌, arith}
+use Rattle.std.specs.Prelude.{◌≢◌, Result, Ok, Err, IfErr}
 use Rattle.std.specs.List.{range_with_len}
 use Rattle.std.proofs.Math.Nat.{pow-succ', div-div-eq-div-mul}
 use Rattle.std.proofs.lemmas.Bool.{cases_Bool, lt-ltb, ltb-true}
@@ -12,45 +12,55 @@ use Rattle.tl_tile.specs.declared.resource.Tile.{Tile}
 use Rattle.tl_tile.specs.declared.place.Place.{Place}
 use Rattle.tl_tile.specs.TileText.{level_count, full_tile, partial_tile}
 use Rattle.tl_tile.specs.Fetched.{same_tile, tiles_of, tiles_in}
-use Rattle.tl_tile.specs.Source.{IsTileOf, Answers, AreAnswers}
-use Rattle.tl_tile.specs.Fetching.{IsOver, IsOverNumber, IsNeededFor, edge_from, edge_tiles, IsNextPartial, ComesNext, AreNext, AreInOrder, AddsOnly, AddsOver}
-use Rattle.tl_tile.specs.Verified.{AreFetched}
-use Rattle.tl_tile.specs.SourceFaults.{IsBadTile, IsLacking}
-use Rattle.tl_tile.proofs.Push.{same_tile-is, tiles_of-new}
+use Rattle.tl_tile.specs.Source.{IsTileOf, Answers}
+use Rattle.tl_store.specs.declared.reader.ReadFault.{ReadFault}
+use Rattle.tl_store.specs.declared.reader.ReadFault.TheVariants.{OutOfRange, Source, OutOfMemory, BadTile}
+use Rattle.tl_tile.specs.Fetching.{IsOver, IsPartialOf, IsNeededFor, edge_from, edge_tiles}
+use Rattle.tl_tile.specs.Verified.{IsNextPartial, ComesNext, AreNext}
+use Rattle.tl_tile.specs.Steps.{AreFetched, AddsOnly, AddsOver}
+use Rattle.tl_tile.specs.SourceFaults.{IsBadTile, IsLacking, GivesReadFault}
+use Rattle.tl_tile.proofs.Push.{same_tile-is}
 
 -- ---- one tile more
 
-next-push : (size : ℕ) (before more : List (Tile × List ℕ)) (f : Tile × List ℕ) → AreNext size before more → ComesNext size (before ++ more) f.0 → AreNext size before (more ++ f ∷ [])
-next-push size before [] f order next = (subst (λ (list : List (Tile × List ℕ)). ComesNext size list f.0) (append-nil before) next, tt)
-next-push size before (m ∷ more) f order next =
-    (order.0, next-push size (before ++ m ∷ []) more f order.1 (subst (λ (list : List (Tile × List ℕ)). ComesNext size list f.0) (sym (append_assoc before (m ∷ []) more)) next))
+next-push : (H : List ℕ → List ℕ) (size : ℕ) (root : List ℕ) (before more : List (Tile × List ℕ)) (f : Tile × List ℕ) → AreNext H size root before more → ComesNext H size root (before ++ more) f.0 → AreNext H size root before (more ++ f ∷ [])
+next-push H size root before [] f order next = (subst (λ (list : List (Tile × List ℕ)). ComesNext H size root list f.0) (append-nil before) next, tt)
+next-push H size root before (m ∷ more) f order next =
+    (order.0, next-push H size root (before ++ m ∷ []) more f order.1 (subst (λ (list : List (Tile × List ℕ)). ComesNext H size root list f.0) (sym (append_assoc before (m ∷ []) more)) next))
 
-pub fetched-push : (may_answer : Tile → List ℕ → Type 0) (size : ℕ) (old new : List (Tile × List ℕ)) (tile : Tile) (text : List ℕ) → AreFetched may_answer size old → IsTileOf size tile → ComesNext size old tile
-    → new ≡ old ++ (tile, text) ∷ [] → may_answer tile text → AreFetched may_answer size new
-fetched-push may_answer size old new tile text before of next pushed answer =
-    subst (AreFetched may_answer size) (sym pushed) (record {
+pub fetched-push : (may_answer : Tile → List ℕ → Type 0) (H : List ℕ → List ℕ) (size : ℕ) (root : List ℕ) (old new : List (Tile × List ℕ)) (tile : Tile) (text : List ℕ) → AreFetched may_answer H size root old → IsTileOf size tile
+    → ComesNext H size root old tile → new ≡ old ++ (tile, text) ∷ [] → may_answer tile text → AreFetched may_answer H size root new
+fetched-push may_answer H size root old new tile text before of next pushed answer =
+    subst (AreFetched may_answer H size root) (sym pushed) (record {
       answers = All-push (λ (f : Tile × List ℕ). Answers may_answer size f.0 f.1) old (tile, text) before.answers (of, answer);
-      order = next-push size [] old (tile, text) before.order next;
+      order = next-push H size root [] old (tile, text) before.order next;
     })
 
-pub fetched-same : (may_answer : Tile → List ℕ → Type 0) (size : ℕ) (old new : List (Tile × List ℕ)) → new ≡ old → AreFetched may_answer size old → AreFetched may_answer size new
-fetched-same may_answer size old new same before = subst (AreFetched may_answer size) (sym same) before
-
-pub fetched-none : (may_answer : Tile → List ℕ → Type 0) (size : ℕ) (xs : List (Tile × List ℕ)) → xs ≡ [] → AreFetched may_answer size xs
-fetched-none may_answer size xs none = subst (AreFetched may_answer size) (sym none) (record { answers = All-nil (λ (f : Tile × List ℕ). Answers may_answer size f.0 f.1); order = tt })
+pub fetched-none : (may_answer : Tile → List ℕ → Type 0) (H : List ℕ → List ℕ) (size : ℕ) (root : List ℕ) (xs : List (Tile × List ℕ)) → xs ≡ [] → AreFetched may_answer H size root xs
+fetched-none may_answer H size root xs none = subst (AreFetched may_answer H size root) (sym none) (record { answers = All-nil (λ (f : Tile × List ℕ). Answers may_answer size f.0 f.1); order = tt })
 
 -- a new text of another length
-pub bad-length : (H : List ℕ → List ℕ) (size : ℕ) (root : List ℕ) (old new : List (Tile × List ℕ)) (tile : Tile) (text : List ℕ) → IsTileOf size tile → tiles_of old tile ≡ None
+pub bad-length : (H : List ℕ → List ℕ) (size : ℕ) (root : List ℕ) (old new : List (Tile × List ℕ)) (tile : Tile) (text : List ℕ) → IsTileOf size tile
     → new ≡ old ++ (tile, text) ∷ [] → length text ≢ 32 * tile.width → IsBadTile H size root new tile
-bad-length H size root old new tile text of none pushed differ = record {
-  text = text;
-  found = ap (λ (list : List (Tile × List ℕ)). tiles_of list tile) pushed ∙ tiles_of-new old (tile, text) tile refl none;
-  of_log = of;
-  because = inl differ;
-}
+bad-length H size root old new tile text of pushed differ = record { of_log = of; because = inl (text, (old, pushed), differ) }
 
-pub lacking : (may_lack : Tile → Type 0) (size : ℕ) (old new : List (Tile × List ℕ)) (tile : Tile) → IsTileOf size tile → tiles_of old tile ≡ None → new ≡ old → may_lack tile → IsLacking may_lack size new tile
-lacking may_lack size old new tile of none same lacks = record { of_log = of; lacks = lacks; none = ap (λ (list : List (Tile × List ℕ)). tiles_of list tile) same ∙ none }
+-- a tile that the source lacks
+pub lacking : (H : List ℕ → List ℕ) (may_lack : Tile → Type 0) (size : ℕ) (root : List ℕ) (old new : List (Tile × List ℕ)) (tile : Tile) → IsTileOf size tile → ComesNext H size root old tile
+    → new ≡ old → may_lack tile → IsLacking H may_lack size root new tile
+lacking H may_lack size root old new tile of next same lacks =
+    subst (λ (list : List (Tile × List ℕ)). IsLacking H may_lack size root list tile) (sym same) (record { lacks = lacks; of_log = of; next = next })
+
+-- a fault where more tiles may be lacking
+pub fault-weaker : (H : List ℕ → List ℕ) (few many : Tile → Type 0) (size : ℕ) (root : List ℕ) (fetched : List (Tile × List ℕ)) (fault : ReadFault) → ((t : Tile) → few t → many t)
+    → GivesReadFault H few size root fetched fault → GivesReadFault H many size root fetched fault
+fault-weaker H few many size root fetched OutOfRange weaker gives = absurd gives
+fault-weaker H few many size root fetched Source weaker (t, gives) = (t, record { lacks = weaker t gives.lacks; of_log = gives.of_log; next = gives.next })
+fault-weaker H few many size root fetched OutOfMemory weaker gives = tt
+fault-weaker H few many size root fetched (BadTile level index width) weaker gives = gives
+
+pub err_weaker : {X E : Type 0} (P Q : E → Type 0) (r : Result X E) → ((e : E) → P e → Q e) → IfErr r P → IfErr r Q
+err_weaker P Q (Ok x) weaker holds = tt
+err_weaker P Q (Err e) weaker holds = weaker e holds
 
 -- ---- the partial tiles
 
@@ -78,11 +88,10 @@ edge-prefix-at size zero low = ([], sym (append-nil (edge_tiles size)))
 edge-prefix-at size (suc level) low =
     let before = edge-prefix-at size level (omega (arith, low)) in
     let own : List Tile = cond (nat_lt 0 (level_count size level % 256)) (partial_tile size level ∷ []) [] in
-    let next : level + 1 ≡ suc level = omega arith in
-    (
+    let next : level + 1 ≡ suc level = omega arith in (
       own ++ before.0,
       before.1 ∙ ap (λ (list : List Tile). list ++ before.0) (edge-more size level (omega (arith, low)) ∙ ap (λ (l : ℕ). edge_from size l ++ own) next)
-      ∙ append_assoc (edge_from size (suc level)) own before.0,
+          ∙ append_assoc (edge_from size (suc level)) own before.0,
     )
 
 pub edge-prefix : (size level : ℕ) (xs : List (Tile × List ℕ)) → level ≤ 8 → tiles_in xs ≡ edge_from size level → (rest : List Tile) × (edge_tiles size ≡ tiles_in xs ++ rest)
@@ -93,25 +102,21 @@ edge-prefix size level xs low are =
 pub next-partial : (size level : ℕ) (xs : List (Tile × List ℕ)) (tile : Tile) → level ≤ 7 → tiles_in xs ≡ edge_from size (level + 1) → tile ≡ partial_tile size level → 0 < tile.width → IsNextPartial size xs tile
 next-partial size level xs tile low are is wide =
     let p = edge-prefix-at size level (omega (arith, low)) in
-    let some : 0 < level_count size level % 256 = omega (arith, wide, ap (λ (t : Tile). t.width) is) in
-    (
+    let some : 0 < level_count size level % 256 = omega (arith, wide, ap (λ (t : Tile). t.width) is) in (
       p.0,
       p.1 ∙ ap (λ (list : List Tile). list ++ p.0) (edge-next size level low some) ∙ append_assoc (edge_from size (level + 1)) (partial_tile size level ∷ []) p.0
-      ∙ (λ i. sym are i ++ sym is i ∷ p.0),
+          ∙ (λ i. sym are i ++ sym is i ∷ p.0),
     )
 
 -- ---- what numbers need
 
-abbrev pub IsWidePartial : ℕ → Tile → Type 0
-IsWidePartial size t = (0 < t.width) × (t ≡ partial_tile size t.level)
-
-edge-partial-in : (size : ℕ) (levels : List ℕ) → All (IsWidePartial size) (filter (λ t. nat_lt 0 t.width) (map (partial_tile size) levels))
-edge-partial-in size [] = All-nil (IsWidePartial size)
+edge-partial-in : (size : ℕ) (levels : List ℕ) → All (IsPartialOf size) (filter (λ t. nat_lt 0 t.width) (map (partial_tile size) levels))
+edge-partial-in size [] = All-nil (IsPartialOf size)
 edge-partial-in size (level ∷ levels) =
     let rest = edge-partial-in size levels in
-    let P : Bool → Type 0 = λ b. All (IsWidePartial size) (cond b (partial_tile size level ∷ filter (λ t. nat_lt 0 t.width) (map (partial_tile size) levels)) (filter (λ t. nat_lt 0 t.width) (map (partial_tile size) levels))) in
-    elim (cases_Bool (nat_lt 0 (level_count size level % 256))) as (λ _. All (IsWidePartial size) (filter (λ t. nat_lt 0 t.width) (map (partial_tile size) (level ∷ levels)))) [
-      | inl yes_wide ↦ subst P (sym yes_wide) (All-cons (IsWidePartial size) (partial_tile size level) (filter (λ t. nat_lt 0 t.width) (map (partial_tile size) levels)) (ltb-true 0 (level_count size level % 256) yes_wide, refl) rest)
+    let P : Bool → Type 0 = λ b. All (IsPartialOf size) (cond b (partial_tile size level ∷ filter (λ t. nat_lt 0 t.width) (map (partial_tile size) levels)) (filter (λ t. nat_lt 0 t.width) (map (partial_tile size) levels))) in
+    elim (cases_Bool (nat_lt 0 (level_count size level % 256))) as (λ _. All (IsPartialOf size) (filter (λ t. nat_lt 0 t.width) (map (partial_tile size) (level ∷ levels)))) [
+      | inl yes_wide ↦ subst P (sym yes_wide) (All-cons (IsPartialOf size) (partial_tile size level) (filter (λ t. nat_lt 0 t.width) (map (partial_tile size) levels)) (refl, ltb-true 0 (level_count size level % 256) yes_wide) rest)
       | inr not_wide ↦ subst P (sym not_wide) rest
     ]
 
@@ -119,20 +124,20 @@ all-front : {X : Type 0} (P : X → Type 0) (xs ys : List X) → All P (xs ++ ys
 all-front P [] ys all = All-nil P
 all-front P (x ∷ xs) ys all = All-cons P x xs (All-head P x (xs ++ ys) all) (all-front P xs ys (All-tail P x (xs ++ ys) all))
 
-needed-each : (size : ℕ) (indexes : List ℕ) (xs : List (Tile × List ℕ)) → 0 < length indexes → All (IsWidePartial size) (tiles_in xs) → All (λ f. IsNeededFor size indexes f.0) xs
+needed-each : (size : ℕ) (indexes : List ℕ) (xs : List (Tile × List ℕ)) → 0 < length indexes → All (IsPartialOf size) (tiles_in xs) → All (λ f. IsNeededFor size indexes f.0) xs
 needed-each size indexes [] some all = All-nil (λ (f : Tile × List ℕ). IsNeededFor size indexes f.0)
 needed-each size indexes (f ∷ xs) some all =
-    let here : IsWidePartial size f.0 = All-head (IsWidePartial size) f.0 (tiles_in xs) all in
-    All-cons (λ (x : Tile × List ℕ). IsNeededFor size indexes x.0) f xs (inl (some, here.0, here.1)) (needed-each size indexes xs some (All-tail (IsWidePartial size) f.0 (tiles_in xs) all))
+    let here : IsPartialOf size f.0 = All-head (IsPartialOf size) f.0 (tiles_in xs) all in
+    All-cons (λ (x : Tile × List ℕ). IsNeededFor size indexes x.0) f xs (inl (some, here)) (needed-each size indexes xs some (All-tail (IsPartialOf size) f.0 (tiles_in xs) all))
 
 -- the first of the partial tiles are needed
 pub needed-edge : (size : ℕ) (indexes : List ℕ) (xs : List (Tile × List ℕ)) → 0 < length indexes → ((rest : List Tile) × (edge_tiles size ≡ tiles_in xs ++ rest)) → All (λ f. IsNeededFor size indexes f.0) xs
 needed-edge size indexes xs some (rest, are) =
-    let all : All (IsWidePartial size) (tiles_in xs) = all-front (IsWidePartial size) (tiles_in xs) rest (subst (All (IsWidePartial size)) are (edge-partial-in size (reverse (range_with_len 0 8)))) in
+    let all : All (IsPartialOf size) (tiles_in xs) = all-front (IsPartialOf size) (tiles_in xs) rest (subst (All (IsPartialOf size)) are (edge-partial-in size (reverse (range_with_len 0 8)))) in
     needed-each size indexes xs some all
 
 -- the tiles over a number's subtree are needed
-over-needed : (size i : ℕ) (indexes : List ℕ) (p : Place) (t : Tile) → i < length indexes → stored_index p.level p.place ≡ get_or indexes i 0 → IsOver (p.level / 8) (p.place * 2 ^ (p.level % 8)) t → IsNeededFor size indexes t
+pub over-needed : (size i : ℕ) (indexes : List ℕ) (p : Place) (t : Tile) → i < length indexes → stored_index p.level p.place ≡ get_or indexes i 0 → IsOver (p.level / 8) (p.place * 2 ^ (p.level % 8)) t → IsNeededFor size indexes t
 over-needed size i indexes p t less number over =
     let index : ℕ = get_or indexes i 0 in
     inr (i, index, less, get_or_default indexes i index 0 less, record { place = p; number = number; over = over })
@@ -153,7 +158,7 @@ needed-more size i indexes p old new less number adds before =
 -- ---- tiles over a place
 
 -- what lies over the place above lies over this one
-over-up : (level place : ℕ) (t : Tile) → IsOver (level + 1) (place / 256) t → IsOver level place t
+pub over-up : (level place : ℕ) (t : Tile) → IsOver (level + 1) (place / 256) t → IsOver level place t
 over-up level place t over =
     let height : level + 1 + over.up ≡ level + (over.up + 1) = omega arith in
     let power : 256 * 256 ^ (over.up + 1) ≡ 256 ^ (over.up + 1 + 1) = sym (pow-succ' 256 (over.up + 1)) ∙ ap (λ (x : ℕ). 256 ^ x) (omega arith) in

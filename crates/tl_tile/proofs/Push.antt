@@ -8,11 +8,12 @@ use Rattle.tl_tile.specs.declared.resource.Tile.{Tile}
 use Rattle.tl_tile.specs.TileText.{level_count, full_tile, partial_tile, tile_with}
 use Rattle.tl_tile.specs.Known.{Tiles, IsFold, nothing, given, split, IsEdgeHash, IsInAbove}
 use Rattle.tl_tile.specs.KnownEdge.{HasEdge, Part}
-use Rattle.tl_tile.specs.Fetched.{same_tile, tiles_of, tiles_in, texts_of}
-use Rattle.tl_tile.specs.Source.{IsTileOf, HasTileWith, IsHashWith, IsMissing, IsThere}
-use Rattle.tl_tile.specs.Fetching.{BeginsWithEdge, IsNextFull, edge_tiles}
-use Rattle.tl_tile.specs.Verified.{AreVerified}
-use Rattle.tl_tile.specs.SourceFaults.{IsBadFull, IsBadTile}
+use Rattle.tl_tile.specs.Fetched.{same_tile, tiles_of, texts_of}
+use Rattle.tl_tile.specs.Source.{HasTileWith, IsHashWith}
+use Rattle.tl_tile.specs.Steps.{IsMissing, IsThere}
+use Rattle.tl_tile.specs.Fetching.{BeginsWithEdge, edge_tiles}
+use Rattle.tl_tile.specs.Verified.{AreVerified, ComesNext}
+use Rattle.tl_tile.specs.SourceFaults.{IsBadTile}
 use Rattle.tl_tile.proofs.Edges.{Some-injective, under_within}
 use Rattle.tl_tile.proofs.Checked.{level_count-above, tile_with-full, tile_with-partial}
 
@@ -214,11 +215,12 @@ bad-full H size root old new level index tile text seen own hash is below none p
     let still : tiles_of new (tile_with size (level + 1) index) ≡ Some above.0 =
     ap (λ (list : List (Tile × List ℕ)). tiles_of list (tile_with size (level + 1) index)) pushed ∙ tiles_of-old old (tile, text) (tile_with size (level + 1) index) above.0 above.1 in
     let later : IsHashWith (tiles_of new) size (level + 1) index own = (above.0, still, above.2) in
+    let seen_is : text ≡ seen = new-text old new tile text seen none pushed found in
     record {
-      text = seen;
-      found = found;
       of_log = inl (full, there);
       because = inr (inr (record {
+        text = seen;
+        last = (old, pushed ∙ ap (λ (x : List ℕ). old ++ (tile, x) ∷ []) seen_is);
         own = own;
         hash = hash;
         strings = part.0;
@@ -231,8 +233,9 @@ bad-full H size root old new level index tile text seen own hash is below none p
     }
 
 -- a full tile comes next
-pub next-full : (size : ℕ) (xs : List (Tile × List ℕ)) (level index : ℕ) → BeginsWithEdge size xs → tiles_of xs (full_tile level index) ≡ None → HasTileWith (tiles_of xs) size (level + 1) index → IsNextFull size xs (full_tile level index)
-next-full size xs level index first new above = record { full = refl; edge = first; new = new; above = above }
+pub next-full : (H : List ℕ → List ℕ) (size : ℕ) (root : List ℕ) (xs : List (Tile × List ℕ)) (level index : ℕ) → AreVerified H size root xs → tiles_of xs (full_tile level index) ≡ None → HasTileWith (tiles_of xs) size (level + 1) index
+    → ComesNext H size root xs (full_tile level index)
+next-full H size root xs level index passed new above = record { new = new; next = inr (record { full = refl; passed = passed; above = above }) }
 
 -- a tile that was added is there
 pub none-not : (old new : List (Tile × List ℕ)) (tile : Tile) (text : List ℕ) → new ≡ old ++ (tile, text) ∷ [] → tiles_of new tile ≡ None → ⊥

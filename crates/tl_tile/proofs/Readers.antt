@@ -11,7 +11,9 @@ use Rattle.tl_tile.specs.declared.resource.Tile.{Tile}
 use Rattle.tl_tile.specs.Known.{TilesCollide}
 use Rattle.tl_tile.specs.Fetched.{tiles_of}
 use Rattle.tl_tile.specs.Source.{AreAnswers}
+use Rattle.tl_tile.specs.Fetching.{IsNeededFor}
 use Rattle.tl_tile.specs.SourceFaults.{GivesReadFault, MayGive}
+use Rattle.tl_tile.proofs.Orders.{fault-weaker}
 use Rattle.tl_tile.specs.TileReader.{Reading, AreAuthentic, StandsAgainst, GivesNumbersFault}
 
 pub readable_is : (size : ℕ) → size ≤ 2 ^ 62 → readable_count size ≡ stored_count size
@@ -66,7 +68,7 @@ authentic_none H size root (index ∷ indexes) fetched hashes none is = absurd (
 
 -- the faults of a read whose numbers are all in range
 pub numbers_fault : (H : List ℕ → List ℕ) (may_lack : Tile → Type 0) (read : Reading) (fault : ReadFault) → AreReadable read.size read.indexes → 0 < length read.indexes
-    → GivesReadFault H may_lack read.size read.root read.fetched fault → GivesNumbersFault H may_lack read fault
+    → GivesReadFault H (λ t. may_lack t × IsNeededFor read.size read.indexes t) read.size read.root read.fetched fault → GivesNumbersFault H may_lack read fault
 numbers_fault H may_lack read OutOfRange readable some gives = absurd gives
 numbers_fault H may_lack read Source readable some gives = ((readable, some), gives)
 numbers_fault H may_lack read OutOfMemory readable some gives = (readable, some)
@@ -76,6 +78,7 @@ numbers_fault H may_lack read (BadTile level index width) readable some gives = 
 pub reader_fault : (H : List ℕ → List ℕ) (may_answer : Tile → List ℕ → Type 0) (may_lack : Tile → Type 0) (read : Reading) (fault : ReadFault) → AreAnswers may_answer read.size read.fetched
     → GivesNumbersFault H may_lack read fault → GivesFault read.size (MayGive H may_answer may_lack read.size read.root) read.indexes fault
 reader_fault H may_answer may_lack read OutOfRange answers gives = gives.0
-reader_fault H may_answer may_lack read Source answers gives = ((read.fetched, answers, gives.1), gives.0.0, gives.0.1)
+reader_fault H may_answer may_lack read Source answers gives =
+    ((read.fetched, answers, fault-weaker H (λ t. may_lack t × IsNeededFor read.size read.indexes t) may_lack read.size read.root read.fetched Source (λ t few. few.0) gives.1), gives.0.0, gives.0.1)
 reader_fault H may_answer may_lack read OutOfMemory answers gives = gives
 reader_fault H may_answer may_lack read (BadTile level index width) answers gives = ((read.fetched, answers, gives.1), gives.0.0, gives.0.1)

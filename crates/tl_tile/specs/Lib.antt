@@ -15,5 +15,6 @@ pub mod Fetched
 pub mod Source
 pub mod Fetching
 pub mod Verified
+pub mod Steps
 pub mod SourceFaults
 pub mod TileReader

@@ -21,8 +21,8 @@ ChecksBundle bytes width (Err Truncated) = IsTruncated bytes width
 ChecksBundle bytes width (Err Trailing) = HasTrailing bytes width
 ChecksBundle bytes width (Err OutOfMemory) = ⊥
 
--- the entries that the bytes are the bundle of, or where the bytes leave such a bundle; memory is asked for only where they
--- are one
+-- the entries that the bytes are the bundle of, or where the bytes leave such a bundle; memory is asked for only where
+-- they are one
 abbrev pub ReadsBundle : {A : Type 0} → List ℕ → ℕ → Result (Vec (Vec ℕ A) A) BundleFault → Type 0
 ReadsBundle bytes width (Ok entries) = AreEntries width (map vec_items entries.items) × (bytes ≡ bundle_text (map vec_items entries.items))
 ReadsBundle bytes width (Err EntryTooLong) = ⊥

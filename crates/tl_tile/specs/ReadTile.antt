@@ -18,8 +18,8 @@ HasTile size t = (size ≤ 2 ^ 62) × (end_of t ≤ size)
 abbrev pub tile_numbers : Tile → List ℕ
 tile_numbers t = map (λ i. stored_index (8 * t.level) (t.index * 256 + i)) (range_with_len 0 t.width)
 
--- when reading a tile through a reader of this size gives this fault; `may_fail` says which of `Source` and `BadTile` the
--- reader may give. A tile has a hash, so that memory is asked for at each call
+-- when reading a tile through a reader of this size gives this fault; `may_fail` says which of `Source` and `BadTile`
+-- the reader may give. A tile has a hash, so that memory is asked for at each call
 abbrev pub GivesTileFault : ℕ → (ReadFault → Type 0) → Tile → ReadFault → Type 0
 GivesTileFault size may_fail t OutOfRange = HasTile size t → ⊥
 GivesTileFault size may_fail t Source = may_fail Source × HasTile size t

@@ -1,52 +1,62 @@
 -- When reading from a source of tiles fails.
-use Rattle.std.specs.Prelude.{◌≡◌, ◌≢◌, ℕ, ◌+◌, ◌*◌, ◌%◌, ◌<◌, List, length, Some, None, ◌⊎◌}
+use Rattle.std.specs.Prelude.{◌≡◌, ◌≢◌, ℕ, ◌+◌, ◌*◌, ◌%◌, ◌<◌, List, [], ◌∷◌, ◌++◌, length, ◌⊎◌}
 use Rattle.tl_hash.specs.Tree.{tree_hash}
 use Rattle.tl_store.specs.declared.reader.ReadFault.{ReadFault}
 use Rattle.tl_store.specs.declared.reader.ReadFault.TheVariants.{OutOfRange, Source, OutOfMemory, BadTile}
 use Rattle.tl_tile.specs.declared.resource.Tile.{Tile}
 use Rattle.tl_tile.specs.TileText.{level_count, full_tile, partial_tile, tile_text}
-use Rattle.tl_tile.specs.Known.{Tiles, KnownRoot, KnownTile}
-use Rattle.tl_tile.specs.Fetched.{tiles_of}
+use Rattle.tl_tile.specs.Known.{KnownRoot, KnownTile}
+use Rattle.tl_tile.specs.Fetched.{tiles_of, tiles_in}
 use Rattle.tl_tile.specs.Source.{IsTileOf, IsHashWith, AreAnswers}
+use Rattle.tl_tile.specs.Fetching.{edge_tiles}
+use Rattle.tl_tile.specs.Verified.{ComesNext}
 
--- partial tiles that tell another root, this being the highest
-pub record IsBadEdge (H : List ℕ → List ℕ) (tiles : Tiles) (size : ℕ) (root : List ℕ) (t : Tile) : Type 0 where
+-- the tile was fetched last, with this text
+abbrev pub IsLast : Tile → List ℕ → List (Tile × List ℕ) → Type 0
+IsLast t text fetched = (before : List (Tile × List ℕ)) × (fetched ≡ before ++ (t, text) ∷ [])
+
+-- the tile that was fetched last has a text of another length
+abbrev pub HasBadLength : List (Tile × List ℕ) → Tile → Type 0
+HasBadLength fetched t = (text : List ℕ) × IsLast t text fetched × (length text ≢ 32 * t.width)
+
+-- all partial tiles were fetched, and no others, and tell another root; this one is the highest
+pub record IsBadEdge (H : List ℕ → List ℕ) (size : ℕ) (root : List ℕ) (fetched : List (Tile × List ℕ)) (t : Tile) : Type 0 where
   pub known : List ℕ
   pub strings : List (List ℕ)
+  pub all : tiles_in fetched ≡ edge_tiles size
   pub partial : t ≡ partial_tile size t.level
   pub highest : (level : ℕ) → t.level < level → level_count size level % 256 ≡ 0
-  pub tells : KnownRoot H tiles size known strings
+  pub tells : KnownRoot H (tiles_of fetched) size known strings
   pub differ : known ≢ root
 
--- a full tile that tells another hash than the tile above has
-pub record IsBadFull (H : List ℕ → List ℕ) (tiles : Tiles) (size : ℕ) (t : Tile) (text : List ℕ) : Type 0 where
+-- the tile that was fetched last is a full one, and tells another hash than the tile above has
+pub record IsBadFull (H : List ℕ → List ℕ) (size : ℕ) (fetched : List (Tile × List ℕ)) (t : Tile) : Type 0 where
+  pub text : List ℕ
   pub own : List ℕ
   pub hash : List ℕ
   pub strings : List (List ℕ)
+  pub last : IsLast t text fetched
   pub full : t ≡ full_tile t.level t.index
   pub below : t.index < level_count size (t.level + 1)
-  pub above : IsHashWith tiles size (t.level + 1) t.index own
+  pub above : IsHashWith (tiles_of fetched) size (t.level + 1) t.index own
   pub tells : KnownTile H text hash strings
   pub differ : own ≢ hash
 
--- a tile among those fetched that is not one that the root was made with: its text has another length, or it is the
--- highest of partial tiles that tell another root, or a full tile that tells another hash than the tile above has
+-- a tile of the log among those fetched that is not one that the root was made with
 pub record IsBadTile (H : List ℕ → List ℕ) (size : ℕ) (root : List ℕ) (fetched : List (Tile × List ℕ)) (t : Tile) : Type 0 where
-  pub text : List ℕ
-  pub found : tiles_of fetched t ≡ Some text
   pub of_log : IsTileOf size t
-  pub because : (length text ≢ 32 * t.width) ⊎ (IsBadEdge H (tiles_of fetched) size root t ⊎ IsBadFull H (tiles_of fetched) size t text)
+  pub because : HasBadLength fetched t ⊎ (IsBadEdge H size root fetched t ⊎ IsBadFull H size fetched t)
 
--- a tile of the log that the source may lack, and that was not fetched
-pub record IsLacking (may_lack : Tile → Type 0) (size : ℕ) (fetched : List (Tile × List ℕ)) (t : Tile) : Type 0 where
-  pub of_log : IsTileOf size t
+-- a tile of the log that the source may lack, and that comes next after those fetched
+pub record IsLacking (H : List ℕ → List ℕ) (may_lack : Tile → Type 0) (size : ℕ) (root : List ℕ) (fetched : List (Tile × List ℕ)) (t : Tile) : Type 0 where
   pub lacks : may_lack t
-  pub none : tiles_of fetched t ≡ None
+  pub of_log : IsTileOf size t
+  pub next : ComesNext H size root fetched t
 
 -- what a fault of a read with all numbers in range says of the tiles that were fetched
 abbrev pub GivesReadFault : (List ℕ → List ℕ) → (Tile → Type 0) → ℕ → List ℕ → List (Tile × List ℕ) → ReadFault → Type 0
 GivesReadFault H may_lack size root fetched OutOfRange = ⊥
-GivesReadFault H may_lack size root fetched Source = (t : Tile) × IsLacking may_lack size fetched t
+GivesReadFault H may_lack size root fetched Source = (t : Tile) × IsLacking H may_lack size root fetched t
 GivesReadFault H may_lack size root fetched OutOfMemory = Unit {0}
 GivesReadFault H may_lack size root fetched (BadTile level index width) =
     IsBadTile H size root fetched (record { level = level; index = index; width = width })

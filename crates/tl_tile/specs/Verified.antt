@@ -1,28 +1,41 @@
--- Fetched tiles and the checks that they passed.
-use Rattle.std.specs.Prelude.{◌≡◌, ℕ, ◌%◌, ◌<◌, ◌≤◌, List, Some}
+-- Fetched tiles that passed the checks, and the order in which a read fetches tiles.
+use Rattle.std.specs.Prelude.{◌≡◌, ℕ, ◌+◌, List, [], ◌∷◌, ◌++◌, None, ◌⊎◌}
 use Rattle.tl_tile.specs.declared.resource.Tile.{Tile}
-use Rattle.tl_tile.specs.TileText.{level_count}
+use Rattle.tl_tile.specs.TileText.{full_tile}
 use Rattle.tl_tile.specs.Known.{AreChecked}
-use Rattle.tl_tile.specs.KnownEdge.{IsEdgeLevel, HasEdge}
+use Rattle.tl_tile.specs.KnownEdge.{HasEdge}
 use Rattle.tl_tile.specs.Fetched.{tiles_of, tiles_in}
-use Rattle.tl_tile.specs.Source.{AreAnswers, AreLong}
-use Rattle.tl_tile.specs.Fetching.{edge_from, AreInOrder, BeginsWithEdge}
+use Rattle.tl_tile.specs.Source.{AreLong, HasTileWith}
+use Rattle.tl_tile.specs.Fetching.{edge_tiles, BeginsWithEdge}
 
--- the tiles of a read so far, good or bad: answers of the source, in order
-pub record AreFetched (may_answer : Tile → List ℕ → Type 0) (size : ℕ) (fetched : List (Tile × List ℕ)) : Type 0 where
-  pub answers : AreAnswers may_answer size fetched
-  pub order : AreInOrder size fetched
-
--- all partial tiles are among them, each text is as long as it has to be, and they passed the checks against the root
+-- all partial tiles are among them, each text is as long as it has to be, and they pass the checks against the root
 pub record AreVerified (H : List ℕ → List ℕ) (size : ℕ) (root : List ℕ) (fetched : List (Tile × List ℕ)) : Type 0 where
   pub first : BeginsWithEdge size fetched
   pub long : AreLong (tiles_of fetched)
   pub edge : HasEdge (tiles_of fetched) size
   pub checked : AreChecked H (tiles_of fetched) size root
 
--- the partial tiles from this level up were fetched, and no other tiles
-pub record AreEdgeFrom (size level : ℕ) (fetched : List (Tile × List ℕ)) : Type 0 where
-  pub tiles : tiles_in fetched ≡ edge_from size level
-  pub long : AreLong (tiles_of fetched)
-  pub partial : (t : Tile) (text : List ℕ) → tiles_of fetched t ≡ Some text → (t.width < 256) × (level ≤ t.level)
-  pub edge : (l : ℕ) → level ≤ l → l < 8 → 0 < level_count size l % 256 → (text : List ℕ) × IsEdgeLevel (tiles_of fetched) size l text
+-- the next of the partial tiles, after these
+abbrev pub IsNextPartial : ℕ → List (Tile × List ℕ) → Tile → Type 0
+IsNextPartial size before t = (rest : List Tile) × (edge_tiles size ≡ tiles_in before ++ t ∷ rest)
+
+-- after tiles that passed all checks, a full tile, where the tile above it is among them
+pub record IsNextFull (H : List ℕ → List ℕ) (size : ℕ) (root : List ℕ) (before : List (Tile × List ℕ)) (t : Tile) : Type 0 where
+  pub full : t ≡ full_tile t.level t.index
+  pub passed : AreVerified H size root before
+  pub above : HasTileWith (tiles_of before) size (t.level + 1) t.index
+
+-- a tile that a read may fetch after these: it isn't among them
+pub record ComesNext (H : List ℕ → List ℕ) (size : ℕ) (root : List ℕ) (before : List (Tile × List ℕ)) (t : Tile) : Type 0 where
+  pub new : tiles_of before t ≡ None
+  pub next : IsNextPartial size before t ⊎ IsNextFull H size root before t
+
+-- after some tiles, each of these comes next
+abbrev pub AreNext : (List ℕ → List ℕ) → ℕ → List ℕ → List (Tile × List ℕ) → List (Tile × List ℕ) → Type 0
+AreNext H size root before [] = Unit {0}
+AreNext H size root before (f ∷ more) = ComesNext H size root before f.0 × AreNext H size root (before ++ f ∷ []) more
+
+-- tiles in the order of a read: the partial ones from the highest level down, and then full ones, each after the tile
+-- above it, when all before it passed the checks; none comes twice
+abbrev pub AreInOrder : (List ℕ → List ℕ) → ℕ → List ℕ → List (Tile × List ℕ) → Type 0
+AreInOrder H size root fetched = AreNext H size root [] fetched

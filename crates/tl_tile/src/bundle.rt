@@ -80,9 +80,9 @@ fn join_entries<A: Allocator, B: Allocator>(
     Ok(out)
 }
 
-/// The bundle of these 1 to 256 entries: each as its length, in 16 bits, big-endian, and its bytes (C2SP tlog-tiles, "Log
-/// Entries"). It fails with `EntryTooLong` exactly where an entry has more than 65,535 bytes, before it asks for memory,
-/// and with `OutOfMemory` where memory is refused.
+/// The bundle of these 1 to 256 entries: each as its length, in 16 bits, big-endian, and its bytes (C2SP tlog-tiles,
+/// "Log Entries"). It fails with `EntryTooLong` exactly where an entry has more than 65,535 bytes, before it asks for
+/// memory, and with `OutOfMemory` where memory is refused.
 pub fn write_bundle<A: Allocator, B: Allocator>(
     alloc: A,
     entries: &[Vec<u8, B>],
@@ -152,10 +152,10 @@ fn split_bundle<A: Allocator + Copy>(
     Ok(entries)
 }
 
-/// The entries of a bundle of `width` entries, from 1 to 256 (C2SP tlog-tiles, "Log Entries"). It fails with `Truncated`
-/// exactly where the bytes are the beginning of such a bundle and not all of it, and with `Trailing` exactly where such a
-/// bundle is the beginning of the bytes and not all of them, before it asks for memory; with `OutOfMemory` where memory
-/// is refused.
+/// The entries of a bundle of `width` entries, from 1 to 256 (C2SP tlog-tiles, "Log Entries"). It fails with
+/// `Truncated` exactly where the bytes are the beginning of such a bundle and not all of it, and with `Trailing`
+/// exactly where such a bundle is the beginning of the bytes and not all of them, before it asks for memory; with
+/// `OutOfMemory` where memory is refused.
 pub fn read_bundle<A: Allocator + Copy>(
     alloc: A,
     bytes: &[u8],

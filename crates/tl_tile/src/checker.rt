@@ -3,9 +3,10 @@
 ghost use Rattle.std.specs.Prelude.{◌≡◌, ◌↔◌, ◌≤◌, ◌<◌, ◌+◌, ◌*◌, ◌%◌, ◌^◌, ◌∷◌, ◌++◌, ℕ, List, [], length, IfErr, OnOk, IsTrue, Some, None};
 ghost use Rattle.tl_tile.specs.TileText as spec;
 ghost use Rattle.tl_tile.specs.Fetched.{tiles_of, tiles_in};
-ghost use Rattle.tl_tile.specs.Source.{HasTileWith, IsHashWith, IsThere, IsTileOf};
-ghost use Rattle.tl_tile.specs.Fetching.{IsNextPartial, ComesNext, edge_tiles, AddsOnly, AddsOver};
-ghost use Rattle.tl_tile.specs.Verified.{AreFetched, AreVerified, AreEdgeFrom};
+ghost use Rattle.tl_tile.specs.Source.{HasTileWith, IsHashWith, IsTileOf};
+ghost use Rattle.tl_tile.specs.Fetching.{IsOver, IsPartialOf, edge_tiles};
+ghost use Rattle.tl_tile.specs.Verified.{AreVerified, ComesNext};
+ghost use Rattle.tl_tile.specs.Steps.{AreFetched, AreEdgeFrom, AddsOnly, AddsOver, IsThere};
 ghost use Rattle.tl_tile.specs.SourceFaults.{GivesReadFault};
 
 use crate::fetched::FetchedTiles;
@@ -77,13 +78,12 @@ impl<T: TreeHash, S: TileSource> Checker<T, S> {
     ) -> Result<(), ReadFault>
         requires of { IsTileOf self.now.size tile }
         requires narrow { tile.width ≤ 256 }
-        requires new { tiles_of fetched.old tile ≡ None }
-        requires next { ComesNext self.now.size fetched.old tile }
-        requires fetched { AreFetched (S.may_answer self.now.source) self.now.size fetched.old }
+        requires next { ComesNext T.digest_of self.now.size self.now.root fetched.old tile }
+        requires fetched { AreFetched (S.may_answer self.now.source) T.digest_of self.now.size self.now.root fetched.old }
         ensures text { OnOk result ((text : List ℕ) × (fetched.new ≡ fetched.old ++ (tile, text) ∷ []) × (length text ≡ 32 * tile.width)) }
         ensures adds { AddsOnly tile fetched.old fetched.new }
-        ensures fetched { AreFetched (S.may_answer self.now.source) self.now.size fetched.new }
-        ensures faults { IfErr result (GivesReadFault T.digest_of (S.may_lack self.now.source) self.now.size self.now.root fetched.new) }
+        ensures fetched { AreFetched (S.may_answer self.now.source) T.digest_of self.now.size self.now.root fetched.new }
+        ensures faults { IfErr result (GivesReadFault T.digest_of (λ t. S.may_lack self.now.source t × (t ≡ tile)) self.now.size self.now.root fetched.new) }
     {
         let len = match fetched.fetch(&self.source, tile) {
             Ok(len) => len,
@@ -104,11 +104,11 @@ impl<T: TreeHash, S: TileSource> Checker<T, S> {
     ) -> Result<(), ReadFault>
         requires level { level ≤ 7 }
         requires edge { AreEdgeFrom self.now.size (level + 1) fetched.old }
-        requires fetched { AreFetched (S.may_answer self.now.source) self.now.size fetched.old }
+        requires fetched { AreFetched (S.may_answer self.now.source) T.digest_of self.now.size self.now.root fetched.old }
         ensures edge { OnOk result (AreEdgeFrom self.now.size level fetched.new) }
         ensures partial { (rest : List Tile) × (edge_tiles self.now.size ≡ tiles_in fetched.new ++ rest) }
-        ensures fetched { AreFetched (S.may_answer self.now.source) self.now.size fetched.new }
-        ensures faults { IfErr result (GivesReadFault T.digest_of (S.may_lack self.now.source) self.now.size self.now.root fetched.new) }
+        ensures fetched { AreFetched (S.may_answer self.now.source) T.digest_of self.now.size self.now.root fetched.new }
+        ensures faults { IfErr result (GivesReadFault T.digest_of (λ t. S.may_lack self.now.source t × IsPartialOf self.now.size t) self.now.size self.now.root fetched.new) }
     {
         let tile = partial_tile(self.size, level);
         if tile.width == 0 {
@@ -125,8 +125,8 @@ impl<T: TreeHash, S: TileSource> Checker<T, S> {
         requires { fetched.old ≡ [] }
         ensures edge { OnOk result (AreEdgeFrom self.now.size 0 fetched.new) }
         ensures partial { (rest : List Tile) × (edge_tiles self.now.size ≡ tiles_in fetched.new ++ rest) }
-        ensures fetched { AreFetched (S.may_answer self.now.source) self.now.size fetched.new }
-        ensures faults { IfErr result (GivesReadFault T.digest_of (S.may_lack self.now.source) self.now.size self.now.root fetched.new) }
+        ensures fetched { AreFetched (S.may_answer self.now.source) T.digest_of self.now.size self.now.root fetched.new }
+        ensures faults { IfErr result (GivesReadFault T.digest_of (λ t. S.may_lack self.now.source t × IsPartialOf self.now.size t) self.now.size self.now.root fetched.new) }
     {
         for above in 0..8u32 {
             self.fetch_level(7 - above, fetched)?;
@@ -143,8 +143,8 @@ impl<T: TreeHash, S: TileSource> Checker<T, S> {
         requires none { fetched.old ≡ [] }
         ensures verified { OnOk result (AreVerified T.digest_of self.now.size self.now.root fetched.new) }
         ensures partial { (rest : List Tile) × (edge_tiles self.now.size ≡ tiles_in fetched.new ++ rest) }
-        ensures fetched { AreFetched (S.may_answer self.now.source) self.now.size fetched.new }
-        ensures faults { IfErr result (GivesReadFault T.digest_of (S.may_lack self.now.source) self.now.size self.now.root fetched.new) }
+        ensures fetched { AreFetched (S.may_answer self.now.source) T.digest_of self.now.size self.now.root fetched.new }
+        ensures faults { IfErr result (GivesReadFault T.digest_of (λ t. S.may_lack self.now.source t × IsPartialOf self.now.size t) self.now.size self.now.root fetched.new) }
     {
         self.fetch_levels(fetched)?;
         let Some(known) = known_root(self.h, fetched, self.size)? else {
@@ -187,12 +187,12 @@ impl<T: TreeHash, S: TileSource> Checker<T, S> {
         requires new { tiles_of fetched.old (spec.full_tile level index) ≡ None }
         requires above { HasTileWith (tiles_of fetched.old) self.now.size (level + 1) index }
         requires verified { AreVerified T.digest_of self.now.size self.now.root fetched.old }
-        requires fetched { AreFetched (S.may_answer self.now.source) self.now.size fetched.old }
+        requires fetched { AreFetched (S.may_answer self.now.source) T.digest_of self.now.size self.now.root fetched.old }
         ensures there { OnOk result ((text : List ℕ) × (tiles_of fetched.new (spec.full_tile level index) ≡ Some text)) }
         ensures verified { OnOk result (AreVerified T.digest_of self.now.size self.now.root fetched.new) }
         ensures adds { AddsOnly (spec.full_tile level index) fetched.old fetched.new }
-        ensures fetched { AreFetched (S.may_answer self.now.source) self.now.size fetched.new }
-        ensures faults { IfErr result (GivesReadFault T.digest_of (S.may_lack self.now.source) self.now.size self.now.root fetched.new) }
+        ensures fetched { AreFetched (S.may_answer self.now.source) T.digest_of self.now.size self.now.root fetched.new }
+        ensures faults { IfErr result (GivesReadFault T.digest_of (λ t. S.may_lack self.now.source t × (t ≡ spec.full_tile level index)) self.now.size self.now.root fetched.new) }
     {
         let tile = full_tile(level, index);
         let own = self.hash_with(level + 1, index, fetched);
@@ -237,12 +237,12 @@ impl<T: TreeHash, S: TileSource> Checker<T, S> {
         requires level { level ≤ 7 }
         requires place { place < spec.level_count self.now.size level }
         requires verified { AreVerified T.digest_of self.now.size self.now.root fetched.old }
-        requires fetched { AreFetched (S.may_answer self.now.source) self.now.size fetched.old }
+        requires fetched { AreFetched (S.may_answer self.now.source) T.digest_of self.now.size self.now.root fetched.old }
         ensures there { OnOk result (HasTileWith (tiles_of fetched.new) self.now.size level place) }
         ensures verified { OnOk result (AreVerified T.digest_of self.now.size self.now.root fetched.new) }
         ensures adds { AddsOver level place fetched.old fetched.new }
-        ensures fetched { AreFetched (S.may_answer self.now.source) self.now.size fetched.new }
-        ensures faults { IfErr result (GivesReadFault T.digest_of (S.may_lack self.now.source) self.now.size self.now.root fetched.new) }
+        ensures fetched { AreFetched (S.may_answer self.now.source) T.digest_of self.now.size self.now.root fetched.new }
+        ensures faults { IfErr result (GivesReadFault T.digest_of (λ t. S.may_lack self.now.source t × IsOver level place t) self.now.size self.now.root fetched.new) }
     {
         if self.is_there(level, place, fetched) {
             return Ok(());

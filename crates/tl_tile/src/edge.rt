@@ -13,9 +13,9 @@ use std::alloc::{AllocError, Allocator};
 use std::marker::Model;
 use tl_hash::{Hash, TreeHash, empty_hash, leaf_hash};
 
-/// The right edge of a log: the number of its entries and the hashes of the partial tiles of that size (C2SP tlog-tiles,
-/// "Partial Tiles"), at most 255 for each level, and nothing else. Contracts see the size, the kept hashes and how many there
-/// is memory for.
+/// The right edge of a log: the number of its entries and the hashes of the partial tiles of that size (C2SP
+/// tlog-tiles, "Partial Tiles"), at most 255 for each level, and nothing else. Contracts see the size, the kept hashes
+/// and how many there is memory for.
 #[derive(Drop)]
 pub struct Edge<T: TreeHash, A: Allocator> {
     digest: T,
@@ -100,8 +100,9 @@ impl<T: TreeHash, A: Allocator + Copy> Edge<T, A> {
         }
     }
 
-    /// The partial tile of a level with its bytes, or `None` where the level has none. `level` is from 0 to 7; there are
-    /// no partial tiles above level 3. It fails only where memory is refused, and asks for none where there is no such tile.
+    /// The partial tile of a level with its bytes, or `None` where the level has none. `level` is from 0 to 7; there
+    /// are no partial tiles above level 3. It fails only where memory is refused, and asks for none where there is no
+    /// such tile.
     pub fn partial(&self, level: u32) -> Result<Option<(Tile, Vec<u8, A>)>, AllocError>
         requires { level ≤ 7 }
         ensures tile { (entries : List (List ℕ))
@@ -126,10 +127,10 @@ impl<T: TreeHash, A: Allocator + Copy> Edge<T, A> {
         Ok(Some((tile, bytes)))
     }
 
-    /// Adds one entry at the end, and gives the full tiles that it completes with their bytes, by level: those that a log
-    /// serves with this entry and didn't serve before. The edge takes up to 2^32 - 1 entries. An entry costs one leaf hash,
-    /// and 255 node hashes for each tile that it completes. It fails only where the edge has no room for one hash more, or
-    /// where the entry completes a tile and memory is refused for it; the edge then stays as it was.
+    /// Adds one entry at the end, and gives the full tiles that it completes with their bytes, by level: those that a
+    /// log serves with this entry and didn't serve before. The edge takes up to 2^32 - 1 entries. An entry costs one
+    /// leaf hash, and 255 node hashes for each tile that it completes. It fails only where the edge has no room for
+    /// one hash more, or where the entry completes a tile and memory is refused for it; the edge then stays as it was.
     pub fn append(&mut self, entry: &[u8]) -> Result<Vec<(Tile, Vec<u8, A>), A>, AllocError>
         requires { self.old.size < 2 ^ 32 - 1 }
         ensures entry { (entries : List (List ℕ))

@@ -87,8 +87,8 @@ impl<A: Allocator + Copy> FetchedTiles<A> {
         *self.tiles.allocator()
     }
 
-    // Fetches a tile, keeps it with its text, and gives the text's length. Its room is taken first, so that no text that
-    // was fetched is lost.
+    // Fetches a tile, keeps it with its text, and gives the text's length. Its room is taken first, so that no text
+    // that was fetched is lost.
     pub(crate) fn fetch<S: TileSource>(
         &mut self,
         source: &S,

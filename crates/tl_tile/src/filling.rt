@@ -11,8 +11,8 @@ use crate::tile::join;
 use std::alloc::{AllocError, Allocator};
 use tl_hash::{Hash, TreeHash};
 
-// What an entry makes of the kept hashes: the tiles that it fills, with their bytes, and one hash that takes the place of
-// all kept hashes after so many.
+// What an entry makes of the kept hashes: the tiles that it fills, with their bytes, and one hash that takes the place
+// of all kept hashes after so many.
 #[derive(Drop)]
 pub(crate) struct Filled<A: Allocator> {
     pub(crate) tiles: Vec<(Tile, Vec<u8, A>), A>,

@@ -127,8 +127,9 @@ fn tile_of(bytes: &[u8]) -> Option<Resource>
     }
 }
 
-/// The resource with this path, without a leading slash, or `None` where no resource has it. The level of a tile is from
-/// 0 to 7, each index is below 2^56, and each width from 1 to 256; a width of 256 has no suffix. It takes no memory.
+/// The resource with this path, without a leading slash, or `None` where no resource has it. The level of a tile is
+/// from 0 to 7, each index is below 2^56, and each width from 1 to 256; a width of 256 has no suffix. It takes no
+/// memory.
 #[tactic(auto, using(crate::proofs::OnePath::only_path))]
 pub fn parse_path(text: &str) -> Option<Resource>
     ensures found { IfSome result (λ resource. IsResource resource × (path_text resource ≡ text.now)) }
@@ -199,8 +200,8 @@ fn push_place<A: Allocator>(out: &mut String<A>, index: u64, width: u32) -> Resu
 }
 
 /// The path of a resource, without a leading slash (C2SP tlog-tiles): `tile/0/x001/234`, `tile/entries/000.p/7` or
-/// `checkpoint`. The level of a tile is from 0 to 7, each index is below 2^56, and each width from 1 to 256. It fails only
-/// where memory is refused.
+/// `checkpoint`. The level of a tile is from 0 to 7, each index is below 2^56, and each width from 1 to 256. It fails
+/// only where memory is refused.
 pub fn path_of<A: Allocator>(alloc: A, resource: &Resource) -> Result<String<A>, AllocError>
     requires { IsResource resource.now }
     ensures { IfOk result (λ text. string_bytes text ≡ path_text resource.now) }

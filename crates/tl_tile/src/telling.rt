@@ -4,9 +4,10 @@ ghost use Rattle.std.specs.Prelude.{◌≡◌, ◌≤◌, ◌<◌, ◌*◌, ◌/
 ghost use Rattle.tl_store.specs.Stored as stored;
 ghost use Rattle.tl_tile.specs.Known.{Tells};
 ghost use Rattle.tl_tile.specs.Fetched.{tiles_of};
-ghost use Rattle.tl_tile.specs.Source.{HasTileWith, IsPlaceIn};
-ghost use Rattle.tl_tile.specs.Fetching.{IsNeededFor, AddsOver};
-ghost use Rattle.tl_tile.specs.Verified.{AreFetched, AreVerified};
+ghost use Rattle.tl_tile.specs.Source.{HasTileWith};
+ghost use Rattle.tl_tile.specs.Fetching.{IsOver, IsNeededFor};
+ghost use Rattle.tl_tile.specs.Verified.{AreVerified};
+ghost use Rattle.tl_tile.specs.Steps.{AreFetched, AddsOver, IsPlaceIn};
 ghost use Rattle.tl_tile.specs.SourceFaults.{GivesReadFault};
 ghost use Rattle.tl_tile.specs.TileReader.{AreAuthentic};
 
@@ -62,12 +63,12 @@ impl<T: TreeHash, S: TileSource> Checker<T, S> {
         requires size { self.now.size ≤ 2 ^ 62 }
         requires place { IsPlaceIn self.now.size place }
         requires verified { AreVerified T.digest_of self.now.size self.now.root fetched.old }
-        requires fetched { AreFetched (S.may_answer self.now.source) self.now.size fetched.old }
+        requires fetched { AreFetched (S.may_answer self.now.source) T.digest_of self.now.size self.now.root fetched.old }
         ensures verified { OnOk result (AreVerified T.digest_of self.now.size self.now.root fetched.new) }
         ensures tells { IfOk result (Tells T.digest_of (tiles_of fetched.new) self.now.size place.level place.place) }
         ensures adds { AddsOver (place.level / 8) (place.place * 2 ^ (place.level % 8)) fetched.old fetched.new }
-        ensures fetched { AreFetched (S.may_answer self.now.source) self.now.size fetched.new }
-        ensures faults { IfErr result (GivesReadFault T.digest_of (S.may_lack self.now.source) self.now.size self.now.root fetched.new) }
+        ensures fetched { AreFetched (S.may_answer self.now.source) T.digest_of self.now.size self.now.root fetched.new }
+        ensures faults { IfErr result (GivesReadFault T.digest_of (λ t. S.may_lack self.now.source t × IsOver (place.level / 8) (place.place * 2 ^ (place.level % 8)) t) self.now.size self.now.root fetched.new) }
     {
         let count = 2u64.pow(place.level % 8);
         let first = place.place * count;
@@ -91,8 +92,8 @@ impl<T: TreeHash, S: TileSource> Checker<T, S> {
         ensures count { IfOk result (λ hashes. length hashes.items ≡ length indexes.now) }
         ensures verified { OnOk result (AreVerified T.digest_of self.now.size self.now.root fetched.new) }
         ensures needed { All (λ f. IsNeededFor self.now.size indexes.now f.0) fetched.new }
-        ensures fetched { AreFetched (S.may_answer self.now.source) self.now.size fetched.new }
-        ensures faults { IfErr result (GivesReadFault T.digest_of (S.may_lack self.now.source) self.now.size self.now.root fetched.new) }
+        ensures fetched { AreFetched (S.may_answer self.now.source) T.digest_of self.now.size self.now.root fetched.new }
+        ensures faults { IfErr result (GivesReadFault T.digest_of (λ t. S.may_lack self.now.source t × IsNeededFor self.now.size indexes.now t) self.now.size self.now.root fetched.new) }
     {
         let mut hashes = Vec::new(alloc);
         self.fetch_edge(fetched)?;

@@ -38,10 +38,10 @@ pub(crate) fn join<A: Allocator>(alloc: A, hashes: &[Hash]) -> Result<Vec<u8, A>
 }
 
 /// The bytes of a tile over the entries that the reader stands for: its hashes of 32 bytes, one after the other (C2SP
-/// tlog-tiles, "Merkle Tree"). The tile has a level from 0 to 7, an index below 2^56 and a width from 1 to 256, and lies
-/// within 2^62 entries. Each hash is read once, all in one `read` of at most 256 numbers. `OutOfRange` comes where the
-/// reader has not all of these hashes, and `OutOfMemory` where memory is refused; what a failing source answers is passed
-/// on.
+/// tlog-tiles, "Merkle Tree"). The tile has a level from 0 to 7, an index below 2^56 and a width from 1 to 256, and
+/// lies within 2^62 entries. Each hash is read once, all in one `read` of at most 256 numbers. `OutOfRange` comes
+/// where the reader has not all of these hashes, `OutOfMemory` where memory is refused; `Source` and `BadTile` are
+/// passed on as they are.
 pub fn tile_bytes<R: HashReader, A: Allocator + Copy>(
     alloc: A,
     tile: Tile,

@@ -3,10 +3,9 @@
 ghost use Rattle.std.specs.Prelude.{◌≡◌, ◌≤◌, ◌<◌, ℕ, List, length, map, All, Any, MatchBool, IfOk, IfErr, OnOk};
 ghost use Rattle.tl_store.specs.Stored.{stored_hash};
 ghost use Rattle.tl_store.specs.Reader.{readable_count, AreReadable, GivesFault};
-ghost use Rattle.tl_tile.specs.Known.{AreChecked};
-ghost use Rattle.tl_tile.specs.Fetched.{tiles_of};
 ghost use Rattle.tl_tile.specs.Source.{AreAnswers};
-ghost use Rattle.tl_tile.specs.Fetching.{IsNeededFor, AreInOrder};
+ghost use Rattle.tl_tile.specs.Fetching.{IsNeededFor};
+ghost use Rattle.tl_tile.specs.Verified.{AreVerified, AreInOrder};
 ghost use Rattle.tl_tile.specs.SourceFaults.{MayGive};
 ghost use Rattle.tl_tile.specs.TileReader.{StandsAgainst, AreAuthentic, AreAuthenticOver, GivesNumbersFault};
 
@@ -73,11 +72,11 @@ fn are_below(indexes: &[u64], count: u64) -> bool
 }
 
 impl<T: TreeHash, S: TileSource, A: Allocator + Copy> TileHashReader<T, S, A> {
-    /// The stored hashes with these numbers, in this order, and in `fetched` the tiles that were fetched for them, also after
-    /// a fault; what it held before is let go. First all numbers are checked; with none nothing is fetched. Then the partial
-    /// tiles come, from the highest level down, and have to give the root; then for each number the full tiles over it, from
-    /// the top down, each of which has to give the hash that the tile above has for it. `BadTile` names the highest
-    /// partial tile where they don't give the root, and else the tile fetched last.
+    /// The stored hashes with these numbers, in this order, and in `fetched` just the tiles that were fetched for
+    /// them, also after a fault (C2SP tlog-tiles, "Merkle Tree"). All numbers are checked first; with none nothing is
+    /// fetched. The partial tiles come first, from the highest level down, and have to give the root; then the full
+    /// tiles over each number, from the top down, each with the hash that the tile above has. `BadTile` names the
+    /// highest partial tile where they give another root, and else the tile fetched last.
     pub fn read_checked<B: Allocator>(
         &self,
         alloc: B,
@@ -85,12 +84,12 @@ impl<T: TreeHash, S: TileSource, A: Allocator + Copy> TileHashReader<T, S, A> {
         fetched: &mut FetchedTiles<A>,
     ) -> Result<Vec<Hash, B>, ReadFault>
         ensures authentic { IfOk result (λ hashes. AreAuthentic T.digest_of (record { size = self.now.size; root = self.now.root; indexes = indexes.now; fetched = fetched.new }) hashes.items) }
-        ensures checked { OnOk result (0 < length indexes.now → AreChecked T.digest_of (tiles_of fetched.new) self.now.size self.now.root) }
+        ensures verified { OnOk result (0 < length indexes.now → AreVerified T.digest_of self.now.size self.now.root fetched.new) }
         ensures count { IfOk result (λ hashes. length hashes.items ≡ length indexes.now) }
         ensures in_range { OnOk result (AreReadable self.now.size indexes.now) }
         ensures answers { AreAnswers (S.may_answer self.now.source) self.now.size fetched.new }
         ensures needed { All (λ f. IsNeededFor self.now.size indexes.now f.0) fetched.new }
-        ensures order { AreInOrder self.now.size fetched.new }
+        ensures order { AreInOrder T.digest_of self.now.size self.now.root fetched.new }
         ensures faults { IfErr result (GivesNumbersFault T.digest_of (S.may_lack self.now.source) (record { size = self.now.size; root = self.now.root; indexes = indexes.now; fetched = fetched.new })) }
     {
         fetched.clear();

@@ -1,15 +1,18 @@
-use Rattle.std.proofs.Common.{None, subst, sym, arith, ◌∙◌, ap, length, inr}
+use Rattle.std.proofs.Common.{◌≡◌, subst, sym, arith, ◌∙◌, ap, length}
 use Rattle.tl_tile.specs.declared.resource.Tile.{Tile}
 use Rattle.tl_tile.specs.Fetched.{tiles_of}
-use Rattle.tl_tile.specs.Fetching.{ComesNext}
+use Rattle.tl_tile.specs.TileText.{full_tile}
+use Rattle.tl_tile.specs.Verified.{ComesNext}
 use Rattle.tl_tile.specs.SourceFaults.{GivesReadFault}
 use Rattle.tl_tile.proofs.Push.{there-more, new-text, next-full, verified-full, bad-full, none-not, not_same}
+use Rattle.std.proofs.lemmas.Result.{err_from_is_err_and}
+use Rattle.tl_tile.proofs.Orders.{fault-weaker}
 use Rattle.tl_tile.proofs.checker.Checker.fetch_full.Goals as goal
 
 pub fetch_tile-requires-clause-next : goal.fetch_tile-requires-clause-next
 fetch_tile-requires-clause-next g c =
-    subst (ComesNext c.args.self.now.size c.args.fetched.now) (sym c.full_tile-tile.ensures)
-    (inr (next-full c.args.self.now.size c.args.fetched.now c.args.level c.args.index c.requires.verified.first c.requires.new c.requires.above))
+    subst (ComesNext g.T.TreeHash.digest_of c.args.self.now.size c.args.self.now.root c.args.fetched.now) (sym c.full_tile-tile.ensures)
+    (next-full g.T.TreeHash.digest_of c.args.self.now.size c.args.self.now.root c.args.fetched.now c.args.level c.args.index c.requires.verified c.requires.new c.requires.above)
 
 pub unreachable-requires : goal.unreachable-requires
 unreachable-requires g c =
@@ -27,7 +30,7 @@ pub returns-then-not-same-clause-faults : goal.returns-then-not-same-clause-faul
 returns-then-not-same-clause-faults g c =
     let read = c.in_ok-fetch_tile.ensures.text in
     let none = ap (tiles_of c.args.fetched.now) c.full_tile-tile.ensures ∙ c.requires.new in
-    subst (GivesReadFault g.T.TreeHash.digest_of (g.S.TileSource.may_lack c.args.self.now.source) c.args.self.now.size c.args.self.now.root c.fetch_tile.new.fetched) (sym c.bad_tile.ensures)
+    subst (GivesReadFault g.T.TreeHash.digest_of (λ t. g.S.TileSource.may_lack c.args.self.now.source t × (t ≡ full_tile c.args.level c.args.index)) c.args.self.now.size c.args.self.now.root c.fetch_tile.new.fetched) (sym c.bad_tile.ensures)
     (bad-full g.T.TreeHash.digest_of c.args.self.now.size c.args.self.now.root c.args.fetched.now c.fetch_tile.new.fetched c.args.level c.args.index c.full_tile-tile.result read.0 c.in-Some.text.now c.hash_with-own.result c.known_part-hash.result
     c.full_tile-tile.ensures c.requires.index none read.1 c.in-Some.ensures c.hash_with-own.ensures c.known_part-hash.ensures (λ same. not_same _ (c.same.ensures.1 same) c.if-not-same.true))
 
@@ -42,3 +45,10 @@ returns-clause-verified g c =
     let none = ap (tiles_of c.args.fetched.now) c.full_tile-tile.ensures ∙ c.requires.new in
     verified-full g.T.TreeHash.digest_of c.args.self.now.size c.args.self.now.root c.args.fetched.now c.fetch_tile.new.fetched c.args.level c.args.index c.full_tile-tile.result read.0 c.in-Some.text.now c.hash_with-own.result c.known_part-hash.result
     c.requires.verified c.full_tile-tile.ensures none read.1 read.2 c.in-Some.ensures c.hash_with-own.ensures c.known_part-hash.ensures (c.same.ensures.0 c.if-not-same.false)
+
+pub returns-in_err-fetch_tile-clause-faults : goal.returns-in_err-fetch_tile-clause-faults
+returns-in_err-fetch_tile-clause-faults g c =
+    let p = err_from_is_err_and c.from_residual.result c.from_residual.ensures.1 in
+    rw (p.1, p.2)
+    (fault-weaker g.T.TreeHash.digest_of (λ t. g.S.TileSource.may_lack c.args.self.now.source t × (t ≡ c.full_tile-tile.result)) (λ t. g.S.TileSource.may_lack c.args.self.now.source t × (t ≡ full_tile c.args.level c.args.index))
+    c.args.self.now.size c.args.self.now.root c.fetch_tile.new.fetched c.in_err-fetch_tile.field-0.0 (λ t few. (few.0, few.1 ∙ c.full_tile-tile.ensures)) c.in_err-fetch_tile.ensures.faults)

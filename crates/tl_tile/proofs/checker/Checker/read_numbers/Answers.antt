@@ -1,7 +1,9 @@
-use Rattle.std.proofs.Common.{length, ap, arith, refl}
+use Rattle.std.proofs.Common.{◌*◌, ◌/◌, ◌%◌, ◌^◌, length, ap, arith}
 use Rattle.std.proofs.lemmas.List.{length_push}
-use Rattle.tl_tile.proofs.Orders.{needed-edge, needed-more, found-later}
+use Rattle.tl_tile.proofs.Orders.{needed-edge, needed-more, over-needed, fault-weaker, found-later}
 use Rattle.tl_tile.proofs.Reading.{told-more, told-none, authentic-all}
+use Rattle.std.proofs.lemmas.Result.{err_from_is_err_and}
+use Rattle.tl_tile.specs.Fetching.{IsOver, IsNeededFor}
 use Rattle.tl_tile.proofs.checker.Checker.read_numbers.Goals as goal
 
 pub returns-in_err-fetch_edge-clause-needed : goal.returns-in_err-fetch_edge-clause-needed
@@ -40,3 +42,13 @@ pub returns-clause-authentic : goal.returns-clause-authentic
 returns-clause-authentic g c =
     authentic-all g.T.TreeHash.digest_of g.met.T.TreeHash.digest_length (record { size = c.args.self.now.size; root = c.args.self.now.root; indexes = c.args.indexes.now; fetched = c.loop-index.fetched }) c.loop-index.invariant.verified.checked
     c.loop-index.index-index c.loop-index.hashes.items c.loop-index-test.false c.loop-index.invariant.told
+
+pub returns-in_err-hash-clause-faults : goal.returns-in_err-hash-clause-faults
+returns-in_err-hash-clause-faults g c =
+    let p = err_from_is_err_and c.from_residual-in_err-hash.result c.from_residual-in_err-hash.ensures.1 in
+    let place = c.place_of-place.result in
+    rw (p.1, p.2)
+    (fault-weaker g.T.TreeHash.digest_of (λ t. g.S.TileSource.may_lack c.args.self.now.source t × IsOver (place.level / 8) (place.place * 2 ^ (place.level % 8)) t)
+    (λ t. g.S.TileSource.may_lack c.args.self.now.source t × IsNeededFor c.args.self.now.size c.args.indexes.now t)
+    c.args.self.now.size c.args.self.now.root c.read_place.new.fetched c.in_err-hash.field-0.0
+    (λ t few. (few.0, over-needed c.args.self.now.size c.loop-index.index-index c.args.indexes.now place t c.loop-index-test.true c.place_of-place.ensures.number few.1)) c.in_err-hash.ensures.faults)

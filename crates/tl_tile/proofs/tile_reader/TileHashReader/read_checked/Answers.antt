@@ -1,6 +1,11 @@
-use Rattle.std.proofs.Common.{◌<◌, length, arith, rules}
+use Rattle.std.proofs.Common.{◌<◌, length, subst, arith, rules}
+use Rattle.std.specs.Prelude.{IfErr}
 use Rattle.tl_store.specs.Reader.{AreReadable}
-use Rattle.tl_tile.proofs.Readers.{some_readable, all_stored}
+use Rattle.tl_tile.proofs.Readers.{some_readable, all_stored, numbers_fault}
+use Rattle.tl_tile.specs.Fetching.{IsNeededFor}
+use Rattle.tl_tile.specs.SourceFaults.{GivesReadFault}
+use Rattle.tl_tile.specs.TileReader.{GivesNumbersFault}
+use Rattle.tl_tile.proofs.Orders.{err_weaker}
 use Rattle.tl_tile.proofs.tile_reader.TileHashReader.read_checked.Goals as goal
 
 pub read_numbers-requires-clause-size : goal.read_numbers-requires-clause-size
@@ -20,3 +25,16 @@ read_numbers-requires-clause-within g c =
     let readable : AreReadable c.self.inside.checker.size c.args.indexes.now = λ k d less. omega (arith, c.if-not-are_below.ensures k d less, c.count_of.ensures) in
     let some : 0 < length c.args.indexes.now = search rules in
     all_stored c.self.inside.checker.size c.args.indexes.now (some_readable c.self.inside.checker.size c.args.indexes.now some readable).1 readable
+
+pub returns-clause-faults : goal.returns-clause-faults
+returns-clause-faults g c =
+    let readable : AreReadable c.self.inside.checker.size c.args.indexes.now = λ k d less. omega (arith, c.if-not-are_below.ensures k d less, c.count_of.ensures) in
+    let some : 0 < length c.args.indexes.now = search rules in
+    let H = g.T.TreeHash.digest_of in
+    let fetched = c.read_numbers.new.fetched in
+    let checker = c.self.inside.checker in
+    let lacks = g.S.TileSource.may_lack checker.source in
+    subst (λ r. IfErr c.read_numbers.result (GivesNumbersFault H (g.S.TileSource.may_lack r.source) (record { size = r.size; root = r.root; indexes = c.args.indexes.now; fetched = fetched }))) c.self.view_is
+    (err_weaker (GivesReadFault H (λ t. lacks t × IsNeededFor checker.size c.args.indexes.now t) checker.size checker.root fetched)
+    (GivesNumbersFault H lacks (record { size = checker.size; root = checker.root; indexes = c.args.indexes.now; fetched = fetched })) c.read_numbers.result
+    (λ fault gives. numbers_fault H lacks (record { size = checker.size; root = checker.root; indexes = c.args.indexes.now; fetched = fetched }) fault readable some gives) c.read_numbers.ensures.faults)

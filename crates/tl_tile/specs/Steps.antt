@@ -1,0 +1,62 @@
+-- What each step of a read makes of the tiles that were fetched.
+use Rattle.std.specs.Prelude.{◌≡◌, ℕ, ◌+◌, ◌*◌, ◌/◌, ◌%◌, ◌^◌, ◌<◌, ◌≤◌, Bool, true, false, List, [], ◌∷◌, ◌++◌, All, Some, None, ◌⊎◌}
+use Rattle.std.specs.List.{AllZip}
+use Rattle.tl_store.specs.Stored.{stored_index}
+use Rattle.tl_tile.specs.declared.resource.Tile.{Tile}
+use Rattle.tl_tile.specs.declared.place.Place.{Place}
+use Rattle.tl_tile.specs.TileText.{level_count, full_tile, tile_with}
+use Rattle.tl_tile.specs.Known.{Tiles, Tells}
+use Rattle.tl_tile.specs.KnownEdge.{IsEdgeLevel}
+use Rattle.tl_tile.specs.Fetched.{tiles_of, tiles_in}
+use Rattle.tl_tile.specs.Source.{AreAnswers, AreLong, HasTileWith}
+use Rattle.tl_tile.specs.Fetching.{IsOver, edge_from}
+use Rattle.tl_tile.specs.Verified.{AreInOrder}
+
+-- the tiles of a read so far, good or bad: answers of the source, in order
+pub record AreFetched (may_answer : Tile → List ℕ → Type 0) (H : List ℕ → List ℕ) (size : ℕ) (root : List ℕ) (fetched : List (Tile × List ℕ)) : Type 0 where
+  pub answers : AreAnswers may_answer size fetched
+  pub order : AreInOrder H size root fetched
+
+-- the partial tiles from this level up were fetched, and no other tiles
+pub record AreEdgeFrom (size level : ℕ) (fetched : List (Tile × List ℕ)) : Type 0 where
+  pub tiles : tiles_in fetched ≡ edge_from size level
+  pub long : AreLong (tiles_of fetched)
+  pub partial : (t : Tile) (text : List ℕ) → tiles_of fetched t ≡ Some text → (t.width < 256) × (level ≤ t.level)
+  pub edge : (l : ℕ) → level ≤ l → l < 8 → 0 < level_count size l % 256 → (text : List ℕ) × IsEdgeLevel (tiles_of fetched) size l text
+
+-- this tile was added, or nothing
+abbrev pub AddsOnly : Tile → List (Tile × List ℕ) → List (Tile × List ℕ) → Type 0
+AddsOnly t before after = (after ≡ before) ⊎ ((text : List ℕ) × (after ≡ before ++ (t, text) ∷ []))
+
+-- tiles were added, each over this place of a level of tiles
+pub record AddsOver (level place : ℕ) (before after : List (Tile × List ℕ)) : Type 0 where
+  pub added : List (Tile × List ℕ)
+  pub joined : after ≡ before ++ added
+  pub over : All (λ f. IsOver level place f.0) added
+
+-- the tile with this place of a level wasn't fetched: it is a full one, and there is a tile above it
+pub record IsMissing (tiles : Tiles) (size level place : ℕ) : Type 0 where
+  pub low : level < 7
+  pub above : place / 256 < level_count size (level + 1)
+  pub full : tile_with size level place ≡ full_tile level (place / 256)
+  pub none : tiles (full_tile level (place / 256)) ≡ None
+
+-- whether the tile with this place was fetched
+abbrev pub IsThere : Tiles → ℕ → ℕ → ℕ → Bool → Type 0
+IsThere tiles size level place true = HasTileWith tiles size level place
+IsThere tiles size level place false = IsMissing tiles size level place
+
+-- a complete subtree of a log of this size
+abbrev pub IsPlaceIn : ℕ → Place → Type 0
+IsPlaceIn size p = (p.level ≤ 62) × ((p.place + 1) * 2 ^ p.level ≤ size)
+
+-- the tiles tell this hash of the subtree with this number among the stored hashes
+pub record TellsNumber (H : List ℕ → List ℕ) (tiles : Tiles) (size index : ℕ) (hash : List ℕ) : Type 0 where
+  pub place : Place
+  pub within : IsPlaceIn size place
+  pub number : stored_index place.level place.place ≡ index
+  pub tells : Tells H tiles size place.level place.place hash
+
+-- the hashes that the tiles tell of the subtrees with these numbers
+abbrev pub TellsAll : (List ℕ → List ℕ) → Tiles → ℕ → List ℕ → List (List ℕ) → Type 0
+TellsAll H tiles size indexes hashes = AllZip (λ index hash. TellsNumber H tiles size index hash) indexes hashes
