@@ -13,10 +13,14 @@ mod heads;
 #[cfg(test)]
 mod keys;
 #[cfg(test)]
+mod large;
+#[cfg(test)]
 mod mirrors;
 #[cfg(test)]
 mod proof_texts;
 #[cfg(test)]
 mod refusals;
+#[cfg(test)]
+mod runs;
 #[cfg(test)]
 mod words;

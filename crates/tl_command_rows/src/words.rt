@@ -19,15 +19,21 @@ fn job_of(alloc: Global, words: &[&str]) -> Result<Result<Job, bool>, AllocError
 
 #[test]
 fn each_command_with_its_options(rt: HostRuntime) -> Result<(), Fail> {
-    let job = job_of(rt.alloc(), &["tlog", "head", "--origin", "x"])?;
-    assert!(rt; matches!(&job, Ok(Job::Head { origin }) if origin.as_str() == "x"));
-    let job = job_of(
-        rt.alloc(),
-        &["tlog", "inclusion", "--index", "18446744073709551615"],
-    )?;
-    assert!(rt; matches!(&job, Ok(Job::Inclusion { index }) if *index == u64::MAX));
-    let job = job_of(rt.alloc(), &["tlog", "consistency", "--old", "0"])?;
-    assert!(rt; matches!(&job, Ok(Job::Consistency { old }) if *old == 0));
+    for name in ["x", "example.com/log", "", "two words — and more"] {
+        let job = job_of(rt.alloc(), &["tlog", "head", "--origin", name])?;
+        assert!(rt; matches!(&job, Ok(Job::Head { origin }) if origin.as_str() == name));
+    }
+    for (word, number) in [
+        ("0", 0),
+        ("1", 1),
+        ("4294967296", 1 << 32),
+        ("18446744073709551615", u64::MAX),
+    ] {
+        let job = job_of(rt.alloc(), &["tlog", "inclusion", "--index", word])?;
+        assert!(rt; matches!(&job, Ok(Job::Inclusion { index }) if *index == number));
+        let job = job_of(rt.alloc(), &["tlog", "consistency", "--old", word])?;
+        assert!(rt; matches!(&job, Ok(Job::Consistency { old }) if *old == number));
+    }
     let job = job_of(rt.alloc(), &["tlog", "check"])?;
     assert!(rt; matches!(&job, Ok(Job::Check)));
     let job = job_of(rt.alloc(), &["tlog", "audit"])?;
