@@ -5,8 +5,9 @@ use Rattle.std.proofs.lemmas.List.Elements.{All-head, All-tail, All-cons, All-ni
 use Rattle.tl_proof.specs.Collisions.{Step, Linked}
 use Rattle.tl_witness.specs.Chain.{TreeHead, head_of, first_head, last_head, Follows, IsLinked, IsChain}
 use Rattle.tl_witness.specs.Witnessed.{Witnessed, with_step}
-use Rattle.tl_witness.specs.Decide.{Asked, Outcome, Decides, Settles, KeepsStep}
-use Rattle.tl_witness.specs.Book.{BookOutcome, Decide, IsLawful, asked_of}
+use Rattle.tl_witness.specs.Answers.{Answers}
+use Rattle.tl_witness.specs.Decide.{Asked, Outcome, Refuses, Decides, Settles, KeepsStep}
+use Rattle.tl_witness.specs.Book.{BookOutcome, DecidesBody, IsLawful, asked_of}
 use Rattle.tl_witness.specs.Runs.{IsLaterChain, IsRun, ChainsOnlyGrow, IsBookRun, IsLater, IsLaterBook, BooksOnlyGrow, ChainsAreLinkedFromEachStep}
 use Rattle.tl_witness.proofs.ChainLaws.{linked-none, linked-one, linked-after, linked-snoc}
 
@@ -29,13 +30,17 @@ settled H out asked follows (inr (inr done)) = kept H out _ asked.step follows d
 
 -- every decision is such an outcome
 pub moves : (H : List ℕ → List ℕ) (asked : Asked) (out : Outcome) → Decides H asked out → Moves H out
-moves H asked out (inl refused) = inl refused.2.1
-moves H asked out (inr (inl closed)) = inl closed.1.2.1
-moves H asked out (inr (inr (opened, inl below))) = inl below.1.2.1
-moves H asked out (inr (inr (opened, inr (above, inl other)))) = inl other.1.2.1
-moves H asked out (inr (inr (opened, inr (above, inr (same, inl fork))))) = inl fork.1.2.1
-moves H asked out (inr (inr (opened, inr (above, inr (same, inr (one, inl wrong)))))) = inl wrong.1.2.1
-moves H asked out (inr (inr (opened, inr (above, inr (same, inr (one, inr right)))))) = settled H out asked right.0 right.1
+moves H asked out (inl closed) = inl closed.1.2.1
+moves H asked out (inr (opened, inl below)) = inl below.1.2.1
+moves H asked out (inr (opened, inr (above, inl other))) = inl other.1.2.1
+moves H asked out (inr (opened, inr (above, inr (same, inl fork)))) = inl fork.1.2.1
+moves H asked out (inr (opened, inr (above, inr (same, inr (one, inl wrong))))) = inl wrong.1.2.1
+moves H asked out (inr (opened, inr (above, inr (same, inr (one, inr right))))) = settled H out asked right.0 right.1
+
+-- and so is a refusal
+pub moves_or_stays : (H : List ℕ → List ℕ) (asked : Asked) (out : Outcome) → Decides H asked out ⊎ Refuses out 500 → Moves H out
+moves_or_stays H asked out (inl decided) = moves H asked out decided
+moves_or_stays H asked out (inr refused) = inl refused.2.1
 
 later-refl : (H : List ℕ → List ℕ) (chain : List Step) → IsChain H chain → IsLaterChain H chain chain
 later-refl H chain is = (is, ([], sym (append-nil chain), linked-none H (last_head (first_head H) chain)))
@@ -66,7 +71,7 @@ chains_only_grow H one last outs is run = go outs one last is run
     go (out ∷ outs) one last is run =
         let from = ap chain_of run.0 in
         let is' : IsChain H out.one.chain = rw from is in
-        let first = stepped H out is' (moves H run.1.0 out run.1.1) in
+        let first = stepped H out is' (moves_or_stays H run.1.0 out run.1.1) in
         let rest = go outs out.one_after last first.0 run.2 in
         rw (← from) (later-trans H out.one.chain out.one_after.chain last.chain first rest)
 
@@ -140,15 +145,18 @@ place_lawful H (first ∷ book) zero one lawful there =
 place_lawful H (first ∷ book) (suc at) one lawful there = place_lawful H book at one (All-tail (HasChain H) first book lawful) there
 
 -- one request leaves a later book
-answered : (H : List ℕ → List ℕ) (body : List ℕ) (time : ℕ) (out : BookOutcome) → IsLawful H out.book → Decide H body time out → IsLaterBook H out.book out.book_after
-answered H body time out lawful (inl refused) = rw refused.3 (book-refl H out.book lawful)
-answered H body time out lawful (inr (inl none)) = rw none.1.3 (book-refl H out.book lawful)
-answered H body time out lawful (inr (inr (request, is, inl none))) = rw none.1.3 (book-refl H out.book lawful)
-answered H body time out lawful (inr (inr (request, is, inr (signed, reads, inl none)))) = rw none.1.3 (book-refl H out.book lawful)
-answered H body time out lawful (inr (inr (request, is, inr (signed, reads, inr (place, of, changed))))) =
+decided : (H : List ℕ → List ℕ) (body : List ℕ) (time : ℕ) (out : BookOutcome) → IsLawful H out.book → DecidesBody H body time out → IsLaterBook H out.book out.book_after
+decided H body time out lawful (inl none) = rw none.1.3 (book-refl H out.book lawful)
+decided H body time out lawful (inr (request, is, inl none)) = rw none.1.3 (book-refl H out.book lawful)
+decided H body time out lawful (inr (request, is, inr (signed, reads, inl none))) = rw none.1.3 (book-refl H out.book lawful)
+decided H body time out lawful (inr (request, is, inr (signed, reads, inr (place, of, changed)))) =
     let chain = place_lawful H out.book place.at place.one lawful of.0 in
     let one : Outcome = record { status = out.status; body = out.body; saved = out.saved; saved_after = out.saved_after; one = place.one; one_after = changed.0 } in
     rw changed.1 (set_later H out.book place.at place.one changed.0 lawful of.0 (same_trust H one chain (moves H (asked_of request signed time) one changed.2)))
+
+answered : (H : List ℕ → List ℕ) (body : List ℕ) (time : ℕ) (out : BookOutcome) → IsLawful H out.book → Answers H body time out → IsLaterBook H out.book out.book_after
+answered H body time out lawful (inl is) = decided H body time out lawful is
+answered H body time out lawful (inr refused) = rw refused.1.3 (book-refl H out.book lawful)
 
 pub books_only_grow : BooksOnlyGrow
 books_only_grow H book last outs lawful run = go outs book last lawful run

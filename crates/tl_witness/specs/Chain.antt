@@ -1,5 +1,5 @@
--- An origin's chain: what the witness has cosigned for it, in order (C2SP tlog-witness, "add-checkpoint"). H is the digest
--- function.
+-- An origin's chain: what the witness has cosigned for it, in order (C2SP tlog-witness, "add-checkpoint"). H is the
+-- digest function.
 use Rattle.std.specs.Prelude.{ℕ, List, [], ◌∷◌}
 use Rattle.tl_proof.specs.Acceptance.{AcceptsConsistency}
 use Rattle.tl_proof.specs.Collisions.{Step, Linked}

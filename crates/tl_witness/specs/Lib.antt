@@ -8,6 +8,9 @@ pub mod Witnessed
 pub mod Decide
 pub mod Book
 pub mod ReadRequest
+pub mod Answers
+pub mod Offer
+pub mod Finding
 pub mod Runs
 pub mod Shared
 pub mod Open

@@ -1,6 +1,6 @@
 //! The links of one origin.
 
-ghost use Rattle.std.specs.Prelude.{◌≡◌, [], ◌∷◌, ◌++◌, IfErr, IfOk, OnOk, OnErr, IsErrOf, MatchOption, map};
+ghost use Rattle.std.specs.Prelude.{◌≡◌, ◌↔◌, [], ◌∷◌, ◌++◌, IfErr, IfOk, IsTrue, OnOk, OnErr, IsErrOf, MatchOption, map};
 ghost use Rattle.tl_proof.specs.Collisions.{step_of};
 ghost use Rattle.tl_witness.specs.Chain.{first_head, last_head, Follows, IsChain};
 ghost use Rattle.tl_witness.specs.ChainLine.{IsChainLine};
@@ -13,8 +13,8 @@ use std::marker::Model;
 use tl_hash::{Hash, TreeHash, empty_hash};
 use tl_proof::{Link, check_tree};
 
-/// The links of one origin, each accepted from the one before, and the first from size 0 and the hash of no bytes. A contract
-/// sees the steps that they say.
+/// The links of one origin, each accepted from the one before, and the first from size 0 and the hash of no bytes.
+/// A contract sees the steps that they say.
 #[derive(Drop)]
 pub(crate) struct Chain<T: TreeHash, A: Allocator> {
     tree: T,
@@ -74,6 +74,21 @@ impl<T: TreeHash, A: Allocator + Copy> Chain<T, A> {
             Some(link) => (link.size, link.root),
             None => (0, empty_hash(self.tree)),
         }
+    }
+
+    /// Whether the link is accepted from the size and root that the chain has reached.
+    pub(crate) fn accepts(&self, link: &Link<A>) -> bool
+        ensures { IsTrue result ↔ Follows T.digest_of (last_head (first_head T.digest_of) self.now) (step_of link.now) }
+    {
+        let (size, root) = self.head();
+        check_tree(
+            self.tree,
+            link.proof.as_slice(),
+            link.size,
+            link.root,
+            size,
+            root,
+        )
     }
 
     /// Saves the link and then keeps it. The growth is reserved first, so nothing fails after the save.
