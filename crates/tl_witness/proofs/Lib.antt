@@ -24,3 +24,6 @@ pub mod OneReading
 pub mod CosignLaws
 pub mod BookLaws
 pub mod FindingLaws
+pub mod OneRequest
+pub mod CosignedLaws
+pub mod SoundLaws

@@ -5,14 +5,14 @@ use Rattle.std.proofs.lemmas.List.Elements.{All-nil, All-cons}
 use Rattle.std.proofs.lemmas.Option.{slice_get_within, get_or_from_slice_get, slice_get-get_or}
 use Rattle.tl_witness.specs.Answers.{Answers, AsksForMemory}
 use Rattle.tl_witness.specs.Book.{Place, IsPlaceOf, IsLawful, BookOutcome, Signed, IsSigned, asked_of}
-use Rattle.tl_witness.specs.Chain.{IsChain, first_head}
+use Rattle.tl_witness.specs.Chain.{IsChain}
 use Rattle.tl_witness.specs.Cases.{UnlessSome}
 use Rattle.tl_witness.specs.Decide.{Asked, Decides}
 use Rattle.tl_witness.specs.Finding.{IsMalformed, IsOfOther}
 use Rattle.tl_witness.specs.Request.{Body, IsRequest}
 use Rattle.tl_witness.specs.Shared.{Answer, AnswersFromSome}
 use Rattle.tl_witness.specs.Witnessed.{Witnessed}
-use Rattle.tl_witness.proofs.ChainLaws.{linked-none}
+use Rattle.tl_witness.proofs.ChainLaws.{chain-none}
 
 -- an origin of which nothing is known
 abbrev pub made : List ℕ → Witnessed
@@ -45,7 +45,7 @@ made_origins (o ∷ origins) = ap (λ (os : List (List ℕ)). o ∷ os) (made_or
 
 made_lawful : (H : List ℕ → List ℕ) (origins : List (List ℕ)) → IsLawful H (all_made origins)
 made_lawful H [] = All-nil (HasChain H)
-made_lawful H (o ∷ origins) = All-cons (HasChain H) (made o) (all_made origins) (linked-none H (first_head H)) (made_lawful H origins)
+made_lawful H (o ∷ origins) = All-cons (HasChain H) (made o) (all_made origins) (chain-none H) (made_lawful H origins)
 
 one_origins : (origins : List (List ℕ)) (at : ℕ) (one : Witnessed) → slice_get origins at ≡ Some one.origin → map origin_of (with_one origins at one) ≡ origins
 one_origins [] at one there = refl
@@ -57,7 +57,7 @@ one_origins (o ∷ origins) (suc at) one there = ap (λ (os : List (List ℕ)). 
 one_lawful : (H : List ℕ → List ℕ) (origins : List (List ℕ)) (at : ℕ) (one : Witnessed) → IsChain H one.chain → IsLawful H (with_one origins at one)
 one_lawful H [] at one is = All-nil (HasChain H)
 one_lawful H (o ∷ origins) zero one is = All-cons (HasChain H) one (all_made origins) is (made_lawful H origins)
-one_lawful H (o ∷ origins) (suc at) one is = All-cons (HasChain H) (made o) (with_one origins at one) (linked-none H (first_head H)) (one_lawful H origins at one is)
+one_lawful H (o ∷ origins) (suc at) one is = All-cons (HasChain H) (made o) (with_one origins at one) (chain-none H) (one_lawful H origins at one is)
 
 one_stands : (origins : List (List ℕ)) (at : ℕ) (one : Witnessed) → slice_get origins at ≡ Some one.origin → slice_get (with_one origins at one) at ≡ Some one
 one_stands [] at one there = absurd cc

@@ -12,6 +12,7 @@ pub mod Answers
 pub mod Offer
 pub mod Finding
 pub mod Runs
+pub mod Cosigned
 pub mod Shared
 pub mod Open
 pub mod Opening

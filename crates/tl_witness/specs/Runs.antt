@@ -1,6 +1,7 @@
 -- Runs of a witness: any list of requests, with any faults. H is the digest function.
 use Rattle.std.specs.Prelude.{◌≡◌, ℕ, ◌+◌, ◌⊎◌, List, [], ◌∷◌, ◌++◌, Some, slice_get, drop}
 use Rattle.tl_proof.specs.Collisions.{Step, Linked}
+use Rattle.tl_proof.specs.Laws.{MadeOfHashes}
 use Rattle.tl_witness.specs.Chain.{first_head, last_head, IsLinked, IsChain}
 use Rattle.tl_witness.specs.Witnessed.{Witnessed}
 use Rattle.tl_witness.specs.Decide.{Asked, Outcome, Refuses, Decides}
@@ -19,7 +20,7 @@ abbrev pub IsRun : (List ℕ → List ℕ) → Witnessed → List Outcome → Wi
 IsRun H one [] last = last ≡ one
 IsRun H one (out ∷ outs) last =
     (out.one ≡ one)
-    × ((asked : Asked) × (Decides H asked out ⊎ Refuses out 500))
+    × ((asked : Asked) × MadeOfHashes asked.step × (Decides H asked out ⊎ Refuses out 500))
     × IsRun H out.one_after outs last
 
 -- a chain stays a chain and begins with what it was, and the steps between lead from the one to the other

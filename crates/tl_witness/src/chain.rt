@@ -1,7 +1,8 @@
 //! The links of one origin.
 
-ghost use Rattle.std.specs.Prelude.{◌≡◌, ◌↔◌, [], ◌∷◌, ◌++◌, IfErr, IfOk, IsTrue, OnOk, OnErr, IsErrOf, MatchOption, map};
+ghost use Rattle.std.specs.Prelude.{◌≡◌, ◌↔◌, [], ◌∷◌, ◌++◌, All, IfErr, IfOk, IsTrue, OnOk, OnErr, IsErrOf, MatchOption, map};
 ghost use Rattle.tl_proof.specs.Collisions.{step_of};
+ghost use Rattle.tl_proof.specs.Laws.{HasHashLength, MadeOfHashes};
 ghost use Rattle.tl_witness.specs.Chain.{first_head, last_head, Follows, IsChain};
 ghost use Rattle.tl_witness.specs.ChainLine.{IsChainLine};
 ghost use Rattle.tl_witness.specs.Open.{IsFirstBreak};
@@ -116,6 +117,23 @@ impl<T: TreeHash, A: Allocator + Copy> Chain<T, A> {
     }
 }
 
+// Shows that each of these is a hash. It changes nothing.
+fn are_hashes(hashes: &[Hash])
+    ensures { All HasHashLength hashes.now }
+{
+    for hash in hashes {
+        let _ = hash.as_bytes();
+    }
+}
+
+// Shows that a link is made of hashes. It changes nothing.
+fn is_of_hashes<A: Allocator>(link: &Link<A>)
+    ensures { MadeOfHashes (step_of link.now) }
+{
+    let _ = link.root.as_bytes();
+    are_hashes(link.proof.as_slice());
+}
+
 // The first of these links that isn't accepted from the one before.
 fn first_break<T: TreeHash, A: Allocator>(tree: T, links: &[Link<A>]) -> Option<usize>
     ensures { MatchOption result (IsChain T.digest_of (map step_of links.now)) (IsFirstBreak T.digest_of (map step_of links.now)) }
@@ -124,6 +142,7 @@ fn first_break<T: TreeHash, A: Allocator>(tree: T, links: &[Link<A>]) -> Option<
     let mut root = empty_hash(tree);
     for i in 0..links.len() {
         let link = &links[i];
+        is_of_hashes(link);
         if !check_tree(
             tree,
             link.proof.as_slice(),

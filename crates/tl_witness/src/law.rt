@@ -1,7 +1,10 @@
 //! Laws of runs, chains and saved links: they hold of the definitions alone.
 
+ghost use Rattle.tl_witness.specs.Cosigned.{CosignedExtendOrCollide, OpenedBooksAreSound};
 ghost use Rattle.tl_witness.specs.OneReading.{SavedLinksAreOne};
 ghost use Rattle.tl_witness.specs.Runs.{BooksOnlyGrow, ChainsAreLinkedFromEachStep, ChainsOnlyGrow};
+
+use tl_proof::laws::audit_law;
 
 /// Whatever the requests to one origin, and whatever faults come: its chain stays a chain and begins with what it
 /// was, and the links between lead from the one to the other. It computes nothing: its contract is the law.
@@ -26,3 +29,18 @@ pub fn chains_are_linked_from_each_step()
 pub fn saved_links_have_one_reading()
     ensures { SavedLinksAreOne }
 {}
+
+/// Every book that was opened is sound: each origin's links are a chain, and no origin stands there twice. It
+/// computes nothing: its contract is the law.
+pub fn opened_books_are_sound()
+    ensures { OpenedBooksAreSound }
+{}
+
+/// Of any two requests of a run of one book that were answered with 200 for one origin, whatever requests and
+/// faults came before, between and after: each list of the earlier checkpoint is a prefix of each list of the later
+/// one, or two different byte strings that are named have one digest. It computes nothing: its contract is the law.
+pub fn cosigned_checkpoints_extend()
+    ensures { CosignedExtendOrCollide }
+{
+    audit_law();
+}

@@ -27,7 +27,7 @@ pub use chain_line::write_chain_line;
 pub use chain_reading::{ChainFault, read_chain};
 pub use law::{
     books_only_grow, chains_are_linked_from_each_step, chains_only_grow,
-    saved_links_have_one_reading,
+    cosigned_checkpoints_extend, opened_books_are_sound, saved_links_have_one_reading,
 };
 pub use opening::BookFault;
 pub use reply::Reply;
