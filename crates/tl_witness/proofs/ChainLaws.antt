@@ -3,8 +3,11 @@ use Rattle.std.proofs.Common.{◌≡◌, ℕ, zero, suc, ◌+◌, ◌-◌, List,
 use Rattle.std.proofs.lemmas.List.{length-map, map_more, take-map, get_or-map}
 use Rattle.std.proofs.lemmas.Option.{slice_get_within, slice_get-map, slice_get-get_or}
 use Rattle.std.specs.Option.{option_map}
+use Rattle.std.proofs.lemmas.List.Elements.{All-nil, All-push}
 use Rattle.tl_proof.specs.Collisions.{Step, Linked}
+use Rattle.tl_proof.specs.Laws.{MadeOfHashes}
 use Rattle.tl_witness.specs.Chain.{TreeHead, head_of, first_head, Follows, IsLinked, IsChain, last_head}
+use Rattle.tl_witness.specs.ChainLine.{ChainLine, IsChainLine}
 use Rattle.tl_witness.specs.Open.{IsFirstBreak}
 
 -- the steps lead where the last of them leads
@@ -64,6 +67,22 @@ last_head-map f old xs x there =
     let shown : slice_get (map f xs) (length xs - 1) ≡ Some (f x) = slice_get-map f xs (length xs - 1) ∙ ap (option_map f) (sym there) in
     last_head-last old (map f xs) (f x) (ap (λ n. slice_get (map f xs) (n - 1)) (length-map xs f) ∙ shown)
 
+-- no steps are a chain
+pub chain-none : (H : List ℕ → List ℕ) → IsChain H []
+chain-none H = record { linked = linked-none H (first_head H); made = All-nil MadeOfHashes }
+
+-- a chain grows by a step of hashes that follows its last head
+pub chain-snoc : (H : List ℕ → List ℕ) (steps : List Step) (step : Step) → IsChain H steps → Follows H (last_head (first_head H) steps) step → MadeOfHashes step
+    → IsChain H (steps ++ step ∷ [])
+chain-snoc H steps step is follows made = record {
+  linked = linked-snoc H (first_head H) steps step is.linked follows;
+  made = All-push MadeOfHashes steps step is.made made;
+}
+
+-- what has a line is made of hashes
+pub line_made : (l : ChainLine) → IsChainLine l → MadeOfHashes l.step
+line_made l is = (is.root.length, λ k d lt. (is.hashes k d lt).length)
+
 -- what the steps before a place lead to, and the step there
 pub record HasCome {A : Type 0} (H : List ℕ → List ℕ) (f : A → Step) (xs : List A) (i size : ℕ) (root : List ℕ) : Type 0 where
   pub chain : IsChain H (map f (take i xs))
@@ -71,19 +90,19 @@ pub record HasCome {A : Type 0} (H : List ℕ → List ℕ) (f : A → Step) (xs
   pub root_is : (last_head (first_head H) (map f (take i xs))).root ≡ root
 
 pub come_first : {A : Type 0} (H : List ℕ → List ℕ) (f : A → Step) (xs : List A) → HasCome H f xs 0 0 (H [])
-come_first H f xs = record { chain = linked-none H (first_head H); size_is = refl; root_is = refl }
+come_first H f xs = record { chain = chain-none H; size_is = refl; root_is = refl }
 
 follows_here : {A : Type 0} (H : List ℕ → List ℕ) (f : A → Step) (xs : List A) (i size : ℕ) (root : List ℕ) (step : Step) → HasCome H f xs i size root
     → Follows H (record { size = size; root = root }) step → Follows H (last_head (first_head H) (map f (take i xs))) step
 follows_here H f xs i size root step come follows = rw (come.size_is, come.root_is) follows
 
 pub come_more : {A : Type 0} (H : List ℕ → List ℕ) (f : A → Step) (xs : List A) (i size : ℕ) (root : List ℕ) (x : A) → i < length xs → x ≡ get_or xs i x
-    → HasCome H f xs i size root → Follows H (record { size = size; root = root }) (f x) → HasCome H f xs (i + 1) (f x).size (f x).root
-come_more H f xs i size root x lt is come follows =
+    → HasCome H f xs i size root → Follows H (record { size = size; root = root }) (f x) → MadeOfHashes (f x) → HasCome H f xs (i + 1) (f x).size (f x).root
+come_more H f xs i size root x lt is come follows made =
     let more : map f (take (i + 1) xs) ≡ map f (take i xs) ++ f x ∷ [] = map_more f xs i x lt ∙ ap (λ (y : _). map f (take i xs) ++ f y ∷ []) (sym is) in
     let leads : last_head (first_head H) (map f (take (i + 1) xs)) ≡ head_of (f x) = ap (last_head (first_head H)) more ∙ last_head-snoc (first_head H) (map f (take i xs)) (f x) in
     record {
-      chain = subst (IsChain H) (sym more) (linked-snoc H (first_head H) (map f (take i xs)) (f x) come.chain (follows_here H f xs i size root (f x) come follows));
+      chain = subst (IsChain H) (sym more) (chain-snoc H (map f (take i xs)) (f x) come.chain (follows_here H f xs i size root (f x) come follows) made);
       size_is = ap (λ (h : TreeHead). h.size) leads;
       root_is = ap (λ (h : TreeHead). h.root) leads;
     }

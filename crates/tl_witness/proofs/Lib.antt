@@ -1,5 +1,4 @@
 pub mod ChainLaws
-pub mod OpenLaws
 pub mod PlaceLaws
 pub mod SignedLaws
 pub mod SignedFaults
@@ -22,3 +21,9 @@ pub mod Grouping
 pub mod LineText
 pub mod SavedLines
 pub mod OneReading
+pub mod CosignLaws
+pub mod BookLaws
+pub mod FindingLaws
+pub mod OneRequest
+pub mod CosignedLaws
+pub mod SoundLaws

@@ -3,6 +3,7 @@ use Rattle.std.proofs.Common.{◌≡◌, ◌≢◌, ◌<◌, ℕ, zero, suc, Lis
 use Rattle.std.specs.Prelude.{slice_set}
 use Rattle.std.specs.List.{AllZip}
 use Rattle.std.proofs.lemmas.List.{map-set, map-append}
+use Rattle.std.proofs.lemmas.List.Elements.{All-head, All-tail}
 use Rattle.tl_proof.specs.Collisions.{Step}
 use Rattle.tl_witness.specs.Chain.{IsChain}
 use Rattle.tl_note.specs.Key.{Key, IsKeyName}
@@ -124,6 +125,14 @@ pub not_before : (done rest all : List Trusted) (t : Trusted) → done ++ t ∷ 
 not_before done rest all t whole once is =
     let split : trusted_origins (done ++ t ∷ rest) ≡ trusted_origins done ++ t.origin ∷ trusted_origins rest = map-append (λ (u : Trusted). u.origin) done (t ∷ rest) in
     once (subst (λ (ts : List Trusted). HasTwice (trusted_origins ts)) whole (subst HasTwice (sym split) (comes_again t.origin (trusted_origins done) (trusted_origins rest) is)))
+
+-- a name that is among those of all
+pub named_next : (done rest all : List Trusted) (t : Trusted) → done ++ t ∷ rest ≡ all → All IsKeyName (cosigner_names all) → IsKeyName t.cosigner.name
+named_next done rest all t whole named = go done (subst (λ (ts : List Trusted). All IsKeyName (cosigner_names ts)) (sym whole) named)
+  where
+    go : (ts : List Trusted) → All IsKeyName (cosigner_names (ts ++ t ∷ rest)) → IsKeyName t.cosigner.name
+    go [] each = All-head IsKeyName t.cosigner.name (cosigner_names rest) each
+    go (u ∷ ts) each = go ts (All-tail IsKeyName u.cosigner.name (cosigner_names (ts ++ t ∷ rest)) each)
 
 -- the same of lists that show the trusts and the book
 pub entered_push : {E G : Type 0} (trusted : E → Trusted) (shown : G → Witnessed) (saved left now : List SavedChain) (done : List E) (entries : List G) (t : E) (e : G) (taken : List Step)

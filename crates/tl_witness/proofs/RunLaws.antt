@@ -3,58 +3,69 @@ use Rattle.std.proofs.Common.{◌≡◌, ℕ, zero, suc, ◌+◌, List, [], ◌�
 use Rattle.std.specs.Prelude.{slice_set}
 use Rattle.std.proofs.lemmas.List.Elements.{All-head, All-tail, All-cons, All-nil}
 use Rattle.tl_proof.specs.Collisions.{Step, Linked}
+use Rattle.tl_proof.specs.Laws.{MadeOfHashes}
 use Rattle.tl_witness.specs.Chain.{TreeHead, head_of, first_head, last_head, Follows, IsLinked, IsChain}
 use Rattle.tl_witness.specs.Witnessed.{Witnessed, with_step}
-use Rattle.tl_witness.specs.Decide.{Asked, Outcome, Decides, Settles, KeepsStep}
-use Rattle.tl_witness.specs.Book.{BookOutcome, Decide, IsLawful, asked_of}
+use Rattle.tl_witness.specs.Answers.{Answers}
+use Rattle.tl_witness.specs.Decide.{Asked, Outcome, Refuses, Decides, Settles, KeepsStep}
+use Rattle.tl_witness.specs.Book.{BookOutcome, DecidesBody, IsLawful, IsSigned, Signed, asked_of}
+use Rattle.tl_witness.specs.Request.{Body, IsRequest}
 use Rattle.tl_witness.specs.Runs.{IsLaterChain, IsRun, ChainsOnlyGrow, IsBookRun, IsLater, IsLaterBook, BooksOnlyGrow, ChainsAreLinkedFromEachStep}
-use Rattle.tl_witness.proofs.ChainLaws.{linked-none, linked-one, linked-after, linked-snoc}
+use Rattle.tl_witness.proofs.ChainLaws.{linked-none, linked-one, linked-after, chain-snoc}
 
 -- an outcome leaves the origin as it was, or with one step more that follows its last head
 abbrev pub Moves : (List ℕ → List ℕ) → Outcome → Type 0
 Moves H out =
     (out.one_after ≡ out.one)
-    ⊎ ((step : Step) × (out.one_after ≡ with_step out.one step) × Follows H (last_head (first_head H) out.one.chain) step)
+    ⊎ ((step : Step) × (out.one_after ≡ with_step out.one step) × Follows H (last_head (first_head H) out.one.chain) step × MadeOfHashes step)
 
 kept : (H : List ℕ → List ℕ) (out : Outcome) (size : ℕ) (step : Step)
-    → Follows H (last_head (first_head H) out.one.chain) step → KeepsStep out size step → Moves H out
-kept H out size step follows (inl same) = inl same.1.1
-kept H out size step follows (inr longer) = inr (step, longer.2, follows)
+    → Follows H (last_head (first_head H) out.one.chain) step → MadeOfHashes step → KeepsStep out size step → Moves H out
+kept H out size step follows made (inl same) = inl same.1.1
+kept H out size step follows made (inr longer) = inr (step, longer.2, follows, made)
 
 settled : (H : List ℕ → List ℕ) (out : Outcome) (asked : Asked)
-    → Follows H (last_head (first_head H) out.one.chain) asked.step → Settles out (last_head (first_head H) out.one.chain).size asked → Moves H out
-settled H out asked follows (inl refused) = inl refused.1.2.1
-settled H out asked follows (inr (inl failed)) = inl failed.1.3
-settled H out asked follows (inr (inr done)) = kept H out _ asked.step follows done.1
+    → Follows H (last_head (first_head H) out.one.chain) asked.step → MadeOfHashes asked.step → Settles out (last_head (first_head H) out.one.chain).size asked → Moves H out
+settled H out asked follows made (inl refused) = inl refused.1.2.1
+settled H out asked follows made (inr (inl failed)) = inl failed.1.3
+settled H out asked follows made (inr (inr done)) = kept H out _ asked.step follows made done.1
 
 -- every decision is such an outcome
-pub moves : (H : List ℕ → List ℕ) (asked : Asked) (out : Outcome) → Decides H asked out → Moves H out
-moves H asked out (inl refused) = inl refused.2.1
-moves H asked out (inr (inl closed)) = inl closed.1.2.1
-moves H asked out (inr (inr (opened, inl below))) = inl below.1.2.1
-moves H asked out (inr (inr (opened, inr (above, inl other)))) = inl other.1.2.1
-moves H asked out (inr (inr (opened, inr (above, inr (same, inl fork))))) = inl fork.1.2.1
-moves H asked out (inr (inr (opened, inr (above, inr (same, inr (one, inl wrong)))))) = inl wrong.1.2.1
-moves H asked out (inr (inr (opened, inr (above, inr (same, inr (one, inr right)))))) = settled H out asked right.0 right.1
+pub moves : (H : List ℕ → List ℕ) (asked : Asked) (out : Outcome) → MadeOfHashes asked.step → Decides H asked out → Moves H out
+moves H asked out made (inl closed) = inl closed.1.2.1
+moves H asked out made (inr (opened, inl below)) = inl below.1.2.1
+moves H asked out made (inr (opened, inr (above, inl other))) = inl other.1.2.1
+moves H asked out made (inr (opened, inr (above, inr (same, inl fork)))) = inl fork.1.2.1
+moves H asked out made (inr (opened, inr (above, inr (same, inr (one, inl wrong))))) = inl wrong.1.2.1
+moves H asked out made (inr (opened, inr (above, inr (same, inr (one, inr right))))) = settled H out asked right.0 made right.1
+
+-- and so is a refusal
+pub moves_or_stays : (H : List ℕ → List ℕ) (asked : Asked) (out : Outcome) → MadeOfHashes asked.step → Decides H asked out ⊎ Refuses out 500 → Moves H out
+moves_or_stays H asked out made (inl decided) = moves H asked out made decided
+moves_or_stays H asked out made (inr refused) = inl refused.2.1
+
+-- what a request asks is made of hashes
+pub asked_made : (body note : List ℕ) (request : Body) (signed : Signed) (time : ℕ) → IsRequest body request → IsSigned note signed → MadeOfHashes (asked_of request signed time).step
+asked_made body note request signed time reads is = (is.head.root.length, λ k d lt. (reads.lawful.hashes k d lt).length)
 
 later-refl : (H : List ℕ → List ℕ) (chain : List Step) → IsChain H chain → IsLaterChain H chain chain
 later-refl H chain is = (is, ([], sym (append-nil chain), linked-none H (last_head (first_head H) chain)))
 
-later-trans : (H : List ℕ → List ℕ) (a b c : List Step) → IsLaterChain H a b → IsLaterChain H b c → IsLaterChain H a c
+pub later-trans : (H : List ℕ → List ℕ) (a b c : List Step) → IsLaterChain H a b → IsLaterChain H b c → IsLaterChain H a c
 later-trans H a b c ab bc =
     let whole : c ≡ a ++ (ab.1.0 ++ bc.1.0) = bc.1.1 ∙ (ap (λ l. l ++ bc.1.0) ab.1.1 ∙ append_assoc a ab.1.0 bc.1.0) in (
       bc.0,
-      (ab.1.0 ++ bc.1.0, whole, linked-after H (first_head H) a (ab.1.0 ++ bc.1.0) (subst (IsLinked H (first_head H)) whole bc.0)),
+      (ab.1.0 ++ bc.1.0, whole, linked-after H (first_head H) a (ab.1.0 ++ bc.1.0) (subst (IsLinked H (first_head H)) whole bc.0.linked)),
     )
 
 abbrev chain_of : Witnessed → List Step
 chain_of one = one.chain
 
-stepped : (H : List ℕ → List ℕ) (out : Outcome) → IsChain H out.one.chain → Moves H out → IsLaterChain H out.one.chain out.one_after.chain
+pub stepped : (H : List ℕ → List ℕ) (out : Outcome) → IsChain H out.one.chain → Moves H out → IsLaterChain H out.one.chain out.one_after.chain
 stepped H out is (inl same) = rw (ap chain_of same) (later-refl H out.one.chain is)
 stepped H out is (inr grown) =
     rw (ap chain_of grown.1) (
-      linked-snoc H (first_head H) out.one.chain grown.0 is grown.2,
+      chain-snoc H out.one.chain grown.0 is grown.2 grown.3,
       (grown.0 ∷ [], refl, linked-one H (last_head (first_head H) out.one.chain) grown.0 grown.2),
     )
 
@@ -66,7 +77,7 @@ chains_only_grow H one last outs is run = go outs one last is run
     go (out ∷ outs) one last is run =
         let from = ap chain_of run.0 in
         let is' : IsChain H out.one.chain = rw from is in
-        let first = stepped H out is' (moves H run.1.0 out run.1.1) in
+        let first = stepped H out is' (moves_or_stays H run.1.0 out run.1.1 run.1.2) in
         let rest = go outs out.one_after last first.0 run.2 in
         rw (← from) (later-trans H out.one.chain out.one_after.chain last.chain first rest)
 
@@ -106,14 +117,14 @@ book-refl H [] lawful = refl
 book-refl H (one ∷ book) lawful =
     (one, book, refl, one-refl H one (All-head (HasChain H) one book lawful), book-refl H book (All-tail (HasChain H) one book lawful))
 
-book-trans : (H : List ℕ → List ℕ) (a b c : List Witnessed) → IsLaterBook H a b → IsLaterBook H b c → IsLaterBook H a c
+pub book-trans : (H : List ℕ → List ℕ) (a b c : List Witnessed) → IsLaterBook H a b → IsLaterBook H b c → IsLaterBook H a c
 book-trans H [] b c ab bc = subst (λ (x : List Witnessed). IsLaterBook H x c) ab bc
 book-trans H (one ∷ a) b c ab bc =
     let cd = subst (λ (x : List Witnessed). IsLaterBook H x c) ab.2 bc in
     (cd.0, cd.1, cd.2, one-trans H one ab.0 cd.0 ab.3 cd.3, book-trans H a ab.1 cd.1 ab.4 cd.4)
 
 -- a later book is lawful
-later_lawful : (H : List ℕ → List ℕ) (book later : List Witnessed) → IsLaterBook H book later → IsLawful H later
+pub later_lawful : (H : List ℕ → List ℕ) (book later : List Witnessed) → IsLaterBook H book later → IsLawful H later
 later_lawful H [] later is = subst (IsLawful H) (sym is) (All-nil (HasChain H))
 later_lawful H (one ∷ book) later is =
     subst (IsLawful H) (sym is.2) (All-cons (HasChain H) is.0 is.1 is.3.chain.0 (later_lawful H book is.1 is.4))
@@ -133,22 +144,25 @@ set_later H (first ∷ book) (suc at) one after lawful there is = (
   set_later H book at one after (All-tail (HasChain H) first book lawful) there is,
 )
 
-place_lawful : (H : List ℕ → List ℕ) (book : List Witnessed) (at : ℕ) (one : Witnessed) → IsLawful H book → slice_get book at ≡ Some one → IsChain H one.chain
+pub place_lawful : (H : List ℕ → List ℕ) (book : List Witnessed) (at : ℕ) (one : Witnessed) → IsLawful H book → slice_get book at ≡ Some one → IsChain H one.chain
 place_lawful H [] at one lawful there = absurd cc
 place_lawful H (first ∷ book) zero one lawful there =
     let same : first ≡ one = cc in subst (HasChain H) same (All-head (HasChain H) first book lawful)
 place_lawful H (first ∷ book) (suc at) one lawful there = place_lawful H book at one (All-tail (HasChain H) first book lawful) there
 
 -- one request leaves a later book
-answered : (H : List ℕ → List ℕ) (body : List ℕ) (time : ℕ) (out : BookOutcome) → IsLawful H out.book → Decide H body time out → IsLaterBook H out.book out.book_after
-answered H body time out lawful (inl refused) = rw refused.3 (book-refl H out.book lawful)
-answered H body time out lawful (inr (inl none)) = rw none.1.3 (book-refl H out.book lawful)
-answered H body time out lawful (inr (inr (request, is, inl none))) = rw none.1.3 (book-refl H out.book lawful)
-answered H body time out lawful (inr (inr (request, is, inr (signed, reads, inl none)))) = rw none.1.3 (book-refl H out.book lawful)
-answered H body time out lawful (inr (inr (request, is, inr (signed, reads, inr (place, of, changed))))) =
+decided : (H : List ℕ → List ℕ) (body : List ℕ) (time : ℕ) (out : BookOutcome) → IsLawful H out.book → DecidesBody H body time out → IsLaterBook H out.book out.book_after
+decided H body time out lawful (inl none) = rw none.1.3 (book-refl H out.book lawful)
+decided H body time out lawful (inr (request, is, inl none)) = rw none.1.3 (book-refl H out.book lawful)
+decided H body time out lawful (inr (request, is, inr (signed, reads, inl none))) = rw none.1.3 (book-refl H out.book lawful)
+decided H body time out lawful (inr (request, is, inr (signed, reads, inr (place, of, changed)))) =
     let chain = place_lawful H out.book place.at place.one lawful of.0 in
     let one : Outcome = record { status = out.status; body = out.body; saved = out.saved; saved_after = out.saved_after; one = place.one; one_after = changed.0 } in
-    rw changed.1 (set_later H out.book place.at place.one changed.0 lawful of.0 (same_trust H one chain (moves H (asked_of request signed time) one changed.2)))
+    rw changed.1 (set_later H out.book place.at place.one changed.0 lawful of.0 (same_trust H one chain (moves H (asked_of request signed time) one (asked_made body request.note request signed time is reads) changed.2)))
+
+pub answered : (H : List ℕ → List ℕ) (body : List ℕ) (time : ℕ) (out : BookOutcome) → IsLawful H out.book → Answers H body time out → IsLaterBook H out.book out.book_after
+answered H body time out lawful (inl is) = decided H body time out lawful is
+answered H body time out lawful (inr refused) = rw refused.1.3 (book-refl H out.book lawful)
 
 pub books_only_grow : BooksOnlyGrow
 books_only_grow H book last outs lawful run = go outs book last lawful run
@@ -174,4 +188,4 @@ linked_from H old (first ∷ chain) (suc place) step is there =
     subst (λ (n : ℕ). Linked H step.size step.root (drop n (first ∷ chain))) next (linked_from H (head_of first) chain place step is.1 there)
 
 pub chains_are_linked : ChainsAreLinkedFromEachStep
-chains_are_linked H chain is = (is, λ place step there. linked_from H (first_head H) chain place step is there)
+chains_are_linked H chain is = (is.linked, λ place step there. linked_from H (first_head H) chain place step is.linked there)

@@ -1,15 +1,18 @@
 -- Books made up round one origin that is known.
-use Rattle.std.proofs.Common.{◌≡◌, ◌≢◌, ℕ, zero, suc, List, [], ◌∷◌, Some, false, refl, sym, ap, ◌∙◌, map, slice_get, inl, inr}
+use Rattle.std.proofs.Common.{◌≡◌, ◌≢◌, ℕ, zero, suc, List, [], ◌∷◌, Some, false, refl, sym, ap, subst, ◌∙◌, map, slice_get, inl, inr}
 use Rattle.std.specs.Prelude.{slice_set, Contains}
 use Rattle.std.proofs.lemmas.List.Elements.{All-nil, All-cons}
 use Rattle.std.proofs.lemmas.Option.{slice_get_within, get_or_from_slice_get, slice_get-get_or}
-use Rattle.tl_witness.specs.Book.{Place, IsPlaceOf, IsLawful, Decide, BookOutcome, Signed, IsSigned, asked_of}
-use Rattle.tl_witness.specs.Chain.{IsChain, first_head}
-use Rattle.tl_witness.specs.Decide.{Decides}
+use Rattle.tl_witness.specs.Answers.{Answers, AsksForMemory}
+use Rattle.tl_witness.specs.Book.{Place, IsPlaceOf, IsLawful, BookOutcome, Signed, IsSigned, asked_of}
+use Rattle.tl_witness.specs.Chain.{IsChain}
+use Rattle.tl_witness.specs.Cases.{UnlessSome}
+use Rattle.tl_witness.specs.Decide.{Asked, Decides}
+use Rattle.tl_witness.specs.Finding.{IsMalformed, IsOfOther}
 use Rattle.tl_witness.specs.Request.{Body, IsRequest}
 use Rattle.tl_witness.specs.Shared.{Answer, AnswersFromSome}
 use Rattle.tl_witness.specs.Witnessed.{Witnessed}
-use Rattle.tl_witness.proofs.ChainLaws.{linked-none}
+use Rattle.tl_witness.proofs.ChainLaws.{chain-none}
 
 -- an origin of which nothing is known
 abbrev pub made : List ℕ → Witnessed
@@ -42,7 +45,7 @@ made_origins (o ∷ origins) = ap (λ (os : List (List ℕ)). o ∷ os) (made_or
 
 made_lawful : (H : List ℕ → List ℕ) (origins : List (List ℕ)) → IsLawful H (all_made origins)
 made_lawful H [] = All-nil (HasChain H)
-made_lawful H (o ∷ origins) = All-cons (HasChain H) (made o) (all_made origins) (linked-none H (first_head H)) (made_lawful H origins)
+made_lawful H (o ∷ origins) = All-cons (HasChain H) (made o) (all_made origins) (chain-none H) (made_lawful H origins)
 
 one_origins : (origins : List (List ℕ)) (at : ℕ) (one : Witnessed) → slice_get origins at ≡ Some one.origin → map origin_of (with_one origins at one) ≡ origins
 one_origins [] at one there = refl
@@ -54,7 +57,7 @@ one_origins (o ∷ origins) (suc at) one there = ap (λ (os : List (List ℕ)). 
 one_lawful : (H : List ℕ → List ℕ) (origins : List (List ℕ)) (at : ℕ) (one : Witnessed) → IsChain H one.chain → IsLawful H (with_one origins at one)
 one_lawful H [] at one is = All-nil (HasChain H)
 one_lawful H (o ∷ origins) zero one is = All-cons (HasChain H) one (all_made origins) is (made_lawful H origins)
-one_lawful H (o ∷ origins) (suc at) one is = All-cons (HasChain H) (made o) (with_one origins at one) (linked-none H (first_head H)) (one_lawful H origins at one is)
+one_lawful H (o ∷ origins) (suc at) one is = All-cons (HasChain H) (made o) (with_one origins at one) (chain-none H) (one_lawful H origins at one is)
 
 one_stands : (origins : List (List ℕ)) (at : ℕ) (one : Witnessed) → slice_get origins at ≡ Some one.origin → slice_get (with_one origins at one) at ≡ Some one
 one_stands [] at one there = absurd cc
@@ -78,7 +81,7 @@ outcome answer book after = record { status = answer.status; body = answer.body;
 
 -- what came of it without a look at any origin
 from_made : (H : List ℕ → List ℕ) (origins : List (List ℕ)) (body : List ℕ) (time : ℕ) (answer : Answer)
-    → Decide H body time (outcome answer (all_made origins) (all_made origins)) → AnswersFromSome H origins body time answer
+    → Answers H body time (outcome answer (all_made origins) (all_made origins)) → AnswersFromSome H origins body time answer
 from_made H origins body time answer decided = record {
   book = all_made origins;
   after = all_made origins;
@@ -91,38 +94,39 @@ from_made H origins body time answer decided = record {
 abbrev pub Refused : Answer → ℕ → Type 0
 Refused answer status = (answer.status ≡ status) × (answer.body ≡ []) × (answer.saved_after ≡ answer.saved)
 
-pub no_memory : (H : List ℕ → List ℕ) (origins : List (List ℕ)) (body : List ℕ) (time : ℕ) (answer : Answer) → Refused answer 500 → AnswersFromSome H origins body time answer
-no_memory H origins body time answer is = from_made H origins body time answer (inl (is.0, is.1, is.2, refl))
+pub no_memory : (H : List ℕ → List ℕ) (origins : List (List ℕ)) (body : List ℕ) (time : ℕ) (answer : Answer) → Refused answer 500 → AsksForMemory body
+    → AnswersFromSome H origins body time answer
+no_memory H origins body time answer is asks = from_made H origins body time answer (inr (asks, (is.0, is.1, is.2, refl)))
 
-pub no_request : (H : List ℕ → List ℕ) (origins : List (List ℕ)) (body : List ℕ) (time : ℕ) (answer : Answer) → Refused answer 400
-    → ((request : Body) → ¬ (IsRequest body request)) → AnswersFromSome H origins body time answer
-no_request H origins body time answer is none = from_made H origins body time answer (inr (inl (none, (is.0, is.1, is.2, refl))))
+pub malformed : (H : List ℕ → List ℕ) (origins : List (List ℕ)) (body : List ℕ) (time : ℕ) (answer : Answer) → Refused answer 400 → IsMalformed body
+    → AnswersFromSome H origins body time answer
+malformed H origins body time answer is (inl none) = from_made H origins body time answer (inl (inl (none.0, (is.0, is.1, is.2, refl))))
+malformed H origins body time answer is (inr (request, reads, none)) =
+    from_made H origins body time answer (inl (inr (request, reads, inl (none, (is.0, is.1, is.2, refl)))))
 
-pub no_checkpoint : (H : List ℕ → List ℕ) (origins : List (List ℕ)) (body : List ℕ) (time : ℕ) (answer : Answer) (request : Body) → Refused answer 400
-    → IsRequest body request → ((signed : Signed) → ¬ (IsSigned request.note signed)) → AnswersFromSome H origins body time answer
-no_checkpoint H origins body time answer request is reads none =
-    from_made H origins body time answer (inr (inr (request, reads, inl (none, (is.0, is.1, is.2, refl)))))
-
-pub no_origin : (H : List ℕ → List ℕ) (origins : List (List ℕ)) (body : List ℕ) (time : ℕ) (answer : Answer) (request : Body) (signed : Signed) → Refused answer 404
-    → IsRequest body request → IsSigned request.note signed → ((i : ℕ) → slice_get origins i ≢ Some signed.head.origin) → AnswersFromSome H origins body time answer
-no_origin H origins body time answer request signed is reads note none =
-    from_made H origins body time answer
-    (inr (inr (request, reads, inr (signed, note, inl (no_made origins signed.head.origin none, (is.0, is.1, is.2, refl))))))
+pub of_other : (H : List ℕ → List ℕ) (origins : List (List ℕ)) (body : List ℕ) (time : ℕ) (answer : Answer) → Refused answer 404 → IsOfOther body origins
+    → AnswersFromSome H origins body time answer
+of_other H origins body time answer is other =
+    from_made H origins body time answer (inl (inr (
+      other.request,
+      other.reads,
+      inr (other.signed, other.note, inl (no_made origins other.signed.head.origin other.nowhere, (is.0, is.1, is.2, refl))),
+    )))
 
 -- what came of it at one origin
-pub at_origin : (H : List ℕ → List ℕ) (origins : List (List ℕ)) (body : List ℕ) (time : ℕ) (answer : Answer) (request : Body) (signed : Signed) (at : ℕ) (one after : Witnessed)
-    → IsRequest body request → IsSigned request.note signed → slice_get origins at ≡ Some signed.head.origin → one.origin ≡ signed.head.origin → IsChain H one.chain
-    → Decides H (asked_of request signed time)
-    (record { status = answer.status; body = answer.body; saved = answer.saved; saved_after = answer.saved_after; one = one; one_after = after })
+pub at_origin : (H : List ℕ → List ℕ) (origins : List (List ℕ)) (body : List ℕ) (time : ℕ) (answer : Answer) (request : Body) (signed : Signed) (at : ℕ) (asked : Asked) (one after : Witnessed)
+    → IsRequest body request → IsSigned request.note signed → slice_get origins at ≡ Some signed.head.origin → asked ≡ asked_of request signed time → one.origin ≡ signed.head.origin → IsChain H one.chain
+    → Decides H asked (record { status = answer.status; body = answer.body; saved = answer.saved; saved_after = answer.saved_after; one = one; one_after = after })
     → AnswersFromSome H origins body time answer
-at_origin H origins body time answer request signed at one after reads note there named is decided =
+at_origin H origins body time answer request signed at asked one after reads note there asks named is decided =
     let stands : slice_get origins at ≡ Some one.origin = there ∙ ap (λ (x : List ℕ). Some x) (sym named) in
+    let done = subst (λ (a : Asked). Decides H a (record { status = answer.status; body = answer.body; saved = answer.saved; saved_after = answer.saved_after; one = one; one_after = after })) asks decided in
     record {
       book = with_one origins at one;
       after = slice_set (with_one origins at one) at after;
       same_origins = one_origins origins at one stands;
       lawful = one_lawful H origins at one is;
-      decided = inr (inr (request, reads, inr (signed, note, inr (record { at = at; one = one }, (one_stands origins at one stands, named), (after, refl, decided)))));
+      decided = inl (inr (request, reads, inr (signed, note, inr (record { at = at; one = one }, (one_stands origins at one stands, named), (after, refl, done)))));
     }
 
 -- what stands at a place is there

@@ -72,11 +72,10 @@ ChangesAt out place Decided =
       one_after = after;
     })
 
--- the cases of a request, of which the first that applies decides; or a growth of memory was refused
-abbrev pub Decide : (List ℕ → List ℕ) → List ℕ → ℕ → BookOutcome → Type 0
-Decide H body time out =
-    RefusesAll out 500
-    ⊎ UnlessSome (IsRequest body) (RefusesAll out 400) (λ request.
+-- the cases of a request, of which the first that applies decides
+abbrev pub DecidesBody : (List ℕ → List ℕ) → List ℕ → ℕ → BookOutcome → Type 0
+DecidesBody H body time out =
+    UnlessSome (IsRequest body) (RefusesAll out 400) (λ request.
     UnlessSome (IsSigned request.note) (RefusesAll out 400) (λ signed.
     UnlessSome (IsPlaceOf out.book signed.head.origin) (RefusesAll out 404) (λ place.
     ChangesAt out place (Decides H (asked_of request signed time)))))

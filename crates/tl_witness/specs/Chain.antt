@@ -1,8 +1,9 @@
--- An origin's chain: what the witness has cosigned for it, in order (C2SP tlog-witness, "add-checkpoint"). H is the digest
--- function.
-use Rattle.std.specs.Prelude.{ℕ, List, [], ◌∷◌}
+-- An origin's chain: what the witness has cosigned for it, in order (C2SP tlog-witness, "add-checkpoint"). H is the
+-- digest function.
+use Rattle.std.specs.Prelude.{ℕ, List, [], ◌∷◌, All}
 use Rattle.tl_proof.specs.Acceptance.{AcceptsConsistency}
 use Rattle.tl_proof.specs.Collisions.{Step, Linked}
+use Rattle.tl_proof.specs.Laws.{MadeOfHashes}
 
 -- a tree head: a size and a root hash
 pub record TreeHead : Type 0 where
@@ -30,6 +31,7 @@ last_head old (step ∷ steps) = last_head (head_of step) steps
 abbrev pub first_head : (List ℕ → List ℕ) → TreeHead
 first_head H = record { size = 0; root = H [] }
 
--- the steps of a witness for one origin
-abbrev pub IsChain : (List ℕ → List ℕ) → List Step → Type 0
-IsChain H steps = IsLinked H (first_head H) steps
+-- the steps of a witness for one origin: linked from the first head, and made of hashes
+pub record IsChain (H : List ℕ → List ℕ) (steps : List Step) : Type 0 where
+  pub linked : IsLinked H (first_head H) steps
+  pub made : All MadeOfHashes steps

@@ -1,7 +1,6 @@
 -- What a witness answers to a request for one origin, and what it then keeps (C2SP tlog-witness, "add-checkpoint").
 use Rattle.std.specs.Prelude.{◌≡◌, ℕ, ◌<◌, ◌≤◌, ◌⊎◌, List, []}
 use Rattle.tl_note.specs.Text.{line, number_text}
-use Rattle.tl_note.specs.Key.{SigningKey, IsKeyName}
 use Rattle.tl_note.specs.Note.{Signature}
 use Rattle.tl_note.specs.Open.{Opened}
 use Rattle.tl_checkpoint.specs.Cosignature.{Cosigns, MayFailToCosign}
@@ -41,10 +40,6 @@ Refuses out status = (out.status ≡ status) × (out.body ≡ []) × Stays out
 abbrev pub Conflicts : Outcome → ℕ → Type 0
 Conflicts out size = (out.status ≡ 409) × (out.body ≡ line (number_text size)) × Stays out
 
--- the cosigner has no key's name, or may refuse this text or give no bytes for it
-abbrev pub MayNotCosign : List ℕ → ℕ → SigningKey → Type 0
-MayNotCosign text time cosigner = ¬ (IsKeyName cosigner.name) ⊎ MayFailToCosign text time cosigner
-
 -- a save failed: the reply is 500, and the origin stays
 abbrev pub SaveFails : Outcome → Type 0
 SaveFails out = (out.status ≡ 500) × (out.body ≡ []) × Fails out.saved out.saved_after × (out.one_after ≡ out.one)
@@ -59,10 +54,11 @@ KeepsStep out size step =
 abbrev pub Attests : Outcome → Asked → Type 0
 Attests out asked = (out.status ≡ 200) × Cosigns asked.text asked.time out.one.cosigner out.body
 
--- the outcomes once the proof is accepted, from this last size
+-- the outcomes once the proof is accepted, from this last size: the cosigner may refuse this message or give no
+-- bytes for it, the save fails, or the reply is 200
 abbrev pub Settles : Outcome → ℕ → Asked → Type 0
 Settles out size asked =
-    (MayNotCosign asked.text asked.time out.one.cosigner × Refuses out 500)
+    (MayFailToCosign asked.text asked.time out.one.cosigner × Refuses out 500)
     ⊎ ((size < asked.step.size) × SaveFails out)
     ⊎ (Attests out asked × KeepsStep out size asked.step)
 
@@ -75,8 +71,7 @@ DecidesFrom H last asked out =
     (Unless (AcceptsConsistency H asked.step.proof asked.step.size asked.step.root last.size last.root) (Refuses out 422)
     (Settles out last.size asked))))
 
--- the same where the note is open to the origin's verifiers, and 403 else; or a growth of memory was refused
+-- the same where the note is open to the origin's verifiers, and 403 else
 abbrev pub Decides : (List ℕ → List ℕ) → Asked → Outcome → Type 0
 Decides H asked out =
-    Refuses out 500
-    ⊎ Unless (Opened out.one.verifiers asked.text asked.lines) (Refuses out 403) (DecidesFrom H (last_head (first_head H) out.one.chain) asked out)
+    Unless (Opened out.one.verifiers asked.text asked.lines) (Refuses out 403) (DecidesFrom H (last_head (first_head H) out.one.chain) asked out)

@@ -8,7 +8,11 @@ pub mod Witnessed
 pub mod Decide
 pub mod Book
 pub mod ReadRequest
+pub mod Answers
+pub mod Offer
+pub mod Finding
 pub mod Runs
+pub mod Cosigned
 pub mod Shared
 pub mod Open
 pub mod Opening

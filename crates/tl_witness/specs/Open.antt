@@ -1,5 +1,5 @@
--- When a book can be opened with whom it trusts and the chains that were saved, and what it then keeps (C2SP tlog-witness,
--- "Configuration" and "add-checkpoint"). H is the digest function.
+-- When a book can be opened with whom it trusts and the chains that were saved, and what it then keeps (C2SP
+-- tlog-witness, "Configuration" and "add-checkpoint"). H is the digest function.
 use Rattle.std.specs.Prelude.{◌≡◌, ℕ, ◌⊎◌, List, [], ◌∷◌, Some, slice_get, take, map, All, ⊤}
 use Rattle.std.specs.List.{AllZip}
 use Rattle.tl_note.specs.Key.{Key, SigningKey, IsKeyName}

@@ -1,10 +1,12 @@
 -- Runs of a witness: any list of requests, with any faults. H is the digest function.
-use Rattle.std.specs.Prelude.{◌≡◌, ℕ, ◌+◌, List, [], ◌∷◌, ◌++◌, Some, slice_get, drop}
+use Rattle.std.specs.Prelude.{◌≡◌, ℕ, ◌+◌, ◌⊎◌, List, [], ◌∷◌, ◌++◌, Some, slice_get, drop}
 use Rattle.tl_proof.specs.Collisions.{Step, Linked}
+use Rattle.tl_proof.specs.Laws.{MadeOfHashes}
 use Rattle.tl_witness.specs.Chain.{first_head, last_head, IsLinked, IsChain}
 use Rattle.tl_witness.specs.Witnessed.{Witnessed}
-use Rattle.tl_witness.specs.Decide.{Asked, Outcome, Decides}
-use Rattle.tl_witness.specs.Book.{BookOutcome, Decide, IsLawful}
+use Rattle.tl_witness.specs.Decide.{Asked, Outcome, Refuses, Decides}
+use Rattle.tl_witness.specs.Answers.{Answers}
+use Rattle.tl_witness.specs.Book.{BookOutcome, IsLawful}
 
 -- a chain that grew from a chain: what came after is linked from where the first led
 abbrev pub IsLaterChain : (List ℕ → List ℕ) → List Step → List Step → Type 0
@@ -12,12 +14,13 @@ IsLaterChain H chain later =
     IsChain H later
     × ((more : List Step) × (later ≡ chain ++ more) × IsLinked H (last_head (first_head H) chain) more)
 
--- what came of one request after another to one origin, each decided by the cases of a request
+-- what came of one request after another to one origin, each decided by the cases of a request, or 500 with nothing
+-- changed
 abbrev pub IsRun : (List ℕ → List ℕ) → Witnessed → List Outcome → Witnessed → Type 0
 IsRun H one [] last = last ≡ one
 IsRun H one (out ∷ outs) last =
     (out.one ≡ one)
-    × ((asked : Asked) × Decides H asked out)
+    × ((asked : Asked) × MadeOfHashes asked.step × (Decides H asked out ⊎ Refuses out 500))
     × IsRun H out.one_after outs last
 
 -- a chain stays a chain and begins with what it was, and the steps between lead from the one to the other
@@ -31,7 +34,7 @@ abbrev pub IsBookRun : (List ℕ → List ℕ) → List Witnessed → List BookO
 IsBookRun H book [] last = last ≡ book
 IsBookRun H book (out ∷ outs) last =
     (out.book ≡ book)
-    × ((body : List ℕ) × (time : ℕ) × Decide H body time out)
+    × ((body : List ℕ) × (time : ℕ) × Answers H body time out)
     × IsBookRun H out.book_after outs last
 
 -- one origin, later: trusted and cosigned for as before, with a chain that grew

@@ -1,17 +1,17 @@
--- What a saver shows: it is asked to keep each link before the witness cosigns (C2SP tlog-witness, "add-checkpoint": persist
--- before responding).
-use Rattle.std.specs.Prelude.{◌≡◌, ℕ, ◌<◌, ◌-◌, ◌^◌, ◌⊎◌, List, Option, Some}
+-- What a saver shows: it is asked to keep each link before the witness cosigns (C2SP tlog-witness,
+-- "add-checkpoint": persist before responding).
+use Rattle.std.specs.Prelude.{◌≡◌, ℕ, ◌<◌, ◌-◌, ◌^◌, ◌⊎◌, List, [], ◌∷◌, ◌++◌}
 use Rattle.tl_proof.specs.Collisions.{Step}
 
--- how many saves failed, and the origin and step that were saved last
+-- how many saves failed, and the origins and steps that were saved, in order
 pub record Saved : Type 0 where
   pub failures : ℕ
-  pub last : Option (List ℕ × Step)
+  pub links : List (List ℕ × Step)
 
--- this step of this origin was saved, and no failure counted
+-- this step of this origin was saved, once and behind the others, and no failure counted
 abbrev pub Keeps : Saved → Saved → List ℕ → Step → Type 0
-Keeps before after origin step = (after.failures ≡ before.failures) × (after.last ≡ Some (origin, step))
+Keeps before after origin step = (after.failures ≡ before.failures) × (after.links ≡ before.links ++ (origin, step) ∷ [])
 
--- a failure was counted, or the count can go no further
+-- a failure was counted, or the count can go no further; nothing was saved
 abbrev pub Fails : Saved → Saved → Type 0
-Fails before after = (before.failures < after.failures) ⊎ (before.failures ≡ 2 ^ 64 - 1)
+Fails before after = ((before.failures < after.failures) ⊎ (before.failures ≡ 2 ^ 64 - 1)) × (after.links ≡ before.links)

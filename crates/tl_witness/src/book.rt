@@ -1,29 +1,27 @@
 //! The book of a witness: what it keeps of each origin.
 
-ghost use Rattle.std.specs.Prelude.{◌≡◌, MatchOption, map, string_bytes};
+ghost use Rattle.std.specs.Prelude.{◌≡◌, IfOk, MatchOption, OnErr, map};
 ghost use Rattle.tl_proof.specs.Collisions.{step_of};
-ghost use Rattle.tl_note.specs.Note.{Note};
-ghost use Rattle.tl_witness.specs.Book.{Decide, IsPlaceOf, Place, asked_of};
-ghost use Rattle.tl_witness.specs.ChainLine.{IsChainLine};
-ghost use Rattle.tl_witness.specs.Decide.{Decides};
-ghost use Rattle.tl_witness.specs.ReadRequest.{body_of, signed_of};
+ghost use Rattle.tl_witness.specs.Answers.{Answers, AsksForMemory};
+ghost use Rattle.tl_witness.specs.Book.{DecidesBody, IsPlaceOf, Place};
 
-use crate::keeper::{Keeper, Tools};
+use crate::chain::Chain;
+use crate::finding::{Unfound, find_origin};
+use crate::origin::Origin;
 use crate::place::{OfOrigin, place_of};
 use crate::reply::{Reply, refusal};
-use crate::request::{AddRequest, RequestFault, parse_request};
 use crate::saver::Saver;
-use crate::signed::{SignedCheckpoint, read_signed};
-use std::alloc::Allocator;
+use crate::tools::Tools;
+use std::alloc::{AllocError, Allocator};
 use tl_hash::TreeHash;
 use tl_note::{Signer, Verifier};
 use tl_proof::Link;
 
-/// One origin, and what the witness keeps of it.
+/// One origin, and the links that the witness accepted for it.
 #[derive(Drop)]
 pub(crate) struct Entry<T: TreeHash, A: Allocator> {
-    pub(crate) origin: String<A>,
-    pub(crate) keeper: Keeper<T, A>,
+    pub(crate) origin: Origin<A>,
+    pub(crate) chain: Chain<T, A>,
 }
 
 /// What contracts see of it.
@@ -34,50 +32,28 @@ pub(crate) trait ShownEntry {
 }
 
 impl<T: TreeHash, A: Allocator> ShownEntry for Entry<T, A> {
+    ghost use Rattle.std.specs.Prelude.{map, string_bytes};
+    ghost use Rattle.tl_witness.specs.Witnessed.{named_key};
+
     ghost shown_entry = { λ e. record {
-      origin = string_bytes e.origin;
-      verifiers = map (λ v. (Verifier-box v).key v.value) e.keeper.verifiers.items;
-      cosigner = (Signer-box e.keeper.cosigner).signing_key e.keeper.cosigner.value;
-      chain = e.keeper.chain;
+      origin = string_bytes e.origin.name;
+      verifiers = map (λ v. (Verifier-box v).key v.value) e.origin.verifiers.items;
+      cosigner = named_key (string_bytes e.origin.cosigner_name.text) ((Signer-box e.origin.cosigner).signing_key e.origin.cosigner.value);
+      chain = e.chain;
     } };
 }
 
 impl<T: TreeHash, A: Allocator> OfOrigin for Entry<T, A> {
-    ghost origin_of = { λ e. string_bytes e.origin };
+    ghost use Rattle.std.specs.Prelude.{string_bytes};
+
+    ghost origin_of = { λ e. string_bytes e.origin.name };
 
     fn origin(&self) -> &str {
-        self.origin.as_str()
+        self.origin.name.as_str()
     }
 
     fn is_of(&self, origin: &str) -> bool {
-        self.origin.as_str() == origin
-    }
-}
-
-impl<T: TreeHash, A: Allocator + Copy> Entry<T, A> {
-    // Answers a request for this origin.
-    fn answer<S: Saver>(
-        &mut self,
-        tools: Tools<T, A>,
-        request: AddRequest<'_, A>,
-        signed: &SignedCheckpoint<'_, A>,
-        time: u64,
-        saver: &mut S,
-    ) -> Reply<A>
-        requires line { IsChainLine (record { origin = string_bytes self.old.origin; step = (asked_of (body_of request) (signed_of signed.now) time).step }) }
-        requires note { Note request.note.now (signed_of signed.now).text (signed_of signed.now).lines }
-        ensures { Decides T.digest_of (asked_of (body_of request.entry) (signed_of signed.now) time)
-            (record {
-              status = result.status;
-              body = result.body.items;
-              saved = S.saved saver.old;
-              saved_after = S.saved saver.new;
-              one = ⟦<Entry<T, A> as ShownEntry>⟧.shown_entry self.old;
-              one_after = ⟦<Entry<T, A> as ShownEntry>⟧.shown_entry self.new;
-            }) }
-    {
-        self.keeper
-            .answer(tools, self.origin.as_str(), request, signed, time, saver)
+        self.origin.name.as_str() == origin
     }
 }
 
@@ -97,24 +73,62 @@ pub trait Shown {
 }
 
 impl<T: TreeHash, A: Allocator + Copy> Shown for Book<T, A> {
+    ghost use Rattle.std.specs.Prelude.{map, string_bytes};
+    ghost use Rattle.tl_witness.specs.Witnessed.{named_key};
+
     ghost shown = { λ b. map (λ e. record {
-      origin = string_bytes e.origin;
-      verifiers = map (λ v. (Verifier-box v).key v.value) e.keeper.verifiers.items;
-      cosigner = (Signer-box e.keeper.cosigner).signing_key e.keeper.cosigner.value;
-      chain = e.keeper.chain;
+      origin = string_bytes e.origin.name;
+      verifiers = map (λ v. (Verifier-box v).key v.value) e.origin.verifiers.items;
+      cosigner = named_key (string_bytes e.origin.cosigner_name.text) ((Signer-box e.origin.cosigner).signing_key e.origin.cosigner.value);
+      chain = e.chain;
     }) b.entries.items };
 }
 
 impl<T: TreeHash, A: Allocator + Copy> Book<T, A> {
-    /// Answers an add-checkpoint request at this time, in seconds since the Unix epoch (C2SP tlog-witness, "add-checkpoint").
+    /// Decides an add-checkpoint request at this time, in seconds since the Unix epoch (C2SP tlog-witness,
+    /// "add-checkpoint").
     ///
-    /// The first of these that applies: 400 where the body is no request, or its note no checkpoint; 404 where the origin is
-    /// unknown; 403 where no signature is by a verifier of the origin, or one is invalid; 400 where the old size is above
-    /// the checkpoint's; 409 with the last size where the old size isn't that, or the root at an equal size is another; 422 where the proof
-    /// isn't accepted; and 200 with a cosignature line. For a larger size the link is saved first, and then kept; any reply but 200
-    /// leaves the book unchanged. It is 500 where memory is refused, the cosigner gives no signature, or the save fails.
+    /// The first that applies: 400 where the body is no request, or its note no checkpoint; 404 where the origin is
+    /// unknown; 403 where the note isn't open to its verifiers; 400 where the old size is above the new; 409 with
+    /// the last size where the old size, or the root at an equal size, is another; 422 where the proof isn't
+    /// accepted; 500 where the cosigner gives no signature or the save fails; else 200 with a cosignature line. It
+    /// fails only where a growth was refused.
+    pub fn try_add<S: Saver>(
+        &mut self,
+        body: &[u8],
+        time: u64,
+        saver: &mut S,
+    ) -> Result<Reply<A>, AllocError>
+        ensures decided { IfOk result (λ reply. DecidesBody T.digest_of body.now time
+            (record {
+              status = reply.status;
+              body = reply.body.items;
+              saved = S.saved saver.old;
+              saved_after = S.saved saver.new;
+              book = ⟦<Book<T, A> as Shown>⟧.shown self.old;
+              book_after = ⟦<Book<T, A> as Shown>⟧.shown self.new;
+            })) }
+        ensures unchanged { OnErr result ((S.saved saver.new ≡ S.saved saver.old)
+            × (⟦<Book<T, A> as Shown>⟧.shown self.new ≡ ⟦<Book<T, A> as Shown>⟧.shown self.old) × AsksForMemory body.now) }
+    {
+        let tools = self.tools;
+        let found = match find_origin(tools.alloc, self.entries.as_slice(), body) {
+            Ok(found) => found,
+            Err(Unfound::Malformed) => return Ok(refusal(tools.alloc, 400)),
+            Err(Unfound::Unknown) => return Ok(refusal(tools.alloc, 404)),
+            Err(Unfound::OutOfMemory) => return Err(AllocError),
+        };
+        let entry = &mut self.entries[found.place];
+        entry
+            .origin
+            .answer(tools, &mut entry.chain, found.offer, time, saver)
+    }
+
+    /// Answers an add-checkpoint request at this time, in seconds since the Unix epoch, as `try_add` decides it;
+    /// and with 500 where that asked for memory which was refused. For a larger size the link is saved once, before
+    /// it is kept; any reply but 200 leaves the book unchanged.
     pub fn add<S: Saver>(&mut self, body: &[u8], time: u64, saver: &mut S) -> Reply<A>
-        ensures { Decide T.digest_of body.now time
+        ensures { Answers T.digest_of body.now time
             (record {
               status = result.status;
               body = result.body.items;
@@ -124,23 +138,10 @@ impl<T: TreeHash, A: Allocator + Copy> Book<T, A> {
               book_after = ⟦<Book<T, A> as Shown>⟧.shown self.new;
             }) }
     {
-        let tools = self.tools;
-        let request = match parse_request(tools.alloc, body) {
-            Ok(request) => request,
-            Err(RequestFault::Malformed) => return refusal(tools.alloc, 400),
-            Err(RequestFault::OutOfMemory) => return refusal(tools.alloc, 500),
-        };
-        let signed = match read_signed(tools.alloc, request.note) {
-            Ok(signed) => signed,
-            Err(RequestFault::Malformed) => return refusal(tools.alloc, 400),
-            Err(RequestFault::OutOfMemory) => return refusal(tools.alloc, 500),
-        };
-        let place = match place_of(self.entries.as_slice(), signed.checkpoint.origin.as_str()) {
-            Some(place) => place,
-            None => return refusal(tools.alloc, 404),
-        };
-        let entry = &mut self.entries[place];
-        entry.answer(tools, request, &signed, time, saver)
+        match self.try_add(body, time, saver) {
+            Ok(reply) => reply,
+            Err(_) => refusal(self.tools.alloc, 500),
+        }
     }
 
     /// The links of an origin, in order. None where the origin is unknown.
@@ -152,6 +153,6 @@ impl<T: TreeHash, A: Allocator + Copy> Book<T, A> {
             Some(place) => place,
             None => return None,
         };
-        Some(self.entries[place].keeper.chain.links())
+        Some(self.entries[place].chain.links())
     }
 }

@@ -1,7 +1,8 @@
 //! The links of one origin.
 
-ghost use Rattle.std.specs.Prelude.{◌≡◌, [], ◌∷◌, ◌++◌, IfErr, IfOk, OnOk, OnErr, IsErrOf, MatchOption, map};
+ghost use Rattle.std.specs.Prelude.{◌≡◌, ◌↔◌, [], ◌∷◌, ◌++◌, All, IfErr, IfOk, IsTrue, OnOk, OnErr, IsErrOf, MatchOption, map};
 ghost use Rattle.tl_proof.specs.Collisions.{step_of};
+ghost use Rattle.tl_proof.specs.Laws.{HasHashLength, MadeOfHashes};
 ghost use Rattle.tl_witness.specs.Chain.{first_head, last_head, Follows, IsChain};
 ghost use Rattle.tl_witness.specs.ChainLine.{IsChainLine};
 ghost use Rattle.tl_witness.specs.Open.{IsFirstBreak};
@@ -13,8 +14,8 @@ use std::marker::Model;
 use tl_hash::{Hash, TreeHash, empty_hash};
 use tl_proof::{Link, check_tree};
 
-/// The links of one origin, each accepted from the one before, and the first from size 0 and the hash of no bytes. A contract
-/// sees the steps that they say.
+/// The links of one origin, each accepted from the one before, and the first from size 0 and the hash of no bytes.
+/// A contract sees the steps that they say.
 #[derive(Drop)]
 pub(crate) struct Chain<T: TreeHash, A: Allocator> {
     tree: T,
@@ -76,6 +77,21 @@ impl<T: TreeHash, A: Allocator + Copy> Chain<T, A> {
         }
     }
 
+    /// Whether the link is accepted from the size and root that the chain has reached.
+    pub(crate) fn accepts(&self, link: &Link<A>) -> bool
+        ensures { IsTrue result ↔ Follows T.digest_of (last_head (first_head T.digest_of) self.now) (step_of link.now) }
+    {
+        let (size, root) = self.head();
+        check_tree(
+            self.tree,
+            link.proof.as_slice(),
+            link.size,
+            link.root,
+            size,
+            root,
+        )
+    }
+
     /// Saves the link and then keeps it. The growth is reserved first, so nothing fails after the save.
     pub(crate) fn keep<S: Saver>(
         &mut self,
@@ -101,6 +117,23 @@ impl<T: TreeHash, A: Allocator + Copy> Chain<T, A> {
     }
 }
 
+// Shows that each of these is a hash. It changes nothing.
+fn are_hashes(hashes: &[Hash])
+    ensures { All HasHashLength hashes.now }
+{
+    for hash in hashes {
+        let _ = hash.as_bytes();
+    }
+}
+
+// Shows that a link is made of hashes. It changes nothing.
+fn is_of_hashes<A: Allocator>(link: &Link<A>)
+    ensures { MadeOfHashes (step_of link.now) }
+{
+    let _ = link.root.as_bytes();
+    are_hashes(link.proof.as_slice());
+}
+
 // The first of these links that isn't accepted from the one before.
 fn first_break<T: TreeHash, A: Allocator>(tree: T, links: &[Link<A>]) -> Option<usize>
     ensures { MatchOption result (IsChain T.digest_of (map step_of links.now)) (IsFirstBreak T.digest_of (map step_of links.now)) }
@@ -109,6 +142,7 @@ fn first_break<T: TreeHash, A: Allocator>(tree: T, links: &[Link<A>]) -> Option<
     let mut root = empty_hash(tree);
     for i in 0..links.len() {
         let link = &links[i];
+        is_of_hashes(link);
         if !check_tree(
             tree,
             link.proof.as_slice(),

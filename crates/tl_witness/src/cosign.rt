@@ -1,65 +1,114 @@
-//! The bodies of replies: the cosignature line, and the last size.
+//! The line by which a witness cosigns.
 
-ghost use Rattle.std.specs.Prelude.{◌≡◌, ◌↔◌, IfOk, IfSome, IsTrue, map, vec_items};
-ghost use Rattle.tl_checkpoint.specs.Cosignature.{Cosigns};
-ghost use Rattle.tl_note.specs.Note.{Signature, Note};
-ghost use Rattle.tl_note.specs.Open.{Opened};
-ghost use Rattle.tl_note.specs.Text.{line, number_text};
-ghost use Rattle.std.specs.Prelude.{ℕ, List};
+ghost use Rattle.std.specs.Prelude.{◌≡◌, ◌<◌, ◌⊎◌, [], IfOk, IsTrue, MatchOption, length, string_bytes};
+ghost use Rattle.std.proofs.Props.{props};
+ghost use Rattle.tl_checkpoint.specs.Cosignature.{Cosigns, MayFailToCosign, cosignature};
+ghost use Rattle.tl_note.specs.Key.{IsKeyName, SigningKey};
+ghost use Rattle.tl_witness.specs.Witnessed.{named_key};
 
-use itoa::Buffer;
+use crate::tools::Tools;
 use std::alloc::{AllocError, Allocator, Global};
-use tl_checkpoint::cosign_line;
-use tl_note::{NoteFault, Signer, Verifier, open_note};
+use tl_checkpoint::cosign_message;
+use tl_hash::TreeHash;
+use tl_note::{SignFault, Signer, write_signature_line};
 
-/// The line by which the cosigner attests the text at this time, or None where it gives no signature, has no key's name, or
-/// memory is refused. `global` is what the cosigner takes memory from.
-pub(crate) fn cosign<A: Allocator + Copy>(
-    alloc: A,
+/// A name that is a key's name.
+#[derive(Drop)]
+pub(crate) struct KeyName<A: Allocator> {
+    pub(crate) text: String<A>,
+    ghost lawful: { IsKeyName (string_bytes text) } by { Prim.hlevel props },
+}
+
+// The signer's identifier.
+fn id_of(signer: &Box<dyn Signer>) -> u32
+    ensures { result ≡ (signing_key signer.now).id }
+{
+    signer.key_id()
+}
+
+// What the signer answers, or None where it refused.
+fn sign(
     global: Global,
-    cosigner: &Box<dyn Signer>,
+    signer: &Box<dyn Signer>,
+    message: &[u8],
+) -> Result<Option<Vec<u8>>, AllocError>
+    ensures { IfOk result (λ found. MatchOption found (IsTrue ((signing_key signer.now).may_refuse message.now))
+        (λ signature. IsTrue ((signing_key signer.now).may_give message.now signature.items))) }
+{
+    match signer.sign(global, message) {
+        Ok(signature) => Ok(Some(signature)),
+        Err(SignFault::Refused) => Ok(None),
+        Err(SignFault::OutOfMemory) => Err(AllocError),
+    }
+}
+
+// What the signer answers, where it is one byte at least.
+fn signature_of(
+    global: Global,
+    signer: &Box<dyn Signer>,
+    message: &[u8],
+) -> Result<Option<Vec<u8>>, AllocError>
+    ensures { IfOk result (λ found. MatchOption found
+        (IsTrue ((signing_key signer.now).may_refuse message.now) ⊎ IsTrue ((signing_key signer.now).may_give message.now []))
+        (λ signature. IsTrue ((signing_key signer.now).may_give message.now signature.items) × (0 < length signature.items))) }
+{
+    let signature = match sign(global, signer, message) {
+        Ok(Some(signature)) => signature,
+        Ok(None) => return Ok(None),
+        Err(fault) => return Err(fault),
+    };
+    if signature.is_empty() {
+        return Ok(None);
+    }
+    Ok(Some(signature))
+}
+
+// The bytes of a cosignature after the key's identifier.
+fn cosignature_bytes<A: Allocator>(
+    alloc: A,
+    time: u64,
+    signature: &[u8],
+) -> Result<Vec<u8, A>, AllocError>
+    ensures { IfOk result (λ bytes. bytes.items ≡ cosignature time signature.now) }
+{
+    let mut bytes = Vec::from_slice(alloc, &time.to_be_bytes())?;
+    bytes.extend_from_slice(signature)?;
+    Ok(bytes)
+}
+
+// The name of a signer, copied. It fails only where a growth was refused.
+pub(crate) fn name_of<A: Allocator>(
+    alloc: A,
+    signer: &Box<dyn Signer>,
+) -> Result<KeyName<A>, AllocError>
+    requires { IsKeyName (signing_key signer.now).name }
+    ensures { IfOk result (λ name. string_bytes name.text ≡ (signing_key signer.now).name) }
+{
+    let text = String::from_str(alloc, signer.name())?;
+    Ok(KeyName { text })
+}
+
+/// The line by which a signer attests the text at this time, under the name that it had when it was taken in. None
+/// where it refused the message or gave no bytes. It fails only where a growth was refused.
+pub(crate) fn cosign<T: TreeHash, A: Allocator + Copy>(
+    tools: Tools<T, A>,
+    signer: &Box<dyn Signer>,
+    name: &KeyName<A>,
     time: u64,
     text: &str,
-) -> Option<Vec<u8, A>>
-    ensures { IfSome result (λ line. Cosigns text.now time (signing_key cosigner.now) line.items) }
+) -> Result<Option<String<A>>, AllocError>
+    ensures { IfOk result (λ signed. MatchOption signed
+        (MayFailToCosign text.now time (named_key (string_bytes name.now.text) (signing_key signer.now)))
+        (λ line. Cosigns text.now time (named_key (string_bytes name.now.text) (signing_key signer.now)) (string_bytes line))) }
 {
-    match cosign_line(alloc, global, text, time, &**cosigner) {
-        Ok(line) => Some(line.into_bytes()),
-        Err(_) => None,
-    }
-}
-
-/// The size and a newline. It fails only where a growth was refused.
-pub(crate) fn size_body<A: Allocator>(alloc: A, size: u64) -> Result<Vec<u8, A>, AllocError>
-    ensures { IfOk result (λ body. body.items ≡ line (number_text size)) }
-{
-    let mut body = Vec::from_slice(alloc, Buffer::new().format(size).as_bytes())?;
-    body.push(b'\n')?;
-    Ok(body)
-}
-
-// Whether memory was refused.
-fn is_out_of_memory(fault: NoteFault) -> bool
-    ensures { IsTrue result ↔ (fault ≡ NoteFault.OutOfMemory) }
-{
-    matches!(fault, NoteFault::OutOfMemory)
-}
-
-/// Whether a note is open to the verifiers; None where memory was refused.
-pub(crate) fn is_open<A: Allocator + Copy>(
-    alloc: A,
-    note: &str,
-    verifiers: &[Box<dyn Verifier>],
-) -> Option<bool>
-    ensures { IfSome result (λ opens. (text : List ℕ) (lines : List Signature) → Note note.now text lines
-        → IsTrue opens ↔ Opened (map (λ verifier. key verifier) verifiers.now) text lines) }
-{
-    let fault = match open_note(alloc, note, verifiers) {
-        Ok(_) => return Some(true),
-        Err(fault) => fault,
+    let alloc = tools.alloc;
+    let message = cosign_message(alloc, time, text)?;
+    let signature = match signature_of(tools.global, signer, message.as_bytes()) {
+        Ok(Some(signature)) => signature,
+        Ok(None) => return Ok(None),
+        Err(fault) => return Err(fault),
     };
-    if is_out_of_memory(fault) {
-        return None;
-    }
-    Some(false)
+    let bytes = cosignature_bytes(alloc, time, signature.as_slice())?;
+    let line = write_signature_line(alloc, name.text.as_str(), id_of(signer), bytes.as_slice())?;
+    Ok(Some(line))
 }

@@ -8,15 +8,18 @@ mod chain_line;
 mod chain_reading;
 mod copy;
 mod cosign;
-mod keeper;
+mod finding;
 mod law;
+mod offer;
 mod opening;
+mod origin;
 mod place;
 mod reply;
 mod request;
 mod saver;
 mod shared;
 mod signed;
+mod tools;
 mod trust;
 
 pub use book::{Book, Shown};
@@ -24,7 +27,7 @@ pub use chain_line::write_chain_line;
 pub use chain_reading::{ChainFault, read_chain};
 pub use law::{
     books_only_grow, chains_are_linked_from_each_step, chains_only_grow,
-    saved_links_have_one_reading,
+    cosigned_checkpoints_extend, opened_books_are_sound, saved_links_have_one_reading,
 };
 pub use opening::BookFault;
 pub use reply::Reply;

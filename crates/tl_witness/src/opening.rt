@@ -2,15 +2,18 @@
 
 ghost use Rattle.std.specs.Prelude.{◌≡◌, ◌↔◌, All, IfErr, IfOk, IsTrue, map, string_bytes};
 ghost use Rattle.std.specs.List.{AllZip};
+ghost use Rattle.tl_note.specs.Key.{IsKeyName};
 ghost use Rattle.tl_proof.specs.Collisions.{step_of};
 ghost use Rattle.tl_witness.specs.Chain.{IsChain};
-ghost use Rattle.tl_witness.specs.Open.{HasEachKeyOnce, HasTwice, IsKept, OpensBook, RefusesBook, saved_chain, trusted_origins};
+ghost use Rattle.tl_witness.specs.Open.{HasEachKeyOnce, HasTwice, IsKept, OpensBook, RefusesBook, cosigner_names, saved_chain, trusted_origins};
 ghost use Rattle.tl_witness.specs.Opening.{ChecksChains, TakesChain};
 
 use crate::book::{Book, Entry, Shown, ShownEntry};
 use crate::chain::Chain;
-use crate::keeper::{Keeper, Tools};
+use crate::cosign::name_of;
+use crate::origin::Origin;
 use crate::place::{OfOrigin, first_unknown, is_twice, place_of};
+use crate::tools::Tools;
 use crate::trust::{HasKeys, ShownTrust, Trust, are_keys_once, first_bad_name};
 use std::alloc::{AllocError, AllocFailed, Allocator, Global};
 use std::mem;
@@ -135,7 +138,8 @@ fn enter<T: TreeHash, A: Allocator + Copy>(
     trusts: Vec<Trust<A>, A>,
     chains: Vec<Checked<T, A>, A>,
 ) -> Result<Vec<Entry<T, A>, A>, AllocError>
-    requires { ¬ (HasTwice (trusted_origins (map (λ t. ⟦<Trust<A> as ShownTrust>⟧.trusted t) trusts.items))) }
+    requires once { ¬ (HasTwice (trusted_origins (map (λ t. ⟦<Trust<A> as ShownTrust>⟧.trusted t) trusts.items))) }
+    requires named { All IsKeyName (cosigner_names (map (λ t. ⟦<Trust<A> as ShownTrust>⟧.trusted t) trusts.items)) }
     ensures { IfOk result (λ entries. AllZip (IsKept (map (λ c. saved_chain (string_bytes c.origin) c.chain) chains.items))
         (map (λ t. ⟦<Trust<A> as ShownTrust>⟧.trusted t) trusts.items) (map (λ e. ⟦<Entry<T, A> as ShownEntry>⟧.shown_entry e) entries.items)) }
 {
@@ -148,12 +152,14 @@ fn enter<T: TreeHash, A: Allocator + Copy>(
             verifiers,
             cosigner,
         } = trust;
-        let keeper = Keeper {
+        let cosigner_name = name_of(alloc, &cosigner)?;
+        let origin = Origin {
+            name: origin,
             verifiers,
             cosigner,
-            chain,
+            cosigner_name,
         };
-        entries.push(Entry { origin, keeper })?;
+        entries.push(Entry { origin, chain })?;
     }
     Ok(entries)
 }
@@ -166,11 +172,11 @@ fn are_named_once<N: OfOrigin + HasKeys, M: OfOrigin>(trusts: &[N], chains: &[M]
 }
 
 impl<T: TreeHash, A: Allocator + Copy> Book<T, A> {
-    /// The book of whom a witness trusts for each origin, and of the chains that were saved. An origin without a chain begins with
-    /// size 0 and the hash of no bytes. `global` is what the cosigners take memory from.
+    /// The book of whom a witness trusts for each origin, and of the chains that were saved. An origin without a
+    /// chain begins with size 0 and the hash of no bytes. `global` is what the cosigners take memory from.
     ///
-    /// The faults are found in their order: `TwiceNamed`, then the first chain without a trust, the first cosigner without a key's
-    /// name, and the first chain that breaks with the first link that isn't accepted.
+    /// The faults are found in their order: `TwiceNamed`, then the first chain without a trust, the first cosigner
+    /// without a key's name, and the first chain that breaks with the first link that isn't accepted.
     pub fn open(
         alloc: A,
         global: Global,

@@ -1,8 +1,10 @@
 //! What the witness answers.
 
-ghost use Rattle.std.specs.Prelude.{◌≡◌, []};
+ghost use Rattle.std.specs.Prelude.{◌≡◌, [], IfOk};
+ghost use Rattle.tl_note.specs.Text.{line, number_text};
 
-use std::alloc::Allocator;
+use itoa::Buffer;
+use std::alloc::{AllocError, Allocator};
 
 /// An HTTP status and a body (C2SP tlog-witness, "add-checkpoint").
 #[derive(Debug, Drop)]
@@ -22,4 +24,13 @@ pub(crate) fn refusal<A: Allocator>(alloc: A, status: u16) -> Reply<A>
         status,
         body: Vec::new(alloc),
     }
+}
+
+/// The reply 409 with the last size and a newline. It fails only where a growth was refused.
+pub(crate) fn conflict<A: Allocator>(alloc: A, size: u64) -> Result<Reply<A>, AllocError>
+    ensures { IfOk result (λ reply. (reply.status ≡ 409) × (reply.body.items ≡ line (number_text size))) }
+{
+    let mut body = Vec::from_slice(alloc, Buffer::new().format(size).as_bytes())?;
+    body.push(b'\n')?;
+    Ok(Reply { status: 409, body })
 }

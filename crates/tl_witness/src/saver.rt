@@ -12,13 +12,13 @@ use tl_proof::Link;
 #[derive(Clone, Copy, Debug, PartialEq, Eq)]
 pub struct SaveFault;
 
-/// Who keeps accepted links, so that they outlive the program. Its meaning is a `Saved`: how many saves failed, and the origin
-/// and link that were saved last.
+/// Who keeps accepted links, so that they outlive the program. Its meaning is a `Saved`: how many saves failed, and
+/// the origins and links that were saved, in order.
 pub trait Saver {
     ghost saved: { Self → Saved };
 
-    /// Saves a link of an origin, after those that it saved before. At a failure the count of failures rises, or it can go no
-    /// further; nothing is said of what was saved.
+    /// Saves a link of an origin, once, behind those that it saved before. At a failure the count of failures
+    /// rises, or it can go no further, and nothing was saved.
     fn save<A: Allocator>(&mut self, origin: &str, link: &Link<A>) -> Result<(), SaveFault>
         requires { IsChainLine (record { origin = origin.now; step = step_of link.now }) }
         ensures kept { OnOk result (Keeps (saved self.old) (saved self.new) origin.now (step_of link.now)) }

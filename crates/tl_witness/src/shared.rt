@@ -1,78 +1,79 @@
 //! A witness that threads share: one lock for each origin.
 
-ghost use Rattle.std.specs.Prelude.{◌≡◌, ◌≤◌, [], IfErr, IfOk, MatchOption, Contains, length, map, string_bytes, vec_capacity};
-ghost use Rattle.tl_note.specs.Note.{Note};
+ghost use Rattle.std.specs.Prelude.{◌≡◌, ◌≤◌, [], IfErr, IfOk, OnErr, MatchOption, Contains, length, map, string_bytes, vec_capacity};
 ghost use Rattle.tl_proof.specs.Collisions.{step_of};
-ghost use Rattle.tl_witness.specs.Book.{asked_of};
 ghost use Rattle.tl_witness.specs.Chain.{IsChain};
 ghost use Rattle.tl_witness.specs.ChainLine.{IsChainLine};
 ghost use Rattle.tl_witness.specs.Decide.{Decides};
-ghost use Rattle.tl_witness.specs.ReadRequest.{body_of, signed_of};
+ghost use Rattle.tl_witness.specs.Offer.{asked_by};
 ghost use Rattle.tl_witness.specs.Shared.{AnswersFromSome};
 ghost use Rattle.tl_witness.specs.Witnessed.{Witnessed};
 
 use crate::book::{Book, Shown};
+use crate::chain::Chain;
 use crate::copy::copy_links;
-use crate::keeper::{Keeper, Tools};
+use crate::finding::{Unfound, find_origin};
+use crate::offer::Offer;
+use crate::origin::Origin;
 use crate::place::{OfOrigin, place_of};
 use crate::reply::{Reply, refusal};
-use crate::request::{AddRequest, RequestFault, parse_request};
 use crate::saver::Saver;
-use crate::signed::{SignedCheckpoint, read_signed};
+use crate::tools::Tools;
 use std::alloc::{AllocError, Allocator};
 use std::sync::{Mutex, Wait};
 use tl_hash::TreeHash;
 use tl_proof::Link;
 
-// One origin, and what the witness keeps of it, behind a lock.
+// One origin, and the links that the witness accepted for it, behind a lock.
 #[derive(Drop)]
 struct Guarded<T: TreeHash, A: Allocator> {
-    origin: String<A>,
-    keeper: Mutex<Keeper<T, A>>,
+    origin: Origin<A>,
+    chain: Mutex<Chain<T, A>>,
 }
 
 impl<T: TreeHash, A: Allocator> OfOrigin for Guarded<T, A> {
-    ghost origin_of = { λ e. string_bytes e.origin };
+    ghost use Rattle.std.specs.Prelude.{string_bytes};
+
+    ghost origin_of = { λ e. string_bytes e.origin.name };
 
     fn origin(&self) -> &str {
-        self.origin.as_str()
+        self.origin.name.as_str()
     }
 
     fn is_of(&self, origin: &str) -> bool {
-        self.origin.as_str() == origin
+        self.origin.name.as_str() == origin
     }
 }
 
 impl<T: TreeHash, A: Allocator + Copy> Guarded<T, A> {
-    // Answers a request for this origin, from what the lock has when it is taken.
+    // Decides a request for this origin, from what the lock has when it is taken.
     fn answer<R: Wait, S: Saver>(
         &self,
         rt: &R,
         tools: Tools<T, A>,
-        request: AddRequest<'_, A>,
-        signed: &SignedCheckpoint<'_, A>,
+        offer: Offer<'_, A>,
         time: u64,
         saver: &mut S,
-    ) -> Reply<A>
-        requires line { IsChainLine (record { origin = string_bytes self.now.origin; step = (asked_of (body_of request) (signed_of signed.now) time).step }) }
-        requires note { Note request.note.now (signed_of signed.now).text (signed_of signed.now).lines }
-        ensures { (one : Witnessed) × (after : Witnessed)
-            × (one.origin ≡ string_bytes self.now.origin)
+    ) -> Result<Reply<A>, AllocError>
+        requires { IsChainLine (record { origin = string_bytes self.now.origin.name; step = step_of offer.link }) }
+        ensures ok { IfOk result (λ reply. (one : Witnessed) × (after : Witnessed)
+            × (one.origin ≡ string_bytes self.now.origin.name)
             × IsChain T.digest_of one.chain
-            × Decides T.digest_of (asked_of (body_of request.entry) (signed_of signed.now) time)
+            × Decides T.digest_of (asked_by offer.entry time)
             (record {
-              status = result.status;
-              body = result.body.items;
+              status = reply.status;
+              body = reply.body.items;
               saved = S.saved saver.old;
               saved_after = S.saved saver.new;
               one = one;
               one_after = after;
-            }) }
+            })) }
+        ensures err { OnErr result (S.saved saver.new ≡ S.saved saver.old) }
     {
-        let mut guard = self.keeper.lock(rt);
-        let keeper = &mut *guard;
-        keeper.chain.is_chain();
-        keeper.answer(tools, self.origin.as_str(), request, signed, time, saver)
+        let mut guard = self.chain.lock(rt);
+        let chain = &mut *guard;
+        chain.is_chain();
+        self.origin.answer(tools, chain, offer, time, saver)
     }
 }
 
@@ -91,7 +92,9 @@ pub trait Origins {
 }
 
 impl<T: TreeHash, A: Allocator + Copy> Origins for SharedWitness<T, A> {
-    ghost origins = { λ w. map (λ e. string_bytes e.origin) w.entries.items };
+    ghost use Rattle.std.specs.Prelude.{map, string_bytes};
+
+    ghost origins = { λ w. map (λ e. string_bytes e.origin.name) w.entries.items };
 }
 
 // An empty list with room for what a book keeps.
@@ -128,7 +131,7 @@ impl<T: TreeHash, A: Allocator + Copy> SharedWitness<T, A> {
         for entry in before {
             entries.push_reserved(Guarded {
                 origin: entry.origin,
-                keeper: Mutex::new(entry.keeper),
+                chain: Mutex::new(entry.chain),
             });
         }
         Ok(SharedWitness { tools, entries })
@@ -145,26 +148,20 @@ impl<T: TreeHash, A: Allocator + Copy> SharedWitness<T, A> {
             }) }
     {
         let tools = self.tools;
-        let request = match parse_request(tools.alloc, body) {
-            Ok(request) => request,
-            Err(RequestFault::Malformed) => return refusal(tools.alloc, 400),
-            Err(RequestFault::OutOfMemory) => return refusal(tools.alloc, 500),
+        let found = match find_origin(tools.alloc, self.entries.as_slice(), body) {
+            Ok(found) => found,
+            Err(Unfound::Malformed) => return refusal(tools.alloc, 400),
+            Err(Unfound::Unknown) => return refusal(tools.alloc, 404),
+            Err(Unfound::OutOfMemory) => return refusal(tools.alloc, 500),
         };
-        let signed = match read_signed(tools.alloc, request.note) {
-            Ok(signed) => signed,
-            Err(RequestFault::Malformed) => return refusal(tools.alloc, 400),
-            Err(RequestFault::OutOfMemory) => return refusal(tools.alloc, 500),
-        };
-        let place = match place_of(self.entries.as_slice(), signed.checkpoint.origin.as_str()) {
-            Some(place) => place,
-            None => return refusal(tools.alloc, 404),
-        };
-        let entry = &self.entries[place];
-        entry.answer(rt, tools, request, &signed, time, saver)
+        match self.entries[found.place].answer(rt, tools, found.offer, time, saver) {
+            Ok(reply) => reply,
+            Err(_) => refusal(tools.alloc, 500),
+        }
     }
 
-    /// A copy of an origin's links, as they are when its lock is taken. None where the origin is unknown. It fails only where a
-    /// growth was refused.
+    /// A copy of an origin's links, as they are when its lock is taken. None where the origin is unknown. It fails
+    /// only where a growth was refused.
     pub fn chain<R: Wait>(
         &self,
         rt: &R,
@@ -177,8 +174,8 @@ impl<T: TreeHash, A: Allocator + Copy> SharedWitness<T, A> {
             Some(place) => place,
             None => return Ok(None),
         };
-        let guard = self.entries[place].keeper.lock(rt);
-        let chain = &guard.chain;
+        let guard = self.entries[place].chain.lock(rt);
+        let chain = &*guard;
         chain.is_chain();
         let links = copy_links(self.tools.alloc, chain.links())?;
         Ok(Some(links))

@@ -25,8 +25,8 @@ fn fault_of(fault: CheckpointFault) -> RequestFault
     }
 }
 
-/// Reads a note and the checkpoint that its text is. `Malformed` where the bytes are no note, or its text is no checkpoint. No
-/// signature is verified.
+/// Reads a note and the checkpoint that its text is. `Malformed` where the bytes are no note, or its text is no
+/// checkpoint. No signature is verified.
 pub(crate) fn read_signed<A: Allocator + Copy>(
     alloc: A,
     bytes: &str,

@@ -17,7 +17,7 @@ pub loop-i-preserved : goal.loop-i-preserved
 loop-i-preserved g c =
     let follows = rw c.as_slice.ensures at (c.if-not-check_tree.ensures.0 refl) in
     come_more g.T.TreeHash.digest_of step_of c.args.links.now c.loop-i.i c.loop-i.size c.loop-i.root c.index-links-i.result c.loop-i-test.true c.index-links-i.is
-    c.loop-i.invariant follows
+    c.loop-i.invariant follows c.is_of_hashes.ensures
 
 pub returns : goal.returns
 returns g c = rw (take_all c.loop-i.i c.args.links.now c.loop-i-test.false) at c.loop-i.invariant.chain

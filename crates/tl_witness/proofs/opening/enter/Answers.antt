@@ -1,6 +1,7 @@
 use Rattle.std.proofs.Common.{length, refl, ap, arith}
 use Rattle.tl_witness.proofs.Moved.{moved, moved_all}
-use Rattle.tl_witness.proofs.OpeningLaws.{entered_none, entered_push, enters, not_before}
+use Rattle.tl_witness.proofs.OpeningLaws.{entered_none, entered_push, enters, named_next, not_before}
+use Rattle.tl_witness.proofs.CosignLaws.{same_key}
 use Rattle.tl_witness.proofs.opening.enter.Goals as goal
 
 pub loop-trust-init : goal.loop-trust-init
@@ -8,6 +9,11 @@ loop-trust-init g c =
     let same = c.into_iter-trust-iterator.ensures.into_iter_gives in
     let all = ap length same.0 in
     (tt, tt, rw same.0 refl, rw c.new-entries.ensures.items (entered_none _), omega (arith, c.args.trusts.ok.0))
+
+pub name_of-requires : goal.name_of-requires
+name_of-requires g c =
+    let whole = rw c.in-Some.ensures.steps.0 at c.loop-trust.invariant.2 in
+    named_next _ _ _ _ whole c.requires.named
 
 pub loop-trust-preserved : goal.loop-trust-preserved
 loop-trust-preserved g c =
@@ -18,7 +24,7 @@ loop-trust-preserved g c =
       tt,
       moved _ _ c.loop-trust.yielded c.in-Some.trust c.in-Some.trust _ c.next.new.self.rest.items _ refl c.in-Some.ensures.steps.0 c.loop-trust.invariant.2,
       rw c.in_ok-push.ensures.items (entered_push _ _ _ _ _ c.loop-trust.yielded c.loop-trust.entries.items c.in-Some.trust _ c.take_chain-chain.result c.loop-trust.invariant.3
-          (not_before _ _ _ _ whole c.requires) takes refl refl refl refl),
+          (not_before _ _ _ _ whole c.requires.once) takes refl refl (same_key _ _ c.in_ok-cosigner_name.ensures) refl),
       omega (arith, c.in-Some.ensures.steps.1, c.loop-trust.invariant.4),
     )
 

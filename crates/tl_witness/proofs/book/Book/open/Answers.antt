@@ -33,10 +33,15 @@ returns-in-Err-clause-err g c =
     (names_to _ _ c.args.trusts.items (λ t. refl) named)
     c.in-Err.ensures.err
 
-pub enter-requires : goal.enter-requires
-enter-requires g c =
+pub enter-requires-clause-once : goal.enter-requires-clause-once
+enter-requires-clause-once g c =
     let test = rw (c.as_slice.ensures.value, c.as_slice-2.ensures.value) at (c.if-not-are_named_once.ensures.0 refl) in
     origins_once _ _ c.args.trusts.items (λ t. refl) test.0
+
+pub enter-requires-clause-named : goal.enter-requires-clause-named
+enter-requires-clause-named g c =
+    let named = rw c.as_slice-5.ensures.value at c.in_default-first_bad_name.ensures in
+    names_to _ _ c.args.trusts.items (λ t. refl) named
 
 pub returns-clause-ok : goal.returns-clause-ok
 returns-clause-ok g c =

@@ -2,7 +2,7 @@ use Rattle.std.proofs.Common.{map}
 use Rattle.std.proofs.lemmas.List.{map-append}
 use Rattle.tl_proof.specs.Collisions.{step_of}
 use Rattle.tl_witness.specs.Chain.{Follows, first_head, last_head}
-use Rattle.tl_witness.proofs.ChainLaws.{linked-snoc}
+use Rattle.tl_witness.proofs.ChainLaws.{chain-snoc, line_made}
 use Rattle.tl_witness.proofs.chain.Chain.keep.Goals as goal
 
 -- the link follows the chain as it is at the push, which the reserve left as it was
@@ -10,4 +10,4 @@ pub invariant_of-self-2 : goal.invariant_of-self-2
 invariant_of-self-2 g c =
     let follows : Follows g.T.TreeHash.digest_of (last_head (first_head g.T.TreeHash.digest_of) (map step_of c.self.inside.links.items)) (step_of c.args.link) = rw c.self.view_is c.requires.follows in
     rw (c.push_reserved.ensures.items, c.reserve.ensures.items, map-append)
-    (linked-snoc g.T.TreeHash.digest_of (first_head g.T.TreeHash.digest_of) (map step_of c.self.inside.links.items) (step_of c.args.link) c.self.invariant follows)
+    (chain-snoc g.T.TreeHash.digest_of (map step_of c.self.inside.links.items) (step_of c.args.link) c.self.invariant follows (line_made _ c.requires.line))

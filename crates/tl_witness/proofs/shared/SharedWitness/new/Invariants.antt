@@ -7,6 +7,6 @@ abbrev pub invariant-loop-entry : goal.invariant-loop-entry
 invariant-loop-entry g l =
     (goal.iterator-loop-entry g).can_next l.entry-iterator
     × (goal.iterator-loop-entry g).is_finite l.entry-iterator
-    × (map (λ e. string_bytes e.origin) l.entries.items ++ map (λ e. string_bytes e.origin) l.entry-iterator.rest.items ≡ map (λ e. string_bytes e.origin) l.fn.book.entries.items)
+    × (map (λ e. string_bytes e.origin.name) l.entries.items ++ map (λ e. string_bytes e.origin.name) l.entry-iterator.rest.items ≡ map (λ e. string_bytes e.origin.name) l.fn.book.entries.items)
     × (length l.entries.items + length l.entry-iterator.rest.items ≤ vec_capacity l.entries)
     × (l.entry-iterator.rest.len ≡ length l.entry-iterator.rest.items)

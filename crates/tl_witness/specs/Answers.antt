@@ -1,0 +1,15 @@
+-- What a witness answers to a body, memory being short or not (C2SP tlog-witness, "add-checkpoint"). H is the
+-- digest function.
+use Rattle.std.specs.Prelude.{ℕ, ◌⊎◌, List, Err}
+use Rattle.tl_witness.specs.declared.request.RequestFault.TheVariants.{OutOfMemory}
+use Rattle.tl_witness.specs.Request.{Body, IsRequest}
+use Rattle.tl_witness.specs.ReadRequest.{ParsesRequest}
+use Rattle.tl_witness.specs.Book.{BookOutcome, RefusesAll, DecidesBody}
+
+-- an answer to this body may ask for memory: its reading may, or it is a request
+abbrev pub AsksForMemory : List ℕ → Type 0
+AsksForMemory body = ParsesRequest {A = ℕ} body (Err OutOfMemory) ⊎ ((request : Body) × IsRequest body request)
+
+-- the cases of a request; or 500 with nothing changed, where memory was asked for
+abbrev pub Answers : (List ℕ → List ℕ) → List ℕ → ℕ → BookOutcome → Type 0
+Answers H body time out = DecidesBody H body time out ⊎ (AsksForMemory body × RefusesAll out 500)

@@ -1,0 +1,78 @@
+//! From the body of a request to the place of its origin. Nothing here waits, and nothing of what is kept is looked
+//! at.
+
+ghost use Rattle.std.specs.Prelude.{◌≡◌, ℕ, map};
+ghost use Rattle.tl_witness.specs.Book.{asked_of};
+ghost use Rattle.tl_witness.specs.Finding.{FindsOrigin};
+ghost use Rattle.tl_witness.specs.Offer.{asked_by};
+ghost use Rattle.tl_witness.specs.ReadRequest.{body_of, signed_of};
+
+use crate::offer::Offer;
+use crate::place::{OfOrigin, place_of};
+use crate::request::{AddRequest, RequestFault, parse_request};
+use crate::signed::{SignedCheckpoint, read_signed};
+use std::alloc::Allocator;
+use tl_proof::Link;
+
+/// The place of an origin, and what is asked of it.
+#[derive(Drop)]
+pub(crate) struct Found<'m, A: Allocator> {
+    pub(crate) place: usize,
+    pub(crate) offer: Offer<'m, A>,
+}
+
+/// Why a body leads to no place.
+#[derive(Clone, Copy, Debug)]
+pub(crate) enum Unfound {
+    /// It is no request, or its note is no checkpoint.
+    Malformed,
+    /// Its origin is none of these.
+    Unknown,
+    /// A growth was refused.
+    OutOfMemory,
+}
+
+// What a request asks, whose note is this signed checkpoint.
+fn offer_of<'m, A: Allocator>(
+    request: AddRequest<'m, A>,
+    signed: SignedCheckpoint<'m, A>,
+) -> Offer<'m, A>
+    ensures { (time : ℕ) → asked_by result time ≡ asked_of (body_of request.entry) (signed_of signed.entry) time }
+{
+    let AddRequest { old, proof, .. } = request;
+    let SignedCheckpoint { note, checkpoint } = signed;
+    let link = Link {
+        size: checkpoint.size,
+        root: checkpoint.root,
+        proof,
+    };
+    Offer { old, link, note }
+}
+
+/// Reads a request and the checkpoint in its note, and finds the place of the checkpoint's origin (C2SP tlog-witness,
+/// "add-checkpoint").
+pub(crate) fn find_origin<'m, N: OfOrigin, A: Allocator + Copy>(
+    alloc: A,
+    list: &[N],
+    body: &'m [u8],
+) -> Result<Found<'m, A>, Unfound>
+    ensures { FindsOrigin body.now (map N.origin_of list.now) result }
+{
+    let request = match parse_request(alloc, body) {
+        Ok(request) => request,
+        Err(RequestFault::Malformed) => return Err(Unfound::Malformed),
+        Err(RequestFault::OutOfMemory) => return Err(Unfound::OutOfMemory),
+    };
+    let signed = match read_signed(alloc, request.note) {
+        Ok(signed) => signed,
+        Err(RequestFault::Malformed) => return Err(Unfound::Malformed),
+        Err(RequestFault::OutOfMemory) => return Err(Unfound::OutOfMemory),
+    };
+    let Some(place) = place_of(list, signed.checkpoint.origin.as_str()) else {
+        return Err(Unfound::Unknown);
+    };
+    Ok(Found {
+        place,
+        offer: offer_of(request, signed),
+    })
+}

@@ -1,0 +1,185 @@
+//! An origin: whom the witness trusts for it, and how it answers a request for it.
+
+ghost use Rattle.std.specs.Prelude.{◌≡◌, ◌↔◌, ◌≤◌, [], IfOk, IsTrue, OnErr, map, string_bytes};
+ghost use Rattle.tl_note.specs.Open.{Opened};
+ghost use Rattle.tl_proof.specs.Collisions.{step_of};
+ghost use Rattle.tl_witness.specs.Chain.{Follows, first_head, last_head};
+ghost use Rattle.tl_witness.specs.ChainLine.{IsChainLine};
+ghost use Rattle.tl_witness.specs.Decide.{Decides, DecidesFrom, Settles};
+ghost use Rattle.tl_witness.specs.Offer.{asked_by};
+
+use crate::chain::{Chain, KeepFault};
+use crate::cosign::{KeyName, cosign};
+use crate::offer::Offer;
+use crate::reply::{Reply, conflict, refusal};
+use crate::saver::Saver;
+use crate::tools::Tools;
+use std::alloc::{AllocError, Allocator};
+use tl_hash::TreeHash;
+use tl_note::{NoteFault, NoteView, Signer, Verifier, verify_note};
+use tl_proof::Link;
+
+/// An origin's name, whose signatures are asked, and who cosigns. None of it ever changes.
+#[derive(Drop)]
+pub(crate) struct Origin<A: Allocator> {
+    pub(crate) name: String<A>,
+    pub(crate) verifiers: Vec<Box<dyn Verifier>, A>,
+    pub(crate) cosigner: Box<dyn Signer>,
+    pub(crate) cosigner_name: KeyName<A>,
+}
+
+/// What contracts see of it, given the chain.
+pub(crate) trait ShownOrigin {
+    ghost use Rattle.std.specs.Prelude.{List};
+    ghost use Rattle.tl_proof.specs.Collisions.{Step};
+    ghost use Rattle.tl_witness.specs.Witnessed.{Witnessed};
+
+    ghost shown_with: { Self → List Step → Witnessed };
+}
+
+impl<A: Allocator> ShownOrigin for Origin<A> {
+    ghost use Rattle.std.specs.Prelude.{map, string_bytes};
+    ghost use Rattle.tl_witness.specs.Witnessed.{named_key};
+
+    ghost shown_with = { λ o chain. record {
+      origin = string_bytes o.name;
+      verifiers = map (λ v. (Verifier-box v).key v.value) o.verifiers.items;
+      cosigner = named_key (string_bytes o.cosigner_name.text) ((Signer-box o.cosigner).signing_key o.cosigner.value);
+      chain = chain;
+    } };
+}
+
+// Whether memory was refused.
+fn is_out_of_memory(fault: NoteFault) -> bool
+    ensures { IsTrue result ↔ (fault ≡ NoteFault.OutOfMemory) }
+{
+    matches!(fault, NoteFault::OutOfMemory)
+}
+
+// Whether a note is open to the verifiers. It fails only where a growth was refused.
+fn is_open<A: Allocator + Copy>(
+    alloc: A,
+    note: NoteView<'_, A>,
+    verifiers: &[Box<dyn Verifier>],
+) -> Result<bool, AllocError>
+    ensures { IfOk result (λ opens. IsTrue opens ↔ Opened (map (λ verifier. key verifier) verifiers.now) note.entry.text.now note.entry.signatures.items) }
+{
+    match verify_note(alloc, note, verifiers) {
+        Ok(_) => Ok(true),
+        Err(fault) if is_out_of_memory(fault) => Err(AllocError),
+        Err(_) => Ok(false),
+    }
+}
+
+impl<A: Allocator + Copy> Origin<A> {
+    // Cosigns what the link says, where it follows the chain, and keeps a larger link.
+    fn attest<T: TreeHash, S: Saver>(
+        &self,
+        tools: Tools<T, A>,
+        chain: &mut Chain<T, A>,
+        link: Link<A>,
+        text: &str,
+        time: u64,
+        saver: &mut S,
+    ) -> Result<Reply<A>, AllocError>
+        requires line { IsChainLine (record { origin = string_bytes self.now.name; step = step_of link }) }
+        requires follows { Follows T.digest_of (last_head (first_head T.digest_of) chain.old) (step_of link) }
+        requires least { (last_head (first_head T.digest_of) chain.old).size ≤ link.size }
+        ensures ok { IfOk result (λ reply. Settles
+            (record {
+              status = reply.status;
+              body = reply.body.items;
+              saved = S.saved saver.old;
+              saved_after = S.saved saver.new;
+              one = ⟦<Origin<A> as ShownOrigin>⟧.shown_with self.now chain.old;
+              one_after = ⟦<Origin<A> as ShownOrigin>⟧.shown_with self.now chain.new;
+            })
+            (last_head (first_head T.digest_of) chain.old).size
+            (record { old = (last_head (first_head T.digest_of) chain.old).size; step = step_of link; text = text.now; lines = []; time = time })) }
+        ensures err { OnErr result ((S.saved saver.new ≡ S.saved saver.old) × (chain.new ≡ chain.old)) }
+    {
+        let cosigned = cosign(tools, &self.cosigner, &self.cosigner_name, time, text);
+        let body = match cosigned {
+            Ok(Some(line)) => line.into_bytes(),
+            Ok(None) => return Ok(refusal(tools.alloc, 500)),
+            Err(fault) => return Err(fault),
+        };
+        if link.size <= chain.head().0 {
+            return Ok(Reply { status: 200, body });
+        }
+        match chain.keep(self.name.as_str(), link, saver) {
+            Ok(()) => Ok(Reply { status: 200, body }),
+            Err(KeepFault::SaveFailed) => Ok(refusal(tools.alloc, 500)),
+            Err(KeepFault::OutOfMemory) => Err(AllocError),
+        }
+    }
+
+    // Decides a request whose note is open.
+    fn settle<T: TreeHash, S: Saver>(
+        &self,
+        tools: Tools<T, A>,
+        chain: &mut Chain<T, A>,
+        old: u64,
+        link: Link<A>,
+        text: &str,
+        time: u64,
+        saver: &mut S,
+    ) -> Result<Reply<A>, AllocError>
+        requires { IsChainLine (record { origin = string_bytes self.now.name; step = step_of link }) }
+        ensures ok { IfOk result (λ reply. DecidesFrom T.digest_of (last_head (first_head T.digest_of) chain.old)
+            (record { old = old; step = step_of link; text = text.now; lines = []; time = time })
+            (record {
+              status = reply.status;
+              body = reply.body.items;
+              saved = S.saved saver.old;
+              saved_after = S.saved saver.new;
+              one = ⟦<Origin<A> as ShownOrigin>⟧.shown_with self.now chain.old;
+              one_after = ⟦<Origin<A> as ShownOrigin>⟧.shown_with self.now chain.new;
+            })) }
+        ensures err { OnErr result ((S.saved saver.new ≡ S.saved saver.old) × (chain.new ≡ chain.old)) }
+    {
+        let (size, root) = chain.head();
+        if link.size < old {
+            return Ok(refusal(tools.alloc, 400));
+        }
+        if old != size || (link.size == size && link.root != root) {
+            return conflict(tools.alloc, size);
+        }
+        if !chain.accepts(&link) {
+            return Ok(refusal(tools.alloc, 422));
+        }
+        self.attest(tools, chain, link, text, time, saver)
+    }
+
+    /// Decides a request for this origin, which has this chain. It fails only where a growth was refused, and then
+    /// nothing changed.
+    pub(crate) fn answer<T: TreeHash, S: Saver>(
+        &self,
+        tools: Tools<T, A>,
+        chain: &mut Chain<T, A>,
+        offer: Offer<'_, A>,
+        time: u64,
+        saver: &mut S,
+    ) -> Result<Reply<A>, AllocError>
+        requires { IsChainLine (record { origin = string_bytes self.now.name; step = step_of offer.link }) }
+        ensures ok { IfOk result (λ reply. Decides T.digest_of (asked_by offer.entry time)
+            (record {
+              status = reply.status;
+              body = reply.body.items;
+              saved = S.saved saver.old;
+              saved_after = S.saved saver.new;
+              one = ⟦<Origin<A> as ShownOrigin>⟧.shown_with self.now chain.old;
+              one_after = ⟦<Origin<A> as ShownOrigin>⟧.shown_with self.now chain.new;
+            })) }
+        ensures err { OnErr result ((S.saved saver.new ≡ S.saved saver.old) × (chain.new ≡ chain.old)) }
+    {
+        let Offer { old, link, note } = offer;
+        let text = note.text;
+        match is_open(tools.alloc, note, self.verifiers.as_slice()) {
+            Ok(true) => {}
+            Ok(false) => return Ok(refusal(tools.alloc, 403)),
+            Err(fault) => return Err(fault),
+        }
+        self.settle(tools, chain, old, link, text, time, saver)
+    }
+}
