@@ -1,14 +1,14 @@
 //! A book before its first link.
 
 use crate::posts::{E0, E1, ORIGIN, TIME, body, fresh_book};
-use crate::savers::LastSaver;
+use crate::savers::KeepingSaver;
 use std::test::Fail;
 
 #[test]
 fn bodies_that_are_no_requests(rt: HostRuntime) -> Result<(), Fail> {
     let alloc = rt.alloc();
     let mut book = fresh_book(alloc, alloc, &[ORIGIN])?;
-    let mut saver = LastSaver::new(alloc);
+    let mut saver = KeepingSaver::new(alloc);
     let first = body(alloc, 0, "", 1, E1)?;
     let bytes = first.as_bytes();
     assert_eq!(rt; bytes.len(), 108);
@@ -28,7 +28,7 @@ fn bodies_that_are_no_requests(rt: HostRuntime) -> Result<(), Fail> {
 fn the_log_of_no_entries(rt: HostRuntime) -> Result<(), Fail> {
     let alloc = rt.alloc();
     let mut book = fresh_book(alloc, alloc, &[ORIGIN])?;
-    let mut saver = LastSaver::new(alloc);
+    let mut saver = KeepingSaver::new(alloc);
     let empty = body(alloc, 0, "", 0, E0)?;
     assert_eq!(rt; book.add(empty.as_bytes(), TIME, &mut saver).status, 200);
     assert_eq!(rt; book.chain(ORIGIN).map(|links| links.len()), Some(0));

@@ -4,9 +4,13 @@
 #[cfg(test)]
 mod books;
 #[cfg(test)]
+mod large;
+#[cfg(test)]
 mod lines;
 #[cfg(test)]
 mod links;
+#[cfg(test)]
+mod logs;
 #[cfg(test)]
 mod opening;
 #[cfg(test)]

@@ -4,7 +4,7 @@ ghost use Rattle.tl_proof.specs.Collisions.{step_of};
 ghost use Rattle.tl_witness.specs.ChainLine.{IsChainLine};
 
 use crate::posts::{ORIGIN, TIME, fresh_book};
-use crate::savers::LastSaver;
+use crate::savers::KeepingSaver;
 use crate::steps::{LINES, MOST, is_due, steps};
 use std::alloc::{Allocator, Global};
 use std::test::Fail;
@@ -42,12 +42,12 @@ fn is_line_refused<A: Allocator>(alloc: Global, origin: &str, link: &Link<A>, li
 // A saver that tries the lines of its links with growths refused, and then saves them.
 #[derive(Drop)]
 struct TryingSaver {
-    inner: LastSaver,
+    inner: KeepingSaver,
     are_right: bool,
 }
 
 impl Saver for TryingSaver {
-    ghost saved = { λ s. ⟦<LastSaver as Saver>⟧.saved s.inner };
+    ghost saved = { λ s. ⟦<KeepingSaver as Saver>⟧.saved s.inner };
 
     fn save<A: Allocator>(&mut self, origin: &str, link: &Link<A>) -> Result<(), SaveFault> {
         let is_right = match write_chain_line(self.inner.alloc, origin, link) {
@@ -64,7 +64,7 @@ fn each_line_with_memory_refused(rt: HostRuntime) -> Result<(), Fail> {
     let alloc = rt.alloc();
     let mut book = fresh_book(alloc, alloc, &[ORIGIN])?;
     let mut saver = TryingSaver {
-        inner: LastSaver::new(alloc),
+        inner: KeepingSaver::new(alloc),
         are_right: true,
     };
     for step in steps(alloc)? {

@@ -2,7 +2,7 @@
 
 use crate::links::{are_first, two_links};
 use crate::posts::{E1, F1, TIME, fresh_book, signed_body};
-use crate::savers::LastSaver;
+use crate::savers::KeepingSaver;
 use crate::waiting::{WaitingSaver, is_raised};
 use std::alloc::{AllocError, Global};
 use std::sync::atomic::{AtomicBool, Ordering};
@@ -46,7 +46,7 @@ fn answer_meanwhile<R: Wait>(
     answered: &AtomicBool,
 ) -> (bool, Reply<Global>) {
     let is_saving = is_raised(called);
-    let mut saver = LastSaver::new(alloc);
+    let mut saver = KeepingSaver::new(alloc);
     let reply = witness.add(rt, body.as_bytes(), TIME, &mut saver);
     answered.store(true, Ordering::SeqCst);
     (is_saving, reply)
@@ -63,7 +63,7 @@ fn replies<R: Threads + Wait + Sync>(
     let called = Arc::new(alloc, AtomicBool::new(false))?;
     let answered = Arc::new(alloc, AtomicBool::new(false))?;
     let saver = WaitingSaver {
-        inner: LastSaver::new(alloc),
+        inner: KeepingSaver::new(alloc),
         called: Arc::try_clone(&called)?,
         answered: Arc::try_clone(&answered)?,
     };

@@ -2,7 +2,7 @@
 
 use crate::links::{are_first, first_link_and, two_links};
 use crate::posts::{COSIGNATURE, E1, E2, F1, ORIGIN, TIME, body, fresh_book};
-use crate::savers::LastSaver;
+use crate::savers::KeepingSaver;
 use crate::waiting::meet;
 use std::alloc::Global;
 use std::sync::Wait;
@@ -28,7 +28,7 @@ fn reply_together<R: Wait>(
     body: &str,
 ) -> (bool, Reply<Global>) {
     let met = meet(arrived);
-    let mut saver = LastSaver::new(alloc);
+    let mut saver = KeepingSaver::new(alloc);
     (met, witness.add(rt, body.as_bytes(), TIME, &mut saver))
 }
 
@@ -71,7 +71,7 @@ fn one_of_two_requests_is_taken(rt: HostRuntime) -> Result<(), Fail> {
             assert!(rt; false, "out of memory");
             return Ok(());
         };
-        let mut saver = LastSaver::new(alloc);
+        let mut saver = KeepingSaver::new(alloc);
         assert_eq!(rt;
             witness.add(&rt, first.as_bytes(), TIME, &mut saver).status,
             200

@@ -2,7 +2,7 @@
 
 use crate::links::{are_first, two_links};
 use crate::posts::{E2, F1, ORIGIN, TIME, body, fresh_book, trust};
-use crate::savers::LastSaver;
+use crate::savers::KeepingSaver;
 use crate::steps::{LINES, MOST, Step, is_due, steps};
 use std::alloc::{AllocError, Allocator, Global};
 use std::test::Fail;
@@ -68,7 +68,7 @@ fn has_links<A: Allocator + Copy>(
 fn is_taken(
     book: &mut Book<Sha256Tree, &Refusing<Global>>,
     heap: &Refusing<Global>,
-    saver: &mut LastSaver,
+    saver: &mut KeepingSaver,
     step: &Step,
     whole: &[Link<Global>],
     count: usize,
@@ -101,7 +101,7 @@ fn a_book_answers_500(rt: HostRuntime) -> Result<(), Fail> {
             assert!(rt; heap.refused());
             continue;
         };
-        let mut saver = LastSaver::new(alloc);
+        let mut saver = KeepingSaver::new(alloc);
         let mut count = 0;
         for step in list.iter() {
             let is_right = is_taken(&mut book, &heap, &mut saver, step, whole.as_slice(), count);

@@ -7,28 +7,28 @@ use std::alloc::{AllocError, Allocator, Global};
 use tl_proof::{HashList, Link};
 use tl_witness::{SaveFault, Saver, write_chain_line};
 
-/// A saver that keeps the last link, counts its calls, and fails where it is told to.
+/// A saver that keeps what it saved, counts its calls, and fails where it is told to.
 #[derive(Drop)]
-pub struct LastSaver {
+pub struct KeepingSaver {
     pub alloc: Global,
     pub fails: bool,
     pub calls: u64,
     /// The lines of the links that were saved.
     pub lines: String,
     failures: u64,
-    last: Option<(String, Link<Global>)>,
+    saved: Vec<(String, Link<Global>)>,
 }
 
-impl LastSaver {
+impl KeepingSaver {
     /// A saver that was not called yet.
-    pub fn new(alloc: Global) -> LastSaver {
-        LastSaver {
+    pub fn new(alloc: Global) -> KeepingSaver {
+        KeepingSaver {
             alloc,
             fails: false,
             calls: 0,
             lines: String::new(alloc),
             failures: 0,
-            last: None,
+            saved: Vec::new(alloc),
         }
     }
 
@@ -36,6 +36,7 @@ impl LastSaver {
     fn fail(&mut self) -> Result<(), SaveFault>
         ensures failed { IsErr result }
         ensures counted { (self.old.failures < self.new.failures) ⊎ (self.old.failures ≡ 2 ^ 64 - 1) }
+        ensures links { self.new.saved ≡ self.old.saved }
     {
         self.failures = self.failures.saturating_add(1);
         Err(SaveFault)
@@ -62,11 +63,11 @@ fn copied<A: Allocator>(
     ))
 }
 
-impl Saver for LastSaver {
-    ghost use Rattle.std.specs.Prelude.{option_map, string_bytes};
+impl Saver for KeepingSaver {
+    ghost use Rattle.std.specs.Prelude.{map, string_bytes};
     ghost use Rattle.tl_proof.specs.Collisions.{step_of};
 
-    ghost saved = { λ s. record { failures = s.failures; last = option_map (λ p. (string_bytes p.0, step_of p.1)) s.last } };
+    ghost saved = { λ s. record { failures = s.failures; links = map (λ p. (string_bytes p.0, step_of p.1)) s.saved.items } };
 
     fn save<A: Allocator>(&mut self, origin: &str, link: &Link<A>) -> Result<(), SaveFault> {
         self.calls = self.calls.wrapping_add(1);
@@ -79,10 +80,10 @@ impl Saver for LastSaver {
         let Ok(kept) = copied(self.alloc, origin, link) else {
             return self.fail();
         };
-        if self.lines.push_str(line.as_str()).is_err() {
+        if self.saved.reserve(1).is_err() || self.lines.push_str(line.as_str()).is_err() {
             return self.fail();
         }
-        self.last = Some(kept);
+        self.saved.push_reserved(kept);
         Ok(())
     }
 }

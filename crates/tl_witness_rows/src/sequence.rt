@@ -2,7 +2,7 @@
 
 use crate::links::{are_first, two_links};
 use crate::posts::{F1, ORIGIN, TIME, fresh_book};
-use crate::savers::LastSaver;
+use crate::savers::KeepingSaver;
 use crate::steps::{LINES, is_due, steps};
 use std::test::Fail;
 use tl_witness::SharedWitness;
@@ -16,8 +16,8 @@ fn the_same_replies_and_links(rt: HostRuntime) -> Result<(), Fail> {
         return Ok(());
     };
     let whole = two_links(alloc, F1)?;
-    let mut saver = LastSaver::new(alloc);
-    let mut other = LastSaver::new(alloc);
+    let mut saver = KeepingSaver::new(alloc);
+    let mut other = KeepingSaver::new(alloc);
     for step in steps(alloc)? {
         saver.fails = step.save_fails;
         let reply = book.add(step.body.as_bytes(), TIME, &mut saver);
@@ -43,7 +43,7 @@ fn each_save_fails_once(rt: HostRuntime) -> Result<(), Fail> {
     let alloc = rt.alloc();
     let mut book = fresh_book(alloc, alloc, &[ORIGIN])?;
     let whole = two_links(alloc, F1)?;
-    let mut saver = LastSaver::new(alloc);
+    let mut saver = KeepingSaver::new(alloc);
     let mut count = 0;
     for step in steps(alloc)? {
         let calls = saver.calls;

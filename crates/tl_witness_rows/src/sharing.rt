@@ -2,7 +2,7 @@
 
 use crate::links::{are_first, two_links};
 use crate::posts::{F1, ORIGIN, TIME, fresh_book};
-use crate::savers::LastSaver;
+use crate::savers::KeepingSaver;
 use crate::steps::{LINES, MOST, Step, is_due, steps};
 use std::alloc::{Allocator, Global};
 use std::sync::Wait;
@@ -65,7 +65,7 @@ fn is_taken<R: Wait>(
     rt: &R,
     witness: &SharedWitness<Sha256Tree, Heap<'_>>,
     heap: Heap<'_>,
-    saver: &mut LastSaver,
+    saver: &mut KeepingSaver,
     step: &Step,
     whole: &[Link<Global>],
     count: usize,
@@ -99,7 +99,7 @@ fn a_shared_witness_answers_500(rt: HostRuntime) -> Result<(), Fail> {
             continue;
         };
         let witness = shared(book, &heap).ok_or("not shared")?;
-        let mut saver = LastSaver::new(alloc);
+        let mut saver = KeepingSaver::new(alloc);
         let mut count = 0;
         for step in list.iter() {
             let is_right = is_taken(

@@ -1,6 +1,6 @@
 //! Threads that wait for one another, though not forever.
 
-use crate::savers::LastSaver;
+use crate::savers::KeepingSaver;
 use std::alloc::{Allocator, Global};
 use std::sync::Arc;
 use std::sync::atomic::{AtomicBool, AtomicU64, Ordering};
@@ -38,7 +38,7 @@ pub fn is_raised(flag: &AtomicBool) -> bool {
 #[derive(Drop)]
 pub struct WaitingSaver {
     /// Who saves then.
-    pub inner: LastSaver,
+    pub inner: KeepingSaver,
     /// Raised by `save`.
     pub called: Arc<AtomicBool, Global>,
     /// Raised by the other thread.
@@ -46,7 +46,7 @@ pub struct WaitingSaver {
 }
 
 impl Saver for WaitingSaver {
-    ghost saved = { λ s. ⟦<LastSaver as Saver>⟧.saved s.inner };
+    ghost saved = { λ s. ⟦<KeepingSaver as Saver>⟧.saved s.inner };
 
     fn save<A: Allocator>(&mut self, origin: &str, link: &Link<A>) -> Result<(), SaveFault> {
         self.called.store(true, Ordering::SeqCst);

@@ -1,0 +1,228 @@
+//! Large requests beside small ones: twelve links, 63 hashes, sizes above 2^32, late times, 100 signature lines, three origins.
+
+use crate::logs::Log;
+use crate::posts::TIME;
+use crate::savers::KeepingSaver;
+use std::alloc::{AllocError, Global};
+use std::str;
+use std::test::Fail;
+use tl_checkpoint::check_cosignature;
+use tl_hash::{Hash, Sha256Tree, leaf_hash, node_hash};
+use tl_note::{Signer, Verifier, parse_note};
+use tl_testing::LengthKey;
+use tl_witness::{Book, BookFault, Reply, Trust};
+
+const ORIGIN: &str = "log.example/large";
+
+type TestBook = Book<Sha256Tree, Global>;
+
+// Trust in the key of a log, cosigned for by a key of its own.
+fn trust(alloc: Global, log: &Log) -> Result<Trust<Global>, AllocError> {
+    let key: Box<dyn Verifier> = Box::new(alloc, LengthKey::new(alloc, log.origin, log.key_id)?)?;
+    let cosigner: Box<dyn Signer> = Box::new(
+        alloc,
+        LengthKey::new(alloc, "w.example", 0x0B0B0B0B)?,
+    )?;
+    let mut verifiers = Vec::new(alloc);
+    verifiers.push(key)?;
+    Ok(Trust {
+        origin: String::from_str(alloc, log.origin)?,
+        verifiers,
+        cosigner,
+    })
+}
+
+// A book that trusts these logs.
+fn book_of(alloc: Global, logs: &[&Log]) -> Result<TestBook, BookFault> {
+    let mut trusts = Vec::new(alloc);
+    for log in logs {
+        let Ok(trust) = trust(alloc, log) else {
+            return Err(BookFault::OutOfMemory);
+        };
+        trusts.push(trust)?;
+    }
+    Book::open(alloc, alloc, Sha256Tree, trusts, Vec::new(alloc))
+}
+
+fn post(book: &mut TestBook, saver: &mut KeepingSaver, body: &str, time: u64) -> Reply<Global> {
+    book.add(body.as_bytes(), time, saver)
+}
+
+// How many links an origin has.
+fn links(book: &TestBook, origin: &str) -> usize {
+    match book.chain(origin) {
+        Some(links) => links.len(),
+        None => 0,
+    }
+}
+
+#[test]
+fn twelve_links_one_after_another(rt: HostRuntime) -> Result<(), Fail> {
+    let alloc = rt.alloc();
+    let log = Log::of_size(alloc, ORIGIN, 7, 40)?;
+    let mut book = book_of(alloc, &[&log])?;
+    let mut saver = KeepingSaver::new(alloc);
+    let mut old = 0;
+    for size in [1u64, 2, 3, 5, 8, 9, 16, 17, 31, 32, 33, 40] {
+        let body = log.body(alloc, old, size)?;
+        assert_eq!(rt;
+            post(&mut book, &mut saver, body.as_str(), TIME).status,
+            200,
+            "{size}"
+        );
+        assert_eq!(rt;
+            post(&mut book, &mut saver, body.as_str(), TIME).status,
+            409,
+            "{size}"
+        );
+        old = size;
+    }
+    assert_eq!(rt; links(&book, ORIGIN), 12);
+    assert_eq!(rt; saver.calls, 12);
+    assert_eq!(rt; saver.lines.as_str().lines().count(), 12);
+    Ok(())
+}
+
+// The root that a proof leads to from the first of 2^63 - 1 entries.
+fn folded(first: Hash, proof: &[Hash]) -> Hash {
+    let mut root = first;
+    for hash in proof {
+        root = node_hash(Sha256Tree, root, *hash);
+    }
+    root
+}
+
+#[test]
+fn a_proof_of_63_hashes_to_the_largest_size(rt: HostRuntime) -> Result<(), Fail> {
+    let alloc = rt.alloc();
+    let log = Log::of_size(alloc, ORIGIN, 7, 1)?;
+    let mut book = book_of(alloc, &[&log])?;
+    let mut saver = KeepingSaver::new(alloc);
+    let largest = (1u64 << 63) - 1;
+    let proof = [leaf_hash(Sha256Tree, b"other"); 63];
+    let first = log.root(alloc, 1)?;
+    let body = log.body(alloc, 0, 1)?;
+    assert_eq!(rt;
+        post(&mut book, &mut saver, body.as_str(), TIME).status,
+        200
+    );
+    let short = log.claim(alloc, 1, &proof[..62], largest, folded(first, &proof))?;
+    assert_eq!(rt;
+        post(&mut book, &mut saver, short.as_str(), TIME).status,
+        422
+    );
+    let body = log.claim(alloc, 1, &proof, largest, folded(first, &proof))?;
+    assert_eq!(rt;
+        post(&mut book, &mut saver, body.as_str(), TIME).status,
+        200
+    );
+    let reply = post(&mut book, &mut saver, body.as_str(), TIME);
+    assert_eq!(rt; reply.status, 409);
+    assert!(rt; reply.body.as_slice() == b"9223372036854775807\n".as_slice());
+    assert_eq!(rt; links(&book, ORIGIN), 2);
+    Ok(())
+}
+
+// The time of a reply's cosignature line, where it is one of the text.
+fn time_of(alloc: Global, text: &str, reply: &Reply<Global>) -> Result<Option<u64>, Fail> {
+    let line = str::from_utf8(reply.body.as_slice())?;
+    let note = format!(in alloc; "{text}\n{line}")?;
+    let key: Box<dyn Verifier> = Box::new(alloc, LengthKey::new(alloc, "w.example", 0x0B0B0B0B)?)?;
+    let view = parse_note(alloc, note.as_str())?;
+    match view.signatures.as_slice() {
+        [line] => Ok(check_cosignature(alloc, text, line, &*key)?),
+        _ => Ok(None),
+    }
+}
+
+#[test]
+fn large_sizes_and_late_times(rt: HostRuntime) -> Result<(), Fail> {
+    let alloc = rt.alloc();
+    let log = Log::of_size(alloc, ORIGIN, 7, 1)?;
+    let last = leaf_hash(Sha256Tree, b"last");
+    for level in [32u32, 33, 40, 62] {
+        let size = 1u64 << level.min(62);
+        let mut book = book_of(alloc, &[&log])?;
+        let mut saver = KeepingSaver::new(alloc);
+        let root = log.root(alloc, 1)?;
+        let first = log.claim(alloc, 0, &[], size, root)?;
+        let time = u64::MAX - size;
+        let reply = post(&mut book, &mut saver, first.as_str(), time);
+        assert_eq!(rt; reply.status, 200);
+        let root_text = crate::logs::text_of(alloc, &root)?;
+        let text = format!(in alloc; "{ORIGIN}\n{size}\n{root_text}\n")?;
+        assert_eq!(rt; time_of(alloc, text.as_str(), &reply)?, Some(time));
+        let next = log.claim(
+            alloc,
+            size,
+            &[last],
+            size + 1,
+            node_hash(Sha256Tree, root, last),
+        )?;
+        assert_eq!(rt;
+            post(&mut book, &mut saver, next.as_str(), time).status,
+            200
+        );
+        assert_eq!(rt; links(&book, ORIGIN), 2);
+    }
+    Ok(())
+}
+
+#[test]
+fn notes_of_2_and_of_100_signature_lines(rt: HostRuntime) -> Result<(), Fail> {
+    let alloc = rt.alloc();
+    let log = Log::of_size(alloc, ORIGIN, 7, 4)?;
+    let mut book = book_of(alloc, &[&log])?;
+    let mut saver = KeepingSaver::new(alloc);
+    let mut old = 0;
+    for (size, more, status) in [(1u64, 1u32, 200u16), (3, 99, 200), (4, 100, 400)] {
+        let mut body = log.body(alloc, old, size)?;
+        for key in 0..more {
+            body.push_str(format!(in alloc; "— k{key}.example AQIDBAU=\n")?.as_str())?;
+        }
+        assert_eq!(rt;
+            post(&mut book, &mut saver, body.as_str(), TIME).status,
+            status
+        );
+        old = size;
+    }
+    assert_eq!(rt; links(&book, ORIGIN), 2);
+    Ok(())
+}
+
+#[test]
+fn three_origins_grow_apart(rt: HostRuntime) -> Result<(), Fail> {
+    let alloc = rt.alloc();
+    let a = Log::of_size(alloc, "a.example", 1, 20)?;
+    let b = Log::of_size(alloc, "b.example", 2, 20)?;
+    let c = Log::of_size(alloc, "c.example/with/a/long/name", 3, 20)?;
+    let mut book = book_of(alloc, &[&b, &c, &a])?;
+    let mut saver = KeepingSaver::new(alloc);
+    for (log, old, size, status) in [
+        (&a, 0, 1, 200u16),
+        (&b, 0, 7, 200),
+        (&a, 1, 20, 200),
+        (&c, 0, 20, 200),
+        (&b, 1, 8, 409),
+        (&b, 7, 8, 200),
+        (&a, 20, 20, 200),
+        (&b, 8, 20, 200),
+    ] {
+        let body = log.body(alloc, old, size)?;
+        assert_eq!(rt;
+            post(&mut book, &mut saver, body.as_str(), TIME).status,
+            status
+        );
+    }
+    assert_eq!(rt; links(&book, "a.example"), 2);
+    assert_eq!(rt; links(&book, "b.example"), 3);
+    assert_eq!(rt; links(&book, "c.example/with/a/long/name"), 1);
+    assert!(rt; book.chain("d.example").is_none());
+    let stranger = Log::of_size(alloc, "a.example", 2, 30)?;
+    let body = stranger.body(alloc, 20, 30)?;
+    assert_eq!(rt;
+        post(&mut book, &mut saver, body.as_str(), TIME).status,
+        403
+    );
+    Ok(())
+}
