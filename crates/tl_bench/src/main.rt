@@ -1,10 +1,12 @@
 //! Loops to measure, one word each. The scripts in `bench/` run them beside the program.
 #![tactic(auto)]
 
+mod chains;
 mod proving;
 mod reading;
 mod rings;
 
+use chains::chains;
 use proving::proofs;
 use reading::tiles;
 use rings::sequencer;
@@ -71,13 +73,14 @@ fn main(rt: HostRuntime) -> ExitCode {
         [_, word] if word.as_str() == "sequencer" => measured(sequencer(&rt, rt.alloc())),
         [_, word] if word.as_str() == "proofs" => both_sizes(&rt, rt.alloc()),
         [_, word] if word.as_str() == "tiles" => tiles(&rt, rt.alloc()),
+        [_, word] if word.as_str() == "chains" => chains(&rt, rt.alloc()),
         _ => Ok(false),
     };
     match outcome {
         Ok(true) => ExitCode::SUCCESS,
         Ok(false) => {
             let _ = rt.eprintln(
-                "usage: tl_bench sha256 COUNT LENGTH .. | sequencer | proofs | tiles",
+                "usage: tl_bench sha256 COUNT LENGTH .. | sequencer | proofs | tiles | chains",
             );
             ExitCode::from(2)
         }

@@ -1,0 +1,119 @@
+//! Saved links of many origins read, and a book opened with them.
+
+use crate::proving::store_of;
+use std::alloc::{AllocError, Global};
+use std::io;
+use std::time::{Clock, Instant};
+use tl_hash::Sha256Tree;
+use tl_note::{SignFault, Signer, Verifier};
+use tl_proof::{HashList, Link, prove_tree};
+use tl_store::tree_hash;
+use tl_witness::{Book, Trust, read_chain, write_chain_line};
+
+// How many origins there are, and how many links each has.
+const ORIGINS: u32 = 10_000;
+
+const LINKS: u64 = 100;
+
+// A cosigner that never signs.
+#[derive(Drop)]
+struct Silent;
+
+impl Signer for Silent {
+    ghost use Rattle.std.specs.Prelude.{codes, true};
+
+    ghost signing_key = { λ s. record { name = codes "silent"; id = 0; may_give = λ message signature. true; may_refuse = λ message. true } };
+
+    fn name(&self) -> &str {
+        "silent"
+    }
+
+    fn key_id(&self) -> u32 {
+        0
+    }
+
+    fn sign(&self, _alloc: Global, _message: &[u8]) -> Result<Vec<u8>, SignFault> {
+        Err(SignFault::Refused)
+    }
+}
+
+// The name of an origin. Those that follow one another don't in the order of their bytes.
+fn name_of(alloc: Global, number: u32) -> Result<String, AllocError> {
+    format!(in alloc; "{}.log.example", number.wrapping_mul(7_919) % ORIGINS)
+}
+
+// The links of a log, each by one entry.
+fn links_of(alloc: Global) -> Option<Vec<Link<Global>>> {
+    let store = store_of(alloc, LINKS)?;
+    let mut links = Vec::new(alloc);
+    for size in 1..=LINKS {
+        let root = tree_hash(alloc, Sha256Tree, size, &store).ok()?;
+        let proof = prove_tree(alloc, Sha256Tree, size, size - 1, &store).ok()?;
+        let proof = HashList::from_vec(proof);
+        links.push(Link { size, root, proof }).ok()?;
+    }
+    Some(links)
+}
+
+// The lines of these links for each origin, one link of every origin after another.
+fn lines_of(alloc: Global, links: &[Link<Global>]) -> Option<String> {
+    let mut lines = String::new(alloc);
+    for link in links {
+        for number in 0..ORIGINS {
+            let name = name_of(alloc, number).ok()?;
+            let line = write_chain_line(alloc, name.as_str(), link).ok()?;
+            lines.push_str(line.as_str()).ok()?;
+        }
+    }
+    Some(lines)
+}
+
+// A trust in nobody for each origin.
+fn trusts_of(alloc: Global) -> Option<Vec<Trust<Global>>> {
+    let mut trusts = Vec::new(alloc);
+    for number in 0..ORIGINS {
+        let verifiers: Vec<Box<dyn Verifier>> = Vec::new(alloc);
+        let cosigner: Box<dyn Signer> = Box::new(alloc, Silent).ok()?;
+        let origin = name_of(alloc, number).ok()?;
+        trusts
+            .push(Trust {
+                origin,
+                verifiers,
+                cosigner,
+            })
+            .ok()?;
+    }
+    Some(trusts)
+}
+
+/// Reads the saved links of many origins and opens a book with them.
+pub fn chains<R: Clock + Print>(rt: &R, alloc: Global) -> io::Result<bool> {
+    let (Some(links), Some(trusts)) = (links_of(alloc), trusts_of(alloc)) else {
+        return Ok(false);
+    };
+    let Some(lines) = lines_of(alloc, links.as_slice()) else {
+        return Ok(false);
+    };
+    let start = Instant::now(rt)?;
+    let Ok(saved) = read_chain(alloc, lines.as_bytes()) else {
+        return Ok(false);
+    };
+    let read = start.elapsed(rt)?;
+    let count = saved.len();
+    let start = Instant::now(rt)?;
+    let Ok(book) = Book::open(alloc, alloc, Sha256Tree, trusts, saved) else {
+        return Ok(false);
+    };
+    let opened = start.elapsed(rt)?;
+    let Some(last) = book.chain("1.log.example") else {
+        return Ok(false);
+    };
+    println!(rt;
+        "{count} origins of {} links each, {} bytes: read in {} ms, opened in {} ms",
+        last.len(),
+        lines.len(),
+        read.as_millis(),
+        opened.as_millis()
+    )?;
+    Ok(true)
+}
