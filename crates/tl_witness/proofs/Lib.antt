@@ -27,3 +27,4 @@ pub mod FindingLaws
 pub mod OneRequest
 pub mod CosignedLaws
 pub mod SoundLaws
+pub mod IndexLaws

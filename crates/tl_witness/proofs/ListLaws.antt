@@ -18,7 +18,7 @@ among_none (y ∷ xs) x none (inl same) = none 0 (ap (λ (z : _). Some z) same)
 among_none (y ∷ xs) x none (inr later) = among_none xs x (λ i. none (suc i)) later
 
 -- what is left, where this one stands first
-left_from : {A : Type 0} (xs : List A) (i : ℕ) (x : A) → i < length xs → x ≡ get_or xs i x → drop i xs ≡ x ∷ drop (i + 1) xs
+pub left_from : {A : Type 0} (xs : List A) (i : ℕ) (x : A) → i < length xs → x ≡ get_or xs i x → drop i xs ≡ x ∷ drop (i + 1) xs
 left_from xs i x lt is =
     let next : suc i ≡ i + 1 = omega arith in
     drop-cons xs i x lt ∙ ap (λ (n : ℕ). get_or xs i x ∷ drop n xs) next ∙ ap (λ (y : _). y ∷ drop (i + 1) xs) (sym is)
@@ -104,3 +104,8 @@ zip_more R [] [] x y each one = (one, tt)
 zip_more R [] (z ∷ ys) x y each one = absurd each
 zip_more R (w ∷ xs) [] x y each one = absurd each
 zip_more R (w ∷ xs) (z ∷ ys) x y each one = (each.0, zip_more R xs ys x y each.1 one)
+
+-- what has a next one isn't empty
+pub some_there : {A : Type 0} (done : List A) (x : A) (rest all : List A) → done ++ x ∷ rest ≡ all → 0 < length all
+some_there [] x rest all whole = omega (arith, ap length whole)
+some_there (d ∷ done) x rest all whole = omega (arith, ap length whole)

@@ -1,5 +1,5 @@
 -- Why a book is not opened, once a chain breaks or memory was refused.
-use Rattle.std.proofs.Common.{ℕ, List, All}
+use Rattle.std.proofs.Common.{ℕ, List, All, inr}
 use Rattle.tl_note.specs.Key.{IsKeyName}
 use Rattle.tl_witness.specs.declared.opening.BookFault.{BookFault}
 use Rattle.tl_witness.specs.declared.opening.BookFault.TheVariants.{TwiceNamed, NoTrust, BadName, BadChain, OutOfMemory}
@@ -12,4 +12,4 @@ chain_fault H trusts chains TwiceNamed once known named is = absurd is
 chain_fault H trusts chains (NoTrust place) once known named is = absurd is
 chain_fault H trusts chains (BadName place) once known named is = absurd is
 chain_fault H trusts chains (BadChain place link) once known named is = (once, known, named, is)
-chain_fault H trusts chains OutOfMemory once known named is = tt
+chain_fault H trusts chains OutOfMemory once known named is = inr is

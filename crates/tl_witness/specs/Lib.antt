@@ -16,6 +16,7 @@ pub mod Cosigned
 pub mod Shared
 pub mod Open
 pub mod Opening
+pub mod Index
 pub mod ChainFields
 pub mod ReadChain
 pub mod OneReading

@@ -1,6 +1,6 @@
 -- When a book can be opened with whom it trusts and the chains that were saved, and what it then keeps (C2SP
 -- tlog-witness, "Configuration" and "add-checkpoint"). H is the digest function.
-use Rattle.std.specs.Prelude.{◌≡◌, ℕ, ◌⊎◌, List, [], ◌∷◌, Some, slice_get, take, map, All, ⊤}
+use Rattle.std.specs.Prelude.{◌≡◌, ℕ, ◌⊎◌, List, [], ◌∷◌, Some, slice_get, take, map, All, length, ◌<◌}
 use Rattle.std.specs.List.{AllZip}
 use Rattle.tl_note.specs.Key.{Key, SigningKey, IsKeyName}
 use Rattle.tl_proof.specs.Collisions.{Step}
@@ -81,7 +81,8 @@ pub record IsFirstBroken (H : List ℕ → List ℕ) (chains : List SavedChain) 
   pub before : All (λ c. IsChain H c.1) (take place chains)
   pub breaks : IsFirstBreak H broken.1 link
 
--- why a book is not opened: the first of these that applies, or that memory was refused
+-- why a book is not opened: the first of these that applies, or that memory was refused where there is a trust or a
+-- chain
 abbrev pub RefusesBook : (List ℕ → List ℕ) → List Trusted → List SavedChain → BookFault → Type 0
 RefusesBook H trusts chains TwiceNamed = ¬ (AreNamedOnce trusts chains)
 RefusesBook H trusts chains (NoTrust place) = AreNamedOnce trusts chains × IsFirstNot (IsTrusted trusts) (chain_origins chains) place
@@ -89,7 +90,7 @@ RefusesBook H trusts chains (BadName place) =
     AreNamedOnce trusts chains × All (IsTrusted trusts) (chain_origins chains) × IsFirstNot IsKeyName (cosigner_names trusts) place
 RefusesBook H trusts chains (BadChain place link) =
     AreNamedOnce trusts chains × All (IsTrusted trusts) (chain_origins chains) × All IsKeyName (cosigner_names trusts) × IsFirstBroken H chains place link
-RefusesBook H trusts chains OutOfMemory = ⊤
+RefusesBook H trusts chains OutOfMemory = (0 < length trusts) ⊎ (0 < length chains)
 
 -- what is kept for a trust: its chain, or none
 pub record IsKept (chains : List SavedChain) (trust : Trusted) (one : Witnessed) : Type 0 where

@@ -1,14 +1,14 @@
 -- The steps of opening a book.
-use Rattle.std.specs.Prelude.{◌≡◌, ◌≢◌, ℕ, ◌⊎◌, List, [], ⊤}
+use Rattle.std.specs.Prelude.{◌≡◌, ◌≢◌, ℕ, ◌⊎◌, ◌<◌, List, [], length}
 use Rattle.tl_proof.specs.Collisions.{Step}
 use Rattle.tl_witness.specs.declared.opening.BookFault.{BookFault}
 use Rattle.tl_witness.specs.declared.opening.BookFault.TheVariants.{BadChain, OutOfMemory}
 use Rattle.tl_witness.specs.Open.{SavedChain, IsAmong, IsFirstBroken, chain_origins}
 
--- a chain breaks, or memory was refused
+-- a chain breaks, or memory was refused where there is one
 abbrev pub ChecksChains : (List ℕ → List ℕ) → List SavedChain → BookFault → Type 0
 ChecksChains H chains (BadChain place link) = IsFirstBroken H chains place link
-ChecksChains H chains OutOfMemory = ⊤
+ChecksChains H chains OutOfMemory = 0 < length chains
 ChecksChains H chains _ = ⊥
 
 -- the chain of this origin was taken, or one of no steps where there is none; the others stay

@@ -9,6 +9,7 @@ mod chain_reading;
 mod copy;
 mod cosign;
 mod finding;
+mod index;
 mod law;
 mod offer;
 mod opening;

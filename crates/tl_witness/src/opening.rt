@@ -1,21 +1,24 @@
 //! Opening a book with whom it trusts and the chains that were saved.
 
-ghost use Rattle.std.specs.Prelude.{◌≡◌, ◌↔◌, All, IfErr, IfOk, IsTrue, map, string_bytes};
+ghost use Rattle.std.specs.BTreeMap.{get_by_text};
+ghost use Rattle.std.specs.Prelude.{◌≡◌, ◌<◌, ◌⊎◌, All, IfErr, IfOk, MatchOption, OnErr, length, map, string_bytes};
 ghost use Rattle.std.specs.List.{AllZip};
 ghost use Rattle.tl_note.specs.Key.{IsKeyName};
 ghost use Rattle.tl_proof.specs.Collisions.{step_of};
 ghost use Rattle.tl_witness.specs.Chain.{IsChain};
+ghost use Rattle.tl_witness.specs.Index.{Indexes};
 ghost use Rattle.tl_witness.specs.Open.{HasEachKeyOnce, HasTwice, IsKept, OpensBook, RefusesBook, cosigner_names, saved_chain, trusted_origins};
 ghost use Rattle.tl_witness.specs.Opening.{ChecksChains, TakesChain};
 
 use crate::book::{Book, Entry, Shown, ShownEntry};
 use crate::chain::Chain;
 use crate::cosign::name_of;
+use crate::index::Index;
 use crate::origin::Origin;
-use crate::place::{OfOrigin, first_unknown, is_twice, place_of};
+use crate::place::OfOrigin;
 use crate::tools::Tools;
 use crate::trust::{HasKeys, ShownTrust, Trust, are_keys_once, first_bad_name};
-use std::alloc::{AllocError, AllocFailed, Allocator, Global};
+use std::alloc::{AllocError, Allocator, Global};
 use std::mem;
 use thiserror::Error;
 use tl_hash::TreeHash;
@@ -41,19 +44,9 @@ pub enum BookFault {
         /// The place of the link in it.
         link: usize,
     },
-    /// A growth was refused.
+    /// A growth was refused. It never comes where there is no trust and no chain.
     #[error("out of memory")]
     OutOfMemory,
-}
-
-impl<X: Drop> From<AllocFailed<X>> for BookFault {
-    ghost use Rattle.tl_witness.specs.declared.opening.BookFault.TheVariants.{OutOfMemory};
-
-    ghost from_gives = { λ _ fault. fault ≡ OutOfMemory };
-
-    fn from(_fault: AllocFailed<X>) -> BookFault {
-        BookFault::OutOfMemory
-    }
 }
 
 impl<A: Allocator> OfOrigin for (String<A>, Vec<Link<A>, A>) {
@@ -108,21 +101,26 @@ fn check_chains<T: TreeHash, A: Allocator + Copy>(
                 });
             }
         };
-        checked.push(Checked { origin, chain })?;
+        match checked.push(Checked { origin, chain }) {
+            Ok(()) => {}
+            Err(_) => return Err(BookFault::OutOfMemory),
+        }
     }
     Ok(checked)
 }
 
-// Takes the chain of an origin, or one of no links where there is none.
+// Takes the chain of an origin, or one of no links where there is none. The places are those of the chains.
 fn take_chain<T: TreeHash, A: Allocator + Copy>(
     alloc: A,
     tree: T,
     chains: &mut Vec<Checked<T, A>, A>,
+    places: &Index<A>,
     origin: &str,
 ) -> Chain<T, A>
+    requires { Indexes (get_by_text places.now.places) (map (λ c. string_bytes c.origin) chains.old.items) }
     ensures { TakesChain origin.now (map (λ c. saved_chain (string_bytes c.origin) c.chain) chains.old.items) (map (λ c. saved_chain (string_bytes c.origin) c.chain) chains.new.items) result }
 {
-    match place_of(chains.as_slice(), origin) {
+    match places.find(origin) {
         Some(place) => {
             let checked = &mut chains[place];
             mem::replace(&mut checked.chain, Chain::new(alloc, tree))
@@ -137,16 +135,19 @@ fn enter<T: TreeHash, A: Allocator + Copy>(
     tree: T,
     trusts: Vec<Trust<A>, A>,
     chains: Vec<Checked<T, A>, A>,
+    places: &Index<A>,
 ) -> Result<Vec<Entry<T, A>, A>, AllocError>
+    requires places { Indexes (get_by_text places.now.places) (map (λ c. string_bytes c.origin) chains.items) }
     requires once { ¬ (HasTwice (trusted_origins (map (λ t. ⟦<Trust<A> as ShownTrust>⟧.trusted t) trusts.items))) }
     requires named { All IsKeyName (cosigner_names (map (λ t. ⟦<Trust<A> as ShownTrust>⟧.trusted t) trusts.items)) }
-    ensures { IfOk result (λ entries. AllZip (IsKept (map (λ c. saved_chain (string_bytes c.origin) c.chain) chains.items))
+    ensures kept { IfOk result (λ entries. AllZip (IsKept (map (λ c. saved_chain (string_bytes c.origin) c.chain) chains.items))
         (map (λ t. ⟦<Trust<A> as ShownTrust>⟧.trusted t) trusts.items) (map (λ e. ⟦<Entry<T, A> as ShownEntry>⟧.shown_entry e) entries.items)) }
+    ensures memory { OnErr result (0 < length trusts.items) }
 {
     let mut left = chains;
     let mut entries = Vec::new(alloc);
     for trust in trusts {
-        let chain = take_chain(alloc, tree, &mut left, trust.origin.as_str());
+        let chain = take_chain(alloc, tree, &mut left, places, trust.origin.as_str());
         let Trust {
             origin,
             verifiers,
@@ -164,11 +165,40 @@ fn enter<T: TreeHash, A: Allocator + Copy>(
     Ok(entries)
 }
 
-// Whether no origin is in two trusts or two chains, and no trust has two verifiers of one name and identifier.
-fn are_named_once<N: OfOrigin + HasKeys, M: OfOrigin>(trusts: &[N], chains: &[M]) -> bool
-    ensures { IsTrue result ↔ (¬ (HasTwice (map N.origin_of trusts.now)) × ¬ (HasTwice (map M.origin_of chains.now)) × All HasEachKeyOnce (map N.keys trusts.now)) }
+// The places of the trusts and of the chains.
+#[derive(Drop)]
+struct Places<A: Allocator> {
+    trusts: Index<A>,
+    chains: Index<A>,
+}
+
+// The places of the trusts and of the chains, or None where an origin is in two trusts or two chains, or a trust
+// has two verifiers of one name and identifier.
+fn places_of<N: OfOrigin + HasKeys, M: OfOrigin, A: Allocator + Copy>(
+    alloc: A,
+    trusts: &[N],
+    chains: &[M],
+) -> Result<Option<Places<A>>, AllocError>
+    ensures ok { IfOk result (λ found. MatchOption found
+        (¬ (¬ (HasTwice (map N.origin_of trusts.now)) × ¬ (HasTwice (map M.origin_of chains.now)) × All HasEachKeyOnce (map N.keys trusts.now)))
+        (λ places. (¬ (HasTwice (map N.origin_of trusts.now)) × ¬ (HasTwice (map M.origin_of chains.now)) × All HasEachKeyOnce (map N.keys trusts.now))
+        × Indexes (get_by_text places.trusts.places) (map N.origin_of trusts.now) × Indexes (get_by_text places.chains.places) (map M.origin_of chains.now))) }
+    ensures err { OnErr result ((0 < length trusts.now) ⊎ (0 < length chains.now)) }
 {
-    !is_twice(trusts) && !is_twice(chains) && are_keys_once(trusts)
+    if !are_keys_once(trusts) {
+        return Ok(None);
+    }
+    let trusts = match Index::of(alloc, trusts) {
+        Ok(Some(index)) => index,
+        Ok(None) => return Ok(None),
+        Err(fault) => return Err(fault),
+    };
+    let chains = match Index::of(alloc, chains) {
+        Ok(Some(index)) => index,
+        Ok(None) => return Ok(None),
+        Err(fault) => return Err(fault),
+    };
+    Ok(Some(Places { trusts, chains }))
 }
 
 impl<T: TreeHash, A: Allocator + Copy> Book<T, A> {
@@ -189,10 +219,12 @@ impl<T: TreeHash, A: Allocator + Copy> Book<T, A> {
         ensures err { IfErr result (RefusesBook T.digest_of (map (λ t. ⟦<Trust<A> as ShownTrust>⟧.trusted t) trusts.items)
             (map (λ c. saved_chain (string_bytes c.0) (map step_of c.1.items)) chains.items)) }
     {
-        if !are_named_once(trusts.as_slice(), chains.as_slice()) {
-            return Err(BookFault::TwiceNamed);
-        }
-        if let Some(chain) = first_unknown(trusts.as_slice(), chains.as_slice()) {
+        let places = match places_of(alloc, trusts.as_slice(), chains.as_slice()) {
+            Ok(Some(places)) => places,
+            Ok(None) => return Err(BookFault::TwiceNamed),
+            Err(_) => return Err(BookFault::OutOfMemory),
+        };
+        if let Some(chain) = places.trusts.first_unknown(chains.as_slice()) {
             return Err(BookFault::NoTrust(chain));
         }
         if let Some(trust) = first_bad_name(trusts.as_slice()) {
@@ -202,8 +234,9 @@ impl<T: TreeHash, A: Allocator + Copy> Book<T, A> {
             Ok(checked) => checked,
             Err(fault) => return Err(fault),
         };
-        let Ok(entries) = enter(alloc, tree, trusts, checked) else {
-            return Err(BookFault::OutOfMemory);
+        let entries = match enter(alloc, tree, trusts, checked, &places.chains) {
+            Ok(entries) => entries,
+            Err(_) => return Err(BookFault::OutOfMemory),
         };
         Ok(Book {
             tools: Tools {

@@ -5,6 +5,7 @@ use Rattle.tl_proof.specs.Collisions.{Step, step_of}
 use Rattle.tl_witness.specs.Chain.{IsChain}
 use Rattle.tl_witness.specs.Open.{SavedChain, saved_chain}
 use Rattle.tl_witness.proofs.Moved.{moved, moved_all, moved_each}
+use Rattle.tl_witness.proofs.ListLaws.{some_there}
 use Rattle.tl_witness.proofs.OpeningLaws.{breaks_at}
 use Rattle.tl_witness.proofs.opening.check_chains.Goals as goal
 
@@ -15,6 +16,11 @@ returns-in-Err-clause-err g c =
     let place : c.len.result ≡ length done = omega (arith, c.len.ensures, c.loop-origin.checked.ok.0) in
     let whole = rw c.in-Some.ensures.steps.0 at c.loop-origin.invariant.2 in
     breaks_at g.T.TreeHash.digest_of done (saved_chain (string_bytes c.in-Some.origin) (map step_of c.in-Some.links.items)) _ _ c.len.result c.in-Err.link place whole c.loop-origin.invariant.3 c.in-Err.ensures.err
+
+pub returns-in-Err-push-clause-err : goal.returns-in-Err-push-clause-err
+returns-in-Err-push-clause-err g c =
+    let whole = rw c.in-Some.ensures.steps.0 at c.loop-origin.invariant.2 in
+    some_there _ _ _ _ whole
 
 pub loop-origin-init : goal.loop-origin-init
 loop-origin-init g c =
@@ -28,8 +34,8 @@ loop-origin-preserved g c =
     let shown = ap (λ (s : List Step). saved_chain (string_bytes c.in-Some.origin) s) c.in-Ok.ensures.ok.0 in (
       tt,
       tt,
-      rw c.in_ok-push.ensures.items (moved _ (λ x. saved_chain (string_bytes x.origin) x.chain) c.loop-origin.checked.items _ (c.in-Some.origin, c.in-Some.links) _ c.next.new.self.rest.items _ shown c.in-Some.ensures.steps.0 c.loop-origin.invariant.2),
-      rw c.in_ok-push.ensures.items (moved_each (λ (d : SavedChain). IsChain g.T.TreeHash.digest_of d.1) (λ x. saved_chain (string_bytes x.origin) x.chain) c.loop-origin.checked.items _ c.loop-origin.invariant.3
+      rw c.in-Ok-push.ensures.items (moved _ (λ x. saved_chain (string_bytes x.origin) x.chain) c.loop-origin.checked.items _ (c.in-Some.origin, c.in-Some.links) _ c.next.new.self.rest.items _ shown c.in-Some.ensures.steps.0 c.loop-origin.invariant.2),
+      rw c.in-Ok-push.ensures.items (moved_each (λ (d : SavedChain). IsChain g.T.TreeHash.digest_of d.1) (λ x. saved_chain (string_bytes x.origin) x.chain) c.loop-origin.checked.items _ c.loop-origin.invariant.3
           (subst (IsChain g.T.TreeHash.digest_of) (sym c.in-Ok.ensures.ok.0) c.in-Ok.ensures.ok.1)),
       omega (arith, c.in-Some.ensures.steps.1, c.loop-origin.invariant.4),
     )

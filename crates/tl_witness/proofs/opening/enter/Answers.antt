@@ -1,5 +1,7 @@
-use Rattle.std.proofs.Common.{length, refl, ap, arith}
-use Rattle.tl_witness.proofs.Moved.{moved, moved_all}
+use Rattle.std.proofs.Common.{length, refl, ap, sym, subst, ◌∙◌, string_bytes, arith}
+use Rattle.std.specs.BTreeMap.{get_by_text}
+use Rattle.tl_witness.specs.Index.{Indexes}
+use Rattle.tl_witness.proofs.Moved.{moved, moved_all, shown_twice}
 use Rattle.tl_witness.proofs.OpeningLaws.{entered_none, entered_push, enters, named_next, not_before}
 use Rattle.tl_witness.proofs.CosignLaws.{same_key}
 use Rattle.tl_witness.proofs.opening.enter.Goals as goal
@@ -9,6 +11,12 @@ loop-trust-init g c =
     let same = c.into_iter-trust-iterator.ensures.into_iter_gives in
     let all = ap length same.0 in
     (tt, tt, rw same.0 refl, rw c.new-entries.ensures.items (entered_none _), omega (arith, c.args.trusts.ok.0))
+
+pub take_chain-chain-requires : goal.take_chain-chain-requires
+take_chain-chain-requires g c =
+    let same = sym (shown_twice _ (λ d. d.0) (λ d. string_bytes d.origin) c.loop-trust.left.items (λ d. refl)) in
+    let saved = shown_twice _ (λ d. d.0) (λ d. string_bytes d.origin) c.args.chains.items (λ d. refl) in
+    subst (Indexes (get_by_text c.args.places.now.places)) (saved ∙ sym c.loop-trust.invariant.3.same_origins ∙ same) c.requires.places
 
 pub name_of-requires : goal.name_of-requires
 name_of-requires g c =
@@ -28,7 +36,7 @@ loop-trust-preserved g c =
       omega (arith, c.in-Some.ensures.steps.1, c.loop-trust.invariant.4),
     )
 
-pub returns : goal.returns
-returns g c =
+pub returns-clause-kept : goal.returns-clause-kept
+returns-clause-kept g c =
     let whole = moved_all _ _ c.loop-trust.yielded c.loop-trust.trust-iterator.rest.items _ (omega (arith, c.in-None.ensures.steps.0, c.loop-trust.invariant.4)) c.loop-trust.invariant.2 in
     enters _ _ _ _ _ c.loop-trust.invariant.3 whole
