@@ -1,11 +1,11 @@
 //! The places of origins in a list, found in time that grows with the logarithm of its length.
 
 ghost use Rattle.std.specs.BTreeMap.{get_by_text};
-ghost use Rattle.std.specs.Prelude.{◌≡◌, ◌≢◌, ◌<◌, All, IfOk, MatchOption, None, OnErr, length, map};
+ghost use Rattle.std.specs.Prelude.{◌≡◌, ◌≢◌, ◌<◌, ℕ, All, IfNone, IfOk, IfSome, MatchOption, None, OnErr, Some, length, map, slice_get};
 ghost use Rattle.tl_witness.specs.Index.{Indexes};
 ghost use Rattle.tl_witness.specs.Open.{HasTwice, IsFirstNot};
 
-use crate::place::OfOrigin;
+use crate::place::{OfOrigin, place_of};
 use std::alloc::{AllocError, Allocator};
 use std::collections::BTreeMap;
 
@@ -53,4 +53,23 @@ impl<A: Allocator + Copy> Index<A> {
         }
         None
     }
+}
+
+/// A place of what has this origin. The index is tried first, and what it tells is looked at. Where it tells of none, the whole
+/// list is looked through, so the answer is right for any index.
+pub(crate) fn place_by<N: OfOrigin, A: Allocator + Copy>(
+    places: &Index<A>,
+    list: &[N],
+    origin: &str,
+) -> Option<usize>
+    ensures room { IfSome result (λ i. i < length list.now) }
+    ensures found { IfSome result (λ i. slice_get (map N.origin_of list.now) i ≡ Some origin.now) }
+    ensures none { IfNone result ((i : ℕ) → slice_get (map N.origin_of list.now) i ≢ Some origin.now) }
+{
+    if let Some(place) = places.find(origin) {
+        if place < list.len() && list[place].is_of(origin) {
+            return Some(place);
+        }
+    }
+    place_of(list, origin)
 }

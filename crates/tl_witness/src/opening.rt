@@ -245,6 +245,7 @@ impl<T: TreeHash, A: Allocator + Copy> Book<T, A> {
                 global,
             },
             entries,
+            places: places.trusts,
         })
     }
 }
