@@ -17,6 +17,7 @@ pub mod FieldLaws
 pub mod HashFields
 pub mod LineWords
 pub mod NewlineLaws
+pub mod IndexLaws
 pub mod PutLaws
 pub mod Grouping
 pub mod LineText

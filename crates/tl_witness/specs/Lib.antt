@@ -13,5 +13,6 @@ pub mod Shared
 pub mod Open
 pub mod Opening
 pub mod ChainFields
+pub mod ByOrigin
 pub mod ReadChain
 pub mod OneReading
