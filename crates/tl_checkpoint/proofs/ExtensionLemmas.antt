@@ -1,16 +1,14 @@
 -- Reading lines that aren't empty, one after the other.
-use Rattle.std.proofs.Common.{◌≡◌, ℕ, ◌<◌, List, [], ◌∷◌, ◌++◌, length, sym, ap, ◌∙◌, append_assoc, append-nil, arith, All}
-use Rattle.std.specs.Prelude.{IsUtf8, Err}
+use Rattle.std.proofs.Common.{◌≡◌, ℕ, ◌<◌, List, [], ◌∷◌, ◌++◌, length, refl, sym, ap, subst, ◌∙◌, append_assoc, append-nil, arith, All}
+use Rattle.std.specs.Prelude.{IsUtf8}
 use Rattle.std.specs.List.{flat_map}
-use Rattle.std.proofs.lemmas.List.Elements.{All-head, All-tail, All-push, All-cons}
+use Rattle.std.proofs.lemmas.List.Elements.{All-nil, All-head, All-tail, All-push, All-cons}
 use Rattle.std.proofs.lemmas.List.Concat.{flat_map-cons, flat_map-append}
 use Rattle.tl_note.specs.Text.{line, number_text, base64_text, HasNoControl}
 use Rattle.tl_note.proofs.Lines.{one_line, line_not_empty}
 use Rattle.tl_checkpoint.specs.Checkpoint.{IsOneLine, checkpoint_text}
 use Rattle.tl_checkpoint.specs.Pieces.{IsNoLine}
-use Rattle.tl_checkpoint.specs.ParseCheckpoint.{IsInLines, ReadsExtensions, CutsLines}
-use Rattle.tl_checkpoint.specs.declared.checkpoint.CheckpointFault.{CheckpointFault}
-use Rattle.tl_checkpoint.specs.declared.checkpoint.CheckpointFault.TheVariants.{Lines, Origin, Size, Root, OutOfMemory}
+use Rattle.tl_checkpoint.specs.ParseCheckpoint.{IsInLines, AreExtensions, AreSome}
 
 -- what was read, and what is left to read
 pub record HasRead (text : List ℕ) (done : List (List ℕ)) (left : List ℕ) : Type 0 where
@@ -67,6 +65,44 @@ reads_more text left words rest done read one first utf8 = record {
       ∙ append_assoc (flat_map line done) (line words) rest ∙ ap (λ (t : List ℕ). flat_map line done ++ t) (sym first) ∙ read.whole;
 }
 
+-- what was read of a text whose lines are not kept
+pub record HasSeen (text left : List ℕ) : Type 0 where
+  pub done : List (List ℕ)
+  pub read : HasRead text done left
+
+pub sees_none : (text : List ℕ) → IsUtf8 text → HasSeen text text
+sees_none text utf8 = record { done = []; read = record { utf8 = utf8; each = All-nil IsOneLine; whole = refl } }
+
+pub sees_more : (text left words rest : List ℕ) → HasSeen text left → IsOneLine words → left ≡ line words ++ rest → IsUtf8 rest → HasSeen text rest
+sees_more text left words rest seen one first utf8 = record { done = seen.done ++ words ∷ []; read = reads_more text left words rest seen.done seen.read one first utf8 }
+
+-- nothing is left
+pub reads_all : (text left : List ℕ) (done : List (List ℕ)) → HasRead text done left → length left ≡ 0 → AreExtensions text done
+reads_all text [] done read none = record { each = read.each; joined = sym read.whole ∙ append-nil (flat_map line done) }
+reads_all text (x ∷ left) done read none = absurd (omega arith)
+
+-- in a text of lines that aren't empty, the next one isn't
+next_line : (left words rest : List ℕ) (more : List (List ℕ)) → HasNoControl words → left ≡ line words ++ rest → All IsOneLine more → left ≡ flat_map line more → IsOneLine words
+next_line left words rest [] plain first each e = absurd (line_not_empty words rest (sym first ∙ e))
+next_line left words rest (m ∷ more) plain first each e =
+    let one = All-head IsOneLine m more each in
+    subst IsOneLine (one_line m words (flat_map line more) rest one.plain plain (sym (flat_map-cons line m more) ∙ sym e ∙ first)).0 one
+
+pub next_one : (text left words rest : List ℕ) (done : List (List ℕ)) → HasRead text done left → AreSome text → HasNoControl words → left ≡ line words ++ rest → IsOneLine words
+next_one text left words rest done read all plain first =
+    let c = continue text left done all.0 read all.1.each all.1.joined in
+    next_line left words rest c.more plain first c.each c.rest
+
+-- and nothing is left where no line is
+none_left : (left : List ℕ) (more : List (List ℕ)) → IsNoLine left → All IsOneLine more → left ≡ flat_map line more → length left ≡ 0
+none_left left [] none each e = ap (λ (t : List ℕ). length t) e
+none_left left (m ∷ more) none each e = absurd (none m (flat_map line more) (All-head IsOneLine m more each).plain (e ∙ flat_map-cons line m more))
+
+pub reads_whole : (text left : List ℕ) (done : List (List ℕ)) → HasRead text done left → AreSome text → IsNoLine left → AreExtensions text done
+reads_whole text left done read all none =
+    let c = continue text left done all.0 read all.1.each all.1.joined in
+    reads_all text left done read (none_left left c.more none c.each c.rest)
+
 -- ---- a text in three lines and more
 
 -- what follows the first of some lines
@@ -121,15 +157,6 @@ in_lines text o s r rest last left lines plain plain_s plain_r e f g each h = re
   enough = omega arith;
   extensions = each;
 }
-
--- a fault of the extensions is one of the whole text
-pub extension_fault : (A B : Type 0) (text o s r rest last left : List ℕ) (fault : CheckpointFault) → HasNoControl o → HasNoControl s → HasNoControl r
-    → text ≡ line o ++ rest → rest ≡ line s ++ last → last ≡ line r ++ left → ReadsExtensions {A = A} left (Err fault) → CutsLines {A = B} text (Err fault)
-extension_fault A B text o s r rest last left Lines p q t e f g given = none_extensions text o s r rest last left p q t e f g given
-extension_fault A B text o s r rest last left Origin p q t e f g given = given
-extension_fault A B text o s r rest last left Size p q t e f g given = given
-extension_fault A B text o s r rest last left Root p q t e f g given = given
-extension_fault A B text o s r rest last left OutOfMemory p q t e f g given = given
 
 -- the text of a checkpoint, line by line
 pub text_of_lines : (text o s r : List ℕ) (extensions : List (List ℕ)) (size : ℕ) (root : List ℕ) → IsInLines text (o ∷ s ∷ r ∷ extensions) → s ≡ number_text size → r ≡ base64_text root

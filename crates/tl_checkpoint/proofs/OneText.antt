@@ -7,7 +7,7 @@ use Rattle.tl_note.proofs.Lines.{one_line, lines_once}
 use Rattle.tl_note.proofs.PlainText.{number_plain, base64_plain, base64_once}
 use Rattle.tl_checkpoint.specs.Checkpoint.{Head, IsHead, IsOneLine, checkpoint_text}
 
-plain_lines : (texts : List (List ℕ)) → All IsOneLine texts → All HasNoControl texts
+pub plain_lines : (texts : List (List ℕ)) → All IsOneLine texts → All HasNoControl texts
 plain_lines texts each = λ k d lt. (each k d lt).plain
 
 regroup : (c : Head) → checkpoint_text c ≡ line c.origin ++ (line (number_text c.size) ++ (line (base64_text c.root) ++ flat_map line c.extensions))

@@ -11,7 +11,8 @@ use Rattle.tl_note.specs.declared.fault.NoteFault.TheVariants.{Malformed, BadNam
 abbrev pub cosigned_message : ℕ → List ℕ → List ℕ
 cosigned_message time text = line (codes "cosignature/v1") ++ line (codes "time " ++ number_text time) ++ text
 
--- the bytes of the signature after the key's identifier: the time, eight bytes, big-endian, and the signature of the message
+-- the bytes of the signature after the key's identifier: the time, eight bytes, big-endian, and the signature of the
+-- message
 abbrev pub cosignature : ℕ → List ℕ → List ℕ
 cosignature time signature = to_be_bytes w64 time ++ signature
 
@@ -46,7 +47,12 @@ CosignsLine text time key (Err (Ambiguous place)) = ⊥
 CosignsLine text time key (Err (InvalidSignature place)) = ⊥
 CosignsLine text time key (Err Unverified) = ⊥
 CosignsLine text time key (Err (Sign place)) = (place ≡ 0) × IsKeyName key.name × MayFailToCosign text time key
-CosignsLine text time key (Err OutOfMemory) = ⊤
+CosignsLine text time key (Err OutOfMemory) = IsKeyName key.name
+
+-- the line has this key's name and identifier
+pub record IsOfKey (key : Key) (line : Signature) : Type 0 where
+  pub name : line.name ≡ key.name
+  pub id : line.id ≡ key.id
 
 -- the line is this key's cosignature of the text at this time
 pub record IsCosignature (text : List ℕ) (key : Key) (line : Signature) (time : ℕ) : Type 0 where

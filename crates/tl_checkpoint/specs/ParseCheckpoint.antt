@@ -1,13 +1,12 @@
 -- What reading a checkpoint answers.
-use Rattle.std.specs.Prelude.{◌≡◌, ◌≢◌, ℕ, ◌≤◌, List, [], ◌∷◌, length, drop, All, map, string_bytes, vec_items, String, Result, Ok, Err, ⊤}
-use Rattle.std.specs.declared.vec.Vec.{Vec}
+use Rattle.std.specs.Prelude.{◌≡◌, ◌≢◌, ℕ, ◌≤◌, List, [], ◌∷◌, length, drop, All, Result, Ok, Err}
 use Rattle.std.specs.List.{flat_map}
 use Rattle.tl_note.specs.Text.{line, HasNoControl}
 use Rattle.tl_checkpoint.specs.declared.checkpoint.Checkpoint.{Checkpoint}
 use Rattle.tl_checkpoint.specs.declared.checkpoint.CheckpointFault.{CheckpointFault}
 use Rattle.tl_checkpoint.specs.declared.checkpoint.CheckpointFault.TheVariants.{Lines, Origin, Size, Root, OutOfMemory}
 use Rattle.tl_checkpoint.specs.declared.parsing.Parts.{Parts}
-use Rattle.tl_checkpoint.specs.Checkpoint.{head_of, IsHead, IsOneLine, checkpoint_text}
+use Rattle.tl_checkpoint.specs.Checkpoint.{Head, head_of, IsHead, IsOneLine, checkpoint_text}
 use Rattle.tl_checkpoint.specs.Pieces.{IsNoSize, IsNoHash}
 
 -- the text is lines without control characters, three at least; those after the third aren't empty
@@ -17,30 +16,38 @@ pub record IsInLines (text : List ℕ) (lines : List (List ℕ)) : Type 0 where
   pub enough : 3 ≤ length lines
   pub extensions : All IsOneLine (drop 3 lines)
 
+-- the text is in no lines
+abbrev pub IsInNoLines : List ℕ → Type 0
+IsInNoLines text = (lines : List (List ℕ)) → IsInLines text lines → ⊥
+
 -- the text's first lines are these
 pub record HasLines (text origin size root : List ℕ) : Type 0 where
   pub extensions : List (List ℕ)
   pub lines : IsInLines text (origin ∷ size ∷ root ∷ extensions)
 
+-- the text is a checkpoint's
+abbrev pub IsCheckpointText : List ℕ → Type 0
+IsCheckpointText text = (c : Head) × IsHead c × (text ≡ checkpoint_text c)
+
 -- the checkpoint that has this text, or the first part that is wrong
 abbrev pub ParsesCheckpoint : {A : Type 0} → List ℕ → Result (Checkpoint A) CheckpointFault → Type 0
 ParsesCheckpoint text (Ok c) = IsHead (head_of c) × (text ≡ checkpoint_text (head_of c))
-ParsesCheckpoint text (Err Lines) = (lines : List (List ℕ)) → IsInLines text lines → ⊥
+ParsesCheckpoint text (Err Lines) = IsInNoLines text
 ParsesCheckpoint text (Err Origin) = (size : List ℕ) × (root : List ℕ) × HasLines text [] size root
 ParsesCheckpoint text (Err Size) = (origin : List ℕ) × (size : List ℕ) × (root : List ℕ) × HasLines text origin size root × (origin ≢ []) × IsNoSize size
 ParsesCheckpoint text (Err Root) = (origin : List ℕ) × (size : List ℕ) × (root : List ℕ) × HasLines text origin size root × (origin ≢ []) × (IsNoSize size → ⊥) × IsNoHash root
-ParsesCheckpoint text (Err OutOfMemory) = ⊤
+ParsesCheckpoint text (Err OutOfMemory) = IsCheckpointText text
 
--- reading a text of any number of lines, none of them empty
-abbrev pub ReadsExtensions : {A : Type 0} → List ℕ → Result (Vec (String A) A) CheckpointFault → Type 0
-ReadsExtensions text (Ok lines) = All IsOneLine (map string_bytes (vec_items lines)) × (text ≡ flat_map line (map string_bytes (vec_items lines)))
-ReadsExtensions text (Err Lines) = (lines : List (List ℕ)) → All IsOneLine lines → text ≢ flat_map line lines
-ReadsExtensions text (Err OutOfMemory) = ⊤
-ReadsExtensions text (Err fault) = ⊥
+-- the text is these lines, none of them empty
+pub record AreExtensions (text : List ℕ) (lines : List (List ℕ)) : Type 0 where
+  pub each : All IsOneLine lines
+  pub joined : text ≡ flat_map line lines
 
--- cutting a text into its lines
-abbrev pub CutsLines : {A : Type 0} → List ℕ → Result (Parts A) CheckpointFault → Type 0
-CutsLines text (Ok parts) = IsInLines text (parts.origin.now ∷ parts.size.now ∷ parts.root.now ∷ map string_bytes (vec_items parts.extensions))
-CutsLines text (Err Lines) = (lines : List (List ℕ)) → IsInLines text lines → ⊥
-CutsLines text (Err OutOfMemory) = ⊤
-CutsLines text (Err fault) = ⊥
+-- the text is any number of lines, none of them empty
+abbrev pub AreSome : List ℕ → Type 0
+AreSome text = (lines : List (List ℕ)) × AreExtensions text lines
+
+-- the text is cut into three lines and the extensions' text
+pub record CutsLines (text : List ℕ) (parts : Parts) : Type 0 where
+  pub extensions : AreSome parts.extensions.now
+  pub lines : IsInLines text (parts.origin.now ∷ parts.size.now ∷ parts.root.now ∷ extensions.0)

@@ -1,5 +1,5 @@
 -- What writing a checkpoint answers.
-use Rattle.std.specs.Prelude.{◌≡◌, All, Result, Ok, Err, ⊤, String, string_bytes}
+use Rattle.std.specs.Prelude.{◌≡◌, All, Result, Ok, Err, String, string_bytes}
 use Rattle.tl_note.specs.Text.{IsSize}
 use Rattle.tl_checkpoint.specs.declared.checkpoint.CheckpointFault.{CheckpointFault}
 use Rattle.tl_checkpoint.specs.declared.checkpoint.CheckpointFault.TheVariants.{Lines, Origin, Size, Root, OutOfMemory}
@@ -12,4 +12,4 @@ WritesCheckpoint c (Err Lines) = ¬ (All IsOneLine c.extensions)
 WritesCheckpoint c (Err Origin) = All IsOneLine c.extensions × ¬ (IsOneLine c.origin)
 WritesCheckpoint c (Err Size) = All IsOneLine c.extensions × IsOneLine c.origin × ¬ (IsSize c.size)
 WritesCheckpoint c (Err Root) = ⊥
-WritesCheckpoint c (Err OutOfMemory) = ⊤
+WritesCheckpoint c (Err OutOfMemory) = IsHead c

@@ -1,16 +1,16 @@
 //! Cosignatures of checkpoints by witnesses (C2SP tlog-cosignature, version 1).
 
-ghost use Rattle.std.specs.Prelude.{◌≡◌, ◌↔◌, ◌<◌, ◌^◌, length, string_bytes, IfOk, IfErr, IsTrue, MatchOption};
+ghost use Rattle.std.specs.Prelude.{◌≡◌, ◌↔◌, ◌<◌, ◌^◌, length, string_bytes, IfOk, IfErr, OnErr, IsTrue, MatchOption};
 ghost use Rattle.tl_note.specs.Key.{Key, SigningKey};
-ghost use Rattle.tl_checkpoint.specs.Cosignature.{ChecksCosignature, CosignsLine, FailsToSign, IsNoCosignature, cosigned_message, cosignature};
+ghost use Rattle.tl_checkpoint.specs.Cosignature.{ChecksCosignature, CosignsLine, FailsToSign, IsNoCosignature, IsOfKey, cosigned_message, cosignature};
 
 use crate::writing::push_line;
 use itoa::Buffer;
 use std::alloc::{AllocError, Allocator, Global};
 use tl_note::{NoteFault, SigView, SignFault, Signer, Verifier, is_key_name, write_signature_line};
 
-/// The message that a witness signs for the text of a checkpoint: the version, the time in seconds since the Unix epoch, and the
-/// text. It fails only where a growth was refused.
+/// The message that a witness signs for the text of a checkpoint: the version, the time in seconds since the Unix
+/// epoch, and the text. It fails only where a growth was refused.
 pub fn cosign_message<A: Allocator>(
     alloc: A,
     time: u64,
@@ -56,8 +56,9 @@ fn cosignature_bytes<A: Allocator>(
     Ok(bytes)
 }
 
-/// The line by which a witness cosigns the text of a checkpoint at this time. `global` is what the signer takes memory from.
-/// `BadName(0)` tells that the signer's name is no key's name, then `Sign(0)` that it refused the message or gave no bytes.
+/// The line by which a witness cosigns the text of a checkpoint at this time. `global` is what the signer takes memory
+/// from. `BadName(0)` tells that the signer's name is no key's name, then `Sign(0)` that it refused the message or
+/// gave no bytes.
 pub fn cosign_line<A: Allocator + Copy>(
     alloc: A,
     global: Global,
@@ -82,7 +83,7 @@ pub fn cosign_line<A: Allocator + Copy>(
 
 // Whether the line is of the verifier's key.
 fn is_of(line: &SigView<'_>, verifier: &dyn Verifier) -> bool
-    ensures { IsTrue result ↔ ((line.now.name ≡ (key verifier.now).name) × (line.now.id ≡ (key verifier.now).id)) }
+    ensures { IsTrue result ↔ IsOfKey (key verifier.now) line.now }
 {
     line.name() == verifier.name() && line.key_id() == verifier.key_id()
 }
@@ -98,15 +99,17 @@ fn read_cosignature(bytes: &[u8]) -> Option<(u64, &[u8])>
     Some((time, signature))
 }
 
-/// The time of a cosignature: where the line has the verifier's name and identifier, and its signature is valid for the message of
-/// this text at that time. It fails only where a growth was refused.
+/// The time of a cosignature: where the line has the verifier's name and identifier, and its signature is valid for
+/// the message of this text at that time. It fails only where a growth was refused, and of a line with that name and
+/// identifier only.
 pub fn check_cosignature<A: Allocator + Copy>(
     alloc: A,
     text: &str,
     line: &SigView<'_>,
     verifier: &dyn Verifier,
 ) -> Result<Option<u64>, AllocError>
-    ensures { IfOk result (ChecksCosignature text.now (key verifier.now) line.now) }
+    ensures checked { IfOk result (ChecksCosignature text.now (key verifier.now) line.now) }
+    ensures memory { OnErr result (IsOfKey (key verifier.now) line.now) }
 {
     if !is_of(line, verifier) {
         return Ok(None);

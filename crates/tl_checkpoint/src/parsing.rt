@@ -1,61 +1,55 @@
 //! Reads the text of a checkpoint.
 
-ghost use Rattle.std.specs.Prelude.{◌≡◌, ◌++◌, IsUtf8, IfOk, MatchOption};
-ghost use Rattle.tl_checkpoint.specs.ParseCheckpoint.{CutsLines, ParsesCheckpoint, ReadsExtensions};
+ghost use Rattle.std.specs.Prelude.{◌≡◌, ◌↔◌, IsTrue, IfOk, MatchOption, map, string_bytes};
+ghost use Rattle.tl_checkpoint.specs.ParseCheckpoint.{AreExtensions, AreSome, CutsLines, IsInNoLines, ParsesCheckpoint};
 
 use crate::checkpoint::{Checkpoint, CheckpointFault};
 use crate::pieces::{first_line, hash_of, size_of};
-use std::alloc::Allocator;
+use std::alloc::{AllocError, Allocator};
 
-// The lines of a text, none of which is empty.
-fn read_extensions<A: Allocator + Copy>(
-    alloc: A,
-    text: &str,
-) -> Result<Vec<String<A>, A>, CheckpointFault>
-    ensures { ReadsExtensions text.now result }
+// Whether a text is lines, none of which is empty.
+fn are_extensions(text: &str) -> bool
+    ensures { IsTrue result ↔ AreSome text.now }
 {
-    let mut lines = Vec::new(alloc);
     let mut left = text;
     while !left.is_empty() {
         let Some((words, rest)) = first_line(left) else {
-            return Err(CheckpointFault::Lines);
+            return false;
         };
         if words.is_empty() {
-            return Err(CheckpointFault::Lines);
+            return false;
         }
-        lines.push(String::from_str(alloc, words)?)?;
         left = rest;
     }
-    Ok(lines)
+    true
 }
 
-// The lines of a text.
-#[derive(Drop)]
-struct Parts<'a, A: Allocator> {
+// The lines of a text, of which the extensions are one text.
+#[derive(Clone, Copy)]
+struct Parts<'a> {
     origin: &'a str,
     size: &'a str,
     root: &'a str,
-    extensions: Vec<String<A>, A>,
+    extensions: &'a str,
 }
 
 // Cuts a text into its lines, three at least, of which those after the third aren't empty.
-fn cut_lines<A: Allocator + Copy>(alloc: A, text: &str) -> Result<Parts<'_, A>, CheckpointFault>
-    ensures { CutsLines text.now result }
+fn cut_lines(text: &str) -> Option<Parts<'_>>
+    ensures { MatchOption result (IsInNoLines text.now) (CutsLines text.now) }
 {
     let Some((origin, rest)) = first_line(text) else {
-        return Err(CheckpointFault::Lines);
+        return None;
     };
     let Some((size, rest)) = first_line(rest) else {
-        return Err(CheckpointFault::Lines);
+        return None;
     };
-    let Some((root, rest)) = first_line(rest) else {
-        return Err(CheckpointFault::Lines);
+    let Some((root, extensions)) = first_line(rest) else {
+        return None;
     };
-    let extensions = match read_extensions(alloc, rest) {
-        Ok(extensions) => extensions,
-        Err(fault) => return Err(fault),
-    };
-    Ok(Parts {
+    if !are_extensions(extensions) {
+        return None;
+    }
+    Some(Parts {
         origin,
         size,
         root,
@@ -63,14 +57,31 @@ fn cut_lines<A: Allocator + Copy>(alloc: A, text: &str) -> Result<Parts<'_, A>, 
     })
 }
 
-/// The checkpoint that a text is (C2SP tlog-checkpoint, "Note text"). Of a text that is none the first fault is told, in the
-/// order of the faults' numbers: lines, origin, size, root.
+// The lines of a text that is lines, none of which is empty.
+fn read_extensions<A: Allocator + Copy>(
+    alloc: A,
+    text: &str,
+) -> Result<Vec<String<A>, A>, AllocError>
+    requires { AreSome text.now }
+    ensures { IfOk result (λ lines. AreExtensions text.now (map string_bytes lines.items)) }
+{
+    let mut lines = Vec::new(alloc);
+    let mut left = text;
+    while let Some((words, rest)) = first_line(left) {
+        lines.push(String::from_str(alloc, words)?)?;
+        left = rest;
+    }
+    Ok(lines)
+}
+
+/// The checkpoint that a text is (C2SP tlog-checkpoint, "Note text"). Of a text that is none the first fault is told,
+/// in the order lines, origin, size, root. Memory is asked for after all of them, so that it is `OutOfMemory` of a
+/// checkpoint only.
 pub fn parse<A: Allocator + Copy>(alloc: A, text: &str) -> Result<Checkpoint<A>, CheckpointFault>
     ensures { ParsesCheckpoint text.now result }
 {
-    let parts = match cut_lines(alloc, text) {
-        Ok(parts) => parts,
-        Err(fault) => return Err(fault),
+    let Some(parts) = cut_lines(text) else {
+        return Err(CheckpointFault::Lines);
     };
     if parts.origin.is_empty() {
         return Err(CheckpointFault::Origin);
@@ -78,13 +89,14 @@ pub fn parse<A: Allocator + Copy>(alloc: A, text: &str) -> Result<Checkpoint<A>,
     let Some(size) = size_of(parts.size) else {
         return Err(CheckpointFault::Size);
     };
-    let Some(root) = hash_of(alloc, parts.root)? else {
+    let Some(root) = hash_of(parts.root) else {
         return Err(CheckpointFault::Root);
     };
+    let extensions = read_extensions(alloc, parts.extensions)?;
     Ok(Checkpoint {
         origin: String::from_str(alloc, parts.origin)?,
         size,
         root,
-        extensions: parts.extensions,
+        extensions,
     })
 }

@@ -1,14 +1,12 @@
 //! Pieces of texts: a line, a decimal number, a hash in base64. Each reader takes exactly what has that spelling.
 
-ghost use Rattle.std.specs.Prelude.{◌≡◌, ◌<◌, ◌^◌, ◌++◌, MatchOption, IfOk, IsTrue, ◌↔◌, IsUtf8};
+ghost use Rattle.std.specs.Prelude.{◌≡◌, ◌<◌, ◌^◌, ◌++◌, MatchOption, IsTrue, ◌↔◌, IsUtf8};
 ghost use Rattle.tl_hash.specs.Bytes.{IsHash};
 ghost use Rattle.tl_note.specs.Text.{line, number_text, base64_text, HasNoControl};
 ghost use Rattle.tl_checkpoint.specs.Pieces.{IsNoLine, IsNoSize, IsNoHash};
 
-use base64::DecodeAllocError;
 use base64::engine::general_purpose::STANDARD;
 use itoa::Buffer;
-use std::alloc::{AllocError, Allocator};
 use tl_hash::Hash;
 
 // Whether a text has no character below 0x20.
@@ -18,8 +16,8 @@ fn is_plain(text: &str) -> bool
     text.bytes().all(|byte| byte >= 0x20)
 }
 
-/// The first line of a text, without its newline, and what follows it. A line ends with a newline and has no other character
-/// below 0x20.
+/// The first line of a text, without its newline, and what follows it. A line ends with a newline and has no other
+/// character below 0x20.
 pub fn first_line(text: &str) -> Option<(&str, &str)>
     ensures { MatchOption result (IsNoLine text.now) (λ r. HasNoControl r.0.now × (text.now ≡ line r.0.now ++ r.1.now) × IsUtf8 r.1.now) }
 {
@@ -48,18 +46,19 @@ pub fn size_of(text: &str) -> Option<u64>
     Some(size)
 }
 
-/// The hash that a text is, in padded base64 of 32 bytes.
-pub fn hash_of<A: Allocator>(alloc: A, text: &str) -> Result<Option<Hash>, AllocError>
-    ensures { IfOk result (λ found. MatchOption found (IsNoHash text.now) (λ hash. IsHash hash × (text.now ≡ base64_text hash))) }
+// Room for what 44 characters of base64 may stand for.
+const HASH_ROOM: usize = 33;
+
+/// The hash that a text is, in padded base64 of 32 bytes. No memory is asked for.
+pub fn hash_of(text: &str) -> Option<Hash>
+    ensures { MatchOption result (IsNoHash text.now) (λ hash. IsHash hash × (text.now ≡ base64_text hash)) }
 {
-    match STANDARD.decode(alloc, text.as_bytes()) {
-        Ok(bytes) => {
-            let Ok(hash) = <[u8; 32]>::try_from(bytes.as_slice()) else {
-                return Ok(None);
-            };
-            Ok(Some(Hash::from_bytes(hash)))
-        }
-        Err(DecodeAllocError::OutOfMemory) => Err(AllocError),
-        Err(DecodeAllocError::DecodeError(_)) => Ok(None),
-    }
+    let mut bytes = [0; HASH_ROOM];
+    let Ok(count) = STANDARD.decode_slice(text.as_bytes(), &mut bytes) else {
+        return None;
+    };
+    let Ok(hash) = <[u8; 32]>::try_from(&bytes[..count]) else {
+        return None;
+    };
+    Some(Hash::from_bytes(hash))
 }

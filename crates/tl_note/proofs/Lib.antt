@@ -2,6 +2,7 @@ pub mod PlainText
 pub mod Lines
 pub mod OneNote
 pub mod FieldLemmas
+pub mod Base64Lemmas
 pub mod NameLemmas
 pub mod GapLemmas
 pub mod LineLemmas

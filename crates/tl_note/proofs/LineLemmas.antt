@@ -1,14 +1,14 @@
 -- Reading lines: where a line and its words end.
-use Rattle.std.proofs.Common.{◌≡◌, ℕ, ◌<◌, ◌≤◌, List, [], ◌∷◌, ◌++◌, length, drop, get_or, refl, sym, ap, subst, ◌∙◌, append_assoc, arith, All, Option, Some, Bor}
+use Rattle.std.proofs.Common.{◌≡◌, ℕ, ◌+◌, ◌<◌, ◌≤◌, List, [], ◌∷◌, ◌++◌, length, drop, get_or, refl, sym, ap, subst, ◌∙◌, append_assoc, arith, All, Option, Some, Bor}
 use Rattle.std.specs.Prelude.{MatchOption, IsUtf8}
 use Rattle.std.specs.List.{flat_map}
 use Rattle.std.specs.Str.{IsCharBoundary}
-use Rattle.std.proofs.lemmas.List.{length-append, flat_map_more}
-use Rattle.std.proofs.lemmas.List.Elements.{All-head, All-tail, All-get_or, All-push}
+use Rattle.std.proofs.lemmas.List.{append-nil, length-append, flat_map_more}
+use Rattle.std.proofs.lemmas.List.Elements.{All-nil, All-head, All-tail, All-get_or, All-push}
 use Rattle.std.proofs.lemmas.Str.{IsUtf8-drop}
 use Rattle.std.proofs.lemmas.Str.Pattern.{IsSplitOnceResult, split_after}
 use Rattle.tl_note.specs.Note.{Signature, IsSignature, signature_field, signature_words, signature_line}
-use Rattle.tl_note.specs.Reading.{CutsLine, IsNoFirstLine, AreLines}
+use Rattle.tl_note.specs.Reading.{CutsLine, IsNoFirstLine, AreLines, HasLines}
 use Rattle.tl_note.proofs.Lines.{one_line, line_not_empty}
 use Rattle.tl_note.proofs.OneNote.{name_no_space, body_plain, open_lines, one_body, IsNoSpace}
 
@@ -66,7 +66,6 @@ after_done (s ∷ done) (m ∷ lines) left d l e =
 pub record HasRead (text : List ℕ) (done : List Signature) (left : List ℕ) : Type 0 where
   pub utf8 : IsUtf8 left
   pub each : All IsSignature done
-  pub few : length done ≤ 100
   pub whole : flat_map signature_line done ++ left ≡ text
 
 continue : (text left : List ℕ) (done lines : List Signature) → HasRead text done left → AreLines text lines → Continue done lines left
@@ -104,10 +103,42 @@ no_lines text left [] lines has none empty are =
 no_lines text left (s ∷ done) lines has none empty are = absurd (omega arith)
 
 -- one more line is read
-pub reads_more : (text left rest : List ℕ) (done : List Signature) (s : Signature) → HasRead text done left → length done < 100 → IsUtf8 rest → CutsLine left s rest → HasRead text (done ++ s ∷ []) rest
-reads_more text left rest done s has few utf8 cuts = record {
+pub reads_more : (text left rest : List ℕ) (done : List Signature) (s : Signature) → HasRead text done left → IsUtf8 rest → CutsLine left s rest → HasRead text (done ++ s ∷ []) rest
+reads_more text left rest done s has utf8 cuts = record {
   utf8 = utf8;
   each = All-push IsSignature done s has.each cuts.lawful;
-  few = omega (arith, few, length-append done (s ∷ []));
   whole = ap (λ (t : List ℕ). t ++ rest) (sym (flat_map_more signature_line [] done s)) ∙ append_assoc (flat_map signature_line done) (signature_line s) rest ∙ ap (λ (t : List ℕ). flat_map signature_line done ++ t) (sym cuts.whole) ∙ has.whole;
 }
+
+-- a count of what was read
+pub record HasCounted (text : List ℕ) (count : ℕ) (left : List ℕ) : Type 0 where
+  pub done : List Signature
+  pub read : HasRead text done left
+  pub counted : length done ≡ count
+  pub few : count ≤ 100
+
+pub counts_none : (text : List ℕ) → IsUtf8 text → HasCounted text 0 text
+counts_none text utf8 = record { done = []; read = record { utf8 = utf8; each = All-nil IsSignature; whole = refl }; counted = refl; few = omega arith }
+
+pub counts_more : (text left rest : List ℕ) (count : ℕ) (s : Signature) → HasCounted text count left → count < 100 → IsUtf8 rest → CutsLine left s rest → HasCounted text (count + 1) rest
+counts_more text left rest count s has few utf8 cuts = record {
+  done = has.done ++ s ∷ [];
+  read = reads_more text left rest has.done s has.read utf8 cuts;
+  counted = omega (arith, length-append has.done (s ∷ []), has.counted);
+  few = omega (arith, few);
+}
+
+-- nothing is left
+pub counts_all : (text left : List ℕ) (count : ℕ) → HasCounted text count left → length left ≡ 0 → 0 < count → HasLines text count
+counts_all text [] count has none some = (has.done, record { each = has.read.each; some = omega (arith, some, has.counted); few = omega (arith, has.few, has.counted); whole = sym has.read.whole ∙ append-nil (flat_map signature_line has.done) }, has.counted)
+counts_all text (x ∷ left) count has none some = absurd (omega arith)
+
+-- what is left begins with no line, so all lines are read
+all_read : (text left : List ℕ) (done lines more : List Signature) → IsNoFirstLine left → All IsSignature more → left ≡ flat_map signature_line more → lines ≡ done ++ more → AreLines text lines → AreLines text done
+all_read text left done lines [] none each rest joined are = subst (AreLines text) (joined ∙ append-nil done) are
+all_read text left done lines (m ∷ more) none each rest joined are = absurd (none m (flat_map signature_line more) (record { lawful = All-head IsSignature m more each; whole = rest ∙ open_lines m more }))
+
+pub reads_all : (text left : List ℕ) (done : List Signature) (count : ℕ) → HasRead text done left → IsNoFirstLine left → HasLines text count → AreLines text done
+reads_all text left done count has none are =
+    let next = continue text left done are.0 has are.1 in
+    all_read text left done are.0 next.more none next.each next.rest next.joined are.1

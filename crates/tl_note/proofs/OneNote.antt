@@ -70,7 +70,7 @@ bytes_cons : (b : ℕ) (rest : List ℕ) → b < 256 → IsBytes rest → IsByte
 bytes_cons b rest small fits zero = small
 bytes_cons b rest small fits (suc i) = fits i
 
-field_bytes : (s : Signature) → IsSignature s → IsBytes (to_be_bytes w32 s.id ++ s.bytes)
+pub field_bytes : (s : Signature) → IsSignature s → IsBytes (to_be_bytes w32 s.id ++ s.bytes)
 field_bytes s is =
     bytes_cons (s.id / 16777216 % 256) (s.id / 65536 % 256 ∷ s.id / 256 % 256 ∷ s.id % 256 ∷ s.bytes) (omega arith) (bytes_cons (s.id / 65536 % 256) (s.id / 256 % 256 ∷ s.id % 256 ∷ s.bytes) (omega arith) (bytes_cons (s.id / 256 % 256) (s.id % 256 ∷ s.bytes) (omega arith) (bytes_cons (s.id % 256) s.bytes (omega arith) is.bytes)))
 

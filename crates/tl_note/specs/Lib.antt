@@ -1,6 +1,7 @@
 pub mod Text
 pub mod Key
 pub mod Note
+pub mod Field
 pub mod Line
 pub mod Reading
 pub mod View

@@ -54,6 +54,10 @@ pub record Note (bytes text : List ℕ) (lines : List Signature) : Type 0 where
   pub few : length lines ≤ 100
   pub spelled : bytes ≡ note_bytes text lines
 
+-- bytes are a note
+abbrev pub IsNote : List ℕ → Type 0
+IsNote bytes = (text : List ℕ) × (lines : List Signature) × Note bytes text lines
+
 -- bytes are no note
 abbrev pub HasNoNote : List ℕ → Type 0
 HasNoNote bytes = (text : List ℕ) (lines : List Signature) → Note bytes text lines → ⊥

@@ -1,13 +1,14 @@
 -- What opening a note answers (C2SP signed-note, "Verification"; Go's sumdb/note).
-use Rattle.std.specs.Prelude.{◌≡◌, ℕ, List, [], Result, Ok, Err, Some, true, false, ⊤, IsTrue, not}
+use Rattle.std.specs.Prelude.{◌≡◌, ℕ, List, [], Result, Ok, Err, Some, true, false, IsTrue, not}
 use Rattle.tl_note.specs.declared.view.OpenedNote.{OpenedNote}
 use Rattle.tl_note.specs.declared.fault.NoteFault.{NoteFault}
 use Rattle.tl_note.specs.declared.fault.NoteFault.TheVariants.{Malformed, BadName, Ambiguous, InvalidSignature, Unverified, Sign, OutOfMemory}
 use Rattle.tl_note.specs.Key.{Key}
-use Rattle.tl_note.specs.Note.{Signature, Note, HasNoNote}
+use Rattle.tl_note.specs.Note.{Signature, Note, IsNote, HasNoNote}
 use Rattle.tl_note.specs.Open.{Placed, Opened, counting_lines, unknown_lines, first_wrong, is_ambiguous, places, FindsWrong, NeedsMemory}
 
--- the note of this text and these lines is opened: it opens, and the places are those of its lines that count and of its unknown lines
+-- the note of this text and these lines is opened: it opens, and the places are those of its lines that count and of
+-- its unknown lines
 pub record Verifying {A : Type 0} (keys : List Key) (text : List ℕ) (lines : List Signature) (opened : OpenedNote A) : Type 0 where
   pub same_text : opened.note.text.now ≡ text
   pub same_lines : opened.note.signatures.items ≡ lines
@@ -30,7 +31,8 @@ VerifiesNote keys text lines (Err OutOfMemory) = NeedsMemory keys lines
 abbrev pub IsWrongAt : List ℕ → List Key → ℕ → (Placed → Type 0) → Type 0
 IsWrongAt bytes keys place reason = (text : List ℕ) × (lines : List Signature) × (p : Placed) × Note bytes text lines × (first_wrong keys text lines ≡ Some p) × (p.0 ≡ place) × reason p
 
--- the message is the note of what was opened, which opens, and the places are those of its lines that count and of its unknown lines
+-- the message is the note of what was opened, which opens, and the places are those of its lines that count and of its
+-- unknown lines
 pub record Opening {A : Type 0} (bytes : List ℕ) (keys : List Key) (opened : OpenedNote A) : Type 0 where
   pub note : Note bytes opened.note.text.now opened.note.signatures.items
   pub opens : Opened keys opened.note.text.now opened.note.signatures.items
@@ -45,4 +47,4 @@ OpensNote bytes keys (Err (Ambiguous place)) = IsWrongAt bytes keys place (λ p.
 OpensNote bytes keys (Err (InvalidSignature place)) = IsWrongAt bytes keys place (λ p. IsTrue (not (is_ambiguous keys p)))
 OpensNote bytes keys (Err Unverified) = (text : List ℕ) × (lines : List Signature) × Note bytes text lines × (counting_lines keys lines ≡ [])
 OpensNote bytes keys (Err (Sign place)) = ⊥
-OpensNote bytes keys (Err OutOfMemory) = ⊤
+OpensNote bytes keys (Err OutOfMemory) = IsNote bytes

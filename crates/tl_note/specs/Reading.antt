@@ -1,9 +1,6 @@
 -- The steps of reading a note.
-use Rattle.std.specs.Prelude.{◌≡◌, ℕ, ◌<◌, ◌≤◌, List, ◌∷◌, ◌++◌, length, All, Result, Ok, Err, ⊤}
+use Rattle.std.specs.Prelude.{◌≡◌, ℕ, ◌<◌, ◌≤◌, List, ◌∷◌, ◌++◌, length, All}
 use Rattle.std.specs.List.{flat_map}
-use Rattle.std.specs.declared.vec.Vec.{Vec}
-use Rattle.tl_note.specs.declared.fault.NoteFault.{NoteFault}
-use Rattle.tl_note.specs.declared.fault.NoteFault.TheVariants.{Malformed, OutOfMemory}
 use Rattle.tl_note.specs.Note.{Signature, IsSignature, signature_line, Note}
 
 -- the bytes are the text, an empty line and the rest, and no other note has these bytes
@@ -27,8 +24,10 @@ pub record AreLines (bytes : List ℕ) (lines : List Signature) : Type 0 where
   pub few : length lines ≤ 100
   pub whole : bytes ≡ flat_map signature_line lines
 
-abbrev pub ReadsLines : {A : Type 0} → List ℕ → Result (Vec Signature A) NoteFault → Type 0
-ReadsLines bytes (Ok lines) = AreLines bytes lines.items
-ReadsLines bytes (Err Malformed) = (lines : List Signature) → AreLines bytes lines → ⊥
-ReadsLines bytes (Err OutOfMemory) = ⊤
-ReadsLines bytes (Err _) = ⊥
+-- the bytes are so many lines
+abbrev pub HasLines : List ℕ → ℕ → Type 0
+HasLines bytes count = (lines : List Signature) × AreLines bytes lines × (length lines ≡ count)
+
+-- the bytes are no lines, or too many
+abbrev pub HasNoLines : List ℕ → Type 0
+HasNoLines bytes = (lines : List Signature) → AreLines bytes lines → ⊥

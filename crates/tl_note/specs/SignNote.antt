@@ -67,4 +67,4 @@ SignsNote text keys (Err (Ambiguous place)) = ⊥
 SignsNote text keys (Err (InvalidSignature place)) = ⊥
 SignsNote text keys (Err Unverified) = ⊥
 SignsNote text keys (Err (Sign place)) = CanSign text keys × All (λ k. IsKeyName k.name) keys × MayFail text keys place
-SignsNote text keys (Err OutOfMemory) = ⊤
+SignsNote text keys (Err OutOfMemory) = CanSign text keys × All (λ k. IsKeyName k.name) keys

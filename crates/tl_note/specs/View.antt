@@ -1,13 +1,13 @@
 -- What reading a note answers (C2SP signed-note, "Format").
-use Rattle.std.specs.Prelude.{ℕ, List, Result, Ok, Err, ⊤}
+use Rattle.std.specs.Prelude.{ℕ, List, Result, Ok, Err}
 use Rattle.tl_note.specs.declared.view.NoteView.{NoteView}
 use Rattle.tl_note.specs.declared.fault.NoteFault.{NoteFault}
 use Rattle.tl_note.specs.declared.fault.NoteFault.TheVariants.{Malformed, OutOfMemory}
-use Rattle.tl_note.specs.Note.{Note, HasNoNote}
+use Rattle.tl_note.specs.Note.{Note, IsNote, HasNoNote}
 
--- the text and the lines of the note, or that the bytes are none
+-- the text and the lines of the note, or that the bytes are none; memory is asked for a note alone
 abbrev pub ParsesNote : {A : Type 0} → List ℕ → Result (NoteView A) NoteFault → Type 0
 ParsesNote bytes (Ok view) = Note bytes view.text.now view.signatures.items
 ParsesNote bytes (Err Malformed) = HasNoNote bytes
-ParsesNote bytes (Err OutOfMemory) = ⊤
+ParsesNote bytes (Err OutOfMemory) = IsNote bytes
 ParsesNote bytes (Err _) = ⊥

@@ -17,8 +17,8 @@ pub enum SignFault {
     OutOfMemory,
 }
 
-/// Who signs messages. Its meaning is a `SigningKey`: a name, an identifier, which signatures it may give for a message and
-/// which messages it may refuse. Threads may share it.
+/// Who signs messages. Its meaning is a `SigningKey`: a name, an identifier, which signatures it may give for a
+/// message and which messages it may refuse. Threads may share it.
 pub trait Signer: Send + Sync + Drop {
     ghost signing_key: { Self → SigningKey };
 
@@ -30,14 +30,15 @@ pub trait Signer: Send + Sync + Drop {
     fn key_id(&self) -> u32
         ensures { result ≡ (signing_key self.now).id };
 
-    /// A signature of the message. It is refused only where the key may refuse the message, or where memory was refused.
+    /// A signature of the message. It is refused only where the key may refuse the message, or where memory was
+    /// refused.
     fn sign(&self, alloc: Global, message: &[u8]) -> Result<Vec<u8>, SignFault>
         ensures given { IfOk result (λ signature. IsTrue ((signing_key self.now).may_give message.now signature.items)) }
         ensures refused { IsErrOf result SignFault.Refused → IsTrue ((signing_key self.now).may_refuse message.now) };
 }
 
-/// Who tells the valid signatures of a message from others. Its meaning is a `Key`: a name, an identifier, and which signatures
-/// of a message it accepts. Threads may share it.
+/// Who tells the valid signatures of a message from others. Its meaning is a `Key`: a name, an identifier, and which
+/// signatures of a message it accepts. Threads may share it.
 pub trait Verifier: Send + Sync + Drop {
     ghost key: { Self → Key };
 

@@ -3,19 +3,17 @@
 ghost use Rattle.std.specs.Prelude.{◌≡◌, MatchOption, IfOk, ◌<◌, length, string_bytes};
 ghost use Rattle.tl_note.specs.Key.{IsKeyName};
 ghost use Rattle.tl_note.specs.Note.{IsSignature, signature_field, signature_line, signature_words};
-ghost use Rattle.tl_note.specs.Line.{IsNoField, IsNoLine, ShowsField};
+ghost use Rattle.tl_note.specs.Line.{IsNoLine};
 
+use crate::field::{KEY_ID_LEN, read_key_id};
 use crate::name::is_key_name;
 use base64::DecodeAllocError;
 use base64::engine::general_purpose::STANDARD;
 use std::alloc::{AllocError, Allocator};
 use std::marker::Model;
 
-// How many bytes of a field are the key's identifier.
-const KEY_ID_LEN: usize = 4;
-
-/// A signature line of a note, within the message. A contract sees it as the signature that the line shows: the key's name, its
-/// identifier and the bytes of the signature. Reading alone makes one, so the line is a lawful one.
+/// A signature line of a note, within the message. A contract sees it as the signature that the line shows: the key's
+/// name, its identifier and the bytes of the signature. Reading alone makes one, so the line is a lawful one.
 #[derive(Debug, Drop)]
 pub struct SigView<'m> {
     name: &'m str,
@@ -56,8 +54,8 @@ impl<'m> SigView<'m> {
         self.field
     }
 
-    /// The bytes of the signature: what the field holds after the identifier, one byte at least. It fails only where a request
-    /// for memory is refused.
+    /// The bytes of the signature: what the field holds after the identifier, one byte at least. It fails only where a
+    /// request for memory is refused.
     pub fn decode<A: Allocator>(&self, alloc: A) -> Result<Vec<u8, A>, AllocError>
         ensures { IfOk result (λ bytes. bytes.items ≡ self.now.bytes) }
     {
@@ -73,49 +71,32 @@ impl<'m> SigView<'m> {
     }
 
     /// Reads a signature line, without its newline.
-    pub(crate) fn read<A: Allocator>(
-        alloc: A,
-        line: &'m str,
-    ) -> Result<Option<SigView<'m>>, AllocError>
-        ensures { IfOk result (λ found. MatchOption found (IsNoLine line.now) (λ view. IsSignature view × (line.now ≡ signature_words view))) }
+    pub(crate) fn read(line: &'m str) -> Option<SigView<'m>>
+        ensures { MatchOption result (IsNoLine line.now) (λ view. IsSignature view × (line.now ≡ signature_words view)) }
     {
         let Some(words) = line.strip_prefix("— ") else {
-            return Ok(None);
+            return None;
         };
         let Some((name, field)) = words.split_once(' ') else {
-            return Ok(None);
+            return None;
         };
         if !is_key_name(name) {
-            return Ok(None);
+            return None;
         }
-        match read_key_id(alloc, field)? {
-            Some(key_id) => Ok(Some(SigView {
-                name,
-                key_id,
-                field,
-            })),
-            None => Ok(None),
-        }
+        let Some(key_id) = read_key_id(field) else {
+            return None;
+        };
+        Some(SigView {
+            name,
+            key_id,
+            field,
+        })
     }
 }
 
-// The identifier in a field, which is strict base64 of it and of one byte at least.
-fn read_key_id<A: Allocator>(alloc: A, field: &str) -> Result<Option<u32>, AllocError>
-    ensures { IfOk result (λ found. MatchOption found (IsNoField field.now) (λ id. ShowsField id field.now)) }
-{
-    match STANDARD.decode(alloc, field.as_bytes()) {
-        Ok(bytes) => match bytes.as_slice() {
-            [a, b, c, d, _, ..] => Ok(Some(u32::from_be_bytes([*a, *b, *c, *d]))),
-            _ => Ok(None),
-        },
-        Err(DecodeAllocError::OutOfMemory) => Err(AllocError),
-        Err(DecodeAllocError::DecodeError(_)) => Ok(None),
-    }
-}
-
-/// A signature line, with the newline that ends it: the key's name, its identifier and the bytes of the signature (C2SP signed-note,
-/// "Format"). The line is lawful where the name is a key's name and there is one byte at least. It fails only where a request for
-/// memory is refused.
+/// A signature line, with the newline that ends it: the key's name, its identifier and the bytes of the signature
+/// (C2SP signed-note, "Format"). The line is lawful where the name is a key's name and there is one byte at least. It
+/// fails only where a request for memory is refused.
 pub fn write_signature_line<A: Allocator + Copy>(
     alloc: A,
     name: &str,

@@ -10,8 +10,8 @@ fn is_name_char(c: char) -> bool
     !c.is_whitespace() && c >= ' ' && c != '+'
 }
 
-/// Whether a text may be a key's name: it is not empty, and no character is white space, below 0x20 or a plus sign (C2SP
-/// signed-note, "Signatures").
+/// Whether a text may be a key's name: it is not empty, and no character is white space, below 0x20 or a plus sign
+/// (C2SP signed-note, "Signatures").
 pub fn is_key_name(name: &str) -> bool
     ensures { IsTrue result ↔ IsKeyName name.now }
 {

@@ -39,12 +39,13 @@ pub fn open_note<'m, A: Allocator + Copy>(
     verify_note(alloc, note, verifiers)
 }
 
-/// Verifies the signatures of a note that was read (C2SP signed-note, "Verification"). A line counts where a verifier has
-/// its key and no earlier line names that key. The note opens where some line counts, each that counts is of one verifier,
-/// and each of their signatures is valid.
+/// Verifies the signatures of a note that was read (C2SP signed-note, "Verification"). A line counts where a verifier
+/// has its key and no earlier line names that key. The note opens where some line counts, each that counts is of one
+/// verifier, and each of their signatures is valid.
 ///
 /// The first line that counts and is of two verifiers (`Ambiguous`) or isn't valid (`InvalidSignature`) decides.
-/// `Unverified`: no line counts. No memory is asked for where there is no line, or two verifiers have the first line's key.
+/// `Unverified`: no line counts. No memory is asked for where there is no line, or two verifiers have the first line's
+/// key.
 pub fn verify_note<'m, A: Allocator + Copy>(
     alloc: A,
     note: NoteView<'m, A>,

@@ -2,7 +2,7 @@
 
 ghost use Rattle.std.specs.Prelude.{◌≡◌, ◌↔◌, IsTrue, IfOk, IsUtf8, MatchOption};
 ghost use Rattle.tl_note.specs.Note.{IsNoteByte, IsNoteText, HasNoNote};
-ghost use Rattle.tl_note.specs.Reading.{CutsLine, CutsText, IsNoFirstLine, ReadsLines};
+ghost use Rattle.tl_note.specs.Reading.{AreLines, CutsLine, CutsText, HasLines, HasNoLines, IsNoFirstLine};
 ghost use Rattle.tl_note.specs.View.{ParsesNote};
 
 use crate::fault::NoteFault;
@@ -13,8 +13,9 @@ use std::alloc::{AllocError, Allocator};
 /// How many signature lines a note may have.
 pub(crate) const MOST_LINES: usize = 100;
 
-/// Reads a note: a text that ends with a newline, an empty line, and 1 to 100 signature lines (C2SP signed-note, "Format"). It is
-/// `Malformed` exactly where the message is no note, and otherwise only `OutOfMemory`. The views borrow the message.
+/// Reads a note: a text that ends with a newline, an empty line, and 1 to 100 signature lines (C2SP signed-note,
+/// "Format"). It is `Malformed` exactly where the message is no note. Memory is asked for the lines of a note alone,
+/// so that it is `OutOfMemory` of a note only. The views borrow the message.
 pub fn parse_note<A: Allocator + Copy>(
     alloc: A,
     message: &str,
@@ -27,7 +28,10 @@ pub fn parse_note<A: Allocator + Copy>(
     if !is_note_text(text) {
         return Err(NoteFault::Malformed);
     }
-    let signatures = read_lines(alloc, lines)?;
+    let Some(count) = count_lines(lines) else {
+        return Err(NoteFault::Malformed);
+    };
+    let signatures = read_lines(alloc, lines, count)?;
     Ok(NoteView { text, signatures })
 }
 
@@ -56,39 +60,54 @@ fn cut_text(message: &str) -> Option<(&str, &str)>
 }
 
 // The first signature line of a text, and what follows it.
-fn cut_line<'m, A: Allocator>(
-    alloc: A,
-    text: &'m str,
-) -> Result<Option<(SigView<'m>, &'m str)>, AllocError>
-    ensures { IfOk result (λ found. MatchOption found (IsNoFirstLine text.now) (λ parts. CutsLine text.now parts.0 parts.1.now × IsUtf8 parts.1.now)) }
+fn cut_line(text: &str) -> Option<(SigView<'_>, &str)>
+    ensures { MatchOption result (IsNoFirstLine text.now) (λ parts. CutsLine text.now parts.0 parts.1.now × IsUtf8 parts.1.now) }
 {
     let Some((words, rest)) = text.split_once('\n') else {
-        return Ok(None);
+        return None;
     };
-    match SigView::read(alloc, words)? {
-        Some(line) => Ok(Some((line, rest))),
-        None => Ok(None),
-    }
+    let Some(line) = SigView::read(words) else {
+        return None;
+    };
+    Some((line, rest))
 }
 
-// The lines of a text that is 1 to 100 signature lines and nothing else.
-fn read_lines<A: Allocator + Copy>(alloc: A, text: &str) -> Result<Vec<SigView<'_>, A>, NoteFault>
-    ensures { ReadsLines text.now result }
+// How many lines a text is, where it is 1 to 100 signature lines and nothing else.
+fn count_lines(text: &str) -> Option<usize>
+    ensures { MatchOption result (HasNoLines text.now) (HasLines text.now) }
 {
-    let mut lines = Vec::new(alloc);
+    let mut count = 0;
     let mut left = text;
     while !left.is_empty() {
-        if lines.len() == MOST_LINES {
-            return Err(NoteFault::Malformed);
+        if count == MOST_LINES {
+            return None;
         }
-        let Some((line, rest)) = cut_line(alloc, left)? else {
-            return Err(NoteFault::Malformed);
+        let Some((_, rest)) = cut_line(left) else {
+            return None;
         };
-        lines.push(line)?;
+        count += 1;
         left = rest;
     }
-    if lines.is_empty() {
-        return Err(NoteFault::Malformed);
+    if count == 0 {
+        return None;
+    }
+    Some(count)
+}
+
+// The lines of a text that is so many.
+fn read_lines<A: Allocator>(
+    alloc: A,
+    text: &str,
+    count: usize,
+) -> Result<Vec<SigView<'_>, A>, AllocError>
+    requires { HasLines text.now count }
+    ensures { IfOk result (λ lines. AreLines text.now lines.items) }
+{
+    let mut lines = Vec::with_capacity(alloc, count)?;
+    let mut left = text;
+    while let Some((line, rest)) = cut_line(left) {
+        lines.push(line)?;
+        left = rest;
     }
     Ok(lines)
 }

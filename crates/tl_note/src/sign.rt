@@ -11,11 +11,12 @@ use crate::name::is_key_name;
 use crate::parse::{MOST_LINES, is_note_text};
 use std::alloc::{Allocator, Global};
 
-/// The note of a text, with one signature line for each signer, in order (C2SP signed-note, "Format"). `global` is what the
-/// signers take memory from.
+/// The note of a text, with one signature line for each signer, in order (C2SP signed-note, "Format"). `global` is
+/// what the signers take memory from.
 ///
-/// The faults are checked in this order. `Malformed`: the text can't be signed, or there is no signer or more than 100.
-/// `BadName(i)`: signer i is the first whose name is no key's name. `Sign(i)`: signer i refused the text, or gave no bytes.
+/// The faults are checked in this order. `Malformed`: the text can't be signed, or there is no signer or more than
+/// 100. `BadName(i)`: signer i is the first whose name is no key's name. `Sign(i)`: signer i refused the text, or gave
+/// no bytes.
 pub fn sign_note<A: Allocator + Copy>(
     alloc: A,
     global: Global,
@@ -36,7 +37,8 @@ pub fn sign_note<A: Allocator + Copy>(
     Ok(note)
 }
 
-// The name of a signer's key. A call of an object's method stands in a function of its own, so that its clause speaks of the box.
+// The name of a signer's key. A call of an object's method stands in a function of its own, so that its clause speaks
+// of the box.
 fn name_of(signer: &Box<dyn Signer>) -> &str
     ensures { result.now ≡ (signing_key signer.now).name }
 {

@@ -11,9 +11,9 @@ pub struct NoteView<'m, A: Allocator> {
     pub signatures: Vec<SigView<'m>, A>,
 }
 
-/// An opened note, with the places of its lines, counted from 0 and in order. In `verified` are the lines that count, each valid: the
-/// first of each key that a verifier has. In `unverified` are all lines of keys that no verifier has. A later line of a known key is in
-/// neither.
+/// An opened note, with the places of its lines, counted from 0 and in order. In `verified` are the lines that count,
+/// each valid: the first of each key that a verifier has. In `unverified` are all lines of keys that no verifier has.
+/// A later line of a known key is in neither.
 #[derive(Debug, Drop)]
 #[non_exhaustive]
 pub struct OpenedNote<'m, A: Allocator> {

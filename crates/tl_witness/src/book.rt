@@ -5,9 +5,10 @@ ghost use Rattle.tl_proof.specs.Collisions.{step_of};
 ghost use Rattle.tl_witness.specs.Answers.{Answers, AsksForMemory};
 ghost use Rattle.tl_witness.specs.Book.{DecidesBody, IsPlaceOf, Place};
 
+use crate::by_origin::ByOrigin;
 use crate::chain::Chain;
 use crate::finding::{Unfound, find_origin};
-use crate::index::{Index, place_by};
+use crate::index::place_by;
 use crate::origin::Origin;
 use crate::place::OfOrigin;
 use crate::reply::{Reply, refusal};
@@ -63,7 +64,7 @@ impl<T: TreeHash, A: Allocator> OfOrigin for Entry<T, A> {
 pub struct Book<T: TreeHash, A: Allocator + Copy> {
     pub(crate) tools: Tools<T, A>,
     pub(crate) entries: Vec<Entry<T, A>, A>,
-    pub(crate) places: Index<A>,
+    pub(crate) places: ByOrigin<A>,
 }
 
 /// What contracts see of a book: what is kept of each origin.

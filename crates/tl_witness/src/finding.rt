@@ -7,7 +7,8 @@ ghost use Rattle.tl_witness.specs.Finding.{FindsOrigin};
 ghost use Rattle.tl_witness.specs.Offer.{asked_by};
 ghost use Rattle.tl_witness.specs.ReadRequest.{body_of, signed_of};
 
-use crate::index::{Index, place_by};
+use crate::by_origin::ByOrigin;
+use crate::index::place_by;
 use crate::offer::Offer;
 use crate::place::OfOrigin;
 use crate::request::{AddRequest, RequestFault, parse_request};
@@ -54,7 +55,7 @@ fn offer_of<'m, A: Allocator>(
 /// "add-checkpoint").
 pub(crate) fn find_origin<'m, N: OfOrigin, A: Allocator + Copy>(
     alloc: A,
-    places: &Index<A>,
+    places: &ByOrigin<A>,
     list: &[N],
     body: &'m [u8],
 ) -> Result<Found<'m, A>, Unfound>

@@ -10,10 +10,11 @@ ghost use Rattle.tl_witness.specs.Shared.{AnswersFromSome};
 ghost use Rattle.tl_witness.specs.Witnessed.{Witnessed};
 
 use crate::book::{Book, Shown};
+use crate::by_origin::ByOrigin;
 use crate::chain::Chain;
 use crate::copy::copy_links;
 use crate::finding::{Unfound, find_origin};
-use crate::index::{Index, place_by};
+use crate::index::place_by;
 use crate::offer::Offer;
 use crate::origin::Origin;
 use crate::place::OfOrigin;
@@ -83,7 +84,7 @@ impl<T: TreeHash, A: Allocator + Copy> Guarded<T, A> {
 pub struct SharedWitness<T: TreeHash, A: Allocator + Copy> {
     tools: Tools<T, A>,
     entries: Vec<Guarded<T, A>, A>,
-    places: Index<A>,
+    places: ByOrigin<A>,
 }
 
 /// What contracts see of a shared witness: its origins.

@@ -1,20 +1,25 @@
-use Rattle.std.proofs.Common.{◌≡◌, ◌<◌, ◌∷◌, ℕ, List, length, map, string_bytes, vec_items, sym, subst, ap, ◌∙◌, arith}
+use Rattle.std.proofs.Common.{◌≡◌, ◌<◌, ℕ, List, length, map, string_bytes, vec_items, sym, subst, arith}
 use Rattle.std.proofs.lemmas.Bool.Decides.{nat_tests}
-use Rattle.std.proofs.lemmas.List.Elements.{All-head}
-use Rattle.tl_note.specs.Text.{HasNoControl}
-use Rattle.tl_checkpoint.specs.Checkpoint.{IsOneLine, checkpoint_text}
-use Rattle.tl_checkpoint.proofs.ExtensionLemmas.{text_of_lines}
+use Rattle.tl_checkpoint.specs.Checkpoint.{IsHead, checkpoint_text}
+use Rattle.tl_checkpoint.proofs.ParseLemmas.{head_of_lines, in_these, parses_refused}
 use Rattle.tl_checkpoint.proofs.parsing.parse.Goals as goal
+
+pub returns-in_err-extensions : goal.returns-in_err-extensions
+returns-in_err-extensions g c =
+    let some : 0 < length c.in-Some.parts.origin.now = grind (arith, nat_tests) in
+    parses_refused c.args.text.now c.in-Some.parts c.in-Some-size_of.size c.in-Some-hash_of.root c.from_residual.result c.from_residual.ensures.1 c.in-Some.ensures some c.in-Some-size_of.ensures c.in-Some-hash_of.ensures
+
+pub returns-in_err-from_str : goal.returns-in_err-from_str
+returns-in_err-from_str g c =
+    let some : 0 < length c.in-Some.parts.origin.now = grind (arith, nat_tests) in
+    parses_refused c.args.text.now c.in-Some.parts c.in-Some-size_of.size c.in-Some-hash_of.root c.from_residual-in_err-from_str.result c.from_residual-in_err-from_str.ensures.1 c.in-Some.ensures some c.in-Some-size_of.ensures c.in-Some-hash_of.ensures
 
 pub returns : goal.returns
 returns g c =
-    let lines = c.in-Ok.ensures in
-    let origin : string_bytes c.in_ok-from_str.field-0 ≡ c.in-Ok.parts.origin.now = c.in_ok-from_str.ensures.ok in
-    let extensions = map string_bytes (vec_items c.in-Ok.parts.extensions) in
-    let some : 0 < length c.in-Ok.parts.origin.now = grind (arith, nat_tests) in
-    let plain : HasNoControl c.in-Ok.parts.origin.now = All-head HasNoControl c.in-Ok.parts.origin.now (c.in-Ok.parts.size.now ∷ c.in-Ok.parts.root.now ∷ extensions) lines.plain in
-    let one : IsOneLine (string_bytes c.in_ok-from_str.field-0) = subst IsOneLine (sym origin) (record { some = some; plain = plain }) in
-    let root = rw c.in-Some-2.is at c.in_ok-root.ensures in
-    let whole = text_of_lines c.args.text.now c.in-Ok.parts.origin.now c.in-Ok.parts.size.now c.in-Ok.parts.root.now extensions c.in-Some.size c.in-Some-2.root lines c.in-Some.ensures.1 root.1 in
-    let named = ap (λ (o : List ℕ). checkpoint_text (record { origin = o; size = c.in-Some.size; root = c.in-Some-2.root; extensions = extensions })) (sym origin) in
-    (record { origin = one; size = c.in-Some.ensures.0; root = root.0; extensions = lines.extensions }, whole ∙ named)
+    let parts = c.in-Some.parts in
+    let origin : string_bytes c.in_ok-from_str.field-0 ≡ parts.origin.now = c.in_ok-from_str.ensures.ok in
+    let extensions : List (List ℕ) = map string_bytes (vec_items c.in_ok-extensions.extensions) in
+    let some : 0 < length parts.origin.now = grind (arith, nat_tests) in
+    let lines = in_these c.args.text.now parts extensions c.in-Some.ensures c.in_ok-extensions.ensures in
+    let head = head_of_lines c.args.text.now parts.origin.now parts.size.now parts.root.now c.in-Some-hash_of.root extensions c.in-Some-size_of.size lines some c.in-Some-size_of.ensures.0 c.in-Some-size_of.ensures.1 c.in-Some-hash_of.ensures.0 c.in-Some-hash_of.ensures.1 in
+    subst (λ (o : List ℕ). IsHead (record { origin = o; size = c.in-Some-size_of.size; root = c.in-Some-hash_of.root; extensions = extensions }) × (c.args.text.now ≡ checkpoint_text (record { origin = o; size = c.in-Some-size_of.size; root = c.in-Some-hash_of.root; extensions = extensions }))) (sym origin) head

@@ -2,8 +2,8 @@ use Rattle.std.proofs.Common.{length, map, string_bytes, vec_items}
 use Rattle.tl_checkpoint.proofs.ExtensionLemmas.{HasRead}
 use Rattle.tl_checkpoint.proofs.parsing.read_extensions.Given as goal
 
-abbrev pub invariant-loop-left : goal.invariant-loop-left
-invariant-loop-left g l = HasRead l.text (map string_bytes (vec_items l.lines)) l.left
+abbrev pub invariant-loop-words : goal.invariant-loop-words
+invariant-loop-words g l = HasRead l.text (map string_bytes (vec_items l.lines)) l.left
 
-abbrev pub decreases-loop-left : goal.decreases-loop-left
-decreases-loop-left g l = length l.left
+abbrev pub decreases-loop-words : goal.decreases-loop-words
+decreases-loop-words g l = length l.left
