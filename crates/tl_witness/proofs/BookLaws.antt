@@ -33,7 +33,7 @@ at_place H body time out origins found is one after place changed decided =
 
 -- a body that leads to a place may ask for memory
 pub found_asks : {A : Type 0} (body : List ℕ) (origins : List (List ℕ)) (found : Found A) → IsFound body origins found → AsksForMemory body
-found_asks body origins found is = inr (is.request, is.reads)
+found_asks body origins found is = (is.request, is.reads)
 
 -- what shows at a place is within the list
 pub shown_within : {A B : Type 0} (f : A → B) (xs : List A) (i : ℕ) (y : B) → slice_get (map f xs) i ≡ Some y → i < length xs

@@ -1,12 +1,12 @@
 -- Reading the hashes of a chain line, one after the other.
-use Rattle.std.proofs.Common.{◌≡◌, ℕ, ◌<◌, ◌≤◌, List, [], ◌∷◌, ◌++◌, length, refl, sym, ap, ◌∙◌, arith, All}
+use Rattle.std.proofs.Common.{◌≡◌, ℕ, ◌+◌, ◌<◌, ◌≤◌, List, [], ◌∷◌, ◌++◌, length, refl, sym, ap, ◌∙◌, arith, All}
 use Rattle.std.specs.Prelude.{IsUtf8}
 use Rattle.std.proofs.lemmas.List.{length-append}
-use Rattle.std.proofs.lemmas.List.Elements.{All-head, All-tail, All-push}
+use Rattle.std.proofs.lemmas.List.Elements.{All-nil, All-head, All-tail, All-push}
 use Rattle.tl_hash.specs.Bytes.{IsHash}
 use Rattle.tl_note.specs.Text.{base64_text}
 use Rattle.tl_note.proofs.PlainText.{base64_once}
-use Rattle.tl_witness.specs.ChainFields.{field, hashes_before, HasNoHash, HasNoHashes}
+use Rattle.tl_witness.specs.ChainFields.{field, hashes_before, AreHashes, HasHashes, HasNoHash, HasNoHashes}
 use Rattle.tl_witness.proofs.FieldTexts.{one_end}
 use Rattle.tl_witness.proofs.FieldLaws.{hash_without}
 
@@ -46,6 +46,32 @@ pub no_hashes : (count : ℕ) (text left : List ℕ) (done : List (List ℕ)) �
 no_hashes count text left done read room none = λ hashes rest each number e.
     after_done done hashes left rest read.each each (omega arith) (sym e ∙ read.whole) none
 
+-- so many hashes were passed over
+pub record HasSkipped (count : ℕ) (text : List ℕ) (number : ℕ) (left : List ℕ) : Type 0 where
+  pub done : List (List ℕ)
+  pub read : HasRead count text done left
+  pub counted : length done ≡ number
+
+pub skips_none : (count : ℕ) (text : List ℕ) → IsUtf8 text → HasSkipped count text 0 text
+skips_none count text utf8 = record { done = []; read = record { utf8 = utf8; each = All-nil IsHash; few = omega arith; whole = refl }; counted = refl }
+
+pub skips_more : (count : ℕ) (text left rest hash : List ℕ) (number : ℕ) → HasSkipped count text number left → number < count → IsHash hash → left ≡ field (base64_text hash) rest → IsUtf8 rest → HasSkipped count text (number + 1) rest
+skips_more count text left rest hash number has less is e utf8 = record {
+  done = has.done ++ hash ∷ [];
+  read = reads_more count text left rest hash has.done has.read (omega (arith, has.counted)) is e utf8;
+  counted = omega (arith, length-append has.done (hash ∷ []), has.counted);
+}
+
+pub skips_all : (count : ℕ) (text left : List ℕ) (number : ℕ) → HasSkipped count text number left → count ≤ number → HasHashes count text left
+skips_all count text left number has all = (has.done, record { each = has.read.each; number = omega (arith, has.counted, has.read.few); whole = has.read.whole })
+
+pub no_skip : (count : ℕ) (text left : List ℕ) (number : ℕ) → HasSkipped count text number left → number < count → HasNoHash left → HasNoHashes count text
+no_skip count text left number has less none = no_hashes count text left has.done has.read (omega (arith, has.counted)) none
+
+-- a text that begins with so many hashes goes on with one
+pub goes_on : (count : ℕ) (text left rest : List ℕ) (done : List (List ℕ)) → HasRead count text done left → length done < count → HasNoHash left → HasHashes count text rest → ⊥
+goes_on count text left rest done read room none is = no_hashes count text left done read room none is.0 rest is.1.each is.1.number is.1.whole
+
 -- as many hashes before a text are one list
 pub hashes_once : (xs ys : List (List ℕ)) (x y : List ℕ) → All IsHash xs → All IsHash ys → length xs ≡ length ys → hashes_before xs x ≡ hashes_before ys y → (xs ≡ ys) × (x ≡ y)
 hashes_once [] [] x y each others number e = (refl, e)
@@ -58,3 +84,8 @@ hashes_once (a ∷ xs) (b ∷ ys) x y each others number e =
     let same : a ≡ b = base64_once a b is_a.bytes is_b.bytes cut.0 in
     let rest = hashes_once xs ys x y (All-tail IsHash a xs each) (All-tail IsHash b ys others) (omega arith) cut.1 in
     (ap (λ (h : List ℕ). h ∷ xs) same ∙ ap (λ (hs : List (List ℕ)). b ∷ hs) rest.0, rest.1)
+
+-- all hashes were read
+pub all_read : (count : ℕ) (text left : List ℕ) (done hashes : List (List ℕ)) (rest : List ℕ) → HasRead count text done left → count ≤ length done → AreHashes count text hashes rest → done ≡ hashes
+all_read count text left done hashes rest read all is =
+    (hashes_once done hashes left rest read.each is.each (omega (arith, all, read.few, is.number)) (sym read.whole ∙ is.whole)).0

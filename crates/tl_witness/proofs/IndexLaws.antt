@@ -1,149 +1,107 @@
--- Laws of the places of origins.
-use Rattle.std.proofs.Common.{◌≡◌, ◌≢◌, ℕ, zero, suc, ◌+◌, ◌<◌, List, [], ◌∷◌, ◌++◌, Bool, true, false, cond, Option, Some, None, ◌⊎◌, inl, inr, refl, sym, ap, subst, ◌∙◌, map, take, drop, length, get_or, slice_get, arith, All}
-use Rattle.std.specs.Prelude.{bytes_eq, is_some}
-use Rattle.std.specs.Map.{update}
-use Rattle.std.proofs.lemmas.List.{map_more, map-append, take-append-drop, take_all, length-map, length-take-le}
-use Rattle.std.proofs.lemmas.Option.{slice_get_within}
+-- An index of origins stays one as a list grows.
+use Rattle.std.proofs.Common.{◌≡◌, ◌≢◌, ℕ, zero, suc, ◌<◌, Bool, true, false, cond, List, [], ◌∷◌, ◌++◌, length, map, Option, Some, None, refl, sym, ap, subst, ◌∙◌, inl, inr, arith, slice_get}
+use Rattle.std.specs.Prelude.{MatchOption, bytes_eq, slice_set}
+use Rattle.std.proofs.lemmas.Bool.{cases_Bool}
 use Rattle.std.proofs.lemmas.Slice.Eq.{bytes_eq-Decides}
-use Rattle.tl_witness.specs.Index.{Indexes}
-use Rattle.tl_witness.specs.Open.{HasTwice, IsAmong, IsFirstNot}
-use Rattle.tl_witness.proofs.ListLaws.{among_at, among_or, comes_again, left_from}
+use Rattle.std.proofs.lemmas.List.{map-append, length-map}
+use Rattle.std.proofs.lemmas.Option.{slice_get-map, slice_get_within}
+use Rattle.std.specs.Option.{option_map}
+use Rattle.tl_proof.specs.Collisions.{Step}
+use Rattle.tl_witness.specs.ByOrigin.{Index, Indexes, PutsOrigin}
+use Rattle.tl_witness.specs.ChainFields.{PutsStep}
+use Rattle.tl_witness.specs.Open.{SavedChain, chain_origins}
+use Rattle.tl_witness.proofs.Moved.{shown_twice}
 
--- of no origins no place is known
-pub indexes_none : (look_up : List ℕ → Option ℕ) → ((o : List ℕ) → look_up o ≡ None) → Indexes look_up []
-indexes_none look_up none = record {
-  found = λ o i there. absurd (let no : None ≡ Some i = sym (none o) ∙ there in cc);
-  absent = λ o i out there. absurd cc;
-}
+-- ---- lists
 
-at_end : {A : Type 0} (xs : List A) (y : A) → slice_get (xs ++ y ∷ []) (length xs) ≡ Some y
-at_end [] y = refl
-at_end (x ∷ xs) y = at_end xs y
+some_one : {A : Type 0} (x y : A) → Some x ≡ Some y → x ≡ y
+some_one x y e = cc
 
-before_end : {A : Type 0} (xs : List A) (y z : A) (i : ℕ) → slice_get xs i ≡ Some z → slice_get (xs ++ y ∷ []) i ≡ Some z
-before_end [] y z i there = absurd cc
-before_end (x ∷ xs) y z zero there = there
-before_end (x ∷ xs) y z (suc i) there = before_end xs y z i there
+found_before : {A : Type 0} (xs ys : List A) (i : ℕ) (x : A) → slice_get xs i ≡ Some x → slice_get (xs ++ ys) i ≡ Some x
+found_before [] ys i x there = absurd cc
+found_before (z ∷ xs) ys zero x there = there
+found_before (z ∷ xs) ys (suc i) x there = found_before xs ys i x there
 
-end_or_before : {A : Type 0} (xs : List A) (y z : A) (i : ℕ) → slice_get (xs ++ y ∷ []) i ≡ Some z → (slice_get xs i ≡ Some z) ⊎ (y ≡ z)
-end_or_before [] y z zero there = inr cc
-end_or_before [] y z (suc i) there = absurd cc
-end_or_before (x ∷ xs) y z zero there = inl there
-end_or_before (x ∷ xs) y z (suc i) there = end_or_before xs y z i there
+found_last : {A : Type 0} (xs : List A) (x : A) → slice_get (xs ++ x ∷ []) (length xs) ≡ Some x
+found_last [] x = refl
+found_last (z ∷ xs) x = found_last xs x
 
--- one origin more
-more : (f g : List ℕ → Option ℕ) (origins : List (List ℕ)) (new : List ℕ) → Indexes f origins
-    → ((o : List ℕ) → g o ≡ update bytes_eq f new (Some (length origins)) o) → Indexes g (origins ++ new ∷ [])
-more f g origins new is puts = record { found = found; absent = absent }
-  where
-    found : (o : List ℕ) (i : ℕ) → g o ≡ Some i → slice_get (origins ++ new ∷ []) i ≡ Some o
-    found o i there = go (bytes_eq new o) refl
-      where
-        go : (b : Bool) → bytes_eq new o ≡ b → slice_get (origins ++ new ∷ []) i ≡ Some o
-        go true e =
-            let same : new ≡ o = (bytes_eq-Decides new o).0 e in
-            let at : Some (length origins) ≡ Some i = ap (λ (c : Bool). cond c (Some (length origins)) (f o)) (sym e) ∙ (sym (puts o) ∙ there) in
-            let i_is : length origins ≡ i = cc in
-            subst (λ (n : ℕ). slice_get (origins ++ new ∷ []) n ≡ Some o) i_is (at_end origins new ∙ ap (λ (x : List ℕ). Some x) same)
-        go false e = before_end origins new o i (is.found o i (ap (λ (c : Bool). cond c (Some (length origins)) (f o)) (sym e) ∙ (sym (puts o) ∙ there)))
+found_nowhere : {A : Type 0} (xs : List A) (x y : A) → x ≢ y → ((i : ℕ) → slice_get xs i ≢ Some y) → (i : ℕ) → slice_get (xs ++ x ∷ []) i ≢ Some y
+found_nowhere [] x y differ none zero there = let same : x ≡ y = cc in differ same
+found_nowhere [] x y differ none (suc i) there = absurd cc
+found_nowhere (z ∷ xs) x y differ none zero there = none 0 there
+found_nowhere (z ∷ xs) x y differ none (suc i) there = found_nowhere xs x y differ (λ j. none (suc j)) i there
 
-    absent : (o : List ℕ) (i : ℕ) → g o ≡ None → slice_get (origins ++ new ∷ []) i ≢ Some o
-    absent o i out there = go (bytes_eq new o) refl
-      where
-        go : (b : Bool) → bytes_eq new o ≡ b → ⊥
-        go true e =
-            let no : Some (length origins) ≡ None = ap (λ (c : Bool). cond c (Some (length origins)) (f o)) (sym e) ∙ (sym (puts o) ∙ out) in
-            absurd cc
-        go false e =
-            let before : f o ≡ None = ap (λ (c : Bool). cond c (Some (length origins)) (f o)) (sym e) ∙ (sym (puts o) ∙ out) in
-            elim (end_or_before origins new o i there) [
-              | inl earlier ↦ is.absent o i before earlier
-              | inr same ↦ let no : true ≡ false = sym ((bytes_eq-Decides new o).1 same) ∙ e in absurd cc
-            ]
+pub set_found : {A : Type 0} (xs : List A) (i : ℕ) (x : A) → slice_get xs i ≡ Some x → slice_set xs i x ≡ xs
+set_found [] i x there = refl
+set_found (z ∷ xs) zero x there = let same : z ≡ x = cc in ap (λ (w : _). w ∷ xs) (sym same)
+set_found (z ∷ xs) (suc i) x there = ap (λ (ws : List _). z ∷ ws) (set_found xs i x there)
 
--- what stands twice in a longer list
-twice_or : {A : Type 0} (xs : List A) (y : A) → HasTwice (xs ++ y ∷ []) → HasTwice xs ⊎ IsAmong y xs
-twice_or [] y (inl none) = absurd none
-twice_or [] y (inr none) = absurd none
-twice_or (x ∷ xs) y (inl again) = elim (among_or x y xs again) [ inl same ↦ inr (inl (sym same)) | inr is ↦ inl (inl is) ]
-twice_or (x ∷ xs) y (inr later) = elim (twice_or xs y later) [ inl twice ↦ inl (inr twice) | inr is ↦ inr (inr is) ]
+-- ---- indexes
 
-at_some : {A : Type 0} (xs : List A) (x : A) → IsAmong x xs → (i : ℕ) × (slice_get xs i ≡ Some x)
-at_some [] x is = absurd is
-at_some (y ∷ xs) x (inl same) = (0, ap (λ (z : _). Some z) same)
-at_some (y ∷ xs) x (inr later) = let found = at_some xs x later in (suc found.0, found.1)
+pub indexes_none : (index : Index) → ((origin : List ℕ) → index origin ≡ None) → Indexes index []
+indexes_none index none origin = rw (none origin) (λ place there. absurd cc)
 
--- the origins so far are known, and each stands there once
-pub record HasIndexed {X : Type 0} (look_up : List ℕ → Option ℕ) (f : X → List ℕ) (xs : List X) (i : ℕ) : Type 0 where
-  pub known : Indexes look_up (map f (take i xs))
-  pub once : ¬ (HasTwice (map f (take i xs)))
+abbrev At : List (List ℕ) → List ℕ → Option ℕ → Type 0
+At origins origin r = MatchOption r ((place : ℕ) → slice_get origins place ≢ Some origin) (λ place. slice_get origins place ≡ Some origin)
 
-pub indexed_first : {X : Type 0} (look_up : List ℕ → Option ℕ) (f : X → List ℕ) (xs : List X) → ((o : List ℕ) → look_up o ≡ None) → HasIndexed look_up f xs 0
-indexed_first look_up f xs none = record { known = indexes_none look_up none; once = λ twice. twice }
+at_more : (origins : List (List ℕ)) (origin other : List ℕ) (r : Option ℕ) → origin ≢ other → At origins other r → At (origins ++ origin ∷ []) other r
+at_more origins origin other None differ none = found_nowhere origins origin other differ none
+at_more origins origin other (Some place) differ there = found_before origins (origin ∷ []) place other there
 
-pub indexed_more : {X : Type 0} (look_up now : List ℕ → Option ℕ) (f : X → List ℕ) (xs : List X) (i : ℕ) (x : X) → i < length xs → x ≡ get_or xs i x
-    → HasIndexed look_up f xs i → look_up (f x) ≡ None → ((o : List ℕ) → now o ≡ update bytes_eq look_up (f x) (Some i) o) → HasIndexed now f xs (i + 1)
-indexed_more look_up now f xs i x lt is has none puts =
-    let longer : map f (take (i + 1) xs) ≡ map f (take i xs) ++ f x ∷ [] = map_more f xs i x lt ∙ ap (λ (y : _). map f (take i xs) ++ f y ∷ []) (sym is) in
-    let count : length (map f (take i xs)) ≡ i = length-map (take i xs) f ∙ length-take-le i xs (omega arith) in
-    record {
-      known = subst (Indexes now) (sym longer) (more look_up now (map f (take i xs)) (f x) has.known (λ o. puts o ∙ ap (λ (n : ℕ). update bytes_eq look_up (f x) (Some n) o) (sym count)));
-      once = λ twice.
-          elim (twice_or (map f (take i xs)) (f x) (subst HasTwice longer twice)) [
-            | inl before ↦ has.once before
-            | inr again ↦ let at = at_some (map f (take i xs)) (f x) again in has.known.absent (f x) at.0 none at.1
-          ];
-    }
+pub indexes_more : (index new : Index) (origins : List (List ℕ)) (origin : List ℕ) (place : ℕ) → place ≡ length origins → Indexes index origins → PutsOrigin origin place index new → Indexes new (origins ++ origin ∷ [])
+indexes_more index new origins origin place last is puts other = elim (cases_Bool (bytes_eq origin other)) [
+  | inl same ↦
+      let one : origin ≡ other = (bytes_eq-Decides origin other).0 same in
+      let now : new other ≡ Some place = puts other ∙ ap (λ (b : Bool). cond b (Some place) (index other)) same in
+      let there : slice_get (origins ++ origin ∷ []) place ≡ Some other = ap (slice_get (origins ++ origin ∷ [])) last ∙ found_last origins origin ∙ ap (λ (o : List ℕ). Some o) one in
+      subst (At (origins ++ origin ∷ []) other) (sym now) there
+  | inr apart ↦
+      let differ : origin ≢ other = λ e. let bad : true ≡ false = sym ((bytes_eq-Decides origin other).1 e) ∙ apart in absurd cc in
+      let now : new other ≡ index other = puts other ∙ ap (λ (b : Bool). cond b (Some place) (index other)) apart in
+      subst (At (origins ++ origin ∷ []) other) (sym now) (at_more origins origin other (index other) differ (is other))
+]
 
--- an origin that is known comes again
-pub known_twice : {X : Type 0} (look_up : List ℕ → Option ℕ) (f : X → List ℕ) (xs : List X) (i : ℕ) (x : X) → i < length xs → x ≡ get_or xs i x
-    → HasIndexed look_up f xs i → is_some (look_up (f x)) ≡ true → HasTwice (map f xs)
-known_twice look_up f xs i x lt is has known = go (look_up (f x)) refl
-  where
-    whole : map f xs ≡ map f (take i xs) ++ f x ∷ map f (drop (i + 1) xs)
-    whole =
-        ap (map f) (sym (take-append-drop i xs))
-        ∙ (map-append f (take i xs) (drop i xs) ∙ ap (λ (l : List _). map f (take i xs) ++ map f l) (left_from xs i x lt is))
+-- a step that is put behind others changes no origin
+pub origins_kept : (old : List SavedChain) (place : ℕ) (origin : List ℕ) (before after : List Step) → slice_get old place ≡ Some (origin, before) → chain_origins (slice_set old place (origin, after)) ≡ chain_origins old
+origins_kept [] place origin before after there = absurd cc
+origins_kept ((o, steps) ∷ old) zero origin before after there = let same : o ≡ origin = ap (λ (c : SavedChain). c.0) (some_one (o, steps) (origin, before) there) in ap (λ (p : List ℕ). p ∷ chain_origins old) (sym same)
+origins_kept (c ∷ old) (suc place) origin before after there = ap (λ (os : List (List ℕ)). c.0 ∷ os) (origins_kept old place origin before after there)
 
-    go : (o : Option ℕ) → look_up (f x) ≡ o → HasTwice (map f xs)
-    go None e = absurd (let no : false ≡ true = ap is_some (sym e) ∙ known in cc)
-    go (Some p) e =
-        subst HasTwice (sym whole)
-        (comes_again (f x) (map f (take i xs)) (map f (drop (i + 1) xs)) (among_at (map f (take i xs)) p (f x) (has.known.found (f x) p e)))
+pub origins_grown : (old : List SavedChain) (origin : List ℕ) (steps : List Step) → chain_origins (old ++ (origin, steps) ∷ []) ≡ chain_origins old ++ origin ∷ []
+origins_grown old origin steps = map-append (λ (c : SavedChain). c.0) old ((origin, steps) ∷ [])
 
--- what has a place is among those that are indexed
-pub known_among : (look_up : List ℕ → Option ℕ) (origins : List (List ℕ)) (o : List ℕ) → Indexes look_up origins → look_up o ≢ None → IsAmong o origins
-known_among look_up origins o is known = go (look_up o) refl
-  where
-    go : (p : Option ℕ) → look_up o ≡ p → IsAmong o origins
-    go None e = absurd (known e)
-    go (Some i) e = among_at origins i o (is.found o i e)
+-- ---- a list of chains, seen through a view
 
-pub among_known : (look_up : List ℕ → Option ℕ) (origins : List (List ℕ)) (o : List ℕ) → Indexes look_up origins → IsAmong o origins → look_up o ≢ None
-among_known look_up origins o is among out = let at = at_some origins o among in is.absent o at.0 out at.1
+module _ {A : Type 0} (view : A → SavedChain) (xs : List A) (index : Index) (origin : List ℕ) (is : Indexes index (chain_origins (map view xs))) where
+  named_so : map (λ (x : A). (view x).0) xs ≡ chain_origins (map view xs)
+  named_so = shown_twice view (λ (c : SavedChain). c.0) (λ (x : A). (view x).0) xs (λ x. refl)
 
--- all that have a place are among them, and the first that has none is the first that isn't
-pub all_known : (look_up : List ℕ → Option ℕ) (origins os : List (List ℕ)) → Indexes look_up origins → All (λ o. look_up o ≢ None) os → All (λ o. IsAmong o origins) os
-all_known look_up origins os is each = λ k d lt. known_among look_up origins (get_or os k d) is (each k d lt)
+  -- the place that the index tells is one of this origin
+  pub known_there : (place : ℕ) → Some place ≡ index origin → slice_get (map (λ (x : A). (view x).0) xs) place ≡ Some origin
+  known_there place found =
+      let there : slice_get (chain_origins (map view xs)) place ≡ Some origin = subst (At (chain_origins (map view xs)) origin) (sym found) (is origin) in
+      ap (λ (os : List (List ℕ)). slice_get os place) named_so ∙ there
 
-pub first_not_known : (look_up : List ℕ → Option ℕ) (origins os : List (List ℕ)) (place : ℕ) → Indexes look_up origins → IsFirstNot (λ o. look_up o ≢ None) os place
-    → IsFirstNot (λ o. IsAmong o origins) os place
-first_not_known look_up origins os place is first = record {
-  first = first.first;
-  there = first.there;
-  is_not = λ among. first.is_not (among_known look_up origins first.first is among);
-  before = all_known look_up origins (take place os) is first.before;
-}
+  pub known_within : (place : ℕ) → Some place ≡ index origin → place < length xs
+  known_within place found = let within = slice_get_within (map (λ (x : A). (view x).0) xs) place origin (known_there place found) in omega (arith, within, length-map xs (λ (x : A). (view x).0))
 
--- a look-up without a place
-pub unknown : (found known : Option ℕ) → found ≡ known → is_some found ≡ false → ¬ (known ≢ None)
-unknown None known e none is = is (sym e)
-unknown (Some i) known e none is = absurd cc
+  -- where it tells none, none is
+  pub unknown_there : None ≡ index origin → (place : ℕ) → slice_get (map (λ (x : A). (view x).0) xs) place ≢ Some origin
+  unknown_there none place there = let nowhere : (i : ℕ) → slice_get (chain_origins (map view xs)) i ≢ Some origin = subst (At (chain_origins (map view xs)) origin) (sym none) (is origin) in nowhere place (ap (λ (os : List (List ℕ)). slice_get os place) (sym named_so) ∙ there)
 
-pub is_known : (found known : Option ℕ) → found ≡ known → is_some found ≡ true → known ≢ None
-is_known None known e some is = absurd cc
-is_known (Some i) known e some is = absurd (let no : Some i ≡ None = e ∙ is in cc)
+-- the index goes on, as a step is put behind others
+pub indexed_known : (index : Index) (origin : List ℕ) (step : Step) (old new : List SavedChain) (place : ℕ) → Indexes index (chain_origins old) → Some place ≡ index origin → PutsStep origin step old new → Indexes index (chain_origins new)
+indexed_known index origin step old new place is found (inl (at, before, there, now)) =
+    subst (Indexes index) (sym (ap chain_origins now ∙ origins_kept old at origin before (before ++ step ∷ []) there)) is
+indexed_known index origin step old new place is found (inr (none, now)) =
+    absurd (none place (subst (At (chain_origins old) origin) (sym found) (is origin)))
 
-pub none_known : (known : Option ℕ) → false ≡ is_some known → known ≡ None
-none_known None e = refl
-none_known (Some i) e = absurd cc
+-- or begins a chain
+pub indexed_new : (index next : Index) (origin : List ℕ) (step : Step) (old new : List SavedChain) (place : ℕ) → Indexes index (chain_origins old) → None ≡ index origin → place ≡ length old → PutsOrigin origin place index next → PutsStep origin step old new → Indexes next (chain_origins new)
+indexed_new index next origin step old new place is unknown last puts (inl (at, before, there, now)) =
+    let none : (i : ℕ) → slice_get (chain_origins old) i ≢ Some origin = subst (At (chain_origins old) origin) (sym unknown) (is origin) in
+    absurd (none at (slice_get-map (λ (c : SavedChain). c.0) old at ∙ ap (option_map (λ (c : SavedChain). c.0)) there))
+indexed_new index next origin step old new place is unknown last puts (inr (none, now)) =
+    subst (Indexes next) (sym (ap chain_origins now ∙ origins_grown old origin (step ∷ [])))
+    (indexes_more index next (chain_origins old) origin place (last ∙ sym (length-map old (λ (c : SavedChain). c.0))) is puts)

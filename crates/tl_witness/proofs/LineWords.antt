@@ -1,11 +1,14 @@
 -- Texts that are no line of a link, by the first field that is wrong.
-use Rattle.std.proofs.Common.{◌≡◌, ℕ, ◌<◌, List, length, sym, ◌∙◌, arith, All}
+use Rattle.std.proofs.Common.{◌≡◌, ℕ, ◌<◌, ◌≤◌, List, length, sym, ap, ◌∙◌, arith, All}
+use Rattle.std.specs.Prelude.{IsUtf8}
 use Rattle.std.proofs.lemmas.Fmt.{decimal_injective}
 use Rattle.tl_hash.specs.Bytes.{IsHash}
 use Rattle.tl_note.specs.Text.{number_text, base64_text, IsSize}
 use Rattle.tl_checkpoint.specs.Checkpoint.{IsOneLine}
+use Rattle.tl_witness.specs.declared.chain_fields.Fields.{Fields}
+use Rattle.tl_witness.specs.ReadChain.{ShowsFields}
 use Rattle.tl_witness.specs.ChainLine.{ChainLine, IsChainLine}
-use Rattle.tl_witness.specs.ChainFields.{field, hashes_before, chain_words, HasNoNumber, HasNoHash, HasNoHashes, IsNoChainLine}
+use Rattle.tl_witness.specs.ChainFields.{field, hashes_before, chain_words, HasHashes, HasNoNumber, HasNoHash, HasNoHashes, IsNoChainLine}
 use Rattle.tl_witness.proofs.FieldTexts.{one_end}
 use Rattle.tl_witness.proofs.FieldLaws.{number_without, hash_without}
 use Rattle.tl_witness.proofs.HashFields.{hashes_once}
@@ -91,3 +94,21 @@ no_origin words count left origin proof read each number whole none = λ l is e.
     let cut = count_left words count left l read is e in
     let same : origin ≡ l.origin = (hashes_once proof l.step.proof origin l.origin each is.hashes (number ∙ cut.0) (sym whole ∙ cut.1)).1 in
     none (rw same is.origin)
+
+-- the fields of a line, one behind the other
+pub fields_shown : (words before after : List ℕ) (fields : Fields) → IsSize fields.size → words ≡ field (number_text fields.size) before → IsHash fields.root → before ≡ field (base64_text fields.root) after
+    → after ≡ field (number_text fields.count) fields.hashes.now → fields.count ≤ 63 → HasHashes fields.count fields.hashes.now fields.origin.now → IsUtf8 fields.origin.now → IsOneLine fields.origin.now → ShowsFields words fields
+fields_shown words before after fields small first is_hash second third few has utf8 one =
+    let proof = has.0 in
+    record {
+      proof = proof;
+      hashes = has.1;
+      line = record {
+        lawful = record { origin = one; utf8 = utf8; size = small; root = is_hash; few = omega (arith, few, has.1.number); hashes = has.1.each };
+        spelled = first
+            ∙ ap (field (number_text fields.size)) (second
+            ∙ ap (field (base64_text fields.root)) (third
+            ∙ ap (field (number_text fields.count)) has.1.whole
+            ∙ ap (λ (n : ℕ). field (number_text n) (hashes_before proof fields.origin.now)) (sym has.1.number)));
+      };
+    }

@@ -1,6 +1,6 @@
 -- Bytes that are no request.
-use Rattle.std.proofs.Common.{◌≡◌, ◌≢◌, ℕ, ◌≤◌, List, [], ◌∷◌, ◌++◌, sym, subst, ◌∙◌, append_assoc, arith}
-use Rattle.std.specs.Prelude.{IsUtf8, codes, Err}
+use Rattle.std.proofs.Common.{◌≡◌, ◌≢◌, ℕ, ◌<◌, ◌≤◌, List, [], ◌∷◌, ◌++◌, Ok, Err, Result, ap, sym, subst, ◌∙◌, append_assoc, arith}
+use Rattle.std.specs.Prelude.{IsUtf8, codes, IsErrAnd, length}
 use Rattle.std.specs.Str.{IsAscii}
 use Rattle.std.proofs.lemmas.Fmt.{IsAscii-decimal}
 use Rattle.std.proofs.lemmas.List.Concat.{flat_map-cons}
@@ -13,10 +13,11 @@ use Rattle.tl_note.specs.Text.{line, number_text, base64_text, HasNoControl, IsS
 use Rattle.tl_note.proofs.Lines.{one_line}
 use Rattle.tl_note.proofs.PlainText.{number_plain}
 use Rattle.tl_checkpoint.specs.Pieces.{IsNoLine, IsNoSize}
+use Rattle.tl_witness.specs.declared.request.AddRequest.{AddRequest}
 use Rattle.tl_witness.specs.declared.request.RequestFault.{RequestFault}
-use Rattle.tl_witness.specs.declared.request.RequestFault.TheVariants.{Malformed, OutOfMemory}
+use Rattle.tl_witness.specs.declared.request.RequestFault.TheVariants.{OutOfMemory}
 use Rattle.tl_witness.specs.Request.{Body, IsRequest, hash_lines, body_text}
-use Rattle.tl_witness.specs.ReadRequest.{IsProofText, ReadsProof, ParsesRequest}
+use Rattle.tl_witness.specs.ReadRequest.{IsProofText, HasNoProof, ParsesRequest}
 
 -- the first line of a request
 abbrev pub old_words : Body → List ℕ
@@ -86,7 +87,22 @@ no_size bytes text words rest digits same plain e begins none r is =
     none r.old is.lawful.old cc
 
 -- a rest that is no proof and note
-pub no_rest : (A : Type 0) (bytes text words rest : List ℕ) (fault : RequestFault) → text ≡ bytes → HasNoControl words → text ≡ line words ++ rest
-    → ReadsProof rest (Err fault) → ParsesRequest {A = A} bytes (Err fault)
-no_rest A bytes text words rest Malformed same plain e none = λ r is. none r.proof r.note (cut bytes text words rest r same plain e is).1
-no_rest A bytes text words rest OutOfMemory same plain e none = tt
+pub no_rest : (bytes text words rest : List ℕ) → text ≡ bytes → HasNoControl words → text ≡ line words ++ rest → HasNoProof rest → (r : Body) → ¬ (IsRequest bytes r)
+no_rest bytes text words rest same plain e none r is = none r.proof r.note (cut bytes text words rest r same plain e is).1
+
+-- the request of these parts
+abbrev pub made : ℕ → List (List ℕ) → List ℕ → Body
+made old proof note = record { old = old; proof = proof; note = note }
+
+pub request_of : (bytes text words rest digits : List ℕ) (old : ℕ) (proof : List (List ℕ)) (note : List ℕ) → text ≡ bytes → text ≡ line words ++ rest → words ≡ codes "old " ++ digits
+    → IsSize old × (digits ≡ number_text old) → IsProofText rest proof note → IsRequest bytes (made old proof note)
+request_of bytes text words rest digits old proof note same e begins size is = record {
+  lawful = record { old = size.0; few = is.few; hashes = is.hashes; utf8 = is.utf8 };
+  spelled = sym same ∙ e ∙ ap (λ (w : List ℕ). line w ++ rest) (begins ∙ ap (λ (d : List ℕ). codes "old " ++ d) size.1)
+      ∙ ap (λ (t : List ℕ). line (old_words (made old proof note)) ++ t) is.spelled ∙ sym (regroup (made old proof note));
+}
+
+-- a request for memory is refused, for a request whose proof isn't empty
+pub parses_refused : {A : Type 0} → (bytes : List ℕ) (b : Body) (r : Result (AddRequest A) RequestFault) → IsErrAnd r (λ e. e ≡ OutOfMemory) → IsRequest bytes b → 0 < length b.proof → ParsesRequest bytes r
+parses_refused bytes b (Ok request) refused is some = absurd refused
+parses_refused {A = A} bytes b (Err fault) refused is some = subst (λ (f : RequestFault). ParsesRequest {A = A} bytes (Err f)) (sym refused) (b, is, some)

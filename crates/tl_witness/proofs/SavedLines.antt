@@ -1,10 +1,16 @@
 -- Reading the lines of saved links, one after the other.
-use Rattle.std.proofs.Common.{◌≡◌, ◌≢◌, ℕ, ◌+◌, ◌≤◌, false, List, [], ◌∷◌, ◌++◌, length, refl, sym, ap, subst, ◌∙◌, append_assoc, append-nil, arith, All}
-use Rattle.std.specs.Prelude.{nat_eq}
+use Rattle.std.proofs.Common.{◌≡◌, ◌≢◌, ℕ, ◌+◌, ◌≤◌, false, List, [], ◌∷◌, ◌++◌, length, refl, sym, ap, subst, ◌∙◌, append_assoc, append-nil, arith, All, Ok, Err, Result}
+use Rattle.std.specs.Prelude.{nat_eq, IsErrAnd, String}
 use Rattle.std.proofs.lemmas.List.{length-append}
 use Rattle.std.proofs.lemmas.List.Concat.{flat_map-cons, flat_map-append}
-use Rattle.std.proofs.lemmas.List.Elements.{All-nil, All-push}
+use Rattle.std.proofs.lemmas.List.Elements.{All-head, All-nil, All-push}
 use Rattle.tl_witness.specs.ChainLine.{ChainLine, IsChainLine, IsMalformedAt, chain_line, chain_text, chains}
+use Rattle.std.specs.declared.vec.Vec.{Vec}
+use Rattle.tl_proof.specs.Collisions.{Step}
+use Rattle.tl_proof.specs.declared.link.Link.{Link}
+use Rattle.tl_witness.specs.declared.chain_reading.ChainFault.{ChainFault}
+use Rattle.tl_witness.specs.declared.chain_reading.ChainFault.TheVariants.{OutOfMemory}
+use Rattle.tl_witness.specs.ReadChain.{BeginsWithLine, IsLineOf, ReadsChain}
 use Rattle.tl_witness.specs.ChainFields.{PutsStep, chain_words}
 use Rattle.tl_witness.specs.Open.{SavedChain}
 use Rattle.tl_witness.proofs.LineText.{line_of_words}
@@ -57,3 +63,21 @@ malformed bytes saved count left read some none = record {
   more = not_empty left some;
   no_line = none;
 }
+
+-- the first line was read, or is the next one
+begins_at : (lines : List ChainLine) (bytes left rest : List ℕ) (l : ChainLine) → All IsChainLine lines → bytes ≡ chain_text lines ++ left → left ≡ chain_line l ++ rest → IsChainLine l → BeginsWithLine bytes
+begins_at [] bytes left rest l each whole next is = (l, rest, is, whole ∙ next)
+begins_at (m ∷ lines) bytes left rest l each whole next is =
+    (m, chain_text lines ++ left, All-head IsChainLine m lines each, whole ∙ ap (λ (t : List ℕ). t ++ left) (flat_map-cons chain_line m lines) ∙ append_assoc (chain_line m) (chain_text lines) left)
+
+pub begins : (bytes : List ℕ) (saved : List SavedChain) (count : ℕ) (left words rest origin : List ℕ) (step : Step) → HasRead bytes saved count left
+    → left ≡ words ++ 10 ∷ rest → IsLineOf words origin step → BeginsWithLine bytes
+begins bytes saved count left words rest origin step read cut is =
+    let l : ChainLine = record { origin = origin; step = step } in
+    let next : left ≡ chain_line l ++ rest = cut ∙ ap (λ (t : List ℕ). t ++ 10 ∷ rest) is.spelled ∙ sym (line_of_words l rest) in
+    begins_at read.lines bytes left rest l read.each read.whole next is.lawful
+
+-- a request for memory is refused, of bytes that begin with a line
+pub reads_refused : {A : Type 0} → (bytes : List ℕ) (r : Result (Vec (String A × Vec (Link A) A) A) ChainFault) → IsErrAnd r (λ e. e ≡ OutOfMemory) → BeginsWithLine bytes → ReadsChain bytes r
+reads_refused bytes (Ok read) refused is = absurd refused
+reads_refused {A = A} bytes (Err fault) refused is = subst (λ (f : ChainFault). ReadsChain {A = A} bytes (Err f)) (sym refused) is

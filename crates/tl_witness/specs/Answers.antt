@@ -1,14 +1,12 @@
--- What a witness answers to a body, memory being short or not (C2SP tlog-witness, "add-checkpoint"). H is the
--- digest function.
-use Rattle.std.specs.Prelude.{ℕ, ◌⊎◌, List, Err}
-use Rattle.tl_witness.specs.declared.request.RequestFault.TheVariants.{OutOfMemory}
+-- What a witness answers to a body, memory being short or not (C2SP tlog-witness, "add-checkpoint"). H is the digest
+-- function.
+use Rattle.std.specs.Prelude.{ℕ, ◌⊎◌, List}
 use Rattle.tl_witness.specs.Request.{Body, IsRequest}
-use Rattle.tl_witness.specs.ReadRequest.{ParsesRequest}
 use Rattle.tl_witness.specs.Book.{BookOutcome, RefusesAll, DecidesBody}
 
--- an answer to this body may ask for memory: its reading may, or it is a request
+-- the body is a request: no other asks for memory
 abbrev pub AsksForMemory : List ℕ → Type 0
-AsksForMemory body = ParsesRequest {A = ℕ} body (Err OutOfMemory) ⊎ ((request : Body) × IsRequest body request)
+AsksForMemory body = (request : Body) × IsRequest body request
 
 -- the cases of a request; or 500 with nothing changed, where memory was asked for
 abbrev pub Answers : (List ℕ → List ℕ) → List ℕ → ℕ → BookOutcome → Type 0

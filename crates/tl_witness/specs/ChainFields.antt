@@ -37,6 +37,16 @@ HasNoHash text = (hash rest : List ℕ) → IsHash hash → text ≢ field (base
 abbrev pub HasNoHashes : ℕ → List ℕ → Type 0
 HasNoHashes count text = (hashes : List (List ℕ)) (rest : List ℕ) → All IsHash hashes → length hashes ≡ count → text ≢ hashes_before hashes rest
 
+-- the text is these hashes, so many, each a field, and what follows
+pub record AreHashes (count : ℕ) (text : List ℕ) (hashes : List (List ℕ)) (rest : List ℕ) : Type 0 where
+  pub each : All IsHash hashes
+  pub number : length hashes ≡ count
+  pub whole : text ≡ hashes_before hashes rest
+
+-- the text begins with so many hashes, each a field
+abbrev pub HasHashes : ℕ → List ℕ → List ℕ → Type 0
+HasHashes count text rest = (hashes : List (List ℕ)) × AreHashes count text hashes rest
+
 -- no line of a link has these words
 abbrev pub IsNoChainLine : List ℕ → Type 0
 IsNoChainLine words = (l : ChainLine) → IsChainLine l → words ≢ chain_words l

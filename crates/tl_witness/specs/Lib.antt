@@ -18,5 +18,6 @@ pub mod Open
 pub mod Opening
 pub mod Index
 pub mod ChainFields
+pub mod ByOrigin
 pub mod ReadChain
 pub mod OneReading

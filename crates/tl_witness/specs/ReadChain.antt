@@ -1,11 +1,13 @@
 -- What reading saved links answers.
-use Rattle.std.specs.Prelude.{◌≡◌, ℕ, List, map, string_bytes, vec_items, String, Result, Ok, Err, ⊤}
+use Rattle.std.specs.Prelude.{◌≡◌, ℕ, List, ◌++◌, map, string_bytes, vec_items, String, Result, Ok, Err}
 use Rattle.std.specs.declared.vec.Vec.{Vec}
 use Rattle.tl_proof.specs.declared.link.Link.{Link}
-use Rattle.tl_proof.specs.Collisions.{step_of}
+use Rattle.tl_proof.specs.Collisions.{Step, step_of}
 use Rattle.tl_witness.specs.declared.chain_reading.ChainFault.{ChainFault}
 use Rattle.tl_witness.specs.declared.chain_reading.ChainFault.TheVariants.{Malformed, OutOfMemory}
-use Rattle.tl_witness.specs.ChainLine.{ChainLine, IsChainText, IsMalformedAt, chains}
+use Rattle.tl_witness.specs.declared.chain_fields.Fields.{Fields}
+use Rattle.tl_witness.specs.ChainLine.{ChainLine, IsChainLine, IsChainText, IsMalformedAt, chain_line, chains}
+use Rattle.tl_witness.specs.ChainFields.{AreHashes, chain_words}
 use Rattle.tl_witness.specs.Open.{SavedChain, saved_chain}
 
 -- what saved links say, whatever memory they are in
@@ -18,8 +20,23 @@ pub record AreChainsOf (bytes : List ℕ) (saved : List SavedChain) : Type 0 whe
   pub text : IsChainText bytes lines
   pub same : saved ≡ chains lines
 
--- the chains of the lines that the bytes are, or the first line that is none
+-- the bytes begin with the line of a link
+abbrev pub BeginsWithLine : List ℕ → Type 0
+BeginsWithLine bytes = (l : ChainLine) × (after : List ℕ) × IsChainLine l × (bytes ≡ chain_line l ++ after)
+
+-- the chains of the lines that the bytes are, or the first line that is none; memory is asked for a line of a link
 abbrev pub ReadsChain : {A : Type 0} → List ℕ → Result (Vec (String A × Vec (Link A) A) A) ChainFault → Type 0
 ReadsChain bytes (Ok read) = AreChainsOf bytes (chains_shown (vec_items read))
 ReadsChain bytes (Err (Malformed place)) = IsMalformedAt bytes place
-ReadsChain bytes (Err OutOfMemory) = ⊤
+ReadsChain bytes (Err OutOfMemory) = BeginsWithLine bytes
+
+-- the words are those of this step of this origin
+pub record IsLineOf (words origin : List ℕ) (step : Step) : Type 0 where
+  pub lawful : IsChainLine (record { origin = origin; step = step })
+  pub spelled : words ≡ chain_words (record { origin = origin; step = step })
+
+-- the words have these fields, whatever the hashes are
+pub record ShowsFields (words : List ℕ) (fields : Fields) : Type 0 where
+  pub proof : List (List ℕ)
+  pub hashes : AreHashes fields.count fields.hashes.now proof fields.origin.now
+  pub line : IsLineOf words fields.origin.now (record { size = fields.size; root = fields.root; proof = proof })

@@ -1,7 +1,7 @@
 -- What reading a request answers (C2SP tlog-witness, "add-checkpoint").
-use Rattle.std.specs.Prelude.{◌≡◌, ℕ, ◌≤◌, List, ◌∷◌, ◌++◌, length, All, IsUtf8, Result, Ok, Err, ⊤}
-use Rattle.std.specs.Borrow.{Bor}
+use Rattle.std.specs.Prelude.{◌≡◌, ◌≢◌, ℕ, ◌<◌, ◌≤◌, List, ◌∷◌, ◌++◌, length, All, IsUtf8, Result, Ok, Err, ⊤}
 use Rattle.tl_hash.specs.Bytes.{IsHash}
+use Rattle.tl_note.specs.Text.{line, base64_text}
 use Rattle.tl_checkpoint.specs.Checkpoint.{head_of}
 use Rattle.tl_witness.specs.declared.request.AddRequest.{AddRequest}
 use Rattle.tl_witness.specs.declared.request.RequestFault.{RequestFault}
@@ -14,11 +14,11 @@ use Rattle.tl_witness.specs.Book.{Signed, IsSigned}
 abbrev pub body_of : {A : Type 0} → AddRequest A → Body
 body_of request = record { old = request.old; proof = request.proof; note = request.note.now }
 
--- the request that the bytes are, or that they are none
+-- the request that the bytes are, or that they are none; memory is asked for the hashes of a request
 abbrev pub ParsesRequest : {A : Type 0} → List ℕ → Result (AddRequest A) RequestFault → Type 0
 ParsesRequest bytes (Ok request) = IsRequest bytes (body_of request)
 ParsesRequest bytes (Err Malformed) = (request : Body) → ¬ (IsRequest bytes request)
-ParsesRequest bytes (Err OutOfMemory) = ⊤
+ParsesRequest bytes (Err OutOfMemory) = (request : Body) × IsRequest bytes request × (0 < length request.proof)
 
 -- the text is the lines of these hashes, at most 63, an empty line and the note
 pub record IsProofText (text : List ℕ) (proof : List (List ℕ)) (note : List ℕ) : Type 0 where
@@ -27,11 +27,17 @@ pub record IsProofText (text : List ℕ) (proof : List (List ℕ)) (note : List 
   pub utf8 : IsUtf8 note
   pub spelled : text ≡ hash_lines proof ++ 10 ∷ note
 
--- the hashes and the note of such a text, or that it is none
-abbrev pub ReadsProof : List ℕ → Result (List (List ℕ) × Bor (List ℕ)) RequestFault → Type 0
-ReadsProof text (Ok read) = IsProofText text read.0 read.1.now
-ReadsProof text (Err Malformed) = (proof : List (List ℕ)) (note : List ℕ) → ¬ (IsProofText text proof note)
-ReadsProof text (Err OutOfMemory) = ⊤
+-- the text is that of so many hashes and this note
+abbrev pub HasProof : List ℕ → ℕ → List ℕ → Type 0
+HasProof text count note = (proof : List (List ℕ)) × IsProofText text proof note × (length proof ≡ count)
+
+-- no hashes and no note have this text
+abbrev pub HasNoProof : List ℕ → Type 0
+HasNoProof text = (proof : List (List ℕ)) (note : List ℕ) → ¬ (IsProofText text proof note)
+
+-- the text doesn't begin with the line of a hash
+abbrev pub HasNoHashLine : List ℕ → Type 0
+HasNoHashLine text = (hash rest : List ℕ) → IsHash hash → text ≢ line (base64_text hash) ++ rest
 
 -- what a signed checkpoint says
 abbrev pub signed_of : {A : Type 0} → SignedCheckpoint A → Signed

@@ -5,10 +5,12 @@ ghost use Rattle.tl_proof.specs.Collisions.{step_of};
 ghost use Rattle.tl_witness.specs.Answers.{Answers, AsksForMemory};
 ghost use Rattle.tl_witness.specs.Book.{DecidesBody, IsPlaceOf, Place};
 
+use crate::by_origin::ByOrigin;
 use crate::chain::Chain;
 use crate::finding::{Unfound, find_origin};
+use crate::index::place_by;
 use crate::origin::Origin;
-use crate::place::{OfOrigin, place_of};
+use crate::place::OfOrigin;
 use crate::reply::{Reply, refusal};
 use crate::saver::Saver;
 use crate::tools::Tools;
@@ -62,6 +64,7 @@ impl<T: TreeHash, A: Allocator> OfOrigin for Entry<T, A> {
 pub struct Book<T: TreeHash, A: Allocator + Copy> {
     pub(crate) tools: Tools<T, A>,
     pub(crate) entries: Vec<Entry<T, A>, A>,
+    pub(crate) places: ByOrigin<A>,
 }
 
 /// What contracts see of a book: what is kept of each origin.
@@ -112,7 +115,7 @@ impl<T: TreeHash, A: Allocator + Copy> Book<T, A> {
             × (⟦<Book<T, A> as Shown>⟧.shown self.new ≡ ⟦<Book<T, A> as Shown>⟧.shown self.old) × AsksForMemory body.now) }
     {
         let tools = self.tools;
-        let found = match find_origin(tools.alloc, self.entries.as_slice(), body) {
+        let found = match find_origin(tools.alloc, &self.places, self.entries.as_slice(), body) {
             Ok(found) => found,
             Err(Unfound::Malformed) => return Ok(refusal(tools.alloc, 400)),
             Err(Unfound::Unknown) => return Ok(refusal(tools.alloc, 404)),
@@ -149,7 +152,7 @@ impl<T: TreeHash, A: Allocator + Copy> Book<T, A> {
         ensures { MatchOption result ((place : Place) → ¬ (IsPlaceOf (⟦<Book<T, A> as Shown>⟧.shown self.now) origin.now place))
             (λ links. (place : Place) × IsPlaceOf (⟦<Book<T, A> as Shown>⟧.shown self.now) origin.now place × (map step_of links.now ≡ place.one.chain)) }
     {
-        let place = match place_of(self.entries.as_slice(), origin) {
+        let place = match place_by(&self.places, self.entries.as_slice(), origin) {
             Some(place) => place,
             None => return None,
         };

@@ -1,17 +1,19 @@
 //! The fields of a chain line. Each reader takes exactly what has that spelling.
 
-ghost use Rattle.std.specs.Prelude.{◌≡◌, All, IfOk, IsUtf8, MatchOption, length};
+ghost use Rattle.std.specs.Prelude.{◌≡◌, ℕ, IfOk, IsUtf8, List, MatchOption};
 ghost use Rattle.tl_hash.specs.Bytes.{IsHash};
 ghost use Rattle.tl_note.specs.Text.{IsSize, base64_text, number_text};
-ghost use Rattle.tl_witness.specs.ChainFields.{HasNoHash, HasNoHashes, HasNoNumber, field, hashes_before};
+ghost use Rattle.tl_witness.specs.ChainFields.{AreHashes, HasHashes, HasNoHash, HasNoHashes, HasNoNumber, IsNoChainLine, field};
+ghost use Rattle.tl_witness.specs.ReadChain.{ShowsFields};
 
+use crate::request::MOST_HASHES;
 use std::alloc::{AllocError, Allocator};
-use tl_checkpoint::{hash_of, size_of};
+use tl_checkpoint::{hash_of, is_one_line, size_of};
 use tl_hash::Hash;
 use tl_proof::HashList;
 
 // A number below 2^63 and a space, and what follows.
-pub(crate) fn number_field(text: &str) -> Option<(u64, &str)>
+fn number_field(text: &str) -> Option<(u64, &str)>
     ensures { MatchOption result (HasNoNumber text.now) (λ r. IsSize r.0 × (text.now ≡ field (number_text r.0) r.1.now)) }
 {
     let Some((words, rest)) = text.split_once(' ') else {
@@ -24,40 +26,93 @@ pub(crate) fn number_field(text: &str) -> Option<(u64, &str)>
 }
 
 // A hash and a space, and what follows.
-pub(crate) fn hash_field<A: Allocator>(
-    alloc: A,
-    text: &str,
-) -> Result<Option<(Hash, &str)>, AllocError>
-    ensures { IfOk result (λ found. MatchOption found (HasNoHash text.now) (λ r. IsHash r.0 × (text.now ≡ field (base64_text r.0) r.1.now) × IsUtf8 r.1.now)) }
+fn hash_field(text: &str) -> Option<(Hash, &str)>
+    ensures { MatchOption result (HasNoHash text.now) (λ r. IsHash r.0 × (text.now ≡ field (base64_text r.0) r.1.now) × IsUtf8 r.1.now) }
 {
     let Some((words, rest)) = text.split_once(' ') else {
-        return Ok(None);
+        return None;
     };
-    match hash_of(alloc, words)? {
-        Some(hash) => Ok(Some((hash, rest))),
-        None => Ok(None),
-    }
+    let Some(hash) = hash_of(words) else {
+        return None;
+    };
+    Some((hash, rest))
 }
 
-// This many hashes, each with a space behind it, and what follows.
-pub(crate) fn hash_fields<A: Allocator + Copy>(
-    alloc: A,
-    count: u64,
-    text: &str,
-) -> Result<Option<(HashList<A>, &str)>, AllocError>
-    ensures { IfOk result (λ found. MatchOption found (HasNoHashes count text.now)
-        (λ r. All IsHash r.0 × (length r.0 ≡ count) × (text.now ≡ hashes_before r.0 r.1.now) × IsUtf8 r.1.now)) }
+// What follows so many hashes, each with a space behind it.
+fn skip_hashes(count: usize, text: &str) -> Option<&str>
+    ensures { MatchOption result (HasNoHashes count text.now) (λ rest. HasHashes count text.now rest.now × IsUtf8 rest.now) }
 {
-    let mut hashes = Vec::new(alloc);
     let mut left = text;
-    while (hashes.len() as u64) < count {
-        let (hash, rest) = match hash_field(alloc, left) {
-            Ok(Some(read)) => read,
-            Ok(None) => return Ok(None),
-            Err(fault) => return Err(fault),
+    for _ in 0..count {
+        let Some((_, rest)) = hash_field(left) else {
+            return None;
         };
+        left = rest;
+    }
+    Some(left)
+}
+
+// The hashes of a text that begins with so many, each with a space behind it.
+pub(crate) fn read_hashes<A: Allocator>(
+    alloc: A,
+    count: usize,
+    text: &str,
+) -> Result<HashList<A>, AllocError>
+    requires { (rest : List ℕ) × HasHashes count text.now rest }
+    ensures { IfOk result (λ read. (hashes : List (List ℕ)) (rest : List ℕ) → AreHashes count text.now hashes rest → read ≡ hashes) }
+{
+    let mut hashes: Vec<Hash, A> = Vec::with_capacity(alloc, count)?;
+    let mut left = text;
+    while hashes.len() < count {
+        let Some(read) = hash_field(left) else {
+            unreachable!();
+        };
+        let (hash, rest) = read;
         hashes.push(hash)?;
         left = rest;
     }
-    Ok(Some((HashList::from_vec(hashes), left)))
+    Ok(HashList::from_vec(hashes))
+}
+
+/// The fields of a chain line. The hashes of the proof stand in front of `hashes`.
+#[derive(Clone, Copy)]
+pub(crate) struct Fields<'a> {
+    pub(crate) size: u64,
+    pub(crate) root: Hash,
+    pub(crate) count: usize,
+    pub(crate) hashes: &'a str,
+    pub(crate) origin: &'a str,
+}
+
+/// Cuts the words of a chain line, which is the line without its newline. It takes no memory.
+pub(crate) fn cut_fields(words: &str) -> Option<Fields<'_>>
+    ensures { MatchOption result (IsNoChainLine words.now) (ShowsFields words.now) }
+{
+    let Some((size, rest)) = number_field(words) else {
+        return None;
+    };
+    let Some(read) = hash_field(rest) else {
+        return None;
+    };
+    let (root, rest) = read;
+    let Some((count, hashes)) = number_field(rest) else {
+        return None;
+    };
+    if count > MOST_HASHES as u64 {
+        return None;
+    }
+    let count = count as usize;
+    let Some(origin) = skip_hashes(count, hashes) else {
+        return None;
+    };
+    if !is_one_line(origin) {
+        return None;
+    }
+    Some(Fields {
+        size,
+        root,
+        count,
+        hashes,
+        origin,
+    })
 }

@@ -21,8 +21,9 @@ fn push_hashes<A: Allocator>(out: &mut String<A>, hashes: &[Hash]) -> Result<(),
     Ok(())
 }
 
-/// The line of a link of an origin: the size, the root, the number of hashes of the proof, these hashes, and the origin, with
-/// spaces between, and a newline. Sizes are decimal, hashes base64. It fails only where a growth was refused.
+/// The line of a link of an origin: the size, the root, the number of hashes of the proof, these hashes, and the
+/// origin, with spaces between, and a newline. Sizes are decimal, hashes base64. It fails only where a growth was
+/// refused.
 pub fn write_chain_line<A: Allocator, B: Allocator>(
     alloc: A,
     origin: &str,

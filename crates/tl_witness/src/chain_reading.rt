@@ -1,18 +1,17 @@
 //! Reads the links that a witness saved, from their lines.
 
-ghost use Rattle.std.specs.Prelude.{◌≡◌, ◌==◌, ◌++◌, ◌∷◌, IfOk, MatchOption, OnOk, position};
+ghost use Rattle.std.specs.Prelude.{◌≡◌, ◌==◌, ◌++◌, ◌∷◌, ℕ, IfOk, List, MatchOption, OnOk, position};
 ghost use Rattle.tl_proof.specs.Collisions.{step_of};
-ghost use Rattle.tl_witness.specs.ChainFields.{HasNoLine, IsNoChainLine, IsWithout, PutsStep, chain_words};
-ghost use Rattle.tl_witness.specs.ChainLine.{IsChainLine};
-ghost use Rattle.tl_witness.specs.ReadChain.{ReadsChain, chains_shown};
+ghost use Rattle.tl_witness.specs.ByOrigin.{Indexes, index_of};
+ghost use Rattle.tl_witness.specs.ChainFields.{HasNoLine, IsWithout, PutsStep};
+ghost use Rattle.tl_witness.specs.Open.{chain_origins};
+ghost use Rattle.tl_witness.specs.ReadChain.{IsLineOf, ReadsChain, ShowsFields, chains_shown};
 
-use crate::chain_fields::{hash_field, hash_fields, number_field};
-use crate::place::place_of;
-use crate::request::MOST_HASHES;
+use crate::by_origin::ByOrigin;
+use crate::chain_fields::{Fields, cut_fields, read_hashes};
 use std::alloc::{AllocError, Allocator};
 use std::str;
 use thiserror::Error;
-use tl_checkpoint::is_one_line;
 use tl_proof::Link;
 
 /// Why saved links aren't read.
@@ -56,49 +55,32 @@ fn cut_line(bytes: &[u8]) -> Option<(&str, &[u8])>
     Some((words, &bytes[end + 1..]))
 }
 
-// The origin and the link of a line.
-fn read_words<A: Allocator + Copy>(
-    alloc: A,
-    words: &str,
-) -> Result<Option<(&str, Link<A>)>, AllocError>
-    ensures { IfOk result (λ found. MatchOption found (IsNoChainLine words.now)
-        (λ r. IsChainLine (record { origin = r.0.now; step = step_of r.1 }) × (words.now ≡ chain_words (record { origin = r.0.now; step = step_of r.1 })))) }
+// The link of a line's fields.
+fn link_of<A: Allocator>(alloc: A, fields: &Fields<'_>) -> Result<Link<A>, AllocError>
+    requires { (words : List ℕ) × ShowsFields words fields.now }
+    ensures { IfOk result (λ link. (words : List ℕ) → ShowsFields words fields.now → IsLineOf words fields.now.origin.now (step_of link)) }
 {
-    let Some((size, rest)) = number_field(words) else {
-        return Ok(None);
-    };
-    let (root, rest) = match hash_field(alloc, rest) {
-        Ok(Some(read)) => read,
-        Ok(None) => return Ok(None),
-        Err(fault) => return Err(fault),
-    };
-    let Some((count, rest)) = number_field(rest) else {
-        return Ok(None);
-    };
-    if count > MOST_HASHES as u64 {
-        return Ok(None);
-    }
-    let (proof, origin) = match hash_fields(alloc, count, rest) {
-        Ok(Some(read)) => read,
-        Ok(None) => return Ok(None),
-        Err(fault) => return Err(fault),
-    };
-    if !is_one_line(origin) {
-        return Ok(None);
-    }
-    Ok(Some((origin, Link { size, root, proof })))
+    let proof = read_hashes(alloc, fields.count, fields.hashes)?;
+    Ok(Link {
+        size: fields.size,
+        root: fields.root,
+        proof,
+    })
 }
 
-// Adds a link behind those of its origin.
+// Adds a link behind those of its origin, which the index tells.
 fn put_link<A: Allocator + Copy>(
     alloc: A,
     chains: &mut Vec<(String<A>, Vec<Link<A>, A>), A>,
+    index: &mut ByOrigin<A>,
     origin: &str,
     link: Link<A>,
 ) -> Result<(), AllocError>
-    ensures { OnOk result (PutsStep origin.now (step_of link) (chains_shown chains.old.items) (chains_shown chains.new.items)) }
+    requires { Indexes (index_of index.old) (chain_origins (chains_shown chains.old.items)) }
+    ensures put { OnOk result (PutsStep origin.now (step_of link) (chains_shown chains.old.items) (chains_shown chains.new.items)) }
+    ensures indexed { OnOk result (Indexes (index_of index.new) (chain_origins (chains_shown chains.new.items))) }
 {
-    match place_of(chains.as_slice(), origin) {
+    match index.find(origin) {
         Some(place) => {
             let chain = &mut chains[place];
             chain.1.push(link)?;
@@ -106,14 +88,18 @@ fn put_link<A: Allocator + Copy>(
         None => {
             let mut links = Vec::new(alloc);
             links.push(link)?;
+            let place = chains.len();
             chains.push((String::from_str(alloc, origin)?, links))?;
+            index.add(alloc, origin, place)?;
         }
     }
     Ok(())
 }
 
-/// The links that these bytes say, one on each line as `write_chain_line` writes it: each origin, in the order of the first lines,
-/// with its links in order. `Malformed` tells the first line that isn't written so; the last one too ends with a newline.
+/// The links that these bytes say, one on each line as `write_chain_line` writes it: each origin, in the order of the
+/// first lines, with its links in order. `Malformed` tells the first line that isn't written so; the last one too ends
+/// with a newline. Memory is asked for after the first line is found to be one. The time grows with the bytes, and
+/// with the logarithm of the number of origins.
 pub fn read_chain<A: Allocator + Copy>(
     alloc: A,
     bytes: &[u8],
@@ -121,18 +107,18 @@ pub fn read_chain<A: Allocator + Copy>(
     ensures { ReadsChain bytes.now result }
 {
     let mut chains = Vec::new(alloc);
+    let mut index = ByOrigin::new(alloc);
     let mut left = bytes;
     let mut line = 0;
     while !left.is_empty() {
         let Some((words, rest)) = cut_line(left) else {
             return Err(ChainFault::Malformed(line));
         };
-        let (origin, link) = match read_words(alloc, words) {
-            Ok(Some(read)) => read,
-            Ok(None) => return Err(ChainFault::Malformed(line)),
-            Err(fault) => return Err(ChainFault::from(fault)),
+        let Some(fields) = cut_fields(words) else {
+            return Err(ChainFault::Malformed(line));
         };
-        put_link(alloc, &mut chains, origin, link)?;
+        let link = link_of(alloc, &fields)?;
+        put_link(alloc, &mut chains, &mut index, fields.origin, link)?;
         left = rest;
         line += 1;
     }

@@ -7,8 +7,10 @@ ghost use Rattle.tl_witness.specs.Finding.{FindsOrigin};
 ghost use Rattle.tl_witness.specs.Offer.{asked_by};
 ghost use Rattle.tl_witness.specs.ReadRequest.{body_of, signed_of};
 
+use crate::by_origin::ByOrigin;
+use crate::index::place_by;
 use crate::offer::Offer;
-use crate::place::{OfOrigin, place_of};
+use crate::place::OfOrigin;
 use crate::request::{AddRequest, RequestFault, parse_request};
 use crate::signed::{SignedCheckpoint, read_signed};
 use std::alloc::Allocator;
@@ -53,6 +55,7 @@ fn offer_of<'m, A: Allocator>(
 /// "add-checkpoint").
 pub(crate) fn find_origin<'m, N: OfOrigin, A: Allocator + Copy>(
     alloc: A,
+    places: &ByOrigin<A>,
     list: &[N],
     body: &'m [u8],
 ) -> Result<Found<'m, A>, Unfound>
@@ -68,7 +71,7 @@ pub(crate) fn find_origin<'m, N: OfOrigin, A: Allocator + Copy>(
         Err(RequestFault::Malformed) => return Err(Unfound::Malformed),
         Err(RequestFault::OutOfMemory) => return Err(Unfound::OutOfMemory),
     };
-    let Some(place) = place_of(list, signed.checkpoint.origin.as_str()) else {
+    let Some(place) = place_by(places, list, signed.checkpoint.origin.as_str()) else {
         return Err(Unfound::Unknown);
     };
     Ok(Found {

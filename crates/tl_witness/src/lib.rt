@@ -2,6 +2,7 @@
 #![tactic(auto)]
 
 mod book;
+mod by_origin;
 mod chain;
 mod chain_fields;
 mod chain_line;

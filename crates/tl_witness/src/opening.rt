@@ -1,19 +1,20 @@
 //! Opening a book with whom it trusts and the chains that were saved.
 
-ghost use Rattle.std.specs.BTreeMap.{get_by_text};
 ghost use Rattle.std.specs.Prelude.{◌≡◌, ◌<◌, ◌⊎◌, All, IfErr, IfOk, MatchOption, OnErr, length, map, string_bytes};
 ghost use Rattle.std.specs.List.{AllZip};
 ghost use Rattle.tl_note.specs.Key.{IsKeyName};
 ghost use Rattle.tl_proof.specs.Collisions.{step_of};
+ghost use Rattle.tl_witness.specs.ByOrigin.{index_of};
 ghost use Rattle.tl_witness.specs.Chain.{IsChain};
 ghost use Rattle.tl_witness.specs.Index.{Indexes};
 ghost use Rattle.tl_witness.specs.Open.{HasEachKeyOnce, HasTwice, IsKept, OpensBook, RefusesBook, cosigner_names, saved_chain, trusted_origins};
 ghost use Rattle.tl_witness.specs.Opening.{ChecksChains, TakesChain};
 
 use crate::book::{Book, Entry, Shown, ShownEntry};
+use crate::by_origin::ByOrigin;
 use crate::chain::Chain;
 use crate::cosign::name_of;
-use crate::index::Index;
+use crate::index::{first_without, places_in};
 use crate::origin::Origin;
 use crate::place::OfOrigin;
 use crate::tools::Tools;
@@ -114,10 +115,10 @@ fn take_chain<T: TreeHash, A: Allocator + Copy>(
     alloc: A,
     tree: T,
     chains: &mut Vec<Checked<T, A>, A>,
-    places: &Index<A>,
+    places: &ByOrigin<A>,
     origin: &str,
 ) -> Chain<T, A>
-    requires { Indexes (get_by_text places.now.places) (map (λ c. string_bytes c.origin) chains.old.items) }
+    requires { Indexes (index_of places.now) (map (λ c. string_bytes c.origin) chains.old.items) }
     ensures { TakesChain origin.now (map (λ c. saved_chain (string_bytes c.origin) c.chain) chains.old.items) (map (λ c. saved_chain (string_bytes c.origin) c.chain) chains.new.items) result }
 {
     match places.find(origin) {
@@ -135,9 +136,9 @@ fn enter<T: TreeHash, A: Allocator + Copy>(
     tree: T,
     trusts: Vec<Trust<A>, A>,
     chains: Vec<Checked<T, A>, A>,
-    places: &Index<A>,
+    places: &ByOrigin<A>,
 ) -> Result<Vec<Entry<T, A>, A>, AllocError>
-    requires places { Indexes (get_by_text places.now.places) (map (λ c. string_bytes c.origin) chains.items) }
+    requires places { Indexes (index_of places.now) (map (λ c. string_bytes c.origin) chains.items) }
     requires once { ¬ (HasTwice (trusted_origins (map (λ t. ⟦<Trust<A> as ShownTrust>⟧.trusted t) trusts.items))) }
     requires named { All IsKeyName (cosigner_names (map (λ t. ⟦<Trust<A> as ShownTrust>⟧.trusted t) trusts.items)) }
     ensures kept { IfOk result (λ entries. AllZip (IsKept (map (λ c. saved_chain (string_bytes c.origin) c.chain) chains.items))
@@ -168,8 +169,8 @@ fn enter<T: TreeHash, A: Allocator + Copy>(
 // The places of the trusts and of the chains.
 #[derive(Drop)]
 struct Places<A: Allocator> {
-    trusts: Index<A>,
-    chains: Index<A>,
+    trusts: ByOrigin<A>,
+    chains: ByOrigin<A>,
 }
 
 // The places of the trusts and of the chains, or None where an origin is in two trusts or two chains, or a trust
@@ -182,19 +183,19 @@ fn places_of<N: OfOrigin + HasKeys, M: OfOrigin, A: Allocator + Copy>(
     ensures ok { IfOk result (λ found. MatchOption found
         (¬ (¬ (HasTwice (map N.origin_of trusts.now)) × ¬ (HasTwice (map M.origin_of chains.now)) × All HasEachKeyOnce (map N.keys trusts.now)))
         (λ places. (¬ (HasTwice (map N.origin_of trusts.now)) × ¬ (HasTwice (map M.origin_of chains.now)) × All HasEachKeyOnce (map N.keys trusts.now))
-        × Indexes (get_by_text places.trusts.places) (map N.origin_of trusts.now) × Indexes (get_by_text places.chains.places) (map M.origin_of chains.now))) }
+        × Indexes (index_of places.trusts) (map N.origin_of trusts.now) × Indexes (index_of places.chains) (map M.origin_of chains.now))) }
     ensures err { OnErr result ((0 < length trusts.now) ⊎ (0 < length chains.now)) }
 {
     if !are_keys_once(trusts) {
         return Ok(None);
     }
-    let trusts = match Index::of(alloc, trusts) {
-        Ok(Some(index)) => index,
+    let trusts = match places_in(alloc, trusts) {
+        Ok(Some(places)) => places,
         Ok(None) => return Ok(None),
         Err(fault) => return Err(fault),
     };
-    let chains = match Index::of(alloc, chains) {
-        Ok(Some(index)) => index,
+    let chains = match places_in(alloc, chains) {
+        Ok(Some(places)) => places,
         Ok(None) => return Ok(None),
         Err(fault) => return Err(fault),
     };
@@ -224,7 +225,7 @@ impl<T: TreeHash, A: Allocator + Copy> Book<T, A> {
             Ok(None) => return Err(BookFault::TwiceNamed),
             Err(_) => return Err(BookFault::OutOfMemory),
         };
-        if let Some(chain) = places.trusts.first_unknown(chains.as_slice()) {
+        if let Some(chain) = first_without(&places.trusts, chains.as_slice()) {
             return Err(BookFault::NoTrust(chain));
         }
         if let Some(trust) = first_bad_name(trusts.as_slice()) {
@@ -245,6 +246,7 @@ impl<T: TreeHash, A: Allocator + Copy> Book<T, A> {
                 global,
             },
             entries,
+            places: places.trusts,
         })
     }
 }

@@ -1,7 +1,9 @@
 //! The body of an add-checkpoint request, read.
 
-ghost use Rattle.std.specs.Prelude.{◌≡◌, IsUtf8};
-ghost use Rattle.tl_witness.specs.ReadRequest.{ParsesRequest, ReadsProof};
+ghost use Rattle.std.specs.Prelude.{◌≡◌, ◌++◌, ◌<◌, ℕ, IfOk, IsUtf8, List, MatchOption, OnErr};
+ghost use Rattle.tl_hash.specs.Bytes.{IsHash};
+ghost use Rattle.tl_note.specs.Text.{base64_text, line};
+ghost use Rattle.tl_witness.specs.ReadRequest.{HasNoHashLine, HasNoProof, HasProof, IsProofText, ParsesRequest};
 
 use std::alloc::{AllocError, AllocFailed, Allocator};
 use std::str;
@@ -55,33 +57,58 @@ impl<X: Drop> From<AllocFailed<X>> for RequestFault {
     }
 }
 
-// The hashes of lines up to an empty line, and what follows that.
-fn read_proof<A: Allocator + Copy>(
-    alloc: A,
-    text: &str,
-) -> Result<(HashList<A>, &str), RequestFault>
-    ensures { ReadsProof text.now result }
+// The hash that is the first line of a text, and what follows it.
+fn next_hash(text: &str) -> Option<(Hash, &str)>
+    ensures { MatchOption result (HasNoHashLine text.now)
+        (λ r. IsHash r.0 × (text.now ≡ line (base64_text r.0) ++ r.1.now) × IsUtf8 r.1.now) }
 {
-    let mut hashes: Vec<Hash, A> = Vec::new(alloc);
-    let mut left = text;
-    while !left.starts_with('\n') {
-        if hashes.len() == MOST_HASHES {
-            return Err(RequestFault::Malformed);
-        }
-        let Some((words, rest)) = first_line(left) else {
-            return Err(RequestFault::Malformed);
-        };
-        let Some(hash) = hash_of(alloc, words)? else {
-            return Err(RequestFault::Malformed);
-        };
-        hashes.push(hash)?;
-        left = rest;
-    }
-    Ok((HashList::from_vec(hashes), &left[1..]))
+    let Some((words, rest)) = first_line(text) else {
+        return None;
+    };
+    let Some(hash) = hash_of(words) else {
+        return None;
+    };
+    Some((hash, rest))
 }
 
-/// The request that a body is: the old size, the hashes of the proof, one on each line and 63 at most, an empty line, and the note.
-/// `Malformed` where the bytes are no such text.
+// How many lines of hashes stand before an empty line, 63 at most, and the note that follows that.
+fn cut_proof(text: &str) -> Option<(usize, &str)>
+    ensures { MatchOption result (HasNoProof text.now) (λ r. HasProof text.now r.0 r.1.now) }
+{
+    let mut count = 0;
+    let mut left = text;
+    while !left.starts_with('\n') {
+        if count == MOST_HASHES {
+            return None;
+        }
+        let Some((_, rest)) = next_hash(left) else {
+            return None;
+        };
+        count += 1;
+        left = rest;
+    }
+    Some((count, &left[1..]))
+}
+
+// The hashes of so many lines before an empty line.
+fn read_hashes<A: Allocator>(alloc: A, count: usize, text: &str) -> Result<HashList<A>, AllocError>
+    requires { (note : List ℕ) × HasProof text.now count note }
+    ensures read { IfOk result (λ hashes. (proof : List (List ℕ)) (note : List ℕ) → IsProofText text.now proof note → hashes ≡ proof) }
+    ensures refused { OnErr result (0 < count) }
+{
+    let mut hashes: Vec<Hash, A> = Vec::with_capacity(alloc, count)?;
+    let mut left = text;
+    while let Some(read) = next_hash(left) {
+        let (hash, rest) = read;
+        hashes.push_reserved(hash);
+        left = rest;
+    }
+    Ok(HashList::from_vec(hashes))
+}
+
+/// The request that a body is: the old size, the hashes of the proof, one on each line and 63 at most, an empty line,
+/// and the note. `Malformed` exactly where the bytes are no such text. Memory is asked for once, for the hashes of a
+/// request's proof, where it has any.
 pub fn parse_request<A: Allocator + Copy>(
     alloc: A,
     body: &[u8],
@@ -100,9 +127,9 @@ pub fn parse_request<A: Allocator + Copy>(
     let Some(old) = size_of(digits) else {
         return Err(RequestFault::Malformed);
     };
-    let (proof, note) = match read_proof(alloc, rest) {
-        Ok(read) => read,
-        Err(fault) => return Err(fault),
+    let Some((count, note)) = cut_proof(rest) else {
+        return Err(RequestFault::Malformed);
     };
+    let proof = read_hashes(alloc, count, rest)?;
     Ok(AddRequest { old, proof, note })
 }

@@ -10,12 +10,14 @@ ghost use Rattle.tl_witness.specs.Shared.{AnswersFromSome};
 ghost use Rattle.tl_witness.specs.Witnessed.{Witnessed};
 
 use crate::book::{Book, Shown};
+use crate::by_origin::ByOrigin;
 use crate::chain::Chain;
 use crate::copy::copy_links;
 use crate::finding::{Unfound, find_origin};
+use crate::index::place_by;
 use crate::offer::Offer;
 use crate::origin::Origin;
-use crate::place::{OfOrigin, place_of};
+use crate::place::OfOrigin;
 use crate::reply::{Reply, refusal};
 use crate::saver::Saver;
 use crate::tools::Tools;
@@ -82,6 +84,7 @@ impl<T: TreeHash, A: Allocator + Copy> Guarded<T, A> {
 pub struct SharedWitness<T: TreeHash, A: Allocator + Copy> {
     tools: Tools<T, A>,
     entries: Vec<Guarded<T, A>, A>,
+    places: ByOrigin<A>,
 }
 
 /// What contracts see of a shared witness: its origins.
@@ -127,6 +130,7 @@ impl<T: TreeHash, A: Allocator + Copy> SharedWitness<T, A> {
         let Book {
             tools,
             entries: before,
+            places,
         } = book;
         for entry in before {
             entries.push_reserved(Guarded {
@@ -134,7 +138,11 @@ impl<T: TreeHash, A: Allocator + Copy> SharedWitness<T, A> {
                 chain: Mutex::new(entry.chain),
             });
         }
-        Ok(SharedWitness { tools, entries })
+        Ok(SharedWitness {
+            tools,
+            entries,
+            places,
+        })
     }
 
     /// Answers an add-checkpoint request, as `Book::add` does, from what its origin's lock has when it is taken.
@@ -148,7 +156,7 @@ impl<T: TreeHash, A: Allocator + Copy> SharedWitness<T, A> {
             }) }
     {
         let tools = self.tools;
-        let found = match find_origin(tools.alloc, self.entries.as_slice(), body) {
+        let found = match find_origin(tools.alloc, &self.places, self.entries.as_slice(), body) {
             Ok(found) => found,
             Err(Unfound::Malformed) => return refusal(tools.alloc, 400),
             Err(Unfound::Unknown) => return refusal(tools.alloc, 404),
@@ -170,7 +178,7 @@ impl<T: TreeHash, A: Allocator + Copy> SharedWitness<T, A> {
         ensures { IfOk result (λ found. MatchOption found (¬ (Contains (⟦<SharedWitness<T, A> as Origins>⟧.origins self.now) origin.now))
             (λ links. Contains (⟦<SharedWitness<T, A> as Origins>⟧.origins self.now) origin.now × IsChain T.digest_of (map step_of links.items))) }
     {
-        let place = match place_of(self.entries.as_slice(), origin) {
+        let place = match place_by(&self.places, self.entries.as_slice(), origin) {
             Some(place) => place,
             None => return Ok(None),
         };

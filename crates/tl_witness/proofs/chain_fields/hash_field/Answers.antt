@@ -2,7 +2,7 @@ use Rattle.tl_witness.proofs.FieldLaws.{no_hash_field, no_hash}
 use Rattle.tl_witness.proofs.chain_fields.hash_field.Goals as goal
 
 pub returns-in_default : goal.returns-in_default
-returns-in_default g c = no_hash_field c.args.text.now c.in_default.ensures.cases
+returns-in_default c = no_hash_field c.args.text.now c.in_default.ensures.cases
 
-pub returns-in-None : goal.returns-in-None
-returns-in-None g c = no_hash c.args.text.now c.in-Some.words c.in-Some.rest c.in-Some.ensures.cases (rw c.in-None.is at c.in_ok-hash.ensures)
+pub returns-in_default-hash_of : goal.returns-in_default-hash_of
+returns-in_default-hash_of c = no_hash c.args.text.now c.in-Some.words c.in-Some.rest c.in-Some.ensures.cases c.in_default-hash_of.ensures

@@ -1,5 +1,5 @@
 use Rattle.std.proofs.Common.{length, refl, ap, sym, subst, ◌∙◌, string_bytes, arith}
-use Rattle.std.specs.BTreeMap.{get_by_text}
+use Rattle.tl_witness.specs.ByOrigin.{index_of}
 use Rattle.tl_witness.specs.Index.{Indexes}
 use Rattle.tl_witness.proofs.Moved.{moved, moved_all, shown_twice}
 use Rattle.tl_witness.proofs.OpeningLaws.{entered_none, entered_push, enters, named_next, not_before}
@@ -16,7 +16,7 @@ pub take_chain-chain-requires : goal.take_chain-chain-requires
 take_chain-chain-requires g c =
     let same = sym (shown_twice _ (λ d. d.0) (λ d. string_bytes d.origin) c.loop-trust.left.items (λ d. refl)) in
     let saved = shown_twice _ (λ d. d.0) (λ d. string_bytes d.origin) c.args.chains.items (λ d. refl) in
-    subst (Indexes (get_by_text c.args.places.now.places)) (saved ∙ sym c.loop-trust.invariant.3.same_origins ∙ same) c.requires.places
+    subst (Indexes (index_of c.args.places.now)) (saved ∙ sym c.loop-trust.invariant.3.same_origins ∙ same) c.requires.places
 
 pub name_of-requires : goal.name_of-requires
 name_of-requires g c =

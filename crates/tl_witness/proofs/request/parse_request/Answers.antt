@@ -1,6 +1,6 @@
-use Rattle.std.proofs.Common.{ℕ, List, ◌++◌, ◌∙◌, ap, sym}
+use Rattle.std.proofs.Common.{ℕ, List, ◌++◌, ◌∙◌, ap, sym, arith}
 use Rattle.std.specs.Prelude.{codes}
-use Rattle.tl_witness.proofs.RequestLaws.{no_text, no_line, no_old, no_size, no_rest}
+use Rattle.tl_witness.proofs.RequestLaws.{no_text, no_line, no_old, no_size, no_rest, made, request_of, parses_refused}
 use Rattle.tl_witness.proofs.request.parse_request.Goals as goal
 
 pub returns-in_default : goal.returns-in_default
@@ -18,6 +18,12 @@ returns-in_default-size_of g c =
     no_size c.args.body.now c.in-Ok.text.now c.in-Some.words.now c.in-Some.rest.now c.in-Some-strip_prefix.digits.now c.in-Ok.ensures.cases.0 c.in-Some.ensures.0 c.in-Some.ensures.1
     (c.in-Some-strip_prefix.ensures.cases.1.1 ∙ ap (λ (d : List ℕ). codes "old " ++ d) (sym c.in-Some-strip_prefix.ensures.cases.2)) c.in_default-size_of.ensures
 
-pub returns-in-Err : goal.returns-in-Err
-returns-in-Err g c =
-    no_rest g.row.A.Denot c.args.body.now c.in-Ok.text.now c.in-Some.words.now c.in-Some.rest.now c.in-Err.fault c.in-Ok.ensures.cases.0 c.in-Some.ensures.0 c.in-Some.ensures.1 c.in-Err.ensures
+pub returns-in_default-cut_proof : goal.returns-in_default-cut_proof
+returns-in_default-cut_proof g c = no_rest c.args.body.now c.in-Ok.text.now c.in-Some.words.now c.in-Some.rest.now c.in-Ok.ensures.cases.0 c.in-Some.ensures.0 c.in-Some.ensures.1 c.in_default-cut_proof.ensures
+
+pub returns-in_err-proof : goal.returns-in_err-proof
+returns-in_err-proof g c =
+    let has = c.in-Some-cut_proof.ensures in
+    let begins = c.in-Some-strip_prefix.ensures.cases.1.1 ∙ ap (λ (d : List ℕ). codes "old " ++ d) (sym c.in-Some-strip_prefix.ensures.cases.2) in
+    let is = request_of c.args.body.now c.in-Ok.text.now c.in-Some.words.now c.in-Some.rest.now c.in-Some-strip_prefix.digits.now c.in-Some-size_of.old has.0 c.in-Some-cut_proof.note.now c.in-Ok.ensures.cases.0 c.in-Some.ensures.1 begins c.in-Some-size_of.ensures has.1 in
+    parses_refused c.args.body.now (made c.in-Some-size_of.old has.0 c.in-Some-cut_proof.note.now) c.from_residual.result c.from_residual.ensures.1 is (omega (arith, has.2, c.in_err-proof.ensures.refused))

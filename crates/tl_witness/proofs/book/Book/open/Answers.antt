@@ -1,7 +1,7 @@
 use Rattle.std.proofs.Common.{refl, map, subst, sym, ap, ◌∙◌, string_bytes}
-use Rattle.std.specs.BTreeMap.{get_by_text}
+use Rattle.tl_witness.specs.ByOrigin.{index_of}
 use Rattle.tl_witness.specs.Index.{Indexes}
-use Rattle.tl_witness.proofs.IndexLaws.{all_known, first_not_known}
+use Rattle.tl_witness.proofs.PlacesLaws.{all_known, first_not_known}
 use Rattle.tl_witness.proofs.Moved.{shown_twice}
 use Rattle.tl_witness.proofs.OpeningLaws.{once_to, once_from, known_to, unknown_to, names_to, bad_name_to, opened_to, origins_once}
 use Rattle.tl_witness.proofs.OpeningFaults.{chain_fault}
@@ -41,7 +41,7 @@ enter-requires-clause-places g c =
     let test = rw (c.in-Ok-Some.field-0-is, c.as_slice.ensures.value, c.as_slice-2.ensures.value) at c.in-Ok-Some.ensures.ok in
     let saved = shown_twice _ (λ d. d.0) (λ d. string_bytes d.0) c.args.chains.items (λ d. refl) in
     let checked = shown_twice _ (λ d. d.0) (λ d. string_bytes d.origin) c.in-Ok.checked.items (λ d. refl) in
-    subst (Indexes (get_by_text c.in-Ok-Some.places.chains.places)) (saved ∙ (ap (map (λ d. d.0)) (sym c.in-Ok.ensures.ok.0) ∙ sym checked)) test.2
+    subst (Indexes (index_of c.in-Ok-Some.places.chains)) (saved ∙ (ap (map (λ d. d.0)) (sym c.in-Ok.ensures.ok.0) ∙ sym checked)) test.2
 
 pub enter-requires-clause-once : goal.enter-requires-clause-once
 enter-requires-clause-once g c =
