@@ -39,7 +39,9 @@ fn book_of(alloc: Global, logs: &[&Log]) -> Result<TestBook, BookFault> {
         let Ok(trust) = trust(alloc, log) else {
             return Err(BookFault::OutOfMemory);
         };
-        trusts.push(trust)?;
+        if trusts.push(trust).is_err() {
+            return Err(BookFault::OutOfMemory);
+        }
     }
     Book::open(alloc, alloc, Sha256Tree, trusts, Vec::new(alloc))
 }

@@ -7,11 +7,8 @@ use tl_hash::Hash;
 use tl_proof::{HashList, Link};
 
 /// The hash that a text is in base64, or one of zeros where it is none.
-pub fn hash<A: Allocator + Copy>(heap: A, text: &str) -> Result<Hash, AllocError> {
-    match hash_of(heap, text)? {
-        Some(hash) => Ok(hash),
-        None => Ok(Hash::from_bytes([0; 32])),
-    }
+pub fn hash(text: &str) -> Hash {
+    hash_of(text).unwrap_or(Hash::from_bytes([0; 32]))
 }
 
 /// The chain of size 1 and of this size, with a proof of these hashes.
@@ -24,16 +21,16 @@ pub fn first_link_and<A: Allocator + Copy>(
     let mut links = Vec::new(heap);
     links.push(Link {
         size: 1,
-        root: hash(heap, E1)?,
+        root: hash(E1),
         proof: HashList::from_vec(Vec::new(heap)),
     })?;
     let mut hashes = Vec::new(heap);
     for text in proof {
-        hashes.push(hash(heap, text)?)?;
+        hashes.push(hash(text))?;
     }
     links.push(Link {
         size,
-        root: hash(heap, root)?,
+        root: hash(root),
         proof: HashList::from_vec(hashes),
     })?;
     Ok(links)

@@ -58,7 +58,9 @@ pub fn fresh_book<A: Allocator + Copy>(
         let Ok(trust) = trust(alloc, heap, origin) else {
             return Err(BookFault::OutOfMemory);
         };
-        trusts.push(trust)?;
+        if trusts.push(trust).is_err() {
+            return Err(BookFault::OutOfMemory);
+        }
     }
     Book::open(heap, alloc, Sha256Tree, trusts, Vec::new(heap))
 }

@@ -39,7 +39,9 @@ fn open_fault(alloc: Global, text: &str) -> Result<Option<BookFault>, BookFault>
     let Ok(trust) = trust(alloc, alloc, ORIGIN) else {
         return Err(BookFault::OutOfMemory);
     };
-    trusts.push(trust)?;
+    if trusts.push(trust).is_err() {
+        return Err(BookFault::OutOfMemory);
+    }
     let Ok(chains) = read_chain(alloc, text.as_bytes()) else {
         return Err(BookFault::OutOfMemory);
     };
