@@ -47,6 +47,10 @@ fn resources_of_worked_sizes(rt: HostRuntime) -> Result<(), Fail> {
         width: 112,
     };
     assert!(rt; resources.last() == Some(&last));
+    let resources = needed(alloc, (1 << 24) + 3)?;
+    assert_eq!(rt; resources.len(), 131_332);
+    assert!(rt; resources.get(65_536) == Some(&tile(0, 65_536, 3)));
+    assert!(rt; resources.get(65_794) == Some(&tile(3, 0, 1)));
     Ok(())
 }
 

@@ -10,7 +10,7 @@ use tl_checkpoint::check_cosignature;
 use tl_hash::{Hash, Sha256Tree, leaf_hash, node_hash};
 use tl_note::{Signer, Verifier, parse_note};
 use tl_testing::LengthKey;
-use tl_witness::{Book, BookFault, Reply, Trust};
+use tl_witness::{Book, BookFault, Reply, Trust, read_chain};
 
 const ORIGIN: &str = "log.example/large";
 
@@ -189,6 +189,56 @@ fn notes_of_2_and_of_100_signature_lines(rt: HostRuntime) -> Result<(), Fail> {
         old = size;
     }
     assert_eq!(rt; links(&book, ORIGIN), 2);
+    Ok(())
+}
+
+// The links of a book's origins, so many of each.
+fn are_kept(book: &TestBook, counts: &[(&str, usize)]) -> bool {
+    counts.iter().all(|count| links(book, count.0) == count.1)
+}
+
+#[test]
+fn a_book_goes_on_from_twelve_saved_links_of_three_origins(rt: HostRuntime) -> Result<(), Fail> {
+    let alloc = rt.alloc();
+    let a = Log::of_size(alloc, "a.example", 1, 30)?;
+    let b = Log::of_size(alloc, "b.example", 2, 30)?;
+    let c = Log::of_size(alloc, "c.example/with/a/long/name", 3, 30)?;
+    let mut book = book_of(alloc, &[&a, &b, &c])?;
+    let mut saver = KeepingSaver::new(alloc);
+    for step in 0..5u64 {
+        for (log, last) in [(&c, 3), (&a, 5), (&b, 4)] {
+            if step < last {
+                let body = log.body(alloc, step * 3, step * 3 + 3)?;
+                assert_eq!(rt;
+                    post(&mut book, &mut saver, body.as_str(), TIME).status,
+                    200
+                );
+            }
+        }
+    }
+    let counts = [(a.origin, 5), (b.origin, 4), (c.origin, 3)];
+    assert!(rt; are_kept(&book, &counts));
+    let saved = read_chain(alloc, saver.lines.as_bytes())?;
+    assert_eq!(rt; saved.len(), 3);
+    assert_eq!(rt; saved[0].0.as_str(), c.origin);
+    let mut trusts = Vec::new(alloc);
+    trusts.push(trust(alloc, &b)?)?;
+    trusts.push(trust(alloc, &c)?)?;
+    trusts.push(trust(alloc, &a)?)?;
+    let mut book = Book::open(alloc, alloc, Sha256Tree, trusts, saved)?;
+    assert!(rt; are_kept(&book, &counts));
+    for (log, old) in [(&a, 15), (&b, 12), (&c, 9)] {
+        let body = log.body(alloc, old - 1, 30)?;
+        assert_eq!(rt;
+            post(&mut book, &mut saver, body.as_str(), TIME).status,
+            409
+        );
+        let body = log.body(alloc, old, 30)?;
+        assert_eq!(rt;
+            post(&mut book, &mut saver, body.as_str(), TIME).status,
+            200
+        );
+    }
     Ok(())
 }
 
