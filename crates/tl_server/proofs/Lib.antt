@@ -1,5 +1,6 @@
 pub mod BytesLemmas
 pub mod LinesLemmas
+pub mod Asking
 pub mod StoreLemmas
 pub mod KeyLemmas
 pub mod LineTexts

@@ -1,5 +1,5 @@
 -- The command `audit`.
-use Rattle.std.specs.Prelude.{◌≡◌, ◌≢◌, ◌⊎◌, ℕ, true, false, List, [], ◌∷◌, ◌++◌, length, codes, vec_items, Result, Ok, Err}
+use Rattle.std.specs.Prelude.{◌≡◌, ◌≢◌, ◌⊎◌, ℕ, ◌<◌, true, false, List, [], ◌∷◌, ◌++◌, length, codes, vec_items, Result, Ok, Err}
 use Rattle.hex.specs.Hex.{encode_lower}
 use Rattle.tl_hash.specs.Tree.{tree_hash}
 use Rattle.tl_note.specs.Text.{line}
@@ -49,7 +49,7 @@ AnswersAudit H a answer =
 abbrev pub AnswersAuditText : {A : Type 0} → (List ℕ → List ℕ) → List ℕ → Result (Answer A) RunFault → Type 0
 AnswersAuditText H text (Ok answer) = IsAuditOf (λ a. AnswersAudit H a answer) text
 AnswersAuditText H text (Err Malformed) = (a : Audit) → IsAudit a → text ≢ audit_text a
-AnswersAuditText H text (Err OutOfMemory) = Unit {0}
+AnswersAuditText H text (Err OutOfMemory) = 0 < length text
 AnswersAuditText H text (Err fault) = ⊥
 
 -- what comes of an input: the proof is accepted and the old list is a prefix of the new one, or the answer is no, or the

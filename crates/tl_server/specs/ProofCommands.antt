@@ -64,7 +64,7 @@ pub record IsAnswerOf (lines : List (List ℕ)) (accepted : Bool) : Type 0 where
 abbrev pub AnswersText : List ℕ → Result Bool RunFault → Type 0
 AnswersText text (Ok accepted) = IsAnswerOf (entries_of text) accepted × (text ≡ lines_text (entries_of text))
 AnswersText text (Err Malformed) = (p : Proof) → IsProof p → text ≢ proof_text p
-AnswersText text (Err OutOfMemory) = Unit {0}
+AnswersText text (Err OutOfMemory) = 0 < length text
 AnswersText text (Err fault) = ⊥
 
 -- what comes of an input to `check`: a proof's text is accepted or refused, and another input is malformed

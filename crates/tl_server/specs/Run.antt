@@ -1,7 +1,7 @@
 -- What a command does with its input and its output.
-use Rattle.std.specs.Prelude.{◌≡◌, ◌⊎◌, ℕ, List, Result, Ok, Err, map, vec_items, Some, None}
+use Rattle.std.specs.Prelude.{◌≡◌, ◌⊎◌, ℕ, List, [], Result, Ok, Err, map, vec_items, Some, None}
 use Rattle.std.specs.declared.vec.Vec.{Vec}
-use Rattle.tl_server.specs.Device.{Passage, IsSteady, HasFailed, IsUnwritten, ReadWhole, ReadPast, WroteWhole, WrotePart}
+use Rattle.tl_server.specs.Device.{Passage, IsSteady, HasFailed, IsUnwritten, ReadWhole, ReadPast, GaveSome, WroteWhole, WrotePart}
 use Rattle.tl_server.specs.Lines.{entries_of, first_too_long}
 use Rattle.tl_server.specs.declared.fault.RunFault.{RunFault}
 use Rattle.tl_server.specs.declared.fault.RunFault.TheVariants.{Refused, Read, Write, TooLarge, EntryTooLong, OutOfMemory}
@@ -34,6 +34,10 @@ pub record WroteSome (Comes : List ℕ → Outcome → Type 0) (i o : Passage) :
   pub came : CameOf Comes i (Prints text) ⊎ CameOf Comes i (PrintsRefusal text)
   pub part : WrotePart o text
 
+-- a command asks for memory only where the reader gave some bytes, or where a text is printed of none
+abbrev pub IsAsking : (List ℕ → Outcome → Type 0) → Passage → Type 0
+IsAsking Comes i = GaveSome i ⊎ ((text : List ℕ) × Comes [] (Prints text))
+
 -- a run of a command: i is its reader, o its writer, and `Comes` relates an input and what is to come of it
 abbrev pub Runs : (List ℕ → Outcome → Type 0) → Passage → Passage → Result (Unit {0}) RunFault → Type 0
 Runs Comes i o (Ok done) = Wrote Comes Prints i o
@@ -41,7 +45,7 @@ Runs Comes i o (Err Refused) = Wrote Comes PrintsRefusal i o
 Runs Comes i o (Err Read) = HasFailed i × IsUnwritten o
 Runs Comes i o (Err Write) = WroteSome Comes i o
 Runs Comes i o (Err TooLarge) = ReadPast i most_input × IsUnwritten o
-Runs Comes i o (Err OutOfMemory) = IsSteady i × IsUnwritten o
+Runs Comes i o (Err OutOfMemory) = IsSteady i × IsUnwritten o × IsAsking Comes i
 Runs Comes i o (Err fault) = CameOf Comes i (Fails fault) × IsUnwritten o
 
 -- reading all that a reader gives, at most so many bytes
@@ -49,7 +53,7 @@ abbrev pub ReadsWhole : {A : Type 0} → ℕ → Passage → Result (Vec ℕ A) 
 ReadsWhole most p (Ok input) = ReadWhole p most (vec_items input)
 ReadsWhole most p (Err Read) = HasFailed p
 ReadsWhole most p (Err TooLarge) = ReadPast p most
-ReadsWhole most p (Err OutOfMemory) = IsSteady p
+ReadsWhole most p (Err OutOfMemory) = IsSteady p × GaveSome p
 ReadsWhole most p (Err fault) = ⊥
 
 -- a fault of the entries of an input: the first one that is too long is at this place
@@ -76,5 +80,5 @@ ReadsEntries most p (Ok entries) = ReadEntries p most (map vec_items (vec_items 
 ReadsEntries most p (Err Read) = HasFailed p
 ReadsEntries most p (Err TooLarge) = ReadPast p most
 ReadsEntries most p (Err (EntryTooLong place)) = ReadTooLong p most place
-ReadsEntries most p (Err OutOfMemory) = IsSteady p
+ReadsEntries most p (Err OutOfMemory) = IsSteady p × GaveSome p
 ReadsEntries most p (Err fault) = ⊥

@@ -1,6 +1,6 @@
 //! The entries of an input, which are its lines.
 
-ghost use Rattle.std.specs.Prelude.{◌≡◌, ◌<◌, ◌∷◌, length, map, vec_items, vec_len, IfOk, position, nat_lt};
+ghost use Rattle.std.specs.Prelude.{◌≡◌, ◌<◌, ◌∷◌, length, map, vec_items, vec_len, IfOk, OnErr, position, nat_lt};
 ghost use Rattle.tl_server.specs.Device.{passage};
 ghost use Rattle.tl_server.specs.Lines.{entries_of};
 ghost use Rattle.tl_server.specs.Run.{ReadsEntries};
@@ -32,7 +32,8 @@ pub(crate) fn split_entries<A: Allocator + Copy>(
     alloc: A,
     input: &[u8],
 ) -> Result<Vec<Vec<u8, A>, A>, AllocError>
-    ensures { IfOk result (λ entries. map vec_items entries.items ≡ entries_of input.now) }
+    ensures entries { IfOk result (λ entries. map vec_items entries.items ≡ entries_of input.now) }
+    ensures memory { OnErr result (0 < length input.now) }
 {
     let mut entries = Vec::new(alloc);
     let mut rest = input;

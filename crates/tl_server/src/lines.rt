@@ -1,6 +1,6 @@
 //! Lines of a text, and the number or the hash that stands in one after a word. Each reader takes exactly what has that spelling.
 
-ghost use Rattle.std.specs.Prelude.{◌≡◌, ◌≢◌, ◌<◌, ◌^◌, ◌++◌, ℕ, List, All, MatchOption, IfOk, MatchBool, IsUtf8, map, vec_items};
+ghost use Rattle.std.specs.Prelude.{◌≡◌, ◌≢◌, ◌<◌, ◌^◌, ◌++◌, ℕ, List, All, MatchOption, IfOk, OnErr, length, MatchBool, IsUtf8, map, vec_items};
 ghost use Rattle.tl_hash.specs.Bytes.{IsHash};
 ghost use Rattle.tl_note.specs.Text.{number_text, base64_text, IsSize};
 ghost use Rattle.tl_server.specs.Lines.{entries_of, lines_text, HasNoNewline};
@@ -26,9 +26,10 @@ pub(crate) fn lines_of<A: Allocator + Copy>(
     alloc: A,
     text: &[u8],
 ) -> Result<Option<Vec<Vec<u8, A>, A>>, AllocError>
-    ensures { IfOk result (λ found. MatchOption found
+    ensures lines { IfOk result (λ found. MatchOption found
         ((lines : List (List ℕ)) → All HasNoNewline lines → text.now ≢ lines_text lines)
         (λ lines. (map vec_items lines.items ≡ entries_of text.now) × (text.now ≡ lines_text (entries_of text.now)))) }
+    ensures memory { OnErr result (0 < length text.now) }
 {
     if !is_lines(text) {
         return Ok(None);
@@ -76,9 +77,10 @@ pub(crate) fn hashes_of<A: Allocator + Copy, B: Allocator>(
     alloc: A,
     lines: &[Vec<u8, B>],
 ) -> Result<Option<Vec<Hash, A>>, AllocError>
-    ensures { IfOk result (λ found. MatchOption found
+    ensures hashes { IfOk result (λ found. MatchOption found
         ((hashes : List (List ℕ)) → All IsHash hashes → map vec_items lines.now ≢ map base64_text hashes)
         (λ hashes. All IsHash hashes.items × (map vec_items lines.now ≡ map base64_text hashes.items))) }
+    ensures memory { OnErr result (0 < length lines.now) }
 {
     let mut hashes = Vec::new(alloc);
     for line in lines {

@@ -1,6 +1,6 @@
 //! Reads the texts of audits.
 
-ghost use Rattle.std.specs.Prelude.{◌≡◌, ◌≢◌, ◌++◌, List, ℕ, length, map, vec_items, IfOk, IfSome, MatchOption};
+ghost use Rattle.std.specs.Prelude.{◌≡◌, ◌≢◌, ◌<◌, ◌++◌, List, ℕ, length, map, vec_items, IfOk, OnErr, IfSome, MatchOption};
 ghost use Rattle.tl_hash.specs.Bytes.{IsHash};
 ghost use Rattle.tl_note.specs.Text.{IsSize};
 ghost use Rattle.tl_server.specs.AuditText.{Audit, IsAudit, audit_lines, audit_shown, counted_lines, IsRead};
@@ -16,6 +16,7 @@ fn counted<'a, B: Allocator>(
 ) -> Option<(&'a [Vec<u8, B>], &'a [Vec<u8, B>])>
     ensures count { IfSome result (λ r. IsSize (length r.0.now)) }
     ensures found { IfSome result (λ r. map vec_items lines.now ≡ counted_lines word.now (map vec_items r.0.now) ++ map vec_items r.1.now) }
+    ensures some { IfSome result (λ r. length r.1.now < length lines.now) }
     ensures only { (entries others : List (List ℕ)) → IsSize (length entries)
         → map vec_items lines.now ≡ counted_lines word.now entries ++ others
         → MatchOption result ⊥ (λ r. (map vec_items r.0.now ≡ entries) × (map vec_items r.1.now ≡ others)) }
@@ -37,9 +38,10 @@ pub(crate) fn read_audit<'a, A: Allocator + Copy, B: Allocator>(
     alloc: A,
     lines: &'a [Vec<u8, B>],
 ) -> Result<Option<AuditParts<'a, A, B>>, AllocError>
-    ensures { IfOk result (λ found. MatchOption found
+    ensures audit { IfOk result (λ found. MatchOption found
         ((a : Audit) → IsAudit a → map vec_items lines.now ≢ audit_lines a)
         (λ parts. IsRead (audit_shown parts) × (map vec_items lines.now ≡ audit_lines (audit_shown parts)))) }
+    ensures memory { OnErr result (0 < length lines.now) }
 {
     let Some((old, rest)) = counted(lines, b"old ") else {
         return Ok(None);

@@ -1,6 +1,6 @@
 //! The command `check`: whether the proof in a text is accepted.
 
-ghost use Rattle.std.specs.Prelude.{◌≡◌, ◌≢◌, ◌↔◌, List, ℕ, map, vec_items, IsTrue, IfOk, IfErr, MatchOption};
+ghost use Rattle.std.specs.Prelude.{◌≡◌, ◌≢◌, ◌<◌, ◌↔◌, List, ℕ, length, map, vec_items, IsTrue, IfOk, IfErr, OnErr, MatchOption};
 ghost use Rattle.sha2.specs.Sha256.{sha256};
 ghost use Rattle.tl_server.specs.Device.{passage};
 ghost use Rattle.tl_server.specs.ProofText.{Proof, Included, Consistent, IsProof, Accepts, consistency_shown, inclusion_shown, proof_lines};
@@ -52,9 +52,10 @@ fn answer_of<A: Allocator + Copy, B: Allocator>(
     alloc: A,
     lines: &[Vec<u8, B>],
 ) -> Result<Option<bool>, AllocError>
-    ensures { IfOk result (λ found. MatchOption found
+    ensures answer { IfOk result (λ found. MatchOption found
         ((p : Proof) → IsProof p → map vec_items lines.now ≢ proof_lines p)
         (IsAnswerOf (map vec_items lines.now))) }
+    ensures memory { OnErr result (0 < length lines.now) }
 {
     if let Some(p) = read_inclusion(alloc, lines)? {
         return Ok(Some(accepts_inclusion(&p)));

@@ -1,6 +1,6 @@
 //! Reads the texts of proofs.
 
-ghost use Rattle.std.specs.Prelude.{◌≡◌, ◌≢◌, map, vec_items, IfOk, MatchOption};
+ghost use Rattle.std.specs.Prelude.{◌≡◌, ◌≢◌, ◌<◌, length, map, vec_items, IfOk, OnErr, MatchOption};
 ghost use Rattle.tl_server.specs.ProofText.{Inclusion, IsInclusion, inclusion_lines, inclusion_shown, Consistency, IsConsistency, consistency_lines, consistency_shown};
 
 use super::{ConsistencyProof, InclusionProof};
@@ -12,9 +12,10 @@ pub(crate) fn read_inclusion<A: Allocator + Copy, B: Allocator>(
     alloc: A,
     lines: &[Vec<u8, B>],
 ) -> Result<Option<InclusionProof<A>>, AllocError>
-    ensures { IfOk result (λ found. MatchOption found
+    ensures proof { IfOk result (λ found. MatchOption found
         ((p : Inclusion) → IsInclusion p → map vec_items lines.now ≢ inclusion_lines p)
         (λ p. IsInclusion (inclusion_shown p) × (map vec_items lines.now ≡ inclusion_lines (inclusion_shown p)))) }
+    ensures memory { OnErr result (0 < length lines.now) }
 {
     let [kind, index, size, leaf, root, proof @ ..] = lines else {
         return Ok(None);
@@ -51,9 +52,10 @@ pub(crate) fn read_consistency<A: Allocator + Copy, B: Allocator>(
     alloc: A,
     lines: &[Vec<u8, B>],
 ) -> Result<Option<ConsistencyProof<A>>, AllocError>
-    ensures { IfOk result (λ found. MatchOption found
+    ensures proof { IfOk result (λ found. MatchOption found
         ((p : Consistency) → IsConsistency p → map vec_items lines.now ≢ consistency_lines p)
         (λ p. IsConsistency (consistency_shown p) × (map vec_items lines.now ≡ consistency_lines (consistency_shown p)))) }
+    ensures memory { OnErr result (0 < length lines.now) }
 {
     let [kind, old, old_root, size, root, proof @ ..] = lines else {
         return Ok(None);

@@ -5,7 +5,7 @@ use Rattle.tl_server.proofs.entries.read_entries.Goals as goal
 
 pub returns-in-Some : goal.returns-in-Some
 returns-in-Some g c =
-    let lines = c.in_ok-entries.ensures ∙ ap entries_of c.as_slice.ensures.value in
+    let lines = c.in_ok-entries.ensures.entries ∙ ap entries_of c.as_slice.ensures.value in
     let found = too_long_by_len c.in_ok-entries.entries.items in
     record {
       input = vec_items c.in_ok-input.input;
@@ -19,6 +19,6 @@ returns g c =
     record {
       input = vec_items c.in_ok-input.input;
       whole = c.in_ok-input.ensures;
-      lines = c.in_ok-entries.ensures ∙ ap entries_of c.as_slice.ensures.value;
+      lines = c.in_ok-entries.ensures.entries ∙ ap entries_of c.as_slice.ensures.value;
       short = sym found ∙ ap (λ es. position (λ v. nat_lt 65535 (vec_len v)) es) (sym c.as_slice-2.ensures.value) ∙ sym c.in-None.ensures;
     }

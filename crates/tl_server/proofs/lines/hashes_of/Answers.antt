@@ -5,8 +5,8 @@ use Rattle.tl_note.specs.Text.{base64_text}
 use Rattle.tl_server.proofs.HashLines.{one_more, none_at}
 use Rattle.tl_server.proofs.lines.hashes_of.Goals as goal
 
-pub returns-in_default : goal.returns-in_default
-returns-in_default g c =
+pub returns-in_default-clause-hashes : goal.returns-in_default-clause-hashes
+returns-in_default-clause-hashes g c =
     none_at vec_items base64_text IsHash c.args.lines.now c.loop-line.line-index c.line-item.result c.loop-line-test.true c.line-item.is
     (λ value fits e. c.in_default.ensures value fits (c.as_slice.ensures.value ∙ e))
 

@@ -1,12 +1,12 @@
 use Rattle.tl_server.specs.ProofText.{Included, Consistent, inclusion_shown, consistency_shown}
 use Rattle.tl_server.proofs.commands.check.answer_of.Goals as goal
 
-pub returns-in-Some : goal.returns-in-Some
-returns-in-Some g c =
-    let read = rw c.in-Some.is at c.in_ok-p.ensures in
+pub returns-in-Some-clause-answer : goal.returns-in-Some-clause-answer
+returns-in-Some-clause-answer g c =
+    let read = rw c.in-Some.is at c.in_ok-p.ensures.proof in
     record { proof = Included (inclusion_shown c.in-Some.p); lawful = read.0; spelled = read.1; says = c.accepts_inclusion.ensures }
 
-pub returns-in-Some-2 : goal.returns-in-Some-2
-returns-in-Some-2 g c =
-    let read = rw c.in-Some-2.is at c.in_ok-p-2.ensures in
+pub returns-in-Some-2-clause-answer : goal.returns-in-Some-2-clause-answer
+returns-in-Some-2-clause-answer g c =
+    let read = rw c.in-Some-2.is at c.in_ok-p-2.ensures.proof in
     record { proof = Consistent (consistency_shown c.in-Some-2.p); lawful = read.0; spelled = read.1; says = c.accepts_consistency.ensures }
