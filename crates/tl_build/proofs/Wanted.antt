@@ -1,18 +1,25 @@
 -- From the resource that is wanted to the path that was asked for.
-use Rattle.std.proofs.Common.{◌≡◌, ℕ, ◌^◌, ◌<◌, Bool, true, false, List, length, sym, ap, subst, ◌∙◌, All, ◌≤◌, get_or, inl, inr, ◌⊎◌, ◌↔◌, IsTrue, arith}
+use Rattle.std.proofs.Common.{◌≡◌, ℕ, ◌+◌, ◌*◌, ◌^◌, ◌<◌, [], ◌∷◌, ◌++◌, refl, Bool, true, false, List, length, sym, ap, subst, ◌∙◌, All, ◌≤◌, get_or, inl, inr, ◌⊎◌, ◌↔◌, IsTrue, arith}
 use Rattle.std.specs.Prelude.{Contains, None, Some, Option, Result, Ok, Err, IfOk, IfErr}
 use Rattle.std.specs.declared.vec.Vec.{Vec}
 use Rattle.std.proofs.lemmas.Bool.{true≢false}
 use Rattle.std.proofs.lemmas.List.{get_or_default}
+use Rattle.std.proofs.lemmas.List.Elements.{Contains-append_right}
 use Rattle.tl_note.specs.Key.{IsKeyName}
 use Rattle.tl_tile.specs.declared.resource.Resource.{Resource}
+use Rattle.tl_tile.specs.declared.resource.Resource.TheVariants as resource
+use Rattle.tl_tile.specs.declared.resource.Tile.{Tile}
+use Rattle.tl_tile.specs.Needed.{needed_resources}
+use Rattle.tl_tile.proofs.Levels.{positive_256}
 use Rattle.tl_tile.proofs.OnePath.{only_path}
+use Rattle.tl_tile.proofs.TileTexts.{scaled_le}
 use Rattle.tl_server.specs.Device.{Passage, IsUnwritten}
 use Rattle.tl_server.specs.Lines.{entries_of, first_too_long}
-use Rattle.tl_server.specs.Run.{Outcome, Prints, PrintsRefusal, Fails, Runs, CameOf, ReadEntries, most_input}
+use Rattle.tl_server.specs.Run.{Outcome, Prints, PrintsRefusal, Fails, Runs, CameOf, IsAsking, ReadEntries, most_input}
 use Rattle.tl_server.specs.declared.fault.RunFault.{RunFault}
 use Rattle.tl_server.specs.declared.fault.RunFault.TheVariants as fault
-use Rattle.tl_server.proofs.LinesLemmas.{length-entries_of}
+use Rattle.tl_server.proofs.Asking.{gave_entry, none_too_long}
+use Rattle.tl_server.proofs.LinesLemmas.{length-entries_of, entries_of_nothing}
 use Rattle.tl_build.specs.Mirror.{checkpoint_note, mirrored, resource_text, listing_text}
 use Rattle.tl_build.specs.Build.{IsPrinted, IsMissing, BuildComes, IsLawfulPath, RunsBuild}
 use Rattle.tl_build.specs.Steps.{IsAsked, IsServed, IsShown, AnswersWanted, WantedComes}
@@ -99,6 +106,43 @@ never : (origin secret : List ℕ) (get : Option (List ℕ)) (wanted : Option Re
     → CameOf (WantedComes origin secret wanted) i outcome × IsUnwritten o → CameOf (BuildComes origin secret get) i outcome × IsUnwritten o
 never origin secret get wanted i o outcome asked is = (came origin secret get wanted i outcome asked is.0, is.1)
 
+asking : (origin secret : List ℕ) (get : Option (List ℕ)) (wanted : Option Resource) (i : Passage) → IsAsked get wanted → IsAsking (WantedComes origin secret wanted) i → IsAsking (BuildComes origin secret get) i
+asking origin secret get wanted i asked asks =
+    elim asks as (λ _. IsAsking (BuildComes origin secret get) i) [
+      | inl gave ↦ inl gave
+      | inr (text, comes) ↦ inr (text, wanted_comes origin secret get wanted [] (Prints text) (omega arith) asked comes)
+    ]
+
+-- a log of no entries has no tile and no bundle
+pub no_tile : (t : Tile) → ¬ (Contains (mirrored 0) (resource.Tile t))
+no_tile t = λ has.
+    let found : LiesIn 0 (resource.Tile t) = lies 0 (resource.Tile t) (omega arith) has in
+    let some : 1 * 256 ^ t.level ≤ (t.index * 256 + t.width) * 256 ^ t.level = scaled_le 1 (t.index * 256 + t.width) (256 ^ t.level) (omega (arith, found.0.wide)) in
+    absurd (omega (arith, found.1, some, positive_256 t.level))
+
+pub no_bundle : (index width : ℕ) → ¬ (Contains (mirrored 0) (resource.Entries index width))
+no_bundle index width = λ has.
+    let found : LiesIn 0 (resource.Entries index width) = lies 0 (resource.Entries index width) (omega arith) has in
+    absurd (omega (arith, found.1, found.3))
+
+pub has_checkpoint : Contains (mirrored 0) resource.Checkpoint
+has_checkpoint = Contains-append_right (needed_resources 0) (resource.Checkpoint ∷ []) resource.Checkpoint (0, omega arith, refl)
+
+-- something is printed of no entries where what is wanted is there
+shown_of_none : (note : List ℕ) (entries : List (List ℕ)) (wanted : Option Resource) → entries ≡ [] → IsServed (mirrored 0) wanted → (text : List ℕ) × IsShown note entries wanted text
+shown_of_none note entries None none served = (listing_text note entries (mirrored (length entries)), refl)
+shown_of_none note entries (Some r) none served = (resource_text note entries r, (subst (λ (es : List (List ℕ)). Contains (mirrored (length es)) r) (sym none) served, refl))
+
+pub asks_for : (origin secret : List ℕ) (wanted : Option Resource) (i : Passage) (entries : List (List ℕ)) → ReadEntries i most_input entries → (0 < length entries) ⊎ IsServed (mirrored 0) wanted
+    → IsAsking (WantedComes origin secret wanted) i
+asks_for origin secret wanted i entries read either =
+    elim either as (λ _. IsAsking (WantedComes origin secret wanted) i) [
+      | inl some ↦ inl (gave_entry i most_input entries read some)
+      | inr served ↦
+          let shown = shown_of_none (checkpoint_note origin secret (entries_of [])) (entries_of []) wanted (entries_of_nothing [] refl) served in
+          inr (shown.0, (none_too_long, shown.1))
+    ]
+
 -- a run for a resource that is wanted is a run for the path that was asked for
 pub runs_build : (origin secret : List ℕ) (get : Option (List ℕ)) (wanted : Option Resource) (i o : Passage) (r : Result (Unit {0}) RunFault) → IsKeyName origin → IsAsked get wanted
     → Runs (WantedComes origin secret wanted) i o r → RunsBuild origin secret get i o r
@@ -112,7 +156,7 @@ runs_build origin secret get wanted i o (Err fault.Write) named asked runs =
     ] in
     (named, asked_lawful get wanted asked, record { text = runs.text; came = either; part = runs.part })
 runs_build origin secret get wanted i o (Err fault.TooLarge) named asked runs = (named, asked_lawful get wanted asked, runs)
-runs_build origin secret get wanted i o (Err fault.OutOfMemory) named asked runs = (named, asked_lawful get wanted asked, runs)
+runs_build origin secret get wanted i o (Err fault.OutOfMemory) named asked runs = (named, asked_lawful get wanted asked, (runs.0, runs.1, asking origin secret get wanted i asked runs.2))
 runs_build origin secret get wanted i o (Err fault.BadOrigin) named asked runs = absurd runs.0.so
 runs_build origin secret get wanted i o (Err fault.BadPath) named asked runs = absurd runs.0.so
 runs_build origin secret get wanted i o (Err (fault.EntryTooLong place)) named asked runs = (named, asked_lawful get wanted asked, never origin secret get wanted i o (Fails (fault.EntryTooLong place)) asked runs)
@@ -146,24 +190,25 @@ shows_all note n entries resources size wanted text is same count all spelled =
 
 -- where there is no answer, the run has failed
 pub answer_fails : (A : Type 0) (origin secret : List ℕ) (wanted : Option Resource) (i o : Passage) (f : RunFault) (entries : List (List ℕ)) → ReadEntries i most_input entries → IsUnwritten o
+    → IsAsking (WantedComes origin secret wanted) i
     → AnswersWanted {A = A} (checkpoint_note origin secret entries) entries wanted (Err f) → Runs (WantedComes origin secret wanted) i o (Err f)
-answer_fails A origin secret wanted i o fault.NotThere entries read none given =
+answer_fails A origin secret wanted i o fault.NotThere entries read none asks given =
     let short : first_too_long (entries_of read.input) ≡ None = sym (ap first_too_long read.lines) ∙ read.short in
     let absent : ¬ (IsServed (mirrored (length (entries_of read.input))) wanted) = subst (λ (es : List (List ℕ)). ¬ (IsServed (mirrored (length es)) wanted)) read.lines given in
     (record { input = read.input; whole = read.whole; so = (short, absent) }, none)
-answer_fails A origin secret wanted i o fault.OutOfMemory entries read none given = (read.whole.steady, none)
-answer_fails A origin secret wanted i o fault.Refused entries read none given = absurd given
-answer_fails A origin secret wanted i o fault.Read entries read none given = absurd given
-answer_fails A origin secret wanted i o fault.Write entries read none given = absurd given
-answer_fails A origin secret wanted i o fault.TooLarge entries read none given = absurd given
-answer_fails A origin secret wanted i o (fault.EntryTooLong place) entries read none given = absurd given
-answer_fails A origin secret wanted i o fault.BadOrigin entries read none given = absurd given
-answer_fails A origin secret wanted i o fault.BadIndex entries read none given = absurd given
-answer_fails A origin secret wanted i o fault.BadOld entries read none given = absurd given
-answer_fails A origin secret wanted i o fault.BadPath entries read none given = absurd given
-answer_fails A origin secret wanted i o fault.Malformed entries read none given = absurd given
-answer_fails A origin secret wanted i o (fault.Chain place) entries read none given = absurd given
-answer_fails A origin secret wanted i o fault.Sign entries read none given = absurd given
-answer_fails A origin secret wanted i o fault.Operator entries read none given = absurd given
-answer_fails A origin secret wanted i o fault.Listen entries read none given = absurd given
-answer_fails A origin secret wanted i o fault.Accept entries read none given = absurd given
+answer_fails A origin secret wanted i o fault.OutOfMemory entries read none asks given = (read.whole.steady, none, asks)
+answer_fails A origin secret wanted i o fault.Refused entries read none asks given = absurd given
+answer_fails A origin secret wanted i o fault.Read entries read none asks given = absurd given
+answer_fails A origin secret wanted i o fault.Write entries read none asks given = absurd given
+answer_fails A origin secret wanted i o fault.TooLarge entries read none asks given = absurd given
+answer_fails A origin secret wanted i o (fault.EntryTooLong place) entries read none asks given = absurd given
+answer_fails A origin secret wanted i o fault.BadOrigin entries read none asks given = absurd given
+answer_fails A origin secret wanted i o fault.BadIndex entries read none asks given = absurd given
+answer_fails A origin secret wanted i o fault.BadOld entries read none asks given = absurd given
+answer_fails A origin secret wanted i o fault.BadPath entries read none asks given = absurd given
+answer_fails A origin secret wanted i o fault.Malformed entries read none asks given = absurd given
+answer_fails A origin secret wanted i o (fault.Chain place) entries read none asks given = absurd given
+answer_fails A origin secret wanted i o fault.Sign entries read none asks given = absurd given
+answer_fails A origin secret wanted i o fault.Operator entries read none asks given = absurd given
+answer_fails A origin secret wanted i o fault.Listen entries read none asks given = absurd given
+answer_fails A origin secret wanted i o fault.Accept entries read none asks given = absurd given

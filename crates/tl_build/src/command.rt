@@ -1,12 +1,12 @@
 //! The command `build`: what a static mirror of the log of the lines of the input serves.
 
-ghost use Rattle.std.specs.Prelude.{◌≡◌, ◌<◌, ◌^◌, ◌↔◌, IsTrue, IfSome, Some, length, map, vec_items, option_map};
+ghost use Rattle.std.specs.Prelude.{◌≡◌, ◌<◌, ◌^◌, ◌↔◌, ◌⊎◌, IsTrue, IfSome, MatchBool, Some, length, map, vec_items, option_map};
 ghost use Rattle.tl_note.specs.Key.{IsKeyName};
 ghost use Rattle.tl_tile.specs.Bundle.{AreShortEntries};
 ghost use Rattle.tl_tile.specs.declared.resource.Resource.TheVariants as resource;
 ghost use Rattle.tl_server.specs.Device.{passage};
 ghost use Rattle.tl_server.specs.Run.{Runs};
-ghost use Rattle.tl_build.specs.Mirror.{checkpoint_note};
+ghost use Rattle.tl_build.specs.Mirror.{checkpoint_note, mirrored};
 ghost use Rattle.tl_build.specs.Build.{RunsBuild};
 ghost use Rattle.tl_build.specs.Steps.{ReadsPath, IsServed, AnswersWanted, WantedComes};
 
@@ -52,6 +52,22 @@ fn bundle_in(wanted: Option<Resource>) -> Option<(u64, u32)>
     match resource {
         Resource::Entries { index, width } => Some((index, width)),
         _ => None,
+    }
+}
+
+// Whether a log of so many entries has none, and a tile or an entry bundle is wanted of it.
+fn is_of_no_entry(count: usize, wanted: Option<Resource>) -> bool
+    ensures { MatchBool result
+        ((count ≡ 0) × ¬ (IsServed (mirrored 0) wanted))
+        ((0 < count) ⊎ IsServed (mirrored 0) wanted) }
+{
+    if count > 0 {
+        return false;
+    }
+    match wanted {
+        Some(Resource::Tile(_)) => true,
+        Some(Resource::Entries { .. }) => true,
+        _ => false,
     }
 }
 
@@ -101,6 +117,9 @@ fn build<A: Allocator + Copy, R: Read, W: Write>(
     ensures { Runs (WantedComes origin.now secret.now wanted) (passage R.remaining reader.old reader.new) (passage W.contents writer.old writer.new) result }
 {
     let entries = read_entries(alloc, reader, MOST_INPUT)?;
+    if is_of_no_entry(entries.len(), wanted) {
+        return Err(RunFault::NotThere);
+    }
     let answer = match answer_of(alloc, global, origin, secret, wanted, entries.as_slice()) {
         Ok(answer) => answer,
         Err(fault) => return Err(fault),

@@ -1,9 +1,11 @@
-use Rattle.std.proofs.Common.{rules, ap, arith, length, subst, sym, map, vec_items, ◌∙◌}
+use Rattle.tl_build.specs.Mirror.{mirrored}
+use Rattle.tl_build.specs.Steps.{IsServed}
+use Rattle.std.proofs.Common.{◌<◌, ◌⊎◌, inl, inr, rules, ap, arith, length, subst, sym, map, vec_items, ◌∙◌}
 use Rattle.std.proofs.lemmas.List.{length-map}
 use Rattle.tl_server.specs.Lines.{first_too_long}
 use Rattle.tl_server.proofs.LinesLemmas.{length-entries_of}
 use Rattle.tl_build.proofs.Bundles.{none_too_long}
-use Rattle.tl_build.proofs.Wanted.{answer_fails}
+use Rattle.tl_build.proofs.Wanted.{answer_fails, asks_for}
 use Rattle.tl_server.specs.Run.{ReadEntries, most_input}
 use Rattle.tl_build.proofs.command.build.Goals as goal
 
@@ -22,4 +24,10 @@ answer_of-requires-clause-short g c =
 pub returns-in-Err : goal.returns-in-Err
 returns-in-Err g c =
     let same = ap (map vec_items) c.as_slice.ensures.value in
-    answer_fails g.row.A.Denot c.args.origin.now c.args.secret.now c.args.wanted _ _ c.in-Err.fault (map vec_items c.as_slice.result.now) (subst (ReadEntries _ most_input) (sym same) c.in_ok-entries.ensures) (search rules) c.in-Err.ensures
+    let either : (0 < length (map vec_items c.as_slice.result.now)) ⊎ IsServed (mirrored 0) c.args.wanted =
+    elim c.if-is_of_no_entry.ensures as (λ _. (0 < length (map vec_items c.as_slice.result.now)) ⊎ IsServed (mirrored 0) c.args.wanted) [
+      | inl some ↦ inl (omega (arith, some, c.len.ensures, ap length same, length-map c.in_ok-entries.entries.items vec_items))
+      | inr served ↦ inr served
+    ] in
+    answer_fails g.row.A.Denot c.args.origin.now c.args.secret.now c.args.wanted _ _ c.in-Err.fault (map vec_items c.as_slice.result.now) (subst (ReadEntries _ most_input) (sym same) c.in_ok-entries.ensures) (search rules)
+    (asks_for c.args.origin.now c.args.secret.now c.args.wanted _ (map vec_items c.as_slice.result.now) (subst (ReadEntries _ most_input) (sym same) c.in_ok-entries.ensures) either) c.in-Err.ensures
