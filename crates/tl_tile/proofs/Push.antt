@@ -1,9 +1,9 @@
 -- One fetched tile more.
-use Rattle.std.proofs.Common.{◌≡◌, ℕ, ◌+◌, ◌-◌, ◌*◌, ◌/◌, ◌%◌, ◌^◌, ◌<◌, ◌≤◌, ◌⊎◌, inl, inr, Bool, true, false, ◌&&◌, eqb, List, [], ◌∷◌, ◌++◌, append_assoc, length, map, Option, Some, None, refl, sym, ap, subst, ◌∙◌, arith}
+use Rattle.std.proofs.Common.{◌≡◌, ℕ, ◌+◌, ◌-◌, ◌*◌, ◌/◌, ◌%◌, ◌^◌, ◌<◌, ◌≤◌, ◌⊎◌, inl, inr, Bool, true, false, ◌&&◌, eqb, List, [], ◌∷◌, ◌++◌, append_assoc, length, map, take, get_or, Option, Some, None, refl, sym, ap, subst, ◌∙◌, arith}
 use Rattle.std.proofs.lemmas.Bool.{cases_Bool, cases_lt, and_parts, eqb-true, eq-eqb}
 use Rattle.std.specs.Prelude.{◌≢◌, vec_items}
 use Rattle.std.specs.declared.vec.Vec.{Vec}
-use Rattle.std.proofs.lemmas.List.{map-append}
+use Rattle.std.proofs.lemmas.List.{map-append, length-append, take_more, take_all, same_from_push}
 use Rattle.tl_tile.specs.declared.resource.Tile.{Tile}
 use Rattle.tl_tile.specs.TileText.{level_count, full_tile, partial_tile, tile_with}
 use Rattle.tl_tile.specs.Known.{Tiles, IsFold, nothing, given, split, IsEdgeHash, IsInAbove}
@@ -13,7 +13,7 @@ use Rattle.tl_tile.specs.Source.{HasTileWith, IsHashWith}
 use Rattle.tl_tile.specs.Steps.{IsMissing, IsThere}
 use Rattle.tl_tile.specs.Fetching.{BeginsWithEdge, edge_tiles}
 use Rattle.tl_tile.specs.Verified.{AreVerified, ComesNext}
-use Rattle.tl_tile.specs.SourceFaults.{IsBadTile}
+use Rattle.tl_tile.specs.SourceFaults.{IsLast, IsBadTile}
 use Rattle.tl_tile.proofs.Edges.{Some-injective, under_within}
 use Rattle.tl_tile.proofs.Checked.{level_count-above, tile_with-full, tile_with-partial}
 
@@ -182,16 +182,25 @@ texts-push {A = A} xs ys tile text pushed =
 
 -- ---- a full tile that was fetched, and is compared with the tile above
 
--- the text that is found for a new tile
-pub new-text : (old new : List (Tile × List ℕ)) (tile : Tile) (text seen : List ℕ) → tiles_of old tile ≡ None → new ≡ old ++ (tile, text) ∷ [] → tiles_of new tile ≡ Some seen → text ≡ seen
-new-text old new tile text seen none pushed found =
-    Some-injective text seen (sym (ap (λ (list : List (Tile × List ℕ)). tiles_of list tile) pushed ∙ tiles_of-new old (tile, text) tile refl none) ∙ found)
+-- the last tile of a list
+pub last-of : {A : Type 0} (xs : List (Tile × Vec ℕ A)) (x : Tile × Vec ℕ A) → 0 < length xs → x ≡ get_or xs (length xs - 1) x → IsLast x.0 (vec_items x.1) (texts_of xs)
+last-of xs x some at =
+    let i : ℕ = length xs - 1 in
+    let whole : xs ≡ take i xs ++ x ∷ [] = sym (take_all (i + 1) xs (omega (arith, some))) ∙ take_more xs i x (omega (arith, some)) ∙ ap (λ (y : _). take i xs ++ y ∷ []) (sym at) in
+    (texts_of (take i xs), texts-push (take i xs) xs x.0 x.1 whole)
+
+-- the text of a new tile is the last
+pub new-text : (old new : List (Tile × List ℕ)) (tile t : Tile) (text seen : List ℕ) → new ≡ old ++ (tile, text) ∷ [] → IsLast t seen new → text ≡ seen
+new-text old new tile t text seen pushed last =
+    ap (λ (f : Tile × List ℕ). f.1) (same_from_push old last.0 (tile, text) (t, seen) (sym pushed ∙ last.1)).1
+
+pub not-empty : (old new : List (Tile × List ℕ)) (f : Tile × List ℕ) → new ≡ old ++ f ∷ [] → new ≡ [] → ⊥
+not-empty old new f pushed none = omega (arith, ap length (sym pushed ∙ none), length-append old (f ∷ []))
 
 pub verified-full : (H : List ℕ → List ℕ) (size : ℕ) (root : List ℕ) (old new : List (Tile × List ℕ)) (level index : ℕ) (tile : Tile) (text seen own hash : List ℕ) → AreVerified H size root old
-    → tile ≡ full_tile level index → tiles_of old tile ≡ None → new ≡ old ++ (tile, text) ∷ [] → length text ≡ 32 * tile.width → tiles_of new tile ≡ Some seen
+    → tile ≡ full_tile level index → tiles_of old tile ≡ None → new ≡ old ++ (tile, text) ∷ [] → length text ≡ 32 * tile.width → text ≡ seen
     → IsHashWith (tiles_of old) size (level + 1) index own → Part H seen 0 256 hash → own ≡ hash → AreVerified H size root new
-verified-full H size root old new level index tile text seen own hash before is none pushed long found above part same =
-    let seen_is : text ≡ seen = new-text old new tile text seen none pushed found in
+verified-full H size root old new level index tile text seen own hash before is none pushed long seen_is above part same =
     let known_is : Part H text 0 256 own = subst (λ (x : List ℕ). Part H x 0 256 own) (sym seen_is) (subst (λ (x : List ℕ). Part H seen 0 256 x) (sym same) part) in
     let in_above : IsInAbove H (tiles_of old) size level index text = record {
       above = above.0;
@@ -205,9 +214,9 @@ verified-full H size root old new level index tile text seen own hash before is 
     (verified-push H size root old (tile, text) before level index is (long ∙ ap (λ (t : Tile). 32 * t.width) is) in_above)
 
 pub bad-full : (H : List ℕ → List ℕ) (size : ℕ) (root : List ℕ) (old new : List (Tile × List ℕ)) (level index : ℕ) (tile : Tile) (text seen own hash : List ℕ) → tile ≡ full_tile level index
-    → index < level_count size (level + 1) → tiles_of old tile ≡ None → new ≡ old ++ (tile, text) ∷ [] → tiles_of new tile ≡ Some seen
+    → index < level_count size (level + 1) → tiles_of old tile ≡ None → new ≡ old ++ (tile, text) ∷ [] → text ≡ seen
     → IsHashWith (tiles_of old) size (level + 1) index own → Part H seen 0 256 hash → own ≢ hash → IsBadTile H size root new tile
-bad-full H size root old new level index tile text seen own hash is below none pushed found above part differ =
+bad-full H size root old new level index tile text seen own hash is below none pushed seen_is above part differ =
     let level_is : level ≡ tile.level = ap (λ (t : Tile). t.level) (sym is) in
     let index_is : index ≡ tile.index = ap (λ (t : Tile). t.index) (sym is) in
     let full : tile ≡ full_tile tile.level tile.index = is ∙ (λ i. full_tile (level_is i) (index_is i)) in
@@ -215,7 +224,6 @@ bad-full H size root old new level index tile text seen own hash is below none p
     let still : tiles_of new (tile_with size (level + 1) index) ≡ Some above.0 =
     ap (λ (list : List (Tile × List ℕ)). tiles_of list (tile_with size (level + 1) index)) pushed ∙ tiles_of-old old (tile, text) (tile_with size (level + 1) index) above.0 above.1 in
     let later : IsHashWith (tiles_of new) size (level + 1) index own = (above.0, still, above.2) in
-    let seen_is : text ≡ seen = new-text old new tile text seen none pushed found in
     record {
       of_log = inl (full, there);
       because = inr (inr (record {
@@ -236,13 +244,6 @@ bad-full H size root old new level index tile text seen own hash is below none p
 pub next-full : (H : List ℕ → List ℕ) (size : ℕ) (root : List ℕ) (xs : List (Tile × List ℕ)) (level index : ℕ) → AreVerified H size root xs → tiles_of xs (full_tile level index) ≡ None → HasTileWith (tiles_of xs) size (level + 1) index
     → ComesNext H size root xs (full_tile level index)
 next-full H size root xs level index passed new above = record { new = new; next = inr (record { full = refl; passed = passed; above = above }) }
-
--- a tile that was added is there
-pub none-not : (old new : List (Tile × List ℕ)) (tile : Tile) (text : List ℕ) → new ≡ old ++ (tile, text) ∷ [] → tiles_of new tile ≡ None → ⊥
-none-not old new tile text pushed none =
-    let there = there-more old new (tile, text) tile pushed refl in
-    let both : Some there.0 ≡ None = sym there.1 ∙ none in
-    absurd (cc)
 
 pub not_same : (answer : Bool) → answer ≡ true → answer ≡ false → ⊥
 not_same answer is isnt = let both : true ≡ false = sym is ∙ isnt in absurd (cc)

@@ -197,7 +197,7 @@ impl<T: TreeHash, S: TileSource> Checker<T, S> {
         let tile = full_tile(level, index);
         let own = self.hash_with(level + 1, index, fetched);
         self.fetch_tile(tile, fetched)?;
-        let Some(text) = fetched.text_of(tile) else {
+        let Some(text) = fetched.last_text() else {
             unreachable!();
         };
         let hash = known_part(self.h, text, 0, 256);

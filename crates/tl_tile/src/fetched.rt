@@ -2,6 +2,7 @@
 
 ghost use Rattle.std.specs.Prelude.{◌≡◌, ◌∷◌, ◌++◌, ℕ, List, [], length, MatchOption, IfOk, IfErr, OnErr, Some, None};
 ghost use Rattle.tl_tile.specs.Fetched.{same_tile, tiles_of, texts_of};
+ghost use Rattle.tl_tile.specs.SourceFaults.{IsLast};
 ghost use Rattle.tl_tile.specs.declared.source.SourceFault.TheVariants.{Unavailable};
 
 use crate::resource::Tile;
@@ -71,6 +72,16 @@ impl<A: Allocator> FetchedTiles<A> {
             (λ text. tiles_of self.now tile ≡ Some text.now) }
     {
         text_in(&self.tiles, tile)
+    }
+
+    // The text of the tile that was fetched last.
+    pub(crate) fn last_text(&self) -> Option<&[u8]>
+        ensures { MatchOption result (self.now ≡ []) (λ text. (t : Tile) × IsLast t text.now self.now) }
+    {
+        match self.tiles.as_slice() {
+            [] => None,
+            [.., last] => Some(last.1.as_slice()),
+        }
     }
 
     // Lets all tiles go.

@@ -72,11 +72,11 @@ fn are_below(indexes: &[u64], count: u64) -> bool
 }
 
 impl<T: TreeHash, S: TileSource, A: Allocator + Copy> TileHashReader<T, S, A> {
-    /// The stored hashes with these numbers, in this order, and in `fetched` just the tiles that were fetched for
-    /// them, also after a fault (C2SP tlog-tiles, "Merkle Tree"). All numbers are checked first; with none nothing is
-    /// fetched. The partial tiles come first, from the highest level down, and have to give the root; then the full
-    /// tiles over each number, from the top down, each with the hash that the tile above has. `BadTile` names the
-    /// highest partial tile where they give another root, and else the tile fetched last.
+    /// The stored hashes with these numbers, in this order; `fetched` then holds the tiles that were fetched for them
+    /// and no others, also after a fault (C2SP tlog-tiles, "Merkle Tree"). Numbers are checked first; for none
+    /// nothing is fetched. The partial tiles come first, from the highest level down, and have to give the root; then
+    /// the full tiles over each number, from the top down, each with the hash that the tile above has. `BadTile` names
+    /// the highest partial tile where these give another root, or the last tile.
     pub fn read_checked<B: Allocator>(
         &self,
         alloc: B,
