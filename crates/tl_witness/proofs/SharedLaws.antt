@@ -1,7 +1,7 @@
 -- What a lock has had keeps what it began with.
 use Rattle.std.proofs.Common.{◌≡◌, ◌≢◌, ◌≤◌, ◌<◌, ◌-◌, ℕ, List, [], ◌∷◌, ◌++◌, Some, ◌⊎◌, inl, inr, refl, sym, ap, subst, ◌∙◌, map, take, drop, length, slice_get, append_assoc, append-nil, arith, Ok, Err}
 use Rattle.std.specs.Prelude.{Result, IfOk, OnErr}
-use Rattle.std.proofs.lemmas.List.{take_rest, take_all, drop-map, take-map, length-drop, length-map}
+use Rattle.std.proofs.lemmas.List.{map-append, take_rest, take_all, drop-map, take-map, length-drop, length-map}
 use mathlib.Core.List.{IsPrefix}
 use Rattle.tl_proof.specs.Collisions.{Step}
 use Rattle.tl_proof.specs.Laws.{MadeOfHashes}
@@ -12,7 +12,7 @@ use Rattle.tl_witness.specs.Decide.{Asked, Outcome, Decides}
 use Rattle.tl_witness.specs.declared.finding.Found.{Found}
 use Rattle.tl_witness.specs.Finding.{IsFound, IsMalformed, IsOfOther}
 use Rattle.tl_witness.specs.Offer.{asked_by}
-use Rattle.tl_witness.specs.Runs.{IsLater, IsLaterChain}
+use Rattle.tl_witness.specs.Runs.{IsLater, IsLaterBook, IsLaterChain}
 use Rattle.tl_witness.specs.Shared.{Answer, DecidesLater, DecidesShared, RefusesAnswer}
 use Rattle.tl_witness.specs.Witnessed.{Witnessed}
 use Rattle.tl_witness.proofs.ChainLaws.{linked-after}
@@ -69,3 +69,19 @@ pub at_place : {A : Type 0} (H : List ℕ → List ℕ) (book : List Witnessed) 
     → IsPlaceOf book is.signed.head.origin (record { at = found.place; one = one }) → DecidesLater H one (asked_by found.offer time) answer → DecidesShared H book body time answer
 at_place H book body time answer origins found is one place decided =
     inr (is.request, is.reads, inr (is.signed, is.note, inr (record { at = found.place; one = one }, place, subst (λ (a : Asked). DecidesLater H one a answer) (is.asks time) decided)))
+
+-- one origin more, later
+pub later_more : (H : List ℕ → List ℕ) (book later : List Witnessed) (one after : Witnessed) → IsLaterBook H book later → IsLater H one after → IsLaterBook H (book ++ one ∷ []) (later ++ after ∷ [])
+later_more H [] later one after is more = (after, [], ap (λ (l : List Witnessed). l ++ after ∷ []) is, more, refl)
+later_more H (first ∷ book) later one after is more =
+    (is.0, is.1 ++ after ∷ [], ap (λ (l : List Witnessed). l ++ after ∷ []) is.2, is.3, later_more H book is.1 one after is.4 more)
+
+-- the same of lists that show them
+pub later_push : {E G : Type 0} (H : List ℕ → List ℕ) (f : E → Witnessed) (h : G → Witnessed) (done : List E) (entries : List G) (one : E) (after : G)
+    → IsLaterBook H (map f done) (map h entries) → IsLater H (f one) (h after) → IsLaterBook H (map f (done ++ one ∷ [])) (map h (entries ++ after ∷ []))
+later_push H f h done entries one after is more =
+    subst (λ (b : List Witnessed). IsLaterBook H b (map h (entries ++ after ∷ []))) (sym (map-append f done (one ∷ [])))
+    (subst (IsLaterBook H (map f done ++ f one ∷ [])) (sym (map-append h entries (after ∷ []))) (later_more H (map f done) (map h entries) (f one) (h after) is more))
+
+pub later_all : (H : List ℕ → List ℕ) (done all later : List Witnessed) → done ≡ all → IsLaterBook H done later → IsLaterBook H all later
+later_all H done all later same is = subst (λ (b : List Witnessed). IsLaterBook H b later) same is

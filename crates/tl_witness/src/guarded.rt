@@ -5,7 +5,7 @@ ghost use Rattle.tl_proof.specs.Collisions.{Step, step_of};
 ghost use Rattle.tl_witness.specs.Chain.{first_head, last_head};
 ghost use Rattle.tl_witness.specs.ChainLine.{IsChainLine};
 ghost use Rattle.tl_witness.specs.Offer.{asked_by};
-ghost use Rattle.tl_witness.specs.Runs.{IsLaterChain};
+ghost use Rattle.tl_witness.specs.Runs.{IsLater, IsLaterChain};
 ghost use Rattle.tl_witness.specs.Shared.{DecidesLater};
 
 use crate::book::{Entry, ShownEntry};
@@ -131,6 +131,16 @@ impl<T: TreeHash, A: Allocator + Copy> Guarded<T, A> {
         let reply = self.origin.answer(tools, &mut chain, offer, time, saver);
         self.chain.put_back(rt, chain);
         reply
+    }
+
+    /// The origin as it is once nobody shares it.
+    pub(crate) fn into_entry<R: Wait>(self, rt: &R) -> Entry<T, A>
+        ensures { IsLater T.digest_of (⟦<Guarded<T, A> as ShownGuarded>⟧.shown_guarded self) (⟦<Entry<T, A> as ShownEntry>⟧.shown_entry result) }
+    {
+        let Guarded { origin, chain } = self;
+        let chain = chain.into_inner(rt);
+        chain.is_chain();
+        Entry { origin, chain }
     }
 
     /// The size and root that the chain has reached when the lock is taken.

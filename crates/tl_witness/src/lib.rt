@@ -37,5 +37,5 @@ pub use opening::BookFault;
 pub use reply::Reply;
 pub use request::{AddRequest, RequestFault, parse_request};
 pub use saver::{SaveFault, Saver};
-pub use shared::{BookBack, SharedWitness};
+pub use shared::{BookBack, SharedWitness, WitnessBack};
 pub use trust::{ShownTrust, Trust};

@@ -62,4 +62,16 @@ impl<X: Fits + Drop> Lock<X> {
         }
         unreachable!()
     }
+
+    /// The value, once nobody shares the lock. It would wait for one that was taken and not put back.
+    pub(crate) fn into_inner<R: Wait>(self, rt: &R) -> X
+        ensures { X.fits self.slot result }
+    {
+        let Lock { gate: _, slot } = self;
+        let Some(value) = slot.into_inner() else {
+            for _ in rt.forever() {}
+            unreachable!()
+        };
+        value
+    }
 }

@@ -5,10 +5,10 @@ ghost use Rattle.tl_proof.specs.Collisions.{step_of};
 ghost use Rattle.tl_witness.specs.Answers.{AsksForMemory};
 ghost use Rattle.tl_witness.specs.Book.{IsPlaceOf, Place};
 ghost use Rattle.tl_witness.specs.Chain.{first_head, last_head};
-ghost use Rattle.tl_witness.specs.Runs.{IsLaterChain};
+ghost use Rattle.tl_witness.specs.Runs.{IsLaterBook};
 ghost use Rattle.tl_witness.specs.Shared.{AnswersShared, DecidesShared, IsOfLaterChain};
 
-use crate::book::{Book, Shown};
+use crate::book::{Book, Entry, Shown};
 use crate::by_origin::ByOrigin;
 use crate::finding::{Unfound, find_origin};
 use crate::guarded::Guarded;
@@ -59,6 +59,24 @@ fn room_for<T: TreeHash, A: Allocator + Copy>(
 pub struct BookBack<T: TreeHash, A: Allocator + Copy> {
     /// The book as it was.
     pub book: Book<T, A>,
+}
+
+// An empty list with room for what a shared witness keeps.
+fn room_back<T: TreeHash, A: Allocator + Copy>(
+    witness: &SharedWitness<T, A>,
+) -> Result<Vec<Entry<T, A>, A>, AllocError>
+    ensures { IfOk result (λ list. (list.items ≡ []) × (length witness.now.entries.items ≤ vec_capacity list)) }
+{
+    let mut list = Vec::new(witness.tools.alloc);
+    list.reserve(witness.entries.len())?;
+    Ok(list)
+}
+
+/// A witness that was not made a book again, since memory was refused.
+#[derive(Drop)]
+pub struct WitnessBack<T: TreeHash, A: Allocator + Copy> {
+    /// The witness as it was.
+    pub witness: SharedWitness<T, A>,
 }
 
 impl<T: TreeHash, A: Allocator + Copy> SharedWitness<T, A> {
@@ -177,5 +195,29 @@ impl<T: TreeHash, A: Allocator + Copy> SharedWitness<T, A> {
             return None;
         };
         Some(self.entries[place].head(rt))
+    }
+
+    /// The book, once nobody shares it: the same origins, with chains that begin with those that were handed in. It gives the
+    /// witness back where a growth was refused.
+    pub fn into_book<R: Wait>(self, rt: &R) -> Result<Book<T, A>, WitnessBack<T, A>>
+        ensures ok { IfOk result (λ book. IsLaterBook T.digest_of (⟦<SharedWitness<T, A> as Shown>⟧.shown self) (⟦<Book<T, A> as Shown>⟧.shown book)) }
+        ensures err { IfErr result (λ back. back.witness ≡ self) }
+    {
+        let Ok(mut entries) = room_back(&self) else {
+            return Err(WitnessBack { witness: self });
+        };
+        let SharedWitness {
+            tools,
+            entries: before,
+            places,
+        } = self;
+        for guarded in before {
+            entries.push_reserved(guarded.into_entry(rt));
+        }
+        Ok(Book {
+            tools,
+            entries,
+            places,
+        })
     }
 }
