@@ -1,12 +1,11 @@
 -- What a lock has had keeps what it began with.
-use Rattle.std.proofs.Common.{◌≡◌, ◌≢◌, ◌≤◌, ◌<◌, ◌-◌, ℕ, List, [], ◌∷◌, ◌++◌, Some, ◌⊎◌, inl, inr, refl, sym, ap, subst, ◌∙◌, map, take, drop, length, slice_get, append_assoc, append-nil, arith, Ok, Err}
+use Rattle.std.proofs.Common.{◌≡◌, ◌≤◌, ◌-◌, ℕ, List, [], ◌∷◌, ◌++◌, inl, inr, refl, sym, ap, subst, ◌∙◌, map, take, drop, length, append_assoc, arith, Ok, Err}
 use Rattle.std.specs.Prelude.{Result, IfOk, OnErr}
 use Rattle.std.proofs.lemmas.List.{map-append, take_rest, take_all, drop-map, take-map, length-drop, length-map}
 use mathlib.Core.List.{IsPrefix}
 use Rattle.tl_proof.specs.Collisions.{Step}
 use Rattle.tl_proof.specs.Laws.{MadeOfHashes}
-use Rattle.tl_witness.specs.Answers.{AsksForMemory}
-use Rattle.tl_witness.specs.Book.{IsPlaceOf, Place, asked_of}
+use Rattle.tl_witness.specs.Book.{IsPlaceOf, Place}
 use Rattle.tl_witness.specs.Chain.{IsChain, IsLinked, first_head}
 use Rattle.tl_witness.specs.Decide.{Asked, Outcome, Decides}
 use Rattle.tl_witness.specs.declared.finding.Found.{Found}

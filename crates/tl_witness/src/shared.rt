@@ -197,8 +197,8 @@ impl<T: TreeHash, A: Allocator + Copy> SharedWitness<T, A> {
         Some(self.entries[place].head(rt))
     }
 
-    /// The book, once nobody shares it: the same origins, with chains that begin with those that were handed in. It gives the
-    /// witness back where a growth was refused.
+    /// The book, once nobody shares it: the same origins, with chains that begin with those that were handed in. It
+    /// gives the witness back where a growth was refused.
     pub fn into_book<R: Wait>(self, rt: &R) -> Result<Book<T, A>, WitnessBack<T, A>>
         ensures ok { IfOk result (λ book. IsLaterBook T.digest_of (⟦<SharedWitness<T, A> as Shown>⟧.shown self) (⟦<Book<T, A> as Shown>⟧.shown book)) }
         ensures err { IfErr result (λ back. back.witness ≡ self) }
