@@ -1,8 +1,8 @@
 -- A cosignature line under a name that was kept.
-use Rattle.std.proofs.Common.{◌≡◌, ℕ, ◌<◌, List, [], length, ap, subst, ◌∙◌, ◌⊎◌, inl, inr, nat_eq}
-use Rattle.std.specs.Prelude.{IsTrue, ◌==◌}
+use Rattle.std.proofs.Common.{◌≡◌, ℕ, ◌<◌, List, [], length, ap, subst, ◌∙◌, ◌⊎◌}
+use Rattle.std.specs.Prelude.{IsTrue}
 use Rattle.tl_note.specs.Key.{SigningKey, IsKeyName}
-use Rattle.tl_note.specs.Note.{Signature, signature_line}
+use Rattle.tl_note.specs.Note.{signature_line}
 use Rattle.tl_checkpoint.specs.Cosignature.{cosigned_message, cosignature, Cosigns, MayFailToCosign}
 use Rattle.tl_witness.specs.Witnessed.{named_key}
 

@@ -1,26 +1,23 @@
 -- Of two cosigned checkpoints of one origin, each list of the earlier one is a prefix of each of the later one, or bytes collide.
 use Rattle.std.proofs.Common.{◌≡◌, ℕ, zero, suc, List, [], ◌∷◌, ◌++◌, Some, ◌⊎◌, inl, inr, refl, ap, sym, ◌∙◌, subst, slice_get, arith, length, All}
 use Rattle.std.specs.Prelude.{slice_set}
-use Rattle.std.specs.List.{AllZip}
-use Rattle.std.proofs.lemmas.List.Elements.{All-tail, All-nil, All-cons}
+use Rattle.std.proofs.lemmas.List.Elements.{All-tail}
 use Rattle.tl_hash.specs.Tree.{tree_hash}
 use Rattle.tl_checkpoint.specs.Checkpoint.{Head}
-use Rattle.tl_proof.specs.Collisions.{Step, Linked, EndsWith, IsPrefix, Exhibits, audit_inputs}
+use Rattle.tl_proof.specs.Collisions.{Step, EndsWith, IsPrefix, Exhibits, audit_inputs}
 use Rattle.tl_proof.specs.Laws.{MadeOfHashes, LinksExtendOrCollide}
 use Rattle.tl_witness.specs.Answers.{Answers}
-use Rattle.tl_witness.specs.Book.{BookOutcome, DecidesBody, IsLawful, IsPlaceOf, IsSigned, Place, Signed, asked_of}
-use Rattle.tl_witness.specs.Chain.{TreeHead, head_of, first_head, last_head, Follows, IsLinked, IsChain}
-use Rattle.tl_witness.specs.Cosigned.{CosignedExtendOrCollide, CosignsTwice, GrewBy, IsCosigned, IsHeadOf, IsSound, origins_of}
+use Rattle.tl_witness.specs.Book.{BookOutcome, DecidesBody, IsLawful, IsPlaceOf, asked_of}
+use Rattle.tl_witness.specs.Chain.{TreeHead, head_of, first_head, last_head, IsLinked}
+use Rattle.tl_witness.specs.Cosigned.{CosignedExtendOrCollide, IsCosigned, origins_of}
 use Rattle.tl_witness.specs.Decide.{Asked, Outcome, Decides, Settles}
 use Rattle.tl_witness.specs.Open.{HasTwice, IsAmong}
-use Rattle.tl_witness.specs.Request.{Body, IsRequest}
 use Rattle.tl_witness.specs.Runs.{IsBookRun, IsLater, IsLaterBook}
 use Rattle.tl_witness.specs.Witnessed.{Witnessed}
 use Rattle.tl_witness.proofs.BookLaws.{at_one}
 use Rattle.tl_witness.proofs.ChainLaws.{last_head-snoc}
-use Rattle.tl_witness.proofs.ListLaws.{among_at}
 use Rattle.tl_witness.proofs.OneRequest.{one_body_note, one_signed_head}
-use Rattle.tl_witness.proofs.RunLaws.{Moves, answered, asked_made, book-trans, books_only_grow, later_lawful, moves, place_lawful, stepped}
+use Rattle.tl_witness.proofs.RunLaws.{Moves, answered, asked_made, book-trans, books_only_grow, later_lawful, moves, place_lawful}
 
 -- after a cosignature the origin's last head is the one that was asked for
 settled_leads : (H : List ℕ → List ℕ) (out : Outcome) (asked : Asked) → out.status ≡ 200

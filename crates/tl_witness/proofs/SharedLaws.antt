@@ -1,137 +1,86 @@
--- Books made up round one origin that is known.
-use Rattle.std.proofs.Common.{◌≡◌, ◌≢◌, ℕ, zero, suc, List, [], ◌∷◌, Some, false, refl, sym, ap, subst, ◌∙◌, map, slice_get, inl, inr}
-use Rattle.std.specs.Prelude.{slice_set, Contains}
-use Rattle.std.proofs.lemmas.List.Elements.{All-nil, All-cons}
-use Rattle.std.proofs.lemmas.Option.{slice_get_within, get_or_from_slice_get, slice_get-get_or}
-use Rattle.tl_witness.specs.Answers.{Answers, AsksForMemory}
-use Rattle.tl_witness.specs.Book.{Place, IsPlaceOf, IsLawful, BookOutcome, Signed, IsSigned, asked_of}
-use Rattle.tl_witness.specs.Chain.{IsChain}
-use Rattle.tl_witness.specs.Cases.{UnlessSome}
-use Rattle.tl_witness.specs.Decide.{Asked, Decides}
-use Rattle.tl_witness.specs.Finding.{IsMalformed, IsOfOther}
-use Rattle.tl_witness.specs.Request.{Body, IsRequest}
-use Rattle.tl_witness.specs.Shared.{Answer, AnswersFromSome}
+-- What a lock has had keeps what it began with.
+use Rattle.std.proofs.Common.{◌≡◌, ◌≤◌, ◌-◌, ℕ, List, [], ◌∷◌, ◌++◌, inl, inr, refl, sym, ap, subst, ◌∙◌, map, take, drop, length, append_assoc, arith, Ok, Err}
+use Rattle.std.specs.Prelude.{Result, IfOk, OnErr}
+use Rattle.std.proofs.lemmas.List.{map-append, take_rest, take_all, drop-map, take-map, length-drop, length-map}
+use mathlib.Core.List.{IsPrefix}
+use Rattle.tl_proof.specs.Collisions.{Step}
+use Rattle.tl_proof.specs.Laws.{MadeOfHashes}
+use Rattle.tl_witness.specs.Book.{IsPlaceOf, Place}
+use Rattle.tl_witness.specs.Chain.{IsChain, IsLinked, first_head}
+use Rattle.tl_witness.specs.Decide.{Asked, Outcome, Decides}
+use Rattle.tl_witness.specs.declared.finding.Found.{Found}
+use Rattle.tl_witness.specs.Finding.{IsFound, IsMalformed, IsOfOther}
+use Rattle.tl_witness.specs.Offer.{asked_by}
+use Rattle.tl_witness.specs.Runs.{IsLater, IsLaterBook, IsLaterChain}
+use Rattle.tl_witness.specs.Shared.{Answer, DecidesLater, DecidesShared, RefusesAnswer}
 use Rattle.tl_witness.specs.Witnessed.{Witnessed}
-use Rattle.tl_witness.proofs.ChainLaws.{chain-none}
+use Rattle.tl_witness.proofs.ChainLaws.{linked-after}
+use Rattle.tl_witness.proofs.RunLaws.{Moves, moves}
 
--- an origin of which nothing is known
-abbrev pub made : List ℕ → Witnessed
-made origin = record {
-  origin = origin;
-  verifiers = [];
-  cosigner = record { name = []; id = 0; may_give = λ _ _. false; may_refuse = λ _. false };
-  chain = [];
-}
+-- a chain that begins with another is a later one
+pub later_chain : (H : List ℕ → List ℕ) (start now : List Step) → IsPrefix start now → IsChain H now → IsLaterChain H start now
+later_chain H start now begins is =
+    (is, (begins.0, sym begins.1, linked-after H (first_head H) start begins.0 (subst (IsLinked H (first_head H)) (sym begins.1) is.linked)))
 
-abbrev pub all_made : List (List ℕ) → List Witnessed
-all_made [] = []
-all_made (origin ∷ origins) = made origin ∷ all_made origins
+-- the same origin, with a chain that begins with what it had
+pub later_one : (H : List ℕ → List ℕ) (one : Witnessed) (now : List Step) → IsPrefix one.chain now → IsChain H now → IsLater H one (record one { chain = now })
+later_one H one now begins is = record { origin = refl; verifiers = refl; cosigner = refl; chain = later_chain H one.chain now begins is }
 
--- the same, with what is known at one place
-abbrev pub with_one : List (List ℕ) → ℕ → Witnessed → List Witnessed
-with_one [] at one = []
-with_one (origin ∷ origins) zero one = one ∷ all_made origins
-with_one (origin ∷ origins) (suc at) one = made origin ∷ with_one origins at one
+pub begins_longer : {A : Type 0} (start now more : List A) → IsPrefix start now → IsPrefix start (now ++ more)
+begins_longer start now more p = (p.0 ++ more, sym (append_assoc start p.0 more) ∙ ap (λ (w : List _). w ++ more) p.1)
 
-abbrev HasChain : (List ℕ → List ℕ) → Witnessed → Type 0
-HasChain H one = IsChain H one.chain
+moved_begins : (H : List ℕ → List ℕ) (out : Outcome) (start : List Step) → IsPrefix start out.one.chain → Moves H out → IsPrefix start out.one_after.chain
+moved_begins H out start p (inl same) = subst (λ (o : Witnessed). IsPrefix start o.chain) (sym same) p
+moved_begins H out start p (inr grown) =
+    subst (λ (o : Witnessed). IsPrefix start o.chain) (sym grown.1) (begins_longer start out.one.chain (grown.0 ∷ []) p)
 
-abbrev origin_of : Witnessed → List ℕ
-origin_of one = one.origin
+-- a decision, and a failure, leave a chain that begins with what it began with
+pub begins_still : {X Y : Type 0} (H : List ℕ → List ℕ) (asked : Asked) (result : Result X Y) (out : X → Outcome) (start old new : List Step) (S : Type 0) → IsPrefix start old
+    → MadeOfHashes asked.step → IfOk result (λ x. Decides H asked (out x)) → OnErr result (S × (new ≡ old)) → ((x : X) → (out x).one.chain ≡ old)
+    → ((x : X) → (out x).one_after.chain ≡ new) → IsPrefix start new
+begins_still H asked (Ok x) out start old new S p made decided failed before after =
+    subst (IsPrefix start) (after x) (moved_begins H (out x) start (subst (IsPrefix start) (sym (before x)) p) (moves H asked (out x) made decided))
+begins_still H asked (Err y) out start old new S p made decided failed before after = subst (IsPrefix start) (sym failed.1) p
 
-made_origins : (origins : List (List ℕ)) → map origin_of (all_made origins) ≡ origins
-made_origins [] = refl
-made_origins (o ∷ origins) = ap (λ (os : List (List ℕ)). o ∷ os) (made_origins origins)
+-- ---- parts of a list
 
-made_lawful : (H : List ℕ → List ℕ) (origins : List (List ℕ)) → IsLawful H (all_made origins)
-made_lawful H [] = All-nil (HasChain H)
-made_lawful H (o ∷ origins) = All-cons (HasChain H) (made o) (all_made origins) (chain-none H) (made_lawful H origins)
+pub part_all : {A B : Type 0} (f : A → B) (from most : ℕ) (xs : List A) → length xs - from ≤ most → map f (take (length xs - from) (drop from xs)) ≡ take most (drop from (map f xs))
+part_all f from most xs enough =
+    ap (map f) (take_rest xs from)
+    ∙ (sym (drop-map f from xs) ∙ sym (take_all most (drop from (map f xs)) (omega (arith, length-drop from (map f xs), length-map xs f))))
 
-one_origins : (origins : List (List ℕ)) (at : ℕ) (one : Witnessed) → slice_get origins at ≡ Some one.origin → map origin_of (with_one origins at one) ≡ origins
-one_origins [] at one there = refl
-one_origins (o ∷ origins) zero one there =
-    let same : o ≡ one.origin = cc in
-    ap (λ (x : List ℕ). x ∷ map origin_of (all_made origins)) (sym same) ∙ ap (λ (os : List (List ℕ)). o ∷ os) (made_origins origins)
-one_origins (o ∷ origins) (suc at) one there = ap (λ (os : List (List ℕ)). o ∷ os) (one_origins origins at one there)
+pub part_most : {A B : Type 0} (f : A → B) (from most : ℕ) (xs : List A) → map f (take most (take (length xs - from) (drop from xs))) ≡ take most (drop from (map f xs))
+part_most f from most xs =
+    ap (λ (l : List _). map f (take most l)) (take_rest xs from)
+    ∙ (sym (take-map f most (drop from xs)) ∙ ap (take most) (sym (drop-map f from xs)))
 
-one_lawful : (H : List ℕ → List ℕ) (origins : List (List ℕ)) (at : ℕ) (one : Witnessed) → IsChain H one.chain → IsLawful H (with_one origins at one)
-one_lawful H [] at one is = All-nil (HasChain H)
-one_lawful H (o ∷ origins) zero one is = All-cons (HasChain H) one (all_made origins) is (made_lawful H origins)
-one_lawful H (o ∷ origins) (suc at) one is = All-cons (HasChain H) (made o) (with_one origins at one) (chain-none H) (one_lawful H origins at one is)
+-- ---- what is answered
 
-one_stands : (origins : List (List ℕ)) (at : ℕ) (one : Witnessed) → slice_get origins at ≡ Some one.origin → slice_get (with_one origins at one) at ≡ Some one
-one_stands [] at one there = absurd cc
-one_stands (o ∷ origins) zero one there = refl
-one_stands (o ∷ origins) (suc at) one there = one_stands origins at one there
+pub malformed : (H : List ℕ → List ℕ) (book : List Witnessed) (body : List ℕ) (time : ℕ) (answer : Answer) → IsMalformed body → RefusesAnswer answer 400 → DecidesShared H book body time answer
+malformed H book body time answer (inl none) refused = inl (none.0, refused)
+malformed H book body time answer (inr (request, reads, none)) refused = inr (request, reads, inl (none, refused))
 
--- where an origin is none of them, no place is of it
-no_made : (origins : List (List ℕ)) (origin : List ℕ) → ((i : ℕ) → slice_get origins i ≢ Some origin) → (place : Place) → ¬ (IsPlaceOf (all_made origins) origin place)
-no_made origins origin nowhere place is = go origins place.at nowhere is.0
-  where
-    go : (os : List (List ℕ)) (at : ℕ) → ((i : ℕ) → slice_get os i ≢ Some origin) → slice_get (all_made os) at ≡ Some place.one → ⊥
-    go [] at none there = absurd cc
-    go (o ∷ os) zero none there =
-        let same : made o ≡ place.one = cc in
-        let named : o ≡ origin = ap origin_of same ∙ is.1 in
-        none 0 (ap (λ (x : List ℕ). Some x) named)
-    go (o ∷ os) (suc at) none there = go os at (λ i. none (suc i)) there
+pub of_other : (H : List ℕ → List ℕ) (book : List Witnessed) (body : List ℕ) (time : ℕ) (answer : Answer) (origins : List (List ℕ)) (other : IsOfOther body origins)
+    → ((place : Place) → ¬ (IsPlaceOf book other.signed.head.origin place)) → RefusesAnswer answer 404 → DecidesShared H book body time answer
+of_other H book body time answer origins other nowhere refused = inr (other.request, other.reads, inr (other.signed, other.note, inl (nowhere, refused)))
 
-abbrev outcome : Answer → List Witnessed → List Witnessed → BookOutcome
-outcome answer book after = record { status = answer.status; body = answer.body; saved = answer.saved; saved_after = answer.saved_after; book = book; book_after = after }
+pub at_place : {A : Type 0} (H : List ℕ → List ℕ) (book : List Witnessed) (body : List ℕ) (time : ℕ) (answer : Answer) (origins : List (List ℕ)) (found : Found A) (is : IsFound body origins found) (one : Witnessed)
+    → IsPlaceOf book is.signed.head.origin (record { at = found.place; one = one }) → DecidesLater H one (asked_by found.offer time) answer → DecidesShared H book body time answer
+at_place H book body time answer origins found is one place decided =
+    inr (is.request, is.reads, inr (is.signed, is.note, inr (record { at = found.place; one = one }, place, subst (λ (a : Asked). DecidesLater H one a answer) (is.asks time) decided)))
 
--- what came of it without a look at any origin
-from_made : (H : List ℕ → List ℕ) (origins : List (List ℕ)) (body : List ℕ) (time : ℕ) (answer : Answer)
-    → Answers H body time (outcome answer (all_made origins) (all_made origins)) → AnswersFromSome H origins body time answer
-from_made H origins body time answer decided = record {
-  book = all_made origins;
-  after = all_made origins;
-  same_origins = made_origins origins;
-  lawful = made_lawful H origins;
-  decided = decided;
-}
+-- one origin more, later
+pub later_more : (H : List ℕ → List ℕ) (book later : List Witnessed) (one after : Witnessed) → IsLaterBook H book later → IsLater H one after → IsLaterBook H (book ++ one ∷ []) (later ++ after ∷ [])
+later_more H [] later one after is more = (after, [], ap (λ (l : List Witnessed). l ++ after ∷ []) is, more, refl)
+later_more H (first ∷ book) later one after is more =
+    (is.0, is.1 ++ after ∷ [], ap (λ (l : List Witnessed). l ++ after ∷ []) is.2, is.3, later_more H book is.1 one after is.4 more)
 
--- the answer is this status, with nothing else
-abbrev pub Refused : Answer → ℕ → Type 0
-Refused answer status = (answer.status ≡ status) × (answer.body ≡ []) × (answer.saved_after ≡ answer.saved)
+-- the same of lists that show them
+pub later_push : {E G : Type 0} (H : List ℕ → List ℕ) (f : E → Witnessed) (h : G → Witnessed) (done : List E) (entries : List G) (one : E) (after : G)
+    → IsLaterBook H (map f done) (map h entries) → IsLater H (f one) (h after) → IsLaterBook H (map f (done ++ one ∷ [])) (map h (entries ++ after ∷ []))
+later_push H f h done entries one after is more =
+    subst (λ (b : List Witnessed). IsLaterBook H b (map h (entries ++ after ∷ []))) (sym (map-append f done (one ∷ [])))
+    (subst (IsLaterBook H (map f done ++ f one ∷ [])) (sym (map-append h entries (after ∷ []))) (later_more H (map f done) (map h entries) (f one) (h after) is more))
 
-pub no_memory : (H : List ℕ → List ℕ) (origins : List (List ℕ)) (body : List ℕ) (time : ℕ) (answer : Answer) → Refused answer 500 → AsksForMemory body
-    → AnswersFromSome H origins body time answer
-no_memory H origins body time answer is asks = from_made H origins body time answer (inr (asks, (is.0, is.1, is.2, refl)))
-
-pub malformed : (H : List ℕ → List ℕ) (origins : List (List ℕ)) (body : List ℕ) (time : ℕ) (answer : Answer) → Refused answer 400 → IsMalformed body
-    → AnswersFromSome H origins body time answer
-malformed H origins body time answer is (inl none) = from_made H origins body time answer (inl (inl (none.0, (is.0, is.1, is.2, refl))))
-malformed H origins body time answer is (inr (request, reads, none)) =
-    from_made H origins body time answer (inl (inr (request, reads, inl (none, (is.0, is.1, is.2, refl)))))
-
-pub of_other : (H : List ℕ → List ℕ) (origins : List (List ℕ)) (body : List ℕ) (time : ℕ) (answer : Answer) → Refused answer 404 → IsOfOther body origins
-    → AnswersFromSome H origins body time answer
-of_other H origins body time answer is other =
-    from_made H origins body time answer (inl (inr (
-      other.request,
-      other.reads,
-      inr (other.signed, other.note, inl (no_made origins other.signed.head.origin other.nowhere, (is.0, is.1, is.2, refl))),
-    )))
-
--- what came of it at one origin
-pub at_origin : (H : List ℕ → List ℕ) (origins : List (List ℕ)) (body : List ℕ) (time : ℕ) (answer : Answer) (request : Body) (signed : Signed) (at : ℕ) (asked : Asked) (one after : Witnessed)
-    → IsRequest body request → IsSigned request.note signed → slice_get origins at ≡ Some signed.head.origin → asked ≡ asked_of request signed time → one.origin ≡ signed.head.origin → IsChain H one.chain
-    → Decides H asked (record { status = answer.status; body = answer.body; saved = answer.saved; saved_after = answer.saved_after; one = one; one_after = after })
-    → AnswersFromSome H origins body time answer
-at_origin H origins body time answer request signed at asked one after reads note there asks named is decided =
-    let stands : slice_get origins at ≡ Some one.origin = there ∙ ap (λ (x : List ℕ). Some x) (sym named) in
-    let done = subst (λ (a : Asked). Decides H a (record { status = answer.status; body = answer.body; saved = answer.saved; saved_after = answer.saved_after; one = one; one_after = after })) asks decided in
-    record {
-      book = with_one origins at one;
-      after = slice_set (with_one origins at one) at after;
-      same_origins = one_origins origins at one stands;
-      lawful = one_lawful H origins at one is;
-      decided = inl (inr (request, reads, inr (signed, note, inr (record { at = at; one = one }, (one_stands origins at one stands, named), (after, refl, done)))));
-    }
-
--- what stands at a place is there
-pub contains_at : (origins : List (List ℕ)) (i : ℕ) (origin : List ℕ) → slice_get origins i ≡ Some origin → Contains origins origin
-contains_at origins i origin there = (i, slice_get_within origins i origin there, get_or_from_slice_get origins i origin origin there)
-
-pub contains_none : (origins : List (List ℕ)) (origin : List ℕ) → ((i : ℕ) → slice_get origins i ≢ Some origin) → ¬ (Contains origins origin)
-contains_none origins origin none is = none is.0 (slice_get-get_or origins is.0 origin is.1 ∙ ap (λ (x : List ℕ). Some x) is.2)
+pub later_all : (H : List ℕ → List ℕ) (done all later : List Witnessed) → done ≡ all → IsLaterBook H done later → IsLaterBook H all later
+later_all H done all later same is = subst (λ (b : List Witnessed). IsLaterBook H b later) same is

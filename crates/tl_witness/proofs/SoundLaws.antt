@@ -2,10 +2,9 @@
 use Rattle.std.proofs.Common.{◌≡◌, ℕ, List, [], ◌∷◌, inl, inr, ◌⊎◌, refl, sym, ap, subst, ◌∙◌, All}
 use Rattle.std.specs.List.{AllZip}
 use Rattle.std.proofs.lemmas.List.Elements.{All-head, All-tail, All-nil, All-cons}
-use Rattle.tl_proof.specs.Collisions.{Step}
 use Rattle.tl_witness.specs.Book.{IsLawful}
 use Rattle.tl_witness.specs.Chain.{IsChain}
-use Rattle.tl_witness.specs.Cosigned.{IsSound, OpenedBooksAreSound, origins_of}
+use Rattle.tl_witness.specs.Cosigned.{OpenedBooksAreSound, origins_of}
 use Rattle.tl_witness.specs.Open.{HasTwice, IsAmong, IsKept, SavedChain, Trusted, chain_origins, trusted_origins}
 use Rattle.tl_witness.specs.Witnessed.{Witnessed}
 use Rattle.tl_witness.proofs.ChainLaws.{chain-none}

@@ -1,5 +1,5 @@
 -- The whole book of a witness, and a request to it (C2SP tlog-witness, "add-checkpoint").
-use Rattle.std.specs.Prelude.{◌≡◌, ℕ, ◌⊎◌, List, [], Some, slice_get, slice_set, All}
+use Rattle.std.specs.Prelude.{◌≡◌, ℕ, List, [], Some, slice_get, slice_set, All}
 use Rattle.tl_note.specs.Note.{Signature, Note}
 use Rattle.tl_checkpoint.specs.Checkpoint.{Head, IsHead, checkpoint_text}
 use Rattle.tl_witness.specs.Cases.{UnlessSome}

@@ -1,10 +1,15 @@
 -- What is known of a request to a witness that threads share: other requests may come before it (C2SP tlog-witness,
--- "add-checkpoint").
-use Rattle.std.specs.Prelude.{◌≡◌, ℕ, List, map}
+-- "add-checkpoint"). H is the digest function, and a book shows what was handed in.
+use Rattle.std.specs.Prelude.{◌≡◌, ℕ, ◌⊎◌, List, []}
+use Rattle.tl_proof.specs.Collisions.{Step}
+use Rattle.tl_witness.specs.Answers.{AsksForMemory}
+use Rattle.tl_witness.specs.Book.{IsPlaceOf, IsSigned, Place, asked_of}
+use Rattle.tl_witness.specs.Cases.{UnlessSome}
+use Rattle.tl_witness.specs.Decide.{Asked, Decides}
+use Rattle.tl_witness.specs.Request.{IsRequest}
+use Rattle.tl_witness.specs.Runs.{IsLater, IsLaterChain}
 use Rattle.tl_witness.specs.Saver.{Saved}
 use Rattle.tl_witness.specs.Witnessed.{Witnessed}
-use Rattle.tl_witness.specs.Answers.{Answers}
-use Rattle.tl_witness.specs.Book.{IsLawful}
 
 -- the reply, and the saver before and after
 pub record Answer : Type 0 where
@@ -13,18 +18,37 @@ pub record Answer : Type 0 where
   pub saved : Saved
   pub saved_after : Saved
 
--- the answer is the decision's from some lawful book of these origins, as they stood when the request came to its
--- turn. H is the digest function
-pub record AnswersFromSome (H : List ℕ → List ℕ) (origins : List (List ℕ)) (body : List ℕ) (time : ℕ) (answer : Answer) : Type 0 where
-  pub book : List Witnessed
-  pub after : List Witnessed
-  pub same_origins : map (λ one. one.origin) book ≡ origins
-  pub lawful : IsLawful H book
-  pub decided : Answers H body time (record {
+-- the reply is this status with no body, and nothing was saved
+abbrev pub RefusesAnswer : Answer → ℕ → Type 0
+RefusesAnswer answer status = (answer.status ≡ status) × (answer.body ≡ []) × (answer.saved_after ≡ answer.saved)
+
+-- the answer is the decision's for this origin as it is when the request comes to its turn: with its own verifiers
+-- and cosigner, and with a chain that begins with the one that was handed in
+pub record DecidesLater (H : List ℕ → List ℕ) (one : Witnessed) (asked : Asked) (answer : Answer) : Type 0 where
+  pub now : Witnessed
+  pub after : Witnessed
+  pub later : IsLater H one now
+  pub decided : Decides H asked (record {
     status = answer.status;
     body = answer.body;
     saved = answer.saved;
     saved_after = answer.saved_after;
-    book = book;
-    book_after = after;
+    one = now;
+    one_after = after;
   })
+
+-- the cases of a request, of which the first that applies decides
+abbrev pub DecidesShared : (List ℕ → List ℕ) → List Witnessed → List ℕ → ℕ → Answer → Type 0
+DecidesShared H book body time answer =
+    UnlessSome (IsRequest body) (RefusesAnswer answer 400) (λ request.
+    UnlessSome (IsSigned request.note) (RefusesAnswer answer 400) (λ signed.
+    UnlessSome (IsPlaceOf book signed.head.origin) (RefusesAnswer answer 404) (λ place.
+    DecidesLater H place.one (asked_of request signed time) answer)))
+
+-- the cases of a request; or 500 with nothing saved, where memory was asked for
+abbrev pub AnswersShared : (List ℕ → List ℕ) → List Witnessed → List ℕ → ℕ → Answer → Type 0
+AnswersShared H book body time answer = DecidesShared H book body time answer ⊎ (AsksForMemory body × RefusesAnswer answer 500)
+
+-- of the origin at some place: a later chain of it, of which this holds
+abbrev pub IsOfLaterChain : (List ℕ → List ℕ) → List Witnessed → List ℕ → (List Step → Type 0) → Type 0
+IsOfLaterChain H book origin IsSo = (place : Place) × IsPlaceOf book origin place × (later : List Step) × IsLaterChain H place.one.chain later × IsSo later

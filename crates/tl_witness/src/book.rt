@@ -88,14 +88,11 @@ impl<T: TreeHash, A: Allocator + Copy> Shown for Book<T, A> {
 }
 
 impl<T: TreeHash, A: Allocator + Copy> Book<T, A> {
-    /// Decides an add-checkpoint request at this time, in seconds since the Unix epoch (C2SP tlog-witness,
-    /// "add-checkpoint").
-    ///
-    /// The first that applies: 400 where the body is no request, or its note no checkpoint; 404 where the origin is
-    /// unknown; 403 where the note isn't open to its verifiers; 400 where the old size is above the new; 409 with
-    /// the last size where the old size, or the root at an equal size, is another; 422 where the proof isn't
-    /// accepted; 500 where the cosigner gives no signature or the save fails; else 200 with a cosignature line. It
-    /// fails only where a growth was refused.
+    /// Decides an add-checkpoint request (C2SP tlog-witness, "add-checkpoint") at this time, in seconds since the
+    /// Unix epoch: 400 where it is no request or no checkpoint; 404 for an unknown origin; 403 where the note isn't
+    /// open to its verifiers; 400 where the old size is above the new; 409 with the last size where the old size,
+    /// or the root at an equal size, is another; 422 where the proof isn't accepted; 500 without a signature or a
+    /// save; else 200 with a cosignature line. It fails only where a growth was refused.
     pub fn try_add<S: Saver>(
         &mut self,
         body: &[u8],
@@ -127,9 +124,9 @@ impl<T: TreeHash, A: Allocator + Copy> Book<T, A> {
             .answer(tools, &mut entry.chain, found.offer, time, saver)
     }
 
-    /// Answers an add-checkpoint request at this time, in seconds since the Unix epoch, as `try_add` decides it;
-    /// and with 500 where that asked for memory which was refused. For a larger size the link is saved once, before
-    /// it is kept; any reply but 200 leaves the book unchanged.
+    /// Answers an add-checkpoint request as `try_add` decides it, and with 500 where that asked for memory which
+    /// was refused. For a larger size the link is saved once, before it is kept; any reply but 200 leaves the book
+    /// unchanged.
     pub fn add<S: Saver>(&mut self, body: &[u8], time: u64, saver: &mut S) -> Reply<A>
         ensures { Answers T.digest_of body.now time
             (record {

@@ -1,85 +1,29 @@
 //! A witness that threads share: one lock for each origin.
 
-ghost use Rattle.std.specs.Prelude.{◌≡◌, ◌≤◌, [], IfErr, IfOk, OnErr, MatchOption, Contains, length, map, string_bytes, vec_capacity};
+ghost use Rattle.std.specs.Prelude.{◌≡◌, ◌≤◌, [], ℕ, IfErr, IfOk, MatchOption, OnErr, drop, length, map, take, vec_capacity};
 ghost use Rattle.tl_proof.specs.Collisions.{step_of};
-ghost use Rattle.tl_witness.specs.Chain.{IsChain};
-ghost use Rattle.tl_witness.specs.ChainLine.{IsChainLine};
-ghost use Rattle.tl_witness.specs.Decide.{Decides};
-ghost use Rattle.tl_witness.specs.Offer.{asked_by};
-ghost use Rattle.tl_witness.specs.Shared.{AnswersFromSome};
-ghost use Rattle.tl_witness.specs.Witnessed.{Witnessed};
+ghost use Rattle.tl_witness.specs.Answers.{AsksForMemory};
+ghost use Rattle.tl_witness.specs.Book.{IsPlaceOf, Place};
+ghost use Rattle.tl_witness.specs.Chain.{first_head, last_head};
+ghost use Rattle.tl_witness.specs.Runs.{IsLaterBook};
+ghost use Rattle.tl_witness.specs.Shared.{AnswersShared, DecidesShared, IsOfLaterChain};
 
-use crate::book::{Book, Shown};
+use crate::book::{Book, Entry, Shown};
 use crate::by_origin::ByOrigin;
-use crate::chain::Chain;
-use crate::copy::copy_links;
 use crate::finding::{Unfound, find_origin};
+use crate::guarded::Guarded;
 use crate::index::place_by;
-use crate::offer::Offer;
-use crate::origin::Origin;
-use crate::place::OfOrigin;
 use crate::reply::{Reply, refusal};
 use crate::saver::Saver;
 use crate::tools::Tools;
 use std::alloc::{AllocError, Allocator};
-use std::sync::{Mutex, Wait};
-use tl_hash::TreeHash;
+use std::sync::Wait;
+use tl_hash::{Hash, TreeHash};
+use tl_note::{Signer, Verifier};
 use tl_proof::Link;
 
-// One origin, and the links that the witness accepted for it, behind a lock.
-#[derive(Drop)]
-struct Guarded<T: TreeHash, A: Allocator> {
-    origin: Origin<A>,
-    chain: Mutex<Chain<T, A>>,
-}
-
-impl<T: TreeHash, A: Allocator> OfOrigin for Guarded<T, A> {
-    ghost use Rattle.std.specs.Prelude.{string_bytes};
-
-    ghost origin_of = { λ e. string_bytes e.origin.name };
-
-    fn origin(&self) -> &str {
-        self.origin.name.as_str()
-    }
-
-    fn is_of(&self, origin: &str) -> bool {
-        self.origin.name.as_str() == origin
-    }
-}
-
-impl<T: TreeHash, A: Allocator + Copy> Guarded<T, A> {
-    // Decides a request for this origin, from what the lock has when it is taken.
-    fn answer<R: Wait, S: Saver>(
-        &self,
-        rt: &R,
-        tools: Tools<T, A>,
-        offer: Offer<'_, A>,
-        time: u64,
-        saver: &mut S,
-    ) -> Result<Reply<A>, AllocError>
-        requires { IsChainLine (record { origin = string_bytes self.now.origin.name; step = step_of offer.link }) }
-        ensures ok { IfOk result (λ reply. (one : Witnessed) × (after : Witnessed)
-            × (one.origin ≡ string_bytes self.now.origin.name)
-            × IsChain T.digest_of one.chain
-            × Decides T.digest_of (asked_by offer.entry time)
-            (record {
-              status = reply.status;
-              body = reply.body.items;
-              saved = S.saved saver.old;
-              saved_after = S.saved saver.new;
-              one = one;
-              one_after = after;
-            })) }
-        ensures err { OnErr result (S.saved saver.new ≡ S.saved saver.old) }
-    {
-        let mut guard = self.chain.lock(rt);
-        let chain = &mut *guard;
-        chain.is_chain();
-        self.origin.answer(tools, chain, offer, time, saver)
-    }
-}
-
-/// A book that threads share. The origins stand outside the locks, so a request waits for no other origin's.
+/// A book that threads share. What never changes stands outside the locks, so a request waits for no other
+/// origin's, and one that is refused for its form or its origin waits for none.
 #[derive(Drop)]
 pub struct SharedWitness<T: TreeHash, A: Allocator + Copy> {
     tools: Tools<T, A>,
@@ -87,17 +31,16 @@ pub struct SharedWitness<T: TreeHash, A: Allocator + Copy> {
     places: ByOrigin<A>,
 }
 
-/// What contracts see of a shared witness: its origins.
-pub trait Origins {
-    ghost use Rattle.std.specs.Prelude.{List, ℕ};
-
-    ghost origins: { Self → List (List ℕ) };
-}
-
-impl<T: TreeHash, A: Allocator + Copy> Origins for SharedWitness<T, A> {
+impl<T: TreeHash, A: Allocator + Copy> Shown for SharedWitness<T, A> {
     ghost use Rattle.std.specs.Prelude.{map, string_bytes};
+    ghost use Rattle.tl_witness.specs.Witnessed.{named_key};
 
-    ghost origins = { λ w. map (λ e. string_bytes e.origin.name) w.entries.items };
+    ghost shown = { λ w. map (λ e. record {
+      origin = string_bytes e.origin.name;
+      verifiers = map (λ v. (Verifier-box v).key v.value) e.origin.verifiers.items;
+      cosigner = named_key (string_bytes e.origin.cosigner_name.text) ((Signer-box e.origin.cosigner).signing_key e.origin.cosigner.value);
+      chain = e.chain.slot.value;
+    }) w.entries.items };
 }
 
 // An empty list with room for what a book keeps.
@@ -118,10 +61,29 @@ pub struct BookBack<T: TreeHash, A: Allocator + Copy> {
     pub book: Book<T, A>,
 }
 
+// An empty list with room for what a shared witness keeps.
+fn room_back<T: TreeHash, A: Allocator + Copy>(
+    witness: &SharedWitness<T, A>,
+) -> Result<Vec<Entry<T, A>, A>, AllocError>
+    ensures { IfOk result (λ list. (list.items ≡ []) × (length witness.now.entries.items ≤ vec_capacity list)) }
+{
+    let mut list = Vec::new(witness.tools.alloc);
+    list.reserve(witness.entries.len())?;
+    Ok(list)
+}
+
+/// A witness that was not made a book again, since memory was refused.
+#[derive(Drop)]
+pub struct WitnessBack<T: TreeHash, A: Allocator + Copy> {
+    /// The witness as it was.
+    pub witness: SharedWitness<T, A>,
+}
+
 impl<T: TreeHash, A: Allocator + Copy> SharedWitness<T, A> {
-    /// Shares a book. It gives the book back where a growth was refused.
+    /// Shares a book: each origin keeps its verifiers, its cosigner and its links, and each later chain begins with
+    /// those. It gives the book back where a growth was refused.
     pub fn new(book: Book<T, A>) -> Result<Self, BookBack<T, A>>
-        ensures ok { IfOk result (λ w. ⟦<SharedWitness<T, A> as Origins>⟧.origins w ≡ map (λ one. one.origin) (⟦<Book<T, A> as Shown>⟧.shown book)) }
+        ensures ok { IfOk result (λ w. ⟦<SharedWitness<T, A> as Shown>⟧.shown w ≡ ⟦<Book<T, A> as Shown>⟧.shown book) }
         ensures err { IfErr result (λ back. back.book ≡ book) }
     {
         let Ok(mut entries) = room_for(&book) else {
@@ -133,10 +95,7 @@ impl<T: TreeHash, A: Allocator + Copy> SharedWitness<T, A> {
             places,
         } = book;
         for entry in before {
-            entries.push_reserved(Guarded {
-                origin: entry.origin,
-                chain: Mutex::new(entry.chain),
-            });
+            entries.push_reserved(Guarded::new(entry));
         }
         Ok(SharedWitness {
             tools,
@@ -145,9 +104,38 @@ impl<T: TreeHash, A: Allocator + Copy> SharedWitness<T, A> {
         })
     }
 
-    /// Answers an add-checkpoint request, as `Book::add` does, from what its origin's lock has when it is taken.
+    /// Decides an add-checkpoint request, as `Book::try_add` does, from what its origin has when its turn comes. It
+    /// fails only where a growth was refused, with nothing changed.
+    pub fn try_add<R: Wait, S: Saver>(
+        &self,
+        rt: &R,
+        body: &[u8],
+        time: u64,
+        saver: &mut S,
+    ) -> Result<Reply<A>, AllocError>
+        ensures decided { IfOk result (λ reply. DecidesShared T.digest_of (⟦<SharedWitness<T, A> as Shown>⟧.shown self.now) body.now time
+            (record {
+              status = reply.status;
+              body = reply.body.items;
+              saved = S.saved saver.old;
+              saved_after = S.saved saver.new;
+            })) }
+        ensures unchanged { OnErr result ((S.saved saver.new ≡ S.saved saver.old) × AsksForMemory body.now) }
+    {
+        let tools = self.tools;
+        let found = match find_origin(tools.alloc, &self.places, self.entries.as_slice(), body) {
+            Ok(found) => found,
+            Err(Unfound::Malformed) => return Ok(refusal(tools.alloc, 400)),
+            Err(Unfound::Unknown) => return Ok(refusal(tools.alloc, 404)),
+            Err(Unfound::OutOfMemory) => return Err(AllocError),
+        };
+        self.entries[found.place].answer(rt, tools, found.offer, time, saver)
+    }
+
+    /// Answers an add-checkpoint request as `try_add` decides it, and with 500 where that asked for memory which
+    /// was refused.
     pub fn add<R: Wait, S: Saver>(&self, rt: &R, body: &[u8], time: u64, saver: &mut S) -> Reply<A>
-        ensures { AnswersFromSome T.digest_of (⟦<SharedWitness<T, A> as Origins>⟧.origins self.now) body.now time
+        ensures { AnswersShared T.digest_of (⟦<SharedWitness<T, A> as Shown>⟧.shown self.now) body.now time
             (record {
               status = result.status;
               body = result.body.items;
@@ -155,37 +143,81 @@ impl<T: TreeHash, A: Allocator + Copy> SharedWitness<T, A> {
               saved_after = S.saved saver.new;
             }) }
     {
-        let tools = self.tools;
-        let found = match find_origin(tools.alloc, &self.places, self.entries.as_slice(), body) {
-            Ok(found) => found,
-            Err(Unfound::Malformed) => return refusal(tools.alloc, 400),
-            Err(Unfound::Unknown) => return refusal(tools.alloc, 404),
-            Err(Unfound::OutOfMemory) => return refusal(tools.alloc, 500),
-        };
-        match self.entries[found.place].answer(rt, tools, found.offer, time, saver) {
+        match self.try_add(rt, body, time, saver) {
             Ok(reply) => reply,
-            Err(_) => refusal(tools.alloc, 500),
+            Err(_) => refusal(self.tools.alloc, 500),
         }
     }
 
-    /// A copy of an origin's links, as they are when its lock is taken. None where the origin is unknown. It fails
-    /// only where a growth was refused.
+    /// A copy of an origin's links, as they are when its lock is taken: they begin with those that were handed in.
+    /// None where the origin is unknown. It fails only where a growth was refused.
     pub fn chain<R: Wait>(
         &self,
         rt: &R,
         origin: &str,
     ) -> Result<Option<Vec<Link<A>, A>>, AllocError>
-        ensures { IfOk result (λ found. MatchOption found (¬ (Contains (⟦<SharedWitness<T, A> as Origins>⟧.origins self.now) origin.now))
-            (λ links. Contains (⟦<SharedWitness<T, A> as Origins>⟧.origins self.now) origin.now × IsChain T.digest_of (map step_of links.items))) }
+        ensures { IfOk result (λ found. MatchOption found ((place : Place) → ¬ (IsPlaceOf (⟦<SharedWitness<T, A> as Shown>⟧.shown self.now) origin.now place))
+            (λ links. IsOfLaterChain T.digest_of (⟦<SharedWitness<T, A> as Shown>⟧.shown self.now) origin.now (λ later. map step_of links.items ≡ later))) }
     {
-        let place = match place_by(&self.places, self.entries.as_slice(), origin) {
-            Some(place) => place,
-            None => return Ok(None),
+        let Some(place) = place_by(&self.places, self.entries.as_slice(), origin) else {
+            return Ok(None);
         };
-        let guard = self.entries[place].chain.lock(rt);
-        let chain = &*guard;
-        chain.is_chain();
-        let links = copy_links(self.tools.alloc, chain.links())?;
+        let links = self.entries[place].all_links(rt, self.tools.alloc)?;
         Ok(Some(links))
+    }
+
+    /// A copy of at most so many of an origin's links from this place on, counted from 0, as they are when its lock
+    /// is taken. None where the origin is unknown. It fails only where a growth was refused.
+    pub fn links<R: Wait>(
+        &self,
+        rt: &R,
+        origin: &str,
+        from: u64,
+        most: u64,
+    ) -> Result<Option<Vec<Link<A>, A>>, AllocError>
+        ensures { IfOk result (λ found. MatchOption found ((place : Place) → ¬ (IsPlaceOf (⟦<SharedWitness<T, A> as Shown>⟧.shown self.now) origin.now place))
+            (λ links. IsOfLaterChain T.digest_of (⟦<SharedWitness<T, A> as Shown>⟧.shown self.now) origin.now (λ later. map step_of links.items ≡ take most (drop from later)))) }
+    {
+        let Some(place) = place_by(&self.places, self.entries.as_slice(), origin) else {
+            return Ok(None);
+        };
+        let links = self.entries[place].links(rt, self.tools.alloc, from, most)?;
+        Ok(Some(links))
+    }
+
+    /// The size and root that an origin has reached when its lock is taken. None where the origin is unknown.
+    pub fn head<R: Wait>(&self, rt: &R, origin: &str) -> Option<(u64, Hash)>
+        ensures { MatchOption result ((place : Place) → ¬ (IsPlaceOf (⟦<SharedWitness<T, A> as Shown>⟧.shown self.now) origin.now place))
+            (λ head. IsOfLaterChain T.digest_of (⟦<SharedWitness<T, A> as Shown>⟧.shown self.now) origin.now
+            (λ later. (head.0 ≡ (last_head (first_head T.digest_of) later).size) × (head.1 ≡ (last_head (first_head T.digest_of) later).root))) }
+    {
+        let Some(place) = place_by(&self.places, self.entries.as_slice(), origin) else {
+            return None;
+        };
+        Some(self.entries[place].head(rt))
+    }
+
+    /// The book, once nobody shares it: the same origins, with chains that begin with those that were handed in. It
+    /// gives the witness back where a growth was refused.
+    pub fn into_book<R: Wait>(self, rt: &R) -> Result<Book<T, A>, WitnessBack<T, A>>
+        ensures ok { IfOk result (λ book. IsLaterBook T.digest_of (⟦<SharedWitness<T, A> as Shown>⟧.shown self) (⟦<Book<T, A> as Shown>⟧.shown book)) }
+        ensures err { IfErr result (λ back. back.witness ≡ self) }
+    {
+        let Ok(mut entries) = room_back(&self) else {
+            return Err(WitnessBack { witness: self });
+        };
+        let SharedWitness {
+            tools,
+            entries: before,
+            places,
+        } = self;
+        for guarded in before {
+            entries.push_reserved(guarded.into_entry(rt));
+        }
+        Ok(Book {
+            tools,
+            entries,
+            places,
+        })
     }
 }

@@ -1,6 +1,6 @@
 use Rattle.std.proofs.Common.{string_bytes, ap, ◌∙◌}
 use Rattle.tl_checkpoint.specs.Cosignature.{cosignature}
-use Rattle.tl_witness.proofs.CosignLaws.{cosigned, not_cosigned}
+use Rattle.tl_witness.proofs.CosignLaws.{cosigned}
 use Rattle.tl_witness.proofs.cosign.cosign.Goals as goal
 
 pub returns : goal.returns

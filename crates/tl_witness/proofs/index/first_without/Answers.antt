@@ -1,4 +1,4 @@
-use Rattle.std.proofs.Common.{◌≢◌, None, refl, ap, ◌∙◌, sym}
+use Rattle.std.proofs.Common.{◌≢◌, None, ap, ◌∙◌}
 use Rattle.std.proofs.lemmas.List.{take_all}
 use Rattle.tl_witness.specs.ByOrigin.{index_of}
 use Rattle.tl_witness.proofs.PlacesLaws.{unknown, is_known}

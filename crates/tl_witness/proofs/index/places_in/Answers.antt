@@ -1,4 +1,4 @@
-use Rattle.std.proofs.Common.{◌≡◌, List, ap, sym, ◌∙◌, Some}
+use Rattle.std.proofs.Common.{List, ap, sym, ◌∙◌, Some}
 use Rattle.std.specs.Prelude.{bytes_eq, is_some}
 use Rattle.std.specs.Map.{update}
 use Rattle.std.proofs.lemmas.List.{take_all}

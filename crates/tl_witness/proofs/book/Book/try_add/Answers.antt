@@ -1,4 +1,4 @@
-use Rattle.std.proofs.Common.{◌≡◌, List, string_bytes, refl, ap, sym, subst, ◌∙◌, arith}
+use Rattle.std.proofs.Common.{List, string_bytes, refl, sym, subst, arith}
 use Rattle.std.proofs.lemmas.List.{map-set}
 use Rattle.std.proofs.lemmas.Result.{IfOk-weaker, IfErr-weaker}
 use Rattle.tl_proof.specs.Collisions.{step_of}

@@ -1,10 +1,14 @@
-use Rattle.std.proofs.Common.{◌∙◌, sym, subst}
-use Rattle.tl_witness.specs.Chain.{IsChain}
-use Rattle.tl_witness.proofs.SharedLaws.{contains_at, contains_none}
+use Rattle.std.proofs.Common.{string_bytes, refl}
+use Rattle.tl_witness.proofs.PlaceLaws.{no_place, place_at}
 use Rattle.tl_witness.proofs.shared.SharedWitness.chain.Goals as goal
 
-pub returns-in-None : goal.returns-in-None
-returns-in-None g c = contains_none _ c.args.origin.now (rw c.as_slice.ensures.value at c.in-None.ensures.none)
+pub returns-in_default : goal.returns-in_default
+returns-in_default g c =
+    let nowhere = rw c.as_slice.ensures.value at c.in_default.ensures.none in
+    no_place c.args.self.now.entries.items _ (λ e. string_bytes e.origin.name) _ (λ e. refl) nowhere
 
 pub returns : goal.returns
-returns g c = (contains_at _ c.in-Some.place c.args.origin.now (rw c.as_slice.ensures.value at c.in-Some.ensures.found), subst (IsChain g.T.TreeHash.digest_of) (sym (c.in_ok-links.ensures ∙ c.links.ensures)) c.is_chain.ensures)
+returns g c =
+    let shows = rw c.as_slice.ensures.value at c.in-Some.ensures.found in
+    let place = place_at c.args.self.now.entries.items _ (λ e. string_bytes e.origin.name) _ _ _ (λ e. refl) shows c.index.ensures in
+    (_, place, _, c.in_ok-links.ensures, refl)

@@ -1,6 +1,6 @@
-use Rattle.std.proofs.Common.{[], ◌∷◌, length, string_bytes, refl, arith, ap, ◌∙◌}
+use Rattle.std.proofs.Common.{[], ◌∷◌, length, refl, arith, ap}
 use Rattle.std.proofs.lemmas.List.{length-append}
-use Rattle.tl_witness.proofs.Moved.{moved, moved_all, shown_twice}
+use Rattle.tl_witness.proofs.Moved.{moved, moved_all}
 use Rattle.tl_witness.proofs.shared.SharedWitness.new.Goals as goal
 
 pub loop-entry-init : goal.loop-entry-init
@@ -20,15 +20,14 @@ pub loop-entry-preserved : goal.loop-entry-preserved
 loop-entry-preserved g c =
     let step = ap length c.in-Some.ensures.steps.0 in
     let pushed = ap length c.push_reserved.ensures.items in
-    let longer = length-append c.loop-entry.entries.items (record { origin = c.in-Some.entry.origin; chain = c.new.result } ∷ []) in (
+    let longer = length-append c.loop-entry.entries.items (c.new.result ∷ []) in (
       tt,
       tt,
-      rw c.push_reserved.ensures.items (moved (λ e. string_bytes e.origin.name) (λ e. string_bytes e.origin.name) c.loop-entry.entries.items _ c.in-Some.entry _ c.next.new.self.rest.items _ refl c.in-Some.ensures.steps.0 c.loop-entry.invariant.2),
+      rw c.push_reserved.ensures.items (moved _ _ c.loop-entry.entries.items c.new.result c.in-Some.entry _ c.next.new.self.rest.items _ c.new.ensures c.in-Some.ensures.steps.0 c.loop-entry.invariant.2),
       omega (arith, c.push_reserved.ensures.capacity, c.loop-entry.invariant.3),
       omega (arith, c.in-Some.ensures.steps.1, c.loop-entry.invariant.4),
     )
 
 pub returns-clause-ok : goal.returns-clause-ok
 returns-clause-ok g c =
-    moved_all (λ e. string_bytes e.origin.name) (λ e. string_bytes e.origin.name) c.loop-entry.entries.items c.loop-entry.entry-iterator.rest.items _ (omega (arith, c.in-None.ensures.steps.0, c.loop-entry.invariant.4)) c.loop-entry.invariant.2
-    ∙ shown_twice _ _ (λ e. string_bytes e.origin.name) c.args.book.entries.items (λ e. refl)
+    moved_all _ _ c.loop-entry.entries.items c.loop-entry.entry-iterator.rest.items _ (omega (arith, c.in-None.ensures.steps.0, c.loop-entry.invariant.4)) c.loop-entry.invariant.2

@@ -1,0 +1,190 @@
+//! One origin of a witness that threads share.
+
+ghost use Rattle.std.specs.Prelude.{◌≡◌, ℕ, IfOk, List, OnErr, drop, map, string_bytes, take};
+ghost use Rattle.tl_proof.specs.Collisions.{Step, step_of};
+ghost use Rattle.tl_witness.specs.Chain.{first_head, last_head};
+ghost use Rattle.tl_witness.specs.ChainLine.{IsChainLine};
+ghost use Rattle.tl_witness.specs.Offer.{asked_by};
+ghost use Rattle.tl_witness.specs.Runs.{IsLater, IsLaterChain};
+ghost use Rattle.tl_witness.specs.Shared.{DecidesLater};
+
+use crate::book::{Entry, ShownEntry};
+use crate::chain::Chain;
+use crate::copy::copy_links;
+use crate::lock::Lock;
+use crate::offer::Offer;
+use crate::origin::Origin;
+use crate::place::OfOrigin;
+use crate::reply::Reply;
+use crate::saver::Saver;
+use crate::tools::Tools;
+use counted_slot::Fits;
+use std::alloc::{AllocError, Allocator};
+use std::snapshot::Snapshot;
+use std::sync::Wait;
+use tl_hash::{Hash, TreeHash};
+use tl_note::{Signer, Verifier};
+use tl_proof::Link;
+
+impl<T: TreeHash, A: Allocator> Fits for Chain<T, A> {
+    ghost use mathlib.Core.List.{IsPrefix};
+
+    type Tag = Snapshot<Chain<T, A>>;
+
+    ghost fits = { λ tag chain. IsPrefix tag.value chain };
+}
+
+/// One origin, and the links that the witness accepted for it, behind a lock. They begin with those that were
+/// handed in.
+#[derive(Drop)]
+pub(crate) struct Guarded<T: TreeHash, A: Allocator> {
+    pub(crate) origin: Origin<A>,
+    pub(crate) chain: Lock<Chain<T, A>>,
+}
+
+/// What contracts see of it: what was handed in.
+pub(crate) trait ShownGuarded {
+    ghost use Rattle.tl_witness.specs.Witnessed.{Witnessed};
+
+    ghost shown_guarded: { Self → Witnessed };
+}
+
+impl<T: TreeHash, A: Allocator> ShownGuarded for Guarded<T, A> {
+    ghost use Rattle.std.specs.Prelude.{map, string_bytes};
+    ghost use Rattle.tl_witness.specs.Witnessed.{named_key};
+
+    ghost shown_guarded = { λ e. record {
+      origin = string_bytes e.origin.name;
+      verifiers = map (λ v. (Verifier-box v).key v.value) e.origin.verifiers.items;
+      cosigner = named_key (string_bytes e.origin.cosigner_name.text) ((Signer-box e.origin.cosigner).signing_key e.origin.cosigner.value);
+      chain = e.chain.slot.value;
+    } };
+}
+
+impl<T: TreeHash, A: Allocator> OfOrigin for Guarded<T, A> {
+    ghost use Rattle.std.specs.Prelude.{string_bytes};
+
+    ghost origin_of = { λ e. string_bytes e.origin.name };
+
+    fn origin(&self) -> &str {
+        self.origin.name.as_str()
+    }
+
+    fn is_of(&self, origin: &str) -> bool {
+        self.origin.name.as_str() == origin
+    }
+}
+
+// At most so many links from this place on.
+fn part_of<A: Allocator>(links: &[Link<A>], from: u64, most: u64) -> &[Link<A>]
+    ensures { map step_of result.now ≡ take most (drop from (map step_of links.now)) }
+{
+    let count = links.len() as u64;
+    if from >= count {
+        return &links[..0];
+    }
+    let rest = &links[from as usize..];
+    if most >= count - from {
+        return rest;
+    }
+    &rest[..most as usize]
+}
+
+impl<T: TreeHash, A: Allocator> Guarded<T, A> {
+    /// The origin of a book, and its links behind a lock.
+    pub(crate) fn new(entry: Entry<T, A>) -> Self
+        ensures { ⟦<Guarded<T, A> as ShownGuarded>⟧.shown_guarded result ≡ ⟦<Entry<T, A> as ShownEntry>⟧.shown_entry entry }
+    {
+        let Entry { origin, chain } = entry;
+        let start = Snapshot::of(&chain);
+        Guarded {
+            origin,
+            chain: Lock::new(chain, &start),
+        }
+    }
+}
+
+impl<T: TreeHash, A: Allocator + Copy> Guarded<T, A> {
+    /// Decides a request for this origin, from what the lock has when its turn comes. It fails only where a growth
+    /// was refused, with nothing changed.
+    pub(crate) fn answer<R: Wait, S: Saver>(
+        &self,
+        rt: &R,
+        tools: Tools<T, A>,
+        offer: Offer<'_, A>,
+        time: u64,
+        saver: &mut S,
+    ) -> Result<Reply<A>, AllocError>
+        requires { IsChainLine (record { origin = string_bytes self.now.origin.name; step = step_of offer.link }) }
+        ensures ok { IfOk result (λ reply. DecidesLater T.digest_of (⟦<Guarded<T, A> as ShownGuarded>⟧.shown_guarded self.now) (asked_by offer.entry time)
+            (record {
+              status = reply.status;
+              body = reply.body.items;
+              saved = S.saved saver.old;
+              saved_after = S.saved saver.new;
+            })) }
+        ensures err { OnErr result (S.saved saver.new ≡ S.saved saver.old) }
+    {
+        let _turn = self.chain.enter(rt);
+        let mut chain = self.chain.take(rt);
+        chain.is_chain();
+        let reply = self.origin.answer(tools, &mut chain, offer, time, saver);
+        self.chain.put_back(rt, chain);
+        reply
+    }
+
+    /// The origin as it is once nobody shares it.
+    pub(crate) fn into_entry<R: Wait>(self, rt: &R) -> Entry<T, A>
+        ensures { IsLater T.digest_of (⟦<Guarded<T, A> as ShownGuarded>⟧.shown_guarded self) (⟦<Entry<T, A> as ShownEntry>⟧.shown_entry result) }
+    {
+        let Guarded { origin, chain } = self;
+        let chain = chain.into_inner(rt);
+        chain.is_chain();
+        Entry { origin, chain }
+    }
+
+    /// The size and root that the chain has reached when the lock is taken.
+    pub(crate) fn head<R: Wait>(&self, rt: &R) -> (u64, Hash)
+        ensures { (later : List Step) × IsLaterChain T.digest_of self.now.chain.slot.value later
+            × (result.0 ≡ (last_head (first_head T.digest_of) later).size) × (result.1 ≡ (last_head (first_head T.digest_of) later).root) }
+    {
+        let _turn = self.chain.enter(rt);
+        let chain = self.chain.take(rt);
+        chain.is_chain();
+        let head = chain.head();
+        self.chain.put_back(rt, chain);
+        head
+    }
+
+    /// A copy of at most so many links from this place on, as they are when the lock is taken. It fails only where
+    /// a growth was refused.
+    pub(crate) fn links<R: Wait>(
+        &self,
+        rt: &R,
+        alloc: A,
+        from: u64,
+        most: u64,
+    ) -> Result<Vec<Link<A>, A>, AllocError>
+        ensures { IfOk result (λ links. (later : List Step) × IsLaterChain T.digest_of self.now.chain.slot.value later
+            × (map step_of links.items ≡ take most (drop from later))) }
+    {
+        let _turn = self.chain.enter(rt);
+        let chain = self.chain.take(rt);
+        chain.is_chain();
+        let links = copy_links(alloc, part_of(chain.links(), from, most));
+        self.chain.put_back(rt, chain);
+        links
+    }
+
+    /// A copy of all links, as they are when the lock is taken. It fails only where a growth was refused.
+    pub(crate) fn all_links<R: Wait>(&self, rt: &R, alloc: A) -> Result<Vec<Link<A>, A>, AllocError>
+        ensures { IfOk result (λ links. IsLaterChain T.digest_of self.now.chain.slot.value (map step_of links.items)) }
+    {
+        let _turn = self.chain.enter(rt);
+        let chain = self.chain.take(rt);
+        chain.is_chain();
+        let links = copy_links(alloc, chain.links());
+        self.chain.put_back(rt, chain);
+        links
+    }
+}
