@@ -1,6 +1,7 @@
 //! Saved links of many origins read, and a book opened with them.
 
 use crate::proving::store_of;
+use base64::engine::general_purpose::STANDARD;
 use std::alloc::{AllocError, Global};
 use std::io;
 use std::time::{Clock, Instant};
@@ -8,7 +9,7 @@ use tl_hash::Sha256Tree;
 use tl_note::{SignFault, Signer, Verifier};
 use tl_proof::{HashList, Link, prove_tree};
 use tl_store::tree_hash;
-use tl_witness::{Book, Trust, read_chain, write_chain_line};
+use tl_witness::{Book, Trust, read_chain};
 
 // How many origins there are, and how many links each has.
 const ORIGINS: u32 = 10_000;
@@ -55,17 +56,30 @@ fn links_of(alloc: Global) -> Option<Vec<Link<Global>>> {
     Some(links)
 }
 
+// The line of a link up to its origin.
+fn start_of(alloc: Global, link: &Link<Global>) -> Result<String, AllocError> {
+    let root = STANDARD.encode(alloc, link.root.as_bytes())?;
+    let count = link.proof.as_slice().len();
+    let mut start = format!(in alloc; "{} {root} {count} ", link.size)?;
+    for hash in link.proof.as_slice() {
+        STANDARD.encode_string(hash.as_bytes(), &mut start)?;
+        start.push_str(" ")?;
+    }
+    Ok(start)
+}
+
 // The lines of these links for each origin, one link of every origin after another.
-fn lines_of(alloc: Global, links: &[Link<Global>]) -> Option<String> {
+fn lines_of(alloc: Global, links: &[Link<Global>]) -> Result<String, AllocError> {
     let mut lines = String::new(alloc);
     for link in links {
+        let start = start_of(alloc, link)?;
         for number in 0..ORIGINS {
-            let name = name_of(alloc, number).ok()?;
-            let line = write_chain_line(alloc, name.as_str(), link).ok()?;
-            lines.push_str(line.as_str()).ok()?;
+            lines.push_str(start.as_str())?;
+            lines.push_str(name_of(alloc, number)?.as_str())?;
+            lines.push_str("\n")?;
         }
     }
-    Some(lines)
+    Ok(lines)
 }
 
 // A trust in nobody for each origin.
@@ -91,7 +105,7 @@ pub fn chains<R: Clock + Print>(rt: &R, alloc: Global) -> io::Result<bool> {
     let (Some(links), Some(trusts)) = (links_of(alloc), trusts_of(alloc)) else {
         return Ok(false);
     };
-    let Some(lines) = lines_of(alloc, links.as_slice()) else {
+    let Ok(lines) = lines_of(alloc, links.as_slice()) else {
         return Ok(false);
     };
     let start = Instant::now(rt)?;

@@ -4,6 +4,8 @@
 #[cfg(test)]
 mod books;
 #[cfg(test)]
+mod kept;
+#[cfg(test)]
 mod large;
 #[cfg(test)]
 mod lines;

@@ -36,30 +36,46 @@ fn answer_slowly<R: Wait>(
     witness.add(rt, body.as_bytes(), TIME, &mut saver)
 }
 
-// Answers a request once the other thread saves, and tells it.
+// What came while the other thread saved, and whether it did.
+#[derive(Drop)]
+struct Meanwhile {
+    is_saving: bool,
+    reply: Reply<Global>,
+    malformed: Reply<Global>,
+    unknown: Reply<Global>,
+}
+
+// Answers requests once the other thread saves, and tells it.
 fn answer_meanwhile<R: Wait>(
     rt: &R,
     alloc: Global,
     witness: &Witness,
-    body: &str,
+    bodies: (&str, &str),
     called: &AtomicBool,
     answered: &AtomicBool,
-) -> (bool, Reply<Global>) {
+) -> Meanwhile {
     let is_saving = is_raised(called);
     let mut saver = KeepingSaver::new(alloc);
-    let reply = witness.add(rt, body.as_bytes(), TIME, &mut saver);
+    let reply = witness.add(rt, bodies.0.as_bytes(), TIME, &mut saver);
+    let malformed = witness.add(rt, b"old 0\n", TIME, &mut saver);
+    let unknown = witness.add(rt, bodies.1.as_bytes(), TIME, &mut saver);
     answered.store(true, Ordering::SeqCst);
-    (is_saving, reply)
+    Meanwhile {
+        is_saving,
+        reply,
+        malformed,
+        unknown,
+    }
 }
 
-// The replies to the two origins, where the second comes while the first link is saved, and whether it did.
+// The replies where the second request, and one to no origin, come while the link of the first is saved.
 fn replies<R: Threads + Wait + Sync>(
     rt: &R,
     alloc: Global,
     witness: &Witness,
     first: &str,
-    second: &str,
-) -> Result<(bool, Reply<Global>, Reply<Global>), AllocError> {
+    bodies: (&str, &str),
+) -> Result<(Reply<Global>, Meanwhile), AllocError> {
     let called = Arc::new(alloc, AtomicBool::new(false))?;
     let answered = Arc::new(alloc, AtomicBool::new(false))?;
     let saver = WaitingSaver {
@@ -67,39 +83,38 @@ fn replies<R: Threads + Wait + Sync>(
         called: Arc::try_clone(&called)?,
         answered: Arc::try_clone(&answered)?,
     };
-    let (slow, (is_saving, quick)) = thread::join(
+    Ok(thread::join(
         rt,
         move || answer_slowly(rt, witness, first, saver),
-        || answer_meanwhile(rt, alloc, witness, second, &called, &answered),
-    );
-    Ok((is_saving, slow, quick))
+        || answer_meanwhile(rt, alloc, witness, bodies, &called, &answered),
+    ))
 }
 
 #[test]
 fn a_request_waits_for_no_other_origin(rt: HostRuntime) -> Result<(), Fail> {
     let alloc = rt.alloc();
-    let first = first_body(alloc, ORIGINS[0])?;
-    let second = first_body(alloc, ORIGINS[1])?;
+    let unknown = first_body(alloc, "example.com/c")?;
     let whole = two_links(alloc, F1)?;
-    for _ in 0..100 {
-        let Ok(witness) = SharedWitness::new(fresh_book(alloc, alloc, &ORIGINS)?) else {
-            assert!(rt; false, "out of memory");
-            return Ok(());
-        };
-        let (is_saving, slow, quick) = replies(
-            &rt,
-            alloc,
-            &witness,
-            first.as_str(),
-            second.as_str(),
-        )?;
-        assert!(rt; is_saving);
-        assert_eq!(rt; (slow.status, quick.status), (200, 200));
-        assert_eq!(rt; slow.body.as_slice(), SHORTER_COSIGNATURE.as_bytes());
-        assert_eq!(rt; quick.body.as_slice(), SHORTER_COSIGNATURE.as_bytes());
-        for origin in ORIGINS {
-            let links = witness.chain(&rt, origin)?.ok_or("no chain")?;
-            assert!(rt; are_first(links.as_slice(), whole.as_slice(), 1));
+    for (slow, quick) in [(0usize, 1usize), (1, 0)] {
+        let slow = first_body(alloc, ORIGINS[slow])?;
+        let quick = first_body(alloc, ORIGINS[quick])?;
+        for _ in 0..100 {
+            let Ok(witness) = SharedWitness::new(fresh_book(alloc, alloc, &ORIGINS)?) else {
+                assert!(rt; false, "out of memory");
+                return Ok(());
+            };
+            let bodies = (quick.as_str(), unknown.as_str());
+            let (late, meanwhile) = replies(&rt, alloc, &witness, slow.as_str(), bodies)?;
+            assert!(rt; meanwhile.is_saving);
+            assert_eq!(rt; (late.status, meanwhile.reply.status), (200, 200));
+            assert_eq!(rt; (meanwhile.malformed.status, meanwhile.unknown.status), (400, 404));
+            for reply in [late, meanwhile.reply] {
+                assert_eq!(rt; reply.body.as_slice(), SHORTER_COSIGNATURE.as_bytes());
+            }
+            for origin in ORIGINS {
+                let links = witness.chain(&rt, origin)?.ok_or("no chain")?;
+                assert!(rt; are_first(links.as_slice(), whole.as_slice(), 1));
+            }
         }
     }
     Ok(())
