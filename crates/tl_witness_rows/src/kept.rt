@@ -92,7 +92,9 @@ fn is_cosigned_by(reply: &Reply<Global>, cosigner: &str) -> bool {
     let Ok(line) = str::from_utf8(reply.body.as_slice()) else {
         return false;
     };
-    let name = line.strip_prefix("— ").and_then(|rest| rest.split_once(' '));
+    let name = line
+        .strip_prefix("— ")
+        .and_then(|rest| rest.split_once(' '));
     reply.status == 200 && name.map(|parts| parts.0) == Some(cosigner)
 }
 
@@ -102,8 +104,16 @@ fn each_origin_keeps_its_key_its_cosigner_and_its_links(rt: HostRuntime) -> Resu
     let a = Log::of_size(alloc, "a.example", 1, 40)?;
     let b = Log::of_size(alloc, "b.example/log", 2, 40)?;
     let known = [
-        Known { log: &b, cosigner: "beta.example", reached: 12 },
-        Known { log: &a, cosigner: "alpha.example", reached: 5 },
+        Known {
+            log: &b,
+            cosigner: "beta.example",
+            reached: 12,
+        },
+        Known {
+            log: &a,
+            cosigner: "alpha.example",
+            reached: 5,
+        },
     ];
     let witness = shared(alloc, &known)?;
     for one in &known {
@@ -131,8 +141,16 @@ fn the_key_of_another_origin_is_refused(rt: HostRuntime) -> Result<(), Fail> {
     let b = Log::of_size(alloc, "b.example/log", 2, 20)?;
     let forged = Log::of_size(alloc, "a.example", 2, 20)?;
     let known = [
-        Known { log: &a, cosigner: "alpha.example", reached: 5 },
-        Known { log: &b, cosigner: "beta.example", reached: 12 },
+        Known {
+            log: &a,
+            cosigner: "alpha.example",
+            reached: 5,
+        },
+        Known {
+            log: &b,
+            cosigner: "beta.example",
+            reached: 12,
+        },
     ];
     let witness = shared(alloc, &known)?;
     let body = forged.body(alloc, 5, 20)?;
@@ -148,27 +166,31 @@ fn links_from_a_place_on(rt: HostRuntime) -> Result<(), Fail> {
     let a = Log::of_size(alloc, "a.example", 1, 20)?;
     let b = Log::of_size(alloc, "b.example/log", 2, 20)?;
     let known = [
-        Known { log: &a, cosigner: "alpha.example", reached: 5 },
-        Known { log: &b, cosigner: "beta.example", reached: 12 },
+        Known {
+            log: &a,
+            cosigner: "alpha.example",
+            reached: 5,
+        },
+        Known {
+            log: &b,
+            cosigner: "beta.example",
+            reached: 12,
+        },
     ];
     let witness = shared(alloc, &known)?;
-    let whole = witness.chain(&rt, b.origin)?.ok_or("no chain")?;
-    for (from, most, count) in [
-        (0u64, 12u64, 12usize),
-        (0, 5, 5),
-        (3, 4, 4),
-        (11, 4, 1),
-        (12, 4, 0),
-        (4, 0, 0),
-        (u64::MAX, u64::MAX, 0),
-        (2, u64::MAX, 10),
+    for (from, most, count, size) in [
+        (0u64, 12u64, 12usize, Some(1u64)),
+        (0, 5, 5, Some(1)),
+        (3, 4, 4, Some(4)),
+        (11, 4, 1, Some(12)),
+        (12, 4, 0, None),
+        (4, 0, 0, None),
+        (u64::MAX, u64::MAX, 0, None),
+        (2, u64::MAX, 10, Some(3)),
     ] {
         let links = witness.links(&rt, b.origin, from, most)?.ok_or("no links")?;
         assert_eq!(rt; links.len(), count, "from {from}, at most {most}");
-        if count > 0 {
-            let rest = &whole[from.min(12) as usize..];
-            assert!(rt; are_first(links.as_slice(), rest, count));
-        }
+        assert_eq!(rt; links.as_slice().first().map(|link| link.size), size);
     }
     assert!(rt; witness.links(&rt, "c.example", 0, 1)?.is_none());
     Ok(())
@@ -180,8 +202,16 @@ fn a_book_again_with_what_was_accepted(rt: HostRuntime) -> Result<(), Fail> {
     let a = Log::of_size(alloc, "a.example", 1, 20)?;
     let b = Log::of_size(alloc, "b.example/log", 2, 20)?;
     let known = [
-        Known { log: &a, cosigner: "alpha.example", reached: 5 },
-        Known { log: &b, cosigner: "beta.example", reached: 12 },
+        Known {
+            log: &a,
+            cosigner: "alpha.example",
+            reached: 5,
+        },
+        Known {
+            log: &b,
+            cosigner: "beta.example",
+            reached: 12,
+        },
     ];
     let witness = shared(alloc, &known)?;
     let body = b.body(alloc, 12, 19)?;

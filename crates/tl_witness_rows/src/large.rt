@@ -1,4 +1,5 @@
-//! Large requests beside small ones: twelve links, 63 hashes, sizes above 2^32, late times, 100 signature lines, three origins.
+//! Large requests beside small ones: twelve links, 63 hashes, sizes above 2^32, late times, 100 signature lines,
+//! three origins.
 
 use crate::logs::Log;
 use crate::posts::TIME;
@@ -9,6 +10,7 @@ use std::test::Fail;
 use tl_checkpoint::check_cosignature;
 use tl_hash::{Hash, Sha256Tree, leaf_hash, node_hash};
 use tl_note::{Signer, Verifier, parse_note};
+use tl_proof::Link;
 use tl_testing::LengthKey;
 use tl_witness::{Book, BookFault, Reply, Trust, read_chain};
 
@@ -32,8 +34,12 @@ fn trust(alloc: Global, log: &Log) -> Result<Trust<Global>, AllocError> {
     })
 }
 
-// A book that trusts these logs.
-fn book_of(alloc: Global, logs: &[&Log]) -> Result<TestBook, BookFault> {
+// A book that trusts these logs, with saved links.
+fn reopened(
+    alloc: Global,
+    logs: &[Log],
+    saved: Vec<(String, Vec<Link<Global>>)>,
+) -> Result<TestBook, BookFault> {
     let mut trusts = Vec::new(alloc);
     for log in logs {
         let Ok(trust) = trust(alloc, log) else {
@@ -43,7 +49,12 @@ fn book_of(alloc: Global, logs: &[&Log]) -> Result<TestBook, BookFault> {
             return Err(BookFault::OutOfMemory);
         }
     }
-    Book::open(alloc, alloc, Sha256Tree, trusts, Vec::new(alloc))
+    Book::open(alloc, alloc, Sha256Tree, trusts, saved)
+}
+
+// A book that trusts these logs.
+fn book_of(alloc: Global, logs: &[Log]) -> Result<TestBook, BookFault> {
+    reopened(alloc, logs, Vec::new(alloc))
 }
 
 fn post(book: &mut TestBook, saver: &mut KeepingSaver, body: &str, time: u64) -> Reply<Global> {
@@ -61,8 +72,9 @@ fn links(book: &TestBook, origin: &str) -> usize {
 #[test]
 fn twelve_links_one_after_another(rt: HostRuntime) -> Result<(), Fail> {
     let alloc = rt.alloc();
-    let log = Log::of_size(alloc, ORIGIN, 7, 40)?;
-    let mut book = book_of(alloc, &[&log])?;
+    let logs = [Log::of_size(alloc, ORIGIN, 7, 40)?];
+    let log = &logs[0];
+    let mut book = book_of(alloc, &logs)?;
     let mut saver = KeepingSaver::new(alloc);
     let mut old = 0;
     for size in [1u64, 2, 3, 5, 8, 9, 16, 17, 31, 32, 33, 40] {
@@ -97,8 +109,9 @@ fn folded(first: Hash, proof: &[Hash]) -> Hash {
 #[test]
 fn a_proof_of_63_hashes_to_the_largest_size(rt: HostRuntime) -> Result<(), Fail> {
     let alloc = rt.alloc();
-    let log = Log::of_size(alloc, ORIGIN, 7, 1)?;
-    let mut book = book_of(alloc, &[&log])?;
+    let logs = [Log::of_size(alloc, ORIGIN, 7, 1)?];
+    let log = &logs[0];
+    let mut book = book_of(alloc, &logs)?;
     let mut saver = KeepingSaver::new(alloc);
     let largest = (1u64 << 63) - 1;
     let proof = [leaf_hash(Sha256Tree, b"other"); 63];
@@ -140,11 +153,12 @@ fn time_of(alloc: Global, text: &str, reply: &Reply<Global>) -> Result<Option<u6
 #[test]
 fn large_sizes_and_late_times(rt: HostRuntime) -> Result<(), Fail> {
     let alloc = rt.alloc();
-    let log = Log::of_size(alloc, ORIGIN, 7, 1)?;
+    let logs = [Log::of_size(alloc, ORIGIN, 7, 1)?];
+    let log = &logs[0];
     let last = leaf_hash(Sha256Tree, b"last");
     for level in [32u32, 33, 40, 62] {
         let size = 1u64 << level.min(62);
-        let mut book = book_of(alloc, &[&log])?;
+        let mut book = book_of(alloc, &logs)?;
         let mut saver = KeepingSaver::new(alloc);
         let root = log.root(alloc, 1)?;
         let first = log.claim(alloc, 0, &[], size, root)?;
@@ -173,8 +187,9 @@ fn large_sizes_and_late_times(rt: HostRuntime) -> Result<(), Fail> {
 #[test]
 fn notes_of_2_and_of_100_signature_lines(rt: HostRuntime) -> Result<(), Fail> {
     let alloc = rt.alloc();
-    let log = Log::of_size(alloc, ORIGIN, 7, 4)?;
-    let mut book = book_of(alloc, &[&log])?;
+    let logs = [Log::of_size(alloc, ORIGIN, 7, 4)?];
+    let log = &logs[0];
+    let mut book = book_of(alloc, &logs)?;
     let mut saver = KeepingSaver::new(alloc);
     let mut old = 0;
     for (size, more, status) in [(1u64, 1u32, 200u16), (3, 99, 200), (4, 100, 400)] {
@@ -197,47 +212,47 @@ fn are_kept(book: &TestBook, counts: &[(&str, usize)]) -> bool {
     counts.iter().all(|count| links(book, count.0) == count.1)
 }
 
+// Three logs of this size.
+fn three_logs(alloc: Global, size: u64) -> Result<[Log; 3], AllocError> {
+    Ok([
+        Log::of_size(alloc, "a.example", 1, size)?,
+        Log::of_size(alloc, "b.example", 2, size)?,
+        Log::of_size(alloc, "c.example/with/a/long/name", 3, size)?,
+    ])
+}
+
 #[test]
 fn a_book_goes_on_from_twelve_saved_links_of_three_origins(rt: HostRuntime) -> Result<(), Fail> {
     let alloc = rt.alloc();
-    let a = Log::of_size(alloc, "a.example", 1, 30)?;
-    let b = Log::of_size(alloc, "b.example", 2, 30)?;
-    let c = Log::of_size(alloc, "c.example/with/a/long/name", 3, 30)?;
-    let mut book = book_of(alloc, &[&a, &b, &c])?;
+    let logs = three_logs(alloc, 30)?;
+    let mut book = book_of(alloc, &logs)?;
     let mut saver = KeepingSaver::new(alloc);
     for step in 0..5u64 {
-        for (log, last) in [(&c, 3), (&a, 5), (&b, 4)] {
+        for (log, last) in logs.iter().rev().zip([3u64, 4, 5]) {
             if step < last {
                 let body = log.body(alloc, step * 3, step * 3 + 3)?;
-                assert_eq!(rt;
-                    post(&mut book, &mut saver, body.as_str(), TIME).status,
-                    200
-                );
+                let reply = post(&mut book, &mut saver, body.as_str(), TIME);
+                assert_eq!(rt; reply.status, 200);
             }
         }
     }
-    let counts = [(a.origin, 5), (b.origin, 4), (c.origin, 3)];
+    let counts = [
+        ("a.example", 5),
+        ("b.example", 4),
+        ("c.example/with/a/long/name", 3),
+    ];
     assert!(rt; are_kept(&book, &counts));
     let saved = read_chain(alloc, saver.lines.as_bytes())?;
     assert_eq!(rt; saved.len(), 3);
-    assert_eq!(rt; saved[0].0.as_str(), c.origin);
-    let mut trusts = Vec::new(alloc);
-    trusts.push(trust(alloc, &b)?)?;
-    trusts.push(trust(alloc, &c)?)?;
-    trusts.push(trust(alloc, &a)?)?;
-    let mut book = Book::open(alloc, alloc, Sha256Tree, trusts, saved)?;
+    assert_eq!(rt; saved[0].0.as_str(), "c.example/with/a/long/name");
+    let mut book = reopened(alloc, &logs, saved)?;
     assert!(rt; are_kept(&book, &counts));
-    for (log, old) in [(&a, 15), (&b, 12), (&c, 9)] {
-        let body = log.body(alloc, old - 1, 30)?;
-        assert_eq!(rt;
-            post(&mut book, &mut saver, body.as_str(), TIME).status,
-            409
-        );
-        let body = log.body(alloc, old, 30)?;
-        assert_eq!(rt;
-            post(&mut book, &mut saver, body.as_str(), TIME).status,
-            200
-        );
+    for (log, old) in logs.iter().zip([15u64, 12, 9]) {
+        for (start, status) in [(old - 1, 409), (old, 200)] {
+            let body = log.body(alloc, start, 30)?;
+            let reply = post(&mut book, &mut saver, body.as_str(), TIME);
+            assert_eq!(rt; reply.status, status);
+        }
     }
     Ok(())
 }
@@ -245,36 +260,38 @@ fn a_book_goes_on_from_twelve_saved_links_of_three_origins(rt: HostRuntime) -> R
 #[test]
 fn three_origins_grow_apart(rt: HostRuntime) -> Result<(), Fail> {
     let alloc = rt.alloc();
-    let a = Log::of_size(alloc, "a.example", 1, 20)?;
-    let b = Log::of_size(alloc, "b.example", 2, 20)?;
-    let c = Log::of_size(alloc, "c.example/with/a/long/name", 3, 20)?;
-    let mut book = book_of(alloc, &[&b, &c, &a])?;
+    let logs = three_logs(alloc, 20)?;
+    let mut book = book_of(alloc, &logs)?;
     let mut saver = KeepingSaver::new(alloc);
-    for (log, old, size, status) in [
-        (&a, 0, 1, 200u16),
-        (&b, 0, 7, 200),
-        (&a, 1, 20, 200),
-        (&c, 0, 20, 200),
-        (&b, 1, 8, 409),
-        (&b, 7, 8, 200),
-        (&a, 20, 20, 200),
-        (&b, 8, 20, 200),
+    for (place, old, size, status) in [
+        (0usize, 0, 1, 200u16),
+        (1, 0, 7, 200),
+        (0, 1, 20, 200),
+        (2, 0, 20, 200),
+        (1, 1, 8, 409),
+        (1, 7, 8, 200),
+        (0, 20, 20, 200),
+        (1, 8, 20, 200),
     ] {
+        let log = logs.get(place).ok_or("no log")?;
         let body = log.body(alloc, old, size)?;
-        assert_eq!(rt;
-            post(&mut book, &mut saver, body.as_str(), TIME).status,
-            status
-        );
+        let reply = post(&mut book, &mut saver, body.as_str(), TIME);
+        assert_eq!(rt; reply.status, status);
     }
-    assert_eq!(rt; links(&book, "a.example"), 2);
-    assert_eq!(rt; links(&book, "b.example"), 3);
-    assert_eq!(rt; links(&book, "c.example/with/a/long/name"), 1);
+    assert!(rt;
+        are_kept(
+            &book,
+            &[
+                ("a.example", 2),
+                ("b.example", 3),
+                ("c.example/with/a/long/name", 1)
+            ]
+        )
+    );
     assert!(rt; book.chain("d.example").is_none());
     let stranger = Log::of_size(alloc, "a.example", 2, 30)?;
     let body = stranger.body(alloc, 20, 30)?;
-    assert_eq!(rt;
-        post(&mut book, &mut saver, body.as_str(), TIME).status,
-        403
-    );
+    let reply = post(&mut book, &mut saver, body.as_str(), TIME);
+    assert_eq!(rt; reply.status, 403);
     Ok(())
 }

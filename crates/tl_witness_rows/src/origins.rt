@@ -107,7 +107,10 @@ fn a_request_waits_for_no_other_origin(rt: HostRuntime) -> Result<(), Fail> {
             let (late, meanwhile) = replies(&rt, alloc, &witness, slow.as_str(), bodies)?;
             assert!(rt; meanwhile.is_saving);
             assert_eq!(rt; (late.status, meanwhile.reply.status), (200, 200));
-            assert_eq!(rt; (meanwhile.malformed.status, meanwhile.unknown.status), (400, 404));
+            assert_eq!(rt;
+                (meanwhile.malformed.status, meanwhile.unknown.status),
+                (400, 404)
+            );
             for reply in [late, meanwhile.reply] {
                 assert_eq!(rt; reply.body.as_slice(), SHORTER_COSIGNATURE.as_bytes());
             }
