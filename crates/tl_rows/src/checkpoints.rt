@@ -99,7 +99,7 @@ fn parse_answers_out_of_memory(rt: HostRuntime) -> Result<(), Fail> {
         let heap = Refusing::at(rt.alloc(), number);
         let answer = parse(&heap, text.as_str());
         if !heap.refused() {
-            assert!(rt; number > 4);
+            assert!(rt; number > 3);
             assert_eq!(rt; answer?.size, 7);
             return Ok(());
         }

@@ -260,7 +260,7 @@ fn parse_note_answers_out_of_memory(rt: HostRuntime) -> Result<(), Fail> {
         let heap = Refusing::at(alloc, number);
         let answer = parse_note(&heap, EMPTY_LOG_NOTE);
         if !heap.refused() {
-            assert!(rt; number > 2);
+            assert!(rt; number > 1);
             assert_eq!(rt; answer?.signatures.len(), 1);
             return Ok(());
         }
@@ -308,7 +308,7 @@ fn open_note_answers_out_of_memory(rt: HostRuntime) -> Result<(), Fail> {
         let heap = Refusing::at(rt.alloc(), number);
         let answer = opening_on(rt.alloc(), &heap);
         if !heap.refused() {
-            assert!(rt; number > 4);
+            assert!(rt; number > 3);
             assert_eq!(rt; answer, Ok(1));
             return Ok(());
         }
