@@ -88,11 +88,11 @@ impl<T: TreeHash, A: Allocator + Copy> Shown for Book<T, A> {
 }
 
 impl<T: TreeHash, A: Allocator + Copy> Book<T, A> {
-    /// Decides an add-checkpoint request (C2SP tlog-witness, "add-checkpoint") at this time, in seconds since the
-    /// Unix epoch: 400 where it is no request or no checkpoint; 404 for an unknown origin; 403 where the note isn't
-    /// open to its verifiers; 400 where the old size is above the new; 409 with the last size where the old size,
-    /// or the root at an equal size, is another; 422 where the proof isn't accepted; 500 without a signature or a
-    /// save; else 200 with a cosignature line. It fails only where a growth was refused.
+    /// Decides a request (C2SP tlog-witness, "add-checkpoint") at this Unix time, in seconds: 400 where it is no
+    /// request or no checkpoint; 404 for an unknown origin; 403 where the note isn't open to its verifiers; 400
+    /// where the old size is above the new; 409 with the last size where the old size, or the root at an equal
+    /// size, is another; 422 where the proof isn't accepted; 500 without a signature or a save; else 200 with a
+    /// cosignature line. It fails only where a growth was refused.
     pub fn try_add<S: Saver>(
         &mut self,
         body: &[u8],
