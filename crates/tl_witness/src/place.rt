@@ -1,7 +1,6 @@
 //! Where an origin stands in a list.
 
-ghost use Rattle.std.specs.Prelude.{◌≡◌, ◌≢◌, ◌↔◌, ◌<◌, ℕ, All, IsTrue, IfSome, IfNone, MatchOption, Some, length, map, slice_get};
-ghost use Rattle.tl_witness.specs.Open.{HasTwice, IsAmong, IsFirstNot};
+ghost use Rattle.std.specs.Prelude.{◌≡◌, ◌≢◌, ◌↔◌, ◌<◌, ℕ, IsTrue, IfSome, IfNone, Some, length, map, slice_get};
 
 /// What has an origin.
 pub(crate) trait OfOrigin {
@@ -26,41 +25,6 @@ pub(crate) fn place_of<N: OfOrigin>(list: &[N], origin: &str) -> Option<usize>
 {
     for i in 0..list.len() {
         if list[i].is_of(origin) {
-            return Some(i);
-        }
-    }
-    None
-}
-
-/// Whether an origin is in a list.
-pub(crate) fn is_among<N: OfOrigin>(list: &[N], origin: &str) -> bool
-    ensures { IsTrue result ↔ IsAmong origin.now (map N.origin_of list.now) }
-{
-    match place_of(list, origin) {
-        Some(_) => true,
-        None => false,
-    }
-}
-
-/// Whether an origin stands twice in a list.
-pub(crate) fn is_twice<N: OfOrigin>(list: &[N]) -> bool
-    ensures { IsTrue result ↔ HasTwice (map N.origin_of list.now) }
-{
-    for i in 0..list.len() {
-        if is_among(&list[i + 1..], list[i].origin()) {
-            return true;
-        }
-    }
-    false
-}
-
-/// The first of a list whose origin isn't known.
-pub(crate) fn first_unknown<N: OfOrigin, M: OfOrigin>(known: &[N], list: &[M]) -> Option<usize>
-    ensures { MatchOption result (All (λ o. IsAmong o (map N.origin_of known.now)) (map M.origin_of list.now))
-        (IsFirstNot (λ o. IsAmong o (map N.origin_of known.now)) (map M.origin_of list.now)) }
-{
-    for i in 0..list.len() {
-        if !is_among(known, list[i].origin()) {
             return Some(i);
         }
     }
