@@ -5,10 +5,11 @@ use Rattle.tl_server.proofs.device.reading.read_whole.Goals as goal
 
 pub returns-then-is_err : goal.returns-then-is_err
 returns-then-is_err g c =
-    let chunk = take c.in-Some.n c.read_some.new.buf in
-    (
+    let chunk = take c.in-Some.n c.read_some.new.buf in (
       c.in-Some.ensures.steady ∙ c.loop-buf.invariant.steady,
-      (vec_items c.loop-buf.input ++ chunk,
-      Consumes-trans _ _ _ (vec_items c.loop-buf.input) chunk c.loop-buf.invariant.consumed c.in-Some.ensures.consumed,
-      omega (arith, length-append (vec_items c.loop-buf.input) chunk, length-take-le c.in-Some.n c.read_some.new.buf c.in-Some.ensures.bound, c.in-Some.n-test)),
+      (
+        vec_items c.loop-buf.input ++ chunk,
+        Consumes-trans _ _ _ (vec_items c.loop-buf.input) chunk c.loop-buf.invariant.consumed c.in-Some.ensures.consumed,
+        omega (arith, length-append (vec_items c.loop-buf.input) chunk, length-take-le c.in-Some.n c.read_some.new.buf c.in-Some.ensures.bound, c.in-Some.n-test),
+      ),
     )
