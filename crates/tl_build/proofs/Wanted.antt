@@ -22,7 +22,7 @@ use Rattle.tl_server.proofs.Asking.{gave_entry, none_too_long}
 use Rattle.tl_server.proofs.LinesLemmas.{length-entries_of, entries_of_nothing}
 use Rattle.tl_build.specs.Mirror.{checkpoint_note, mirrored, resource_text, listing_text}
 use Rattle.tl_build.specs.Build.{IsPrinted, IsMissing, BuildComes, IsLawfulPath, RunsBuild}
-use Rattle.tl_build.specs.Steps.{IsAsked, IsServed, IsShown, AnswersWanted, WantedComes}
+use Rattle.tl_build.specs.Inner.Steps.{IsAsked, IsServed, IsShown, AnswersWanted, WantedComes}
 use Rattle.tl_build.proofs.NeededParts.{LiesIn, lies, lawful}
 
 -- a list has each of its elements

@@ -1,4 +1,4 @@
 -- The definitions of the command `build`.
 pub mod Mirror
 pub mod Build
-pub mod Steps
+pub mod Inner

@@ -8,7 +8,7 @@ ghost use Rattle.tl_server.specs.Device.{passage};
 ghost use Rattle.tl_server.specs.Run.{Runs};
 ghost use Rattle.tl_build.specs.Mirror.{checkpoint_note, mirrored};
 ghost use Rattle.tl_build.specs.Build.{RunsBuild};
-ghost use Rattle.tl_build.specs.Steps.{ReadsPath, IsServed, AnswersWanted, WantedComes};
+ghost use Rattle.tl_build.specs.Inner.Steps.{ReadsPath, IsServed, AnswersWanted, WantedComes};
 
 use crate::checkpoint_note::checkpoint_note_of;
 use crate::listing::{listing_of, mirrored_of};

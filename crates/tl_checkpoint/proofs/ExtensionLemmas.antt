@@ -8,7 +8,8 @@ use Rattle.tl_note.specs.Text.{line, number_text, base64_text, HasNoControl}
 use Rattle.tl_note.proofs.Lines.{one_line, line_not_empty}
 use Rattle.tl_checkpoint.specs.Checkpoint.{IsOneLine, checkpoint_text}
 use Rattle.tl_checkpoint.specs.Pieces.{IsNoLine}
-use Rattle.tl_checkpoint.specs.ParseCheckpoint.{IsInLines, AreExtensions, AreSome}
+use Rattle.tl_checkpoint.specs.ParseCheckpoint.{IsInLines}
+use Rattle.tl_checkpoint.specs.Inner.CutLines.{AreExtensions, AreSome}
 
 -- what was read, and what is left to read
 pub record HasRead (text : List ℕ) (done : List (List ℕ)) (left : List ℕ) : Type 0 where

@@ -10,7 +10,8 @@ use Rattle.tl_checkpoint.specs.declared.checkpoint.CheckpointFault.{CheckpointFa
 use Rattle.tl_checkpoint.specs.declared.checkpoint.CheckpointFault.TheVariants.{OutOfMemory}
 use Rattle.tl_checkpoint.specs.declared.parsing.Parts.{Parts}
 use Rattle.tl_checkpoint.specs.Checkpoint.{Head, IsHead, checkpoint_text}
-use Rattle.tl_checkpoint.specs.ParseCheckpoint.{AreExtensions, CutsLines, IsCheckpointText, IsInLines, ParsesCheckpoint}
+use Rattle.tl_checkpoint.specs.ParseCheckpoint.{IsCheckpointText, IsInLines, ParsesCheckpoint}
+use Rattle.tl_checkpoint.specs.Inner.CutLines.{AreExtensions, CutsLines}
 use Rattle.tl_checkpoint.proofs.ExtensionLemmas.{text_of_lines}
 use Rattle.tl_checkpoint.proofs.OneText.{plain_lines}
 

@@ -1,5 +1,5 @@
 -- What a witness signs, and its signature line (C2SP tlog-cosignature, "Format", version 1).
-use Rattle.std.specs.Prelude.{◌≡◌, ℕ, ◌<◌, ◌^◌, ◌⊎◌, List, [], ◌++◌, length, codes, IsTrue, Option, Some, None, Result, Ok, Err, String, string_bytes, ⊤}
+use Rattle.std.specs.Prelude.{◌≡◌, ℕ, ◌<◌, ◌^◌, ◌⊎◌, List, [], ◌++◌, length, codes, IsTrue, Option, Some, None, Result, Ok, Err, String, string_bytes}
 use Rattle.std.specs.Int.{w64, to_be_bytes}
 use Rattle.tl_note.specs.Text.{line, number_text}
 use Rattle.tl_note.specs.Key.{Key, SigningKey, IsKeyName}
@@ -16,10 +16,6 @@ cosigned_message time text = line (codes "cosignature/v1") ++ line (codes "time 
 abbrev pub cosignature : ℕ → List ℕ → List ℕ
 cosignature time signature = to_be_bytes w64 time ++ signature
 
--- the bytes hold no time
-abbrev pub IsNoCosignature : List ℕ → Type 0
-IsNoCosignature bytes = (time : ℕ) (signature : List ℕ) → bytes ≡ cosignature time signature → ⊥
-
 -- the line is this signer's cosignature of the text at this time
 pub record Cosigns (text : List ℕ) (time : ℕ) (key : SigningKey) (words : List ℕ) : Type 0 where
   pub signature : List ℕ
@@ -31,12 +27,6 @@ pub record Cosigns (text : List ℕ) (time : ℕ) (key : SigningKey) (words : Li
 -- the signer may refuse the message, or give no bytes for it
 abbrev pub MayFailToCosign : List ℕ → ℕ → SigningKey → Type 0
 MayFailToCosign text time key = IsTrue (key.may_refuse (cosigned_message time text)) ⊎ IsTrue (key.may_give (cosigned_message time text) [])
-
--- why a signer gave no signature of a message
-abbrev pub FailsToSign : List ℕ → SigningKey → NoteFault → Type 0
-FailsToSign message key (Sign place) = (place ≡ 0) × (IsTrue (key.may_refuse message) ⊎ IsTrue (key.may_give message []))
-FailsToSign message key OutOfMemory = ⊤
-FailsToSign message key fault = ⊥
 
 -- writing a cosignature line; the one signer has the place 0
 abbrev pub CosignsLine : {A : Type 0} → List ℕ → ℕ → SigningKey → Result (String A) NoteFault → Type 0

@@ -5,3 +5,4 @@ pub mod WriteCheckpoint
 pub mod ParseCheckpoint
 pub mod Cosignature
 pub mod Law
+pub mod Inner

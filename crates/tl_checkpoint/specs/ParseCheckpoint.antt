@@ -5,7 +5,6 @@ use Rattle.tl_note.specs.Text.{line, HasNoControl}
 use Rattle.tl_checkpoint.specs.declared.checkpoint.Checkpoint.{Checkpoint}
 use Rattle.tl_checkpoint.specs.declared.checkpoint.CheckpointFault.{CheckpointFault}
 use Rattle.tl_checkpoint.specs.declared.checkpoint.CheckpointFault.TheVariants.{Lines, Origin, Size, Root, OutOfMemory}
-use Rattle.tl_checkpoint.specs.declared.parsing.Parts.{Parts}
 use Rattle.tl_checkpoint.specs.Checkpoint.{Head, head_of, IsHead, IsOneLine, checkpoint_text}
 use Rattle.tl_checkpoint.specs.Pieces.{IsNoSize, IsNoHash}
 
@@ -37,17 +36,3 @@ ParsesCheckpoint text (Err Origin) = (size : List ℕ) × (root : List ℕ) × H
 ParsesCheckpoint text (Err Size) = (origin : List ℕ) × (size : List ℕ) × (root : List ℕ) × HasLines text origin size root × (origin ≢ []) × IsNoSize size
 ParsesCheckpoint text (Err Root) = (origin : List ℕ) × (size : List ℕ) × (root : List ℕ) × HasLines text origin size root × (origin ≢ []) × (IsNoSize size → ⊥) × IsNoHash root
 ParsesCheckpoint text (Err OutOfMemory) = IsCheckpointText text
-
--- the text is these lines, none of them empty
-pub record AreExtensions (text : List ℕ) (lines : List (List ℕ)) : Type 0 where
-  pub each : All IsOneLine lines
-  pub joined : text ≡ flat_map line lines
-
--- the text is any number of lines, none of them empty
-abbrev pub AreSome : List ℕ → Type 0
-AreSome text = (lines : List (List ℕ)) × AreExtensions text lines
-
--- the text is cut into three lines and the extensions' text
-pub record CutsLines (text : List ℕ) (parts : Parts) : Type 0 where
-  pub extensions : AreSome parts.extensions.now
-  pub lines : IsInLines text (parts.origin.now ∷ parts.size.now ∷ parts.root.now ∷ extensions.0)

@@ -2,7 +2,8 @@
 
 ghost use Rattle.std.specs.Prelude.{◌≡◌, ◌↔◌, ◌<◌, ◌^◌, length, string_bytes, IfOk, IfErr, OnErr, IsTrue, MatchOption};
 ghost use Rattle.tl_note.specs.Key.{Key, SigningKey};
-ghost use Rattle.tl_checkpoint.specs.Cosignature.{ChecksCosignature, CosignsLine, FailsToSign, IsNoCosignature, IsOfKey, cosigned_message, cosignature};
+ghost use Rattle.tl_checkpoint.specs.Cosignature.{ChecksCosignature, CosignsLine, IsOfKey, cosigned_message, cosignature};
+ghost use Rattle.tl_checkpoint.specs.Inner.Cosigning.{FailsToSign, IsNoCosignature};
 
 use crate::writing::push_line;
 use itoa::Buffer;

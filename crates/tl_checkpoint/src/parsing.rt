@@ -1,7 +1,8 @@
 //! Reads the text of a checkpoint.
 
 ghost use Rattle.std.specs.Prelude.{◌≡◌, ◌↔◌, IsTrue, IfOk, MatchOption, map, string_bytes};
-ghost use Rattle.tl_checkpoint.specs.ParseCheckpoint.{AreExtensions, AreSome, CutsLines, IsInNoLines, ParsesCheckpoint};
+ghost use Rattle.tl_checkpoint.specs.ParseCheckpoint.{IsInNoLines, ParsesCheckpoint};
+ghost use Rattle.tl_checkpoint.specs.Inner.CutLines.{AreExtensions, AreSome, CutsLines};
 
 use crate::checkpoint::{Checkpoint, CheckpointFault};
 use crate::pieces::{first_line, hash_of, size_of};

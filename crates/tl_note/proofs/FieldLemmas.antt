@@ -10,10 +10,11 @@ use Rattle.base64.specs.Engines.{standard}
 use Rattle.base64.proofs.EngineFacts.{decode_of-encode_of}
 use Rattle.tl_note.specs.Text.{base64_text}
 use Rattle.tl_note.specs.Note.{Signature, IsSignature, signature_field}
-use Rattle.tl_note.specs.Field.{IsSpelled, IsRead, IsNoBase64}
+use Rattle.tl_note.specs.Inner.Field.{IsSpelled, IsRead, IsNoBase64}
 use Rattle.tl_note.proofs.OneNote.{field_bytes}
 use Rattle.tl_note.proofs.Base64Lemmas.{length-text, block_front, spelled_once}
-use Rattle.tl_note.specs.Line.{field_signature, ShowsField}
+use Rattle.tl_note.specs.Line.{field_signature}
+use Rattle.tl_note.specs.Inner.LineField.{ShowsField}
 
 outcome_bytes : (error : Option DecodeError) (d b : List ℕ) → decode_outcome error d ≡ Ok b → d ≡ b
 outcome_bytes None d b e = cc

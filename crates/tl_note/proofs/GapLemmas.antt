@@ -5,7 +5,7 @@ use Rattle.std.specs.List.{flat_map}
 use Rattle.std.proofs.lemmas.List.{length-append}
 use Rattle.std.proofs.Math.Seq.{drop-append_seam, drop-append-add, take-append-add}
 use Rattle.tl_note.specs.Note.{signature_line, HasNoNote}
-use Rattle.tl_note.specs.Reading.{CutsText}
+use Rattle.tl_note.specs.Inner.Reading.{CutsText}
 use Rattle.tl_note.proofs.OneNote.{NoGap, last_gap, lines_apart, note_whole}
 
 -- no two newlines meet at this place

@@ -8,7 +8,7 @@ use Rattle.std.proofs.lemmas.List.Elements.{All-nil, All-head, All-tail, All-get
 use Rattle.std.proofs.lemmas.Str.{IsUtf8-drop}
 use Rattle.std.proofs.lemmas.Str.Pattern.{IsSplitOnceResult, split_after}
 use Rattle.tl_note.specs.Note.{Signature, IsSignature, signature_field, signature_words, signature_line}
-use Rattle.tl_note.specs.Reading.{CutsLine, IsNoFirstLine, AreLines, HasLines}
+use Rattle.tl_note.specs.Inner.Reading.{CutsLine, IsNoFirstLine, AreSignatureLines, HasSignatureLines}
 use Rattle.tl_note.proofs.Lines.{one_line, line_not_empty}
 use Rattle.tl_note.proofs.OneNote.{name_no_space, body_plain, open_lines, one_body, IsNoSpace}
 
@@ -68,7 +68,7 @@ pub record HasRead (text : List ℕ) (done : List Signature) (left : List ℕ) :
   pub each : All IsSignature done
   pub whole : flat_map signature_line done ++ left ≡ text
 
-continue : (text left : List ℕ) (done lines : List Signature) → HasRead text done left → AreLines text lines → Continue done lines left
+continue : (text left : List ℕ) (done lines : List Signature) → HasRead text done left → AreSignatureLines text lines → Continue done lines left
 continue text left done lines has are = after_done done lines left has.each are.each (sym are.whole ∙ sym has.whole)
 
 -- the text is no list of 1 to 100 lines where 100 lines are read and some bytes are left
@@ -76,7 +76,7 @@ too_many_more : (left : List ℕ) (done lines more : List Signature) → length 
 too_many_more left done lines [] full some few joined rest = absurd (omega (arith, some, ap length rest))
 too_many_more left done lines (m ∷ more) full some few joined rest = absurd (omega (arith, full, few, ap length joined, length-append done (m ∷ more)))
 
-pub too_many : (text left : List ℕ) (done lines : List Signature) → HasRead text done left → length done ≡ 100 → 0 < length left → AreLines text lines → ⊥
+pub too_many : (text left : List ℕ) (done lines : List Signature) → HasRead text done left → length done ≡ 100 → 0 < length left → AreSignatureLines text lines → ⊥
 too_many text left done lines has full some are =
     let next = continue text left done lines has are in
     too_many_more left done lines next.more full some are.few next.joined next.rest
@@ -86,7 +86,7 @@ no_first_more : (left : List ℕ) (more : List Signature) → IsNoFirstLine left
 no_first_more left [] none some each rest = absurd (omega (arith, some, ap length rest))
 no_first_more left (m ∷ more) none some each rest = none m (flat_map signature_line more) (record { lawful = All-head IsSignature m more each; whole = rest ∙ open_lines m more })
 
-pub no_first : (text left : List ℕ) (done lines : List Signature) → HasRead text done left → IsNoFirstLine left → 0 < length left → AreLines text lines → ⊥
+pub no_first : (text left : List ℕ) (done lines : List Signature) → HasRead text done left → IsNoFirstLine left → 0 < length left → AreSignatureLines text lines → ⊥
 no_first text left done lines has none some are =
     let next = continue text left done lines has are in
     no_first_more left next.more none some next.each next.rest
@@ -96,7 +96,7 @@ no_lines_more : (left : List ℕ) (lines more : List Signature) → length left 
 no_lines_more left lines [] empty some joined rest = absurd (omega (arith, some, ap length joined))
 no_lines_more left lines (m ∷ more) empty some joined rest = absurd (omega (arith, empty, ap length (rest ∙ open_lines m more), length-append (signature_line m) (flat_map signature_line more), length-append (signature_words m) (10 ∷ [])))
 
-pub no_lines : (text left : List ℕ) (done lines : List Signature) → HasRead text done left → length done ≡ 0 → length left ≡ 0 → AreLines text lines → ⊥
+pub no_lines : (text left : List ℕ) (done lines : List Signature) → HasRead text done left → length done ≡ 0 → length left ≡ 0 → AreSignatureLines text lines → ⊥
 no_lines text left [] lines has none empty are =
     let next = continue text left [] lines has are in
     no_lines_more left lines next.more empty are.some next.joined next.rest
@@ -129,16 +129,16 @@ counts_more text left rest count s has few utf8 cuts = record {
 }
 
 -- nothing is left
-pub counts_all : (text left : List ℕ) (count : ℕ) → HasCounted text count left → length left ≡ 0 → 0 < count → HasLines text count
+pub counts_all : (text left : List ℕ) (count : ℕ) → HasCounted text count left → length left ≡ 0 → 0 < count → HasSignatureLines text count
 counts_all text [] count has none some = (has.done, record { each = has.read.each; some = omega (arith, some, has.counted); few = omega (arith, has.few, has.counted); whole = sym has.read.whole ∙ append-nil (flat_map signature_line has.done) }, has.counted)
 counts_all text (x ∷ left) count has none some = absurd (omega arith)
 
 -- what is left begins with no line, so all lines are read
-all_read : (text left : List ℕ) (done lines more : List Signature) → IsNoFirstLine left → All IsSignature more → left ≡ flat_map signature_line more → lines ≡ done ++ more → AreLines text lines → AreLines text done
-all_read text left done lines [] none each rest joined are = subst (AreLines text) (joined ∙ append-nil done) are
+all_read : (text left : List ℕ) (done lines more : List Signature) → IsNoFirstLine left → All IsSignature more → left ≡ flat_map signature_line more → lines ≡ done ++ more → AreSignatureLines text lines → AreSignatureLines text done
+all_read text left done lines [] none each rest joined are = subst (AreSignatureLines text) (joined ∙ append-nil done) are
 all_read text left done lines (m ∷ more) none each rest joined are = absurd (none m (flat_map signature_line more) (record { lawful = All-head IsSignature m more each; whole = rest ∙ open_lines m more }))
 
-pub reads_all : (text left : List ℕ) (done : List Signature) (count : ℕ) → HasRead text done left → IsNoFirstLine left → HasLines text count → AreLines text done
+pub reads_all : (text left : List ℕ) (done : List Signature) (count : ℕ) → HasRead text done left → IsNoFirstLine left → HasSignatureLines text count → AreSignatureLines text done
 reads_all text left done count has none are =
     let next = continue text left done are.0 has are.1 in
     all_read text left done are.0 next.more none next.each next.rest next.joined are.1

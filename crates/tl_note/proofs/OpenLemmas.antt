@@ -12,7 +12,7 @@ use Rattle.tl_note.specs.declared.open.Standing.{Standing}
 use Rattle.tl_note.specs.Key.{Key}
 use Rattle.tl_note.specs.Note.{Signature}
 use Rattle.tl_note.specs.Open.{Placed, is_of, is_same_key, is_known, is_unknown, is_repeated, is_ambiguous, is_valid, is_wrong, counts, counting_lines, unknown_lines, first_wrong, places, NeedsMemory}
-use Rattle.tl_note.specs.Judging.{VerifiesLine, JudgesLine, SortsLines}
+use Rattle.tl_note.specs.Inner.Judging.{VerifiesLine, JudgesLine, SortsLines}
 
 -- a fault of the line's signature is passed on
 pub judges_fault : (keys : List Key) (text : List ℕ) (lines : List Signature) (p : Placed) (fault : NoteFault) (r : Result Standing NoteFault) → is_known keys p ≡ true → is_repeated lines p ≡ false → VerifiesLine keys text p (Err fault) → IsErrAnd r (λ e. e ≡ fault) → JudgesLine keys text lines p r

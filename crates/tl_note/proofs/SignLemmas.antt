@@ -7,7 +7,8 @@ use Rattle.std.proofs.lemmas.List.Elements.{All-push}
 use Rattle.std.proofs.lemmas.Option.{slice_get-get_or}
 use Rattle.tl_note.specs.Key.{SigningKey, IsKeyName}
 use Rattle.tl_note.specs.Note.{Signature, IsSignature, signature_line, Note}
-use Rattle.tl_note.specs.SignNote.{IsSignedBy, AreSigned, AddsLines, CanSign, SignsLine, SignsLines}
+use Rattle.tl_note.specs.SignNote.{IsSignedBy, AreSigned, CanSign}
+use Rattle.tl_note.specs.Inner.Signing.{AddsLines, SignsLine, SignsLines}
 use Rattle.tl_note.specs.declared.fault.NoteFault.{NoteFault}
 use Rattle.tl_note.specs.declared.fault.NoteFault.TheVariants.{Malformed, BadName, Ambiguous, InvalidSignature, Unverified, Sign, OutOfMemory}
 

@@ -1,12 +1,10 @@
 pub mod Text
 pub mod Key
 pub mod Note
-pub mod Field
 pub mod Line
-pub mod Reading
 pub mod View
 pub mod Open
-pub mod Judging
 pub mod OpenNote
 pub mod SignNote
 pub mod Law
+pub mod Inner

@@ -1,9 +1,7 @@
 -- What a signature line shows, read from its texts (C2SP signed-note, "Format").
-use Rattle.std.specs.Prelude.{◌≡◌, ℕ, ◌<◌, ◌^◌, List, ◌++◌, length, drop}
-use Rattle.std.specs.Int.{w32, to_be_bytes}
-use Rattle.base64.specs.GeneralPurpose.{IsBytes, decoded_bytes_of}
+use Rattle.std.specs.Prelude.{◌≡◌, ℕ, List, drop}
+use Rattle.base64.specs.GeneralPurpose.{decoded_bytes_of}
 use Rattle.base64.specs.Engines.{standard}
-use Rattle.tl_note.specs.Text.{base64_text}
 use Rattle.tl_note.specs.Note.{Signature, IsSignature, signature_field, signature_words}
 
 -- the bytes in a field, after the identifier
@@ -18,17 +16,6 @@ shown name id field = record { name = name; id = id; bytes = field_signature fie
 pub record ShowsLine (name : List ℕ) (id : ℕ) (field : List ℕ) : Type 0 where
   pub lawful : IsSignature (shown name id field)
   pub spelled : field ≡ signature_field (shown name id field)
-
--- the field is that of this identifier, and of one byte at least
-pub record ShowsField (id : ℕ) (field : List ℕ) : Type 0 where
-  pub range : id < 2 ^ 32
-  pub some : 0 < length (field_signature field)
-  pub bytes : IsBytes (field_signature field)
-  pub spelled : field ≡ base64_text (to_be_bytes w32 id ++ field_signature field)
-
--- the text is no field
-abbrev pub IsNoField : List ℕ → Type 0
-IsNoField field = (s : Signature) → IsSignature s → field ≡ signature_field s → ⊥
 
 -- the text is no signature line
 abbrev pub IsNoLine : List ℕ → Type 0

@@ -2,8 +2,8 @@
 //! that no memory is asked for.
 
 ghost use Rattle.std.specs.Prelude.{◌≤◌, length, IsTrue, ◌↔◌, MatchOption};
-ghost use Rattle.tl_note.specs.Field.{IsBase64, IsNoBase64, IsRead};
-ghost use Rattle.tl_note.specs.Line.{IsNoField, ShowsField};
+ghost use Rattle.tl_note.specs.Inner.Field.{IsBase64, IsNoBase64, IsRead};
+ghost use Rattle.tl_note.specs.Inner.LineField.{IsNoField, ShowsField};
 
 use base64::engine::general_purpose::STANDARD;
 

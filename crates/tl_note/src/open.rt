@@ -3,7 +3,7 @@
 ghost use Rattle.std.specs.Prelude.{◌≡◌, ◌<◌, length, map, slice_get, Some};
 ghost use Rattle.tl_note.specs.Note.{Signature};
 ghost use Rattle.std.specs.List.{list_any};
-ghost use Rattle.tl_note.specs.Judging.{JudgesLine, SortsLines};
+ghost use Rattle.tl_note.specs.Inner.Judging.{JudgesLine, SortsLines};
 ghost use Rattle.tl_note.specs.Open.{is_same_key};
 ghost use Rattle.tl_note.specs.OpenNote.{OpensNote, VerifiesNote};
 

@@ -2,7 +2,7 @@
 
 ghost use Rattle.std.specs.Prelude.{◌≡◌, ◌↔◌, IsTrue, IfOk, IsUtf8, MatchOption};
 ghost use Rattle.tl_note.specs.Note.{IsNoteByte, IsNoteText, HasNoNote};
-ghost use Rattle.tl_note.specs.Reading.{AreLines, CutsLine, CutsText, HasLines, HasNoLines, IsNoFirstLine};
+ghost use Rattle.tl_note.specs.Inner.Reading.{AreSignatureLines, CutsLine, CutsText, HasSignatureLines, HasNoSignatureLines, IsNoFirstLine};
 ghost use Rattle.tl_note.specs.View.{ParsesNote};
 
 use crate::fault::NoteFault;
@@ -74,7 +74,7 @@ fn cut_line(text: &str) -> Option<(SigView<'_>, &str)>
 
 // How many lines a text is, where it is 1 to 100 signature lines and nothing else.
 fn count_lines(text: &str) -> Option<usize>
-    ensures { MatchOption result (HasNoLines text.now) (HasLines text.now) }
+    ensures { MatchOption result (HasNoSignatureLines text.now) (HasSignatureLines text.now) }
 {
     let mut count = 0;
     let mut left = text;
@@ -100,8 +100,8 @@ fn read_lines<A: Allocator>(
     text: &str,
     count: usize,
 ) -> Result<Vec<SigView<'_>, A>, AllocError>
-    requires { HasLines text.now count }
-    ensures { IfOk result (λ lines. AreLines text.now lines.items) }
+    requires { HasSignatureLines text.now count }
+    ensures { IfOk result (λ lines. AreSignatureLines text.now lines.items) }
 {
     let mut lines = Vec::with_capacity(alloc, count)?;
     let mut left = text;

@@ -2,7 +2,8 @@
 
 ghost use Rattle.std.specs.Prelude.{◌≡◌, IsTrue, IfOk, IsErrOf, MatchOption, All, map, string_bytes};
 ghost use Rattle.tl_note.specs.Key.{IsKeyName};
-ghost use Rattle.tl_note.specs.SignNote.{GivesSignature, IsFirstBadName, SignsLine, SignsLines, SignsNote};
+ghost use Rattle.tl_note.specs.SignNote.{IsFirstBadName, SignsNote};
+ghost use Rattle.tl_note.specs.Inner.Signing.{GivesSignature, SignsLine, SignsLines};
 
 use crate::fault::NoteFault;
 use crate::keys::{SignFault, Signer};

@@ -2,7 +2,7 @@
 
 ghost use Rattle.std.specs.Prelude.{◌≡◌, ◌≤◌, length, map, filter, count_by};
 ghost use Rattle.std.specs.List.{list_any, list_all};
-ghost use Rattle.tl_note.specs.Judging.{VerifiesLine};
+ghost use Rattle.tl_note.specs.Inner.Judging.{VerifiesLine};
 ghost use Rattle.tl_note.specs.Open.{is_of};
 
 use crate::fault::NoteFault;

@@ -5,7 +5,7 @@ use Rattle.std.proofs.lemmas.List.Elements.{Contains-append_left, Contains-appen
 use Rattle.tl_hash.specs.Tree.{tree_hash, inputs}
 use Rattle.tl_proof.specs.Acceptance.{AcceptsConsistency}
 use Rattle.tl_proof.specs.Collisions.{Step, fold_inputs, Linked, EndsWith, step_inputs}
-use Rattle.tl_proof.specs.Forks.{SameOrForks, end_size, end_root}
+use Rattle.tl_proof.specs.Inner.Forks.{SameOrForks, end_size, end_root}
 use Rattle.tl_proof.specs.declared.fork.Fork.{Fork}
 use Rattle.tl_proof.proofs.Audits.{AcceptsConsistency-ordered}
 use Rattle.tl_proof.proofs.Forks.{SameOrForks-among}

@@ -7,7 +7,7 @@ use Rattle.tl_hash.specs.Tree.{tree_hash, inputs, node_input}
 use Rattle.tl_hash.proofs.TreeLemmas.{length_first, length_rest, tree_hash-split, tree_hash-prefix}
 use Rattle.tl_proof.specs.Acceptance.{roots_from, roots_of_whole}
 use Rattle.tl_proof.specs.Collisions.{fold_inputs_from, inputs_on_left, inputs_on_right}
-use Rattle.tl_proof.specs.Forks.{input_of, SameOrForks, fork_of, IsForkOver, IsCheckWalk}
+use Rattle.tl_proof.specs.Inner.Forks.{input_of, SameOrForks, fork_of, IsForkOver, IsCheckWalk}
 use Rattle.tl_proof.specs.declared.fork.Fork.{Fork}
 use Rattle.tl_proof.specs.declared.fork.CheckWalk.{CheckWalk}
 use Rattle.tl_proof.proofs.Bytes.{cases_bytes}

@@ -11,7 +11,7 @@ use Rattle.tl_hash.proofs.SplitLemmas.{IsSplit-positive}
 use Rattle.tl_store.specs.Head.{IsAligned}
 use Rattle.tl_proof.specs.Proofs.{inclusion_proof, path_in, subproof, consistency_proof}
 use Rattle.tl_proof.specs.Needs.{inclusion_needs, consistency_needs}
-use Rattle.tl_proof.specs.Segments.{Appends, entries_in, segment_root, IsSegment, IsNeeded, IsPathPlan, IsProofPlan}
+use Rattle.tl_proof.specs.Inner.Segments.{GrowsBy, entries_in, segment_root, IsSegment, IsNeeded, IsPathPlan, IsProofPlan}
 use Rattle.tl_proof.specs.declared.segment.Segment.{Segment}
 use Rattle.tl_proof.proofs.Equations.{inclusion_proof-left, inclusion_proof-right, subproof-whole, subproof-left, subproof-right}
 
@@ -161,10 +161,10 @@ path-right index start middle end below s order split more last plan start_is en
 
 -- ---- what a call adds
 
-pub appends-none : {X : Type 0} (P : List X → Type 0) (old new : List X) → new ≡ old → P [] → Appends P old new
+pub appends-none : {X : Type 0} (P : List X → Type 0) (old new : List X) → new ≡ old → P [] → GrowsBy P old new
 appends-none P old new same is = record { added = []; whole = same ∙ sym (append-nil old); are = is }
 
-pub appends-push : {X : Type 0} (P Q : List X → Type 0) (old between new : List X) (x : X) → Appends P old between → new ≡ between ++ x ∷ [] → ((added : List X) → P added → Q (added ++ x ∷ [])) → Appends Q old new
+pub appends-push : {X : Type 0} (P Q : List X → Type 0) (old between new : List X) (x : X) → GrowsBy P old between → new ≡ between ++ x ∷ [] → ((added : List X) → P added → Q (added ++ x ∷ [])) → GrowsBy Q old new
 appends-push P Q old between new x below new_is step = record {
   added = below.added ++ x ∷ [];
   whole = new_is ∙ ap (λ (list : List _). list ++ x ∷ []) below.whole ∙ append_assoc old below.added (x ∷ []);
@@ -177,19 +177,19 @@ split_at : (start k end : ℕ) → IsSplit k (end - start) → IsSplit (start + 
 split_at start k end s = subst (λ (x : ℕ). IsSplit x (end - start)) (let same : k ≡ start + k - start = omega arith in same) s
 
 pub pushed_path-left : (index start end k : ℕ) (old between new : List Segment) (s : Segment) → start ≤ index → IsSplit k (end - start) → index < start + k
-    → Appends (IsPathPlan index start (start + k)) old between → new ≡ between ++ s ∷ [] → s.start ≡ start + k → s.end ≡ end → Appends (IsPathPlan index start end) old new
+    → GrowsBy (IsPathPlan index start (start + k)) old between → new ≡ between ++ s ∷ [] → s.start ≡ start + k → s.end ≡ end → GrowsBy (IsPathPlan index start end) old new
 pushed_path-left index start end k old between new s first split less below new_is start_is end_is =
     appends-push (IsPathPlan index start (start + k)) (IsPathPlan index start end) old between new s below new_is
     (λ added plan. path-left index start (start + k) end added s first (omega arith) (split_at start k end split) less plan start_is end_is)
 
 pub pushed_path-right : (index start end k : ℕ) (old between new : List Segment) (s : Segment) → IsSplit k (end - start) → start + k ≤ index → index < end
-    → Appends (IsPathPlan index (start + k) end) old between → new ≡ between ++ s ∷ [] → s.start ≡ start → s.end ≡ start + k → Appends (IsPathPlan index start end) old new
+    → GrowsBy (IsPathPlan index (start + k) end) old between → new ≡ between ++ s ∷ [] → s.start ≡ start → s.end ≡ start + k → GrowsBy (IsPathPlan index start end) old new
 pushed_path-right index start end k old between new s split more last below new_is start_is end_is =
     appends-push (IsPathPlan index (start + k) end) (IsPathPlan index start end) old between new s below new_is
     (λ added plan. path-right index start (start + k) end added s (omega arith) (split_at start k end split) more last plan start_is end_is)
 
 -- what was added to nothing
-pub appended-all : {X : Type 0} (P : List X → Type 0) (new : List X) → Appends P [] new → P new
+pub appended-all : {X : Type 0} (P : List X → Type 0) (new : List X) → GrowsBy P [] new → P new
 appended-all P new a = subst P (sym a.whole) a.are
 
 -- ---- the segments of a consistency proof
@@ -269,18 +269,18 @@ proof-right old start middle end known below s order split more last plan start_
     }
 
 pub pushed_proof-left : (old start end k : ℕ) (known : Bool) (before between new : List Segment) (s : Segment) → start < old → IsSplit k (end - start) → old ≤ start + k
-    → Appends (IsProofPlan old start (start + k) known) before between → new ≡ between ++ s ∷ [] → s.start ≡ start + k → s.end ≡ end → Appends (IsProofPlan old start end known) before new
+    → GrowsBy (IsProofPlan old start (start + k) known) before between → new ≡ between ++ s ∷ [] → s.start ≡ start + k → s.end ≡ end → GrowsBy (IsProofPlan old start end known) before new
 pushed_proof-left old start end k known before between new s first split less below new_is start_is end_is =
     appends-push (IsProofPlan old start (start + k) known) (IsProofPlan old start end known) before between new s below new_is
     (λ added plan. proof-left old start (start + k) end known added s first (omega arith) (split_at start k end split) less plan start_is end_is)
 
 pub pushed_proof-right : (old start end k : ℕ) (known : Bool) (before between new : List Segment) (s : Segment) → IsSplit k (end - start) → start + k < old → old < end
-    → Appends (IsProofPlan old (start + k) end false) before between → new ≡ between ++ s ∷ [] → s.start ≡ start → s.end ≡ start + k → Appends (IsProofPlan old start end known) before new
+    → GrowsBy (IsProofPlan old (start + k) end false) before between → new ≡ between ++ s ∷ [] → s.start ≡ start → s.end ≡ start + k → GrowsBy (IsProofPlan old start end known) before new
 pushed_proof-right old start end k known before between new s split more last below new_is start_is end_is =
     appends-push (IsProofPlan old (start + k) end false) (IsProofPlan old start end known) before between new s below new_is
     (λ added plan. proof-right old start (start + k) end known added s (omega arith) (split_at start k end split) more last plan start_is end_is)
 
-pub appends-one : {X : Type 0} (P : List X → Type 0) (old new : List X) (x : X) → new ≡ old ++ x ∷ [] → P (x ∷ []) → Appends P old new
+pub appends-one : {X : Type 0} (P : List X → Type 0) (old new : List X) (x : X) → new ≡ old ++ x ∷ [] → P (x ∷ []) → GrowsBy P old new
 appends-one P old new x new_is is = record { added = x ∷ []; whole = new_is; are = is }
 
 pub proof-whole_at : (old start end : ℕ) (known : Bool) (s : Segment) → start < old → old ≡ end → known ≡ false → s.start ≡ start → s.end ≡ end → IsProofPlan old start end known (s ∷ [])

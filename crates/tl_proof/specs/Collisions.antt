@@ -6,6 +6,26 @@ use Rattle.tl_hash.specs.Tree.{leaf_input, node_input, tree_hash, inputs}
 use Rattle.tl_proof.specs.Acceptance.{root_from_leaf, roots_from, AcceptsConsistency}
 use Rattle.tl_proof.specs.declared.link.Link.{Link}
 
+-- the byte string hashed where a root goes on from its left part
+abbrev pub input_on_left : Option (List ℕ) → List ℕ → List (List ℕ)
+input_on_left None last = []
+input_on_left (Some root) last = node_input root last ∷ []
+
+-- the byte string hashed where a root goes on from its right part
+abbrev pub input_on_right : Option (List ℕ) → List ℕ → List (List ℕ)
+input_on_right None last = []
+input_on_right (Some root) last = node_input last root ∷ []
+
+-- the byte string hashed where a new root goes on from its left part
+abbrev pub inputs_on_left : Option (List ℕ × List ℕ) → List ℕ → List (List ℕ)
+inputs_on_left None last = []
+inputs_on_left (Some r) last = node_input r.1 last ∷ []
+
+-- the two byte strings hashed where an old and a new root go on from their right parts
+abbrev pub inputs_on_right : Option (List ℕ × List ℕ) → List ℕ → List (List ℕ)
+inputs_on_right None last = []
+inputs_on_right (Some r) last = node_input last r.0 ∷ node_input last r.1 ∷ []
+
 -- a size and a root, with the consistency proof that leads there
 pub record Step : Type 0 where
   pub size : ℕ
@@ -20,16 +40,6 @@ step_of link = record { size = link.size; root = link.root; proof = link.proof }
 abbrev pub IsPrefix : List (List ℕ) → List (List ℕ) → Type 0
 IsPrefix old new = old ≡ take (length old) new
 
--- the byte string hashed where a root goes on from its left part
-abbrev pub input_on_left : Option (List ℕ) → List ℕ → List (List ℕ)
-input_on_left None last = []
-input_on_left (Some root) last = node_input root last ∷ []
-
--- the byte string hashed where a root goes on from its right part
-abbrev pub input_on_right : Option (List ℕ) → List ℕ → List (List ℕ)
-input_on_right None last = []
-input_on_right (Some root) last = node_input last root ∷ []
-
 -- the byte strings whose digests `root_from_leaf` takes
 unfoldable pub path_inputs_from : (List ℕ → List ℕ) → ℕ → ℕ → List (List ℕ) → List ℕ → List (List ℕ)
 path_inputs_from H index size [] leaf = []
@@ -43,16 +53,6 @@ path_inputs_from H index size (last ∷ others) leaf =
 unfoldable pub path_inputs : (List ℕ → List ℕ) → ℕ → ℕ → List (List ℕ) → List ℕ → List (List ℕ)
 path_inputs H index size proof entry =
     leaf_input entry ∷ path_inputs_from H index size (reverse proof) (H (leaf_input entry))
-
--- the byte string hashed where a new root goes on from its left part
-abbrev pub inputs_on_left : Option (List ℕ × List ℕ) → List ℕ → List (List ℕ)
-inputs_on_left None last = []
-inputs_on_left (Some r) last = node_input r.1 last ∷ []
-
--- the two byte strings hashed where an old and a new root go on from their right parts
-abbrev pub inputs_on_right : Option (List ℕ × List ℕ) → List ℕ → List (List ℕ)
-inputs_on_right None last = []
-inputs_on_right (Some r) last = node_input last r.0 ∷ node_input last r.1 ∷ []
 
 -- the byte strings whose digests `roots_from` takes
 unfoldable pub fold_inputs_from : (List ℕ → List ℕ) → ℕ → ℕ → Bool → List (List ℕ) → List ℕ → List (List ℕ)

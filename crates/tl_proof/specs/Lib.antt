@@ -5,6 +5,5 @@ pub mod Laws
 pub mod Needs
 pub mod ReadFaults
 pub mod ProveFaults
-pub mod Segments
-pub mod Forks
 pub mod Audit
+pub mod Inner

@@ -3,7 +3,7 @@
 ghost use Rattle.std.specs.Prelude.{◌≡◌, ◌<◌, ◌≤◌, ◌↔◌, length, map, vec_items, IsTrue, MatchOption};
 ghost use Rattle.tl_hash.specs.Tree.{node_input};
 ghost use Rattle.tl_proof.specs.Collisions.{IsPrefix};
-ghost use Rattle.tl_proof.specs.Forks.{DifferAt, IsForkOver, fork_of, IsListsWalk};
+ghost use Rattle.tl_proof.specs.Inner.Forks.{DifferAt, IsForkOver, fork_of, IsListsWalk};
 
 use crate::fork::{Children, Fork, ListsWalk};
 use crate::split::split_size;

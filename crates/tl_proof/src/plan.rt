@@ -1,7 +1,7 @@
 //! Which parts of the entries the hashes of a proof are over.
 
 ghost use Rattle.std.specs.Prelude.{◌<◌, ◌≤◌, ◌-◌, ◌^◌, Bool, true, IfOk, OnOk, OnErr};
-ghost use Rattle.tl_proof.specs.Segments.{Appends, IsPathPlan, IsProofPlan};
+ghost use Rattle.tl_proof.specs.Inner.Segments.{GrowsBy, IsPathPlan, IsProofPlan};
 
 use crate::segment::Segment;
 use crate::split::split_size;
@@ -17,7 +17,7 @@ fn push_path<A: Allocator>(
 ) -> Result<(), AllocError>
     requires first { start ≤ index }
     requires last { index < end }
-    ensures added { OnOk result (Appends (IsPathPlan index start end) segments.old.items segments.new.items) }
+    ensures added { OnOk result (GrowsBy (IsPathPlan index start end) segments.old.items segments.new.items) }
     ensures some { OnErr result (1 < end - start) }
 {
     if end - start == 1 {
@@ -61,7 +61,7 @@ fn push_proof<A: Allocator>(
 ) -> Result<(), AllocError>
     requires first { start < old }
     requires last { old ≤ end }
-    ensures { OnOk result (Appends (IsProofPlan old start end known) segments.old.items segments.new.items) }
+    ensures { OnOk result (GrowsBy (IsProofPlan old start end known) segments.old.items segments.new.items) }
 {
     if old == end {
         if !known {

@@ -5,7 +5,7 @@ ghost use Rattle.std.specs.Int.RustNames.{count_ones};
 ghost use Rattle.tl_store.specs.Stored.{stored_hash};
 ghost use Rattle.tl_store.specs.Reader.{readable_size};
 ghost use Rattle.tl_store.specs.Head.{GivesHeadFault};
-ghost use Rattle.tl_proof.specs.Segments.{IsSegment, IsNeeded, AreGroups, subtree_count, segment_root};
+ghost use Rattle.tl_proof.specs.Inner.Segments.{IsSegment, IsNeeded, AreGroups, subtree_count, segment_root};
 
 use crate::segment::Segment;
 use std::alloc::{AllocError, Allocator};

@@ -2,7 +2,7 @@
 
 ghost use Rattle.std.specs.Prelude.{◌≡◌, ◌↔◌, IsTrue, IfOk};
 ghost use Rattle.tl_hash.specs.Tree.{leaf_input};
-ghost use Rattle.tl_proof.specs.Forks.{input_of, first_string, second_string, IsForkOver};
+ghost use Rattle.tl_proof.specs.Inner.Forks.{input_of, first_string, second_string, IsForkOver};
 
 use crate::check::same;
 use crate::fork::{Children, Fork};

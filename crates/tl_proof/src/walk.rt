@@ -4,7 +4,7 @@ ghost use Rattle.std.specs.Prelude.{◌≡◌, ◌<◌, ◌≤◌, ◌⊎◌, re
 ghost use Rattle.tl_hash.specs.Tree.{node_input, tree_hash, inputs};
 ghost use Rattle.tl_proof.specs.Acceptance.{roots_from, AcceptsConsistency};
 ghost use Rattle.tl_proof.specs.Collisions.{fold_inputs};
-ghost use Rattle.tl_proof.specs.Forks.{SameOrForks, fork_of, IsForkOver, IsCheckWalk};
+ghost use Rattle.tl_proof.specs.Inner.Forks.{SameOrForks, fork_of, IsForkOver, IsCheckWalk};
 
 use crate::check::lead_roots;
 use crate::fork::{CheckWalk, Children, Fork};

@@ -5,7 +5,8 @@ use Rattle.std.specs.declared.vec.Vec.{Vec}
 use Rattle.std.proofs.lemmas.List.{length-set, length-map, map-set, get_or-map, length-replicate}
 use Rattle.std.proofs.Math.Seq.{map-set_same}
 use Rattle.tl_sequencer.specs.Log.{Lane, End, IsShort, entries_of}
-use Rattle.tl_sequencer.specs.Rings.{log_of, Gives, Ends}
+use Rattle.tl_sequencer.specs.Rings.{log_of}
+use Rattle.tl_sequencer.specs.Inner.Lanes.{Gives, Ends}
 use Rattle.tl_sequencer.specs.Steps.{IsLog}
 use Rattle.tl_sequencer.specs.Places.{IsKept}
 use Rattle.tl_sequencer.proofs.Logs.{new-log, Gives-log, Ends-log, same-log}

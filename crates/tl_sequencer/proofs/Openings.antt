@@ -5,7 +5,7 @@ use Rattle.std.proofs.lemmas.List.{length-append, length-map, map-append, get_or
 use Rattle.std.proofs.lemmas.List.Elements.{All-nil, All-push}
 use Rattle.std.proofs.lemmas.Option.{slice_get_within, get_or_from_slice_get, slice_get-get_or}
 use Rattle.tl_sequencer.specs.Log.{Ring, Lane, Sender}
-use Rattle.tl_sequencer.specs.Rings.{AreLanes, IsNewLane}
+use Rattle.tl_sequencer.specs.Inner.Lanes.{AreLanes, IsNewLane}
 use Rattle.tl_sequencer.proofs.Rings.{range-more}
 
 -- what is found in a list is found in a longer one

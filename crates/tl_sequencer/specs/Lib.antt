@@ -6,3 +6,4 @@ pub mod Faults
 pub mod Opened
 pub mod Rings
 pub mod Places
+pub mod Inner

@@ -2,7 +2,9 @@
 ghost use Rattle.std.specs.Prelude.{◌≡◌, ◌+◌, ◌≤◌, ◌<◌, ◌++◌, ◌↔◌, [], length, vec_len, vec_capacity, None, IsTrue, IsSome, IfOk, IfErr, OnErr};
 ghost use Rattle.std.specs.List.{range_with_len};
 ghost use Rattle.rtrb.specs.Ring.{known_items, received};
-ghost use Rattle.tl_sequencer.specs.Rings.{ring_of, LaneRefuses, Pours, Gives, Ends};
+ghost use Rattle.tl_sequencer.specs.Rings.{ring_of, Pours};
+ghost use Rattle.tl_sequencer.specs.Inner.Lanes.{Gives, Ends};
+ghost use Rattle.tl_sequencer.specs.Inner.Lanes.{LaneRefuses};
 
 use crate::ended::Ended;
 use crate::fault::TakeFault;

@@ -2,7 +2,7 @@
 ghost use Rattle.std.specs.Prelude.{◌≡◌, ◌≤◌, [], map, vec_items, vec_len, replicate, IfOk, IfErr, MatchOption};
 ghost use Rattle.std.specs.List.{All};
 ghost use Rattle.tl_sequencer.specs.Log.{IsShort};
-ghost use Rattle.tl_sequencer.specs.Rings.{IsNewLane, AreLanes};
+ghost use Rattle.tl_sequencer.specs.Inner.Lanes.{IsNewLane, AreLanes};
 ghost use Rattle.tl_sequencer.specs.Opened.{IsOpened};
 ghost use Rattle.tl_sequencer.specs.Faults.{MayOpen, OpenRefuses};
 

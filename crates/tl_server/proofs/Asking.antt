@@ -4,7 +4,7 @@ use Rattle.std.proofs.lemmas.Bool.{cases_lt}
 use Rattle.std.specs.Prelude.{Err}
 use Rattle.tl_checkpoint.specs.Checkpoint.{IsOneLine}
 use Rattle.tl_server.specs.Device.{Passage, IsUnwritten, GaveSome}
-use Rattle.tl_server.specs.Growing.{ReadsEdge}
+use Rattle.tl_server.specs.Inner.Growing.{ReadsEdge}
 use Rattle.tl_server.specs.declared.fault.RunFault.{RunFault}
 use Rattle.tl_server.specs.declared.fault.RunFault.TheVariants.{Refused, Read, Write, TooLarge, EntryTooLong, BadOrigin, BadIndex, BadOld, BadPath, NotThere, Malformed, Chain, Sign, Operator, Listen, Accept, OutOfMemory}
 use Rattle.tl_server.specs.Lines.{entries_of, first_too_long}

@@ -8,7 +8,8 @@ use Rattle.std.proofs.lemmas.Fmt.{decimal_injective}
 use Rattle.std.proofs.lemmas.List.{append_cancel_left, length-map, length-append, length-take-le, map-append, take-append-drop, take-map, drop-map, take_rest}
 use Rattle.std.proofs.lemmas.List.Elements.{All-nil, All-cons, All-head, All-tail, All-append}
 use Rattle.tl_note.specs.Text.{number_text, base64_text, IsSize}
-use Rattle.tl_server.specs.AuditText.{Audit, IsAudit, IsRead, counted_lines, audit_lines, audit_text}
+use Rattle.tl_server.specs.AuditText.{Audit, IsAudit, counted_lines, audit_lines, audit_text}
+use Rattle.tl_server.specs.Inner.Shown.{IsRead}
 use Rattle.tl_server.specs.Lines.{entries_of, HasNoNewline}
 use Rattle.tl_server.proofs.LinesLemmas.{step_newline, step_other}
 use Rattle.tl_server.proofs.LineTexts.{entries_of_lines}

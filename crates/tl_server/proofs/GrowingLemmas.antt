@@ -15,7 +15,7 @@ use Rattle.tl_note.specs.Text.{line}
 use Rattle.sha2.specs.Sha256.{sha256}
 use Rattle.tl_tile.specs.RightEdge.{EdgeContents, IsEdgeOf}
 use Rattle.tl_server.specs.Device.{Passage, ReadWhole}
-use Rattle.tl_server.specs.Growing.{IsGrowing, IsOutcome, IsTold, ReadsEdge}
+use Rattle.tl_server.specs.Inner.Growing.{IsGrowing, IsOutcome, IsTold, ReadsEdge}
 use Rattle.tl_server.specs.Run.{most_input}
 use Rattle.tl_server.specs.declared.fault.RunFault.{RunFault}
 use Rattle.tl_server.specs.declared.fault.RunFault.TheVariants.{Refused, Read, Write, TooLarge, EntryTooLong, BadOrigin, BadIndex, BadOld, BadPath, NotThere, Malformed, Chain, Sign, Operator, Listen, Accept, OutOfMemory}

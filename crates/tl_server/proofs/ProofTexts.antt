@@ -14,7 +14,8 @@ use Rattle.tl_note.proofs.PlainText.{number_plain, base64_plain}
 use Rattle.tl_proof.specs.Proofs.{inclusion_proof, consistency_proof}
 use Rattle.tl_server.specs.Lines.{entries_of, lines_text, HasNoNewline}
 use Rattle.tl_server.specs.ProofText.{Inclusion, Consistency, Proof, Included, Consistent, IsProof, proof_lines, proof_text}
-use Rattle.tl_server.specs.ProofCommands.{inclusion_of, consistency_of, AnswersText, CheckComes}
+use Rattle.tl_server.specs.ProofCommands.{inclusion_of, consistency_of, CheckComes}
+use Rattle.tl_server.specs.Inner.Answers.{AnswersText}
 use Rattle.tl_server.specs.Run.{PrintsRefusal}
 use Rattle.tl_server.proofs.LineTexts.{entries_of_lines}
 

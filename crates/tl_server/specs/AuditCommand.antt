@@ -1,5 +1,5 @@
 -- The command `audit`.
-use Rattle.std.specs.Prelude.{◌≡◌, ◌≢◌, ◌⊎◌, ℕ, ◌<◌, true, false, List, [], ◌∷◌, ◌++◌, length, codes, vec_items, Result, Ok, Err}
+use Rattle.std.specs.Prelude.{◌≡◌, ◌≢◌, ◌⊎◌, ℕ, List, [], ◌∷◌, ◌++◌, length, codes}
 use Rattle.hex.specs.Hex.{encode_lower}
 use Rattle.tl_hash.specs.Tree.{tree_hash}
 use Rattle.tl_note.specs.Text.{line}
@@ -7,9 +7,7 @@ use Rattle.tl_proof.specs.Audit.{AreAccepted}
 use Rattle.tl_proof.specs.Collisions.{Step, IsPrefix, Exhibits, audit_inputs}
 use Rattle.tl_server.specs.AuditText.{Audit, IsAudit, audit_text}
 use Rattle.tl_server.specs.Run.{Outcome, Prints, PrintsRefusal, Fails}
-use Rattle.tl_server.specs.declared.commands.audit.Answer.{Answer}
-use Rattle.tl_server.specs.declared.fault.RunFault.{RunFault}
-use Rattle.tl_server.specs.declared.fault.RunFault.TheVariants.{Malformed, OutOfMemory}
+use Rattle.tl_server.specs.declared.fault.RunFault.TheVariants.{Malformed}
 
 -- the one step of an audit: to the new list's size and root by the proof
 abbrev pub steps_of : (List ℕ → List ℕ) → Audit → List Step
@@ -38,19 +36,6 @@ pub record IsAuditOf (Fact : Audit → Type 0) (input : List ℕ) : Type 0 where
   pub lawful : IsAudit audit
   pub spelled : input ≡ audit_text audit
   pub fact : Fact audit
-
--- what is answered of an audit: that the new list extends the old one, or that the answer is no
-abbrev pub AnswersAudit : {A : Type 0} → (List ℕ → List ℕ) → Audit → Answer A → Type 0
-AnswersAudit H a answer =
-    ((answer.yes ≡ true) × IsAccepted H a × IsPrefix a.old a.new × (vec_items answer.text ≡ line (codes "extends")))
-    ⊎ ((answer.yes ≡ false) × AuditRefuses H a (vec_items answer.text))
-
--- what is answered to a text: an answer of its audit, or that it is no audit's
-abbrev pub AnswersAuditText : {A : Type 0} → (List ℕ → List ℕ) → List ℕ → Result (Answer A) RunFault → Type 0
-AnswersAuditText H text (Ok answer) = IsAuditOf (λ a. AnswersAudit H a answer) text
-AnswersAuditText H text (Err Malformed) = (a : Audit) → IsAudit a → text ≢ audit_text a
-AnswersAuditText H text (Err OutOfMemory) = 0 < length text
-AnswersAuditText H text (Err fault) = ⊥
 
 -- what comes of an input: the proof is accepted and the old list is a prefix of the new one, or the answer is no, or the
 -- input is malformed

@@ -9,4 +9,4 @@ pub mod ProofText
 pub mod ProofCommands
 pub mod AuditText
 pub mod AuditCommand
-pub mod Growing
+pub mod Inner

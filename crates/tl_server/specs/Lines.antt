@@ -10,13 +10,13 @@ without_empty_last ([] ∷ []) = []
 without_empty_last ((byte ∷ piece) ∷ []) = (byte ∷ piece) ∷ []
 without_empty_last (piece ∷ next ∷ more) = piece ∷ without_empty_last (next ∷ more)
 
--- the input is cut at each newline; what follows the last one is an entry if it isn't empty
-unfoldable pub entries_of : List ℕ → List (List ℕ)
-entries_of input = without_empty_last (slice_split (λ byte. byte == 10) input)
-
 -- the entry has more than 65,535 bytes, the most that an entry bundle can hold (C2SP tlog-tiles, "Log entries")
 abbrev pub is_too_long : List ℕ → Bool
 is_too_long entry = nat_lt 65535 (length entry)
+
+-- the input is cut at each newline; what follows the last one is an entry if it isn't empty
+unfoldable pub entries_of : List ℕ → List (List ℕ)
+entries_of input = without_empty_last (slice_split (λ byte. byte == 10) input)
 
 -- the place of the first entry that is too long
 abbrev pub first_too_long : List (List ℕ) → Option ℕ

@@ -1,14 +1,13 @@
 -- The commands `inclusion`, `consistency` and `check`.
-use Rattle.std.specs.Prelude.{◌≡◌, ◌≢◌, ◌↔◌, ℕ, ◌<◌, ◌≤◌, Bool, IsTrue, List, [], length, take, slice_index_or, codes, None, Result, Ok, Err}
+use Rattle.std.specs.Prelude.{◌≡◌, ◌≢◌, ℕ, ◌<◌, ◌≤◌, List, [], length, take, slice_index_or, codes, None}
 use Rattle.sha2.specs.Sha256.{sha256}
 use Rattle.tl_hash.specs.Tree.{leaf_input, tree_hash}
 use Rattle.tl_note.specs.Text.{line}
 use Rattle.tl_proof.specs.Proofs.{inclusion_proof, consistency_proof}
-use Rattle.tl_server.specs.Lines.{entries_of, first_too_long, lines_text}
-use Rattle.tl_server.specs.ProofText.{Inclusion, Consistency, Proof, IsProof, inclusion_text, consistency_text, proof_lines, proof_text, Accepts}
+use Rattle.tl_server.specs.Lines.{entries_of, first_too_long}
+use Rattle.tl_server.specs.ProofText.{Inclusion, Consistency, Proof, IsProof, inclusion_text, consistency_text, proof_text, Accepts}
 use Rattle.tl_server.specs.Run.{Outcome, Prints, PrintsRefusal, Fails, IsEntryFault}
-use Rattle.tl_server.specs.declared.fault.RunFault.{RunFault}
-use Rattle.tl_server.specs.declared.fault.RunFault.TheVariants.{BadIndex, BadOld, Malformed, OutOfMemory}
+use Rattle.tl_server.specs.declared.fault.RunFault.TheVariants.{BadIndex, BadOld, Malformed}
 
 -- the inclusion proof of the entry at this index (RFC 6962, section 2.1.1)
 abbrev pub inclusion_of : ℕ → List (List ℕ) → Inclusion
@@ -52,20 +51,6 @@ pub record IsTextOf (Fact : Proof → Type 0) (input : List ℕ) : Type 0 where
   pub lawful : IsProof proof
   pub spelled : input ≡ proof_text proof
   pub fact : Fact proof
-
--- the lines are those of a proof, and this says whether it is accepted
-pub record IsAnswerOf (lines : List (List ℕ)) (accepted : Bool) : Type 0 where
-  pub proof : Proof
-  pub lawful : IsProof proof
-  pub spelled : lines ≡ proof_lines proof
-  pub says : IsTrue accepted ↔ Accepts sha256 proof
-
--- what is said of a text: whether its proof is accepted, or that it is no proof's
-abbrev pub AnswersText : List ℕ → Result Bool RunFault → Type 0
-AnswersText text (Ok accepted) = IsAnswerOf (entries_of text) accepted × (text ≡ lines_text (entries_of text))
-AnswersText text (Err Malformed) = (p : Proof) → IsProof p → text ≢ proof_text p
-AnswersText text (Err OutOfMemory) = 0 < length text
-AnswersText text (Err fault) = ⊥
 
 -- what comes of an input to `check`: a proof's text is accepted or refused, and another input is malformed
 abbrev pub CheckComes : List ℕ → Outcome → Type 0

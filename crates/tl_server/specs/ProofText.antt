@@ -1,11 +1,9 @@
 -- Texts of inclusion and consistency proofs (formats of this project).
-use Rattle.std.specs.Prelude.{ℕ, List, ◌∷◌, ◌++◌, All, map, vec_items, codes}
+use Rattle.std.specs.Prelude.{ℕ, List, ◌∷◌, ◌++◌, All, map, codes}
 use Rattle.tl_hash.specs.Bytes.{IsHash}
 use Rattle.tl_note.specs.Text.{number_text, base64_text, IsSize}
 use Rattle.tl_proof.specs.Acceptance.{AcceptsInclusion, AcceptsConsistency}
 use Rattle.tl_server.specs.Lines.{lines_text}
-use Rattle.tl_server.specs.declared.proof_text.InclusionProof.{InclusionProof}
-use Rattle.tl_server.specs.declared.proof_text.ConsistencyProof.{ConsistencyProof}
 
 -- an inclusion proof (RFC 6962, section 2.1.1), and the leaf, the place and the tree that it is about
 pub record Inclusion : Type 0 where
@@ -22,13 +20,6 @@ pub record Consistency : Type 0 where
   pub size : ℕ
   pub root : List ℕ
   pub proof : List (List ℕ)
-
--- what a proof says, whatever memory its hashes are in
-abbrev pub inclusion_shown : {A : Type 0} → InclusionProof A → Inclusion
-inclusion_shown p = record { index = p.index; size = p.size; leaf = p.leaf; root = p.root; proof = vec_items p.proof }
-
-abbrev pub consistency_shown : {A : Type 0} → ConsistencyProof A → Consistency
-consistency_shown p = record { old = p.old; old_root = p.old_root; size = p.size; root = p.root; proof = vec_items p.proof }
 
 -- what has a text: numbers below 2^63, and hashes
 pub record IsInclusion (p : Inclusion) : Type 0 where

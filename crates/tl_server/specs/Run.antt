@@ -48,14 +48,6 @@ Runs Comes i o (Err TooLarge) = ReadPast i most_input × IsUnwritten o
 Runs Comes i o (Err OutOfMemory) = IsSteady i × IsUnwritten o × IsAsking Comes i
 Runs Comes i o (Err fault) = CameOf Comes i (Fails fault) × IsUnwritten o
 
--- reading all that a reader gives, at most so many bytes
-abbrev pub ReadsWhole : {A : Type 0} → ℕ → Passage → Result (Vec ℕ A) RunFault → Type 0
-ReadsWhole most p (Ok input) = ReadWhole p most (vec_items input)
-ReadsWhole most p (Err Read) = HasFailed p
-ReadsWhole most p (Err TooLarge) = ReadPast p most
-ReadsWhole most p (Err OutOfMemory) = IsSteady p × GaveSome p
-ReadsWhole most p (Err fault) = ⊥
-
 -- a fault of the entries of an input: the first one that is too long is at this place
 abbrev pub IsEntryFault : List (List ℕ) → RunFault → Type 0
 IsEntryFault entries (EntryTooLong place) = first_too_long entries ≡ Some place

@@ -13,7 +13,8 @@ use Rattle.tl_hash.specs.Split.{IsSplit}
 use Rattle.tl_hash.specs.Tree.{tree_hash, leaf_input, node_input}
 use Rattle.tl_hash.proofs.SplitLemmas.{below_pow}
 use Rattle.tl_hash.proofs.TreeLemmas.{tree_hash-one, tree_hash-split}
-use Rattle.tl_store.specs.Stored.{stored_count, stored_index, levels_ending, subtree_hash, stored_hashes, stored_hash}
+use Rattle.tl_store.specs.Stored.{stored_count, stored_index, levels_ending, stored_hashes, stored_hash}
+use Rattle.tl_store.specs.Inner.Subtrees.{subtree_hash}
 use Rattle.tl_store.proofs.StoredLemmas.{count_step, divides_lower, index_is_place, entry_appends_its_subtrees, range-more}
 use Rattle.tl_store.proofs.Readable.{index-in_count}
 use Rattle.tl_store.proofs.Splits.{kept_below}

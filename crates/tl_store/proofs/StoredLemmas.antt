@@ -8,7 +8,8 @@ use Rattle.std.proofs.lemmas.List.{length-append, length-map, take-append-le, ge
 use Rattle.std.proofs.lemmas.List.Sums.{sum_by-append, sum_by-cons}
 use Rattle.tl_hash.specs.Tree.{tree_hash}
 use Rattle.tl_hash.proofs.SplitLemmas.{below_pow}
-use Rattle.tl_store.specs.Stored.{levels, count_at, stored_count, stored_index, levels_ending, subtree_hash, stored_for, stored_hashes, stored_hash}
+use Rattle.tl_store.specs.Stored.{stored_count, stored_index, levels_ending, stored_for, stored_hashes, stored_hash}
+use Rattle.tl_store.specs.Inner.Subtrees.{levels, count_at, subtree_hash}
 
 -- ---- the places of a level
 

@@ -2,3 +2,4 @@ pub mod Stored
 pub mod Reader
 pub mod Store
 pub mod Head
+pub mod Inner

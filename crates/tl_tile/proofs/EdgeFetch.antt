@@ -11,7 +11,7 @@ use Rattle.tl_tile.specs.Fetched.{tiles_of, tiles_in}
 use Rattle.tl_tile.specs.Source.{AreLong}
 use Rattle.tl_tile.specs.Fetching.{edge_tiles}
 use Rattle.tl_tile.specs.Verified.{AreVerified}
-use Rattle.tl_tile.specs.Steps.{AreEdgeFrom, AddsOnly}
+use Rattle.tl_tile.specs.Inner.Steps.{AreEdgeFrom, AddsOnly}
 use Rattle.tl_tile.specs.SourceFaults.{IsBadTile}
 use Rattle.std.proofs.Math.Nat.{pow-succ', div-mul-le_self}
 use Rattle.std.proofs.Math.Pow.{pow_mono}

@@ -11,7 +11,8 @@ use Rattle.tl_hash.proofs.SplitLemmas.{IsSplit-positive}
 use Rattle.tl_tile.specs.declared.resource.Tile.{Tile}
 use Rattle.tl_tile.specs.TileText.{level_count, partial_tile}
 use Rattle.tl_tile.specs.Known.{Tiles, IsFold, nothing, given, split, IsHashAt, IsOnEdge, IsOwnHash, IsEdgeHash, KnownRoot}
-use Rattle.tl_tile.specs.KnownEdge.{IsEdgeLevel, HasEdge, Joined, KnownBelow}
+use Rattle.tl_tile.specs.KnownEdge.{IsEdgeLevel, HasEdge}
+use Rattle.tl_tile.specs.Inner.KnownEdge.{Joined, KnownBelow}
 use Rattle.tl_tile.proofs.Segments.{IsSplit-scaled, power_of_256, scaled_le}
 use Rattle.tl_tile.proofs.Edges.{Some-injective, positive_256, nothing_above}
 use Rattle.tl_tile.proofs.Checked.{level_count-above}

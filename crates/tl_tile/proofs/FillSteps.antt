@@ -9,7 +9,8 @@ use Rattle.tl_hash.specs.Tree.{tree_hash, leaf_input}
 use Rattle.tl_hash.proofs.TreeLemmas.{tree_hash-one}
 use Rattle.tl_tile.specs.declared.resource.Tile.{Tile}
 use Rattle.tl_tile.specs.TileText.{full_tile, tile_text}
-use Rattle.tl_tile.specs.RightEdge.{shown, filled_tiles, shown_filled, hash_at, hashes_below, count_below}
+use Rattle.tl_tile.specs.RightEdge.{shown, filled_tiles, shown_filled, hashes_below, count_below}
+use Rattle.tl_tile.specs.Inner.PartialHashes.{hash_at}
 use Rattle.tl_tile.proofs.Levels.{wide_of, Folds}
 use Rattle.tl_tile.proofs.Below.{count_below-none, count_below-more, count_below-within, length-below, below_slice}
 use Rattle.tl_tile.proofs.Fills.{IsFilled, count_is, next_filled, before_wide, low_level, length_more, fill_kept, fold_step, text_step, filled_levels_are}

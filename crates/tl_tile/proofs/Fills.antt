@@ -7,7 +7,8 @@ use Rattle.std.proofs.lemmas.List.{length-append, take_at, take-append-le, drop-
 use Rattle.std.proofs.lemmas.List.FromFn.{map-range_with_len_more, length-map-range_with_len}
 use Rattle.tl_hash.specs.Tree.{tree_hash}
 use Rattle.tl_tile.specs.TileText.{level_count, full_tile, tile_text}
-use Rattle.tl_tile.specs.RightEdge.{filled_levels, hash_at, partial_hashes, hashes_below, count_below}
+use Rattle.tl_tile.specs.RightEdge.{filled_levels, hashes_below, count_below}
+use Rattle.tl_tile.specs.Inner.PartialHashes.{hash_at, partial_hashes}
 use Rattle.tl_tile.proofs.TileTexts.{scaled_le}
 use Rattle.tl_tile.proofs.Levels.{power_of_256, positive_256, next_power, base, wide_of, level_parts, rest_small, base_parts, above_rest, Folds}
 use Rattle.tl_tile.proofs.Below.{length-below, places_text}

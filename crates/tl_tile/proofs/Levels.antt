@@ -8,8 +8,9 @@ use Rattle.std.proofs.lemmas.Nat.{pow-add, pow_pos, mod_below, div-add-mod'}
 use Rattle.std.proofs.lemmas.List.FromFn.{length-map-range_with_len}
 use Rattle.tl_hash.specs.Tree.{tree_hash}
 use Rattle.tl_tile.specs.TileText.{level_count}
-use Rattle.tl_tile.specs.Run.{part, place_hash, IsRun, IsRest}
-use Rattle.tl_tile.specs.RightEdge.{hash_at, partial_hashes}
+use Rattle.tl_tile.specs.Run.{part, place_hash, IsRun}
+use Rattle.tl_tile.specs.Inner.Rest.{IsRest}
+use Rattle.tl_tile.specs.Inner.PartialHashes.{hash_at, partial_hashes}
 use Rattle.tl_tile.proofs.NeededLemmas.{next_count}
 use Rattle.tl_tile.proofs.Runs.{run-places}
 

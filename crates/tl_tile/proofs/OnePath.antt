@@ -7,7 +7,7 @@ use Rattle.tl_tile.specs.declared.resource.Tile.{Tile}
 use Rattle.tl_tile.specs.declared.resource.Resource.{Resource}
 use Rattle.tl_tile.specs.declared.resource.Resource.TheVariants as resource
 use Rattle.tl_tile.specs.Path.{IsTile, IsResource, path_text, index_text, width_text, place_text}
-use Rattle.tl_tile.specs.ReadPath.{leading_number, tile_place_text, HasNoTile, IsTilePath}
+use Rattle.tl_tile.specs.Inner.ReadPath.{leading_number, tile_place_text, HasNoTile, IsTilePath}
 use Rattle.tl_tile.proofs.PathLemmas.{full_width, part_width, number_decimal, number_place, no_resource}
 
 part_is_not_full : (v w : ℕ) → v < 256 → w ≡ 256 → width_text v ≡ width_text w → ⊥

@@ -17,7 +17,7 @@ use Rattle.tl_store.specs.declared.reader.ReadFault.{ReadFault}
 use Rattle.tl_store.specs.declared.reader.ReadFault.TheVariants.{OutOfRange, Source, OutOfMemory, BadTile}
 use Rattle.tl_tile.specs.Fetching.{IsOver, IsPartialOf, IsNeededFor, edge_from, edge_tiles}
 use Rattle.tl_tile.specs.Verified.{IsNextPartial, ComesNext, AreNext}
-use Rattle.tl_tile.specs.Steps.{AreFetched, AddsOnly, AddsOver}
+use Rattle.tl_tile.specs.Inner.Steps.{AreFetched, AddsOnly, AddsOver}
 use Rattle.tl_tile.specs.SourceFaults.{IsBadTile, IsLacking, GivesReadFault}
 use Rattle.tl_tile.proofs.Push.{same_tile-is}
 

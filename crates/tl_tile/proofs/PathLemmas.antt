@@ -13,7 +13,7 @@ use Rattle.std.proofs.lemmas.Slice.Eq.{bytes_eq-Decides}
 use Rattle.tl_tile.specs.declared.resource.Resource.{Resource}
 use Rattle.tl_tile.specs.declared.resource.Resource.TheVariants as resource
 use Rattle.tl_tile.specs.Path.{IsResource, path_text, three_digits, marked_group, index_text, width_text, place_text}
-use Rattle.tl_tile.specs.ReadPath.{leading_number, leading_groups, Strips, HasNoWidth, HasNoPlace, HasNoTile, IsTilePath, tile_place_text}
+use Rattle.tl_tile.specs.Inner.ReadPath.{leading_number, leading_groups, Strips, HasNoWidth, HasNoPlace, HasNoTile, IsTilePath, tile_place_text}
 
 -- ---- groups
 

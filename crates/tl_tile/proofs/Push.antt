@@ -7,10 +7,11 @@ use Rattle.std.proofs.lemmas.List.{map-append, length-append, take_more, take_al
 use Rattle.tl_tile.specs.declared.resource.Tile.{Tile}
 use Rattle.tl_tile.specs.TileText.{level_count, full_tile, partial_tile, tile_with}
 use Rattle.tl_tile.specs.Known.{Tiles, IsFold, nothing, given, split, IsEdgeHash, IsInAbove}
-use Rattle.tl_tile.specs.KnownEdge.{HasEdge, Part}
+use Rattle.tl_tile.specs.KnownEdge.{HasEdge}
+use Rattle.tl_tile.specs.Inner.KnownEdge.{Part}
 use Rattle.tl_tile.specs.Fetched.{same_tile, tiles_of, texts_of}
 use Rattle.tl_tile.specs.Source.{HasTileWith, IsHashWith}
-use Rattle.tl_tile.specs.Steps.{IsMissing, IsThere}
+use Rattle.tl_tile.specs.Inner.Steps.{IsNotFetched, IsThere}
 use Rattle.tl_tile.specs.Fetching.{BeginsWithEdge, edge_tiles}
 use Rattle.tl_tile.specs.Verified.{AreVerified, ComesNext}
 use Rattle.tl_tile.specs.SourceFaults.{IsLast, IsBadTile}
@@ -135,9 +136,9 @@ there-more xs ys f t pushed is =
 
 -- a tile that was not fetched is a full one
 pub full_when_missing : (tiles : Tiles) (size level place : ℕ) → HasEdge tiles size → size ≤ 2 ^ 62 → level ≤ 7 → place < level_count size level → tiles (tile_with size level place) ≡ None
-    → IsMissing tiles size level place
+    → IsNotFetched tiles size level place
 full_when_missing tiles size level place edge small low less missing =
-    elim (cases_lt (place / 256) (level_count size level / 256)) as (λ _. IsMissing tiles size level place) [
+    elim (cases_lt (place / 256) (level_count size level / 256)) as (λ _. IsNotFetched tiles size level place) [
       | inr more ↦
           let here = edge level (omega (arith, low)) (omega (arith, more, less)) in
           let both : Some here.0 ≡ None = sym here.1.fetched ∙ ap tiles (sym (tile_with-partial size level place more)) ∙ missing in
@@ -146,7 +147,7 @@ full_when_missing tiles size level place edge small low less missing =
           let above : place / 256 < level_count size (level + 1) = omega (arith, full, level_count-above size level) in
           let within : (place / 256 + 1) * 256 ^ (level + 1) ≤ size = under_within size (level + 1) (place / 256) above in
           let is : tile_with size level place ≡ full_tile level (place / 256) = tile_with-full size level place full in
-          elim (cases_lt level 7) as (λ _. IsMissing tiles size level place) [
+          elim (cases_lt level 7) as (λ _. IsNotFetched tiles size level place) [
             | inl below ↦ record { low = below; above = above; full = is; none = ap tiles (sym is) ∙ missing }
             | inr top ↦
                 let eight : level + 1 ≡ 8 = omega (arith, top, low) in
@@ -167,7 +168,7 @@ pub there-true : (tiles : Tiles) (size level place : ℕ) (answer : Bool) → Is
 there-true tiles size level place true is holds = is
 there-true tiles size level place false is holds = absurd (cc)
 
-pub there-false : (tiles : Tiles) (size level place : ℕ) (answer : Bool) → IsThere tiles size level place answer → answer ≡ false → IsMissing tiles size level place
+pub there-false : (tiles : Tiles) (size level place : ℕ) (answer : Bool) → IsThere tiles size level place answer → answer ≡ false → IsNotFetched tiles size level place
 there-false tiles size level place true is holds = absurd (cc)
 there-false tiles size level place false is holds = is
 

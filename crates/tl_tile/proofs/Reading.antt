@@ -12,10 +12,10 @@ use Rattle.tl_tile.specs.declared.resource.Tile.{Tile}
 use Rattle.tl_tile.specs.declared.place.Place.{Place}
 use Rattle.tl_tile.specs.TileText.{level_count, tile_with}
 use Rattle.tl_tile.specs.Known.{Tiles, AreChecked, Tells, TilesCollide}
-use Rattle.tl_tile.specs.KnownEdge.{Part}
+use Rattle.tl_tile.specs.Inner.KnownEdge.{Part}
 use Rattle.tl_tile.specs.Fetched.{tiles_of}
 use Rattle.tl_tile.specs.Source.{AreLong}
-use Rattle.tl_tile.specs.Steps.{IsPlaceIn, TellsNumber, TellsAll}
+use Rattle.tl_tile.specs.Inner.Steps.{IsPlaceIn, TellsNumber, TellsAll}
 use Rattle.tl_tile.specs.TileReader.{Reading, AreAuthentic}
 use Rattle.tl_tile.specs.TileLaws.{AreHonest}
 use Rattle.tl_tile.proofs.HonestHashes.{honest_tiles_tell_stored_hashes}

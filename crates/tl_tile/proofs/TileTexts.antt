@@ -13,7 +13,8 @@ use Rattle.tl_store.proofs.Readable.{readable-is, is-readable}
 use Rattle.tl_store.proofs.StoredLemmas.{index_is_place}
 use Rattle.tl_tile.specs.declared.resource.Tile.{Tile}
 use Rattle.tl_tile.specs.TileText.{entries_under, tile_text}
-use Rattle.tl_tile.specs.ReadTile.{end_of, HasTile, tile_numbers, GivesTileFault}
+use Rattle.tl_tile.specs.ReadTile.{end_of, HasTile, GivesTileFault}
+use Rattle.tl_tile.specs.Inner.TileNumbers.{tile_numbers}
 
 pub scaled_le : (a b u : ℕ) → a ≤ b → a * u ≤ b * u
 scaled_le a b u less = mul-le a u b u less (omega arith)

@@ -1,5 +1,4 @@
 pub mod Path
-pub mod ReadPath
 pub mod Bundle
 pub mod ReadBundle
 pub mod Needed
@@ -15,6 +14,6 @@ pub mod Fetched
 pub mod Source
 pub mod Fetching
 pub mod Verified
-pub mod Steps
 pub mod SourceFaults
 pub mod TileReader
+pub mod Inner

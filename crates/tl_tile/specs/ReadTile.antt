@@ -1,7 +1,5 @@
 -- What reading a tile (C2SP tlog-tiles, "Merkle Tree") through a reader of stored hashes answers.
-use Rattle.std.specs.Prelude.{ℕ, ◌+◌, ◌*◌, ◌^◌, ◌≤◌, List, map}
-use Rattle.std.specs.List.{range_with_len}
-use Rattle.tl_store.specs.Stored.{stored_index}
+use Rattle.std.specs.Prelude.{ℕ, ◌+◌, ◌*◌, ◌^◌, ◌≤◌}
 use Rattle.tl_store.specs.declared.reader.ReadFault.{ReadFault}
 use Rattle.tl_store.specs.declared.reader.ReadFault.TheVariants.{OutOfRange, Source, OutOfMemory, BadTile}
 use Rattle.tl_tile.specs.declared.resource.Tile.{Tile}
@@ -13,10 +11,6 @@ end_of t = (t.index * 256 + t.width) * 256 ^ t.level
 -- a reader of this size has all hashes of the tile
 abbrev pub HasTile : ℕ → Tile → Type 0
 HasTile size t = (size ≤ 2 ^ 62) × (end_of t ≤ size)
-
--- the number of each hash of the tile among the stored hashes
-abbrev pub tile_numbers : Tile → List ℕ
-tile_numbers t = map (λ i. stored_index (8 * t.level) (t.index * 256 + i)) (range_with_len 0 t.width)
 
 -- when reading a tile through a reader of this size gives this fault; `may_fail` says which of `Source` and `BadTile`
 -- the reader may give. A tile has a hash, so that memory is asked for at each call

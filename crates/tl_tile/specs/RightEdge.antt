@@ -32,20 +32,13 @@ shown_filled H entries = map (shown H entries) (filled_tiles (length entries))
 
 -- ---- what a right edge keeps
 
--- the hash of a level at a place
-abbrev pub hash_at : (List ℕ → List ℕ) → List (List ℕ) → ℕ → ℕ → List ℕ
-hash_at H entries level place = tree_hash H (entries_under level place entries)
-
--- the hashes of a level's partial tile
-abbrev pub partial_hashes : (List ℕ → List ℕ) → List (List ℕ) → ℕ → List (List ℕ)
-partial_hashes H entries level =
-    let count : ℕ = level_count (length entries) level in
-    map (hash_at H entries level) (range_with_len (count / 256 * 256) (count % 256))
-
 -- the hashes of the partial tiles of the levels below this one, the highest level first
 unfoldable pub hashes_below : (List ℕ → List ℕ) → List (List ℕ) → ℕ → List (List ℕ)
 hashes_below H entries zero = []
-hashes_below H entries (suc level) = partial_hashes H entries level ++ hashes_below H entries level
+hashes_below H entries (suc level) =
+    let count : ℕ = level_count (length entries) level in
+    map (λ place. tree_hash H (entries_under level place entries)) (range_with_len (count / 256 * 256) (count % 256))
+    ++ hashes_below H entries level
 
 -- how many these are for so many entries
 unfoldable pub count_below : ℕ → ℕ → ℕ

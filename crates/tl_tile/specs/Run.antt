@@ -1,9 +1,8 @@
 -- Hashes of subtrees that stand side by side (RFC 6962, section 2.1), from the largest to the smallest.
-use Rattle.std.specs.Prelude.{◌≡◌, ℕ, ◌+◌, ◌-◌, ◌*◌, ◌%◌, ◌^◌, ◌<◌, ◌≤◌, List, length, take, drop, map, Option, Some, None}
+use Rattle.std.specs.Prelude.{◌≡◌, ℕ, ◌+◌, ◌-◌, ◌*◌, ◌<◌, ◌≤◌, List, length, take, drop, map}
 use Rattle.std.specs.Int.{IsPowerOfTwo}
 use Rattle.std.specs.List.{range_with_len}
 use Rattle.tl_hash.specs.Tree.{tree_hash}
-use Rattle.tl_tile.specs.TileText.{level_count}
 
 -- the entries from `start` up to `end`
 abbrev pub part : ℕ → ℕ → List (List ℕ) → List (List ℕ)
@@ -22,10 +21,3 @@ pub record IsRun (H : List ℕ → List ℕ) (entries : List (List ℕ)) (width 
   pub most : end ≤ (place + length hashes + 1) * width
   pub hashes_are : hashes ≡ map (place_hash H entries width) (range_with_len place (length hashes))
   pub last_is : last ≡ tree_hash H (part ((place + length hashes) * width) end entries)
-
--- the hash of the entries after the last hash of a level, where there are such entries
-abbrev pub IsRest : (List ℕ → List ℕ) → List (List ℕ) → ℕ → Option (List ℕ) → Type 0
-IsRest H entries level None = length entries % 256 ^ level ≡ 0
-IsRest H entries level (Some hash) =
-    (0 < length entries % 256 ^ level)
-    × (hash ≡ tree_hash H (part (level_count (length entries) level * 256 ^ level) (length entries) entries))

@@ -6,7 +6,7 @@ ghost use Rattle.tl_tile.specs.Fetched.{tiles_of, tiles_in};
 ghost use Rattle.tl_tile.specs.Source.{HasTileWith, IsHashWith, IsTileOf};
 ghost use Rattle.tl_tile.specs.Fetching.{IsOver, IsPartialOf, edge_tiles};
 ghost use Rattle.tl_tile.specs.Verified.{AreVerified, ComesNext};
-ghost use Rattle.tl_tile.specs.Steps.{AreFetched, AreEdgeFrom, AddsOnly, AddsOver, IsThere};
+ghost use Rattle.tl_tile.specs.Inner.Steps.{AreFetched, AreEdgeFrom, AddsOnly, AddsOver, IsThere};
 ghost use Rattle.tl_tile.specs.SourceFaults.{GivesReadFault};
 
 use crate::fetched::FetchedTiles;

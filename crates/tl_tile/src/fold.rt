@@ -3,8 +3,9 @@
 ghost use Rattle.std.specs.Prelude.{◌≡◌, ◌<◌, ◌+◌, ◌*◌, ℕ, List};
 ghost use Rattle.tl_hash.specs.Split.{IsSplit};
 ghost use Rattle.tl_hash.specs.Tree.{tree_hash};
-ghost use Rattle.tl_tile.specs.Run.{part, IsRun, IsRest};
-ghost use Rattle.tl_tile.specs.RightEdge.{partial_hashes};
+ghost use Rattle.tl_tile.specs.Run.{part, IsRun};
+ghost use Rattle.tl_tile.specs.Inner.Rest.{IsRest};
+ghost use Rattle.tl_tile.specs.Inner.PartialHashes.{partial_hashes};
 
 use tl_hash::{Hash, TreeHash, node_hash};
 

@@ -3,7 +3,8 @@
 ghost use Rattle.std.specs.Prelude.{◌≡◌, ◌+◌, ◌*◌, ◌<◌, ◌≤◌, ◌^◌, ℕ, List, length, IfOk, MatchOption};
 ghost use Rattle.tl_tile.specs.TileText as spec;
 ghost use Rattle.tl_tile.specs.Known.{KnownRoot};
-ghost use Rattle.tl_tile.specs.KnownEdge.{HasEdge, Joined, KnownBelow};
+ghost use Rattle.tl_tile.specs.KnownEdge.{HasEdge};
+ghost use Rattle.tl_tile.specs.Inner.KnownEdge.{Joined, KnownBelow};
 ghost use Rattle.tl_tile.specs.Fetched.{tiles_of};
 
 use crate::fetched::FetchedTiles;

@@ -2,7 +2,7 @@
 
 ghost use Rattle.std.specs.Prelude.{◌≡◌, ◌≢◌, ◌+◌, ◌*◌, ◌/◌, ◌^◌, ◌<◌, ◌≤◌, ◌++◌, List, ℕ, MatchOption, Some, IfSome, IfNone, IfOk, OnOk, string_bytes};
 ghost use Rattle.tl_tile.specs.Path.{IsResource, path_text, three_digits, marked_group, index_text, width_text, place_text};
-ghost use Rattle.tl_tile.specs.ReadPath.{Strips, leading_number, leading_groups, IsWidth, HasNoWidth, IsPlace, HasNoPlace, IsTilePath, HasNoTile};
+ghost use Rattle.tl_tile.specs.Inner.ReadPath.{Strips, leading_number, leading_groups, IsWidth, HasNoWidth, IsPlace, HasNoPlace, IsTilePath, HasNoTile};
 ghost use Rattle.tl_tile.specs.declared.resource.Resource.{Resource};
 
 use crate::resource::{Resource, Tile};

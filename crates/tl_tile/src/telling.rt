@@ -7,7 +7,7 @@ ghost use Rattle.tl_tile.specs.Fetched.{tiles_of};
 ghost use Rattle.tl_tile.specs.Source.{HasTileWith};
 ghost use Rattle.tl_tile.specs.Fetching.{IsOver, IsNeededFor};
 ghost use Rattle.tl_tile.specs.Verified.{AreVerified};
-ghost use Rattle.tl_tile.specs.Steps.{AreFetched, AddsOver, IsPlaceIn};
+ghost use Rattle.tl_tile.specs.Inner.Steps.{AreFetched, AddsOver, IsPlaceIn};
 ghost use Rattle.tl_tile.specs.SourceFaults.{GivesReadFault};
 ghost use Rattle.tl_tile.specs.TileReader.{AreAuthentic};
 

@@ -4,7 +4,8 @@ ghost use Rattle.std.specs.Prelude.{◌≡◌, ◌≤◌, ◌^◌, ℕ, List, If
 ghost use Rattle.std.specs.List.{flat_map};
 ghost use Rattle.tl_tile.specs.TileText.{tile_text};
 ghost use Rattle.tl_tile.specs.Path.{IsTile};
-ghost use Rattle.tl_tile.specs.ReadTile.{end_of, HasTile, tile_numbers, GivesTileFault};
+ghost use Rattle.tl_tile.specs.ReadTile.{end_of, HasTile, GivesTileFault};
+ghost use Rattle.tl_tile.specs.Inner.TileNumbers.{tile_numbers};
 ghost use Rattle.tl_store.specs.declared.reader.ReadFault.TheVariants.{OutOfMemory};
 
 use crate::resource::Tile;

@@ -8,8 +8,8 @@ use Rattle.tl_witness.specs.declared.finding.Found.{Found}
 use Rattle.tl_witness.specs.Answers.{AsksForMemory}
 use Rattle.tl_witness.specs.Book.{BookOutcome, DecidesBody, IsPlaceOf, Place, RefusesAll}
 use Rattle.tl_witness.specs.Decide.{Asked, Outcome, Decides}
-use Rattle.tl_witness.specs.Finding.{IsFound, IsMalformed, IsOfOther}
-use Rattle.tl_witness.specs.Offer.{asked_by}
+use Rattle.tl_witness.specs.Inner.Finding.{IsFound, IsMalformed, IsOfOther}
+use Rattle.tl_witness.specs.Inner.Offer.{asked_by}
 use Rattle.tl_witness.specs.Witnessed.{Witnessed}
 
 pub malformed : (H : List ℕ → List ℕ) (body : List ℕ) (time : ℕ) (out : BookOutcome) → IsMalformed body → RefusesAll out 400 → DecidesBody H body time out

@@ -5,7 +5,8 @@ use Rattle.std.proofs.lemmas.Str.Pattern.{IsSplitOnceResult, split_after}
 use Rattle.tl_hash.specs.Bytes.{IsHash}
 use Rattle.tl_note.specs.Text.{number_text, base64_text, IsSize}
 use Rattle.tl_checkpoint.specs.Pieces.{IsNoSize, IsNoHash}
-use Rattle.tl_witness.specs.ChainFields.{IsWithout, field, HasNoNumber, HasNoHash}
+use Rattle.tl_witness.specs.ChainFields.{IsWithout, field}
+use Rattle.tl_witness.specs.Inner.ChainFields.{HasNoNumber, HasNoHash}
 use Rattle.tl_witness.proofs.FieldTexts.{without_space, number_visible, base64_visible}
 
 -- what stands round the first space of a text that begins with a field

@@ -6,8 +6,8 @@ use Rattle.tl_witness.specs.declared.finding.Found.{Found}
 use Rattle.tl_witness.specs.Book.{Signed, IsSigned, asked_of}
 use Rattle.tl_witness.specs.ChainLine.{IsChainLine}
 use Rattle.tl_witness.specs.Decide.{Asked}
-use Rattle.tl_witness.specs.Finding.{IsFound}
-use Rattle.tl_witness.specs.Offer.{asked_by}
+use Rattle.tl_witness.specs.Inner.Finding.{IsFound}
+use Rattle.tl_witness.specs.Inner.Offer.{asked_by}
 use Rattle.tl_witness.specs.Request.{Body, IsRequest}
 use Rattle.tl_witness.proofs.LineOf.{line_of}
 

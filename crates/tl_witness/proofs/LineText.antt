@@ -12,7 +12,8 @@ use Rattle.base64.proofs.EngineFacts.{IsAscii-encode_of}
 use Rattle.tl_hash.specs.Bytes.{IsHash}
 use Rattle.tl_note.specs.Text.{number_text, base64_text}
 use Rattle.tl_witness.specs.ChainLine.{ChainLine, IsChainLine, chain_line, spaced_hashes}
-use Rattle.tl_witness.specs.ChainFields.{IsWithout, HasNoLine, IsNoChainLine, chain_words, field, hashes_before}
+use Rattle.tl_witness.specs.ChainFields.{IsWithout, HasNoLine, chain_words, field, hashes_before}
+use Rattle.tl_witness.specs.Inner.ChainFields.{IsNoChainLine}
 use Rattle.tl_witness.proofs.FieldTexts.{number_visible, base64_visible, without_newline, one_end}
 
 -- hashes before their spaces, and behind them

@@ -8,7 +8,8 @@ use Rattle.tl_checkpoint.specs.Checkpoint.{IsOneLine}
 use Rattle.tl_witness.specs.declared.chain_fields.Fields.{Fields}
 use Rattle.tl_witness.specs.ReadChain.{ShowsFields}
 use Rattle.tl_witness.specs.ChainLine.{ChainLine, IsChainLine}
-use Rattle.tl_witness.specs.ChainFields.{field, hashes_before, chain_words, HasHashes, HasNoNumber, HasNoHash, HasNoHashes, IsNoChainLine}
+use Rattle.tl_witness.specs.ChainFields.{field, hashes_before, chain_words}
+use Rattle.tl_witness.specs.Inner.ChainFields.{HasHashes, HasNoNumber, HasNoHash, HasNoHashes, IsNoChainLine}
 use Rattle.tl_witness.proofs.FieldTexts.{one_end}
 use Rattle.tl_witness.proofs.FieldLaws.{number_without, hash_without}
 use Rattle.tl_witness.proofs.HashFields.{hashes_once}

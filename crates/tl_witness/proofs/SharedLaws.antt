@@ -9,8 +9,8 @@ use Rattle.tl_witness.specs.Book.{IsPlaceOf, Place}
 use Rattle.tl_witness.specs.Chain.{IsChain, IsLinked, first_head}
 use Rattle.tl_witness.specs.Decide.{Asked, Outcome, Decides}
 use Rattle.tl_witness.specs.declared.finding.Found.{Found}
-use Rattle.tl_witness.specs.Finding.{IsFound, IsMalformed, IsOfOther}
-use Rattle.tl_witness.specs.Offer.{asked_by}
+use Rattle.tl_witness.specs.Inner.Finding.{IsFound, IsMalformed, IsOfOther}
+use Rattle.tl_witness.specs.Inner.Offer.{asked_by}
 use Rattle.tl_witness.specs.Runs.{IsLater, IsLaterBook, IsLaterChain}
 use Rattle.tl_witness.specs.Shared.{Answer, DecidesLater, DecidesShared, RefusesAnswer}
 use Rattle.tl_witness.specs.Witnessed.{Witnessed}

@@ -4,7 +4,7 @@ use Rattle.std.specs.Prelude.{Err}
 use Rattle.tl_witness.specs.declared.request.RequestFault.{RequestFault}
 use Rattle.tl_witness.specs.declared.request.RequestFault.TheVariants.{Malformed, OutOfMemory}
 use Rattle.tl_witness.specs.Book.{Signed, IsSigned}
-use Rattle.tl_witness.specs.ReadRequest.{ReadsSigned}
+use Rattle.tl_witness.specs.Inner.ReadSigned.{ReadsSigned}
 
 -- where memory is the only other reason, the bytes are none
 pub signed_fault : (A : Type 0) (bytes : List ℕ) (IsMemory : Type 0) (fault : RequestFault)

@@ -1,5 +1,5 @@
 -- The places of origins in a list.
-use Rattle.std.specs.Prelude.{◌≡◌, ◌≢◌, ℕ, List, Option, Some, MatchOption, bytes_eq, slice_get, if◌then◌else◌}
+use Rattle.std.specs.Prelude.{◌≡◌, ◌≢◌, ℕ, List, Option, Some, MatchOption, slice_get}
 use Rattle.std.specs.BTreeMap.{get_by_text}
 use Rattle.tl_witness.specs.declared.by_origin.ByOrigin.{ByOrigin}
 
@@ -14,7 +14,3 @@ index_of found origin = get_by_text found.places origin
 -- the index gives a place of each origin that is in the list, and none of any other
 abbrev pub Indexes : Index → List (List ℕ) → Type 0
 Indexes index origins = (origin : List ℕ) → MatchOption (index origin) ((place : ℕ) → slice_get origins place ≢ Some origin) (λ place. slice_get origins place ≡ Some origin)
-
--- this origin gets this place, and all others keep theirs
-abbrev pub PutsOrigin : List ℕ → ℕ → Index → Index → Type 0
-PutsOrigin origin place old new = (other : List ℕ) → new other ≡ (if bytes_eq origin other then Some place else old other)

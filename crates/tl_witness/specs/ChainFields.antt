@@ -1,9 +1,9 @@
 -- The fields of a chain line, and the change that a link makes.
 use Rattle.std.specs.Prelude.{◌≡◌, ◌≢◌, ℕ, ◌⊎◌, List, [], ◌∷◌, ◌++◌, length, All, IsUtf8, Some, slice_get, slice_set}
 use Rattle.tl_hash.specs.Bytes.{IsHash}
-use Rattle.tl_note.specs.Text.{number_text, base64_text, IsSize}
+use Rattle.tl_note.specs.Text.{number_text, base64_text}
 use Rattle.tl_proof.specs.Collisions.{Step}
-use Rattle.tl_witness.specs.ChainLine.{ChainLine, IsChainLine}
+use Rattle.tl_witness.specs.ChainLine.{ChainLine}
 use Rattle.tl_witness.specs.Open.{SavedChain, chain_origins}
 
 -- no byte of the text is this one
@@ -28,28 +28,11 @@ chain_words l =
 abbrev pub HasNoLine : List ℕ → Type 0
 HasNoLine bytes = (words rest : List ℕ) → IsWithout 10 words → IsUtf8 words → bytes ≢ words ++ 10 ∷ rest
 
-abbrev pub HasNoNumber : List ℕ → Type 0
-HasNoNumber text = (n : ℕ) (rest : List ℕ) → IsSize n → text ≢ field (number_text n) rest
-
-abbrev pub HasNoHash : List ℕ → Type 0
-HasNoHash text = (hash rest : List ℕ) → IsHash hash → text ≢ field (base64_text hash) rest
-
-abbrev pub HasNoHashes : ℕ → List ℕ → Type 0
-HasNoHashes count text = (hashes : List (List ℕ)) (rest : List ℕ) → All IsHash hashes → length hashes ≡ count → text ≢ hashes_before hashes rest
-
 -- the text is these hashes, so many, each a field, and what follows
 pub record AreHashes (count : ℕ) (text : List ℕ) (hashes : List (List ℕ)) (rest : List ℕ) : Type 0 where
   pub each : All IsHash hashes
   pub number : length hashes ≡ count
   pub whole : text ≡ hashes_before hashes rest
-
--- the text begins with so many hashes, each a field
-abbrev pub HasHashes : ℕ → List ℕ → List ℕ → Type 0
-HasHashes count text rest = (hashes : List (List ℕ)) × AreHashes count text hashes rest
-
--- no line of a link has these words
-abbrev pub IsNoChainLine : List ℕ → Type 0
-IsNoChainLine words = (l : ChainLine) → IsChainLine l → words ≢ chain_words l
 
 -- the step is put behind those of its origin, or begins a new chain
 abbrev pub PutsStep : List ℕ → Step → List SavedChain → List SavedChain → Type 0

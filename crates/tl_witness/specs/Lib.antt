@@ -9,8 +9,6 @@ pub mod Decide
 pub mod Book
 pub mod ReadRequest
 pub mod Answers
-pub mod Offer
-pub mod Finding
 pub mod Runs
 pub mod Cosigned
 pub mod Shared
@@ -21,3 +19,4 @@ pub mod ChainFields
 pub mod ByOrigin
 pub mod ReadChain
 pub mod OneReading
+pub mod Inner

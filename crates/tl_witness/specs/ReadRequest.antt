@@ -1,14 +1,11 @@
 -- What reading a request answers (C2SP tlog-witness, "add-checkpoint").
-use Rattle.std.specs.Prelude.{◌≡◌, ◌≢◌, ℕ, ◌<◌, ◌≤◌, List, ◌∷◌, ◌++◌, length, All, IsUtf8, Result, Ok, Err, ⊤}
+use Rattle.std.specs.Prelude.{◌≡◌, ◌≢◌, ℕ, ◌<◌, ◌≤◌, List, ◌∷◌, ◌++◌, length, All, IsUtf8, Result, Ok, Err}
 use Rattle.tl_hash.specs.Bytes.{IsHash}
 use Rattle.tl_note.specs.Text.{line, base64_text}
-use Rattle.tl_checkpoint.specs.Checkpoint.{head_of}
 use Rattle.tl_witness.specs.declared.request.AddRequest.{AddRequest}
 use Rattle.tl_witness.specs.declared.request.RequestFault.{RequestFault}
 use Rattle.tl_witness.specs.declared.request.RequestFault.TheVariants.{Malformed, OutOfMemory}
-use Rattle.tl_witness.specs.declared.signed.SignedCheckpoint.{SignedCheckpoint}
 use Rattle.tl_witness.specs.Request.{Body, IsRequest, hash_lines}
-use Rattle.tl_witness.specs.Book.{Signed, IsSigned}
 
 -- what a request asks, whatever memory it is in
 abbrev pub body_of : {A : Type 0} → AddRequest A → Body
@@ -38,13 +35,3 @@ HasNoProof text = (proof : List (List ℕ)) (note : List ℕ) → ¬ (IsProofTex
 -- the text doesn't begin with the line of a hash
 abbrev pub HasNoHashLine : List ℕ → Type 0
 HasNoHashLine text = (hash rest : List ℕ) → IsHash hash → text ≢ line (base64_text hash) ++ rest
-
--- what a signed checkpoint says
-abbrev pub signed_of : {A : Type 0} → SignedCheckpoint A → Signed
-signed_of signed = record { text = signed.note.text.now; lines = signed.note.signatures.items; head = head_of signed.checkpoint }
-
--- the note and checkpoint that the bytes are, or that they are none
-abbrev pub ReadsSigned : {A : Type 0} → List ℕ → Result (SignedCheckpoint A) RequestFault → Type 0
-ReadsSigned bytes (Ok signed) = IsSigned bytes (signed_of signed)
-ReadsSigned bytes (Err Malformed) = (signed : Signed) → ¬ (IsSigned bytes signed)
-ReadsSigned bytes (Err OutOfMemory) = ⊤

@@ -35,7 +35,7 @@ pub(crate) trait ShownEntry {
 
 impl<T: TreeHash, A: Allocator> ShownEntry for Entry<T, A> {
     ghost use Rattle.std.specs.Prelude.{map, string_bytes};
-    ghost use Rattle.tl_witness.specs.Witnessed.{named_key};
+    ghost use Rattle.tl_witness.specs.Inner.NamedKey.{named_key};
 
     ghost shown_entry = { λ e. record {
       origin = string_bytes e.origin.name;
@@ -77,7 +77,7 @@ pub trait Shown {
 
 impl<T: TreeHash, A: Allocator + Copy> Shown for Book<T, A> {
     ghost use Rattle.std.specs.Prelude.{map, string_bytes};
-    ghost use Rattle.tl_witness.specs.Witnessed.{named_key};
+    ghost use Rattle.tl_witness.specs.Inner.NamedKey.{named_key};
 
     ghost shown = { λ b. map (λ e. record {
       origin = string_bytes e.origin.name;

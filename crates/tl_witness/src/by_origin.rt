@@ -1,7 +1,8 @@
 //! Finds the place of an origin in a list, in time that grows with the logarithm of the list's length.
 
 ghost use Rattle.std.specs.Prelude.{◌≡◌, ℕ, List, None, OnErr, OnOk};
-ghost use Rattle.tl_witness.specs.ByOrigin.{PutsOrigin, index_of};
+ghost use Rattle.tl_witness.specs.ByOrigin.{index_of};
+ghost use Rattle.tl_witness.specs.Inner.PutsOrigin.{PutsOrigin};
 
 use std::alloc::{AllocError, Allocator};
 use std::collections::BTreeMap;

@@ -3,7 +3,8 @@
 ghost use Rattle.std.specs.Prelude.{◌≡◌, ℕ, IfOk, IsUtf8, List, MatchOption};
 ghost use Rattle.tl_hash.specs.Bytes.{IsHash};
 ghost use Rattle.tl_note.specs.Text.{IsSize, base64_text, number_text};
-ghost use Rattle.tl_witness.specs.ChainFields.{AreHashes, HasHashes, HasNoHash, HasNoHashes, HasNoNumber, IsNoChainLine, field};
+ghost use Rattle.tl_witness.specs.ChainFields.{AreHashes, field};
+ghost use Rattle.tl_witness.specs.Inner.ChainFields.{HasHashes, HasNoHash, HasNoHashes, HasNoNumber, IsNoChainLine};
 ghost use Rattle.tl_witness.specs.ReadChain.{ShowsFields};
 
 use crate::request::MOST_HASHES;

@@ -3,9 +3,10 @@
 
 ghost use Rattle.std.specs.Prelude.{◌≡◌, ℕ, map};
 ghost use Rattle.tl_witness.specs.Book.{asked_of};
-ghost use Rattle.tl_witness.specs.Finding.{FindsOrigin};
-ghost use Rattle.tl_witness.specs.Offer.{asked_by};
-ghost use Rattle.tl_witness.specs.ReadRequest.{body_of, signed_of};
+ghost use Rattle.tl_witness.specs.Inner.Finding.{FindsOrigin};
+ghost use Rattle.tl_witness.specs.Inner.Offer.{asked_by};
+ghost use Rattle.tl_witness.specs.ReadRequest.{body_of};
+ghost use Rattle.tl_witness.specs.Inner.ReadSigned.{signed_of};
 
 use crate::by_origin::ByOrigin;
 use crate::index::place_by;

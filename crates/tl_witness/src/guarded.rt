@@ -4,7 +4,7 @@ ghost use Rattle.std.specs.Prelude.{◌≡◌, ℕ, IfOk, List, OnErr, drop, map
 ghost use Rattle.tl_proof.specs.Collisions.{Step, step_of};
 ghost use Rattle.tl_witness.specs.Chain.{first_head, last_head};
 ghost use Rattle.tl_witness.specs.ChainLine.{IsChainLine};
-ghost use Rattle.tl_witness.specs.Offer.{asked_by};
+ghost use Rattle.tl_witness.specs.Inner.Offer.{asked_by};
 ghost use Rattle.tl_witness.specs.Runs.{IsLater, IsLaterChain};
 ghost use Rattle.tl_witness.specs.Shared.{DecidesLater};
 
@@ -51,7 +51,7 @@ pub(crate) trait ShownGuarded {
 
 impl<T: TreeHash, A: Allocator> ShownGuarded for Guarded<T, A> {
     ghost use Rattle.std.specs.Prelude.{map, string_bytes};
-    ghost use Rattle.tl_witness.specs.Witnessed.{named_key};
+    ghost use Rattle.tl_witness.specs.Inner.NamedKey.{named_key};
 
     ghost shown_guarded = { λ e. record {
       origin = string_bytes e.origin.name;

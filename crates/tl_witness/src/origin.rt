@@ -6,7 +6,7 @@ ghost use Rattle.tl_proof.specs.Collisions.{step_of};
 ghost use Rattle.tl_witness.specs.Chain.{Follows, first_head, last_head};
 ghost use Rattle.tl_witness.specs.ChainLine.{IsChainLine};
 ghost use Rattle.tl_witness.specs.Decide.{Decides, DecidesFrom, Settles};
-ghost use Rattle.tl_witness.specs.Offer.{asked_by};
+ghost use Rattle.tl_witness.specs.Inner.Offer.{asked_by};
 
 use crate::chain::{Chain, KeepFault};
 use crate::cosign::{KeyName, cosign};
@@ -39,7 +39,7 @@ pub(crate) trait ShownOrigin {
 
 impl<A: Allocator> ShownOrigin for Origin<A> {
     ghost use Rattle.std.specs.Prelude.{map, string_bytes};
-    ghost use Rattle.tl_witness.specs.Witnessed.{named_key};
+    ghost use Rattle.tl_witness.specs.Inner.NamedKey.{named_key};
 
     ghost shown_with = { λ o chain. record {
       origin = string_bytes o.name;

@@ -33,7 +33,7 @@ pub struct SharedWitness<T: TreeHash, A: Allocator + Copy> {
 
 impl<T: TreeHash, A: Allocator + Copy> Shown for SharedWitness<T, A> {
     ghost use Rattle.std.specs.Prelude.{map, string_bytes};
-    ghost use Rattle.tl_witness.specs.Witnessed.{named_key};
+    ghost use Rattle.tl_witness.specs.Inner.NamedKey.{named_key};
 
     ghost shown = { λ w. map (λ e. record {
       origin = string_bytes e.origin.name;

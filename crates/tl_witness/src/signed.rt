@@ -1,7 +1,7 @@
 //! The signed checkpoint of a request, read.
 
 ghost use Rattle.std.specs.Prelude.{◌≡◌, ◌↔◌};
-ghost use Rattle.tl_witness.specs.ReadRequest.{ReadsSigned};
+ghost use Rattle.tl_witness.specs.Inner.ReadSigned.{ReadsSigned};
 
 use crate::request::RequestFault;
 use std::alloc::Allocator;

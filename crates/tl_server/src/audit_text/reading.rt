@@ -3,7 +3,8 @@
 ghost use Rattle.std.specs.Prelude.{◌≡◌, ◌≢◌, ◌<◌, ◌++◌, List, ℕ, length, map, vec_items, IfOk, OnErr, IfSome, MatchOption};
 ghost use Rattle.tl_hash.specs.Bytes.{IsHash};
 ghost use Rattle.tl_note.specs.Text.{IsSize};
-ghost use Rattle.tl_server.specs.AuditText.{Audit, IsAudit, audit_lines, audit_shown, counted_lines, IsRead};
+ghost use Rattle.tl_server.specs.AuditText.{Audit, IsAudit, audit_lines, counted_lines};
+ghost use Rattle.tl_server.specs.Inner.Shown.{audit_shown, IsRead};
 
 use super::AuditParts;
 use crate::lines::{hashes_of, number_after};

@@ -3,8 +3,9 @@
 ghost use Rattle.std.specs.Prelude.{◌≡◌, ◌++◌, codes, IfOk};
 ghost use Rattle.hex.specs.Hex.{encode_lower};
 ghost use Rattle.tl_note.specs.Text.{line};
-ghost use Rattle.tl_server.specs.AuditText.{audit_shown};
-ghost use Rattle.tl_server.specs.AuditCommand.{AnswersAudit, AnswersAuditText, AuditComes};
+ghost use Rattle.tl_server.specs.Inner.Shown.{audit_shown};
+ghost use Rattle.tl_server.specs.AuditCommand.{AuditComes};
+ghost use Rattle.tl_server.specs.Inner.Answers.{AnswersAudit, AnswersAuditText};
 ghost use Rattle.tl_server.specs.Device.{passage};
 ghost use Rattle.tl_server.specs.Run.{Runs};
 

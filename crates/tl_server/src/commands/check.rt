@@ -3,8 +3,10 @@
 ghost use Rattle.std.specs.Prelude.{◌≡◌, ◌≢◌, ◌<◌, ◌↔◌, List, ℕ, length, map, vec_items, IsTrue, IfOk, IfErr, OnErr, MatchOption};
 ghost use Rattle.sha2.specs.Sha256.{sha256};
 ghost use Rattle.tl_server.specs.Device.{passage};
-ghost use Rattle.tl_server.specs.ProofText.{Proof, Included, Consistent, IsProof, Accepts, consistency_shown, inclusion_shown, proof_lines};
-ghost use Rattle.tl_server.specs.ProofCommands.{AnswersText, CheckComes, IsAnswerOf};
+ghost use Rattle.tl_server.specs.ProofText.{Proof, Included, Consistent, IsProof, Accepts, proof_lines};
+ghost use Rattle.tl_server.specs.Inner.Shown.{consistency_shown, inclusion_shown};
+ghost use Rattle.tl_server.specs.ProofCommands.{CheckComes};
+ghost use Rattle.tl_server.specs.Inner.Answers.{AnswersText, IsAnswerOf};
 ghost use Rattle.tl_server.specs.Run.{Runs};
 
 use crate::device::Counted;

@@ -2,7 +2,8 @@
 
 ghost use Rattle.std.specs.Prelude.{◌≡◌, ◌<◌, ◌≤◌, ◌^◌, length, map, vec_items, IfOk, IfErr};
 ghost use Rattle.tl_server.specs.Device.{passage};
-ghost use Rattle.tl_server.specs.ProofText.{consistency_shown, consistency_text};
+ghost use Rattle.tl_server.specs.ProofText.{consistency_text};
+ghost use Rattle.tl_server.specs.Inner.Shown.{consistency_shown};
 ghost use Rattle.tl_server.specs.ProofCommands.{consistency_of, ConsistencyComes};
 ghost use Rattle.tl_server.specs.Run.{Runs};
 

@@ -2,7 +2,8 @@
 
 ghost use Rattle.std.specs.Prelude.{◌≡◌, ◌<◌, ◌^◌, length, map, vec_items, IfOk, IfErr};
 ghost use Rattle.tl_server.specs.Device.{passage};
-ghost use Rattle.tl_server.specs.ProofText.{inclusion_shown, inclusion_text};
+ghost use Rattle.tl_server.specs.ProofText.{inclusion_text};
+ghost use Rattle.tl_server.specs.Inner.Shown.{inclusion_shown};
 ghost use Rattle.tl_server.specs.ProofCommands.{inclusion_of, InclusionComes};
 ghost use Rattle.tl_server.specs.Run.{Runs};
 

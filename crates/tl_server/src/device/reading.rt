@@ -3,7 +3,7 @@
 ghost use Rattle.std.specs.Prelude.{◌≡◌, ◌<◌, ◌≤◌, true, length, take, IfSome, IfNone, OnSome};
 ghost use Rattle.std.specs.Io.KnownBytes.{Consumes, IsAtEnd};
 ghost use Rattle.tl_server.specs.Device.{passage};
-ghost use Rattle.tl_server.specs.Run.{ReadsWhole};
+ghost use Rattle.tl_server.specs.Inner.Whole.{ReadsWhole};
 
 use super::Counted;
 use crate::fault::RunFault;

@@ -2,7 +2,7 @@
 
 ghost use Rattle.std.specs.Prelude.{◌≡◌};
 ghost use Rattle.tl_server.specs.Device.{passage};
-ghost use Rattle.tl_server.specs.Growing.{ReadsEdge};
+ghost use Rattle.tl_server.specs.Inner.Growing.{ReadsEdge};
 
 use super::Growing;
 use crate::device::Counted;

@@ -1,7 +1,7 @@
 //! More of an input: a part of a line, the end of a line, a piece of any bytes.
 
 ghost use Rattle.std.specs.Prelude.{◌≡◌, ◌<◌, ◌≤◌, ◌+◌, ◌-◌, ◌^◌, ◌∷◌, [], ◌++◌, ℕ, List, length, take, vec_items, None, OnOk};
-ghost use Rattle.tl_server.specs.Growing.{IsGrowing, IsOutcome, IsTold};
+ghost use Rattle.tl_server.specs.Inner.Growing.{IsGrowing, IsOutcome, IsTold};
 ghost use Rattle.tl_server.specs.Lines.{entries_of, HasNoNewline};
 
 use super::Growing;

@@ -1,7 +1,8 @@
 //! Reads the texts of proofs.
 
 ghost use Rattle.std.specs.Prelude.{◌≡◌, ◌≢◌, ◌<◌, length, map, vec_items, IfOk, OnErr, MatchOption};
-ghost use Rattle.tl_server.specs.ProofText.{Inclusion, IsInclusion, inclusion_lines, inclusion_shown, Consistency, IsConsistency, consistency_lines, consistency_shown};
+ghost use Rattle.tl_server.specs.ProofText.{Inclusion, IsInclusion, inclusion_lines, Consistency, IsConsistency, consistency_lines};
+ghost use Rattle.tl_server.specs.Inner.Shown.{inclusion_shown, consistency_shown};
 
 use super::{ConsistencyProof, InclusionProof};
 use crate::lines::{hash_after, hashes_of, number_after};

@@ -4,7 +4,8 @@ ghost use Rattle.std.specs.Prelude.{◌≡◌, ◌++◌, map, IfOk, OnOk};
 ghost use Rattle.std.specs.List.{flat_map};
 ghost use Rattle.tl_note.specs.Text.{line, number_text, base64_text};
 ghost use Rattle.tl_server.specs.Lines.{lines_text};
-ghost use Rattle.tl_server.specs.ProofText.{inclusion_shown, inclusion_text, consistency_shown, consistency_text};
+ghost use Rattle.tl_server.specs.ProofText.{inclusion_text, consistency_text};
+ghost use Rattle.tl_server.specs.Inner.Shown.{inclusion_shown, consistency_shown};
 
 use super::{ConsistencyProof, InclusionProof};
 use base64::engine::general_purpose::STANDARD;

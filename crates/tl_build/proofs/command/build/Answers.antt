@@ -1,5 +1,5 @@
 use Rattle.tl_build.specs.Mirror.{mirrored}
-use Rattle.tl_build.specs.Steps.{IsServed}
+use Rattle.tl_build.specs.Inner.Steps.{IsServed}
 use Rattle.std.proofs.Common.{◌<◌, ◌⊎◌, inl, inr, rules, ap, arith, length, subst, sym, map, vec_items, ◌∙◌}
 use Rattle.std.proofs.lemmas.List.{length-map}
 use Rattle.tl_server.specs.Lines.{first_too_long}

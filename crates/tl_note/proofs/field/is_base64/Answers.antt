@@ -1,6 +1,6 @@
 use Rattle.std.proofs.Common.{◌≡◌, ◌<◌, List, ℕ, length, take, subst, sym, arith}
 use Rattle.std.specs.Prelude.{◌≢◌}
-use Rattle.tl_note.specs.Field.{IsSpelled}
+use Rattle.tl_note.specs.Inner.Field.{IsSpelled}
 use Rattle.tl_note.proofs.Base64Lemmas.{ReadsOn, no_block, short_block, last_block, reads_block, is_refused}
 use Rattle.tl_note.proofs.field.is_base64.Goals as goal
 

@@ -1,5 +1,5 @@
 use Rattle.std.proofs.Common.{take, map, string_bytes}
-use Rattle.tl_note.specs.SignNote.{AddsLines}
+use Rattle.tl_note.specs.Inner.Signing.{AddsLines}
 use Rattle.tl_note.proofs.sign.push_lines.Given as goal
 
 -- the lines of the signers before this place are added

@@ -2,7 +2,8 @@ use Rattle.std.proofs.Common.{◌≡◌, ◌<◌, ◌≤◌, ◌++◌, ◌∷◌
 use Rattle.std.proofs.lemmas.Bool.Decides.{nat_tests}
 use Rattle.std.proofs.lemmas.List.{length-map}
 use Rattle.tl_note.specs.Key.{SigningKey}
-use Rattle.tl_note.specs.SignNote.{CanSign, AddsLines}
+use Rattle.tl_note.specs.SignNote.{CanSign}
+use Rattle.tl_note.specs.Inner.Signing.{AddsLines}
 use Rattle.tl_note.proofs.SignLemmas.{note_of}
 use Rattle.tl_note.proofs.sign.sign_note.Goals as goal
 

@@ -1,5 +1,5 @@
 use Rattle.std.proofs.Common.{refl}
-use Rattle.tl_proof.specs.Segments.{IsPathPlan}
+use Rattle.tl_proof.specs.Inner.Segments.{IsPathPlan}
 use Rattle.tl_proof.proofs.Plans.{appends-none, path-one, pushed_path-left, pushed_path-right}
 use Rattle.tl_proof.proofs.plan.+push_path.Goals as goal
 

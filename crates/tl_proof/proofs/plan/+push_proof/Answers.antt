@@ -1,5 +1,5 @@
 use Rattle.std.proofs.Common.{arith, [], Bool, refl, sym, subst}
-use Rattle.tl_proof.specs.Segments.{IsProofPlan}
+use Rattle.tl_proof.specs.Inner.Segments.{IsProofPlan}
 use Rattle.tl_proof.proofs.Plans.{appends-none, appends-one, proof-known, proof-whole_at, pushed_proof-left, pushed_proof-right}
 use Rattle.tl_proof.proofs.plan.+push_proof.Goals as goal
 

@@ -1,5 +1,5 @@
 use Rattle.std.proofs.Common.{subst, true, List}
-use Rattle.tl_proof.specs.Segments.{Appends, IsProofPlan}
+use Rattle.tl_proof.specs.Inner.Segments.{GrowsBy, IsProofPlan}
 use Rattle.tl_proof.specs.declared.segment.Segment.{Segment}
 use Rattle.tl_proof.proofs.Plans.{appended-all}
 use Rattle.tl_proof.proofs.plan.proof_segments.Goals as goal
@@ -7,4 +7,4 @@ use Rattle.tl_proof.proofs.plan.proof_segments.Goals as goal
 pub returns : goal.returns
 returns g c =
     appended-all (IsProofPlan c.args.old 0 c.args.size true) c.push_proof.new.segments.items
-    (subst (λ (list : List Segment). Appends (IsProofPlan c.args.old 0 c.args.size true) list c.push_proof.new.segments.items) c.new-segments.ensures.items c.in_ok-push_proof.ensures)
+    (subst (λ (list : List Segment). GrowsBy (IsProofPlan c.args.old 0 c.args.size true) list c.push_proof.new.segments.items) c.new-segments.ensures.items c.in_ok-push_proof.ensures)

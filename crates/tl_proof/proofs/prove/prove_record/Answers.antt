@@ -3,7 +3,7 @@ use Rattle.std.proofs.lemmas.Result.{err_from_is_err_and}
 use Rattle.tl_store.proofs.Covering.{aligned-all}
 use Rattle.tl_proof.specs.Needs.{inclusion_needs}
 use Rattle.tl_proof.specs.ProveFaults.{IsIndex}
-use Rattle.tl_proof.specs.Segments.{IsSegment, IsNeeded, segment_root}
+use Rattle.tl_proof.specs.Inner.Segments.{IsSegment, IsNeeded, segment_root}
 use Rattle.tl_proof.proofs.Plans.{path-all}
 use Rattle.tl_proof.proofs.ProveFaultLemmas.{read_fault}
 use Rattle.tl_proof.proofs.prove.prove_record.Goals as goal

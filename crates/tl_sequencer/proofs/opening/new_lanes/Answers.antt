@@ -1,5 +1,5 @@
 use Rattle.std.proofs.Common.{ℕ, ◌≡◌, arith, subst}
-use Rattle.tl_sequencer.specs.Rings.{AreLanes}
+use Rattle.tl_sequencer.specs.Inner.Lanes.{AreLanes}
 use Rattle.tl_sequencer.proofs.Openings.{AreLanes-more}
 use Rattle.tl_sequencer.proofs.opening.new_lanes.Goals as goal
 

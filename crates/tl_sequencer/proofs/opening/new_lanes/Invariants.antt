@@ -1,4 +1,4 @@
-use Rattle.tl_sequencer.specs.Rings.{AreLanes}
+use Rattle.tl_sequencer.specs.Inner.Lanes.{AreLanes}
 use Rattle.tl_sequencer.proofs.opening.new_lanes.Given as goal
 
 abbrev pub invariant-loop-lane : goal.invariant-loop-lane

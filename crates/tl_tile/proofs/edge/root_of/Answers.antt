@@ -1,7 +1,7 @@
 use Rattle.std.proofs.Common.{◌≡◌, ◌-◌, ◌%◌, subst, arith}
 use Rattle.std.specs.Prelude.{MatchOption}
 use Rattle.tl_hash.specs.Tree.{tree_hash}
-use Rattle.tl_tile.specs.Run.{IsRest}
+use Rattle.tl_tile.specs.Inner.Rest.{IsRest}
 use Rattle.tl_tile.proofs.Below.{count_below-none, count_below-more, count_below-within, rest-start, rest-more, rest-all}
 use Rattle.tl_tile.proofs.NeededLemmas.{next_count}
 use Rattle.tl_tile.proofs.edge.root_of.Goals as goal

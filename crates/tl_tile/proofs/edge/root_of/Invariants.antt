@@ -1,6 +1,6 @@
 use Rattle.std.proofs.Common.{◌≡◌, ◌+◌, List, ℕ, length}
 use Rattle.tl_tile.specs.TileText.{level_count}
-use Rattle.tl_tile.specs.Run.{IsRest}
+use Rattle.tl_tile.specs.Inner.Rest.{IsRest}
 use Rattle.tl_tile.specs.RightEdge.{hashes_below, count_below}
 use Rattle.tl_tile.proofs.edge.root_of.Given as goal
 

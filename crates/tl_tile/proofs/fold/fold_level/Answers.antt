@@ -1,5 +1,5 @@
 use Rattle.std.proofs.Common.{subst, refl, arith}
-use Rattle.tl_tile.specs.Run.{IsRest}
+use Rattle.tl_tile.specs.Inner.Rest.{IsRest}
 use Rattle.tl_tile.proofs.Levels.{rest-joined, rest-first, rest-none}
 use Rattle.tl_tile.proofs.fold.fold_level.Goals as goal
 

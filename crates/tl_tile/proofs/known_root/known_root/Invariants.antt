@@ -1,5 +1,5 @@
 use Rattle.tl_tile.specs.Fetched.{tiles_of}
-use Rattle.tl_tile.specs.KnownEdge.{KnownBelow}
+use Rattle.tl_tile.specs.Inner.KnownEdge.{KnownBelow}
 use Rattle.tl_tile.proofs.known_root.known_root.Given as goal
 
 abbrev pub invariant-loop-level : goal.invariant-loop-level

@@ -1,4 +1,5 @@
-use Rattle.tl_witness.specs.ReadRequest.{body_of, signed_of}
+use Rattle.tl_witness.specs.ReadRequest.{body_of}
+use Rattle.tl_witness.specs.Inner.ReadSigned.{signed_of}
 use Rattle.tl_witness.proofs.FindingLaws.{leads_there}
 use Rattle.tl_witness.proofs.finding.find_origin.Goals as goal
 

@@ -2,7 +2,8 @@ use Rattle.std.proofs.Common.{◌∙◌, ◌≡◌, sym, ap, subst, map, vec_ite
 use Rattle.std.proofs.lemmas.List.{length-map}
 use Rattle.std.proofs.lemmas.Result.{err_from_is_err_and}
 use Rattle.tl_server.proofs.Asking.{lines_some}
-use Rattle.tl_server.specs.AuditText.{audit_lines, audit_shown}
+use Rattle.tl_server.specs.AuditText.{audit_lines}
+use Rattle.tl_server.specs.Inner.Shown.{audit_shown}
 use Rattle.tl_server.specs.Lines.{entries_of, lines_text, HasNoNewline}
 use Rattle.tl_server.proofs.CountedLines.{audit_plain, entries_of_audit, entries_plain, read_is_audit}
 use Rattle.tl_server.proofs.commands.audit.answer_to.Goals as goal

@@ -1,4 +1,5 @@
-use Rattle.tl_server.specs.ProofText.{Included, Consistent, inclusion_shown, consistency_shown}
+use Rattle.tl_server.specs.ProofText.{Included, Consistent}
+use Rattle.tl_server.specs.Inner.Shown.{inclusion_shown, consistency_shown}
 use Rattle.tl_server.proofs.commands.check.answer_of.Goals as goal
 
 pub returns-in-Some-clause-answer : goal.returns-in-Some-clause-answer

@@ -1,6 +1,6 @@
 use Rattle.std.proofs.Common.{◌∙◌, ◌≡◌, ◌<◌, ◌++◌, ◌∷◌, [], List, ℕ, length, vec_items, sym, ap, subst, arith}
 use Rattle.std.proofs.lemmas.Bool.Decides.{nat_tests}
-use Rattle.tl_server.specs.Growing.{IsTold}
+use Rattle.tl_server.specs.Inner.Growing.{IsTold}
 use Rattle.tl_server.specs.Lines.{entries_of, lines_text}
 use Rattle.tl_server.proofs.GrowingLemmas.{empty_list, entries_whole, nothing_kept, same_entries, some_kept}
 use Rattle.tl_server.proofs.growing.Growing.finish.Goals as goal

@@ -1,6 +1,6 @@
 use Rattle.std.proofs.Common.{List, ℕ, length, ap, subst, arith}
 use Rattle.std.proofs.lemmas.List.{take_rest, length-drop}
-use Rattle.tl_server.specs.Growing.{IsGrowing}
+use Rattle.tl_server.specs.Inner.Growing.{IsGrowing}
 use Rattle.tl_server.proofs.GrowingLemmas.{none_found, piece_more}
 use Rattle.tl_server.proofs.growing.Growing.take.Goals as goal
 

@@ -1,5 +1,5 @@
 use Rattle.std.proofs.Common.{ℕ, ◌+◌, ◌-◌, ◌≤◌, ◌++◌, List, length, take}
-use Rattle.tl_server.specs.Growing.{IsGrowing}
+use Rattle.tl_server.specs.Inner.Growing.{IsGrowing}
 use Rattle.tl_server.proofs.growing.Growing.take.Given as goal
 
 -- the piece was taken up to here

@@ -1,5 +1,5 @@
 use Rattle.std.proofs.Common.{◌≡◌, ◌-◌, subst, arith}
-use Rattle.tl_tile.specs.Steps.{AreEdgeFrom}
+use Rattle.tl_tile.specs.Inner.Steps.{AreEdgeFrom}
 use Rattle.tl_tile.proofs.Orders.{edge-prefix}
 use Rattle.tl_tile.proofs.checker.Checker.fetch_levels.Goals as goal
 

@@ -1,5 +1,5 @@
 use Rattle.std.proofs.Common.{◌-◌}
-use Rattle.tl_tile.specs.Steps.{AreFetched, AreEdgeFrom}
+use Rattle.tl_tile.specs.Inner.Steps.{AreFetched, AreEdgeFrom}
 use Rattle.tl_tile.proofs.checker.Checker.fetch_levels.Given as goal
 
 abbrev pub invariant-loop-above : goal.invariant-loop-above

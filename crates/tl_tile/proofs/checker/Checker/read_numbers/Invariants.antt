@@ -2,7 +2,7 @@ use Rattle.std.proofs.Common.{◌≡◌, take, length, All}
 use Rattle.tl_tile.specs.Fetched.{tiles_of}
 use Rattle.tl_tile.specs.Fetching.{IsNeededFor}
 use Rattle.tl_tile.specs.Verified.{AreVerified}
-use Rattle.tl_tile.specs.Steps.{AreFetched, TellsAll}
+use Rattle.tl_tile.specs.Inner.Steps.{AreFetched, TellsAll}
 use Rattle.tl_tile.proofs.checker.Checker.read_numbers.Given as goal
 
 abbrev pub invariant-loop-index : goal.invariant-loop-index

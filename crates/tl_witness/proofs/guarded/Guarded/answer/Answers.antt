@@ -1,6 +1,6 @@
 use Rattle.std.proofs.Common.{refl}
 use Rattle.std.proofs.lemmas.Result.{IfOk-weaker}
-use Rattle.tl_witness.specs.Offer.{asked_by}
+use Rattle.tl_witness.specs.Inner.Offer.{asked_by}
 use Rattle.tl_witness.proofs.ChainLaws.{line_made}
 use Rattle.tl_witness.proofs.SharedLaws.{begins_still, later_one}
 use Rattle.tl_witness.proofs.guarded.Guarded.answer.Goals as goal

@@ -8,7 +8,7 @@ use Rattle.tl_witness.specs.Answers.{AsksForMemory}
 use Rattle.tl_witness.specs.Book.{Signed, IsSigned, asked_of}
 use Rattle.tl_witness.specs.Cases.{UnlessSome}
 use Rattle.tl_witness.specs.ChainLine.{IsChainLine}
-use Rattle.tl_witness.specs.Offer.{asked_by}
+use Rattle.tl_witness.specs.Inner.Offer.{asked_by}
 use Rattle.tl_witness.specs.Request.{Body, IsRequest}
 
 -- the body is a request whose note is a checkpoint of the origin at this place, and this is what it asks

@@ -8,7 +8,7 @@ use Rattle.tl_proof.specs.Needs.{inclusion_needs}
 use Rattle.tl_proof.specs.declared.segment.Segment.{Segment}
 
 -- the new list is the old one, followed by some that are so
-pub record Appends {X : Type 0} (P : List X → Type 0) (old new : List X) : Type 0 where
+pub record GrowsBy {X : Type 0} (P : List X → Type 0) (old new : List X) : Type 0 where
   pub added : List X
   pub whole : new ≡ old ++ added
   pub are : P added

@@ -35,7 +35,7 @@ pub record AddsOver (level place : ℕ) (before after : List (Tile × List ℕ))
   pub over : All (λ f. IsOver level place f.0) added
 
 -- the tile with this place of a level wasn't fetched: it is a full one, and there is a tile above it
-pub record IsMissing (tiles : Tiles) (size level place : ℕ) : Type 0 where
+pub record IsNotFetched (tiles : Tiles) (size level place : ℕ) : Type 0 where
   pub low : level < 7
   pub above : place / 256 < level_count size (level + 1)
   pub full : tile_with size level place ≡ full_tile level (place / 256)
@@ -44,7 +44,7 @@ pub record IsMissing (tiles : Tiles) (size level place : ℕ) : Type 0 where
 -- whether the tile with this place was fetched
 abbrev pub IsThere : Tiles → ℕ → ℕ → ℕ → Bool → Type 0
 IsThere tiles size level place true = HasTileWith tiles size level place
-IsThere tiles size level place false = IsMissing tiles size level place
+IsThere tiles size level place false = IsNotFetched tiles size level place
 
 -- a complete subtree of a log of this size
 abbrev pub IsPlaceIn : ℕ → Place → Type 0

@@ -18,16 +18,16 @@ abbrev pub IsNoFirstLine : List ℕ → Type 0
 IsNoFirstLine bytes = (first : Signature) (rest : List ℕ) → CutsLine bytes first rest → ⊥
 
 -- the bytes are these lines, of 1 to 100
-pub record AreLines (bytes : List ℕ) (lines : List Signature) : Type 0 where
+pub record AreSignatureLines (bytes : List ℕ) (lines : List Signature) : Type 0 where
   pub each : All IsSignature lines
   pub some : 0 < length lines
   pub few : length lines ≤ 100
   pub whole : bytes ≡ flat_map signature_line lines
 
 -- the bytes are so many lines
-abbrev pub HasLines : List ℕ → ℕ → Type 0
-HasLines bytes count = (lines : List Signature) × AreLines bytes lines × (length lines ≡ count)
+abbrev pub HasSignatureLines : List ℕ → ℕ → Type 0
+HasSignatureLines bytes count = (lines : List Signature) × AreSignatureLines bytes lines × (length lines ≡ count)
 
 -- the bytes are no lines, or too many
-abbrev pub HasNoLines : List ℕ → Type 0
-HasNoLines bytes = (lines : List Signature) → AreLines bytes lines → ⊥
+abbrev pub HasNoSignatureLines : List ℕ → Type 0
+HasNoSignatureLines bytes = (lines : List Signature) → AreSignatureLines bytes lines → ⊥

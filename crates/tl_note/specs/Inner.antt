@@ -1,0 +1,11 @@
+-- Private words: what contracts of private functions and proofs need.
+pub
+    mod Field
+pub
+    mod Judging
+pub
+    mod LineField
+pub
+    mod Signing
+pub
+    mod Reading

@@ -1,0 +1,14 @@
+-- A whole input, read into memory.
+use Rattle.std.specs.Prelude.{ℕ, Result, Ok, Err, vec_items}
+use Rattle.std.specs.declared.vec.Vec.{Vec}
+use Rattle.tl_server.specs.Device.{Passage, IsSteady, HasFailed, ReadWhole, ReadPast, GaveSome}
+use Rattle.tl_server.specs.declared.fault.RunFault.{RunFault}
+use Rattle.tl_server.specs.declared.fault.RunFault.TheVariants.{Read, TooLarge, OutOfMemory}
+
+-- reading all that a reader gives, at most so many bytes
+abbrev pub ReadsWhole : {A : Type 0} → ℕ → Passage → Result (Vec ℕ A) RunFault → Type 0
+ReadsWhole most p (Ok input) = ReadWhole p most (vec_items input)
+ReadsWhole most p (Err Read) = HasFailed p
+ReadsWhole most p (Err TooLarge) = ReadPast p most
+ReadsWhole most p (Err OutOfMemory) = IsSteady p × GaveSome p
+ReadsWhole most p (Err fault) = ⊥

@@ -1,0 +1,13 @@
+-- Private words: what contracts of private functions and proofs need.
+pub
+    mod KnownEdge
+pub
+    mod ReadPath
+pub
+    mod TileNumbers
+pub
+    mod Rest
+pub
+    mod Steps
+pub
+    mod PartialHashes

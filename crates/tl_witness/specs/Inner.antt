@@ -1,0 +1,13 @@
+-- Private words: what contracts of private functions and proofs need.
+pub
+    mod PutsOrigin
+pub
+    mod ChainFields
+pub
+    mod Finding
+pub
+    mod Offer
+pub
+    mod ReadSigned
+pub
+    mod NamedKey
