@@ -7,7 +7,8 @@ use Rattle.std.proofs.lemmas.List.Elements.{All-from_get_or, All-get_or, All-hea
 use Rattle.tl_hash.specs.Tree.{tree_hash, inputs}
 use Rattle.tl_hash.proofs.TreeLemmas.{tree_hash-none, length-tree_hash}
 use Rattle.tl_proof.specs.Acceptance.{AcceptsConsistency}
-use Rattle.tl_proof.specs.Collisions.{Step, IsPrefix, fold_inputs, fold_inputs_from, Linked, EndsWith, step_inputs, audit_inputs}
+use Rattle.tl_proof.specs.Collisions.{IsPrefix, fold_inputs, fold_inputs_from, step_inputs, audit_inputs}
+use Rattle.tl_proof.specs.Acceptance.{Step, Linked, EndsWith}
 use Rattle.tl_proof.specs.Laws.{HasHashLength, MadeOfHashes, LinksExtendOrCollide}
 use Rattle.tl_proof.proofs.SameSize.{Collision, Collision-among, same_or_collide}
 use Rattle.tl_proof.proofs.Folds.{roots_meet}

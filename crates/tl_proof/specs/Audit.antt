@@ -1,7 +1,8 @@
 -- What an audit answers (RFC 6962, sections 2.1 and 2.1.2).
 use Rattle.std.specs.Prelude.{ℕ, List, length, Result, Ok, Err}
 use Rattle.tl_hash.specs.Tree.{tree_hash}
-use Rattle.tl_proof.specs.Collisions.{Step, IsPrefix, Exhibits, Linked, EndsWith, audit_inputs}
+use Rattle.tl_proof.specs.Collisions.{IsPrefix, Exhibits, audit_inputs}
+use Rattle.tl_proof.specs.Acceptance.{Step, Linked, EndsWith}
 use Rattle.tl_proof.specs.declared.verdict.Verdict.{Verdict}
 use Rattle.tl_proof.specs.declared.verdict.Verdict.TheVariants.{Extends, Collision}
 use Rattle.tl_proof.specs.declared.verdict.AuditFault.{AuditFault}

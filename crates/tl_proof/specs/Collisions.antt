@@ -3,8 +3,7 @@
 use Rattle.std.specs.Prelude.{◌≡◌, ◌≢◌, ℕ, ◌-◌, Bool, true, false, List, [], ◌∷◌, ◌++◌, length, take, reverse, nat_lt, nat_le, ◌==◌, if◌then◌else◌, Contains, Option, Some, None}
 use Rattle.tl_hash.specs.Split.{split_point}
 use Rattle.tl_hash.specs.Tree.{leaf_input, node_input, tree_hash, inputs}
-use Rattle.tl_proof.specs.Acceptance.{root_from_leaf, roots_from, AcceptsConsistency}
-use Rattle.tl_proof.specs.declared.link.Link.{Link}
+use Rattle.tl_proof.specs.Acceptance.{Step, root_from_leaf, roots_from}
 
 -- the byte string hashed where a root goes on from its left part
 abbrev pub input_on_left : Option (List ℕ) → List ℕ → List (List ℕ)
@@ -25,16 +24,6 @@ inputs_on_left (Some r) last = node_input r.1 last ∷ []
 abbrev pub inputs_on_right : Option (List ℕ × List ℕ) → List ℕ → List (List ℕ)
 inputs_on_right None last = []
 inputs_on_right (Some r) last = node_input last r.0 ∷ node_input last r.1 ∷ []
-
--- a size and a root, with the consistency proof that leads there
-pub record Step : Type 0 where
-  pub size : ℕ
-  pub root : List ℕ
-  pub proof : List (List ℕ)
-
--- what a link says
-abbrev pub step_of : {A : Type 0} → Link A → Step
-step_of link = record { size = link.size; root = link.root; proof = link.proof }
 
 -- the first list is a prefix of the second
 abbrev pub IsPrefix : List (List ℕ) → List (List ℕ) → Type 0
@@ -78,17 +67,6 @@ pub record Collides (H : List ℕ → List ℕ) (x y : List ℕ) (firsts seconds
 -- two different byte strings of a list with one digest
 abbrev pub Exhibits : (List ℕ → List ℕ) → List ℕ → List ℕ → List (List ℕ) → Type 0
 Exhibits H x y strings = Collides H x y strings strings
-
--- each step is accepted from the one before, the first from this size and root
-unfoldable pub Linked : (List ℕ → List ℕ) → ℕ → List ℕ → List Step → Type 0
-Linked H old old_root [] = Unit {0}
-Linked H old old_root (step ∷ steps) =
-    AcceptsConsistency H step.proof step.size step.root old old_root × Linked H step.size step.root steps
-
--- the steps from this size and root end with that size and root
-unfoldable pub EndsWith : ℕ → List ℕ → List Step → ℕ → List ℕ → Type 0
-EndsWith old old_root [] size root = (old ≡ size) × (old_root ≡ root)
-EndsWith old old_root (step ∷ steps) size root = EndsWith step.size step.root steps size root
 
 -- the byte strings hashed for the steps from this size and root: those of the prefix of each step's
 -- size, and those of the check of each step's proof

@@ -2,7 +2,7 @@
 
 ghost use Rattle.std.specs.Prelude.{◌≤◌, ◌∷◌, [], List, length, map, vec_items};
 ghost use Rattle.tl_hash.specs.Tree.{tree_hash};
-ghost use Rattle.tl_proof.specs.Collisions.{Step, step_of};
+ghost use Rattle.tl_proof.specs.Acceptance.{Step, step_of};
 ghost use Rattle.tl_proof.specs.Inner.Forks.{DifferAt, LinksFork, ForksAt, ShowsFork};
 ghost use Rattle.tl_proof.specs.Audit.{AreAccepted, Audits};
 

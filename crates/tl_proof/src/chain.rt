@@ -2,7 +2,8 @@
 
 ghost use Rattle.std.specs.Prelude.{◌≡◌, ◌+◌, ◌<◌, ◌≤◌, ◌↔◌, length, map, take, vec_items, IsTrue};
 ghost use Rattle.tl_hash.specs.Tree.{tree_hash};
-ghost use Rattle.tl_proof.specs.Collisions.{step_of, Linked, EndsWith, step_inputs};
+ghost use Rattle.tl_proof.specs.Collisions.{step_inputs};
+ghost use Rattle.tl_proof.specs.Acceptance.{step_of, Linked, EndsWith};
 ghost use Rattle.tl_proof.specs.Inner.Forks.{SameOrForks, end_size, end_root};
 
 use crate::check::{check_tree, same};

@@ -4,7 +4,8 @@ use Rattle.std.specs.Prelude.{slice_set}
 use Rattle.std.proofs.lemmas.List.Elements.{All-tail}
 use Rattle.tl_hash.specs.Tree.{tree_hash}
 use Rattle.tl_checkpoint.specs.Checkpoint.{Head}
-use Rattle.tl_proof.specs.Collisions.{Step, EndsWith, IsPrefix, Exhibits, audit_inputs}
+use Rattle.tl_proof.specs.Collisions.{IsPrefix, Exhibits, audit_inputs}
+use Rattle.tl_proof.specs.Acceptance.{Step, EndsWith}
 use Rattle.tl_proof.specs.Laws.{MadeOfHashes, LinksExtendOrCollide}
 use Rattle.tl_witness.specs.Answers.{Answers}
 use Rattle.tl_witness.specs.Book.{BookOutcome, DecidesBody, IsLawful, IsPlaceOf, asked_of}

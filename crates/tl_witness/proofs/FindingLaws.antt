@@ -1,7 +1,7 @@
 -- Where a body leads.
 use Rattle.std.proofs.Common.{◌≡◌, ℕ, List, Some, refl, slice_get, sym, ap, subst}
 use Rattle.std.specs.Prelude.{IsUtf8}
-use Rattle.tl_proof.specs.Collisions.{Step}
+use Rattle.tl_proof.specs.Acceptance.{Step}
 use Rattle.tl_witness.specs.declared.finding.Found.{Found}
 use Rattle.tl_witness.specs.Book.{Signed, IsSigned, asked_of}
 use Rattle.tl_witness.specs.ChainLine.{IsChainLine}

@@ -8,7 +8,7 @@ use Rattle.std.proofs.lemmas.List.{map-append, take-append-le, append-nil}
 use Rattle.std.proofs.lemmas.List.Elements.{filter-append}
 use Rattle.std.proofs.lemmas.List.Folds.{list_any-append}
 use Rattle.std.proofs.lemmas.Slice.Eq.{bytes_eq-Decides}
-use Rattle.tl_proof.specs.Collisions.{Step}
+use Rattle.tl_proof.specs.Acceptance.{Step}
 use Rattle.tl_witness.specs.ChainLine.{ChainLine, chains, origins, steps_of}
 use Rattle.tl_witness.specs.ChainFields.{PutsStep}
 use Rattle.tl_witness.specs.Open.{SavedChain, IsAmong, HasTwice, chain_origins}

@@ -4,7 +4,7 @@ use Rattle.std.specs.Prelude.{slice_set}
 use Rattle.std.specs.List.{AllZip}
 use Rattle.std.proofs.lemmas.List.{map-set, map-append}
 use Rattle.std.proofs.lemmas.List.Elements.{All-head, All-tail}
-use Rattle.tl_proof.specs.Collisions.{Step}
+use Rattle.tl_proof.specs.Acceptance.{Step}
 use Rattle.tl_witness.specs.Chain.{IsChain}
 use Rattle.tl_note.specs.Key.{Key, IsKeyName}
 use Rattle.tl_witness.specs.Open.{SavedChain, Trusted, AreNamedOnce, HasEachKeyOnce, IsAmong, HasTwice, IsFirstNot, IsFirstBreak, IsFirstBroken, IsKept, IsTrusted, OpensBook, chain_origins, trusted_origins, cosigner_names}

@@ -2,7 +2,7 @@
 use Rattle.std.proofs.Common.{◌≡◌, ◌≢◌, ◌<◌, ℕ, List, [], ◌∷◌, ◌++◌, Some, inl, inr, refl, ap, subst, ◌∙◌, map, length, slice_get, slice_index_or}
 use Rattle.std.specs.Prelude.{slice_set}
 use Rattle.std.proofs.lemmas.List.{map-set, map-append}
-use Rattle.tl_proof.specs.Collisions.{Step}
+use Rattle.tl_proof.specs.Acceptance.{Step}
 use Rattle.tl_witness.specs.Open.{SavedChain, saved_chain}
 use Rattle.tl_witness.specs.ChainFields.{PutsStep}
 use Rattle.tl_witness.proofs.Moved.{shown_twice}

@@ -2,7 +2,7 @@
 use Rattle.std.proofs.Common.{◌≡◌, ℕ, zero, suc, ◌+◌, List, [], ◌∷◌, ◌++◌, Some, ◌⊎◌, inl, inr, refl, ap, sym, ◌∙◌, subst, append_assoc, append-nil, drop, slice_get, arith}
 use Rattle.std.specs.Prelude.{slice_set}
 use Rattle.std.proofs.lemmas.List.Elements.{All-head, All-tail, All-cons, All-nil}
-use Rattle.tl_proof.specs.Collisions.{Step, Linked}
+use Rattle.tl_proof.specs.Acceptance.{Step, Linked}
 use Rattle.tl_proof.specs.Laws.{MadeOfHashes}
 use Rattle.tl_witness.specs.Chain.{TreeHead, head_of, first_head, last_head, Follows, IsLinked, IsChain}
 use Rattle.tl_witness.specs.Witnessed.{Witnessed, with_step}

@@ -6,7 +6,7 @@ use Rattle.std.proofs.lemmas.List.Concat.{flat_map-cons, flat_map-append}
 use Rattle.std.proofs.lemmas.List.Elements.{All-head, All-nil, All-push}
 use Rattle.tl_witness.specs.ChainLine.{ChainLine, IsChainLine, IsMalformedAt, chain_line, chain_text, chains}
 use Rattle.std.specs.declared.vec.Vec.{Vec}
-use Rattle.tl_proof.specs.Collisions.{Step}
+use Rattle.tl_proof.specs.Acceptance.{Step}
 use Rattle.tl_proof.specs.declared.link.Link.{Link}
 use Rattle.tl_witness.specs.declared.chain_reading.ChainFault.{ChainFault}
 use Rattle.tl_witness.specs.declared.chain_reading.ChainFault.TheVariants.{OutOfMemory}

@@ -2,7 +2,7 @@
 -- digest function.
 use Rattle.std.specs.Prelude.{ℕ, List, [], ◌∷◌, All}
 use Rattle.tl_proof.specs.Acceptance.{AcceptsConsistency}
-use Rattle.tl_proof.specs.Collisions.{Step, Linked}
+use Rattle.tl_proof.specs.Acceptance.{Step, Linked}
 use Rattle.tl_proof.specs.Laws.{MadeOfHashes}
 
 -- a tree head: a size and a root hash

@@ -3,7 +3,8 @@ use Rattle.std.specs.Prelude.{◌≡◌, ℕ, ◌⊎◌, List, ◌∷◌, ◌++�
 use Rattle.tl_hash.specs.Tree.{tree_hash}
 use Rattle.tl_checkpoint.specs.Checkpoint.{Head}
 use Rattle.tl_proof.specs.Laws.{HasHashLength}
-use Rattle.tl_proof.specs.Collisions.{Step, IsPrefix, Exhibits, audit_inputs}
+use Rattle.tl_proof.specs.Collisions.{IsPrefix, Exhibits, audit_inputs}
+use Rattle.tl_proof.specs.Acceptance.{Step}
 use Rattle.tl_witness.specs.Answers.{Answers}
 use Rattle.tl_witness.specs.Book.{BookOutcome, IsLawful, IsPlaceOf, IsSigned, Signed}
 use Rattle.tl_witness.specs.Open.{HasTwice, SavedChain, Trusted, OpensBook}

@@ -3,7 +3,7 @@
 use Rattle.std.specs.Prelude.{◌≡◌, ℕ, ◌⊎◌, List, [], ◌∷◌, Some, slice_get, take, map, All, length, ◌<◌}
 use Rattle.std.specs.List.{AllZip}
 use Rattle.tl_note.specs.Key.{Key, SigningKey, IsKeyName}
-use Rattle.tl_proof.specs.Collisions.{Step}
+use Rattle.tl_proof.specs.Acceptance.{Step}
 use Rattle.tl_witness.specs.declared.opening.BookFault.{BookFault}
 use Rattle.tl_witness.specs.declared.opening.BookFault.TheVariants.{TwiceNamed, NoTrust, BadName, BadChain, OutOfMemory}
 use Rattle.tl_witness.specs.Chain.{first_head, last_head, Follows, IsChain}

@@ -1,6 +1,6 @@
 -- The steps of opening a book.
 use Rattle.std.specs.Prelude.{◌≡◌, ◌≢◌, ℕ, ◌⊎◌, ◌<◌, List, [], length}
-use Rattle.tl_proof.specs.Collisions.{Step}
+use Rattle.tl_proof.specs.Acceptance.{Step}
 use Rattle.tl_witness.specs.declared.opening.BookFault.{BookFault}
 use Rattle.tl_witness.specs.declared.opening.BookFault.TheVariants.{BadChain, OutOfMemory}
 use Rattle.tl_witness.specs.Open.{SavedChain, IsAmong, IsFirstBroken, chain_origins}

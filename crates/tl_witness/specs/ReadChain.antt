@@ -2,7 +2,7 @@
 use Rattle.std.specs.Prelude.{◌≡◌, ℕ, List, ◌++◌, map, string_bytes, vec_items, String, Result, Ok, Err}
 use Rattle.std.specs.declared.vec.Vec.{Vec}
 use Rattle.tl_proof.specs.declared.link.Link.{Link}
-use Rattle.tl_proof.specs.Collisions.{Step, step_of}
+use Rattle.tl_proof.specs.Acceptance.{Step, step_of}
 use Rattle.tl_witness.specs.declared.chain_reading.ChainFault.{ChainFault}
 use Rattle.tl_witness.specs.declared.chain_reading.ChainFault.TheVariants.{Malformed, OutOfMemory}
 use Rattle.tl_witness.specs.declared.chain_fields.Fields.{Fields}

@@ -1,6 +1,6 @@
 -- Runs of a witness: any list of requests, with any faults. H is the digest function.
 use Rattle.std.specs.Prelude.{◌≡◌, ℕ, ◌+◌, ◌⊎◌, List, [], ◌∷◌, ◌++◌, Some, slice_get, drop}
-use Rattle.tl_proof.specs.Collisions.{Step, Linked}
+use Rattle.tl_proof.specs.Acceptance.{Step, Linked}
 use Rattle.tl_proof.specs.Laws.{MadeOfHashes}
 use Rattle.tl_witness.specs.Chain.{first_head, last_head, IsLinked, IsChain}
 use Rattle.tl_witness.specs.Witnessed.{Witnessed}

@@ -1,7 +1,7 @@
 -- What a saver shows: it is asked to keep each link before the witness cosigns (C2SP tlog-witness,
 -- "add-checkpoint": persist before responding).
 use Rattle.std.specs.Prelude.{◌≡◌, ℕ, ◌<◌, ◌-◌, ◌^◌, ◌⊎◌, List, [], ◌∷◌, ◌++◌}
-use Rattle.tl_proof.specs.Collisions.{Step}
+use Rattle.tl_proof.specs.Acceptance.{Step}
 
 -- how many saves failed, and the origins and steps that were saved, in order
 pub record Saved : Type 0 where

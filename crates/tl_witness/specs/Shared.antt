@@ -1,7 +1,7 @@
 -- What is known of a request to a witness that threads share: other requests may come before it (C2SP tlog-witness,
 -- "add-checkpoint"). H is the digest function, and a book shows what was handed in.
 use Rattle.std.specs.Prelude.{◌≡◌, ℕ, ◌⊎◌, List, []}
-use Rattle.tl_proof.specs.Collisions.{Step}
+use Rattle.tl_proof.specs.Acceptance.{Step}
 use Rattle.tl_witness.specs.Answers.{AsksForMemory}
 use Rattle.tl_witness.specs.Book.{IsPlaceOf, IsSigned, Place, asked_of}
 use Rattle.tl_witness.specs.Cases.{UnlessSome}

@@ -1,7 +1,7 @@
 -- What a witness keeps of one origin.
 use Rattle.std.specs.Prelude.{ℕ, List, ◌++◌, ◌∷◌, []}
 use Rattle.tl_note.specs.Key.{Key, SigningKey}
-use Rattle.tl_proof.specs.Collisions.{Step}
+use Rattle.tl_proof.specs.Acceptance.{Step}
 
 -- one origin: whom the witness trusts for it, its cosigner, and its chain
 pub record Witnessed : Type 0 where

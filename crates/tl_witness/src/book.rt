@@ -1,7 +1,7 @@
 //! The book of a witness: what it keeps of each origin.
 
 ghost use Rattle.std.specs.Prelude.{◌≡◌, IfOk, MatchOption, OnErr, map};
-ghost use Rattle.tl_proof.specs.Collisions.{step_of};
+ghost use Rattle.tl_proof.specs.Acceptance.{step_of};
 ghost use Rattle.tl_witness.specs.Answers.{Answers, AsksForMemory};
 ghost use Rattle.tl_witness.specs.Book.{DecidesBody, IsPlaceOf, Place};
 

@@ -1,7 +1,7 @@
 //! The links of one origin.
 
 ghost use Rattle.std.specs.Prelude.{◌≡◌, ◌↔◌, [], ◌∷◌, ◌++◌, All, IfErr, IfOk, IsTrue, OnOk, OnErr, IsErrOf, MatchOption, map};
-ghost use Rattle.tl_proof.specs.Collisions.{step_of};
+ghost use Rattle.tl_proof.specs.Acceptance.{step_of};
 ghost use Rattle.tl_proof.specs.Laws.{HasHashLength, MadeOfHashes};
 ghost use Rattle.tl_witness.specs.Chain.{first_head, last_head, Follows, IsChain};
 ghost use Rattle.tl_witness.specs.ChainLine.{IsChainLine};
@@ -24,7 +24,7 @@ pub(crate) struct Chain<T: TreeHash, A: Allocator> {
 
 impl<T: TreeHash, A: Allocator> Model for Chain<T, A> {
     ghost use Rattle.std.specs.Prelude.{List, map};
-    ghost use Rattle.tl_proof.specs.Collisions.{Step, step_of};
+    ghost use Rattle.tl_proof.specs.Acceptance.{Step, step_of};
     ghost use Rattle.tl_witness.specs.Chain.{IsChain};
 
     ghost Value = { List Step };

@@ -1,7 +1,7 @@
 //! The line of a link that was accepted (a format of this project, for savers).
 
 ghost use Rattle.std.specs.Prelude.{◌≡◌, ◌++◌, IfOk, OnOk, string_bytes};
-ghost use Rattle.tl_proof.specs.Collisions.{step_of};
+ghost use Rattle.tl_proof.specs.Acceptance.{step_of};
 ghost use Rattle.tl_witness.specs.ChainLine.{IsChainLine, chain_line, spaced_hashes};
 
 use base64::engine::general_purpose::STANDARD;

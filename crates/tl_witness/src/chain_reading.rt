@@ -1,7 +1,7 @@
 //! Reads the links that a witness saved, from their lines.
 
 ghost use Rattle.std.specs.Prelude.{◌≡◌, ◌==◌, ◌++◌, ◌∷◌, ℕ, IfOk, List, MatchOption, OnOk, position};
-ghost use Rattle.tl_proof.specs.Collisions.{step_of};
+ghost use Rattle.tl_proof.specs.Acceptance.{step_of};
 ghost use Rattle.tl_witness.specs.ByOrigin.{Indexes, index_of};
 ghost use Rattle.tl_witness.specs.ChainFields.{HasNoLine, IsWithout, PutsStep};
 ghost use Rattle.tl_witness.specs.Open.{chain_origins};

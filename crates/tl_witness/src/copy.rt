@@ -1,7 +1,7 @@
 //! Copies of links.
 
 ghost use Rattle.std.specs.Prelude.{◌≡◌, IfOk, map};
-ghost use Rattle.tl_proof.specs.Collisions.{step_of};
+ghost use Rattle.tl_proof.specs.Acceptance.{step_of};
 
 use std::alloc::{AllocError, Allocator};
 use tl_proof::{HashList, Link};

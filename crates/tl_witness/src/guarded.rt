@@ -1,7 +1,7 @@
 //! One origin of a witness that threads share.
 
 ghost use Rattle.std.specs.Prelude.{◌≡◌, ℕ, IfOk, List, OnErr, drop, map, string_bytes, take};
-ghost use Rattle.tl_proof.specs.Collisions.{Step, step_of};
+ghost use Rattle.tl_proof.specs.Acceptance.{Step, step_of};
 ghost use Rattle.tl_witness.specs.Chain.{first_head, last_head};
 ghost use Rattle.tl_witness.specs.ChainLine.{IsChainLine};
 ghost use Rattle.tl_witness.specs.Inner.Offer.{asked_by};

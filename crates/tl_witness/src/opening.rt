@@ -3,7 +3,7 @@
 ghost use Rattle.std.specs.Prelude.{◌≡◌, ◌<◌, ◌⊎◌, All, IfErr, IfOk, MatchOption, OnErr, length, map, string_bytes};
 ghost use Rattle.std.specs.List.{AllZip};
 ghost use Rattle.tl_note.specs.Key.{IsKeyName};
-ghost use Rattle.tl_proof.specs.Collisions.{step_of};
+ghost use Rattle.tl_proof.specs.Acceptance.{step_of};
 ghost use Rattle.tl_witness.specs.ByOrigin.{index_of};
 ghost use Rattle.tl_witness.specs.Chain.{IsChain};
 ghost use Rattle.tl_witness.specs.Index.{Indexes};

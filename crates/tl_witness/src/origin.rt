@@ -2,7 +2,7 @@
 
 ghost use Rattle.std.specs.Prelude.{◌≡◌, ◌↔◌, ◌≤◌, [], IfOk, IsTrue, OnErr, map, string_bytes};
 ghost use Rattle.tl_note.specs.Open.{Opened};
-ghost use Rattle.tl_proof.specs.Collisions.{step_of};
+ghost use Rattle.tl_proof.specs.Acceptance.{step_of};
 ghost use Rattle.tl_witness.specs.Chain.{Follows, first_head, last_head};
 ghost use Rattle.tl_witness.specs.ChainLine.{IsChainLine};
 ghost use Rattle.tl_witness.specs.Decide.{Decides, DecidesFrom, Settles};
@@ -31,7 +31,7 @@ pub(crate) struct Origin<A: Allocator> {
 /// What contracts see of it, given the chain.
 pub(crate) trait ShownOrigin {
     ghost use Rattle.std.specs.Prelude.{List};
-    ghost use Rattle.tl_proof.specs.Collisions.{Step};
+    ghost use Rattle.tl_proof.specs.Acceptance.{Step};
     ghost use Rattle.tl_witness.specs.Witnessed.{Witnessed};
 
     ghost shown_with: { Self → List Step → Witnessed };

@@ -1,7 +1,7 @@
 //! The object that keeps accepted links outside the program.
 
 ghost use Rattle.std.specs.Prelude.{OnOk, OnErr};
-ghost use Rattle.tl_proof.specs.Collisions.{step_of};
+ghost use Rattle.tl_proof.specs.Acceptance.{step_of};
 ghost use Rattle.tl_witness.specs.ChainLine.{IsChainLine};
 ghost use Rattle.tl_witness.specs.Saver.{Saved, Keeps, Fails};
 

@@ -1,7 +1,7 @@
 //! A witness that threads share: one lock for each origin.
 
 ghost use Rattle.std.specs.Prelude.{◌≡◌, ◌≤◌, [], ℕ, IfErr, IfOk, MatchOption, OnErr, drop, length, map, take, vec_capacity};
-ghost use Rattle.tl_proof.specs.Collisions.{step_of};
+ghost use Rattle.tl_proof.specs.Acceptance.{step_of};
 ghost use Rattle.tl_witness.specs.Answers.{AsksForMemory};
 ghost use Rattle.tl_witness.specs.Book.{IsPlaceOf, Place};
 ghost use Rattle.tl_witness.specs.Chain.{first_head, last_head};

@@ -1,6 +1,6 @@
 -- From the body of a request to the place of its origin (C2SP tlog-witness, "add-checkpoint").
 use Rattle.std.specs.Prelude.{◌≡◌, ◌≢◌, ℕ, List, Some, slice_get, Result, Ok, Err, ⊤}
-use Rattle.tl_proof.specs.Collisions.{step_of}
+use Rattle.tl_proof.specs.Acceptance.{step_of}
 use Rattle.tl_witness.specs.declared.finding.Found.{Found}
 use Rattle.tl_witness.specs.declared.finding.Unfound.{Unfound}
 use Rattle.tl_witness.specs.declared.finding.Unfound.TheVariants.{Malformed, Unknown, OutOfMemory}

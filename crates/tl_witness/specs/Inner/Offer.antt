@@ -1,6 +1,6 @@
 -- What a request that was read asks of its origin.
 use Rattle.std.specs.Prelude.{ℕ}
-use Rattle.tl_proof.specs.Collisions.{step_of}
+use Rattle.tl_proof.specs.Acceptance.{step_of}
 use Rattle.tl_witness.specs.declared.offer.Offer.{Offer}
 use Rattle.tl_witness.specs.Decide.{Asked}
 

@@ -1,5 +1,5 @@
 use Rattle.std.proofs.Common.{length, map}
-use Rattle.tl_proof.specs.Collisions.{step_of}
+use Rattle.tl_proof.specs.Acceptance.{step_of}
 use Rattle.tl_proof.proofs.Chains.{linked_most}
 use Rattle.tl_proof.proofs.audit.audit_chain.Goals as goal
 

@@ -1,7 +1,7 @@
 use Rattle.std.proofs.Common.{sym, ap, map, vec_items, length, ◌∙◌, arith}
 use Rattle.std.proofs.lemmas.List.{length-take-le, get_or_default}
 use Rattle.tl_hash.specs.Tree.{tree_hash}
-use Rattle.tl_proof.specs.Collisions.{step_of}
+use Rattle.tl_proof.specs.Acceptance.{step_of}
 use Rattle.tl_proof.proofs.Chains.{sizes_at, fork_at-of}
 use Rattle.tl_proof.proofs.chain.fork_at.Goals as goal
 

@@ -1,5 +1,5 @@
 use Rattle.std.proofs.Common.{map, vec_items, arith}
-use Rattle.tl_proof.specs.Collisions.{step_of}
+use Rattle.tl_proof.specs.Acceptance.{step_of}
 use Rattle.tl_proof.proofs.Chains.{ends_meet, start_meets}
 use Rattle.tl_proof.proofs.chain.fork_in_links.Goals as goal
 

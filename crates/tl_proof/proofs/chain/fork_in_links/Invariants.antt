@@ -1,6 +1,6 @@
 use Rattle.std.proofs.Common.{◌≡◌, ◌≤◌, length, map, take, vec_items}
 use Rattle.tl_hash.specs.Tree.{tree_hash}
-use Rattle.tl_proof.specs.Collisions.{step_of}
+use Rattle.tl_proof.specs.Acceptance.{step_of}
 use Rattle.tl_proof.specs.Inner.Forks.{end_size, end_root}
 use Rattle.tl_proof.proofs.chain.fork_in_links.Given as goal
 

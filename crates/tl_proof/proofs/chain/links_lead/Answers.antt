@@ -1,5 +1,5 @@
 use Rattle.std.proofs.lemmas.Bool.{both_ways, false≢true, eqb-true}
-use Rattle.tl_proof.specs.Collisions.{step_of}
+use Rattle.tl_proof.specs.Acceptance.{step_of}
 use Rattle.tl_proof.proofs.Chains.{LeadOn-step, LeadOn-refused, LeadOn-end}
 use Rattle.tl_proof.proofs.chain.links_lead.Goals as goal
 

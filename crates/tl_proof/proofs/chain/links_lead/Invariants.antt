@@ -1,5 +1,5 @@
 use Rattle.std.proofs.Common.{map, drop}
-use Rattle.tl_proof.specs.Collisions.{step_of}
+use Rattle.tl_proof.specs.Acceptance.{step_of}
 use Rattle.tl_proof.proofs.Chains.{LeadOn}
 use Rattle.tl_proof.proofs.chain.links_lead.Given as goal
 

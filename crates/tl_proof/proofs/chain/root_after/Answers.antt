@@ -1,5 +1,5 @@
 use Rattle.std.proofs.Common.{map}
-use Rattle.tl_proof.specs.Collisions.{step_of}
+use Rattle.tl_proof.specs.Acceptance.{step_of}
 use Rattle.tl_proof.proofs.Chains.{root_after-none, root_after-some}
 use Rattle.tl_proof.proofs.chain.root_after.Goals as goal
 

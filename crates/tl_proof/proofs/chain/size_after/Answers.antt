@@ -1,5 +1,5 @@
 use Rattle.std.proofs.Common.{map}
-use Rattle.tl_proof.specs.Collisions.{step_of}
+use Rattle.tl_proof.specs.Acceptance.{step_of}
 use Rattle.tl_proof.proofs.Chains.{size_after-none, size_after-some}
 use Rattle.tl_proof.proofs.chain.size_after.Goals as goal
 

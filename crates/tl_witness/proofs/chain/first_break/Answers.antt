@@ -1,6 +1,6 @@
 use Rattle.std.proofs.Common.{refl}
 use Rattle.std.proofs.lemmas.List.{take_all}
-use Rattle.tl_proof.specs.Collisions.{step_of}
+use Rattle.tl_proof.specs.Acceptance.{step_of}
 use Rattle.tl_witness.proofs.ChainLaws.{come_first, come_more, come_break}
 use Rattle.tl_witness.proofs.chain.first_break.Goals as goal
 

@@ -1,4 +1,4 @@
-use Rattle.tl_proof.specs.Collisions.{step_of}
+use Rattle.tl_proof.specs.Acceptance.{step_of}
 use Rattle.tl_witness.proofs.ChainLaws.{HasCome}
 use Rattle.tl_witness.proofs.chain.first_break.Given as goal
 

@@ -1,6 +1,6 @@
 use Rattle.std.proofs.Common.{◌≡◌, [], ◌∷◌, refl, ap, ◌∙◌, length, map, string_bytes, vec_items, arith}
 use Rattle.std.proofs.lemmas.List.{map-append, length-map}
-use Rattle.tl_proof.specs.Collisions.{step_of}
+use Rattle.tl_proof.specs.Acceptance.{step_of}
 use Rattle.tl_witness.specs.ByOrigin.{index_of}
 use Rattle.tl_witness.specs.ChainFields.{PutsStep}
 use Rattle.tl_witness.specs.Open.{saved_chain}

@@ -1,4 +1,4 @@
-use Rattle.tl_proof.specs.Collisions.{step_of}
+use Rattle.tl_proof.specs.Acceptance.{step_of}
 use Rattle.tl_witness.specs.ReadChain.{chains_shown}
 use Rattle.tl_witness.specs.ByOrigin.{index_of}
 use Rattle.tl_witness.proofs.IndexLaws.{indexes_none}

@@ -1,4 +1,4 @@
-use Rattle.tl_proof.specs.Collisions.{step_of}
+use Rattle.tl_proof.specs.Acceptance.{step_of}
 use Rattle.tl_witness.proofs.SharedLaws.{part_all, part_most}
 use Rattle.tl_witness.proofs.guarded.part_of.Goals as goal
 

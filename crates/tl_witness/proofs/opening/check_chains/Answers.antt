@@ -1,7 +1,7 @@
 use Rattle.std.proofs.Common.{◌≡◌, List, map, length, string_bytes, refl, sym, ap, subst, arith, All}
 use Rattle.std.proofs.lemmas.List.{length-map}
 use Rattle.std.proofs.lemmas.List.Elements.{All-nil}
-use Rattle.tl_proof.specs.Collisions.{Step, step_of}
+use Rattle.tl_proof.specs.Acceptance.{Step, step_of}
 use Rattle.tl_witness.specs.Chain.{IsChain}
 use Rattle.tl_witness.specs.Open.{SavedChain, saved_chain}
 use Rattle.tl_witness.proofs.Moved.{moved, moved_all, moved_each}

@@ -1,5 +1,5 @@
 use Rattle.std.proofs.Common.{◌≡◌, ◌++◌, All, map, length, string_bytes}
-use Rattle.tl_proof.specs.Collisions.{step_of}
+use Rattle.tl_proof.specs.Acceptance.{step_of}
 use Rattle.tl_witness.specs.Chain.{IsChain}
 use Rattle.tl_witness.specs.Open.{saved_chain}
 use Rattle.tl_witness.proofs.opening.check_chains.Given as goal

@@ -1,5 +1,5 @@
 use Rattle.std.proofs.Common.{ℕ, List, refl, ap, sym, ◌∙◌, string_bytes, arith}
-use Rattle.tl_proof.specs.Collisions.{Step}
+use Rattle.tl_proof.specs.Acceptance.{Step}
 use Rattle.tl_witness.specs.Open.{saved_chain}
 use Rattle.tl_witness.proofs.BookLaws.{shown_within}
 use Rattle.tl_witness.proofs.PlaceLaws.{named_at}

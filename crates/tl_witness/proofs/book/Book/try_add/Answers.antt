@@ -1,7 +1,7 @@
 use Rattle.std.proofs.Common.{List, string_bytes, refl, sym, subst, arith}
 use Rattle.std.proofs.lemmas.List.{map-set}
 use Rattle.std.proofs.lemmas.Result.{IfOk-weaker, IfErr-weaker}
-use Rattle.tl_proof.specs.Collisions.{step_of}
+use Rattle.tl_proof.specs.Acceptance.{step_of}
 use Rattle.tl_witness.specs.ChainLine.{IsChainLine}
 use Rattle.tl_witness.proofs.BookLaws.{malformed, of_other, at_place, found_asks, shown_within, same_shown}
 use Rattle.tl_witness.proofs.PlaceLaws.{no_place, place_at, named_at}

@@ -1,5 +1,5 @@
 use Rattle.std.proofs.Common.{◌≡◌, ap, sym}
-use Rattle.tl_proof.specs.Collisions.{step_of}
+use Rattle.tl_proof.specs.Acceptance.{step_of}
 use Rattle.tl_witness.specs.Chain.{TreeHead, head_of, first_head, last_head}
 use Rattle.tl_witness.proofs.ChainLaws.{last_head-map}
 use Rattle.tl_witness.proofs.chain.Chain.head.Given as given

@@ -1,6 +1,6 @@
 use Rattle.std.proofs.Common.{map}
 use Rattle.std.proofs.lemmas.List.{map-append}
-use Rattle.tl_proof.specs.Collisions.{step_of}
+use Rattle.tl_proof.specs.Acceptance.{step_of}
 use Rattle.tl_witness.specs.Chain.{Follows, first_head, last_head}
 use Rattle.tl_witness.proofs.ChainLaws.{chain-snoc, line_made}
 use Rattle.tl_witness.proofs.chain.Chain.keep.Goals as goal

@@ -1,6 +1,6 @@
 use Rattle.std.proofs.Common.{List, drop, take, ap, ◌∙◌}
 use Rattle.std.proofs.lemmas.Result.{IfOk-weaker}
-use Rattle.tl_proof.specs.Collisions.{Step}
+use Rattle.tl_proof.specs.Acceptance.{Step}
 use Rattle.tl_witness.proofs.SharedLaws.{later_chain}
 use Rattle.tl_witness.proofs.guarded.Guarded.links.Goals as goal
 
