@@ -1,6 +1,6 @@
 //! The line of each saved link, with its growths refused in turn.
 
-ghost use Rattle.tl_proof.specs.Collisions.{step_of};
+ghost use Rattle.tl_proof.specs.Acceptance.{step_of};
 ghost use Rattle.tl_witness.specs.ChainLine.{IsChainLine};
 
 use crate::posts::{ORIGIN, TIME, fresh_book};

@@ -1,7 +1,7 @@
 //! A saver that keeps the lines of what it saved, and is told whether to fail.
 
 ghost use Rattle.std.specs.Prelude.{◌≡◌, ◌<◌, ◌-◌, ◌^◌, ◌⊎◌, IfOk, IsErr, string_bytes};
-ghost use Rattle.tl_proof.specs.Collisions.{step_of};
+ghost use Rattle.tl_proof.specs.Acceptance.{step_of};
 
 use std::alloc::{AllocError, Allocator, Global};
 use tl_proof::{HashList, Link};
@@ -65,7 +65,7 @@ fn copied<A: Allocator>(
 
 impl Saver for KeepingSaver {
     ghost use Rattle.std.specs.Prelude.{map, string_bytes};
-    ghost use Rattle.tl_proof.specs.Collisions.{step_of};
+    ghost use Rattle.tl_proof.specs.Acceptance.{step_of};
 
     ghost saved = { λ s. record { failures = s.failures; links = map (λ p. (string_bytes p.0, step_of p.1)) s.saved.items } };
 
