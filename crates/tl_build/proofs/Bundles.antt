@@ -8,7 +8,7 @@ use Rattle.std.proofs.lemmas.List.{take-map, drop-map}
 use Rattle.std.proofs.lemmas.List.Elements.{All-take, All-drop, All-get_or}
 use Rattle.tl_tile.specs.Bundle.{IsShortEntry, AreShortEntries}
 use Rattle.tl_tile.specs.ReadBundle.{WritesBundle}
-use Rattle.tl_server.specs.Lines.{first_too_long, is_too_long}
+use Rattle.tl_command.specs.Lines.{first_too_long, is_too_long}
 use Rattle.tl_tile.specs.declared.bundle.BundleFault.{BundleFault}
 use Rattle.tl_tile.specs.declared.bundle.BundleFault.TheVariants.{EntryTooLong, Truncated, Trailing, OutOfMemory}
 

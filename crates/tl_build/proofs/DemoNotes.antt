@@ -4,7 +4,7 @@ use Rattle.std.specs.Prelude.{Err, Some, IsTrue, slice_get, bytes_eq}
 use Rattle.sha2.specs.Sha256.{sha256}
 use Rattle.tl_hash.specs.Sha256Length.{length-sha256}
 use Rattle.std.proofs.lemmas.Bool.{not_from_true}
-use Rattle.tl_server.proofs.HashLines.{same_word}
+use Rattle.tl_command.proofs.HashLines.{same_word}
 use Rattle.tl_note.specs.declared.fault.NoteFault.{NoteFault}
 use Rattle.tl_note.specs.declared.fault.NoteFault.TheVariants.{Malformed, BadName, Ambiguous, InvalidSignature, Unverified, Sign, OutOfMemory}
 use Rattle.tl_note.specs.Key.{SigningKey, IsKeyName}
@@ -12,7 +12,7 @@ use Rattle.tl_note.specs.Note.{IsNoteText}
 use Rattle.tl_note.specs.SignNote.{SignsNote}
 use Rattle.tl_note.proofs.OneNote.{name_plain}
 use Rattle.tl_checkpoint.specs.Checkpoint.{IsOneLine}
-use Rattle.tl_server.specs.DemoKey.{Demo, padded_secret, hmac, demo_signing_key}
+use Rattle.tl_key.specs.DemoKey.{Demo, padded_secret, hmac, demo_signing_key}
 
 -- a key's name is one line
 pub name_is_one_line : (name : List ℕ) → IsKeyName name → IsOneLine name

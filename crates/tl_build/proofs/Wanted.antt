@@ -13,13 +13,13 @@ use Rattle.tl_tile.specs.Needed.{needed_resources}
 use Rattle.tl_tile.proofs.Levels.{positive_256}
 use Rattle.tl_tile.proofs.OnePath.{only_path}
 use Rattle.tl_tile.proofs.TileTexts.{scaled_le}
-use Rattle.tl_server.specs.Device.{Passage, IsUnwritten}
-use Rattle.tl_server.specs.Lines.{entries_of, first_too_long}
-use Rattle.tl_server.specs.Run.{Outcome, Prints, PrintsRefusal, Fails, Runs, CameOf, IsAsking, ReadEntries, most_input}
-use Rattle.tl_server.specs.declared.fault.RunFault.{RunFault}
-use Rattle.tl_server.specs.declared.fault.RunFault.TheVariants as fault
-use Rattle.tl_server.proofs.Asking.{gave_entry, none_too_long}
-use Rattle.tl_server.proofs.LinesLemmas.{length-entries_of, entries_of_nothing}
+use Rattle.tl_device.specs.Device.{Passage, IsUnwritten}
+use Rattle.tl_command.specs.Lines.{entries_of, first_too_long}
+use Rattle.tl_command.specs.Run.{Outcome, Prints, PrintsRefusal, Fails, Runs, CameOf, IsAsking, ReadEntries, most_input}
+use Rattle.tl_command.specs.declared.fault.RunFault.{RunFault}
+use Rattle.tl_command.specs.declared.fault.RunFault.TheVariants as fault
+use Rattle.tl_command.proofs.Asking.{gave_entry, none_too_long}
+use Rattle.tl_command.proofs.LinesLemmas.{length-entries_of, entries_of_nothing}
 use Rattle.tl_build.specs.Mirror.{checkpoint_note, mirrored, resource_text, listing_text}
 use Rattle.tl_build.specs.Build.{IsPrinted, IsMissing, BuildComes, IsLawfulPath, RunsBuild}
 use Rattle.tl_build.specs.Inner.Steps.{IsAsked, IsServed, IsShown, AnswersWanted, WantedComes}

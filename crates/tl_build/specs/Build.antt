@@ -3,11 +3,11 @@ use Rattle.std.specs.Prelude.{◌≡◌, ◌≢◌, ℕ, List, length, Contains,
 use Rattle.tl_note.specs.Key.{IsKeyName}
 use Rattle.tl_tile.specs.declared.resource.Resource.{Resource}
 use Rattle.tl_tile.specs.Path.{IsResource, path_text}
-use Rattle.tl_server.specs.Device.{Passage, IsUnread, IsUnwritten}
-use Rattle.tl_server.specs.Lines.{entries_of, first_too_long}
-use Rattle.tl_server.specs.Run.{Outcome, Prints, PrintsRefusal, Fails, Runs, IsEntryFault}
-use Rattle.tl_server.specs.declared.fault.RunFault.{RunFault}
-use Rattle.tl_server.specs.declared.fault.RunFault.TheVariants.{BadOrigin, BadPath, NotThere}
+use Rattle.tl_device.specs.Device.{Passage, IsUnread, IsUnwritten}
+use Rattle.tl_command.specs.Lines.{entries_of, first_too_long}
+use Rattle.tl_command.specs.Run.{Outcome, Prints, PrintsRefusal, Fails, Runs, IsEntryFault}
+use Rattle.tl_command.specs.declared.fault.RunFault.{RunFault}
+use Rattle.tl_command.specs.declared.fault.RunFault.TheVariants.{BadOrigin, BadPath, NotThere}
 use Rattle.tl_build.specs.Mirror.{checkpoint_note, mirrored, resource_text, listing_text}
 
 -- a resource of the log of these entries has this path, and this is its text

@@ -5,13 +5,14 @@ ghost use Rattle.sha2.specs.Sha256.{sha256};
 ghost use Rattle.tl_note.specs.Key.{IsKeyName};
 ghost use Rattle.tl_note.specs.Note.{IsNoteText, note_bytes};
 ghost use Rattle.tl_store.specs.Store.{StandsFor};
-ghost use Rattle.tl_server.specs.DemoKey.{demo_signing_key};
+ghost use Rattle.tl_key.specs.DemoKey.{demo_signing_key};
 ghost use Rattle.tl_build.specs.Mirror.{checkpoint_note, demo_signature};
 
 use std::alloc::{Allocator, Global};
 use tl_hash::Sha256Tree;
 use tl_note::{NoteFault, Signer, sign_note};
-use tl_server::{RunFault, checkpoint_of, demo_key, root_of};
+use tl_command::{RunFault, checkpoint_of, root_of};
+use tl_key::demo_key;
 use tl_store::HashStore;
 
 // The demonstration key refuses nothing, so its note fails for want of memory alone.

@@ -4,8 +4,8 @@ ghost use Rattle.std.specs.Prelude.{◌≡◌, ◌<◌, ◌^◌, ◌↔◌, ◌�
 ghost use Rattle.tl_note.specs.Key.{IsKeyName};
 ghost use Rattle.tl_tile.specs.Bundle.{AreShortEntries};
 ghost use Rattle.tl_tile.specs.declared.resource.Resource.TheVariants as resource;
-ghost use Rattle.tl_server.specs.Device.{passage};
-ghost use Rattle.tl_server.specs.Run.{Runs};
+ghost use Rattle.tl_device.specs.Device.{passage};
+ghost use Rattle.tl_command.specs.Run.{Runs};
 ghost use Rattle.tl_build.specs.Mirror.{checkpoint_note, mirrored};
 ghost use Rattle.tl_build.specs.Build.{RunsBuild};
 ghost use Rattle.tl_build.specs.Inner.Steps.{ReadsPath, IsServed, AnswersWanted, WantedComes};
@@ -16,7 +16,8 @@ use crate::resource_bytes::{bundle_of, resource_bytes};
 use std::alloc::{Allocator, Global};
 use std::io::{Read, Write};
 use tl_note::is_key_name;
-use tl_server::{Counted, MOST_INPUT, RunFault, read_entries, store_of, write_whole};
+use tl_command::{MOST_INPUT, RunFault, print_text, read_entries, store_of};
+use tl_device::Counted;
 use tl_tile::{Resource, parse_path};
 
 // The resource with the path that is asked for.
@@ -124,7 +125,7 @@ fn build<A: Allocator + Copy, R: Read, W: Write>(
         Ok(answer) => answer,
         Err(fault) => return Err(fault),
     };
-    write_whole(writer, answer.as_slice())?;
+    print_text(writer, answer.as_slice())?;
     Ok(())
 }
 

@@ -12,7 +12,7 @@ use crate::resource_bytes::resource_bytes;
 use itoa::Buffer;
 use std::alloc::{AllocError, Allocator};
 use tl_hash::Sha256Tree;
-use tl_server::RunFault;
+use tl_command::RunFault;
 use tl_store::HashStore;
 use tl_tile::{Resource, needed, path_of};
 

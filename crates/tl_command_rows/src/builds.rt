@@ -5,7 +5,9 @@ use std::test::Fail;
 use tl_build::run_build;
 use tl_hash::{Sha256Tree, leaf_hash};
 use tl_note::{NoteFault, Verifier, open_note};
-use tl_server::{Counted, RunFault, demo_key, run_head};
+use tl_command::{RunFault, run_head};
+use tl_device::Counted;
+use tl_key::demo_key;
 
 /// The name of the log of the worked runs.
 pub(crate) const ORIGIN: &str = "example.com/log";

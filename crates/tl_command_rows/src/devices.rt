@@ -6,7 +6,8 @@ use std::io::{ErrorKind, Read, Write};
 use std::process::Abort;
 use std::test::Fail;
 use tl_build::run_build;
-use tl_server::{Counted, RunFault, run_head};
+use tl_command::{RunFault, run_head};
+use tl_device::Counted;
 use tl_testing::texts::TWO_ENTRIES;
 use tl_testing::{FailingReader, FailingWriter};
 

@@ -2,7 +2,8 @@
 
 use std::alloc::Global;
 use std::test::Fail;
-use tl_server::{Counted, RunFault, exit_of, fault_line, read_entries, run_head};
+use tl_command::{RunFault, exit_of, fault_line, read_entries, run_head};
+use tl_device::Counted;
 use tl_testing::texts::{NO_ENTRY, ONE_ENTRY, TWO_ENTRIES};
 
 // What `head` writes for this input, and its fault.

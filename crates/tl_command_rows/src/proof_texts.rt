@@ -3,7 +3,8 @@
 use std::alloc::{AllocError, Global};
 use std::process::Abort;
 use std::test::Fail;
-use tl_server::{Counted, RunFault, run_check, run_consistency, run_inclusion};
+use tl_command::{RunFault, run_check, run_consistency, run_inclusion};
+use tl_device::Counted;
 use tl_testing::Refusing;
 
 const EMPTY_ROOT: &str = "47DEQpj8HBSa+/TImW+5JCeuQeRkm5NMpJWZG3hSuFU=";

@@ -5,7 +5,8 @@ use std::alloc::Global;
 use std::process::Abort;
 use std::test::Fail;
 use tl_hash::{Sha256Tree, entry_root};
-use tl_server::{Counted, RunFault, fault_line, read_entries, run_head};
+use tl_command::{RunFault, fault_line, read_entries, run_head};
+use tl_device::Counted;
 use tl_testing::Refusing;
 use tl_testing::texts::TWO_ENTRIES;
 

@@ -2,7 +2,7 @@
 
 use std::alloc::{AllocError, Global};
 use std::test::Fail;
-use tl_server::{Job, WordsFault, read_words};
+use tl_command::{Job, WordsFault, read_words};
 
 // The job that these words ask for, or whether there is a text on how to call the program.
 fn job_of(alloc: Global, words: &[&str]) -> Result<Result<Job, bool>, AllocError> {

@@ -4,19 +4,16 @@ ghost use Rattle.std.specs.Prelude.{◌≡◌, false};
 
 use std::marker::Model;
 
-pub(crate) mod reading;
-pub(crate) mod writing;
-
-/// A reader or a writer, and whether a call of it ever failed. An interrupted call and a write that takes no byte count as
-/// failures.
+/// A reader or a writer, and whether a call of it ever failed. An interrupted call and a write that takes no byte count
+/// as failures.
 #[derive(Drop)]
 pub struct Counted<D> {
-    device: D,
-    has_failed: bool,
+    pub(crate) device: D,
+    pub(crate) has_failed: bool,
 }
 
 impl<D> Model for Counted<D> {
-    ghost use Rattle.tl_server.specs.Device as seen;
+    ghost use Rattle.tl_device.specs.Device as seen;
 
     ghost Value = { seen.Counted D };
 

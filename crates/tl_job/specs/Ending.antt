@@ -1,9 +1,9 @@
 -- How a run of a command ends.
 use Rattle.std.specs.Prelude.{◌≡◌, ◌⊎◌, ℕ, List, [], Result, Ok, Err, Option, Some, None}
 use Rattle.tl_note.specs.Text.{line}
-use Rattle.tl_server.specs.Device.{Passage, IsUnwritten, WroteWhole, WrotePart}
-use Rattle.tl_server.specs.Faults.{exit_status, fault_text}
-use Rattle.tl_server.specs.declared.fault.RunFault.{RunFault}
+use Rattle.tl_device.specs.Device.{Passage, IsUnwritten, WroteWhole, WrotePart}
+use Rattle.tl_command.specs.Faults.{exit_status, fault_text}
+use Rattle.tl_command.specs.declared.fault.RunFault.{RunFault}
 
 -- the exit status: 0 where all was done, and else that of the fault
 abbrev pub status_of : Result (Unit {0}) RunFault → ℕ

@@ -1,14 +1,14 @@
 -- What the program does with a job: which command runs, with which options, and how the run ends.
 use Rattle.std.specs.Prelude.{◌≡◌, ◌⊎◌, ℕ, Result, string_bytes, option_map}
 use Rattle.sha2.specs.Sha256.{sha256}
-use Rattle.tl_server.specs.Device.{Passage, IsUnread, IsUnwritten}
-use Rattle.tl_server.specs.Run.{Runs}
-use Rattle.tl_server.specs.Head.{RunsHead}
-use Rattle.tl_server.specs.ProofCommands.{InclusionComes, ConsistencyComes, CheckComes}
-use Rattle.tl_server.specs.AuditCommand.{AuditComes}
-use Rattle.tl_server.specs.declared.fault.RunFault.{RunFault}
-use Rattle.tl_server.specs.declared.words.Job.{Job}
-use Rattle.tl_server.specs.declared.words.Job.TheVariants.{Head, Build, Inclusion, Consistency, Check, Audit}
+use Rattle.tl_device.specs.Device.{Passage, IsUnread, IsUnwritten}
+use Rattle.tl_command.specs.Run.{Runs}
+use Rattle.tl_command.specs.Head.{RunsHead}
+use Rattle.tl_command.specs.ProofCommands.{InclusionComes, ConsistencyComes, CheckComes}
+use Rattle.tl_command.specs.AuditCommand.{AuditComes}
+use Rattle.tl_command.specs.declared.fault.RunFault.{RunFault}
+use Rattle.tl_command.specs.declared.words.Job.{Job}
+use Rattle.tl_command.specs.declared.words.Job.TheVariants.{Head, Build, Inclusion, Consistency, Check, Audit}
 use Rattle.tl_build.specs.Build.{RunsBuild}
 use Rattle.tl_job.specs.Ending.{status_of, told_of, Told}
 

@@ -2,11 +2,12 @@
 
 ghost use Rattle.std.specs.Prelude.{◌≡◌};
 ghost use Rattle.tl_job.specs.Ending.{Told, status_of, told_of};
-ghost use Rattle.tl_server.specs.Device.{passage};
+ghost use Rattle.tl_device.specs.Device.{passage};
 
 use std::alloc::Allocator;
 use std::io::Write;
-use tl_server::{Counted, RunFault, exit_of, fault_line, write_whole};
+use tl_command::{RunFault, exit_of, fault_line};
+use tl_device::{Counted, write_whole};
 
 /// Ends a run of a command: a fault's line is written to `errors`, if it has one and there is memory for it, and the answer is
 /// the exit status: 0 where all was done, and else the fault's.

@@ -1,24 +1,9 @@
--- A key for demonstrations: HMAC (RFC 2104) with SHA-256.
-use Rattle.std.specs.Prelude.{ℕ, ◌-◌, false, List, ◌∷◌, ◌++◌, length, map, take, replicate, nat_lt, if◌then◌else◌, bit_xor, bytes_eq, codes}
+-- A key for demonstrations: it signs with HMAC under a secret that its verifier has too.
+use Rattle.std.specs.Prelude.{ℕ, false, List, ◌∷◌, ◌++◌, take, bytes_eq, codes}
 use Rattle.std.specs.Int.{w32, from_be_bytes}
 use Rattle.sha2.specs.Sha256.{sha256}
+use Rattle.tl_key.specs.Hmac.{hmac}
 use Rattle.tl_note.specs.Key.{Key, SigningKey}
-
--- the secret, or its digest where it is longer than a block of 64 bytes
-abbrev pub short_secret : List ℕ → List ℕ
-short_secret secret = if nat_lt 64 (length secret) then sha256 secret else secret
-
--- filled with zeros to a block
-abbrev pub secret_block : List ℕ → List ℕ
-secret_block secret = short_secret secret ++ replicate (64 - length (short_secret secret)) 0
-
--- each byte of the block combined with the pad
-abbrev pub padded_secret : List ℕ → ℕ → List ℕ
-padded_secret secret pad = map (λ byte. bit_xor byte pad) (secret_block secret)
-
--- HMAC of a message (RFC 2104, section 2)
-abbrev pub hmac : List ℕ → List ℕ → List ℕ
-hmac secret message = sha256 (padded_secret secret 0x5c ++ sha256 (padded_secret secret 0x36 ++ message))
 
 -- the first four bytes of a digest of the key's name, its kind and its secret's digest
 abbrev pub demo_id : List ℕ → List ℕ → ℕ

@@ -1,56 +1,16 @@
 //! A key for demonstrations, as signer and verifier: HMAC with SHA-256. Its verifier holds the secret.
 
-ghost use Rattle.std.specs.Prelude.{◌≡◌, ◌≤◌, ◌-◌, ◌⊎◌, ◌++◌, ◌∷◌, IfOk, IfErr, codes, length, replicate, take};
+ghost use Rattle.std.specs.Prelude.{◌≡◌, ◌⊎◌, ◌++◌, ◌∷◌, IfOk, IfErr, codes, take};
 ghost use Rattle.std.specs.Int.{w32, from_be_bytes};
 ghost use Rattle.sha2.specs.Sha256.{sha256};
 ghost use Rattle.tl_note.specs.Key.{IsKeyName};
-ghost use Rattle.tl_server.specs.DemoKey as spec;
+ghost use Rattle.tl_key.specs.DemoKey as spec;
 
 use std::alloc::{Allocator, Global};
 use std::marker::Model;
 use tl_hash::{Hash, Sha256Tree, TreeHash};
+use crate::hmac::hmac;
 use tl_note::{NoteFault, SignFault, Signer, Verifier, is_key_name};
-
-// These bytes, filled with zeros to a block.
-fn filled(bytes: &[u8]) -> [u8; 64]
-    requires { length bytes.now ≤ 64 }
-    ensures { result ≡ bytes.now ++ replicate (64 - length bytes.now) 0 }
-{
-    let mut block = [0u8; 64];
-    block[..bytes.len()].copy_from_slice(bytes);
-    block
-}
-
-// The secret, or its digest where it is longer than a block, filled with zeros to a block.
-fn block_of(secret: &[u8]) -> [u8; 64]
-    ensures block { result ≡ spec.secret_block secret.now }
-    ensures length { length result ≡ 64 }
-{
-    if secret.len() > 64 {
-        filled(Sha256Tree.digest(secret, &[], &[]).as_bytes())
-    } else {
-        filled(secret)
-    }
-}
-
-// The block of the secret, each byte combined with the pad.
-fn padded(secret: &[u8], pad: u8) -> [u8; 64]
-    ensures { result ≡ spec.padded_secret secret.now pad }
-{
-    let mut block = block_of(secret);
-    for byte in block.iter_mut() {
-        *byte ^= pad;
-    }
-    block
-}
-
-/// HMAC with SHA-256 of a message under a secret (RFC 2104, with a block of 64 bytes). It takes no memory.
-pub fn hmac(secret: &[u8], message: &[u8]) -> Hash
-    ensures { result ≡ spec.hmac secret.now message.now }
-{
-    let inner = Sha256Tree.digest(&padded(secret, 0x36), message, &[]);
-    Sha256Tree.digest(&padded(secret, 0x5c), inner.as_bytes(), &[])
-}
 
 // The digest of a key's name, its kind and its secret's digest.
 fn key_digest(name: &str, secret_digest: Hash) -> Hash
@@ -89,7 +49,7 @@ pub struct DemoKey<A: Allocator> {
 
 impl<A: Allocator> Model for DemoKey<A> {
     ghost use Rattle.std.specs.Prelude.{◌≡◌, string_bytes, vec_items};
-    ghost use Rattle.tl_server.specs.DemoKey.{Demo, demo_id};
+    ghost use Rattle.tl_key.specs.DemoKey.{Demo, demo_id};
 
     ghost Value = { Demo };
 
@@ -119,7 +79,7 @@ pub fn demo_key<A: Allocator + Copy>(
 }
 
 impl<A: Allocator + Send + Sync> Signer for DemoKey<A> {
-    ghost use Rattle.tl_server.specs.DemoKey.{demo_signing_key};
+    ghost use Rattle.tl_key.specs.DemoKey.{demo_signing_key};
 
     ghost signing_key = { λ k. demo_signing_key k };
 
@@ -141,7 +101,7 @@ impl<A: Allocator + Send + Sync> Signer for DemoKey<A> {
 }
 
 impl<A: Allocator + Send + Sync> Verifier for DemoKey<A> {
-    ghost use Rattle.tl_server.specs.DemoKey.{demo_verifier_key};
+    ghost use Rattle.tl_key.specs.DemoKey.{demo_verifier_key};
 
     ghost key = { λ k. demo_verifier_key k };
 

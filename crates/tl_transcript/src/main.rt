@@ -8,7 +8,8 @@
 use std::alloc::{AllocError, Global};
 use std::{io, str};
 use tl_job::run_words;
-use tl_server::{Counted, MOST_INPUT, read_entries};
+use tl_command::{MOST_INPUT, read_entries};
+use tl_device::Counted;
 
 // One run: its command line and its input.
 #[derive(Drop)]

@@ -3,10 +3,10 @@ use Rattle.std.specs.Prelude.{◌≡◌, ℕ, List, length, Contains, None, Some
 use Rattle.std.specs.declared.vec.Vec.{Vec}
 use Rattle.tl_tile.specs.declared.resource.Resource.{Resource}
 use Rattle.tl_tile.specs.Path.{IsResource, path_text}
-use Rattle.tl_server.specs.declared.fault.RunFault.{RunFault}
-use Rattle.tl_server.specs.declared.fault.RunFault.TheVariants.{BadPath, NotThere, OutOfMemory}
-use Rattle.tl_server.specs.Lines.{entries_of, first_too_long}
-use Rattle.tl_server.specs.Run.{Outcome, Prints, PrintsRefusal, Fails, IsEntryFault}
+use Rattle.tl_command.specs.declared.fault.RunFault.{RunFault}
+use Rattle.tl_command.specs.declared.fault.RunFault.TheVariants.{BadPath, NotThere, OutOfMemory}
+use Rattle.tl_command.specs.Lines.{entries_of, first_too_long}
+use Rattle.tl_command.specs.Run.{Outcome, Prints, PrintsRefusal, Fails, IsEntryFault}
 use Rattle.tl_build.specs.Mirror.{checkpoint_note, mirrored, resource_text, listing_text}
 use Rattle.tl_build.specs.Build.{IsLawfulPath}
 

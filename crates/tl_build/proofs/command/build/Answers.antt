@@ -2,11 +2,11 @@ use Rattle.tl_build.specs.Mirror.{mirrored}
 use Rattle.tl_build.specs.Inner.Steps.{IsServed}
 use Rattle.std.proofs.Common.{◌<◌, ◌⊎◌, inl, inr, rules, ap, arith, length, subst, sym, map, vec_items, ◌∙◌}
 use Rattle.std.proofs.lemmas.List.{length-map}
-use Rattle.tl_server.specs.Lines.{first_too_long}
-use Rattle.tl_server.proofs.LinesLemmas.{length-entries_of}
+use Rattle.tl_command.specs.Lines.{first_too_long}
+use Rattle.tl_command.proofs.LinesLemmas.{length-entries_of}
 use Rattle.tl_build.proofs.Bundles.{none_too_long}
 use Rattle.tl_build.proofs.Wanted.{answer_fails, asks_for}
-use Rattle.tl_server.specs.Run.{ReadEntries, most_input}
+use Rattle.tl_command.specs.Run.{ReadEntries, most_input}
 use Rattle.tl_build.proofs.command.build.Goals as goal
 
 pub answer_of-requires-clause-few : goal.answer_of-requires-clause-few

@@ -1,6 +1,6 @@
 use Rattle.std.proofs.Common.{◌≡◌, ◌+◌, ◌-◌, vec_items, vec_len}
 use Rattle.std.specs.Io.KnownBytes.{Consumes}
-use Rattle.tl_server.proofs.device.reading.read_whole.Given as goal
+use Rattle.tl_device.proofs.reading.read_whole.Given as goal
 
 -- the bytes so far were consumed, and the device has not failed in this call
 abbrev pub invariant-loop-buf : goal.invariant-loop-buf

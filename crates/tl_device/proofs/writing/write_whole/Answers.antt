@@ -1,6 +1,6 @@
 use Rattle.std.proofs.Common.{◌∙◌, arith}
-use Rattle.tl_server.proofs.BytesLemmas.{appends_further}
-use Rattle.tl_server.proofs.device.writing.write_whole.Goals as goal
+use Rattle.tl_device.proofs.BytesLemmas.{appends_further}
+use Rattle.tl_device.proofs.writing.write_whole.Goals as goal
 
 pub loop-at-preserved : goal.loop-at-preserved
 loop-at-preserved g c = record {

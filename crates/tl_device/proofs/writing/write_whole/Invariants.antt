@@ -1,6 +1,6 @@
 use Rattle.std.proofs.Common.{◌≡◌, ◌≤◌, ◌-◌, length, take}
 use Rattle.std.specs.Io.KnownBytes.{Appends}
-use Rattle.tl_server.proofs.device.writing.write_whole.Given as goal
+use Rattle.tl_device.proofs.writing.write_whole.Given as goal
 
 -- the text up to here was written, and the device has not failed in this call
 abbrev pub invariant-loop-at : goal.invariant-loop-at

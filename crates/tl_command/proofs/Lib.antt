@@ -1,0 +1,10 @@
+pub mod LinesLemmas
+pub mod Asking
+pub mod StoreLemmas
+pub mod LineTexts
+pub mod LineFields
+pub mod HashLines
+pub mod ProofTexts
+pub mod CountedLines
+pub mod GrowingLemmas
+pub mod CheckpointTexts

@@ -1,0 +1,21 @@
+use Rattle.std.proofs.Common.{◌∙◌, sym, ap, arith, length, vec_items}
+use Rattle.std.proofs.lemmas.List.{take_rest}
+use Rattle.tl_command.proofs.CountedLines.{slices_found, slices_only, counted_none}
+use Rattle.tl_command.proofs.audit_text.reading.counted.Goals as goal
+
+pub returns-then-count-rest-clause-only : goal.returns-then-count-rest-clause-only
+returns-then-count-rest-clause-only g c = λ entries others size e.
+    let read = c.in-Some.ensures in
+    counted_none vec_items c.args.lines.now c.first-item.result c.args.word.now c.in-Some.count c.in-len1-up.len_at_least c.first-item.is (sym c.as_slice.ensures.value ∙ read.1) read.0
+    (omega (arith, c.if-count-rest.true, ap length (take_rest c.args.lines.now 1))) entries others size e
+
+pub returns-clause-found : goal.returns-clause-found
+returns-clause-found g c =
+    slices_found vec_items c.args.lines.now c.first-item.result c.args.word.now c.in-Some.count _ (take_rest c.args.lines.now 1) c.in-len1-up.len_at_least c.first-item.is
+    (sym c.as_slice.ensures.value ∙ c.in-Some.ensures.1) c.if-count-rest.false
+
+pub returns-clause-only : goal.returns-clause-only
+returns-clause-only g c = λ entries others size e.
+    let read = c.in-Some.ensures in
+    slices_only vec_items c.args.lines.now c.first-item.result c.args.word.now c.in-Some.count _ (take_rest c.args.lines.now 1) c.in-len1-up.len_at_least c.first-item.is
+    (sym c.as_slice.ensures.value ∙ read.1) read.0 entries others size e

@@ -1,0 +1,18 @@
+use Rattle.std.proofs.Common.{refl}
+use Rattle.std.proofs.KnownBytes.{Keeps-refl}
+use Rattle.std.proofs.lemmas.Result.{err_from_is_err_and}
+use Rattle.tl_device.specs.Device.{passage}
+use Rattle.tl_command.proofs.Asking.{head_fault, asks_of_head}
+use Rattle.tl_command.proofs.commands.head.run_head.Goals as goal
+
+pub returns-in_err-edge : goal.returns-in_err-edge
+returns-in_err-edge g c =
+    let p = err_from_is_err_and c.from_residual.result c.from_residual.ensures.1 in
+    rw (p.1, p.2)
+    (head_fault c.args.origin.now _ _ c.in_err-edge.field-0.0 (c.if-not-is_one_line.ensures.0 refl) (Keeps-refl (g.W.Write.contents c.args.writer.now.device), refl) c.in_err-edge.ensures)
+
+pub returns-in_err-text : goal.returns-in_err-text
+returns-in_err-text g c =
+    let p = err_from_is_err_and c.from_residual-in_err-text.result c.from_residual-in_err-text.ensures.1 in
+    rw (p.1, p.2, c.in_err-text.ensures.fault)
+    ((c.if-not-is_one_line.ensures.0 refl), (c.in_ok-edge.ensures.whole.steady, (Keeps-refl (g.W.Write.contents c.args.writer.now.device), refl), asks_of_head c.args.origin.now (passage g.R.Read.remaining c.args.reader.now c.read_edge.new.reader)))

@@ -1,0 +1,14 @@
+use Rattle.std.proofs.Common.{ℕ, ◌+◌, ◌-◌, ◌≤◌, ◌++◌, List, length, take}
+use Rattle.tl_command.specs.Inner.Growing.{IsGrowing}
+use Rattle.tl_command.proofs.growing.Growing.take.Given as goal
+
+-- the piece was taken up to here
+abbrev pub invariant-loop-end : goal.invariant-loop-end
+invariant-loop-end g l = record {
+  within : l.at ≤ length l.piece;
+  size : l.self.edge.size ≤ l.initial.self.edge.size + l.at;
+  grows : (input : List ℕ) → IsGrowing l.initial.self input → IsGrowing l.self (input ++ take l.at l.piece);
+}
+
+abbrev pub decreases-loop-end : goal.decreases-loop-end
+decreases-loop-end g l = length l.piece - l.at

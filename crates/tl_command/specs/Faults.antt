@@ -1,0 +1,33 @@
+-- What a fault of a command prints, and its exit status.
+use Rattle.std.specs.Prelude.{ℕ, List, ◌++◌, codes, Option, Some, None}
+use Rattle.tl_note.specs.Text.{number_text}
+use Rattle.tl_command.specs.declared.fault.RunFault.{RunFault}
+use Rattle.tl_command.specs.declared.fault.RunFault.TheVariants.{Refused, Read, Write, TooLarge, EntryTooLong, BadOrigin, BadIndex, BadOld, BadPath, NotThere, Malformed, Chain, Sign, Operator, Listen, Accept, OutOfMemory}
+
+-- the line on standard error, without its newline; a refusal has none, since its answer is on standard output
+abbrev pub fault_text : RunFault → Option (List ℕ)
+fault_text Refused = None
+fault_text Read = Some (codes "tlog: read failed")
+fault_text Write = Some (codes "tlog: write failed")
+fault_text TooLarge = Some (codes "tlog: input too large")
+fault_text (EntryTooLong place) = Some (codes "tlog: entry " ++ number_text place ++ codes " too long")
+fault_text BadOrigin = Some (codes "tlog: bad origin")
+fault_text BadIndex = Some (codes "tlog: bad index")
+fault_text BadOld = Some (codes "tlog: bad old size")
+fault_text BadPath = Some (codes "tlog: bad path")
+fault_text NotThere = Some (codes "tlog: not there")
+fault_text Malformed = Some (codes "tlog: malformed input")
+fault_text (Chain place) = Some (codes "tlog: chain " ++ number_text place ++ codes " refused")
+fault_text Sign = Some (codes "tlog: signing failed")
+fault_text Operator = Some (codes "tlog: operator refused")
+fault_text Listen = Some (codes "tlog: listen failed")
+fault_text Accept = Some (codes "tlog: accept failed")
+fault_text OutOfMemory = Some (codes "tlog: out of memory")
+
+-- the exit status: 3 where a device failed, else 1
+abbrev pub exit_status : RunFault → ℕ
+exit_status Read = 3
+exit_status Write = 3
+exit_status Listen = 3
+exit_status Accept = 3
+exit_status _ = 1

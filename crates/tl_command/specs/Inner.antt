@@ -1,0 +1,9 @@
+-- Private words: what contracts of private functions and proofs need.
+pub
+    mod Answers
+pub
+    mod Shown
+pub
+    mod Growing
+pub
+    mod Input

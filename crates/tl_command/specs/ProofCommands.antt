@@ -1,0 +1,60 @@
+-- The commands `inclusion`, `consistency` and `check`.
+use Rattle.std.specs.Prelude.{◌≡◌, ◌≢◌, ℕ, ◌<◌, ◌≤◌, List, [], length, take, slice_index_or, codes, None}
+use Rattle.sha2.specs.Sha256.{sha256}
+use Rattle.tl_hash.specs.Tree.{leaf_input, tree_hash}
+use Rattle.tl_note.specs.Text.{line}
+use Rattle.tl_proof.specs.Proofs.{inclusion_proof, consistency_proof}
+use Rattle.tl_command.specs.Lines.{entries_of, first_too_long}
+use Rattle.tl_command.specs.ProofText.{Inclusion, Consistency, Proof, IsProof, inclusion_text, consistency_text, proof_text, Accepts}
+use Rattle.tl_command.specs.Run.{Outcome, Prints, PrintsRefusal, Fails, IsEntryFault}
+use Rattle.tl_command.specs.declared.fault.RunFault.TheVariants.{BadIndex, BadOld, Malformed}
+
+-- the inclusion proof of the entry at this index (RFC 6962, section 2.1.1)
+abbrev pub inclusion_of : ℕ → List (List ℕ) → Inclusion
+inclusion_of index entries = record {
+  index = index;
+  size = length entries;
+  leaf = sha256 (leaf_input (slice_index_or entries index []));
+  root = tree_hash sha256 entries;
+  proof = inclusion_proof sha256 index entries;
+}
+
+-- the consistency proof for the first `old` entries (RFC 6962, section 2.1.2)
+abbrev pub consistency_of : ℕ → List (List ℕ) → Consistency
+consistency_of old entries = record {
+  old = old;
+  old_root = tree_hash sha256 (take old entries);
+  size = length entries;
+  root = tree_hash sha256 entries;
+  proof = consistency_proof sha256 old entries;
+}
+
+-- what comes of an input to `inclusion`: the proof over its lines, a line that is too long, or no entry at the index
+abbrev pub InclusionComes : ℕ → List ℕ → Outcome → Type 0
+InclusionComes index input (Prints text) =
+    (first_too_long (entries_of input) ≡ None) × (index < length (entries_of input)) × (text ≡ inclusion_text (inclusion_of index (entries_of input)))
+InclusionComes index input (PrintsRefusal text) = ⊥
+InclusionComes index input (Fails BadIndex) = (first_too_long (entries_of input) ≡ None) × (length (entries_of input) ≤ index)
+InclusionComes index input (Fails fault) = IsEntryFault (entries_of input) fault
+
+-- what comes of an input to `consistency`: the proof over its lines, a line that is too long, or fewer lines than the old size
+abbrev pub ConsistencyComes : ℕ → List ℕ → Outcome → Type 0
+ConsistencyComes old input (Prints text) =
+    (first_too_long (entries_of input) ≡ None) × (old ≤ length (entries_of input)) × (text ≡ consistency_text (consistency_of old (entries_of input)))
+ConsistencyComes old input (PrintsRefusal text) = ⊥
+ConsistencyComes old input (Fails BadOld) = (first_too_long (entries_of input) ≡ None) × (length (entries_of input) < old)
+ConsistencyComes old input (Fails fault) = IsEntryFault (entries_of input) fault
+
+-- the input is the text of a proof of which this holds
+pub record IsTextOf (Fact : Proof → Type 0) (input : List ℕ) : Type 0 where
+  pub proof : Proof
+  pub lawful : IsProof proof
+  pub spelled : input ≡ proof_text proof
+  pub fact : Fact proof
+
+-- what comes of an input to `check`: a proof's text is accepted or refused, and another input is malformed
+abbrev pub CheckComes : List ℕ → Outcome → Type 0
+CheckComes input (Prints text) = IsTextOf (Accepts sha256) input × (text ≡ line (codes "accepted"))
+CheckComes input (PrintsRefusal text) = IsTextOf (λ p. ¬ (Accepts sha256 p)) input × (text ≡ line (codes "refused"))
+CheckComes input (Fails Malformed) = (p : Proof) → IsProof p → input ≢ proof_text p
+CheckComes input (Fails fault) = ⊥

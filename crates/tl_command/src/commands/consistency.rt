@@ -1,0 +1,68 @@
+//! The command `consistency`: the consistency proof from the first lines of the input to all of them.
+
+ghost use Rattle.std.specs.Prelude.{◌≡◌, ◌<◌, ◌≤◌, ◌^◌, length, map, vec_items, IfOk, IfErr};
+ghost use Rattle.tl_device.specs.Device.{passage};
+ghost use Rattle.tl_command.specs.ProofText.{consistency_text};
+ghost use Rattle.tl_command.specs.Inner.Shown.{consistency_shown};
+ghost use Rattle.tl_command.specs.ProofCommands.{consistency_of, ConsistencyComes};
+ghost use Rattle.tl_command.specs.Run.{Runs};
+
+use tl_device::Counted;
+use crate::streams::{MOST_INPUT, print_text};
+use crate::entries::read_entries;
+use crate::fault::RunFault;
+use crate::proof_text::ConsistencyProof;
+use crate::proof_text::writing::consistency_bytes;
+use crate::stored::{root_of, store_of};
+use std::alloc::Allocator;
+use std::io::{Read, Write};
+use tl_hash::Sha256Tree;
+use tl_proof::{ProveFault, prove_tree};
+
+// The consistency proof for the first `old` entries.
+fn proof_of<A: Allocator + Copy>(
+    alloc: A,
+    old: u64,
+    entries: &[Vec<u8, A>],
+) -> Result<ConsistencyProof<A>, RunFault>
+    requires old { old ≤ length entries.now }
+    requires few { length entries.now < 2 ^ 32 }
+    ensures proof { IfOk result (λ p. consistency_shown p ≡ consistency_of old (map vec_items entries.now)) }
+    ensures fault { IfErr result (λ fault. fault ≡ RunFault.OutOfMemory) }
+{
+    let store = store_of(alloc, entries)?;
+    let size = store.size();
+    let proof = match prove_tree(alloc, Sha256Tree, size, old, &store) {
+        Ok(proof) => proof,
+        Err(ProveFault::OutOfMemory) => return Err(RunFault::OutOfMemory),
+        Err(_) => unreachable!(),
+    };
+    Ok(ConsistencyProof {
+        old,
+        old_root: root_of(alloc, &store, old)?,
+        size,
+        root: root_of(alloc, &store, size)?,
+        proof,
+    })
+}
+
+/// Reads the whole input and writes the text of the consistency proof (RFC 6962, section 2.1.2) from the tree of its first `old`
+/// lines to that of all of them under SHA-256. An old size above the number of lines is `BadOld`. Nothing is written before the
+/// whole input was read.
+pub fn run_consistency<A: Allocator + Copy, R: Read, W: Write>(
+    alloc: A,
+    old: u64,
+    reader: &mut Counted<R>,
+    writer: &mut Counted<W>,
+) -> Result<(), RunFault>
+    ensures { Runs (ConsistencyComes old) (passage R.remaining reader.old reader.new) (passage W.contents writer.old writer.new) result }
+{
+    let entries = read_entries(alloc, reader, MOST_INPUT)?;
+    if old > entries.len() as u64 {
+        return Err(RunFault::BadOld);
+    }
+    let proof = proof_of(alloc, old, entries.as_slice())?;
+    let text = consistency_bytes(alloc, &proof)?;
+    print_text(writer, text.as_slice())?;
+    Ok(())
+}

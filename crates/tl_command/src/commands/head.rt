@@ -1,0 +1,34 @@
+//! The command `head`: the checkpoint of the log whose entries are the lines of the input.
+
+ghost use Rattle.tl_device.specs.Device.{passage};
+ghost use Rattle.tl_command.specs.Head.{RunsHead};
+
+use crate::checkpoint_text::checkpoint_of;
+use tl_device::Counted;
+use crate::streams::print_text;
+use crate::fault::RunFault;
+use crate::growing::reading::read_edge;
+use std::alloc::Allocator;
+use std::io::{Read, Write};
+use tl_checkpoint::is_one_line;
+
+/// Reads the whole input and writes the text of the checkpoint (C2SP tlog-checkpoint) of the log of its lines: the origin, their
+/// number and their Merkle tree hash under SHA-256. An origin that isn't one line is `BadOrigin` before anything is
+/// read; nothing is written before the whole input was read. It keeps the right edge of the log and one line, and so takes some
+/// hundred kilobytes whatever the input.
+pub fn run_head<A: Allocator + Copy, R: Read, W: Write>(
+    alloc: A,
+    origin: &str,
+    reader: &mut Counted<R>,
+    writer: &mut Counted<W>,
+) -> Result<(), RunFault>
+    ensures { RunsHead origin.now (passage R.remaining reader.old reader.new) (passage W.contents writer.old writer.new) result }
+{
+    if !is_one_line(origin) {
+        return Err(RunFault::BadOrigin);
+    }
+    let edge = read_edge(alloc, reader)?;
+    let text = checkpoint_of(alloc, origin, edge.size(), edge.root())?;
+    print_text(writer, text.as_bytes())?;
+    Ok(())
+}

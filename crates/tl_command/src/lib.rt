@@ -1,0 +1,26 @@
+//! The commands of the program `tlog`, over any reader and writer.
+#![tactic(auto)]
+
+mod audit_text;
+mod checkpoint_text;
+mod commands;
+mod entries;
+mod fault;
+mod growing;
+mod lines;
+mod proof_text;
+mod stored;
+mod streams;
+mod words;
+
+pub use checkpoint_text::checkpoint_of;
+pub use commands::audit::run_audit;
+pub use commands::check::run_check;
+pub use commands::consistency::run_consistency;
+pub use commands::head::run_head;
+pub use commands::inclusion::run_inclusion;
+pub use entries::read_entries;
+pub use fault::{RunFault, exit_of, fault_line};
+pub use stored::{root_of, store_of};
+pub use streams::{MOST_INPUT, print_text};
+pub use words::{Job, WordsFault, read_words};

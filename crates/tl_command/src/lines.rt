@@ -1,0 +1,93 @@
+//! Lines of a text, and the number or the hash that stands in one after a word. Each reader takes exactly what has that spelling.
+
+ghost use Rattle.std.specs.Prelude.{◌≡◌, ◌≢◌, ◌<◌, ◌^◌, ◌++◌, ℕ, List, All, MatchOption, IfOk, OnErr, length, MatchBool, IsUtf8, map, vec_items};
+ghost use Rattle.tl_hash.specs.Bytes.{IsHash};
+ghost use Rattle.tl_note.specs.Text.{number_text, base64_text, IsSize};
+ghost use Rattle.tl_command.specs.Lines.{entries_of, lines_text, HasNoNewline};
+
+use crate::entries::split_entries;
+use std::alloc::{AllocError, Allocator};
+use std::str;
+use tl_checkpoint::{hash_of, size_of};
+use tl_hash::Hash;
+
+// Whether a text is lines, each ended by its newline.
+fn is_lines(text: &[u8]) -> bool
+    ensures { MatchBool result (text.now ≡ lines_text (entries_of text.now)) ((lines : List (List ℕ)) → text.now ≢ lines_text lines) }
+{
+    match text.last() {
+        Some(byte) => *byte == b'\n',
+        None => true,
+    }
+}
+
+/// The lines of a text, without their newlines; None where the last one has no newline.
+pub(crate) fn lines_of<A: Allocator + Copy>(
+    alloc: A,
+    text: &[u8],
+) -> Result<Option<Vec<Vec<u8, A>, A>>, AllocError>
+    ensures lines { IfOk result (λ found. MatchOption found
+        ((lines : List (List ℕ)) → All HasNoNewline lines → text.now ≢ lines_text lines)
+        (λ lines. (map vec_items lines.items ≡ entries_of text.now) × (text.now ≡ lines_text (entries_of text.now)))) }
+    ensures memory { OnErr result (0 < length text.now) }
+{
+    if !is_lines(text) {
+        return Ok(None);
+    }
+    Ok(Some(split_entries(alloc, text)?))
+}
+
+// What follows a word in a line.
+fn text_after<'a>(line: &'a [u8], word: &[u8]) -> Option<&'a str>
+    ensures { MatchOption result ((text : List ℕ) → IsUtf8 text → line.now ≢ word.now ++ text) (λ text. line.now ≡ word.now ++ text.now) }
+{
+    let Some(rest) = line.strip_prefix(word) else {
+        return None;
+    };
+    match str::from_utf8(rest) {
+        Ok(text) => Some(text),
+        Err(_) => None,
+    }
+}
+
+/// The number below 2^63 that follows a word in a line.
+pub(crate) fn number_after(line: &[u8], word: &[u8]) -> Option<u64>
+    ensures { MatchOption result ((n : ℕ) → IsSize n → line.now ≢ word.now ++ number_text n) (λ n. (n < 2 ^ 63) × (line.now ≡ word.now ++ number_text n)) }
+{
+    let Some(text) = text_after(line, word) else {
+        return None;
+    };
+    size_of(text)
+}
+
+/// The hash that follows a word in a line, in base64.
+pub(crate) fn hash_after(line: &[u8], word: &[u8]) -> Option<Hash>
+    ensures { MatchOption result
+        ((hash : List ℕ) → IsHash hash → line.now ≢ word.now ++ base64_text hash)
+        (λ hash. IsHash hash × (line.now ≡ word.now ++ base64_text hash)) }
+{
+    let Some(text) = text_after(line, word) else {
+        return None;
+    };
+    hash_of(text)
+}
+
+/// The hashes that lines have, one each, in base64.
+pub(crate) fn hashes_of<A: Allocator + Copy, B: Allocator>(
+    alloc: A,
+    lines: &[Vec<u8, B>],
+) -> Result<Option<Vec<Hash, A>>, AllocError>
+    ensures hashes { IfOk result (λ found. MatchOption found
+        ((hashes : List (List ℕ)) → All IsHash hashes → map vec_items lines.now ≢ map base64_text hashes)
+        (λ hashes. All IsHash hashes.items × (map vec_items lines.now ≡ map base64_text hashes.items))) }
+    ensures memory { OnErr result (0 < length lines.now) }
+{
+    let mut hashes = Vec::new(alloc);
+    for line in lines {
+        let Some(hash) = hash_after(line.as_slice(), b"") else {
+            return Ok(None);
+        };
+        hashes.push(hash)?;
+    }
+    Ok(Some(hashes))
+}

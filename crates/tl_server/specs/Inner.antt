@@ -1,9 +1,0 @@
--- Private words: what contracts of private functions and proofs need.
-pub
-    mod Answers
-pub
-    mod Shown
-pub
-    mod Growing
-pub
-    mod Whole
