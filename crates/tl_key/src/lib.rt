@@ -2,7 +2,7 @@
 #![tactic(auto)]
 
 mod demonstration;
-mod hmac;
+mod keyed_hash;
 
 pub use demonstration::{DemoKey, demo_key};
-pub use hmac::hmac;
+pub use keyed_hash::hmac;

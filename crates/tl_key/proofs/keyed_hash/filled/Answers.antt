@@ -1,6 +1,6 @@
 use Rattle.std.proofs.Common.{◌++◌, ◌∙◌, ℕ, List, ap, drop, length, replicate}
 use Rattle.std.proofs.lemmas.List.{drop-replicate}
-use Rattle.tl_key.proofs.hmac.filled.Goals as goal
+use Rattle.tl_key.proofs.keyed_hash.filled.Goals as goal
 
 pub returns : goal.returns
 returns c =

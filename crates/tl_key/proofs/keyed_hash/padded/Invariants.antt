@@ -1,6 +1,6 @@
 use Rattle.std.proofs.Common.{◌≡◌, ◌++◌, map, take, drop}
 use Rattle.std.specs.Prelude.{bit_xor}
-use Rattle.tl_key.proofs.hmac.padded.Given as goal
+use Rattle.tl_key.proofs.keyed_hash.padded.Given as goal
 
 -- the bytes so far are combined with the pad
 abbrev pub invariant-loop-byte : goal.invariant-loop-byte
