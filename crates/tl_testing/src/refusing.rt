@@ -13,7 +13,7 @@ struct Countdown {
 /// An allocator that refuses one request for memory, and passes the others on. Take it as `&heap`.
 #[derive(Drop)]
 pub struct Refusing<B: Allocator> {
-    inner: B,
+    behind: B,
     countdown: Cell<Countdown>,
 }
 
@@ -21,7 +21,7 @@ impl<B: Allocator> Refusing<B> {
     /// Refuses the request with this number, from 1 on, and no other. At 0 it refuses none.
     pub fn at(inner: B, number: u64) -> Refusing<B> {
         Refusing {
-            inner,
+            behind: inner,
             countdown: Cell::new(Countdown {
                 left: number,
                 is_lasting: false,
@@ -33,7 +33,7 @@ impl<B: Allocator> Refusing<B> {
     /// Refuses the request with this number, from 1 on, and all after it. At 0 it refuses none.
     pub fn since(inner: B, number: u64) -> Refusing<B> {
         Refusing {
-            inner,
+            behind: inner,
             countdown: Cell::new(Countdown {
                 left: number,
                 is_lasting: true,
@@ -65,16 +65,16 @@ fn refuses(countdown: &Cell<Countdown>) -> bool {
 }
 
 unsafe impl<B: Allocator> Allocator for Refusing<B> {
-    ghost dealloc_token = { λ heap ty ptr. B.dealloc_token heap.inner ty ptr };
+    ghost dealloc_token = { λ heap ty ptr. B.dealloc_token heap.behind ty ptr };
 
     fn allocate(&self, size: usize, align: usize) -> Result<*mut u8, AllocError> {
         if refuses(&self.countdown) {
             return Err(AllocError);
         }
-        self.inner.allocate(size, align)
+        self.behind.allocate(size, align)
     }
 
     unsafe fn deallocate(&self, ptr: *mut u8, size: usize, align: usize) {
-        self.inner.deallocate(ptr, size, align);
+        self.behind.deallocate(ptr, size, align);
     }
 }

@@ -1,4 +1,5 @@
-//! The eight entries of Google's Certificate Transparency test data, with their hashes under SHA-256 (RFC 6962, section 2.1).
+//! The eight entries of Google's Certificate Transparency test data, with their hashes under SHA-256
+//! (RFC 6962, section 2.1).
 
 use std::alloc::{AllocError, Global};
 use tl_hash::Hash;
