@@ -1,18 +1,17 @@
 //! The command `build`: what a static mirror of the log of the lines of the input serves.
 
-ghost use Rattle.std.specs.Prelude.{◌≡◌, ◌<◌, ◌^◌, ◌↔◌, ◌⊎◌, IsTrue, IfSome, MatchBool, Some, length, map, vec_items, option_map};
+ghost use Rattle.std.specs.Prelude.{◌≡◌, ◌<◌, ◌^◌, ◌↔◌, ◌⊎◌, IsTrue, IfErr, IfOk, MatchBool, Contains, length, map, vec_items, option_map};
 ghost use Rattle.tl_note.specs.Key.{IsKeyName};
 ghost use Rattle.tl_tile.specs.Bundle.{AreShortEntries};
-ghost use Rattle.tl_tile.specs.declared.resource.Resource.TheVariants as resource;
 ghost use Rattle.tl_device.specs.Device.{passage};
 ghost use Rattle.tl_command.specs.Run.{Runs};
-ghost use Rattle.tl_build.specs.Mirror.{checkpoint_note, mirrored};
+ghost use Rattle.tl_build.specs.Mirror.{checkpoint_note, mirrored, resource_text};
 ghost use Rattle.tl_build.specs.Build.{RunsBuild};
 ghost use Rattle.tl_build.specs.Inner.Steps.{ReadsPath, IsServed, AnswersWanted, WantedComes};
 
 use crate::checkpoint_note::checkpoint_note_of;
 use crate::listing::{listing_of, mirrored_of};
-use crate::resource_bytes::{bundle_of, resource_bytes};
+use crate::resource_bytes::{bundle_of, tile_of};
 use std::alloc::{Allocator, Global};
 use std::io::{Read, Write};
 use tl_note::is_key_name;
@@ -43,19 +42,6 @@ fn is_served(resources: &[Resource], wanted: Option<Resource>) -> bool
     }
 }
 
-// The index and the width of the entry bundle that is wanted, if one is.
-fn bundle_in(wanted: Option<Resource>) -> Option<(u64, u32)>
-    ensures { IfSome result (λ bundle. wanted ≡ Some (resource.Entries bundle.0 bundle.1)) }
-{
-    let Some(resource) = wanted else {
-        return None;
-    };
-    match resource {
-        Resource::Entries { index, width } => Some((index, width)),
-        _ => None,
-    }
-}
-
 // Whether a log of so many entries has none, and a tile or an entry bundle is wanted of it.
 fn is_of_no_entry(count: usize, wanted: Option<Resource>) -> bool
     ensures { MatchBool result
@@ -72,7 +58,38 @@ fn is_of_no_entry(count: usize, wanted: Option<Resource>) -> bool
     }
 }
 
-// The listing of the log of these entries, or the bytes of the resource that is wanted. A bundle needs no hash.
+// The bytes of a resource that the log of these entries has. No more is made than it needs: a tile or a bundle signs
+// nothing, and a bundle hashes nothing.
+fn wanted_bytes<A: Allocator + Copy>(
+    alloc: A,
+    global: Global,
+    origin: &str,
+    secret: &[u8],
+    resource: Resource,
+    entries: &[Vec<u8, A>],
+) -> Result<Vec<u8, A>, RunFault>
+    requires origin { IsKeyName origin.now }
+    requires served { Contains (mirrored (length entries.now)) resource }
+    requires few { length entries.now < 2 ^ 32 }
+    requires short { AreShortEntries (map vec_items entries.now) }
+    ensures text { IfOk result (λ bytes. bytes.items ≡ resource_text (checkpoint_note origin.now secret.now (map vec_items entries.now)) (map vec_items entries.now) resource) }
+    ensures fault { IfErr result (λ fault. fault ≡ RunFault.OutOfMemory) }
+{
+    match resource {
+        Resource::Tile(tile) => {
+            let store = store_of(alloc, entries)?;
+            tile_of(alloc, tile, &store)
+        }
+        Resource::Entries { index, width } => bundle_of(alloc, index, width, entries),
+        Resource::Checkpoint => {
+            let store = store_of(alloc, entries)?;
+            let note = checkpoint_note_of(alloc, global, origin, secret, &store)?;
+            Ok(note.into_bytes())
+        }
+    }
+}
+
+// The listing of the log of these entries, or the bytes of the resource that is wanted.
 fn answer_of<A: Allocator + Copy>(
     alloc: A,
     global: Global,
@@ -90,18 +107,13 @@ fn answer_of<A: Allocator + Copy>(
     if !is_served(resources.as_slice(), wanted) {
         return Err(RunFault::NotThere);
     }
-    if let Some((index, width)) = bundle_in(wanted) {
-        return bundle_of(alloc, index, width, entries);
+    if let Some(resource) = wanted {
+        return wanted_bytes(alloc, global, origin, secret, resource, entries);
     }
     let store = store_of(alloc, entries)?;
     let note = checkpoint_note_of(alloc, global, origin, secret, &store)?;
-    match wanted {
-        Some(resource) => resource_bytes(alloc, resource, entries, &store, note.as_str()),
-        None => {
-            let listing = listing_of(alloc, resources.as_slice(), entries, &store, note.as_str())?;
-            Ok(listing.into_bytes())
-        }
-    }
+    let listing = listing_of(alloc, resources.as_slice(), entries, &store, note.as_str())?;
+    Ok(listing.into_bytes())
 }
 
 // Reads the whole input and writes what is wanted of the log of its lines.
@@ -129,12 +141,11 @@ fn build<A: Allocator + Copy, R: Read, W: Write>(
     Ok(())
 }
 
-/// Reads the whole input and writes what a static mirror of the log of its lines serves (C2SP tlog-tiles): with no path a line
-/// `path length` for each resource of the log, tiles by level and index, then entry bundles, then the checkpoint; with a path the
-/// bytes of the resource that has it. The checkpoint is a note, signed by the demonstration key of the origin with this secret,
-/// for which `global` gives the memory. An origin that is no key's name is `BadOrigin`, a path that no resource has is `BadPath`,
-/// both before anything is read; a resource that the log hasn't got is `NotThere`. Nothing is written before the whole input was
-/// read.
+/// Reads the whole input and writes what a static mirror of the log of its lines serves (C2SP tlog-tiles): with no path
+/// a line `path length` for each resource, tiles by level and index, then bundles, then the checkpoint; with a path the
+/// bytes of that resource. The checkpoint is a note, signed by the demonstration key of origin and secret. An origin
+/// that is no key's name is `BadOrigin`, a path of no resource `BadPath`, both before anything is read; what the log
+/// hasn't got is `NotThere`.
 pub fn run_build<A: Allocator + Copy, R: Read, W: Write>(
     alloc: A,
     global: Global,

@@ -15,8 +15,8 @@ use tl_command::RunFault;
 use tl_store::{HashStore, ReadFault};
 use tl_tile::{BundleFault, Resource, Tile, tile_bytes, write_bundle};
 
-// The bytes of a tile that lies within the entries of the store.
-fn tile_of<A: Allocator + Copy>(
+/// The bytes of a tile that lies within the entries of the store. It fails for want of memory alone.
+pub(crate) fn tile_of<A: Allocator + Copy>(
     alloc: A,
     tile: Tile,
     store: &HashStore<Sha256Tree, A>,

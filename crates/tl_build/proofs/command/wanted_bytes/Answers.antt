@@ -1,0 +1,32 @@
+use Rattle.std.proofs.Common.{◌≡◌, ◌∙◌, ap, sym, subst, length, map, vec_items, string_bytes, arith}
+use Rattle.std.specs.Prelude.{IfOk}
+use Rattle.tl_tile.specs.declared.resource.Resource.{Resource}
+use Rattle.std.proofs.lemmas.List.{length-map}
+use Rattle.tl_build.specs.Mirror.{checkpoint_note, resource_text}
+use Rattle.tl_build.proofs.NeededParts.{LiesIn, lies}
+use Rattle.tl_build.proofs.command.wanted_bytes.Goals as goal
+
+pub tile_of-requires-clause-lawful : goal.tile_of-requires-clause-lawful
+tile_of-requires-clause-lawful g c =
+    let parts = subst (LiesIn (length c.args.entries.now)) c.in-Tile.is (lies (length c.args.entries.now) c.args.resource c.requires.few c.requires.served) in
+    parts.0
+
+pub tile_of-requires-clause-within : goal.tile_of-requires-clause-within
+tile_of-requires-clause-within g c =
+    let parts = subst (LiesIn (length c.args.entries.now)) c.in-Tile.is (lies (length c.args.entries.now) c.args.resource c.requires.few c.requires.served) in
+    omega (arith, parts.1, c.in_ok-store-in-Tile.ensures.0, length-map c.args.entries.now vec_items)
+
+pub bundle_of-requires-clause-some : goal.bundle_of-requires-clause-some
+bundle_of-requires-clause-some g c =
+    let parts = subst (LiesIn (length c.args.entries.now)) c.in-Entries.is (lies (length c.args.entries.now) c.args.resource c.requires.few c.requires.served) in
+    parts.1
+
+pub bundle_of-requires-clause-narrow : goal.bundle_of-requires-clause-narrow
+bundle_of-requires-clause-narrow g c =
+    let parts = subst (LiesIn (length c.args.entries.now)) c.in-Entries.is (lies (length c.args.entries.now) c.args.resource c.requires.few c.requires.served) in
+    parts.2
+
+pub bundle_of-requires-clause-within : goal.bundle_of-requires-clause-within
+bundle_of-requires-clause-within g c =
+    let parts = subst (LiesIn (length c.args.entries.now)) c.in-Entries.is (lies (length c.args.entries.now) c.args.resource c.requires.few c.requires.served) in
+    parts.3
