@@ -12,7 +12,8 @@ use Rattle.tl_note.specs.Note.{IsNoteText}
 use Rattle.tl_note.specs.SignNote.{SignsNote}
 use Rattle.tl_note.proofs.OneNote.{name_plain}
 use Rattle.tl_checkpoint.specs.Checkpoint.{IsOneLine}
-use Rattle.tl_key.specs.DemoKey.{Demo, padded_secret, hmac, demo_signing_key}
+use Rattle.tl_key.specs.DemoKey.{Demo, demo_signing_key}
+use Rattle.tl_key.specs.Hmac.{padded_secret, hmac}
 
 -- a key's name is one line
 pub name_is_one_line : (name : List ℕ) → IsKeyName name → IsOneLine name

@@ -10,7 +10,8 @@ use Rattle.tl_tile.specs.TileText.{tile_text}
 use Rattle.tl_tile.specs.Bundle.{bundle_text}
 use Rattle.tl_tile.specs.Path.{path_text}
 use Rattle.tl_tile.specs.Needed.{needed_resources}
-use Rattle.tl_key.specs.DemoKey.{hmac, demo_id}
+use Rattle.tl_key.specs.Hmac.{hmac}
+use Rattle.tl_key.specs.DemoKey.{demo_id}
 use Rattle.tl_command.specs.Head.{head_text}
 
 -- the one signature of a message by the demonstration key of this name and secret
