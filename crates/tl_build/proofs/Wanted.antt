@@ -39,10 +39,6 @@ pub wanted_served : (shown : List Resource) (n : ℕ) (wanted : Option Resource)
     → wanted ≡ Some r → Contains (mirrored n) r
 wanted_served shown n wanted b r same told passed is = subst (IsServed (mirrored n)) is (served shown n wanted b same told passed)
 
-pub wanted_lies : (shown : List Resource) (n : ℕ) (wanted : Option Resource) (b : Bool) (r : Resource) → n < 2 ^ 32 → shown ≡ mirrored n → IsTrue b ↔ IsServed shown wanted → b ≡ true
-    → wanted ≡ Some r → LiesIn n r
-wanted_lies shown n wanted b r small same told passed is = lies n r small (wanted_served shown n wanted b r same told passed is)
-
 pub not_served : (shown : List Resource) (n : ℕ) (wanted : Option Resource) (b : Bool) → shown ≡ mirrored n → IsTrue b ↔ IsServed shown wanted → b ≡ false
     → ¬ (IsServed (mirrored n) wanted)
 not_served shown n wanted b same told failed = λ has.

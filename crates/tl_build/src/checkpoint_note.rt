@@ -9,10 +9,10 @@ ghost use Rattle.tl_key.specs.DemoKey.{demo_signing_key};
 ghost use Rattle.tl_build.specs.Mirror.{checkpoint_note, demo_signature};
 
 use std::alloc::{Allocator, Global};
-use tl_hash::Sha256Tree;
-use tl_note::{NoteFault, Signer, sign_note};
 use tl_command::{RunFault, checkpoint_of, root_of};
+use tl_hash::Sha256Tree;
 use tl_key::demo_key;
+use tl_note::{NoteFault, Signer, sign_note};
 use tl_store::HashStore;
 
 // The demonstration key refuses nothing, so its note fails for want of memory alone.

@@ -14,9 +14,9 @@ use crate::listing::{listing_of, mirrored_of};
 use crate::resource_bytes::{bundle_of, tile_of};
 use std::alloc::{Allocator, Global};
 use std::io::{Read, Write};
-use tl_note::is_key_name;
 use tl_command::{MOST_INPUT, RunFault, print_text, read_entries, store_of};
 use tl_device::Counted;
+use tl_note::is_key_name;
 use tl_tile::{Resource, parse_path};
 
 // The resource with the path that is asked for.

@@ -11,8 +11,8 @@ ghost use Rattle.tl_build.specs.Mirror.{mirrored, listing_text};
 use crate::resource_bytes::resource_bytes;
 use itoa::Buffer;
 use std::alloc::{AllocError, Allocator};
-use tl_hash::Sha256Tree;
 use tl_command::RunFault;
+use tl_hash::Sha256Tree;
 use tl_store::HashStore;
 use tl_tile::{Resource, needed, path_of};
 

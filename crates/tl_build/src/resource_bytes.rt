@@ -10,8 +10,8 @@ ghost use Rattle.tl_tile.specs.TileText.{tile_text};
 ghost use Rattle.tl_build.specs.Mirror.{mirrored, resource_text};
 
 use std::alloc::Allocator;
-use tl_hash::Sha256Tree;
 use tl_command::RunFault;
+use tl_hash::Sha256Tree;
 use tl_store::{HashStore, ReadFault};
 use tl_tile::{BundleFault, Resource, Tile, tile_bytes, write_bundle};
 

@@ -5,12 +5,12 @@ ghost use Rattle.tl_device.specs.Device.{passage};
 ghost use Rattle.tl_command.specs.Lines.{entries_of};
 ghost use Rattle.tl_command.specs.Run.{ReadsEntries};
 
-use tl_device::Counted;
-use crate::streams::read_input;
 use crate::fault::RunFault;
+use crate::streams::read_input;
 use memchr::memchr;
 use std::alloc::{AllocError, Allocator};
 use std::io::Read;
+use tl_device::Counted;
 
 // The most bytes of an entry that an entry bundle can hold.
 const LONGEST_ENTRY: usize = 65_535;

@@ -2,9 +2,9 @@
 
 use std::alloc::{AllocError, Global};
 use std::test::Fail;
-use tl_hash::Sha256Tree;
 use tl_command::{RunFault, run_audit};
 use tl_device::Counted;
+use tl_hash::Sha256Tree;
 use tl_testing::{Refusing, SumDigest};
 
 // The leaf hash of the entry of one byte 0 under SHA-256.

@@ -3,11 +3,11 @@
 use std::alloc::{AllocError, Allocator, Global};
 use std::test::Fail;
 use tl_build::run_build;
-use tl_hash::{Sha256Tree, leaf_hash};
-use tl_note::{NoteFault, Verifier, open_note};
 use tl_command::{RunFault, run_head};
 use tl_device::Counted;
+use tl_hash::{Sha256Tree, leaf_hash};
 use tl_key::demo_key;
+use tl_note::{NoteFault, Verifier, open_note};
 
 /// The name of the log of the worked runs.
 pub(crate) const ORIGIN: &str = "example.com/log";

@@ -3,8 +3,8 @@
 use crate::builds::verifiers;
 use std::alloc::{AllocError, Global};
 use std::test::Fail;
-use tl_note::{NoteFault, Signer, open_note, sign_note};
 use tl_key::{demo_key, hmac};
+use tl_note::{NoteFault, Signer, open_note, sign_note};
 use tl_testing::Refusing;
 use tl_testing::texts::NO_ENTRY;
 use tl_testing::vectors::in_hex;

@@ -4,10 +4,10 @@ use std::alloc::{AllocError, Global};
 use std::str;
 use std::test::Fail;
 use tl_build::run_build;
-use tl_hash::{Hash, Sha256Tree, leaf_hash, node_hash};
-use tl_job::run_job;
 use tl_command::{Job, MOST_INPUT, RunFault, run_check, run_consistency, run_head, run_inclusion};
 use tl_device::Counted;
+use tl_hash::{Hash, Sha256Tree, leaf_hash, node_hash};
+use tl_job::run_job;
 use tl_store::{HashStore, tree_hash};
 
 // What a job writes for an input, and its fault.

@@ -4,9 +4,9 @@ use crate::builds::{BUNDLE, INPUT, LISTING, NOTE, ORIGIN, build, tile_of};
 use std::alloc::Global;
 use std::process::Abort;
 use std::test::Fail;
-use tl_hash::{Sha256Tree, entry_root};
 use tl_command::{RunFault, fault_line, read_entries, run_head};
 use tl_device::Counted;
+use tl_hash::{Sha256Tree, entry_root};
 use tl_testing::Refusing;
 use tl_testing::texts::TWO_ENTRIES;
 

@@ -3,8 +3,8 @@
 use std::alloc::{AllocError, Global};
 use std::io::{ErrorKind, Read};
 use std::test::Fail;
-use tl_job::run_words;
 use tl_device::Counted;
+use tl_job::run_words;
 use tl_testing::{FailingReader, FailingWriter};
 
 // What a run wrote to standard output and to standard error, and its status.

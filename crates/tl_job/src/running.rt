@@ -7,9 +7,9 @@ use crate::ending::end_run;
 use std::alloc::Global;
 use std::io::{Read, Write};
 use tl_build::run_build;
-use tl_hash::Sha256Tree;
 use tl_command::{Job, RunFault, WordsFault, read_words, run_audit, run_check, run_consistency, run_head, run_inclusion};
 use tl_device::{Counted, write_whole};
+use tl_hash::Sha256Tree;
 
 /// Runs the command of a job with its options: each job its own command, which reads the reader and writes the writer.
 pub fn run_job<R: Read, W: Write>(

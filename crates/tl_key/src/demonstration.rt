@@ -6,10 +6,10 @@ ghost use Rattle.sha2.specs.Sha256.{sha256};
 ghost use Rattle.tl_note.specs.Key.{IsKeyName};
 ghost use Rattle.tl_key.specs.DemoKey as spec;
 
+use crate::keyed_hash::hmac;
 use std::alloc::{Allocator, Global};
 use std::marker::Model;
 use tl_hash::{Hash, Sha256Tree, TreeHash};
-use crate::keyed_hash::hmac;
 use tl_note::{NoteFault, SignFault, Signer, Verifier, is_key_name};
 
 // The digest of a key's name, its kind and its secret's digest.

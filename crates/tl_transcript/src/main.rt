@@ -7,9 +7,9 @@
 
 use std::alloc::{AllocError, Global};
 use std::{io, str};
-use tl_job::run_words;
 use tl_command::{MOST_INPUT, read_entries};
 use tl_device::Counted;
+use tl_job::run_words;
 
 // One run: its command line and its input.
 #[derive(Drop)]

@@ -11,12 +11,12 @@ ghost use Rattle.tl_command.specs.Run.{Runs};
 
 use crate::audit_text::AuditParts;
 use crate::audit_text::reading::read_audit;
-use tl_device::Counted;
-use crate::streams::{MOST_INPUT, print_text, read_input};
 use crate::fault::RunFault;
 use crate::lines::lines_of;
+use crate::streams::{MOST_INPUT, print_text, read_input};
 use std::alloc::{AllocError, Allocator};
 use std::io::{Read, Write};
+use tl_device::Counted;
 use tl_hash::TreeHash;
 use tl_proof::{AuditFault, Verdict, audit_tree};
 

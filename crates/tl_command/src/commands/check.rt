@@ -9,14 +9,14 @@ ghost use Rattle.tl_command.specs.ProofCommands.{CheckComes};
 ghost use Rattle.tl_command.specs.Inner.Answers.{AnswersText, IsAnswerOf};
 ghost use Rattle.tl_command.specs.Run.{Runs};
 
-use tl_device::Counted;
-use crate::streams::{MOST_INPUT, print_text, read_input};
 use crate::fault::RunFault;
 use crate::lines::lines_of;
-use crate::proof_text::reading::{read_consistency, read_inclusion};
 use crate::proof_text::{ConsistencyProof, InclusionProof};
+use crate::proof_text::reading::{read_consistency, read_inclusion};
+use crate::streams::{MOST_INPUT, print_text, read_input};
 use std::alloc::{AllocError, Allocator};
 use std::io::{Read, Write};
+use tl_device::Counted;
 use tl_hash::Sha256Tree;
 use tl_proof::{check_record, check_tree};
 

@@ -7,15 +7,15 @@ ghost use Rattle.tl_command.specs.Inner.Shown.{consistency_shown};
 ghost use Rattle.tl_command.specs.ProofCommands.{consistency_of, ConsistencyComes};
 ghost use Rattle.tl_command.specs.Run.{Runs};
 
-use tl_device::Counted;
-use crate::streams::{MOST_INPUT, print_text};
 use crate::entries::read_entries;
 use crate::fault::RunFault;
 use crate::proof_text::ConsistencyProof;
 use crate::proof_text::writing::consistency_bytes;
 use crate::stored::{root_of, store_of};
+use crate::streams::{MOST_INPUT, print_text};
 use std::alloc::Allocator;
 use std::io::{Read, Write};
+use tl_device::Counted;
 use tl_hash::Sha256Tree;
 use tl_proof::{ProveFault, prove_tree};
 

@@ -7,15 +7,15 @@ ghost use Rattle.tl_command.specs.Inner.Shown.{inclusion_shown};
 ghost use Rattle.tl_command.specs.ProofCommands.{inclusion_of, InclusionComes};
 ghost use Rattle.tl_command.specs.Run.{Runs};
 
-use tl_device::Counted;
-use crate::streams::{MOST_INPUT, print_text};
 use crate::entries::read_entries;
 use crate::fault::RunFault;
 use crate::proof_text::InclusionProof;
 use crate::proof_text::writing::inclusion_bytes;
 use crate::stored::{root_of, store_of};
+use crate::streams::{MOST_INPUT, print_text};
 use std::alloc::Allocator;
 use std::io::{Read, Write};
+use tl_device::Counted;
 use tl_hash::{Sha256Tree, leaf_hash};
 use tl_proof::{ProveFault, prove_record};
 

@@ -5,11 +5,11 @@ ghost use Rattle.tl_device.specs.Device.{passage};
 ghost use Rattle.tl_command.specs.Inner.Growing.{ReadsEdge};
 
 use super::Growing;
-use tl_device::Counted;
-use crate::streams::MOST_INPUT;
 use crate::fault::RunFault;
+use crate::streams::MOST_INPUT;
 use std::alloc::Allocator;
 use std::io::Read;
+use tl_device::Counted;
 use tl_hash::Sha256Tree;
 use tl_tile::Edge;
 

@@ -1,8 +1,7 @@
 use Rattle.std.proofs.Common.{refl, ap, sym, ◌∙◌, length, map, vec_items}
 use Rattle.std.proofs.lemmas.List.{length-map}
-use Rattle.tl_tile.specs.declared.resource.Resource.TheVariants as resource
 use Rattle.tl_build.specs.Mirror.{checkpoint_note, mirrored}
-use Rattle.tl_build.proofs.Wanted.{has_all, not_served, wanted_served, wanted_lies, answers_some, shows_all}
+use Rattle.tl_build.proofs.Wanted.{has_all, not_served, wanted_served, answers_some, shows_all}
 use Rattle.tl_build.proofs.command.answer_of.Goals as goal
 
 pub returns-then-not-is_served : goal.returns-then-not-is_served
@@ -10,57 +9,26 @@ returns-then-not-is_served g c =
     let same = c.as_slice.ensures.value ∙ c.in_ok-resources.ensures ∙ ap mirrored (sym (length-map c.args.entries.now vec_items)) in
     not_served c.as_slice.result.now (length (map vec_items c.args.entries.now)) c.args.wanted c.is_served.result same c.is_served.ensures c.if-not-is_served.true
 
-pub resource_bytes-requires-clause-served : goal.resource_bytes-requires-clause-served
-resource_bytes-requires-clause-served g c =
+pub wanted_bytes-requires-clause-served : goal.wanted_bytes-requires-clause-served
+wanted_bytes-requires-clause-served g c =
     let same = c.as_slice.ensures.value ∙ c.in_ok-resources.ensures in
-    wanted_served c.as_slice.result.now (length c.args.entries.now) c.args.wanted c.is_served.result c.in-Some-wanted.resource same c.is_served.ensures c.if-not-is_served.false c.in-Some-wanted.is
+    wanted_served c.as_slice.result.now (length c.args.entries.now) c.args.wanted c.is_served.result c.in-Some.resource same c.is_served.ensures c.if-not-is_served.false c.in-Some.is
 
 pub listing_of-requires-clause-served : goal.listing_of-requires-clause-served
-listing_of-requires-clause-served g c = has_all c.as_slice-in-None.result.now (mirrored (length c.args.entries.now)) (c.as_slice-in-None.ensures.value ∙ c.in_ok-resources.ensures)
-
-pub returns-in-Some-wanted : goal.returns-in-Some-wanted
-returns-in-Some-wanted g c =
-    let entries = map vec_items c.args.entries.now in
-    let same = c.as_slice.ensures.value ∙ c.in_ok-resources.ensures in
-    let has = wanted_served c.as_slice.result.now (length c.args.entries.now) c.args.wanted c.is_served.result c.in-Some-wanted.resource same c.is_served.ensures c.if-not-is_served.false c.in-Some-wanted.is in
-    let note = c.as_str.ensures.value ∙ c.in_ok-note.ensures.note entries c.in_ok-store.ensures in
-    answers_some g.row.A.Denot _ _ entries (length c.args.entries.now) c.args.wanted c.in-Some-wanted.resource c.resource_bytes.result c.in-Some-wanted.is note (length-map c.args.entries.now vec_items)
-    has c.resource_bytes.ensures.text c.resource_bytes.ensures.fault
-
-pub returns : goal.returns
-returns g c =
-    let entries = map vec_items c.args.entries.now in
-    let note = c.as_str-in-None.ensures.value ∙ c.in_ok-note.ensures.note entries c.in_ok-store.ensures in
-    let all = c.as_slice-in-None.ensures.value ∙ c.in_ok-resources.ensures in
-    shows_all _ _ entries c.as_slice-in-None.result.now (length c.args.entries.now) c.args.wanted c.into_bytes.result.items c.in-None.is note (length-map c.args.entries.now vec_items) all
-    (ap vec_items c.into_bytes.ensures.value ∙ c.in_ok-listing-in-None.ensures.text)
-
-pub bundle_of-requires-clause-some : goal.bundle_of-requires-clause-some
-bundle_of-requires-clause-some g c =
-    let same = c.as_slice.ensures.value ∙ c.in_ok-resources.ensures in
-    let parts = wanted_lies c.as_slice.result.now (length c.args.entries.now) c.args.wanted c.is_served.result (resource.Entries c.in-Some.index c.in-Some.width) c.requires.few same
-    c.is_served.ensures c.if-not-is_served.false c.in-Some.ensures in
-    parts.1
-
-pub bundle_of-requires-clause-narrow : goal.bundle_of-requires-clause-narrow
-bundle_of-requires-clause-narrow g c =
-    let same = c.as_slice.ensures.value ∙ c.in_ok-resources.ensures in
-    let parts = wanted_lies c.as_slice.result.now (length c.args.entries.now) c.args.wanted c.is_served.result (resource.Entries c.in-Some.index c.in-Some.width) c.requires.few same
-    c.is_served.ensures c.if-not-is_served.false c.in-Some.ensures in
-    parts.2
-
-pub bundle_of-requires-clause-within : goal.bundle_of-requires-clause-within
-bundle_of-requires-clause-within g c =
-    let same = c.as_slice.ensures.value ∙ c.in_ok-resources.ensures in
-    let parts = wanted_lies c.as_slice.result.now (length c.args.entries.now) c.args.wanted c.is_served.result (resource.Entries c.in-Some.index c.in-Some.width) c.requires.few same
-    c.is_served.ensures c.if-not-is_served.false c.in-Some.ensures in
-    parts.3
+listing_of-requires-clause-served g c = has_all c.as_slice-2.result.now (mirrored (length c.args.entries.now)) (c.as_slice-2.ensures.value ∙ c.in_ok-resources.ensures)
 
 pub returns-in-Some : goal.returns-in-Some
 returns-in-Some g c =
     let entries = map vec_items c.args.entries.now in
     let same = c.as_slice.ensures.value ∙ c.in_ok-resources.ensures in
-    let bundle = resource.Entries c.in-Some.index c.in-Some.width in
-    let has = wanted_served c.as_slice.result.now (length c.args.entries.now) c.args.wanted c.is_served.result bundle same c.is_served.ensures c.if-not-is_served.false c.in-Some.ensures in
-    answers_some g.row.A.Denot (checkpoint_note c.args.origin.now c.args.secret.now entries) _ entries (length c.args.entries.now) c.args.wanted bundle c.bundle_of.result c.in-Some.ensures refl
-    (length-map c.args.entries.now vec_items) has c.bundle_of.ensures.text c.bundle_of.ensures.fault
+    let has = wanted_served c.as_slice.result.now (length c.args.entries.now) c.args.wanted c.is_served.result c.in-Some.resource same c.is_served.ensures c.if-not-is_served.false c.in-Some.is in
+    answers_some g.row.A.Denot (checkpoint_note c.args.origin.now c.args.secret.now entries) _ entries (length c.args.entries.now) c.args.wanted c.in-Some.resource c.wanted_bytes.result c.in-Some.is refl (length-map c.args.entries.now vec_items)
+    has c.wanted_bytes.ensures.text c.wanted_bytes.ensures.fault
+
+pub returns : goal.returns
+returns g c =
+    let entries = map vec_items c.args.entries.now in
+    let note = c.as_str.ensures.value ∙ c.in_ok-note.ensures.note entries c.in_ok-store.ensures in
+    let all = c.as_slice-2.ensures.value ∙ c.in_ok-resources.ensures in
+    shows_all _ _ entries c.as_slice-2.result.now (length c.args.entries.now) c.args.wanted c.into_bytes.result.items c.in_default.is note (length-map c.args.entries.now vec_items) all
+    (ap vec_items c.into_bytes.ensures.value ∙ c.in_ok-listing.ensures.text)
