@@ -82,7 +82,8 @@ fn lines_of(alloc: Global, links: &[Link<Global>]) -> Result<String, AllocError>
     Ok(lines)
 }
 
-// How long a book takes to open that trusts nobody for any origin, in milliseconds, and how many links one of them has then.
+// How long a book takes to open that trusts nobody for any origin, in milliseconds, and how many links one of them
+// has then.
 fn time_opening<R: Clock>(
     rt: &R,
     alloc: Global,

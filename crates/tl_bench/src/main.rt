@@ -24,7 +24,8 @@ fn digest_once(message: &mut [u8; 4096], length: usize) {
     message[..32].copy_from_slice(&digest);
 }
 
-// So many SHA-256 digests of messages of this many bytes, each with the digest before it at its front: the last one's first byte.
+// So many SHA-256 digests of messages of this many bytes, each with the digest before it at its front: the last one's
+// first byte.
 fn digests(count: u64, length: usize) -> u8 {
     let mut message = [0u8; 4096];
     for _ in 0..count {

@@ -232,8 +232,8 @@ fn consistency<R: Clock + Print>(
     Ok(true)
 }
 
-/// Prints how many proofs a second are made over a store of so many entries, at most 1,000,000, and checked, with the digests that the
-/// checks took. False where memory was refused, or the entries are more.
+/// Prints how many proofs a second are made over a store of so many entries, at most 1,000,000, and checked, with the
+/// digests that the checks took. False where memory was refused, or the entries are more.
 pub fn proofs<R: Clock + Print>(rt: &R, alloc: Global, size: u64) -> io::Result<bool> {
     let Some(store) = store_of(alloc, size) else {
         return Ok(false);

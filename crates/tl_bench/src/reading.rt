@@ -101,8 +101,8 @@ fn rate(count: u64, took: Duration) -> u128 {
     }
 }
 
-/// Prints how many stored hashes a second are read from tiles in memory, 256 of one tile a read, over a log of 1,000,000 entries.
-/// False where a read or memory was refused.
+/// Prints how many stored hashes a second are read from tiles in memory, 256 of one tile a read, over a log of
+/// 1,000,000 entries. False where a read or memory was refused.
 pub fn tiles<R: Clock + Print>(rt: &R, alloc: Global) -> io::Result<bool> {
     let Some(store) = store_of(alloc, SIZE) else {
         return Ok(false);

@@ -124,7 +124,8 @@ fn rate(took: Duration) -> u128 {
     }
 }
 
-/// Prints how many entries a second four threads get into one list: through rings of 256 with batches of 256, and through a lock.
+/// Prints how many entries a second four threads get into one list: through rings of 256 with batches of 256, and
+/// through a lock.
 pub fn sequencer<R: Threads + Wait + Clock + Print + Copy + Send + 'static>(
     rt: &R,
     alloc: Global,

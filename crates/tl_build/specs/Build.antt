@@ -17,7 +17,8 @@ pub record IsTextAt (note : List ℕ) (entries : List (List ℕ)) (path text : L
   pub named : path_text found ≡ path
   pub spelled : text ≡ resource_text note entries found
 
--- what is printed of the log of these entries: the listing of its resources, or the one with the path that was asked for
+-- what is printed of the log of these entries: the listing of its resources, or the one with the path that was asked
+-- for
 abbrev pub IsPrinted : List ℕ → List (List ℕ) → Option (List ℕ) → List ℕ → Type 0
 IsPrinted note entries None text = text ≡ listing_text note entries (mirrored (length entries))
 IsPrinted note entries (Some path) text = IsTextAt note entries path text
@@ -40,7 +41,8 @@ abbrev pub IsLawfulPath : Option (List ℕ) → Type 0
 IsLawfulPath None = Unit {0}
 IsLawfulPath (Some path) = (r : Resource) × IsResource r × (path_text r ≡ path)
 
--- a run: an origin that is no key's name, and then a path that no resource can have, are refused before anything is read
+-- a run: an origin that is no key's name, and then a path that no resource can have, are refused before anything is
+-- read
 abbrev pub RunsBuild : List ℕ → List ℕ → Option (List ℕ) → Passage → Passage → Result (Unit {0}) RunFault → Type 0
 RunsBuild origin secret get i o (Err BadOrigin) = ¬ (IsKeyName origin) × IsUnread i × IsUnwritten o
 RunsBuild origin secret get i o (Err BadPath) = IsKeyName origin × ¬ (IsLawfulPath get) × IsUnread i × IsUnwritten o

@@ -68,8 +68,9 @@ fn signed_note<A: Allocator + Copy>(
     note_by(alloc, global, name, secret, text, &[signer])
 }
 
-/// The note of the checkpoint of a log (C2SP tlog-checkpoint): its origin is a key's name, the store has the hashes of its
-/// entries, and the demonstration key of the origin with this secret signs. `global` is what the key takes its memory from.
+/// The note of the checkpoint of a log (C2SP tlog-checkpoint): its origin is a key's name, the store has the hashes
+/// of its entries, and the demonstration key of the origin with this secret signs. `global` is what the key takes its
+/// memory from.
 pub(crate) fn checkpoint_note_of<A: Allocator + Copy>(
     alloc: A,
     global: Global,

@@ -1,4 +1,5 @@
-//! The command `build`: every resource of the log whose entries are the lines of an input, as a static mirror serves them.
+//! The command `build`: every resource of the log whose entries are the lines of an input, as a static mirror serves
+//! them.
 #![tactic(auto)]
 
 mod checkpoint_note;

@@ -43,8 +43,8 @@ fn push_line<A: Allocator + Copy>(
     Ok(())
 }
 
-/// The line of each of these resources of the log of the entries, whose hashes the store has and whose checkpoint's note this
-/// is. It fails for want of memory alone.
+/// The line of each of these resources of the log of the entries, whose hashes the store has and whose checkpoint's
+/// note this is. It fails for want of memory alone.
 pub(crate) fn listing_of<A: Allocator + Copy>(
     alloc: A,
     resources: &[Resource],

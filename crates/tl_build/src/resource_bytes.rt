@@ -68,8 +68,8 @@ pub(crate) fn bundle_of<A: Allocator + Copy>(
     }
 }
 
-/// The bytes of a resource of the log of these entries (C2SP tlog-tiles): a tile of the hashes that the store has, a bundle of
-/// the entries, or the checkpoint's note. It fails for want of memory alone.
+/// The bytes of a resource of the log of these entries (C2SP tlog-tiles): a tile of the hashes that the store has, a
+/// bundle of the entries, or the checkpoint's note. It fails for want of memory alone.
 pub(crate) fn resource_bytes<A: Allocator + Copy>(
     alloc: A,
     resource: Resource,

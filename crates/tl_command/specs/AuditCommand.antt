@@ -38,8 +38,8 @@ pub record IsAuditOf (Fact : Audit → Type 0) (input : List ℕ) : Type 0 where
   pub spelled : input ≡ audit_text audit
   pub fact : Fact audit
 
--- what comes of an input: the proof is accepted and the old list is a prefix of the new one, or the answer is no, or the
--- input is malformed
+-- what comes of an input: the proof is accepted and the old list is a prefix of the new one, or the answer is no, or
+-- the input is malformed
 abbrev pub AuditComes : (List ℕ → List ℕ) → List ℕ → Outcome → Type 0
 AuditComes H input (Prints text) = IsAuditOf (λ a. IsAccepted H a × IsPrefix a.old a.new) input × (text ≡ line (codes "extends"))
 AuditComes H input (PrintsRefusal text) = IsAuditOf (λ a. AuditRefuses H a text) input

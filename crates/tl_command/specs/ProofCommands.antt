@@ -37,7 +37,8 @@ InclusionComes index input (PrintsRefusal text) = ⊥
 InclusionComes index input (Fails BadIndex) = (first_too_long (entries_of input) ≡ None) × (length (entries_of input) ≤ index)
 InclusionComes index input (Fails fault) = IsEntryFault (entries_of input) fault
 
--- what comes of an input to `consistency`: the proof over its lines, a line that is too long, or fewer lines than the old size
+-- what comes of an input to `consistency`: the proof over its lines, a line that is too long, or fewer lines than the
+-- old size
 abbrev pub ConsistencyComes : ℕ → List ℕ → Outcome → Type 0
 ConsistencyComes old input (Prints text) =
     (first_too_long (entries_of input) ≡ None) × (old ≤ length (entries_of input)) × (text ≡ consistency_text (consistency_of old (entries_of input)))

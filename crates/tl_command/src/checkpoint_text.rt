@@ -10,8 +10,8 @@ use std::alloc::Allocator;
 use tl_checkpoint::{Checkpoint, CheckpointFault, write};
 use tl_hash::Hash;
 
-/// The text of the checkpoint (C2SP tlog-checkpoint, "Note text") of a log of `size` entries, below 2^63, with this root; its
-/// origin is one line. The text can be signed (signed-note). It fails for want of memory alone.
+/// The text of the checkpoint (C2SP tlog-checkpoint, "Note text") of a log of `size` entries, below 2^63, with this
+/// root; its origin is one line. The text can be signed (signed-note). It fails for want of memory alone.
 pub fn checkpoint_of<A: Allocator + Copy>(
     alloc: A,
     origin: &str,

@@ -52,9 +52,9 @@ fn find_too_long<A: Allocator>(entries: &[Vec<u8, A>]) -> Option<usize>
     entries.iter().position(|entry| entry.len() > LONGEST_ENTRY)
 }
 
-/// The entries of all that the reader gives: it is cut at each newline, and a last piece without one is an entry if it isn't
-/// empty. An input of more than `most` bytes is `TooLarge`, and then one with an entry of more than 65,535 bytes is
-/// `EntryTooLong` of the first such entry.
+/// The entries of all that the reader gives: it is cut at each newline, and a last piece without one is an entry if
+/// it isn't empty. An input of more than `most` bytes is `TooLarge`, and then one with an entry of more than 65,535
+/// bytes is `EntryTooLong` of the first such entry.
 pub fn read_entries<A: Allocator + Copy, R: Read>(
     alloc: A,
     reader: &mut Counted<R>,

@@ -1,4 +1,5 @@
-//! Lines of a text, and the number or the hash that stands in one after a word. Each reader takes exactly what has that spelling.
+//! Lines of a text, and the number or the hash that stands in one after a word. Each reader takes exactly what has
+//! that spelling.
 
 ghost use Rattle.std.specs.Prelude.{◌≡◌, ◌≢◌, ◌<◌, ◌^◌, ◌++◌, ℕ, List, All, MatchOption, IfOk, OnErr, length, MatchBool, IsUtf8, map, vec_items};
 ghost use Rattle.tl_hash.specs.Bytes.{IsHash};

@@ -36,8 +36,8 @@ fn only_memory(fault: ReadFault) -> RunFault
     }
 }
 
-/// The Merkle tree hash (RFC 6962, section 2.1) of the first `size` entries of this store, of which there are as many. It fails
-/// for want of memory alone.
+/// The Merkle tree hash (RFC 6962, section 2.1) of the first `size` entries of this store, of which there are as
+/// many. It fails for want of memory alone.
 pub fn root_of<A: Allocator + Copy>(
     alloc: A,
     store: &HashStore<Sha256Tree, A>,

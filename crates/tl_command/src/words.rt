@@ -197,8 +197,8 @@ fn number_of(alloc: Global, options: &ArgMatches<'_>, name: &str) -> Result<u64,
     }
 }
 
-/// The job that the words ask for, the first of which is the program's name. Words that are no command of the program with
-/// its options, and a call for help, are `Usage`.
+/// The job that the words ask for, the first of which is the program's name. Words that are no command of the program
+/// with its options, and a call for help, are `Usage`.
 pub fn read_words(alloc: Global, words: &[String]) -> Result<Job, WordsFault> {
     let command = commands(alloc)?;
     let matches = match command.try_get_matches_from(words) {

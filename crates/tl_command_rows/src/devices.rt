@@ -73,7 +73,8 @@ fn outcome_of<R: Read, W: Write>(
     }
 }
 
-// The outcome of a run over a reader that gives one byte a call and fails at a call, whether the reader had failed, and how much was written.
+// The outcome of a run over a reader that gives one byte a call and fails at a call, whether the reader had failed,
+// and how much was written.
 fn run_from(
     alloc: Global,
     run: Run,
@@ -116,7 +117,8 @@ fn a_failed_read_is_told_and_nothing_is_written(rt: HostRuntime) {
     }
 }
 
-// The outcome of a run over a writer into these bytes, so many a call, that fails at a call, and whether the writer had failed.
+// The outcome of a run over a writer into these bytes, so many a call, that fails at a call, and whether the writer
+// had failed.
 fn run_into(
     alloc: Global,
     run: Run,

@@ -1,5 +1,5 @@
-//! Worked examples of the commands and the demonstration key, mirrors read by their clients, growths refused in turn, and
-//! devices that fail. It has tests alone.
+//! Worked examples of the commands and the demonstration key, mirrors read by their clients, growths refused in turn,
+//! and devices that fail. It has tests alone.
 #![tactic(auto)]
 
 #[cfg(test)]

@@ -1,4 +1,5 @@
-//! Mirrors that `build` lists, fetched path by path: the bundles alone and the tiles alone give the root of the checkpoint.
+//! Mirrors that `build` lists, fetched path by path: the bundles alone and the tiles alone give the root of the
+//! checkpoint.
 
 use crate::builds::{ORIGIN, SECRET, build, verifiers};
 use std::alloc::{AllocError, Global};

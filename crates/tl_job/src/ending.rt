@@ -9,8 +9,8 @@ use std::io::Write;
 use tl_command::{RunFault, exit_of, fault_line};
 use tl_device::{Counted, write_whole};
 
-/// Ends a run of a command: a fault's line is written to `errors`, if it has one and there is memory for it, and the answer is
-/// the exit status: 0 where all was done, and else the fault's.
+/// Ends a run of a command: a fault's line is written to `errors`, if it has one and there is memory for it, and the
+/// answer is the exit status: 0 where all was done, and else the fault's.
 pub fn end_run<A: Allocator, E: Write>(
     alloc: A,
     outcome: Result<(), RunFault>,

@@ -1,5 +1,5 @@
-//! What the program does with its words: it runs the command that they name, tells a fault on standard error, and ends with
-//! a status.
+//! What the program does with its words: it runs the command that they name, tells a fault on standard error, and
+//! ends with a status.
 #![tactic(auto)]
 
 mod ending;

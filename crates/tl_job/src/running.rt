@@ -42,8 +42,9 @@ pub fn run_job<R: Read, W: Write>(
     }
 }
 
-/// Runs the command that the words name, the program's own name first, and answers the exit status. Where they name none, the
-/// text on how to call the program is written to `errors`, the status is 2, and nothing is read or written else.
+/// Runs the command that the words name, the program's own name first, and answers the exit status. Where they name
+/// none, the text on how to call the program is written to `errors`, the status is 2, and nothing is read or written
+/// else.
 pub fn run_words<R: Read, W: Write, E: Write>(
     alloc: Global,
     words: &[String],

@@ -1,4 +1,5 @@
-//! Audits: lists that extend, lists that collide under a weak digest, proofs that are refused, and growths refused in turn.
+//! Audits: lists that extend, lists that collide under a weak digest, proofs that are refused, and growths refused in
+//! turn.
 
 use std::alloc::{AllocError, Allocator, Global};
 use std::test::Fail;

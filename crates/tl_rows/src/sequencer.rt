@@ -229,8 +229,8 @@ fn ended<A: Allocator>(
     }
 }
 
-// The whole life of two lanes: lane 0 sends a1 and a2, lane 1 sends b1. `None` where a step has another answer than it is
-// to have.
+// The whole life of two lanes: lane 0 sends a1 and a2, lane 1 sends b1. `None` where a step has another answer than
+// it is to have.
 fn whole_life<A: Allocator + Copy>(
     alloc: Global,
     heap: A,

@@ -3,7 +3,8 @@ use Rattle.std.specs.Prelude.{◌≡◌, ℕ, List, [], length, map, None}
 use Rattle.std.specs.List.{All, range_with_len}
 use Rattle.tl_sequencer.specs.Log.{Log, Sender, IsSenderOf}
 
--- a log with these entries and nothing else, and with `count` new lanes; and a new submitter for each lane, in the order of the lanes, whose ring has room for `capacity` entries
+-- a log with these entries and nothing else, and with `count` new lanes; and a new submitter for each lane, in the
+-- order of the lanes, whose ring has room for `capacity` entries
 pub record IsOpened {A : Type 0} (entries : List (List ℕ)) (count capacity limit : ℕ) (log : Log A) (submitters : List (Sender A)) : Type 0 where
   pub base : log.base ≡ entries
   pub taken : log.taken ≡ []

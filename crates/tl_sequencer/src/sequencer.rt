@@ -190,8 +190,8 @@ impl<E: Allocator, A: Allocator> Sequencer<E, A> {
         None
     }
 
-    /// Closes the log. Where the end of each lane was taken in, the log is complete: the entries that it began with, and
-    /// after them a merge of what was sent. Else the log comes back, with the smallest lane that has not ended.
+    /// Closes the log. Where the end of each lane was taken in, the log is complete: the entries that it began with,
+    /// and after them a merge of what was sent. Else the log comes back, with the smallest lane that has not ended.
     pub fn close(self) -> Result<Complete<E, A>, Incomplete<E, A>>
         ensures complete { IfOk result (λ c. (c ≡ self) × IsComplete c) }
         ensures merge { IfOk result (λ c. IsMerge (entries_of c) c.base (sent_of c)) }

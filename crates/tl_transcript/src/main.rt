@@ -1,8 +1,8 @@
-//! Runs command lines of `tlog` as standard input has them, and prints what each writes and its exit status: the transcript
-//! is stored beside, so that the gate sees each command and each kind of status.
+//! Runs command lines of `tlog` as standard input has them, and prints what each writes and its exit status: the
+//! transcript is stored beside, so that the gate sees each command and each kind of status.
 //!
-//! A line `$ tlog ..` begins a run, whose words are parted by single spaces, and each line `< ..` after it is a line of the
-//! run's input.
+//! A line `$ tlog ..` begins a run, whose words are parted by single spaces, and each line `< ..` after it is a line
+//! of the run's input.
 #![tactic(auto)]
 
 use std::alloc::{AllocError, Global};

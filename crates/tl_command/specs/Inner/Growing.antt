@@ -13,8 +13,8 @@ use Rattle.tl_command.specs.declared.fault.RunFault.TheVariants.{Read, TooLarge,
 abbrev pub IsTold : {A : Type 0} → Growing A → List (List ℕ) → Type 0
 IsTold g lines = MatchOption g.too_long ((first_too_long lines ≡ None) × IsEdgeOf g.edge sha256 lines) (λ place. first_too_long lines ≡ Some place)
 
--- the input so far is whole lines and the beginning of one more, of which no more is kept than tells that it is too long;
--- the edge is that of the lines, unless one of them is too long
+-- the input so far is whole lines and the beginning of one more, of which no more is kept than tells that it is too
+-- long; the edge is that of the lines, unless one of them is too long
 pub record IsGrowing {A : Type 0} (g : Growing A) (input : List ℕ) : Type 0 where
   pub lines : List (List ℕ)
   pub last : List ℕ

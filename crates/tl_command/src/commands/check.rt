@@ -80,9 +80,9 @@ fn answer<A: Allocator + Copy>(alloc: A, text: &[u8]) -> Result<bool, RunFault>
     }
 }
 
-/// Reads the whole input, which is the text of an inclusion or consistency proof, and writes `accepted` where the proof is accepted
-/// under SHA-256 (RFC 6962, sections 2.1.1 and 2.1.2). Where it isn't, `refused` is written, and the answer is `Refused`. An input that
-/// is no such text is `Malformed`.
+/// Reads the whole input, which is the text of an inclusion or consistency proof, and writes `accepted` where the
+/// proof is accepted under SHA-256 (RFC 6962, sections 2.1.1 and 2.1.2). Where it isn't, `refused` is written, and
+/// the answer is `Refused`. An input that is no such text is `Malformed`.
 pub fn run_check<A: Allocator + Copy, R: Read, W: Write>(
     alloc: A,
     reader: &mut Counted<R>,

@@ -46,9 +46,9 @@ fn proof_of<A: Allocator + Copy>(
     })
 }
 
-/// Reads the whole input and writes the text of the consistency proof (RFC 6962, section 2.1.2) from the tree of its first `old`
-/// lines to that of all of them under SHA-256. An old size above the number of lines is `BadOld`. Nothing is written before the
-/// whole input was read.
+/// Reads the whole input and writes the text of the consistency proof (RFC 6962, section 2.1.2) from the tree of its
+/// first `old` lines to that of all of them under SHA-256. An old size above the number of lines is `BadOld`. Nothing
+/// is written before the whole input was read.
 pub fn run_consistency<A: Allocator + Copy, R: Read, W: Write>(
     alloc: A,
     old: u64,

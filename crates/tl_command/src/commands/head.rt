@@ -12,10 +12,10 @@ use std::io::{Read, Write};
 use tl_checkpoint::is_one_line;
 use tl_device::Counted;
 
-/// Reads the whole input and writes the text of the checkpoint (C2SP tlog-checkpoint) of the log of its lines: the origin, their
-/// number and their Merkle tree hash under SHA-256. An origin that isn't one line is `BadOrigin` before anything is
-/// read; nothing is written before the whole input was read. It keeps the right edge of the log and one line, and so takes some
-/// hundred kilobytes whatever the input.
+/// Reads the whole input and writes the text of the checkpoint (C2SP tlog-checkpoint) of the log of its lines: the
+/// origin, their number and their Merkle tree hash under SHA-256. An origin that isn't one line is `BadOrigin` before
+/// anything is read; nothing is written before the whole input was read. It keeps the right edge of the log and one
+/// line, and so takes some hundred kilobytes whatever the input.
 pub fn run_head<A: Allocator + Copy, R: Read, W: Write>(
     alloc: A,
     origin: &str,

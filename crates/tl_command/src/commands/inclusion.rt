@@ -46,9 +46,9 @@ fn proof_of<A: Allocator + Copy>(
     })
 }
 
-/// Reads the whole input and writes the text of the inclusion proof (RFC 6962, section 2.1.1) of the line at `index`, counted
-/// from 0, in the tree of all its lines under SHA-256. An index that isn't below the number of lines is `BadIndex`. Nothing is
-/// written before the whole input was read.
+/// Reads the whole input and writes the text of the inclusion proof (RFC 6962, section 2.1.1) of the line at `index`,
+/// counted from 0, in the tree of all its lines under SHA-256. An index that isn't below the number of lines is
+/// `BadIndex`. Nothing is written before the whole input was read.
 pub fn run_inclusion<A: Allocator + Copy, R: Read, W: Write>(
     alloc: A,
     index: u64,

@@ -13,8 +13,8 @@ use tl_device::Counted;
 use tl_hash::Sha256Tree;
 use tl_tile::Edge;
 
-/// The right edge of the log of the lines of all that the reader gives. An input of more than 64 MiB is `TooLarge`, and then one with
-/// a line of more than 65,535 bytes is `EntryTooLong` of the first such line.
+/// The right edge of the log of the lines of all that the reader gives. An input of more than 64 MiB is `TooLarge`,
+/// and then one with a line of more than 65,535 bytes is `EntryTooLong` of the first such line.
 pub(crate) fn read_edge<A: Allocator + Copy, R: Read>(
     alloc: A,
     reader: &mut Counted<R>,
