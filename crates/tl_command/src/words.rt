@@ -1,7 +1,7 @@
 //! The command line: from words to a job.
 
-use clap::{Arg, ArgAction, ArgMatches, Command, Error as ClapError, value_parser};
 use clap::error::ErrorKind;
+use clap::{Arg, ArgAction, ArgMatches, Command, Error as ClapError, value_parser};
 use std::alloc::{AllocError, Global};
 use thiserror::Error;
 

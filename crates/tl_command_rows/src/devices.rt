@@ -8,8 +8,8 @@ use std::test::Fail;
 use tl_build::run_build;
 use tl_command::{RunFault, run_head};
 use tl_device::Counted;
-use tl_testing::{FailingReader, FailingWriter};
 use tl_testing::texts::TWO_ENTRIES;
+use tl_testing::{FailingReader, FailingWriter};
 
 // The command that is run.
 #[derive(Clone, Copy, Debug)]

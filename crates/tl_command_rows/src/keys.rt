@@ -12,11 +12,13 @@ use tl_testing::vectors::in_hex;
 // More requests than any of the calls makes.
 const MOST: u64 = 1000;
 
+// The bytes from 1 to 25, a secret of the vectors.
+const COUNTING: [u8; 25] = [
+    1, 2, 3, 4, 5, 6, 7, 8, 9, 10, 11, 12, 13, 14, 15, 16, 17, 18, 19, 20, 21, 22, 23, 24, 25,
+];
+
 #[test]
 fn hmac_of_the_vectors(rt: HostRuntime) -> Result<(), Fail> {
-    let counting: [u8; 25] = [
-        1, 2, 3, 4, 5, 6, 7, 8, 9, 10, 11, 12, 13, 14, 15, 16, 17, 18, 19, 20, 21, 22, 23, 24, 25,
-    ];
     let cases: [(&[u8], &[u8], &str); 6] = [
         (
             &[0x0b; 20],
@@ -34,7 +36,7 @@ fn hmac_of_the_vectors(rt: HostRuntime) -> Result<(), Fail> {
             "773ea91e36800e46854db8ebd09181a72959098b3ef8c122d9635514ced565fe",
         ),
         (
-            &counting,
+            &COUNTING,
             &[0xcd; 50],
             "82558a389a443c0ea4cc819899f2083a85f0faa3e578f8077a2e3ff46729665b",
         ),

@@ -7,7 +7,10 @@ use crate::ending::end_run;
 use std::alloc::Global;
 use std::io::{Read, Write};
 use tl_build::run_build;
-use tl_command::{Job, RunFault, WordsFault, read_words, run_audit, run_check, run_consistency, run_head, run_inclusion};
+use tl_command::{
+    Job, RunFault, WordsFault, read_words, run_audit, run_check, run_consistency, run_head,
+    run_inclusion,
+};
 use tl_device::{Counted, write_whole};
 use tl_hash::Sha256Tree;
 
