@@ -7,6 +7,9 @@ use thiserror::Error;
 
 mod texts;
 
+// The program's version. The formats that it reads and writes have versions of their own.
+const VERSION: &str = "0.1.0";
+
 /// A command of the program, with its options.
 #[derive(Debug, Drop)]
 pub enum Job {
@@ -152,6 +155,7 @@ fn audit<'a>(alloc: Global) -> Command<'a> {
 // The command line that the program takes.
 fn commands<'a>(alloc: Global) -> Result<Command<'a>, AllocError> {
     Command::new(alloc, "tlog")
+        .version(VERSION)
         .about("A transparency log: a public list that only grows, under the root of a Merkle tree")
         .after_help(texts::STATUSES)
         .subcommand_required(true)

@@ -72,10 +72,11 @@ fn build_with_and_without_a_path(rt: HostRuntime) -> Result<(), Fail> {
 
 #[test]
 fn other_words_get_the_usage(rt: HostRuntime) -> Result<(), Fail> {
-    let cases: [&[&str]; 14] = [
+    let cases: [&[&str]; 15] = [
         &["tlog", "heads", "--origin", "x"],
         &["tlog"],
         &["tlog", "--help"],
+        &["tlog", "--version"],
         &["tlog", "head"],
         &["tlog", "head", "--help"],
         &["tlog", "head", "--origin", "x", "--size", "3"],
