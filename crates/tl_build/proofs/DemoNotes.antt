@@ -11,7 +11,7 @@ use Rattle.tl_note.specs.Key.{SigningKey, IsKeyName}
 use Rattle.tl_note.specs.Note.{IsNoteText}
 use Rattle.tl_note.specs.SignNote.{SignsNote}
 use Rattle.tl_note.proofs.OneNote.{name_plain}
-use Rattle.tl_checkpoint.specs.Checkpoint.{IsOneLine}
+use Rattle.tl_text.specs.Text.{IsOneLine}
 use Rattle.tl_key.specs.DemoKey.{Demo, demo_signing_key}
 use Rattle.tl_key.specs.Hmac.{padded_secret, hmac}
 

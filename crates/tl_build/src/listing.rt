@@ -3,7 +3,7 @@
 ghost use Rattle.std.specs.Prelude.{◌≡◌, ◌<◌, ◌^◌, ◌++◌, ◌∷◌, All, length, map, vec_items, string_bytes, Contains, IfOk, IfErr, OnOk};
 ghost use Rattle.sha2.specs.Sha256.{sha256};
 ghost use Rattle.tl_store.specs.Store.{StandsFor};
-ghost use Rattle.tl_note.specs.Text.{line, number_text};
+ghost use Rattle.tl_text.specs.Text.{line, number_text};
 ghost use Rattle.tl_tile.specs.Bundle.{AreShortEntries};
 ghost use Rattle.tl_tile.specs.Path.{IsResource, path_text};
 ghost use Rattle.tl_build.specs.Mirror.{mirrored, listing_text};

@@ -4,10 +4,10 @@ use Rattle.std.specs.Prelude.{IsUtf8}
 use Rattle.std.specs.List.{flat_map}
 use Rattle.std.proofs.lemmas.List.Elements.{All-nil, All-head, All-tail, All-push, All-cons}
 use Rattle.std.proofs.lemmas.List.Concat.{flat_map-cons, flat_map-append}
-use Rattle.tl_note.specs.Text.{line, number_text, base64_text, HasNoControl}
-use Rattle.tl_note.proofs.Lines.{one_line, line_not_empty}
-use Rattle.tl_checkpoint.specs.Checkpoint.{IsOneLine, checkpoint_text}
-use Rattle.tl_checkpoint.specs.Pieces.{IsNoLine}
+use Rattle.tl_text.specs.Text.{line, number_text, base64_text, HasNoControl, IsOneLine}
+use Rattle.tl_text.proofs.Lines.{one_line, line_not_empty}
+use Rattle.tl_checkpoint.specs.Checkpoint.{checkpoint_text}
+use Rattle.tl_text.specs.Pieces.{IsNoLine}
 use Rattle.tl_checkpoint.specs.ParseCheckpoint.{IsInLines}
 use Rattle.tl_checkpoint.specs.Inner.CutLines.{AreExtensions, AreSome}
 

@@ -1,5 +1,4 @@
 pub mod LinesLemmas
-pub mod PieceLemmas
 pub mod ExtensionLemmas
 pub mod CosignatureLemmas
 pub mod OneText

@@ -1,11 +1,11 @@
 -- A text has one checkpoint.
 use Rattle.std.proofs.Common.{◌≡◌, ℕ, List, ◌++◌, sym, ap, ◌∙◌, append_assoc, arith, All}
 use Rattle.std.specs.List.{flat_map}
-use Rattle.tl_note.specs.Text.{line, base64_text, number_text, HasNoControl}
+use Rattle.tl_text.specs.Text.{line, base64_text, number_text, HasNoControl, IsOneLine}
 use Rattle.std.proofs.lemmas.Fmt.{decimal_injective}
-use Rattle.tl_note.proofs.Lines.{one_line, lines_once}
-use Rattle.tl_note.proofs.PlainText.{number_plain, base64_plain, base64_once}
-use Rattle.tl_checkpoint.specs.Checkpoint.{Head, IsHead, IsOneLine, checkpoint_text}
+use Rattle.tl_text.proofs.Lines.{one_line, lines_once}
+use Rattle.tl_text.proofs.PlainText.{number_plain, base64_plain, base64_once}
+use Rattle.tl_checkpoint.specs.Checkpoint.{Head, IsHead, checkpoint_text}
 
 pub plain_lines : (texts : List (List ℕ)) → All IsOneLine texts → All HasNoControl texts
 plain_lines texts each = λ k d lt. (each k d lt).plain

@@ -3,8 +3,8 @@ use Rattle.std.proofs.Common.{◌≡◌, ℕ, ◌^◌, ◌<◌, List, ◌∷◌,
 use Rattle.std.specs.Prelude.{IsErrAnd}
 use Rattle.std.proofs.lemmas.List.Elements.{All-head}
 use Rattle.tl_hash.specs.Bytes.{IsHash}
-use Rattle.tl_note.specs.Text.{number_text, base64_text, HasNoControl, IsSize}
-use Rattle.tl_note.proofs.Lines.{lines_once}
+use Rattle.tl_text.specs.Text.{number_text, base64_text, HasNoControl, IsSize}
+use Rattle.tl_text.proofs.Lines.{lines_once}
 use Rattle.tl_checkpoint.specs.declared.checkpoint.Checkpoint.{Checkpoint}
 use Rattle.tl_checkpoint.specs.declared.checkpoint.CheckpointFault.{CheckpointFault}
 use Rattle.tl_checkpoint.specs.declared.checkpoint.CheckpointFault.TheVariants.{OutOfMemory}

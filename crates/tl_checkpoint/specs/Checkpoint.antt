@@ -2,7 +2,7 @@
 use Rattle.std.specs.Prelude.{ℕ, ◌<◌, List, ◌++◌, length, All, map, string_bytes, vec_items}
 use Rattle.std.specs.List.{flat_map}
 use Rattle.tl_hash.specs.Bytes.{IsHash}
-use Rattle.tl_note.specs.Text.{line, number_text, base64_text, HasNoControl, IsSize}
+use Rattle.tl_text.specs.Text.{line, number_text, base64_text, IsOneLine, IsSize}
 use Rattle.tl_checkpoint.specs.declared.checkpoint.Checkpoint.{Checkpoint}
 
 -- what a checkpoint states, whatever memory its texts are in
@@ -14,11 +14,6 @@ pub record Head : Type 0 where
 
 abbrev pub head_of : {A : Type 0} → Checkpoint A → Head
 head_of c = record { origin = string_bytes c.origin; size = c.size; root = c.root; extensions = map string_bytes (vec_items c.extensions) }
-
--- a text of one line that isn't empty
-pub record IsOneLine (text : List ℕ) : Type 0 where
-  pub some : 0 < length text
-  pub plain : HasNoControl text
 
 -- what has a text
 pub record IsHead (c : Head) : Type 0 where

@@ -1,7 +1,7 @@
 -- What a witness signs, and its signature line (C2SP tlog-cosignature, "Format", version 1).
 use Rattle.std.specs.Prelude.{◌≡◌, ℕ, ◌<◌, ◌^◌, ◌⊎◌, List, [], ◌++◌, length, codes, IsTrue, Option, Some, None, Result, Ok, Err, String, string_bytes}
 use Rattle.std.specs.Int.{w64, to_be_bytes}
-use Rattle.tl_note.specs.Text.{line, number_text}
+use Rattle.tl_text.specs.Text.{line, number_text}
 use Rattle.tl_note.specs.Key.{Key, SigningKey, IsKeyName}
 use Rattle.tl_note.specs.Note.{Signature, signature_line}
 use Rattle.tl_note.specs.declared.fault.NoteFault.{NoteFault}

@@ -1,5 +1,4 @@
 -- The definitions of checkpoints (C2SP tlog-checkpoint).
-pub mod Pieces
 pub mod Checkpoint
 pub mod WriteCheckpoint
 pub mod ParseCheckpoint

@@ -1,12 +1,12 @@
 -- What reading a checkpoint answers.
 use Rattle.std.specs.Prelude.{◌≡◌, ◌≢◌, ℕ, ◌≤◌, List, [], ◌∷◌, length, drop, All, Result, Ok, Err}
 use Rattle.std.specs.List.{flat_map}
-use Rattle.tl_note.specs.Text.{line, HasNoControl}
+use Rattle.tl_text.specs.Text.{line, HasNoControl, IsOneLine}
 use Rattle.tl_checkpoint.specs.declared.checkpoint.Checkpoint.{Checkpoint}
 use Rattle.tl_checkpoint.specs.declared.checkpoint.CheckpointFault.{CheckpointFault}
 use Rattle.tl_checkpoint.specs.declared.checkpoint.CheckpointFault.TheVariants.{Lines, Origin, Size, Root, OutOfMemory}
-use Rattle.tl_checkpoint.specs.Checkpoint.{Head, head_of, IsHead, IsOneLine, checkpoint_text}
-use Rattle.tl_checkpoint.specs.Pieces.{IsNoSize, IsNoHash}
+use Rattle.tl_checkpoint.specs.Checkpoint.{Head, head_of, IsHead, checkpoint_text}
+use Rattle.tl_text.specs.Pieces.{IsNoSize, IsNoHash}
 
 -- the text is lines without control characters, three at least; those after the third aren't empty
 pub record IsInLines (text : List ℕ) (lines : List (List ℕ)) : Type 0 where

@@ -1,9 +1,9 @@
 -- What writing a checkpoint answers.
 use Rattle.std.specs.Prelude.{◌≡◌, All, Result, Ok, Err, String, string_bytes}
-use Rattle.tl_note.specs.Text.{IsSize}
+use Rattle.tl_text.specs.Text.{IsSize, IsOneLine}
 use Rattle.tl_checkpoint.specs.declared.checkpoint.CheckpointFault.{CheckpointFault}
 use Rattle.tl_checkpoint.specs.declared.checkpoint.CheckpointFault.TheVariants.{Lines, Origin, Size, Root, OutOfMemory}
-use Rattle.tl_checkpoint.specs.Checkpoint.{Head, IsHead, IsOneLine, checkpoint_text}
+use Rattle.tl_checkpoint.specs.Checkpoint.{Head, IsHead, checkpoint_text}
 
 -- the text, or the first part that has none
 abbrev pub WritesCheckpoint : {A : Type 0} → Head → Result (String A) CheckpointFault → Type 0

@@ -5,10 +5,10 @@ ghost use Rattle.tl_note.specs.Key.{Key, SigningKey};
 ghost use Rattle.tl_checkpoint.specs.Cosignature.{ChecksCosignature, CosignsLine, IsOfKey, cosigned_message, cosignature};
 ghost use Rattle.tl_checkpoint.specs.Inner.Cosigning.{FailsToSign, IsNoCosignature};
 
-use crate::writing::push_line;
 use itoa::Buffer;
 use std::alloc::{AllocError, Allocator, Global};
 use tl_note::{NoteFault, SigView, SignFault, Signer, Verifier, is_key_name, write_signature_line};
+use tl_text::push_line;
 
 /// The message that a witness signs for the text of a checkpoint: the version, the time in seconds since the Unix
 /// epoch, and the text. It fails only where a growth was refused.

@@ -5,8 +5,8 @@ ghost use Rattle.tl_checkpoint.specs.ParseCheckpoint.{IsInNoLines, ParsesCheckpo
 ghost use Rattle.tl_checkpoint.specs.Inner.CutLines.{AreExtensions, AreSome, CutsLines};
 
 use crate::checkpoint::{Checkpoint, CheckpointFault};
-use crate::pieces::{first_line, hash_of, size_of};
 use std::alloc::{AllocError, Allocator};
+use tl_text::{first_line, hash_of, size_of};
 
 // Whether a text is lines, none of which is empty.
 fn are_extensions(text: &str) -> bool

@@ -2,21 +2,15 @@
 
 ghost use Rattle.std.specs.Prelude.{◌≡◌, ◌↔◌, ◌++◌, All, IsTrue, OnOk, map, string_bytes};
 ghost use Rattle.std.specs.List.{flat_map};
-ghost use Rattle.tl_note.specs.Text.{line};
-ghost use Rattle.tl_checkpoint.specs.Checkpoint.{IsOneLine, head_of};
+ghost use Rattle.tl_text.specs.Text.{line, IsOneLine};
+ghost use Rattle.tl_checkpoint.specs.Checkpoint.{head_of};
 ghost use Rattle.tl_checkpoint.specs.WriteCheckpoint.{WritesCheckpoint};
 
 use crate::checkpoint::{Checkpoint, CheckpointFault};
 use base64::engine::general_purpose::STANDARD;
 use itoa::Buffer;
 use std::alloc::{AllocError, Allocator};
-
-/// Whether a text is one line that isn't empty, as an origin and an extension line have to be.
-pub fn is_one_line(text: &str) -> bool
-    ensures { IsTrue result ↔ IsOneLine text.now }
-{
-    !text.is_empty() && text.bytes().all(|byte| byte >= 0x20)
-}
+use tl_text::{is_one_line, push_line};
 
 // Whether each text is one line that isn't empty.
 fn are_lines<A: Allocator>(texts: &[String<A>]) -> bool
@@ -28,15 +22,6 @@ fn are_lines<A: Allocator>(texts: &[String<A>]) -> bool
         }
     }
     true
-}
-
-// Appends a text and its newline.
-pub(crate) fn push_line<A: Allocator>(out: &mut String<A>, text: &str) -> Result<(), AllocError>
-    ensures { OnOk result (string_bytes out.new ≡ string_bytes out.old ++ line text.now) }
-{
-    out.push_str(text)?;
-    out.push_str("\n")?;
-    Ok(())
 }
 
 // Appends these texts as lines.

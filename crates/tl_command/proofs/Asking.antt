@@ -2,7 +2,7 @@
 use Rattle.std.proofs.Common.{◌≡◌, ℕ, ◌+◌, ◌<◌, ◌≤◌, inl, inr, List, [], ◌∷◌, length, None, refl, sym, ap, ◌∙◌, arith}
 use Rattle.std.proofs.lemmas.Bool.{cases_lt}
 use Rattle.std.specs.Prelude.{Err}
-use Rattle.tl_checkpoint.specs.Checkpoint.{IsOneLine}
+use Rattle.tl_text.specs.Text.{IsOneLine}
 use Rattle.tl_device.specs.Device.{Passage, IsUnwritten, GaveSome}
 use Rattle.tl_command.specs.Inner.Growing.{ReadsEdge}
 use Rattle.tl_command.specs.declared.fault.RunFault.{RunFault}

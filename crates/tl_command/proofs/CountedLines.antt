@@ -7,7 +7,7 @@ use Rattle.std.proofs.lemmas.Bool.{cases_eq}
 use Rattle.std.proofs.lemmas.Fmt.{decimal_injective}
 use Rattle.std.proofs.lemmas.List.{append_cancel_left, length-map, length-append, length-take-le, map-append, take-append-drop, take-map, drop-map, take_rest}
 use Rattle.std.proofs.lemmas.List.Elements.{All-nil, All-cons, All-head, All-tail, All-append}
-use Rattle.tl_note.specs.Text.{number_text, base64_text, IsSize}
+use Rattle.tl_text.specs.Text.{number_text, base64_text, IsSize}
 use Rattle.tl_command.specs.AuditText.{Audit, IsAudit, counted_lines, audit_lines, audit_text}
 use Rattle.tl_command.specs.Inner.Shown.{IsRead}
 use Rattle.tl_command.specs.Lines.{entries_of, HasNoNewline}

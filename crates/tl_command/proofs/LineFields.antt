@@ -10,7 +10,7 @@ use Rattle.std.proofs.lemmas.Fmt.{IsAscii-decimal}
 use Rattle.std.proofs.lemmas.Str.{IsUtf8-from_ascii}
 use Rattle.base64.proofs.EngineFacts.{IsAscii-encode_of}
 use Rattle.base64.specs.Engines.{standard}
-use Rattle.tl_note.specs.Text.{number_text, base64_text, IsSize}
+use Rattle.tl_text.specs.Text.{number_text, base64_text, IsSize}
 
 pub number_utf8 : (n : ℕ) → IsSize n → IsUtf8 (number_text n)
 number_utf8 n small = IsUtf8-from_ascii (decimal n) (IsAscii-decimal n (omega arith))

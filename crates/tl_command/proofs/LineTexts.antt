@@ -6,7 +6,7 @@ use Rattle.std.proofs.lemmas.Bool.{cases_eq, ne_eqb}
 use Rattle.std.proofs.lemmas.List.Concat.{flat_map-cons}
 use Rattle.std.proofs.lemmas.List.Elements.{All-head, All-tail}
 use Rattle.std.proofs.lemmas.Option.{get_or_from_slice_get, slice_get-get_or}
-use Rattle.tl_note.specs.Text.{line}
+use Rattle.tl_text.specs.Text.{line}
 use Rattle.tl_command.specs.Lines.{entries_of, lines_text, HasNoNewline}
 use Rattle.tl_command.proofs.LinesLemmas.{step_newline, step_other}
 

@@ -9,8 +9,8 @@ use Rattle.std.proofs.lemmas.List.Sums.{AllPass-from_list_all}
 use Rattle.sha2.specs.Sha256.{sha256}
 use Rattle.tl_hash.specs.Bytes.{IsHash}
 use Rattle.tl_hash.specs.Tree.{leaf_input, tree_hash}
-use Rattle.tl_note.specs.Text.{line, number_text, base64_text, HasNoControl, IsSize}
-use Rattle.tl_note.proofs.PlainText.{number_plain, base64_plain}
+use Rattle.tl_text.specs.Text.{line, number_text, base64_text, HasNoControl, IsSize}
+use Rattle.tl_text.proofs.PlainText.{number_plain, base64_plain}
 use Rattle.tl_proof.specs.Proofs.{inclusion_proof, consistency_proof}
 use Rattle.tl_command.specs.Lines.{entries_of, lines_text, HasNoNewline}
 use Rattle.tl_command.specs.ProofText.{Inclusion, Consistency, Proof, Included, Consistent, IsProof, proof_lines, proof_text}

@@ -2,7 +2,7 @@
 use Rattle.std.specs.Prelude.{◌≡◌, ◌≢◌, ◌⊎◌, ℕ, List, [], ◌∷◌, ◌++◌, length, codes}
 use Rattle.hex.specs.Hex.{encode_lower}
 use Rattle.tl_hash.specs.Tree.{tree_hash}
-use Rattle.tl_note.specs.Text.{line}
+use Rattle.tl_text.specs.Text.{line}
 use Rattle.tl_proof.specs.Audit.{AreAccepted}
 use Rattle.tl_proof.specs.Collisions.{IsPrefix, Exhibits, audit_inputs}
 use Rattle.tl_proof.specs.Acceptance.{Step}

@@ -1,7 +1,7 @@
 -- Texts of audits (a format of this project): two lists of entries, and a consistency proof from the one to the other.
 use Rattle.std.specs.Prelude.{ℕ, List, ◌∷◌, ◌++◌, length, All, map, codes}
 use Rattle.tl_hash.specs.Bytes.{IsHash}
-use Rattle.tl_note.specs.Text.{number_text, base64_text, IsSize}
+use Rattle.tl_text.specs.Text.{number_text, base64_text, IsSize}
 use Rattle.tl_command.specs.Lines.{lines_text, HasNoNewline}
 
 pub record Audit : Type 0 where

@@ -1,6 +1,6 @@
 -- What a fault of a command prints, and its exit status.
 use Rattle.std.specs.Prelude.{ℕ, List, ◌++◌, codes, Option, Some, None}
-use Rattle.tl_note.specs.Text.{number_text}
+use Rattle.tl_text.specs.Text.{number_text}
 use Rattle.tl_command.specs.declared.fault.RunFault.{RunFault}
 use Rattle.tl_command.specs.declared.fault.RunFault.TheVariants.{Refused, Read, Write, TooLarge, EntryTooLong, BadOrigin, BadIndex, BadOld, BadPath, NotThere, Malformed, Chain, Sign, Operator, Listen, Accept, OutOfMemory}
 

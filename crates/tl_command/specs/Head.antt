@@ -2,7 +2,8 @@
 use Rattle.std.specs.Prelude.{◌≡◌, ℕ, List, [], length, None, Result, Err}
 use Rattle.sha2.specs.Sha256.{sha256}
 use Rattle.tl_hash.specs.Tree.{tree_hash}
-use Rattle.tl_checkpoint.specs.Checkpoint.{checkpoint_text, IsOneLine}
+use Rattle.tl_checkpoint.specs.Checkpoint.{checkpoint_text}
+use Rattle.tl_text.specs.Text.{IsOneLine}
 use Rattle.tl_device.specs.Device.{Passage, IsUnread, IsUnwritten}
 use Rattle.tl_command.specs.Lines.{entries_of, first_too_long}
 use Rattle.tl_command.specs.Run.{Outcome, Prints, PrintsRefusal, Fails, Runs, IsEntryFault}

@@ -1,7 +1,7 @@
 -- The entries of an input: its lines.
 use Rattle.std.specs.Prelude.{◌≢◌, ℕ, ◌==◌, nat_lt, List, [], ◌∷◌, length, position, All, Bool, Option}
 use Rattle.std.specs.List.{flat_map, slice_split}
-use Rattle.tl_note.specs.Text.{line}
+use Rattle.tl_text.specs.Text.{line}
 
 -- pieces without a last one that is empty
 abbrev pub without_empty_last : List (List ℕ) → List (List ℕ)

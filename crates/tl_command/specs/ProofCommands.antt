@@ -2,7 +2,7 @@
 use Rattle.std.specs.Prelude.{◌≡◌, ◌≢◌, ℕ, ◌<◌, ◌≤◌, List, [], length, take, slice_index_or, codes, None}
 use Rattle.sha2.specs.Sha256.{sha256}
 use Rattle.tl_hash.specs.Tree.{leaf_input, tree_hash}
-use Rattle.tl_note.specs.Text.{line}
+use Rattle.tl_text.specs.Text.{line}
 use Rattle.tl_proof.specs.Proofs.{inclusion_proof, consistency_proof}
 use Rattle.tl_command.specs.Lines.{entries_of, first_too_long}
 use Rattle.tl_command.specs.ProofText.{Inclusion, Consistency, Proof, IsProof, inclusion_text, consistency_text, proof_text, Accepts}

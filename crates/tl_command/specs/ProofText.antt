@@ -1,7 +1,7 @@
 -- Texts of inclusion and consistency proofs (formats of this project).
 use Rattle.std.specs.Prelude.{ℕ, List, ◌∷◌, ◌++◌, All, map, codes}
 use Rattle.tl_hash.specs.Bytes.{IsHash}
-use Rattle.tl_note.specs.Text.{number_text, base64_text, IsSize}
+use Rattle.tl_text.specs.Text.{number_text, base64_text, IsSize}
 use Rattle.tl_proof.specs.Acceptance.{AcceptsInclusion, AcceptsConsistency}
 use Rattle.tl_command.specs.Lines.{lines_text}
 

@@ -1,9 +1,9 @@
 //! The text of a checkpoint without extensions.
 
 ghost use Rattle.std.specs.Prelude.{◌≡◌, [], string_bytes, IfOk, IfErr};
-ghost use Rattle.tl_note.specs.Text.{IsSize};
+ghost use Rattle.tl_text.specs.Text.{IsSize, IsOneLine};
 ghost use Rattle.tl_note.specs.Note.{IsNoteText};
-ghost use Rattle.tl_checkpoint.specs.Checkpoint.{IsOneLine, checkpoint_text};
+ghost use Rattle.tl_checkpoint.specs.Checkpoint.{checkpoint_text};
 
 use crate::fault::RunFault;
 use std::alloc::Allocator;

@@ -3,14 +3,14 @@
 
 ghost use Rattle.std.specs.Prelude.{◌≡◌, ◌≢◌, ◌<◌, ◌^◌, ◌++◌, ℕ, List, All, MatchOption, IfOk, OnErr, length, MatchBool, IsUtf8, map, vec_items};
 ghost use Rattle.tl_hash.specs.Bytes.{IsHash};
-ghost use Rattle.tl_note.specs.Text.{number_text, base64_text, IsSize};
+ghost use Rattle.tl_text.specs.Text.{number_text, base64_text, IsSize};
 ghost use Rattle.tl_command.specs.Lines.{entries_of, lines_text, HasNoNewline};
 
 use crate::entries::split_entries;
 use std::alloc::{AllocError, Allocator};
 use std::str;
-use tl_checkpoint::{hash_of, size_of};
 use tl_hash::Hash;
+use tl_text::{hash_of, size_of};
 
 // Whether a text is lines, each ended by its newline.
 fn is_lines(text: &[u8]) -> bool

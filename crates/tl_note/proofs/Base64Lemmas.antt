@@ -14,9 +14,9 @@ use Rattle.base64.specs.Rfc4648.{encode_symbols, padding_len, unpadded_len}
 use Rattle.base64.proofs.EngineFacts.{decode_of-encode_of, decode_of_strict, encode_of-append, front_bytes}
 use Rattle.base64.proofs.RoundTrip.{length-encode_symbols}
 use Rattle.tl_note.specs.declared.field.Block.{Block}
-use Rattle.tl_note.specs.Text.{base64_text}
+use Rattle.tl_text.specs.Text.{base64_text}
 use Rattle.tl_note.specs.Inner.Field.{IsSpelled, IsRead, IsBase64, IsNoBase64}
-use Rattle.tl_note.proofs.PlainText.{base64_once}
+use Rattle.tl_text.proofs.PlainText.{base64_once}
 
 -- how many characters bytes take
 pub length-text : (b : List ℕ) → length (base64_text b) ≡ unpadded_len (length b) + padding_len (length b)

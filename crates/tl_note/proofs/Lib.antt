@@ -1,5 +1,3 @@
-pub mod PlainText
-pub mod Lines
 pub mod OneNote
 pub mod FieldLemmas
 pub mod Base64Lemmas

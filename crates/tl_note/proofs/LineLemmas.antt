@@ -9,7 +9,7 @@ use Rattle.std.proofs.lemmas.Str.{IsUtf8-drop}
 use Rattle.std.proofs.lemmas.Str.Pattern.{IsSplitOnceResult, split_after}
 use Rattle.tl_note.specs.Note.{Signature, IsSignature, signature_field, signature_words, signature_line}
 use Rattle.tl_note.specs.Inner.Reading.{CutsLine, IsNoFirstLine, AreSignatureLines, HasSignatureLines}
-use Rattle.tl_note.proofs.Lines.{one_line, line_not_empty}
+use Rattle.tl_text.proofs.Lines.{one_line, line_not_empty}
 use Rattle.tl_note.proofs.OneNote.{name_no_space, body_plain, open_lines, one_body, IsNoSpace}
 
 abbrev pub dash : List ℕ

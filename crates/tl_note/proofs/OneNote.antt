@@ -11,11 +11,11 @@ use Rattle.std.proofs.lemmas.List.Elements.{All-nil, All-cons, All-append, All-h
 use Rattle.std.proofs.lemmas.List.Concat.{flat_map-cons}
 use Rattle.std.proofs.lemmas.Str.{encodes-chars, inside_one}
 use Rattle.base64.specs.GeneralPurpose.{IsBytes}
-use Rattle.tl_note.specs.Text.{line, HasNoControl}
+use Rattle.tl_text.specs.Text.{line, HasNoControl}
 use Rattle.tl_note.specs.Key.{IsNameChar, IsKeyName}
 use Rattle.tl_note.specs.Note.{Signature, IsSignature, signature_field, signature_words, signature_line, Note}
-use Rattle.tl_note.proofs.PlainText.{base64_plain, base64_once}
-use Rattle.tl_note.proofs.Lines.{one_line, line_not_empty}
+use Rattle.tl_text.proofs.PlainText.{base64_plain, base64_once}
+use Rattle.tl_text.proofs.Lines.{one_line, line_not_empty}
 
 -- no two newlines meet
 abbrev pub NoGap : List ℕ → Type 0

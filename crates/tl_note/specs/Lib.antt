@@ -1,4 +1,3 @@
-pub mod Text
 pub mod Key
 pub mod Note
 pub mod Line

@@ -3,7 +3,7 @@ use Rattle.std.specs.Prelude.{◌≡◌, ℕ, ◌<◌, ◌≤◌, ◌⊎◌, ◌
 use Rattle.std.specs.List.{flat_map}
 use Rattle.std.specs.Int.{w32, to_be_bytes}
 use Rattle.base64.specs.GeneralPurpose.{IsBytes}
-use Rattle.tl_note.specs.Text.{line, base64_text}
+use Rattle.tl_text.specs.Text.{line, base64_text}
 use Rattle.tl_note.specs.Key.{IsKeyName}
 
 -- what a signature line says: the key's name and identifier, and the signature

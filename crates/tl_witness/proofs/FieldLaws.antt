@@ -3,8 +3,8 @@ use Rattle.std.proofs.Common.{◌≡◌, ℕ, List, arith, Option, Bor}
 use Rattle.std.specs.Prelude.{MatchOption, Some, None}
 use Rattle.std.proofs.lemmas.Str.Pattern.{IsSplitOnceResult, split_after}
 use Rattle.tl_hash.specs.Bytes.{IsHash}
-use Rattle.tl_note.specs.Text.{number_text, base64_text, IsSize}
-use Rattle.tl_checkpoint.specs.Pieces.{IsNoSize, IsNoHash}
+use Rattle.tl_text.specs.Text.{number_text, base64_text, IsSize}
+use Rattle.tl_text.specs.Pieces.{IsNoSize, IsNoHash}
 use Rattle.tl_witness.specs.ChainFields.{IsWithout, field}
 use Rattle.tl_witness.specs.Inner.ChainFields.{HasNoNumber, HasNoHash}
 use Rattle.tl_witness.proofs.FieldTexts.{without_space, number_visible, base64_visible}

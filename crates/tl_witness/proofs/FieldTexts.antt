@@ -11,7 +11,7 @@ use Rattle.std.proofs.lemmas.Fmt.{decimal_is_IsNumeral}
 use Rattle.base64.specs.Rfc4648.{encode_symbols, padding_len}
 use Rattle.base64.specs.GeneralPurpose.{IsBytes}
 use Rattle.base64.specs.Engines.{standard}
-use Rattle.tl_note.specs.Text.{number_text, base64_text, IsSize}
+use Rattle.tl_text.specs.Text.{number_text, base64_text, IsSize}
 use Rattle.tl_witness.specs.ChainFields.{IsWithout}
 
 abbrev symbols : List ℕ

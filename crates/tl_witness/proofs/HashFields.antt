@@ -4,8 +4,8 @@ use Rattle.std.specs.Prelude.{IsUtf8}
 use Rattle.std.proofs.lemmas.List.{length-append}
 use Rattle.std.proofs.lemmas.List.Elements.{All-nil, All-head, All-tail, All-push}
 use Rattle.tl_hash.specs.Bytes.{IsHash}
-use Rattle.tl_note.specs.Text.{base64_text}
-use Rattle.tl_note.proofs.PlainText.{base64_once}
+use Rattle.tl_text.specs.Text.{base64_text}
+use Rattle.tl_text.proofs.PlainText.{base64_once}
 use Rattle.tl_witness.specs.ChainFields.{field, hashes_before, AreHashes}
 use Rattle.tl_witness.specs.Inner.ChainFields.{HasHashes, HasNoHash, HasNoHashes}
 use Rattle.tl_witness.proofs.FieldTexts.{one_end}

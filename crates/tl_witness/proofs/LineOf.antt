@@ -1,7 +1,8 @@
 -- A request and a signed checkpoint make a chain line.
 use Rattle.std.proofs.Common.{◌≡◌, ℕ, List, sym, subst}
 use Rattle.std.specs.Prelude.{IsUtf8}
-use Rattle.tl_checkpoint.specs.Checkpoint.{IsHead, IsOneLine}
+use Rattle.tl_checkpoint.specs.Checkpoint.{IsHead}
+use Rattle.tl_text.specs.Text.{IsOneLine}
 use Rattle.tl_witness.specs.Book.{Signed, asked_of}
 use Rattle.tl_witness.specs.ChainLine.{IsChainLine}
 use Rattle.tl_witness.specs.Request.{Body, IsBody}

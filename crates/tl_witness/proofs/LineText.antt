@@ -10,7 +10,7 @@ use Rattle.std.proofs.lemmas.Str.Ascii.{IsAscii-nil, IsAscii-cons}
 use Rattle.base64.specs.Engines.{standard}
 use Rattle.base64.proofs.EngineFacts.{IsAscii-encode_of}
 use Rattle.tl_hash.specs.Bytes.{IsHash}
-use Rattle.tl_note.specs.Text.{number_text, base64_text}
+use Rattle.tl_text.specs.Text.{number_text, base64_text}
 use Rattle.tl_witness.specs.ChainLine.{ChainLine, IsChainLine, chain_line, spaced_hashes}
 use Rattle.tl_witness.specs.ChainFields.{IsWithout, HasNoLine, chain_words, field, hashes_before}
 use Rattle.tl_witness.specs.Inner.ChainFields.{IsNoChainLine}

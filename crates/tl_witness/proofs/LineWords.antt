@@ -3,8 +3,7 @@ use Rattle.std.proofs.Common.{◌≡◌, ℕ, ◌<◌, ◌≤◌, List, length, 
 use Rattle.std.specs.Prelude.{IsUtf8}
 use Rattle.std.proofs.lemmas.Fmt.{decimal_injective}
 use Rattle.tl_hash.specs.Bytes.{IsHash}
-use Rattle.tl_note.specs.Text.{number_text, base64_text, IsSize}
-use Rattle.tl_checkpoint.specs.Checkpoint.{IsOneLine}
+use Rattle.tl_text.specs.Text.{number_text, base64_text, IsSize, IsOneLine}
 use Rattle.tl_witness.specs.declared.chain_fields.Fields.{Fields}
 use Rattle.tl_witness.specs.ReadChain.{ShowsFields}
 use Rattle.tl_witness.specs.ChainLine.{ChainLine, IsChainLine}

@@ -3,8 +3,8 @@ use Rattle.std.proofs.Common.{◌≡◌, ◌≢◌, ℕ, List, [], ◌∷◌, �
 use Rattle.std.proofs.lemmas.List.{length-append}
 use Rattle.std.proofs.lemmas.List.Concat.{flat_map-cons}
 use Rattle.std.proofs.lemmas.List.Elements.{All-head, All-tail}
-use Rattle.tl_note.specs.Text.{base64_text}
-use Rattle.tl_note.proofs.PlainText.{base64_once}
+use Rattle.tl_text.specs.Text.{base64_text}
+use Rattle.tl_text.proofs.PlainText.{base64_once}
 use Rattle.tl_witness.specs.ChainLine.{ChainLine, IsChainLine, IsChainText, chain_line, chain_text}
 use Rattle.tl_witness.specs.ChainFields.{chain_words}
 use Rattle.tl_witness.specs.OneReading.{SavedLinksAreOne}

@@ -4,11 +4,11 @@ use Rattle.std.specs.Prelude.{codes}
 use Rattle.std.proofs.lemmas.List.Concat.{flat_map-cons}
 use Rattle.std.proofs.lemmas.List.Elements.{All-append, All-cons, All-head, All-tail, All-nil}
 use Rattle.tl_hash.specs.Bytes.{IsHash}
-use Rattle.tl_note.specs.Text.{line, base64_text, number_text, HasNoControl, IsSize}
+use Rattle.tl_text.specs.Text.{line, base64_text, number_text, HasNoControl, IsSize}
 use Rattle.tl_note.specs.Note.{Note}
-use Rattle.tl_note.proofs.Lines.{one_line}
+use Rattle.tl_text.proofs.Lines.{one_line}
 use Rattle.tl_note.proofs.OneNote.{one_note}
-use Rattle.tl_note.proofs.PlainText.{base64_plain, number_plain}
+use Rattle.tl_text.proofs.PlainText.{base64_plain, number_plain}
 use Rattle.tl_checkpoint.proofs.OneText.{one_checkpoint}
 use Rattle.tl_witness.specs.Book.{Signed, IsSigned}
 use Rattle.tl_witness.specs.Request.{Body, IsRequest, hash_lines}

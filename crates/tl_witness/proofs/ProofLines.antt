@@ -6,10 +6,10 @@ use Rattle.std.proofs.lemmas.List.Elements.{All-nil, All-head, All-tail, All-pus
 use Rattle.std.proofs.lemmas.List.Concat.{flat_map-cons, flat_map-append}
 use Rattle.base64.specs.Rfc4648.{encode_symbols}
 use Rattle.tl_hash.specs.Bytes.{IsHash}
-use Rattle.tl_note.specs.Text.{line, base64_text, HasNoControl}
-use Rattle.tl_note.proofs.Lines.{one_line}
-use Rattle.tl_note.proofs.PlainText.{base64_plain, base64_once}
-use Rattle.tl_checkpoint.specs.Pieces.{IsNoLine, IsNoHash}
+use Rattle.tl_text.specs.Text.{line, base64_text, HasNoControl}
+use Rattle.tl_text.proofs.Lines.{one_line}
+use Rattle.tl_text.proofs.PlainText.{base64_plain, base64_once}
+use Rattle.tl_text.specs.Pieces.{IsNoLine, IsNoHash}
 use Rattle.tl_witness.specs.Request.{hash_lines}
 use Rattle.tl_witness.specs.ReadRequest.{IsProofText, HasProof, HasNoHashLine}
 

@@ -9,10 +9,10 @@ use Rattle.std.proofs.lemmas.Str.{IsUtf8-append, IsUtf8-from_ascii, IsAscii-appe
 use Rattle.std.proofs.lemmas.Str.Ascii.{IsAscii-nil, IsAscii-cons}
 use Rattle.base64.specs.Engines.{standard}
 use Rattle.base64.proofs.EngineFacts.{IsAscii-encode_of}
-use Rattle.tl_note.specs.Text.{line, number_text, base64_text, HasNoControl, IsSize}
-use Rattle.tl_note.proofs.Lines.{one_line}
-use Rattle.tl_note.proofs.PlainText.{number_plain}
-use Rattle.tl_checkpoint.specs.Pieces.{IsNoLine, IsNoSize}
+use Rattle.tl_text.specs.Text.{line, number_text, base64_text, HasNoControl, IsSize}
+use Rattle.tl_text.proofs.Lines.{one_line}
+use Rattle.tl_text.proofs.PlainText.{number_plain}
+use Rattle.tl_text.specs.Pieces.{IsNoLine, IsNoSize}
 use Rattle.tl_witness.specs.declared.request.AddRequest.{AddRequest}
 use Rattle.tl_witness.specs.declared.request.RequestFault.{RequestFault}
 use Rattle.tl_witness.specs.declared.request.RequestFault.TheVariants.{OutOfMemory}

@@ -4,12 +4,12 @@ use Rattle.std.specs.Prelude.{Err}
 use Rattle.std.specs.List.{flat_map}
 use Rattle.std.proofs.lemmas.List.Elements.{All-cons}
 use Rattle.std.proofs.lemmas.List.Concat.{flat_map-cons}
-use Rattle.tl_note.specs.Text.{line, number_text, base64_text, HasNoControl}
+use Rattle.tl_text.specs.Text.{line, number_text, base64_text, HasNoControl, IsOneLine}
 use Rattle.tl_note.specs.Note.{Signature, Note}
-use Rattle.tl_note.proofs.Lines.{lines_once}
+use Rattle.tl_text.proofs.Lines.{lines_once}
 use Rattle.tl_note.proofs.OneNote.{one_note}
-use Rattle.tl_note.proofs.PlainText.{number_plain, base64_plain}
-use Rattle.tl_checkpoint.specs.Checkpoint.{Head, IsHead, IsOneLine, checkpoint_text}
+use Rattle.tl_text.proofs.PlainText.{number_plain, base64_plain}
+use Rattle.tl_checkpoint.specs.Checkpoint.{Head, IsHead, checkpoint_text}
 use Rattle.tl_checkpoint.specs.ParseCheckpoint.{IsInLines, ParsesCheckpoint}
 use Rattle.tl_checkpoint.specs.declared.checkpoint.CheckpointFault.{CheckpointFault}
 use Rattle.tl_checkpoint.specs.declared.checkpoint.CheckpointFault.TheVariants.{Lines, Origin, Size, Root, OutOfMemory}

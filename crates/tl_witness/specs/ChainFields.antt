@@ -1,7 +1,7 @@
 -- The fields of a chain line, and the change that a link makes.
 use Rattle.std.specs.Prelude.{◌≡◌, ◌≢◌, ℕ, ◌⊎◌, List, [], ◌∷◌, ◌++◌, length, All, IsUtf8, Some, slice_get, slice_set}
 use Rattle.tl_hash.specs.Bytes.{IsHash}
-use Rattle.tl_note.specs.Text.{number_text, base64_text}
+use Rattle.tl_text.specs.Text.{number_text, base64_text}
 use Rattle.tl_proof.specs.Acceptance.{Step}
 use Rattle.tl_witness.specs.ChainLine.{ChainLine}
 use Rattle.tl_witness.specs.Open.{SavedChain, chain_origins}

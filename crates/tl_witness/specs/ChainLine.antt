@@ -2,8 +2,7 @@
 use Rattle.std.specs.Prelude.{◌≡◌, ◌≢◌, ℕ, ◌≤◌, not, List, [], ◌∷◌, ◌++◌, length, All, map, filter, take, IsUtf8, bytes_eq}
 use Rattle.std.specs.List.{flat_map, list_any, enumerate_from}
 use Rattle.tl_hash.specs.Bytes.{IsHash}
-use Rattle.tl_note.specs.Text.{line, number_text, base64_text, IsSize}
-use Rattle.tl_checkpoint.specs.Checkpoint.{IsOneLine}
+use Rattle.tl_text.specs.Text.{line, number_text, base64_text, IsSize, IsOneLine}
 use Rattle.tl_proof.specs.Acceptance.{Step}
 
 -- a step of the chain of an origin

@@ -1,6 +1,6 @@
 -- What a witness answers to a request for one origin, and what it then keeps (C2SP tlog-witness, "add-checkpoint").
 use Rattle.std.specs.Prelude.{◌≡◌, ℕ, ◌<◌, ◌≤◌, ◌⊎◌, List, []}
-use Rattle.tl_note.specs.Text.{line, number_text}
+use Rattle.tl_text.specs.Text.{line, number_text}
 use Rattle.tl_note.specs.Note.{Signature}
 use Rattle.tl_note.specs.Open.{Opened}
 use Rattle.tl_checkpoint.specs.Cosignature.{Cosigns, MayFailToCosign}

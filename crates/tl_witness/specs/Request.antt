@@ -2,7 +2,7 @@
 use Rattle.std.specs.Prelude.{◌≡◌, ℕ, ◌≤◌, List, ◌∷◌, ◌++◌, length, All, IsUtf8, codes}
 use Rattle.std.specs.List.{flat_map}
 use Rattle.tl_hash.specs.Bytes.{IsHash}
-use Rattle.tl_note.specs.Text.{line, number_text, base64_text, IsSize}
+use Rattle.tl_text.specs.Text.{line, number_text, base64_text, IsSize}
 
 -- what a body says: the old size, the consistency proof, the signed checkpoint
 pub record Body : Type 0 where

@@ -2,16 +2,16 @@
 
 ghost use Rattle.std.specs.Prelude.{◌≡◌, ℕ, IfOk, IsUtf8, List, MatchOption};
 ghost use Rattle.tl_hash.specs.Bytes.{IsHash};
-ghost use Rattle.tl_note.specs.Text.{IsSize, base64_text, number_text};
+ghost use Rattle.tl_text.specs.Text.{IsSize, base64_text, number_text};
 ghost use Rattle.tl_witness.specs.ChainFields.{AreHashes, field};
 ghost use Rattle.tl_witness.specs.Inner.ChainFields.{HasHashes, HasNoHash, HasNoHashes, HasNoNumber, IsNoChainLine};
 ghost use Rattle.tl_witness.specs.ReadChain.{ShowsFields};
 
 use crate::request::MOST_HASHES;
 use std::alloc::{AllocError, Allocator};
-use tl_checkpoint::{hash_of, is_one_line, size_of};
 use tl_hash::Hash;
 use tl_proof::HashList;
+use tl_text::{hash_of, is_one_line, size_of};
 
 // A number below 2^63 and a space, and what follows.
 fn number_field(text: &str) -> Option<(u64, &str)>

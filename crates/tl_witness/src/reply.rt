@@ -1,7 +1,7 @@
 //! What the witness answers.
 
 ghost use Rattle.std.specs.Prelude.{◌≡◌, [], IfOk};
-ghost use Rattle.tl_note.specs.Text.{line, number_text};
+ghost use Rattle.tl_text.specs.Text.{line, number_text};
 
 use itoa::Buffer;
 use std::alloc::{AllocError, Allocator};

@@ -2,15 +2,15 @@
 
 ghost use Rattle.std.specs.Prelude.{◌≡◌, ◌++◌, ◌<◌, ℕ, IfOk, IsUtf8, List, MatchOption, OnErr};
 ghost use Rattle.tl_hash.specs.Bytes.{IsHash};
-ghost use Rattle.tl_note.specs.Text.{base64_text, line};
+ghost use Rattle.tl_text.specs.Text.{base64_text, line};
 ghost use Rattle.tl_witness.specs.ReadRequest.{HasNoHashLine, HasNoProof, HasProof, IsProofText, ParsesRequest};
 
 use std::alloc::{AllocError, AllocFailed, Allocator};
 use std::str;
 use thiserror::Error;
-use tl_checkpoint::{first_line, hash_of, size_of};
 use tl_hash::Hash;
 use tl_proof::HashList;
+use tl_text::{first_line, hash_of, size_of};
 
 /// No proof between sizes below 2^63 has more hashes.
 pub(crate) const MOST_HASHES: usize = 63;

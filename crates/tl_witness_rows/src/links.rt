@@ -2,9 +2,9 @@
 
 use crate::posts::{E1, E2};
 use std::alloc::{AllocError, Allocator};
-use tl_checkpoint::hash_of;
 use tl_hash::Hash;
 use tl_proof::{HashList, Link};
+use tl_text::hash_of;
 
 /// The hash that a text is in base64, or one of zeros where it is none.
 pub fn hash(text: &str) -> Hash {

@@ -1,9 +1,8 @@
 -- Lines cut from the text of a checkpoint.
 use Rattle.std.specs.Prelude.{◌≡◌, ℕ, List, ◌∷◌, All}
 use Rattle.std.specs.List.{flat_map}
-use Rattle.tl_note.specs.Text.{line}
+use Rattle.tl_text.specs.Text.{line, IsOneLine}
 use Rattle.tl_checkpoint.specs.declared.parsing.Parts.{Parts}
-use Rattle.tl_checkpoint.specs.Checkpoint.{IsOneLine}
 use Rattle.tl_checkpoint.specs.ParseCheckpoint.{IsInLines}
 
 -- the text is these lines, none of them empty

@@ -1,6 +1,6 @@
 -- What a command answers once its input is read.
 use Rattle.std.specs.Prelude.{◌≡◌, ◌≢◌, ◌⊎◌, ℕ, ◌<◌, true, false, List, length, codes, vec_items, Result, Ok, Err, ◌↔◌, Bool, IsTrue}
-use Rattle.tl_note.specs.Text.{line}
+use Rattle.tl_text.specs.Text.{line}
 use Rattle.tl_proof.specs.Collisions.{IsPrefix}
 use Rattle.tl_command.specs.AuditText.{Audit, IsAudit, audit_text}
 use Rattle.tl_command.specs.declared.commands.audit.Answer.{Answer}

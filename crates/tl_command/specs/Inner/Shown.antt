@@ -1,7 +1,7 @@
 -- Texts of proofs and audits, as the values that were read.
 use Rattle.std.specs.Prelude.{length, All, map, vec_items}
 use Rattle.tl_hash.specs.Bytes.{IsHash}
-use Rattle.tl_note.specs.Text.{IsSize}
+use Rattle.tl_text.specs.Text.{IsSize}
 use Rattle.tl_command.specs.declared.audit_text.AuditParts.{AuditParts}
 use Rattle.tl_command.specs.AuditText.{Audit}
 use Rattle.tl_command.specs.declared.proof_text.InclusionProof.{InclusionProof}

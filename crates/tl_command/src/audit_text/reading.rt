@@ -2,7 +2,7 @@
 
 ghost use Rattle.std.specs.Prelude.{◌≡◌, ◌≢◌, ◌<◌, ◌++◌, List, ℕ, length, map, vec_items, IfOk, OnErr, IfSome, MatchOption};
 ghost use Rattle.tl_hash.specs.Bytes.{IsHash};
-ghost use Rattle.tl_note.specs.Text.{IsSize};
+ghost use Rattle.tl_text.specs.Text.{IsSize};
 ghost use Rattle.tl_command.specs.AuditText.{Audit, IsAudit, audit_lines, counted_lines};
 ghost use Rattle.tl_command.specs.Inner.Shown.{audit_shown, IsRead};
 

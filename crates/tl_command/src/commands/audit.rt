@@ -2,7 +2,7 @@
 
 ghost use Rattle.std.specs.Prelude.{◌≡◌, ◌++◌, codes, IfOk};
 ghost use Rattle.hex.specs.Hex.{encode_lower};
-ghost use Rattle.tl_note.specs.Text.{line};
+ghost use Rattle.tl_text.specs.Text.{line};
 ghost use Rattle.tl_command.specs.Inner.Shown.{audit_shown};
 ghost use Rattle.tl_command.specs.AuditCommand.{AuditComes};
 ghost use Rattle.tl_command.specs.Inner.Answers.{AnswersAudit, AnswersAuditText};

@@ -9,8 +9,8 @@ use crate::growing::reading::read_edge;
 use crate::streams::print_text;
 use std::alloc::Allocator;
 use std::io::{Read, Write};
-use tl_checkpoint::is_one_line;
 use tl_device::Counted;
+use tl_text::is_one_line;
 
 /// Reads the whole input and writes the text of the checkpoint (C2SP tlog-checkpoint) of the log of its lines: the
 /// origin, their number and their Merkle tree hash under SHA-256. An origin that isn't one line is `BadOrigin` before

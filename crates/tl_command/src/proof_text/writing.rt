@@ -2,7 +2,7 @@
 
 ghost use Rattle.std.specs.Prelude.{◌≡◌, ◌++◌, map, IfOk, OnOk};
 ghost use Rattle.std.specs.List.{flat_map};
-ghost use Rattle.tl_note.specs.Text.{line, number_text, base64_text};
+ghost use Rattle.tl_text.specs.Text.{line, number_text, base64_text};
 ghost use Rattle.tl_command.specs.Lines.{lines_text};
 ghost use Rattle.tl_command.specs.ProofText.{inclusion_text, consistency_text};
 ghost use Rattle.tl_command.specs.Inner.Shown.{inclusion_shown, consistency_shown};

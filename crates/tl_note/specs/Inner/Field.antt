@@ -1,7 +1,7 @@
 -- Texts that are base64 (RFC 4648, section 4), padded.
 use Rattle.std.specs.Prelude.{◌≡◌, ℕ, List, length, take}
 use Rattle.base64.specs.GeneralPurpose.{IsBytes}
-use Rattle.tl_note.specs.Text.{base64_text}
+use Rattle.tl_text.specs.Text.{base64_text}
 
 -- the text is base64 of these bytes
 pub record IsSpelled (text bytes : List ℕ) : Type 0 where

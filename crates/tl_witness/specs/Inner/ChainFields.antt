@@ -1,7 +1,7 @@
 -- Fields of a chain line that are missing or malformed.
 use Rattle.std.specs.Prelude.{◌≡◌, ◌≢◌, ℕ, List, length, All}
 use Rattle.tl_hash.specs.Bytes.{IsHash}
-use Rattle.tl_note.specs.Text.{number_text, base64_text, IsSize}
+use Rattle.tl_text.specs.Text.{number_text, base64_text, IsSize}
 use Rattle.tl_witness.specs.ChainLine.{ChainLine, IsChainLine}
 use Rattle.tl_witness.specs.ChainFields.{field, hashes_before, chain_words, AreHashes}
 

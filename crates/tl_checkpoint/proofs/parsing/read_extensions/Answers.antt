@@ -1,6 +1,6 @@
 use Rattle.std.proofs.Common.{◌≡◌, ◌++◌, ◌∷◌, [], ℕ, List, map, string_bytes, vec_items, sym, subst, ap, ◌∙◌}
 use Rattle.std.proofs.lemmas.List.{map-append}
-use Rattle.tl_checkpoint.specs.Checkpoint.{IsOneLine}
+use Rattle.tl_text.specs.Text.{IsOneLine}
 use Rattle.tl_checkpoint.proofs.ExtensionLemmas.{HasRead, next_one, reads_more, reads_whole}
 use Rattle.tl_checkpoint.proofs.parsing.read_extensions.Goals as goal
 

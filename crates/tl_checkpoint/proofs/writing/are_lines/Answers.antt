@@ -1,6 +1,6 @@
 use Rattle.std.proofs.Common.{◌≡◌, false, true, refl, subst, arith, All, map, string_bytes}
 use Rattle.std.proofs.lemmas.List.{take_all}
-use Rattle.tl_checkpoint.specs.Checkpoint.{IsOneLine}
+use Rattle.tl_text.specs.Text.{IsOneLine}
 use Rattle.tl_checkpoint.proofs.LinesLemmas.{all_more, all_fails}
 use Rattle.tl_checkpoint.proofs.writing.are_lines.Goals as goal
 

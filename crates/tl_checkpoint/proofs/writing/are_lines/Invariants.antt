@@ -1,5 +1,5 @@
 use Rattle.std.proofs.Common.{All, map, take, string_bytes}
-use Rattle.tl_checkpoint.specs.Checkpoint.{IsOneLine}
+use Rattle.tl_text.specs.Text.{IsOneLine}
 use Rattle.tl_checkpoint.proofs.writing.are_lines.Given as goal
 
 abbrev pub invariant-loop-text : goal.invariant-loop-text

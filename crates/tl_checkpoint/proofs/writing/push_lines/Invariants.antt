@@ -1,6 +1,6 @@
 use Rattle.std.proofs.Common.{◌≡◌, ◌++◌, map, take, string_bytes}
 use Rattle.std.specs.List.{flat_map}
-use Rattle.tl_note.specs.Text.{line}
+use Rattle.tl_text.specs.Text.{line}
 use Rattle.tl_checkpoint.proofs.writing.push_lines.Given as goal
 
 abbrev pub invariant-loop-text : goal.invariant-loop-text

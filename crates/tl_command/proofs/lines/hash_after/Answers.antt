@@ -1,5 +1,5 @@
 use Rattle.tl_hash.specs.Bytes.{IsHash}
-use Rattle.tl_note.specs.Text.{base64_text}
+use Rattle.tl_text.specs.Text.{base64_text}
 use Rattle.tl_command.proofs.LineFields.{hash_utf8, after_word}
 use Rattle.tl_command.proofs.lines.hash_after.Goals as goal
 

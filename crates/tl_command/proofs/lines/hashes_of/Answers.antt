@@ -1,7 +1,7 @@
 use Rattle.std.proofs.Common.{◌∙◌, sym, ap, vec_items, map, subst, All}
 use Rattle.std.proofs.lemmas.List.Elements.{All-push}
 use Rattle.tl_hash.specs.Bytes.{IsHash}
-use Rattle.tl_note.specs.Text.{base64_text}
+use Rattle.tl_text.specs.Text.{base64_text}
 use Rattle.tl_command.proofs.HashLines.{one_more, none_at}
 use Rattle.tl_command.proofs.lines.hashes_of.Goals as goal
 

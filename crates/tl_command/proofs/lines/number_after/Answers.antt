@@ -1,4 +1,4 @@
-use Rattle.tl_note.specs.Text.{number_text, IsSize}
+use Rattle.tl_text.specs.Text.{number_text, IsSize}
 use Rattle.tl_command.proofs.LineFields.{number_utf8, after_word}
 use Rattle.tl_command.proofs.lines.number_after.Goals as goal
 

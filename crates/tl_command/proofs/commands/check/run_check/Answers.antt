@@ -1,6 +1,6 @@
 use Rattle.std.proofs.Common.{inr, vec_items}
 use Rattle.std.specs.Prelude.{codes}
-use Rattle.tl_note.specs.Text.{line}
+use Rattle.tl_text.specs.Text.{line}
 use Rattle.tl_command.proofs.ProofTexts.{refusal_comes}
 use Rattle.tl_command.proofs.commands.check.run_check.Goals as goal
 

@@ -1,5 +1,5 @@
 use Rattle.std.proofs.Common.{◌≡◌, ◌++◌, map, take}
-use Rattle.tl_note.specs.Text.{base64_text}
+use Rattle.tl_text.specs.Text.{base64_text}
 use Rattle.tl_command.specs.Lines.{lines_text}
 use Rattle.tl_command.proofs.proof_text.writing.push_hashes.Given as goal
 

@@ -1,7 +1,7 @@
 -- What isn't a line, a number or a hash in a text.
 use Rattle.std.specs.Prelude.{◌≢◌, ℕ, List, ◌++◌}
 use Rattle.tl_hash.specs.Bytes.{IsHash}
-use Rattle.tl_note.specs.Text.{line, number_text, base64_text, HasNoControl, IsSize}
+use Rattle.tl_text.specs.Text.{line, number_text, base64_text, HasNoControl, IsSize}
 
 -- the text doesn't begin with a line
 abbrev pub IsNoLine : List ℕ → Type 0

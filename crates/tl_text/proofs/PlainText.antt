@@ -12,7 +12,7 @@ use Rattle.base64.specs.Rfc4648.{encode_symbols, padding_len}
 use Rattle.base64.specs.GeneralPurpose.{IsBytes, decode_of}
 use Rattle.base64.specs.Engines.{standard}
 use Rattle.base64.proofs.EngineFacts.{decode_of-encode_of}
-use Rattle.tl_note.specs.Text.{base64_text, HasNoControl}
+use Rattle.tl_text.specs.Text.{base64_text, HasNoControl}
 
 -- the alphabet
 abbrev symbols : List ℕ

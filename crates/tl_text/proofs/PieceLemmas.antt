@@ -5,7 +5,7 @@ use Rattle.std.specs.Str.{IsCharBoundary}
 use Rattle.std.proofs.lemmas.List.Elements.{All-get_or}
 use Rattle.std.proofs.lemmas.Str.{IsUtf8-drop}
 use Rattle.std.proofs.lemmas.Str.Pattern.{IsSplitOnceResult, split_after}
-use Rattle.tl_note.specs.Text.{line, HasNoControl}
+use Rattle.tl_text.specs.Text.{line, HasNoControl}
 
 -- what stands round the first newline of a text that begins with a line
 pub line_parts : (text words rest : List ℕ) (r : Option (Bor (List ℕ) × Bor (List ℕ))) → IsSplitOnceResult 10 text r → HasNoControl words → text ≡ line words ++ rest

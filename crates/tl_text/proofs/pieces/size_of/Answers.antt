@@ -2,8 +2,8 @@ use Rattle.std.proofs.Common.{◌≡◌, ℕ, Bool, true, List, sym, ap, ◌∙�
 use Rattle.std.specs.Prelude.{◌≢◌, not, bytes_eq}
 use Rattle.std.proofs.lemmas.Fmt.{parse-decimal}
 use Rattle.std.proofs.lemmas.Slice.Eq.{bytes_eq-Decides}
-use Rattle.tl_note.specs.Text.{number_text}
-use Rattle.tl_checkpoint.proofs.pieces.size_of.Goals as goal
+use Rattle.tl_text.specs.Text.{number_text}
+use Rattle.tl_text.proofs.pieces.size_of.Goals as goal
 
 true_not : {b : Bool} → b ≡ true → true ≡ not b → ⊥
 true_not {b} is e = absurd cc

@@ -1,7 +1,7 @@
 use Rattle.std.proofs.Common.{◌≡◌, true, false, sym, subst, Some, None}
-use Rattle.tl_note.specs.Text.{HasNoControl}
-use Rattle.tl_checkpoint.proofs.PieceLemmas.{line_parts}
-use Rattle.tl_checkpoint.proofs.pieces.first_line.Goals as goal
+use Rattle.tl_text.specs.Text.{HasNoControl}
+use Rattle.tl_text.proofs.PieceLemmas.{line_parts}
+use Rattle.tl_text.proofs.pieces.first_line.Goals as goal
 
 pub returns-in_default : goal.returns-in_default
 returns-in_default c = λ words rest plain e. line_parts c.args.text.now words rest None c.in_default.ensures.cases plain e

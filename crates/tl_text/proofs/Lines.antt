@@ -5,7 +5,7 @@ use Rattle.std.specs.List.{flat_map}
 use Rattle.std.proofs.lemmas.List.{length-append}
 use Rattle.std.proofs.lemmas.List.Elements.{All-head, All-tail}
 use Rattle.std.proofs.lemmas.List.Concat.{flat_map-cons}
-use Rattle.tl_note.specs.Text.{line, HasNoControl}
+use Rattle.tl_text.specs.Text.{line, HasNoControl}
 
 -- the first line of a text ends at its first newline
 pub one_line : (a b x y : List ℕ) → HasNoControl a → HasNoControl b → line a ++ x ≡ line b ++ y → (a ≡ b) × (x ≡ y)

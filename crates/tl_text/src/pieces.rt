@@ -1,9 +1,9 @@
-//! Pieces of texts: a line, a decimal number, a hash in base64. Each reader takes exactly what has that spelling.
+//! Readers of a line, a decimal number, a hash in base64. Each takes exactly what has that spelling.
 
 ghost use Rattle.std.specs.Prelude.{◌≡◌, ◌<◌, ◌^◌, ◌++◌, MatchOption, IsTrue, ◌↔◌, IsUtf8};
 ghost use Rattle.tl_hash.specs.Bytes.{IsHash};
-ghost use Rattle.tl_note.specs.Text.{line, number_text, base64_text, HasNoControl};
-ghost use Rattle.tl_checkpoint.specs.Pieces.{IsNoLine, IsNoSize, IsNoHash};
+ghost use Rattle.tl_text.specs.Text.{line, number_text, base64_text, HasNoControl, IsOneLine};
+ghost use Rattle.tl_text.specs.Pieces.{IsNoLine, IsNoSize, IsNoHash};
 
 use base64::engine::general_purpose::STANDARD;
 use itoa::Buffer;
@@ -14,6 +14,13 @@ fn is_plain(text: &str) -> bool
     ensures { IsTrue result ↔ HasNoControl text.now }
 {
     text.bytes().all(|byte| byte >= 0x20)
+}
+
+/// Whether a text is one line that isn't empty: no character is below 0x20.
+pub fn is_one_line(text: &str) -> bool
+    ensures { IsTrue result ↔ IsOneLine text.now }
+{
+    !text.is_empty() && text.bytes().all(|byte| byte >= 0x20)
 }
 
 /// The first line of a text, without its newline, and what follows it. A line ends with a newline and has no other

@@ -1,0 +1,3 @@
+pub mod PlainText
+pub mod Lines
+pub mod PieceLemmas
