@@ -10,9 +10,9 @@ use Rattle.base64.specs.Engines.{standard}
 use Rattle.base64.proofs.EngineFacts.{decode_of-encode_of}
 use Rattle.tl_text.specs.Text.{base64_text}
 use Rattle.tl_note.specs.Note.{Signature, IsSignature, signature_field}
-use Rattle.tl_note.specs.Inner.Field.{IsSpelled, IsRead, IsNoBase64}
+use Rattle.tl_text.specs.Base64.{IsSpelled, IsRead, IsNoBase64}
 use Rattle.tl_note.proofs.OneNote.{field_bytes}
-use Rattle.tl_note.proofs.Base64Lemmas.{length-text, block_front, spelled_once}
+use Rattle.tl_text.proofs.Base64Lemmas.{length-text, block_front, spelled_once}
 use Rattle.tl_note.specs.Line.{field_signature}
 use Rattle.tl_note.specs.Inner.LineField.{ShowsField}
 

@@ -1,6 +1,5 @@
 pub mod OneNote
 pub mod FieldLemmas
-pub mod Base64Lemmas
 pub mod NameLemmas
 pub mod GapLemmas
 pub mod LineLemmas

@@ -1,7 +1,5 @@
 -- Private words: what contracts of private functions and proofs need.
 pub
-    mod Field
-pub
     mod Judging
 pub
     mod LineField

@@ -1,57 +1,12 @@
-//! The field of a signature line: base64 of an identifier and a signature. It is read eight characters at a time, so
-//! that no memory is asked for.
+//! The field of a signature line: base64 of an identifier and a signature. No memory is asked for to read it.
 
-ghost use Rattle.std.specs.Prelude.{◌≤◌, length, IsTrue, ◌↔◌, MatchOption};
-ghost use Rattle.tl_note.specs.Inner.Field.{IsBase64, IsNoBase64, IsRead};
+ghost use Rattle.std.specs.Prelude.{MatchOption};
 ghost use Rattle.tl_note.specs.Inner.LineField.{IsNoField, ShowsField};
 
-use base64::engine::general_purpose::STANDARD;
+use tl_text::{BLOCK_LEN, is_base64, read_block};
 
 // How many bytes of a field are the key's identifier.
 pub(crate) const KEY_ID_LEN: usize = 4;
-
-// How many characters are read at a time.
-const BLOCK_LEN: usize = 8;
-
-// How many bytes a whole block stands for.
-const BLOCK_BYTES: usize = 6;
-
-// What a block of at most eight characters stands for: so many bytes, at the front of these.
-#[derive(Clone, Copy)]
-struct Block {
-    count: usize,
-    bytes: [u8; BLOCK_BYTES],
-}
-
-// Reads a block of at most eight characters.
-fn read_block(text: &[u8]) -> Option<Block>
-    requires { length text.now ≤ 8 }
-    ensures { MatchOption result (IsNoBase64 text.now) (λ block. IsRead text.now block.count block.bytes) }
-{
-    let mut bytes = [0; BLOCK_BYTES];
-    match STANDARD.decode_slice(text, &mut bytes) {
-        Ok(count) => Some(Block { count, bytes }),
-        Err(_) => None,
-    }
-}
-
-// Whether a text is base64.
-fn is_base64(text: &[u8]) -> bool
-    ensures { IsTrue result ↔ IsBase64 text.now }
-{
-    let mut left = text;
-    while left.len() > BLOCK_LEN {
-        let (front, rest) = left.split_at(BLOCK_LEN);
-        let Some(block) = read_block(front) else {
-            return false;
-        };
-        if block.count != BLOCK_BYTES {
-            return false;
-        }
-        left = rest;
-    }
-    read_block(left).is_some()
-}
 
 /// The identifier in a field, which is strict base64 of it, four bytes, big-endian, and of one byte at least.
 pub(crate) fn read_key_id(field: &str) -> Option<u32>

@@ -1,3 +1,4 @@
 pub mod PlainText
 pub mod Lines
 pub mod PieceLemmas
+pub mod Base64Lemmas

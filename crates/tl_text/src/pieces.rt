@@ -20,7 +20,7 @@ fn is_plain(text: &str) -> bool
 pub fn is_one_line(text: &str) -> bool
     ensures { IsTrue result ↔ IsOneLine text.now }
 {
-    !text.is_empty() && text.bytes().all(|byte| byte >= 0x20)
+    !text.is_empty() && is_plain(text)
 }
 
 /// The first line of a text, without its newline, and what follows it. A line ends with a newline and has no other

@@ -1,6 +1,6 @@
 use Rattle.std.proofs.Common.{◌≡◌, ◌<◌, length, arith}
 use Rattle.std.proofs.lemmas.Bool.Decides.{nat_tests}
-use Rattle.tl_note.proofs.Base64Lemmas.{is_refused}
+use Rattle.tl_text.proofs.Base64Lemmas.{is_refused}
 use Rattle.tl_checkpoint.proofs.ExtensionLemmas.{no_first, no_empty, sees_more}
 use Rattle.tl_checkpoint.proofs.parsing.are_extensions.Goals as goal
 

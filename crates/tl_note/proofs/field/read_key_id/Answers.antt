@@ -1,5 +1,5 @@
 use Rattle.std.proofs.Common.{List, ℕ, take, ap, subst, arith, refl}
-use Rattle.tl_note.specs.Inner.Field.{IsSpelled}
+use Rattle.tl_text.specs.Base64.{IsSpelled}
 use Rattle.tl_note.proofs.FieldLemmas.{no_short_field, no_field_block, no_field_few, field_shown}
 use Rattle.tl_note.proofs.field.read_key_id.Goals as goal
 

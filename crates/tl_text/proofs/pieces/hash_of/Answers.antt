@@ -1,8 +1,8 @@
 use Rattle.std.proofs.Common.{◌≡◌, ℕ, List, length, take, sym, ap, subst, ◌∙◌, arith, Ok}
 use Rattle.base64.specs.GeneralPurpose.{IsBytes}
 use Rattle.tl_text.specs.Text.{base64_text}
-use Rattle.tl_note.specs.Inner.Field.{IsSpelled, IsRead}
-use Rattle.tl_note.proofs.Base64Lemmas.{array_spelled, slice_reads, length-text, spelled_once}
+use Rattle.tl_text.specs.Base64.{IsSpelled, IsRead}
+use Rattle.tl_text.proofs.Base64Lemmas.{array_spelled, slice_reads, length-text, spelled_once}
 use Rattle.tl_text.proofs.pieces.hash_of.Goals as goal
 
 pub returns-in_default : goal.returns-in_default

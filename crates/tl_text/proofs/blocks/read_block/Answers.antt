@@ -1,7 +1,7 @@
 use Rattle.std.proofs.Common.{◌≡◌, Ok, length, sym, ◌∙◌, arith}
 use Rattle.base64.specs.GeneralPurpose.{IsBytes}
-use Rattle.tl_note.proofs.Base64Lemmas.{array_spelled, slice_reads}
-use Rattle.tl_note.proofs.field.read_block.Goals as goal
+use Rattle.tl_text.proofs.Base64Lemmas.{array_spelled, slice_reads}
+use Rattle.tl_text.proofs.blocks.read_block.Goals as goal
 
 pub returns-in-Ok : goal.returns-in-Ok
 returns-in-Ok c =

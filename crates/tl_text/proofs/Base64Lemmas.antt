@@ -15,7 +15,7 @@ use Rattle.base64.proofs.EngineFacts.{decode_of-encode_of, decode_of_strict, enc
 use Rattle.base64.proofs.RoundTrip.{length-encode_symbols}
 use Rattle.tl_note.specs.declared.field.Block.{Block}
 use Rattle.tl_text.specs.Text.{base64_text}
-use Rattle.tl_note.specs.Inner.Field.{IsSpelled, IsRead, IsBase64, IsNoBase64}
+use Rattle.tl_text.specs.Base64.{IsSpelled, IsRead, IsBase64, IsNoBase64}
 use Rattle.tl_text.proofs.PlainText.{base64_once}
 
 -- how many characters bytes take

@@ -1,8 +1,8 @@
 use Rattle.std.proofs.Common.{◌≡◌, ◌<◌, List, ℕ, length, take, subst, sym, arith}
 use Rattle.std.specs.Prelude.{◌≢◌}
-use Rattle.tl_note.specs.Inner.Field.{IsSpelled}
-use Rattle.tl_note.proofs.Base64Lemmas.{ReadsOn, no_block, short_block, last_block, reads_block, is_refused}
-use Rattle.tl_note.proofs.field.is_base64.Goals as goal
+use Rattle.tl_text.specs.Base64.{IsSpelled}
+use Rattle.tl_text.proofs.Base64Lemmas.{ReadsOn, no_block, short_block, last_block, reads_block, is_refused}
+use Rattle.tl_text.proofs.blocks.is_base64.Goals as goal
 
 pub returns-in_default : goal.returns-in_default
 returns-in_default c = is_refused (no_block c.args.text.now c.loop-left.left.now c.split_at.result.0.now c.loop-left.invariant c.split_at.ensures.front (rw c.in_default.is at c.read_block.ensures))
