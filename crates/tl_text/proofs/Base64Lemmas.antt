@@ -13,7 +13,7 @@ use Rattle.base64.specs.Engines.{standard}
 use Rattle.base64.specs.Rfc4648.{encode_symbols, padding_len, unpadded_len}
 use Rattle.base64.proofs.EngineFacts.{decode_of-encode_of, decode_of_strict, encode_of-append, front_bytes}
 use Rattle.base64.proofs.RoundTrip.{length-encode_symbols}
-use Rattle.tl_note.specs.declared.field.Block.{Block}
+use Rattle.tl_text.specs.declared.blocks.Block.{Block}
 use Rattle.tl_text.specs.Text.{base64_text}
 use Rattle.tl_text.specs.Base64.{IsSpelled, IsRead, IsBase64, IsNoBase64}
 use Rattle.tl_text.proofs.PlainText.{base64_once}
