@@ -6,13 +6,14 @@ use Rattle.std.proofs.lemmas.List.Elements.{Contains-append_left, Contains-appen
 use Rattle.tl_hash.specs.Split.{IsSplit}
 use Rattle.tl_hash.specs.Tree.{tree_hash, inputs, leaf_input}
 use Rattle.tl_hash.proofs.TreeLemmas.{split_induction, length_first, length_rest}
+use Rattle.tl_hash.specs.Collision.{Collides}
 use Rattle.tl_proof.specs.Acceptance.{AcceptsConsistency}
-use Rattle.tl_proof.specs.Collisions.{Collides, fold_inputs, step_inputs, audit_inputs}
+use Rattle.tl_proof.specs.Collisions.{fold_inputs, step_inputs, audit_inputs}
 use Rattle.tl_proof.specs.Acceptance.{Step, Linked, EndsWith}
 use Rattle.tl_proof.specs.Inner.Forks.{input_of, SameOrForks, entry_at, DifferAt, LinksFork, ForksAt, ShowsFork, IsListsWalk}
 use Rattle.tl_proof.specs.Audit.{AreAccepted, Audits}
-use Rattle.tl_proof.specs.declared.fork.Fork.{Fork}
-use Rattle.tl_proof.specs.declared.fork.ListsWalk.{ListsWalk}
+use Rattle.tl_proof.specs.declared.audit.fork.Fork.{Fork}
+use Rattle.tl_proof.specs.declared.audit.fork.ListsWalk.{ListsWalk}
 use Rattle.tl_proof.specs.declared.verdict.Verdict.{Verdict}
 use Rattle.tl_proof.specs.declared.verdict.Verdict.TheVariants.{Extends, Collision}
 use Rattle.tl_proof.specs.declared.verdict.AuditFault.{AuditFault}
@@ -20,7 +21,7 @@ use Rattle.tl_proof.specs.declared.verdict.AuditFault.TheVariants.{NotAccepted, 
 use Rattle.tl_proof.proofs.Chains.{linked_most}
 use Rattle.tl_proof.proofs.Forks.{SameOrForks-among}
 use Rattle.tl_proof.proofs.ForkedLists.{DifferAt-no_prefix, entry_at-rest}
-use Rattle.tl_proof.proofs.SameSize.{inputs-one, inputs-first, inputs-rest}
+use Rattle.tl_hash.proofs.SameSize.{inputs-one, inputs-first, inputs-rest}
 
 -- the byte string of each leaf is hashed for the root
 abbrev LeafAt : (List ℕ → List ℕ) → List (List ℕ) → Type 0

@@ -6,9 +6,9 @@ use Rattle.tl_hash.specs.Tree.{tree_hash, inputs, node_input, leaf_input}
 use Rattle.tl_hash.proofs.TreeLemmas.{tree_hash-split, tree_hash-map_one}
 use Rattle.tl_proof.specs.Collisions.{IsPrefix}
 use Rattle.tl_proof.specs.Inner.Forks.{fork_of, IsForkOver, IsListsWalk, entry_at, DifferAt}
-use Rattle.tl_proof.specs.declared.fork.ListsWalk.{ListsWalk}
+use Rattle.tl_proof.specs.declared.audit.fork.ListsWalk.{ListsWalk}
 use Rattle.tl_proof.proofs.Forks.{SameOrForks-among, forks_over}
-use Rattle.tl_proof.proofs.SameSize.{inputs-root, inputs-first, inputs-rest}
+use Rattle.tl_hash.proofs.SameSize.{inputs-root, inputs-first, inputs-rest}
 
 -- the walk goes on from the first parts
 lists_walk-first : (H : List ℕ → List ℕ) (k place : ℕ) (old new : List (List ℕ)) (beside others : List ℕ) (below walk : ListsWalk)
