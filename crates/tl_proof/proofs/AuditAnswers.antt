@@ -13,7 +13,7 @@ use Rattle.tl_proof.specs.Acceptance.{Step, Linked, EndsWith}
 use Rattle.tl_proof.specs.Inner.Forks.{input_of, SameOrForks, entry_at, DifferAt, LinksFork, ForksAt, ShowsFork, IsListsWalk}
 use Rattle.tl_proof.specs.Audit.{AreAccepted, Audits}
 use Rattle.tl_proof.specs.declared.audit.fork.Fork.{Fork}
-use Rattle.tl_proof.specs.declared.audit.fork.ListsWalk.{ListsWalk}
+use Rattle.tl_proof.specs.declared.audit.fork.Walk.{Walk}
 use Rattle.tl_proof.specs.declared.verdict.Verdict.{Verdict}
 use Rattle.tl_proof.specs.declared.verdict.Verdict.TheVariants.{Extends, Collision}
 use Rattle.tl_proof.specs.declared.verdict.AuditFault.{AuditFault}
@@ -106,7 +106,7 @@ forks-found H None old new place steps most differ found =
       same_digest = found ∙ ap (λ (z : List ℕ). H (leaf_input z)) entry;
     }
 
-pub forks-in_lists : (H : List ℕ → List ℕ) (in_links : Option Fork) (old new part : List (List ℕ)) (place : ℕ) (walk : ListsWalk) (steps : List Step)
+pub forks-in_lists : (H : List ℕ → List ℕ) (in_links : Option Fork) (old new part : List (List ℕ)) (place : ℕ) (walk : Walk) (steps : List Step)
     → in_links ≡ None → length old ≤ length new → DifferAt old new place → part ≡ take (length old) new → IsListsWalk H place old part walk
     → LinksFork H in_links old new steps → ForksAt H walk.fork old new place steps
 forks-in_lists H in_links old new part place walk steps is most differ part_is walked found =

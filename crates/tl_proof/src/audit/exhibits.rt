@@ -1,12 +1,13 @@
-//! The byte strings that an audit exhibits.
+//! Two nodes side by side: whether they are a fork, and the byte strings that an audit exhibits.
 
 ghost use Rattle.std.specs.Prelude.{◌≡◌, ◌↔◌, IsTrue, IfOk};
-ghost use Rattle.tl_hash.specs.Tree.{leaf_input};
-ghost use Rattle.tl_proof.specs.Inner.Forks.{input_of, first_string, second_string, IsForkOver};
+ghost use Rattle.tl_hash.specs.Tree.{leaf_input, node_input};
+ghost use Rattle.tl_proof.specs.Inner.Forks.{input_of, fork_of, first_string, second_string, IsForkOver};
 
-use crate::audit::fork::{Children, Fork};
+use crate::audit::fork::{Children, Fork, Walk};
 use crate::check::same;
 use std::alloc::{AllocError, Allocator};
+use tl_hash::{TreeHash, node_hash};
 
 // Whether two nodes are over the same hashes. Their byte strings are then the same too, and else are not, since each
 // left hash has 32 bytes: a proof sees that of a hash only where its bytes are read.
@@ -19,14 +20,32 @@ fn same_children(a: Children, b: Children) -> bool
     same(a.left, b.left) && same(a.right, b.right)
 }
 
-/// The two nodes of a fork where they are over other hashes, and what was found below them where not.
-pub(crate) fn fork_over(fork: Fork, below: Option<Fork>) -> Option<Fork>
+// The two nodes of a fork where they are over other hashes, and what was found below them where not.
+fn fork_over(fork: Fork, below: Option<Fork>) -> Option<Fork>
     ensures { IsForkOver fork below result }
 {
     if same_children(fork.first, fork.second) {
         below
     } else {
         Some(fork)
+    }
+}
+
+/// The walk that goes on to two nodes over these hashes from what was found below them.
+pub(crate) fn walk_to<T: TreeHash>(
+    h: T,
+    first: Children,
+    second: Children,
+    below: Option<Fork>,
+) -> Walk
+    ensures first { result.first ≡ T.digest_of (node_input first.left first.right) }
+    ensures second { result.second ≡ T.digest_of (node_input second.left second.right) }
+    ensures fork { IsForkOver (fork_of first.left first.right second.left second.right) below result.fork }
+{
+    Walk {
+        first: node_hash(h, first.left, first.right),
+        second: node_hash(h, second.left, second.right),
+        fork: fork_over(Fork { first, second }, below),
     }
 }
 

@@ -26,10 +26,11 @@ pub(crate) struct CheckWalk {
     pub(crate) fork: Option<Fork>,
 }
 
-/// The roots of two lists, and the uppermost two nodes on the way down to one place that are over other hashes.
+/// The hashes of two nodes, and the uppermost two nodes on one way down from them that are over other hashes, these two
+/// among them.
 #[derive(Clone, Copy)]
-pub(crate) struct ListsWalk {
-    pub(crate) old: Hash,
-    pub(crate) new: Hash,
+pub(crate) struct Walk {
+    pub(crate) first: Hash,
+    pub(crate) second: Hash,
     pub(crate) fork: Option<Fork>,
 }

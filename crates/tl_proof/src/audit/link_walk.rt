@@ -1,12 +1,12 @@
 //! The walk down the check of a consistency proof beside the tree of a list.
 
-ghost use Rattle.std.specs.Prelude.{◌≡◌, ◌<◌, ◌≤◌, ◌⊎◌, reverse, length, take, map, vec_items, option_map, MatchOption};
+ghost use Rattle.std.specs.Prelude.{◌≡◌, ◌<◌, ◌≤◌, reverse, length, take, map, vec_items, option_map, MatchOption};
 ghost use Rattle.tl_hash.specs.Tree.{node_input, tree_hash, inputs};
 ghost use Rattle.tl_proof.specs.Acceptance.{roots_from, AcceptsConsistency};
 ghost use Rattle.tl_proof.specs.Collisions.{fold_inputs};
 ghost use Rattle.tl_proof.specs.Inner.Forks.{SameOrForks, fork_of, IsForkOver, IsCheckWalk};
 
-use crate::audit::exhibits::fork_over;
+use crate::audit::exhibits::walk_to;
 use crate::audit::fork::{CheckWalk, Children, Fork};
 use crate::check::lead_roots;
 use std::alloc::Allocator;
@@ -27,26 +27,6 @@ fn walk_of(roots: Option<(Hash, Hash)>, list: Hash) -> Option<CheckWalk>
     }
 }
 
-// The walk over a whole list, where no hash of the proof is left or all entries are old.
-fn walk_whole<T: TreeHash, B: Allocator>(
-    h: T,
-    old: usize,
-    known: bool,
-    proof: &[Hash],
-    root: Hash,
-    list: &[Vec<u8, B>],
-) -> Option<CheckWalk>
-    requires some { 0 < old }
-    requires most { old ≤ length list.now }
-    requires last { (length proof.now ≡ 0) ⊎ (old ≡ length list.now) }
-    ensures { MatchOption result
-        (roots_from T.digest_of old (length (map vec_items list.now)) known (reverse proof.now) root ≡ None)
-        (λ walk. IsCheckWalk T.digest_of old known (reverse proof.now) root (map vec_items list.now) walk) }
-{
-    let roots = lead_roots(h, old as u64, list.len() as u64, known, proof, root);
-    walk_of(roots, entry_root(h, list))
-}
-
 // The walk that goes on from the left part of a list: to the right stand a hash of the proof and the rest of the list.
 fn over_left<T: TreeHash>(h: T, below: CheckWalk, last: Hash, beside: Hash) -> CheckWalk
     ensures old { result.old ≡ below.old }
@@ -62,11 +42,12 @@ fn over_left<T: TreeHash>(h: T, below: CheckWalk, last: Hash, beside: Hash) -> C
         left: below.list,
         right: beside,
     };
+    let walk = walk_to(h, first, second, below.fork);
     CheckWalk {
         old: below.old,
-        new: node_hash(h, below.new, last),
-        list: node_hash(h, below.list, beside),
-        fork: fork_over(Fork { first, second }, below.fork),
+        new: walk.first,
+        list: walk.second,
+        fork: walk.fork,
     }
 }
 
@@ -86,11 +67,12 @@ fn over_right<T: TreeHash>(h: T, last: Hash, beside: Hash, below: CheckWalk) -> 
         left: beside,
         right: below.list,
     };
+    let walk = walk_to(h, first, second, below.fork);
     CheckWalk {
         old: node_hash(h, last, below.old),
-        new: node_hash(h, last, below.new),
-        list: node_hash(h, beside, below.list),
-        fork: fork_over(Fork { first, second }, below.fork),
+        new: walk.first,
+        list: walk.second,
+        fork: walk.fork,
     }
 }
 
@@ -111,11 +93,9 @@ fn walk_check<T: TreeHash, B: Allocator>(
         (λ walk. IsCheckWalk T.digest_of old known (reverse proof.now) root (map vec_items list.now) walk) }
 {
     let n = proof.len();
-    if n == 0 {
-        return walk_whole(h, old, known, proof, root, list);
-    }
-    if old == list.len() {
-        return walk_whole(h, old, known, proof, root, list);
+    if n == 0 || old == list.len() {
+        let roots = lead_roots(h, old as u64, list.len() as u64, known, proof, root);
+        return walk_of(roots, entry_root(h, list));
     }
     let last = proof[n - 1];
     let k = split_point(list.len() as u64) as usize;

@@ -39,27 +39,16 @@ pub(crate) fn links_lead<T: TreeHash, C: Allocator>(
     at == size && same(at_root, root)
 }
 
-// The size with which the first links end.
-fn size_after<C: Allocator>(links: &[Link<C>], count: usize, old: u64) -> u64
+// The size and the root with which the first links end.
+fn end_after<C: Allocator>(links: &[Link<C>], count: usize, old: u64, old_root: Hash) -> (u64, Hash)
     requires { count ≤ length links.now }
-    ensures { result ≡ end_size old (take count (map step_of links.now)) }
+    ensures size { result.0 ≡ end_size old (take count (map step_of links.now)) }
+    ensures root { result.1 ≡ end_root old_root (take count (map step_of links.now)) }
 {
     if count == 0 {
-        old
+        (old, old_root)
     } else {
-        links[count - 1].size
-    }
-}
-
-// The root with which the first links end.
-fn root_after<C: Allocator>(links: &[Link<C>], count: usize, old_root: Hash) -> Hash
-    requires { count ≤ length links.now }
-    ensures { result ≡ end_root old_root (take count (map step_of links.now)) }
-{
-    if count == 0 {
-        old_root
-    } else {
-        links[count - 1].root
+        (links[count - 1].size, links[count - 1].root)
     }
 }
 
@@ -85,9 +74,14 @@ fn fork_at<T: TreeHash, B: Allocator, C: Allocator>(
         (step_inputs T.digest_of (map vec_items new.now) old old_root (map step_of links.now)) }
 {
     let end = links[index].size as usize;
-    let size = size_after(links, index, old) as usize;
-    let root = root_after(links, index, old_root);
-    fork_in_link(h, links[index].proof.as_slice(), size, root, &new[..end])
+    let (size, root) = end_after(links, index, old, old_root);
+    fork_in_link(
+        h,
+        links[index].proof.as_slice(),
+        size as usize,
+        root,
+        &new[..end],
+    )
 }
 
 /// Two nodes that collide at the last link before which the root isn't that of the list's prefix; none where the

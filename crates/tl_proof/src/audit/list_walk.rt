@@ -1,14 +1,13 @@
 //! Two lists: the first place at which they differ, and the walk down their trees to one place.
 
 ghost use Rattle.std.specs.Prelude.{◌≡◌, ◌<◌, ◌≤◌, ◌↔◌, length, map, vec_items, IsTrue, MatchOption};
-ghost use Rattle.tl_hash.specs.Tree.{node_input};
 ghost use Rattle.tl_proof.specs.Collisions.{IsPrefix};
-ghost use Rattle.tl_proof.specs.Inner.Forks.{DifferAt, IsForkOver, fork_of, IsListsWalk};
+ghost use Rattle.tl_proof.specs.Inner.Forks.{DifferAt, IsListsWalk};
 
-use crate::audit::exhibits::fork_over;
-use crate::audit::fork::{Children, Fork, ListsWalk};
+use crate::audit::exhibits::walk_to;
+use crate::audit::fork::{Children, Walk};
 use std::alloc::Allocator;
-use tl_hash::{Hash, TreeHash, entry_root, leaf_hash, node_hash, split_point};
+use tl_hash::{Hash, TreeHash, entry_root, leaf_hash, split_point};
 
 // Whether two byte strings are the same.
 fn same_bytes(a: &[u8], b: &[u8]) -> bool
@@ -36,48 +35,6 @@ pub(crate) fn first_difference<B: Allocator>(
     None
 }
 
-// The walk that goes on from the first parts of two lists, with the roots of the parts beside them.
-fn over_firsts<T: TreeHash>(h: T, below: ListsWalk, old: Hash, new: Hash) -> ListsWalk
-    ensures old { result.old ≡ T.digest_of (node_input below.old old) }
-    ensures new { result.new ≡ T.digest_of (node_input below.new new) }
-    ensures fork { IsForkOver (fork_of below.old old below.new new) below.fork result.fork }
-{
-    let first = Children {
-        left: below.old,
-        right: old,
-    };
-    let second = Children {
-        left: below.new,
-        right: new,
-    };
-    ListsWalk {
-        old: node_hash(h, below.old, old),
-        new: node_hash(h, below.new, new),
-        fork: fork_over(Fork { first, second }, below.fork),
-    }
-}
-
-// The walk that goes on from the rests of two lists, with the roots of the parts before them.
-fn over_rests<T: TreeHash>(h: T, old: Hash, new: Hash, below: ListsWalk) -> ListsWalk
-    ensures old { result.old ≡ T.digest_of (node_input old below.old) }
-    ensures new { result.new ≡ T.digest_of (node_input new below.new) }
-    ensures fork { IsForkOver (fork_of old below.old new below.new) below.fork result.fork }
-{
-    let first = Children {
-        left: old,
-        right: below.old,
-    };
-    let second = Children {
-        left: new,
-        right: below.new,
-    };
-    ListsWalk {
-        old: node_hash(h, old, below.old),
-        new: node_hash(h, new, below.new),
-        fork: fork_over(Fork { first, second }, below.fork),
-    }
-}
-
 /// The walk down the trees of two lists of one length to one place. Each entry is hashed once, each part beside the way
 /// by itself. No more than 64 calls stand at once.
 pub(crate) fn walk_lists<T: TreeHash, B: Allocator>(
@@ -85,16 +42,16 @@ pub(crate) fn walk_lists<T: TreeHash, B: Allocator>(
     place: usize,
     old: &[Vec<u8, B>],
     new: &[Vec<u8, B>],
-) -> ListsWalk
+) -> Walk
     requires within { place < length old.now }
     requires one_length { length old.now ≡ length new.now }
     ensures { IsListsWalk T.digest_of place (map vec_items old.now) (map vec_items new.now) result }
 {
     let n = old.len();
     if n == 1 {
-        return ListsWalk {
-            old: leaf_hash(h, old[0].as_slice()),
-            new: leaf_hash(h, new[0].as_slice()),
+        return Walk {
+            first: leaf_hash(h, old[0].as_slice()),
+            second: leaf_hash(h, new[0].as_slice()),
             fork: None,
         };
     }
@@ -103,11 +60,27 @@ pub(crate) fn walk_lists<T: TreeHash, B: Allocator>(
         let old_rest = entry_root(h, &old[k..]);
         let new_rest = entry_root(h, &new[k..]);
         let below = walk_lists(h, place, &old[..k], &new[..k]);
-        over_firsts(h, below, old_rest, new_rest)
+        let first = Children {
+            left: below.first,
+            right: old_rest,
+        };
+        let second = Children {
+            left: below.second,
+            right: new_rest,
+        };
+        walk_to(h, first, second, below.fork)
     } else {
         let old_first = entry_root(h, &old[..k]);
         let new_first = entry_root(h, &new[..k]);
         let below = walk_lists(h, place - k, &old[k..], &new[k..]);
-        over_rests(h, old_first, new_first, below)
+        let first = Children {
+            left: old_first,
+            right: below.first,
+        };
+        let second = Children {
+            left: new_first,
+            right: below.second,
+        };
+        walk_to(h, first, second, below.fork)
     }
 }

@@ -1,7 +1,18 @@
-use Rattle.std.proofs.Common.{vec_items}
+use Rattle.std.proofs.Common.{◌≡◌, ◌⊎◌, inl, inr, length, vec_items}
 use Rattle.std.proofs.lemmas.List.{take_rest}
-use Rattle.tl_proof.proofs.Forks.{check_walk-first, check_walk-rest, leads_nowhere-first, leads_nowhere-rest}
+use Rattle.tl_proof.proofs.Forks.{check_walk-of, check_walk-first, check_walk-rest, leads_nowhere-first, leads_nowhere-rest}
 use Rattle.tl_proof.proofs.audit.link_walk.+walk_check.Goals as goal
+use Rattle.tl_proof.proofs.audit.link_walk.+walk_check.Goals.{then-n-eq0-via-then-n-eq0, then-n-eq0-via-else-n-eq0+then-old-list}
+
+pub returns-then-n-eq0 : goal.returns-then-n-eq0
+returns-then-n-eq0 g t c =
+    let whole : (length c.args.proof.now ≡ 0) ⊎ (c.args.old ≡ length c.args.list.now) =
+    elim c.then-n-eq0.branch [
+      | then-n-eq0-via-then-n-eq0 w ↦ inl w.if-n-eq0.true
+      | then-n-eq0-via-else-n-eq0+then-old-list w ↦ inr w.if-old-list.true
+    ] in
+    check_walk-of vec_items g.T.TreeHash.digest_of c.args.old c.args.known c.args.proof.now c.args.root c.args.list.now
+    c.entry_root.result c.walk_of.result c.lead_roots-roots.result whole c.entry_root.ensures c.lead_roots-roots.ensures c.walk_of.ensures
 
 pub returns-in-Some : goal.returns-in-Some
 returns-in-Some g t c =

@@ -15,11 +15,11 @@ pub fork_in_link-requires : goal.fork_in_link-requires
 fork_in_link-requires g c =
     let sizes = sizes_at step_of g.T.TreeHash.digest_of c.args.links.now c.args.index c.index-links-index.result c.args.old c.args.old_root
     (length c.args.new.now) (tree_hash g.T.TreeHash.digest_of (map vec_items c.args.new.now)) c.requires.within c.requires.linked c.requires.ends in
-    omega (arith, length-take-le _ c.args.new.now sizes.1, sizes.0, c.size_after-size.ensures)
+    omega (arith, length-take-le _ c.args.new.now sizes.1, sizes.0, c.end_after-size.ensures.size)
 
 pub returns : goal.returns
 returns g c =
     let same = get_or_default c.args.links.now c.args.index c.index-links-index-2.result c.index-links-index.result c.requires.within in
     fork_at-of step_of vec_items g.T.TreeHash.digest_of c.args.links.now c.args.new.now c.args.index c.index-links-index.result c.args.old c.args.old_root
-    c.as_slice.result.now c.size_after-size.result c.root_after-root.result c.fork_in_link.result
-    c.requires.within c.requires.linked c.requires.ends c.requires.root (c.as_slice.ensures ∙ ap (λ link. (step_of link).proof) same) c.size_after-size.ensures c.root_after-root.ensures c.fork_in_link.ensures
+    c.as_slice.result.now c.end_after-size.result.0 c.end_after-size.result.1 c.fork_in_link.result
+    c.requires.within c.requires.linked c.requires.ends c.requires.root (c.as_slice.ensures ∙ ap (λ link. (step_of link).proof) same) c.end_after-size.ensures.size c.end_after-size.ensures.root c.fork_in_link.ensures
