@@ -1,11 +1,11 @@
 //! The hashes of a Merkle tree: of no entries, of a leaf, of a node and of a whole list.
 
-ghost use Rattle.std.specs.Prelude.{◌≡◌, ◌<◌, [], length, map, vec_items};
-ghost use Rattle.tl_hash.specs.Split.{IsSplit};
+ghost use Rattle.std.specs.Prelude.{◌≡◌, [], length, map, vec_items};
 ghost use Rattle.tl_hash.specs.Tree.{leaf_input, node_input, tree_hash};
 
 use crate::digest::TreeHash;
 use crate::hash::Hash;
+use crate::split::split_point;
 use std::alloc::Allocator;
 
 /// The hash of no entries, H of no bytes (RFC 6962, section 2.1).
@@ -29,14 +29,6 @@ pub fn node_hash<T: TreeHash>(h: T, left: Hash, right: Hash) -> Hash
     h.digest(&[1], left.as_bytes(), right.as_bytes())
 }
 
-// k, the largest power of two below `n`: for n > 1 it is the least one that is no less than half of `n`, rounded up.
-fn split_point(n: usize) -> usize
-    requires { 1 < n }
-    ensures { IsSplit result n }
-{
-    (n - n / 2).next_power_of_two()
-}
-
 /// The Merkle tree hash of a list of entries, by the plain recursion of RFC 6962, section 2.1. It takes no memory but
 /// one call's for each level of the tree.
 #[tactic(auto, using(crate::proofs::TreeLemmas::tree_hash_of_none))]
@@ -47,7 +39,7 @@ pub fn entry_root<T: TreeHash, A: Allocator>(h: T, entries: &[Vec<u8, A>]) -> Ha
         0 => empty_hash(h),
         1 => leaf_hash(h, &entries[0]),
         n => {
-            let k = split_point(n);
+            let k = split_point(n as u64) as usize;
             let left = entry_root(h, &entries[..k]);
             let right = entry_root(h, &entries[k..]);
             node_hash(h, left, right)

@@ -6,13 +6,14 @@ use Rattle.std.proofs.lemmas.List.Elements.{Contains-append_left, Contains-appen
 use Rattle.tl_hash.specs.Split.{IsSplit}
 use Rattle.tl_hash.specs.Tree.{tree_hash, inputs, leaf_input}
 use Rattle.tl_hash.proofs.TreeLemmas.{split_induction, length_first, length_rest}
+use Rattle.tl_hash.specs.Collision.{Collides}
 use Rattle.tl_proof.specs.Acceptance.{AcceptsConsistency}
-use Rattle.tl_proof.specs.Collisions.{Collides, fold_inputs, step_inputs, audit_inputs}
+use Rattle.tl_proof.specs.Collisions.{fold_inputs, step_inputs, audit_inputs}
 use Rattle.tl_proof.specs.Acceptance.{Step, Linked, EndsWith}
 use Rattle.tl_proof.specs.Inner.Forks.{input_of, SameOrForks, entry_at, DifferAt, LinksFork, ForksAt, ShowsFork, IsListsWalk}
 use Rattle.tl_proof.specs.Audit.{AreAccepted, Audits}
-use Rattle.tl_proof.specs.declared.fork.Fork.{Fork}
-use Rattle.tl_proof.specs.declared.fork.ListsWalk.{ListsWalk}
+use Rattle.tl_proof.specs.declared.audit.fork.Fork.{Fork}
+use Rattle.tl_proof.specs.declared.audit.fork.Walk.{Walk}
 use Rattle.tl_proof.specs.declared.verdict.Verdict.{Verdict}
 use Rattle.tl_proof.specs.declared.verdict.Verdict.TheVariants.{Extends, Collision}
 use Rattle.tl_proof.specs.declared.verdict.AuditFault.{AuditFault}
@@ -20,7 +21,7 @@ use Rattle.tl_proof.specs.declared.verdict.AuditFault.TheVariants.{NotAccepted, 
 use Rattle.tl_proof.proofs.Chains.{linked_most}
 use Rattle.tl_proof.proofs.Forks.{SameOrForks-among}
 use Rattle.tl_proof.proofs.ForkedLists.{DifferAt-no_prefix, entry_at-rest}
-use Rattle.tl_proof.proofs.SameSize.{inputs-one, inputs-first, inputs-rest}
+use Rattle.tl_hash.proofs.SameSize.{inputs-one, inputs-first, inputs-rest}
 
 -- the byte string of each leaf is hashed for the root
 abbrev LeafAt : (List ℕ → List ℕ) → List (List ℕ) → Type 0
@@ -105,7 +106,7 @@ forks-found H None old new place steps most differ found =
       same_digest = found ∙ ap (λ (z : List ℕ). H (leaf_input z)) entry;
     }
 
-pub forks-in_lists : (H : List ℕ → List ℕ) (in_links : Option Fork) (old new part : List (List ℕ)) (place : ℕ) (walk : ListsWalk) (steps : List Step)
+pub forks-in_lists : (H : List ℕ → List ℕ) (in_links : Option Fork) (old new part : List (List ℕ)) (place : ℕ) (walk : Walk) (steps : List Step)
     → in_links ≡ None → length old ≤ length new → DifferAt old new place → part ≡ take (length old) new → IsListsWalk H place old part walk
     → LinksFork H in_links old new steps → ForksAt H walk.fork old new place steps
 forks-in_lists H in_links old new part place walk steps is most differ part_is walked found =

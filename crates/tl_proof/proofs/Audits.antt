@@ -10,7 +10,7 @@ use Rattle.tl_proof.specs.Acceptance.{AcceptsConsistency}
 use Rattle.tl_proof.specs.Collisions.{IsPrefix, fold_inputs, fold_inputs_from, step_inputs, audit_inputs}
 use Rattle.tl_proof.specs.Acceptance.{Step, Linked, EndsWith}
 use Rattle.tl_proof.specs.Laws.{HasHashLength, MadeOfHashes, LinksExtendOrCollide}
-use Rattle.tl_proof.proofs.SameSize.{Collision, Collision-among, same_or_collide}
+use Rattle.tl_hash.proofs.SameSize.{Collision, Collision-among, same_or_collide}
 use Rattle.tl_proof.proofs.Folds.{roots_meet}
 
 All-reverse : {X : Type 0} (P : X → Type 0) → (xs : List X) (d : X) → All P xs → All P (reverse xs)

@@ -7,7 +7,7 @@ use Rattle.tl_proof.specs.Acceptance.{AcceptsConsistency}
 use Rattle.tl_proof.specs.Collisions.{fold_inputs, step_inputs}
 use Rattle.tl_proof.specs.Acceptance.{Step, Linked, EndsWith}
 use Rattle.tl_proof.specs.Inner.Forks.{SameOrForks, end_size, end_root}
-use Rattle.tl_proof.specs.declared.fork.Fork.{Fork}
+use Rattle.tl_proof.specs.declared.audit.fork.Fork.{Fork}
 use Rattle.tl_proof.proofs.Audits.{AcceptsConsistency-ordered}
 use Rattle.tl_proof.proofs.Forks.{SameOrForks-among}
 

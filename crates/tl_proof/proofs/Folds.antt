@@ -12,9 +12,9 @@ use Rattle.tl_hash.proofs.TreeLemmas.{length_first, length_rest, tree_hash-split
 use Rattle.tl_proof.specs.Acceptance.{roots_from, roots_of_whole}
 use Rattle.tl_proof.specs.Collisions.{fold_inputs_from, inputs_on_left, inputs_on_right}
 use Rattle.tl_proof.specs.Laws.{HasHashLength}
-use Rattle.tl_proof.proofs.Bytes.{cases_bytes, node_input-injective}
+use Rattle.tl_hash.proofs.Bytes.{cases_bytes, node_input-injective}
 use Rattle.tl_proof.proofs.Equations.{roots_from-left, roots_from-right}
-use Rattle.tl_proof.proofs.SameSize.{Collision, Collision-among, Contains-head, Contains-tail, inputs-root, inputs-first, inputs-rest}
+use Rattle.tl_hash.proofs.SameSize.{Collision, Collision-among, Contains-head, Contains-tail, inputs-root, inputs-first, inputs-rest}
 
 pub cases_option : {A : Type 0} (o : Option A) → (o ≡ None) ⊎ ((r : A) × (o ≡ Some r))
 cases_option None = inl refl

@@ -6,7 +6,7 @@ use Rattle.tl_hash.proofs.TreeLemmas.{tree_hash-none}
 use Rattle.tl_proof.specs.Acceptance.{roots_from, AcceptsConsistency}
 use Rattle.tl_proof.specs.Collisions.{fold_inputs, fold_inputs_from}
 use Rattle.tl_proof.specs.Inner.Forks.{SameOrForks, IsCheckWalk}
-use Rattle.tl_proof.specs.declared.fork.CheckWalk.{CheckWalk}
+use Rattle.tl_proof.specs.declared.audit.fork.CheckWalk.{CheckWalk}
 use Rattle.tl_proof.proofs.Audits.{fold_inputs-some}
 use Rattle.tl_proof.proofs.Folds.{Some-injective, None-no_Some}
 use Rattle.tl_proof.proofs.Forks.{SameOrForks-among}

@@ -6,27 +6,27 @@ use Rattle.tl_hash.specs.Tree.{tree_hash, inputs, node_input, leaf_input}
 use Rattle.tl_hash.proofs.TreeLemmas.{tree_hash-split, tree_hash-map_one}
 use Rattle.tl_proof.specs.Collisions.{IsPrefix}
 use Rattle.tl_proof.specs.Inner.Forks.{fork_of, IsForkOver, IsListsWalk, entry_at, DifferAt}
-use Rattle.tl_proof.specs.declared.fork.ListsWalk.{ListsWalk}
+use Rattle.tl_proof.specs.declared.audit.fork.Walk.{Walk}
 use Rattle.tl_proof.proofs.Forks.{SameOrForks-among, forks_over}
-use Rattle.tl_proof.proofs.SameSize.{inputs-root, inputs-first, inputs-rest}
+use Rattle.tl_hash.proofs.SameSize.{inputs-root, inputs-first, inputs-rest}
 
 -- the walk goes on from the first parts
-lists_walk-first : (H : List ℕ → List ℕ) (k place : ℕ) (old new : List (List ℕ)) (beside others : List ℕ) (below walk : ListsWalk)
+lists_walk-first : (H : List ℕ → List ℕ) (k place : ℕ) (old new : List (List ℕ)) (beside others : List ℕ) (below walk : Walk)
     → IsSplit k (length old) → IsSplit k (length new) → place < k → IsListsWalk H place (take k old) (take k new) below
     → beside ≡ tree_hash H (drop k old) → others ≡ tree_hash H (drop k new)
-    → walk.old ≡ H (node_input below.old beside) → walk.new ≡ H (node_input below.new others)
-    → IsForkOver (fork_of below.old beside below.new others) below.fork walk.fork
+    → walk.first ≡ H (node_input below.first beside) → walk.second ≡ H (node_input below.second others)
+    → IsForkOver (fork_of below.first beside below.second others) below.fork walk.fork
     → IsListsWalk H place old new walk
 lists_walk-first H k place old new beside others below walk s t less under beside_is others_is old_is new_is over =
-    let first : Contains (inputs H old) (node_input below.old beside) = rw (under.old_root, beside_is) (inputs-root H k old s) in
-    let second : Contains (inputs H new) (node_input below.new others) = rw (under.new_root, others_is) (inputs-root H k new t) in
+    let first : Contains (inputs H old) (node_input below.first beside) = rw (under.old_root, beside_is) (inputs-root H k old s) in
+    let second : Contains (inputs H new) (node_input below.second others) = rw (under.new_root, others_is) (inputs-root H k new t) in
     let in_old : entry_at (take k old) place ≡ entry_at old place = get_or-take k old place [] less in
     let in_new : entry_at (take k new) place ≡ entry_at new place = get_or-take k new place [] less in
     record {
       old_root = old_is ∙ (λ i. H (node_input (under.old_root i) (beside_is i))) ∙ sym (tree_hash-split H k old s);
       new_root = new_is ∙ (λ i. H (node_input (under.new_root i) (others_is i))) ∙ sym (tree_hash-split H k new t);
       meets = λ same.
-          forks_over H (fork_of below.old beside below.new others) below.fork walk.fork (H (leaf_input (entry_at old place))) (H (leaf_input (entry_at new place))) (inputs H old) (inputs H new)
+          forks_over H (fork_of below.first beside below.second others) below.fork walk.fork (H (leaf_input (entry_at old place))) (H (leaf_input (entry_at new place))) (inputs H old) (inputs H new)
           over first second (sym old_is ∙ same ∙ new_is)
           (λ parts. SameOrForks-among H below.fork (H (leaf_input (entry_at (take k old) place))) (H (leaf_input (entry_at (take k new) place)))
           (H (leaf_input (entry_at old place))) (H (leaf_input (entry_at new place))) (inputs H (take k old)) (inputs H (take k new)) (inputs H old) (inputs H new)
@@ -40,22 +40,22 @@ entry_at-rest k place entries more =
     get_or-drop k entries (place - k) [] ∙ ap (λ (i : ℕ). entry_at entries i) sum
 
 -- the walk goes on from the rests
-lists_walk-rest : (H : List ℕ → List ℕ) (k place : ℕ) (old new : List (List ℕ)) (beside others : List ℕ) (below walk : ListsWalk)
+lists_walk-rest : (H : List ℕ → List ℕ) (k place : ℕ) (old new : List (List ℕ)) (beside others : List ℕ) (below walk : Walk)
     → IsSplit k (length old) → IsSplit k (length new) → k ≤ place → IsListsWalk H (place - k) (drop k old) (drop k new) below
     → beside ≡ tree_hash H (take k old) → others ≡ tree_hash H (take k new)
-    → walk.old ≡ H (node_input beside below.old) → walk.new ≡ H (node_input others below.new)
-    → IsForkOver (fork_of beside below.old others below.new) below.fork walk.fork
+    → walk.first ≡ H (node_input beside below.first) → walk.second ≡ H (node_input others below.second)
+    → IsForkOver (fork_of beside below.first others below.second) below.fork walk.fork
     → IsListsWalk H place old new walk
 lists_walk-rest H k place old new beside others below walk s t more under beside_is others_is old_is new_is over =
-    let first : Contains (inputs H old) (node_input beside below.old) = rw (under.old_root, beside_is) (inputs-root H k old s) in
-    let second : Contains (inputs H new) (node_input others below.new) = rw (under.new_root, others_is) (inputs-root H k new t) in
+    let first : Contains (inputs H old) (node_input beside below.first) = rw (under.old_root, beside_is) (inputs-root H k old s) in
+    let second : Contains (inputs H new) (node_input others below.second) = rw (under.new_root, others_is) (inputs-root H k new t) in
     let in_old : entry_at (drop k old) (place - k) ≡ entry_at old place = entry_at-rest k place old more in
     let in_new : entry_at (drop k new) (place - k) ≡ entry_at new place = entry_at-rest k place new more in
     record {
       old_root = old_is ∙ (λ i. H (node_input (beside_is i) (under.old_root i))) ∙ sym (tree_hash-split H k old s);
       new_root = new_is ∙ (λ i. H (node_input (others_is i) (under.new_root i))) ∙ sym (tree_hash-split H k new t);
       meets = λ same.
-          forks_over H (fork_of beside below.old others below.new) below.fork walk.fork (H (leaf_input (entry_at old place))) (H (leaf_input (entry_at new place))) (inputs H old) (inputs H new)
+          forks_over H (fork_of beside below.first others below.second) below.fork walk.fork (H (leaf_input (entry_at old place))) (H (leaf_input (entry_at new place))) (inputs H old) (inputs H new)
           over first second (sym old_is ∙ same ∙ new_is)
           (λ parts. SameOrForks-among H below.fork (H (leaf_input (entry_at (drop k old) (place - k)))) (H (leaf_input (entry_at (drop k new) (place - k))))
           (H (leaf_input (entry_at old place))) (H (leaf_input (entry_at new place))) (inputs H (drop k old)) (inputs H (drop k new)) (inputs H old) (inputs H new)
@@ -64,11 +64,11 @@ lists_walk-rest H k place old new beside others below walk s t more under beside
     }
 
 -- the same of lists of values that have entries
-pub lists_walk-firsts : {X : Type 0} (f : X → List ℕ) (H : List ℕ → List ℕ) (k place : ℕ) (old new : List X) (beside others : List ℕ) (below walk : ListsWalk)
+pub lists_walk-firsts : {X : Type 0} (f : X → List ℕ) (H : List ℕ → List ℕ) (k place : ℕ) (old new : List X) (beside others : List ℕ) (below walk : Walk)
     → IsSplit k (length old) → length old ≡ length new → place < k → IsListsWalk H place (map f (take k old)) (map f (take k new)) below
     → beside ≡ tree_hash H (map f (drop k old)) → others ≡ tree_hash H (map f (drop k new))
-    → walk.old ≡ H (node_input below.old beside) → walk.new ≡ H (node_input below.new others)
-    → IsForkOver (fork_of below.old beside below.new others) below.fork walk.fork
+    → walk.first ≡ H (node_input below.first beside) → walk.second ≡ H (node_input below.second others)
+    → IsForkOver (fork_of below.first beside below.second others) below.fork walk.fork
     → IsListsWalk H place (map f old) (map f new) walk
 lists_walk-firsts f H k place old new beside others below walk s len less under beside_is others_is old_is new_is over =
     let in_old : IsSplit k (length (map f old)) = rw (length-map old f) s in
@@ -78,11 +78,11 @@ lists_walk-firsts f H k place old new beside others below walk s len less under 
     let new_rest : others ≡ tree_hash H (drop k (map f new)) = rw (drop-map f k new) others_is in
     lists_walk-first H k place (map f old) (map f new) beside others below walk in_old in_new less part old_rest new_rest old_is new_is over
 
-pub lists_walk-rests : {X : Type 0} (f : X → List ℕ) (H : List ℕ → List ℕ) (k place : ℕ) (old new : List X) (beside others : List ℕ) (below walk : ListsWalk)
+pub lists_walk-rests : {X : Type 0} (f : X → List ℕ) (H : List ℕ → List ℕ) (k place : ℕ) (old new : List X) (beside others : List ℕ) (below walk : Walk)
     → IsSplit k (length old) → length old ≡ length new → k ≤ place → IsListsWalk H (place - k) (map f (drop k old)) (map f (drop k new)) below
     → beside ≡ tree_hash H (map f (take k old)) → others ≡ tree_hash H (map f (take k new))
-    → walk.old ≡ H (node_input beside below.old) → walk.new ≡ H (node_input others below.new)
-    → IsForkOver (fork_of beside below.old others below.new) below.fork walk.fork
+    → walk.first ≡ H (node_input beside below.first) → walk.second ≡ H (node_input others below.second)
+    → IsForkOver (fork_of beside below.first others below.second) below.fork walk.fork
     → IsListsWalk H place (map f old) (map f new) walk
 lists_walk-rests f H k place old new beside others below walk s len more under beside_is others_is old_is new_is over =
     let in_old : IsSplit k (length (map f old)) = rw (length-map old f) s in
@@ -99,9 +99,9 @@ entry_at-one f xs x place one within is =
     ap (λ (i : ℕ). entry_at (map f xs) i) first ∙ get_or-map f xs 0 x [] (omega (arith, one)) ∙ ap f (sym is)
 
 -- the walk at two leaves
-pub lists_walk-one : {X : Type 0} (f : X → List ℕ) (H : List ℕ → List ℕ) (place : ℕ) (old new : List X) (x y : X) (walk : ListsWalk)
+pub lists_walk-one : {X : Type 0} (f : X → List ℕ) (H : List ℕ → List ℕ) (place : ℕ) (old new : List X) (x y : X) (walk : Walk)
     → length old ≡ 1 → length old ≡ length new → place < length old → x ≡ get_or old 0 x → y ≡ get_or new 0 y
-    → walk.old ≡ H (leaf_input (f x)) → walk.new ≡ H (leaf_input (f y)) → walk.fork ≡ None
+    → walk.first ≡ H (leaf_input (f x)) → walk.second ≡ H (leaf_input (f y)) → walk.fork ≡ None
     → IsListsWalk H place (map f old) (map f new) walk
 lists_walk-one f H place old new x y walk one len within at_old at_new old_is new_is none =
     let other : length new ≡ 1 = omega (arith, one, len) in

@@ -8,13 +8,13 @@ use Rattle.tl_hash.proofs.TreeLemmas.{length_first, length_rest, tree_hash-split
 use Rattle.tl_proof.specs.Acceptance.{roots_from, roots_of_whole}
 use Rattle.tl_proof.specs.Collisions.{fold_inputs_from, inputs_on_left, inputs_on_right}
 use Rattle.tl_proof.specs.Inner.Forks.{input_of, SameOrForks, fork_of, IsForkOver, IsCheckWalk}
-use Rattle.tl_proof.specs.declared.fork.Fork.{Fork}
-use Rattle.tl_proof.specs.declared.fork.CheckWalk.{CheckWalk}
-use Rattle.tl_proof.proofs.Bytes.{cases_bytes}
+use Rattle.tl_proof.specs.declared.audit.fork.Fork.{Fork}
+use Rattle.tl_proof.specs.declared.audit.fork.CheckWalk.{CheckWalk}
+use Rattle.tl_hash.proofs.Bytes.{cases_bytes}
 use Rattle.tl_proof.proofs.Checks.{reverse_last, lead_roots-left, lead_roots-right}
 use Rattle.tl_proof.proofs.Equations.{roots_from-left, roots_from-right}
 use Rattle.tl_proof.proofs.Folds.{Some-injective, None-no_Some, fold_inputs_from-left, fold_inputs_from-right, roots_from-same}
-use Rattle.tl_proof.proofs.SameSize.{Contains-head, Contains-tail, inputs-root, inputs-first, inputs-rest}
+use Rattle.tl_hash.proofs.SameSize.{Contains-head, Contains-tail, inputs-root, inputs-first, inputs-rest}
 
 -- a fork stays one among more strings
 pub SameOrForks-among : (H : List ℕ → List ℕ) (fork : Option Fork) (a b c d : List ℕ) (firsts seconds more others : List (List ℕ))

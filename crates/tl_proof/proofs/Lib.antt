@@ -1,8 +1,6 @@
-pub mod Bytes
 pub mod Equations
 pub mod Inclusion
 pub mod Consistency
-pub mod SameSize
 pub mod Folds
 pub mod Forks
 pub mod ForkedLinks

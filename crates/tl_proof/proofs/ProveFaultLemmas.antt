@@ -1,5 +1,5 @@
 -- Faults of reads as faults of a prover.
-use Rattle.std.proofs.Common.{ℕ, Bool}
+use Rattle.std.proofs.Common.{ℕ}
 use Rattle.tl_store.specs.Head.{GivesHeadFault}
 use Rattle.tl_store.specs.declared.reader.ReadFault.{ReadFault}
 use Rattle.tl_store.specs.declared.reader.ReadFault.TheVariants.{OutOfRange, Source, OutOfMemory, BadTile}

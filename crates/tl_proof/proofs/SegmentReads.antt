@@ -1,5 +1,5 @@
 -- The tree hashes of segments from stored hashes.
-use Rattle.std.proofs.Common.{◌≡◌, ℕ, suc, get_or, ◌+◌, ◌-◌, ◌^◌, ◌<◌, ◌≤◌, inl, inr, Bool, All, List, [], ◌∷◌, ◌++◌, length, take, drop, map, refl, sym, ap, subst, ◌∙◌, append_assoc, arith}
+use Rattle.std.proofs.Common.{◌≡◌, ℕ, suc, get_or, ◌+◌, ◌-◌, ◌^◌, ◌<◌, ◌≤◌, inl, inr, min, All, List, [], ◌∷◌, ◌++◌, length, take, drop, map, refl, sym, ap, subst, ◌∙◌, append_assoc, arith}
 use Rattle.std.specs.Int.RustNames.{count_ones}
 use Rattle.std.proofs.Math.Seq.{take-append_seam, drop-append_seam}
 use Rattle.std.proofs.lemmas.Bool.{cases_lt}
@@ -9,7 +9,7 @@ use Rattle.std.proofs.lemmas.List.Elements.{All-get_or, All-nil, All-cons, All-h
 use Rattle.tl_hash.specs.Tree.{tree_hash}
 use Rattle.tl_store.specs.Stored.{stored_count, stored_hash}
 use Rattle.tl_store.specs.Reader.{readable_size, GivesFault}
-use Rattle.tl_store.specs.Head.{AreCovering, GivesHeadFault}
+use Rattle.tl_store.specs.Head.{AreCovering, AddsCovering, GivesHeadFault}
 use Rattle.tl_store.specs.declared.reader.ReadFault.{ReadFault}
 use Rattle.tl_store.specs.declared.reader.ReadFault.TheVariants.{OutOfRange, Source, OutOfMemory, BadTile}
 use Rattle.tl_store.proofs.Readable.{stored_count-mono}
@@ -222,3 +222,47 @@ roots-all H segments hashes i from roots end so_far = so_far.adds roots (hashes-
 
 pub segment-at : (segments : List Segment) (i : ℕ) (d s : Segment) → i < length segments → s ≡ get_or segments i d → All IsSegment segments → IsSegment s
 segment-at segments i d s within is parts = subst IsSegment (sym is) (All-get_or IsSegment segments i d within parts)
+
+-- ---- room for the numbers
+
+-- how many were counted before place i, so far as a list has room for them
+pub count-more : (segments : List Segment) (i count next ones : ℕ) (d s : Segment) → i < length segments → s ≡ get_or segments i d → ones ≡ count_ones (s.end - s.start) → next ≡ min (count + ones) (2 ^ 64 - 1)
+    → min (count + subtree_count (drop i segments)) (2 ^ 64 - 1) ≡ min (subtree_count segments) (2 ^ 64 - 1)
+    → min (next + subtree_count (drop (i + 1) segments)) (2 ^ 64 - 1) ≡ min (subtree_count segments) (2 ^ 64 - 1)
+count-more segments i count next ones d s within is ones_is next_is so_far = omega (arith, count_at segments i d s within is, ones_is, next_is, so_far)
+
+no_subtree : (segments : List Segment) (i : ℕ) → length segments ≤ i → subtree_count (drop i segments) ≡ 0
+no_subtree segments i end = ap (λ (list : List Segment). subtree_count list) (drop_all i segments end)
+
+pub count-all : (segments : List Segment) (i count : ℕ) → length segments ≤ i → count < 2 ^ 64
+    → min (count + subtree_count (drop i segments)) (2 ^ 64 - 1) ≡ min (subtree_count segments) (2 ^ 64 - 1)
+    → count ≡ min (subtree_count segments) (2 ^ 64 - 1)
+count-all segments i count end fits so_far = omega (arith, no_subtree segments i end, fits, so_far)
+
+-- where there is a subtree there is a segment
+pub subtrees-some : (segments : List Segment) → 0 < subtree_count segments → 0 < length segments
+subtrees-some [] some = some
+subtrees-some (s ∷ segments) some = let count : length (s ∷ segments) ≡ suc (length segments) = refl in omega arith
+
+-- the numbers for the segments before place i, and room for those of the others
+pub record GroupsWithRoom (segments : List Segment) (i : ℕ) (indexes : List ℕ) (len room : ℕ) : Type 0 where
+  pub groups : GroupsSoFar segments i indexes
+  pub room_left : len + subtree_count (drop i segments) ≤ room
+
+pub reserved-init : (segments : List Segment) (indexes : List ℕ) (len room asked : ℕ) → indexes ≡ [] → len ≡ 0 → asked ≡ min (subtree_count segments) (2 ^ 64 - 1) → len + asked ≤ room → room < 2 ^ 63
+    → GroupsWithRoom segments 0 indexes len room
+reserved-init segments indexes len room asked is none asked_is enough small = record {
+  groups = groups-init segments indexes is;
+  room_left = omega (arith, none, asked_is, enough, small);
+}
+
+pub reserved-room : (segments : List Segment) (i : ℕ) (indexes : List ℕ) (len room : ℕ) (d s : Segment) → i < length segments → s ≡ get_or segments i d → GroupsWithRoom segments i indexes len room
+    → len + count_ones (s.end - s.start) ≤ room
+reserved-room segments i indexes len room d s within is so_far = omega (arith, count_at segments i d s within is, so_far.room_left)
+
+pub reserved-more : (segments : List Segment) (i : ℕ) (indexes next : List ℕ) (len room len_next room_next : ℕ) (d s : Segment) → i < length segments → s ≡ get_or segments i d → AddsCovering s.start s.end indexes next
+    → len_next ≡ len + count_ones (s.end - s.start) → room_next ≡ room → GroupsWithRoom segments i indexes len room → GroupsWithRoom segments (i + 1) next len_next room_next
+reserved-more segments i indexes next len room len_next room_next d s within is adds len_is room_is so_far = record {
+  groups = groups-more segments i d s adds.0 indexes next within is adds.2 adds.1 so_far.groups;
+  room_left = omega (arith, count_at segments i d s within is, so_far.room_left, len_is, room_is);
+}

@@ -1,6 +1,6 @@
 -- An inclusion proof that leads to the root of a list leads from the leaf of its entry, or an input of the check and one of
 -- the list collide.
-use Rattle.std.proofs.Common.{◌≡◌, ℕ, ◌-◌, ◌<◌, ◌≤◌, ◌⊎◌, zero, suc, ◌+◌, inl, inr, eqb, ltb, leb, cond, option_map, List, [], ◌∷◌, ◌++◌, length, take, drop, reverse, get_or, Option, Some, None, All, Contains, refl, sym, ap, subst, ◌∙◌, arith}
+use Rattle.std.proofs.Common.{◌≡◌, ℕ, ◌-◌, ◌<◌, ◌≤◌, ◌⊎◌, zero, suc, ◌+◌, inl, inr, eqb, ltb, leb, cond, option_map, List, [], ◌∷◌, ◌++◌, length, take, drop, reverse, get_or, Option, Some, None, Contains, refl, sym, ap, subst, ◌∙◌, arith}
 use Rattle.std.specs.Prelude.{IfSome}
 use Rattle.std.specs.List.{AllByRecursion}
 use Rattle.std.proofs.lemmas.Bool.{cases_lt, cases_Bool, cond_both, eqb-true, le-leb, lt-ltb, le-ltb}
@@ -10,14 +10,14 @@ use Rattle.tl_hash.specs.Tree.{tree_hash, inputs, leaf_input, node_input}
 use Rattle.tl_hash.proofs.SplitLemmas.{split_point_is, split_point-splits}
 use Rattle.tl_hash.proofs.TreeLemmas.{length_first, length_rest, tree_hash-one}
 use Rattle.tl_proof.specs.Acceptance.{root_from_leaf, AcceptsInclusion}
-use Rattle.tl_proof.specs.Collisions.{path_inputs_from, path_inputs, input_on_left, input_on_right, Collides}
+use Rattle.tl_proof.specs.Collisions.{path_inputs_from, path_inputs, input_on_left, input_on_right}
 use Rattle.tl_proof.specs.Laws.{HasHashLength, InclusionShowsEntry}
-use Rattle.tl_proof.proofs.Bytes.{cases_bytes}
+use Rattle.tl_hash.proofs.Bytes.{cases_bytes}
 use Rattle.tl_proof.proofs.AuditAnswers.{inputs-leaf}
 use Rattle.tl_proof.proofs.Audits.{reversed_hashes}
 use Rattle.tl_proof.proofs.Equations.{root_from_leaf-left, root_from_leaf-right}
 use Rattle.tl_proof.proofs.Folds.{cases_option, Some-injective, None-no_Some, nodes_meet, IfSome-map}
-use Rattle.tl_proof.proofs.SameSize.{Collision, Collision-among, Contains-head, Contains-tail, inputs-first, inputs-rest}
+use Rattle.tl_hash.proofs.SameSize.{Collision, Collision-among, Contains-head, Contains-tail, inputs-first, inputs-rest}
 
 -- the inputs of a check, a step at a time
 path_inputs_from-left : (H : List ℕ → List ℕ) (k index size : ℕ) (last : List ℕ) (others : List (List ℕ)) (leaf : List ℕ) → IsSplit k size → index < k

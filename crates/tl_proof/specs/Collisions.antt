@@ -1,8 +1,9 @@
 -- What an audit shows where one list does not extend another: two of the byte strings that were hashed
 -- (RFC 6962, sections 2.1 and 2.1.2).
-use Rattle.std.specs.Prelude.{◌≡◌, ◌≢◌, ℕ, ◌-◌, Bool, true, false, List, [], ◌∷◌, ◌++◌, length, take, reverse, nat_lt, nat_le, ◌==◌, if◌then◌else◌, Contains, Option, Some, None}
+use Rattle.std.specs.Prelude.{◌≡◌, ℕ, ◌-◌, Bool, true, false, List, [], ◌∷◌, ◌++◌, length, take, reverse, nat_lt, nat_le, ◌==◌, if◌then◌else◌, Option, Some, None}
 use Rattle.tl_hash.specs.Split.{split_point}
 use Rattle.tl_hash.specs.Tree.{leaf_input, node_input, tree_hash, inputs}
+use Rattle.tl_hash.specs.Collision.{Collides}
 use Rattle.tl_proof.specs.Acceptance.{Step, root_from_leaf, roots_from}
 
 -- the byte string hashed where a root goes on from its left part
@@ -56,13 +57,6 @@ fold_inputs_from H old new known (last ∷ others) root =
 -- the byte strings whose digests the check of a consistency proof takes
 unfoldable pub fold_inputs : (List ℕ → List ℕ) → ℕ → ℕ → List (List ℕ) → List ℕ → List (List ℕ)
 fold_inputs H old new proof root = if old == 0 then [] else fold_inputs_from H old new true (reverse proof) root
-
--- two different byte strings with one digest, x among the first strings and y among the second
-pub record Collides (H : List ℕ → List ℕ) (x y : List ℕ) (firsts seconds : List (List ℕ)) : Type 0 where
-  pub first : Contains firsts x
-  pub second : Contains seconds y
-  pub differ : x ≢ y
-  pub same_digest : H x ≡ H y
 
 -- two different byte strings of a list with one digest
 abbrev pub Exhibits : (List ℕ → List ℕ) → List ℕ → List ℕ → List (List ℕ) → Type 0

@@ -1,9 +1,10 @@
 -- The laws of proofs (RFC 6962, sections 2.1.1 and 2.1.2), over any digest function H.
 use Rattle.std.specs.Prelude.{◌≡◌, ℕ, ◌<◌, ◌≤◌, ◌⊎◌, List, [], length, take, All, slice_index_or}
 use Rattle.tl_hash.specs.Tree.{leaf_input, tree_hash, inputs}
+use Rattle.tl_hash.specs.Collision.{Collides}
 use Rattle.tl_proof.specs.Proofs.{inclusion_proof, consistency_proof}
 use Rattle.tl_proof.specs.Acceptance.{AcceptsInclusion, AcceptsConsistency}
-use Rattle.tl_proof.specs.Collisions.{IsPrefix, Collides, Exhibits, path_inputs, audit_inputs}
+use Rattle.tl_proof.specs.Collisions.{IsPrefix, Exhibits, path_inputs, audit_inputs}
 use Rattle.tl_proof.specs.Acceptance.{Step, Linked, EndsWith}
 
 -- the inclusion proof of each entry is accepted
@@ -24,8 +25,9 @@ ConsistencyIsAccepted =
 abbrev pub HasHashLength : List ℕ → Type 0
 HasHashLength hash = length hash ≡ 32
 
--- an inclusion proof that is accepted for an entry under the root of a list is of the list's own entry at this index, or one
--- of the byte strings hashed for its check and one of those hashed for the list are different and have one digest
+-- an inclusion proof that is accepted for an entry under the root of a list is of the list's own entry at this
+-- index, or one of the byte strings hashed for its check and one of those hashed for the list are different and
+-- have one digest
 abbrev pub InclusionShowsEntry : Type 0
 InclusionShowsEntry =
     (H : List ℕ → List ℕ) → ((message : List ℕ) → HasHashLength (H message))

@@ -1,4 +1,14 @@
-//! Audits: whether a new list extends an old one, with two strings that collide where accepted proofs say so wrongly.
+//! Audits: whether a new list extends an old one, or two strings that collide where accepted proofs say so wrongly.
+//!
+//! An audit checks the links first (`links`): they lead from the old list's size and root to those of the new one,
+//! or the answer is `NotAccepted`. Then it compares the entries (`list_walk`): where the old list is a prefix the
+//! answer is `Extends`. Else two strings that were hashed collide, and it looks for them. From the last link back
+//! (`links`) it walks down the check of a link's proof beside the tree of the new list's prefix up to the link's
+//! size (`link_walk`): at the first link that begins with a root other than the prefix has, two nodes with one
+//! digest are over other hashes, a `Fork` (`fork`). Where there is no such link, the old root is that of a prefix
+//! of the new list, and the walk down the trees of the two to a place where they differ (`list_walk`) finds two
+//! nodes, or the leaves of the two entries there. Their strings are written out last (`exhibits`), which alone
+//! takes memory.
 
 ghost use Rattle.std.specs.Prelude.{◌≤◌, ◌∷◌, [], List, length, map, vec_items};
 ghost use Rattle.tl_hash.specs.Tree.{tree_hash};
@@ -6,14 +16,20 @@ ghost use Rattle.tl_proof.specs.Acceptance.{Step, step_of};
 ghost use Rattle.tl_proof.specs.Inner.Forks.{DifferAt, LinksFork, ForksAt, ShowsFork};
 ghost use Rattle.tl_proof.specs.Audit.{AreAccepted, Audits};
 
-use crate::chain::{fork_in_links, links_lead};
+mod exhibits;
+mod fork;
+mod link_walk;
+mod links;
+mod list_walk;
+
+use crate::audit::exhibits::strings_of;
+use crate::audit::fork::Fork;
+use crate::audit::link_walk::fork_in_link;
+use crate::audit::links::{fork_in_links, links_lead};
+use crate::audit::list_walk::{first_difference, walk_lists};
 use crate::check::check_tree;
-use crate::fork::Fork;
 use crate::link::Link;
-use crate::lists::{first_difference, walk_lists};
-use crate::strings::strings_of;
 use crate::verdict::{AuditFault, Verdict};
-use crate::walk::fork_in_link;
 use std::alloc::Allocator;
 use tl_hash::{Hash, TreeHash, entry_root};
 
@@ -71,14 +87,11 @@ fn show_collision<T: TreeHash, A: Allocator + Copy, B: Allocator>(
     collision_of(alloc, fork, old[place].as_slice(), new[place].as_slice())
 }
 
-/// What one accepted consistency proof (RFC 6962, section 2.1.2) shows of two lists: that the old one is a prefix of the
-/// new one, or two different byte strings with one digest, both of which were hashed for the audit. `NotAccepted` comes
-/// where the proof isn't accepted from the old list's size and root to those of the new one, and `OutOfMemory` where
-/// memory for the two strings is refused. Nothing else takes memory, and no entry is copied but into these strings.
-///
-/// It computes two digests for each entry of the two lists and one or two for each hash of the proof, and compares the
-/// entries. Where the old list isn't a prefix, it computes two more for each entry of the new list, and where it finds no
-/// collision beside the proof, four for each entry of the old one. No more than 64 calls stand at once.
+/// What one accepted consistency proof (RFC 6962, section 2.1.2) shows of two lists: that the old one is a prefix of
+/// the new one, or two different byte strings with one digest that were hashed for the audit. `NotAccepted` comes
+/// where the proof isn't accepted from the old size and root to the new ones, and `OutOfMemory` where memory for the
+/// two strings is refused. It takes at most six digests for each entry and four for each hash of the proof; no more
+/// than 64 calls stand at once.
 pub fn audit_tree<T: TreeHash, A: Allocator + Copy, B: Allocator>(
     alloc: A,
     h: T,
@@ -104,17 +117,10 @@ pub fn audit_tree<T: TreeHash, A: Allocator + Copy, B: Allocator>(
     }
 }
 
-/// What a chain of accepted consistency proofs (RFC 6962, section 2.1.2) shows of two lists: that the old one is a prefix
-/// of the new one, or two different byte strings with one digest, both of which were hashed for the audit. The roots
-/// between need not be those of any list. `NotAccepted` comes where a link isn't accepted from the one before it, the
-/// first from the old list's size and root, or where the last hasn't the new list's size and root; with no links the
-/// sizes and the roots must be the same. `OutOfMemory` comes where memory for the two strings is refused. Nothing else
-/// takes memory, and no entry is copied but into these strings.
-///
-/// It computes two digests for each entry of the two lists and one or two for each hash of the proofs, and compares the
-/// entries. Where the old list isn't a prefix, it walks the links from the last back until it finds a collision, each with
-/// two digests for each entry up to the link's size; this grows as the number of links times that of the entries. Where
-/// no link has one, four more follow for each entry of the old list. No more than 64 calls stand at once.
+/// What a chain of accepted consistency proofs shows of two lists, as `audit_tree` of one. The roots between need not
+/// be those of any list. `NotAccepted` comes where a link isn't accepted from the one before it, the first from the
+/// old list's size and root, or the last hasn't those of the new list; with no links both must be the same. Where the
+/// old list isn't a prefix, each link takes two digests for each entry up to its size.
 pub fn audit_chain<T: TreeHash, A: Allocator + Copy, B: Allocator, C: Allocator>(
     alloc: A,
     h: T,

@@ -4,8 +4,7 @@ ghost use Rattle.std.specs.Prelude.{◌≡◌, ◌<◌, ◌≤◌, ◌↔◌, Is
 ghost use Rattle.tl_hash.specs.Tree.{node_input};
 ghost use Rattle.tl_proof.specs.Acceptance.{root_from_leaf, roots_from, roots_of_whole, AcceptsInclusion, AcceptsConsistency};
 
-use crate::split::split_size;
-use tl_hash::{Hash, TreeHash, empty_hash, node_hash};
+use tl_hash::{Hash, TreeHash, empty_hash, node_hash, split_point};
 
 // The node over a root that is there and a hash to its right.
 fn join_right<T: TreeHash>(h: T, below: Option<Hash>, right: Hash) -> Option<Hash>
@@ -41,7 +40,7 @@ fn lead_leaf<T: TreeHash>(h: T, index: u64, size: u64, proof: &[Hash], start: Ha
     if size <= 1 {
         return None;
     }
-    let k = split_size(size);
+    let k = split_point(size);
     if index < k {
         join_right(h, lead_leaf(h, index, k, &proof[..n - 1], start), last)
     } else {
@@ -80,9 +79,9 @@ fn found_roots(found: Option<(Hash, Hash)>, old_root: Hash, root: Hash) -> bool
     }
 }
 
-/// Whether the proof is accepted for the leaf hash at this index under the root of `size` entries (RFC 6962, section
-/// 2.1.1). The index counts from 0. It takes no memory, and one digest for each hash that it uses; no more than 64 calls
-/// stand at once.
+/// Whether the proof is accepted for the leaf hash at this index under the root of `size` entries (RFC 6962,
+/// section 2.1.1). The index counts from 0. It takes no memory, and one digest for each hash that it uses; no more
+/// than 64 calls stand at once.
 pub fn check_record<T: TreeHash>(
     h: T,
     proof: &[Hash],
@@ -153,7 +152,7 @@ pub(crate) fn lead_roots<T: TreeHash>(
     if old == new {
         return only_hash(known, proof);
     }
-    let k = split_size(new);
+    let k = split_point(new);
     if old <= k {
         join_new(h, lead_roots(h, old, k, known, &proof[..n - 1], root), last)
     } else {

@@ -8,9 +8,9 @@ pub fn inclusion_law()
     ensures { InclusionIsAccepted }
 {}
 
-/// An inclusion proof that is accepted for an entry under the root of a list is of the list's own entry at that index, or
-/// two different byte strings, one hashed for the check and one for the list, have one digest; for every digest function
-/// with digests of 32 bytes. It computes nothing: its contract is the law.
+/// An inclusion proof that is accepted for an entry under the root of a list is of the list's own entry at that
+/// index, or two different byte strings, one hashed for the check and one for the list, have one digest; for every
+/// digest function with digests of 32 bytes. It computes nothing: its contract is the law.
 pub fn inclusion_soundness_law()
     ensures { InclusionShowsEntry }
 {}

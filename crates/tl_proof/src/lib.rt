@@ -2,21 +2,15 @@
 #![tactic(auto)]
 
 mod audit;
-mod chain;
 mod check;
 mod fault;
-mod fork;
 pub mod laws;
 mod link;
-mod lists;
 mod plan;
 mod prove;
 mod read;
 mod segment;
-mod split;
-mod strings;
 mod verdict;
-mod walk;
 
 pub use audit::{audit_chain, audit_tree};
 pub use check::{check_record, check_tree};

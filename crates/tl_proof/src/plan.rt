@@ -4,11 +4,12 @@ ghost use Rattle.std.specs.Prelude.{◌<◌, ◌≤◌, ◌-◌, ◌^◌, Bool, 
 ghost use Rattle.tl_proof.specs.Inner.Segments.{GrowsBy, IsPathPlan, IsProofPlan};
 
 use crate::segment::Segment;
-use crate::split::split_size;
 use std::alloc::{AllocError, Allocator};
+use tl_hash::split_point;
 
-// Adds the segments of the path from the entry at this index up to the root of the tree over the entries from `start` up
-// to `end`. Each call at least halves their number or takes the left part off, so no more than 62 calls stand at once.
+// Adds the segments of the path from the entry at this index up to the root of the tree over the entries from
+// `start` up to `end`. Each call at least halves their number or takes the left part off, so no more than 62 calls
+// stand at once.
 fn push_path<A: Allocator>(
     segments: &mut Vec<Segment, A>,
     index: u64,
@@ -23,7 +24,7 @@ fn push_path<A: Allocator>(
     if end - start == 1 {
         return Ok(());
     }
-    let middle = start + split_size(end - start);
+    let middle = start + split_point(end - start);
     if index < middle {
         push_path(segments, index, start, middle)?;
         segments.push(Segment { start: middle, end })?;
@@ -69,7 +70,7 @@ fn push_proof<A: Allocator>(
         }
         return Ok(());
     }
-    let middle = start + split_size(end - start);
+    let middle = start + split_point(end - start);
     if old <= middle {
         push_proof(segments, old, start, middle, known)?;
         segments.push(Segment { start: middle, end })?;

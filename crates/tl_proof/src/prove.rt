@@ -13,11 +13,11 @@ use std::alloc::Allocator;
 use tl_hash::{Hash, TreeHash};
 use tl_store::HashReader;
 
-/// The inclusion proof of the entry at `index`, counted from 0, among the first `size`: PATH of RFC 6962, section 2.1.1,
-/// the hash nearest to the leaf first. It has at most 62 hashes, made from one `read` of the reader. `BadRange` comes
-/// where `index` is not below `size` or `size` is above 2^62. A size above the reader's is `Read(OutOfRange)` where a
-/// hash of the proof is over a place past the reader's last; else the proof does not depend on the entries that are not
-/// there. What a failing source answers is passed on, and `OutOfMemory` comes where memory is refused.
+/// The inclusion proof of the entry at `index`, counted from 0, among the first `size` (PATH of RFC 6962, section
+/// 2.1.1), the hash nearest to the leaf first: at most 62 hashes, made from one `read`. `BadRange` comes where
+/// `index` is not below `size` or `size` is above 2^62. A size above the reader's is `Read(OutOfRange)` where a
+/// hash is over a place past the reader's last; else the entries that are not there make no difference. What a
+/// failing source answers is passed on.
 pub fn prove_record<T: TreeHash, R: HashReader, A: Allocator + Copy>(
     alloc: A,
     h: T,
@@ -40,11 +40,10 @@ pub fn prove_record<T: TreeHash, R: HashReader, A: Allocator + Copy>(
     Ok(read_segments(alloc, h, &segments, reader)?)
 }
 
-/// The consistency proof from the first `old` entries to the first `size`: PROOF of RFC 6962, section 2.1.2, the hash
-/// nearest to the leaves first, and the empty proof from the old size 0. It has at most 63 hashes, made from one `read`
-/// of the reader; an empty proof reads nothing. `BadRange` comes where `old` is above `size` or `size` is above 2^62. A
-/// size above the reader's is `Read(OutOfRange)` where the proof has a hash, since its last is over the last place. What
-/// a failing source answers is passed on, and `OutOfMemory` comes where memory is refused.
+/// The consistency proof from the first `old` entries to the first `size` (PROOF of RFC 6962, section 2.1.2), the hash
+/// nearest to the leaves first: at most 63 hashes, made from one `read`, and none from the old size 0. An empty proof
+/// reads nothing. `BadRange` comes where `old` is above `size` or `size` is above 2^62. A size above the reader's is
+/// `Read(OutOfRange)` where the proof has a hash. What a failing source answers is passed on.
 pub fn prove_tree<T: TreeHash, R: HashReader, A: Allocator + Copy>(
     alloc: A,
     h: T,

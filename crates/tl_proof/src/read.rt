@@ -1,6 +1,6 @@
 //! The tree hashes of segments from stored hashes.
 
-ghost use Rattle.std.specs.Prelude.{◌≡◌, ◌≤◌, ◌<◌, ◌-◌, ◌^◌, ◌++◌, ℕ, List, length, map, All, IfOk, IfErr, OnOk, OnErr};
+ghost use Rattle.std.specs.Prelude.{◌≡◌, ◌≤◌, ◌<◌, ◌-◌, ◌^◌, ◌++◌, ℕ, List, length, map, min, All, IfOk, IfErr, OnOk, OnErr};
 ghost use Rattle.std.specs.Int.RustNames.{count_ones};
 ghost use Rattle.tl_store.specs.Stored.{stored_hash};
 ghost use Rattle.tl_store.specs.Reader.{readable_size};
@@ -10,25 +10,7 @@ ghost use Rattle.tl_proof.specs.Inner.Segments.{IsSegment, IsNeeded, AreGroups, 
 use crate::segment::Segment;
 use std::alloc::{AllocError, Allocator};
 use tl_hash::{Hash, TreeHash};
-use tl_store::{HashReader, ReadFault, segment_hash, segment_indexes};
-
-// The numbers of the complete subtrees that cover each segment, one segment after another.
-fn group_indexes<A: Allocator + Copy>(
-    alloc: A,
-    segments: &[Segment],
-) -> Result<Vec<u64, A>, AllocError>
-    requires parts { All IsSegment segments.now }
-    requires small { All (λ s. s.end ≤ 2 ^ 62) segments.now }
-    ensures groups { IfOk result (λ indexes. AreGroups segments.now indexes.items) }
-    ensures some { OnErr result (0 < length segments.now) }
-{
-    let mut indexes = Vec::new(alloc);
-    for segment in segments {
-        let group = segment_indexes(alloc, segment.start, segment.end)?;
-        indexes.extend_from_slice(&group)?;
-    }
-    Ok(indexes)
-}
+use tl_store::{HashReader, ReadFault, push_segment_indexes, segment_hash};
 
 // How many complete subtrees cover a segment.
 fn subtrees(segment: Segment) -> usize
@@ -36,6 +18,34 @@ fn subtrees(segment: Segment) -> usize
     ensures { result ≡ count_ones (segment.end - segment.start) }
 {
     (segment.end - segment.start).count_ones() as usize
+}
+
+// How many complete subtrees cover all these segments, and the largest number where they are more: no list has room for
+// so many.
+fn all_subtrees(segments: &[Segment]) -> usize
+    requires { All IsSegment segments.now }
+    ensures { result ≡ min (subtree_count segments.now) (2 ^ 64 - 1) }
+{
+    let mut count: usize = 0;
+    for segment in segments {
+        count = count.saturating_add(subtrees(*segment));
+    }
+    count
+}
+
+// The numbers of the complete subtrees that cover each segment, one segment after another. Memory is asked for once.
+fn group_indexes<A: Allocator>(alloc: A, segments: &[Segment]) -> Result<Vec<u64, A>, AllocError>
+    requires parts { All IsSegment segments.now }
+    requires small { All (λ s. s.end ≤ 2 ^ 62) segments.now }
+    ensures groups { IfOk result (λ indexes. AreGroups segments.now indexes.items) }
+    ensures some { OnErr result (0 < length segments.now) }
+{
+    let mut indexes = Vec::new(alloc);
+    indexes.reserve(all_subtrees(segments))?;
+    for segment in segments {
+        push_segment_indexes(&mut indexes, segment.start, segment.end);
+    }
+    Ok(indexes)
 }
 
 // The tree hash of each segment, from the hashes of the complete subtrees that cover it.

@@ -1,11 +1,11 @@
 -- Complete subtrees side by side.
-use Rattle.std.proofs.Common.{◌≡◌, ℕ, suc, ◌+◌, ◌-◌, ◌*◌, ◌/◌, ◌^◌, ◌<◌, ◌≤◌, inl, inr, Bool, cond, All, List, [], ◌∷◌, ◌++◌, length, get_or, take, drop, map, refl, sym, ap, subst, ◌∙◌, append_assoc, arith}
+use Rattle.std.proofs.Common.{◌≡◌, ℕ, zero, suc, ◌+◌, ◌-◌, ◌*◌, ◌/◌, ◌^◌, ◌<◌, ◌≤◌, inl, inr, Bool, cond, All, List, [], ◌∷◌, ◌++◌, length, get_or, take, drop, map, refl, sym, ap, subst, ◌∙◌, append_assoc, arith}
 use Rattle.std.proofs.Math.Nat.{pow-succ'}
 use Rattle.std.proofs.Math.Pow.{pow_mono}
 use Rattle.std.specs.Int.RustNames.{count_ones}
 use Rattle.std.proofs.lemmas.Nat.{pow_pos, pow-add, div-mul-add, ones_cat}
 use Rattle.std.proofs.lemmas.Bool.{cases_lt, le-leb, lt-leb}
-use Rattle.std.proofs.lemmas.List.{append-nil, take_all, length-take-le, length-drop, take-take, drop-take, drop-drop}
+use Rattle.std.proofs.lemmas.List.{append-nil, drop_more, drop_all, length-take-le, length-drop, take-take, drop-take, drop-drop}
 use Rattle.std.proofs.lemmas.List.Elements.{All-nil, All-cons, All-head, All-tail}
 use Rattle.tl_hash.specs.Split.{IsSplit}
 use Rattle.tl_hash.specs.Tree.{tree_hash, node_input}
@@ -14,7 +14,7 @@ use Rattle.tl_store.specs.Stored.{stored_count, stored_index, stored_hash}
 use Rattle.tl_store.specs.Reader.{readable_size, GivesFault}
 use Rattle.tl_store.specs.declared.reader.ReadFault.{ReadFault}
 use Rattle.tl_store.specs.declared.reader.ReadFault.TheVariants.{OutOfRange, Source, OutOfMemory, BadTile}
-use Rattle.tl_store.specs.Head.{IsAligned, AreCovering, none, more, GivesHeadFault}
+use Rattle.tl_store.specs.Head.{IsAligned, AreCovering, none, more, AddsCovering, GivesHeadFault}
 use Rattle.tl_store.proofs.StoredLemmas.{index_is_place}
 use Rattle.tl_store.proofs.Readable.{stored_count-mono, index-in_count, count-in_index}
 
@@ -75,6 +75,16 @@ covered-all start size covered indexes is end =
 pub aligned-all : (size : ℕ) → size ≤ 2 ^ 62 → IsAligned 0 size
 aligned-all size small = (62, 0, omega arith, omega (arith, small))
 
+-- the largest subtree that there is room for takes one binary digit 1
+pub ones_step : (covered end level : ℕ) → covered + 2 ^ level ≤ end → end < covered + 2 * 2 ^ level → count_ones (end - covered) ≡ 1 + count_ones (end - (covered + 2 ^ level))
+unfolding count_ones
+ones_step covered end level fits largest =
+    let left : ℕ = end - (covered + 2 ^ level) in
+    let sum : end - covered ≡ 1 * 2 ^ level + left = omega (arith, fits) in
+    let one : count_ones 1 ≡ 1 = refl in
+    let ones : count_ones (end - covered) ≡ count_ones 1 + count_ones left = ap count_ones sum ∙ ones_cat level 1 left (omega (arith, largest, fits)) in
+    omega (arith, ones, one)
+
 -- there is one subtree for each binary digit 1
 pub covering-count : (start end : ℕ) (indexes : List ℕ) → AreCovering start end indexes → length indexes ≡ count_ones (end - start)
 unfolding count_ones
@@ -82,11 +92,60 @@ covering-count start end [] (none s e same) =
     let count : 0 ≡ end - start = omega (arith, same) in
     ap count_ones count
 covering-count start end _ (more s e level place rest at fits largest covering) =
-    let left : ℕ = end - (start + 2 ^ level) in
-    let sum : end - start ≡ 1 * 2 ^ level + left = omega (arith, fits) in
-    let one : count_ones 1 ≡ 1 = refl in
-    let ones : count_ones (end - start) ≡ count_ones 1 + count_ones left = ap count_ones sum ∙ ones_cat level 1 left (omega (arith, largest, fits)) in
-    omega (arith, ones, one, covering-count (start + 2 ^ level) end rest covering)
+    omega (arith, ones_step start end level fits largest, covering-count (start + 2 ^ level) end rest covering)
+
+-- ---- adding the numbers to a list
+
+-- the list has the old numbers and those of the subtrees up to `covered`, and room for one for each binary digit 1 of
+-- what is left
+pub record IsAdded (start end covered : ℕ) (old items : List ℕ) (length_old length_now room_old room : ℕ) : Type 0 where
+  pub added : List ℕ
+  pub whole : items ≡ old ++ added
+  pub are : IsCovered start end covered added
+  pub count : length_now + count_ones (end - covered) ≡ length_old + count_ones (end - start)
+  pub enough : length_now + count_ones (end - covered) ≤ room
+  pub same_room : room ≡ room_old
+
+pub added-none : (start end : ℕ) (old : List ℕ) (len room : ℕ) → start ≤ end → IsAligned start end → len + count_ones (end - start) ≤ room → IsAdded start end start old old len len room room
+added-none start end old len room order aligned enough = record {
+  added = [];
+  whole = sym (append-nil old);
+  are = covered-none start end [] order aligned refl;
+  count = refl;
+  enough = enough;
+  same_room = refl;
+}
+
+-- there is room for the next number
+pub added-room : (start end covered level : ℕ) (old items : List ℕ) (length_old length_now room_old room : ℕ) → covered < end → 2 ^ level ≤ end - covered → end - covered < 2 * 2 ^ level
+    → IsAdded start end covered old items length_old length_now room_old room → length_now < room
+added-room start end covered level old items length_old length_now room_old room some fits largest is =
+    omega (arith, is.enough, ones_step covered end level (omega (arith, fits, some)) (omega (arith, largest)))
+
+pub added-more : (start end covered level width number : ℕ) (old items next : List ℕ) (length_old length_now length_next room_old room room_next : ℕ) → IsAdded start end covered old items length_old length_now room_old room
+    → covered < end → width ≡ 2 ^ level → 2 ^ level ≤ end - covered → end - covered < 2 * 2 ^ level → number ≡ stored_index level (covered / width)
+    → next ≡ items ++ number ∷ [] → length_next ≡ length_now + 1 → room_next ≡ room → IsAdded start end (covered + width) old next length_old length_next room_old room_next
+added-more start end covered level width number old items next length_old length_now length_next room_old room room_next is some width_is fits largest number_is next_is length_is room_is =
+    let ones : count_ones (end - covered) ≡ 1 + count_ones (end - (covered + 2 ^ level)) = ones_step covered end level (omega (arith, fits, some)) (omega (arith, largest)) in
+    let rest : count_ones (end - (covered + width)) ≡ count_ones (end - (covered + 2 ^ level)) = ap (λ (x : ℕ). count_ones (end - (covered + x))) width_is in
+    record {
+      added = is.added ++ number ∷ [];
+      whole = next_is ∙ ap (λ (list : List ℕ). list ++ number ∷ []) is.whole ∙ append_assoc old is.added (number ∷ []);
+      are = covered-more start end covered level width number is.added (is.added ++ number ∷ []) is.are some width_is fits largest number_is refl;
+      count = omega (arith, is.count, ones, rest, length_is);
+      enough = omega (arith, is.enough, ones, rest, length_is, room_is);
+      same_room = room_is ∙ is.same_room;
+    }
+
+pub added-all : (start end covered : ℕ) (old items : List ℕ) (length_old length_now room_old room : ℕ) → IsAdded start end covered old items length_old length_now room_old room → end ≤ covered → AddsCovering start end old items
+added-all start end covered old items length_old length_now room_old room is last = (is.added, is.whole, covered-all start end covered is.added is.are last)
+
+pub added-count : (start end covered : ℕ) (old items : List ℕ) (length_old length_now room_old room : ℕ) → IsAdded start end covered old items length_old length_now room_old room → end ≤ covered → length_now ≡ length_old + count_ones (end - start)
+unfolding count_ones
+added-count start end covered old items length_old length_now room_old room is last =
+    let left : end - covered ≡ 0 = omega (arith, last) in
+    let none_left : count_ones (end - covered) ≡ 0 = ap count_ones left in
+    omega (arith, is.count, none_left)
 
 -- ---- joining the hashes
 
@@ -187,20 +246,23 @@ head_fault count may_fail size indexes (BadTile level index width) some small co
 
 -- ---- in the words of the code
 
--- a slice is its first item and the others
-pub items_first : (hashes : List (List ℕ)) (first : List ℕ) → 0 < length hashes → first ≡ get_or hashes 0 first → hashes ≡ first ∷ take (length hashes - 1) (drop 1 hashes)
-items_first [] first some is = absurd (omega (arith, some))
-items_first (hash ∷ rest) first some is =
-    let count : suc (length rest) - 1 ≡ length rest = omega arith in
-    (λ i. sym is i ∷ rest) ∙ sym (ap (λ (x : ℕ). first ∷ take x rest) count ∙ ap (λ (list : List (List ℕ)). first ∷ list) (take_all (length rest) rest (omega arith)))
+-- the last hash alone, and one hash more before those that were joined
+pub joins-last : (H : List ℕ → List ℕ) (hashes : List (List ℕ)) (count : ℕ) (last : List ℕ) → count < length hashes → length hashes ≤ count + 1 → last ≡ get_or hashes count last → Joins H (drop count hashes) last
+joins-last H hashes count last within end is =
+    joins-one H (drop count hashes) last
+    (drop_more hashes count last within ∙ (λ i. sym is i ∷ drop_all (count + 1) hashes end i))
 
-pub only_item : (hashes : List (List ℕ)) (first : List ℕ) → length hashes ≡ 1 → first ≡ get_or hashes 0 first → hashes ≡ first ∷ []
-only_item [] first one is = absurd (omega (arith, one))
-only_item (hash ∷ []) first one is = λ i. sym is i ∷ []
-only_item (hash ∷ next ∷ rest) first one is = absurd (omega (arith, one))
+pub joins-next : (H : List ℕ → List ℕ) (hashes : List (List ℕ)) (count : ℕ) (left below : List ℕ) → 0 < count → count < length hashes → left ≡ get_or hashes (count - 1) left → Joins H (drop count hashes) below
+    → Joins H (drop (count - 1) hashes) (H (node_input left below))
+joins-next H hashes count left below some within is joins =
+    let next : count - 1 + 1 ≡ count = omega (arith, some) in
+    joins-more H (drop (count - 1) hashes) left (drop count hashes) below (H (node_input left below))
+    (drop_more hashes (count - 1) left (omega (arith, within)) ∙ (λ i. sym is i ∷ drop (next i) hashes))
+    (omega (arith, length-drop count hashes, within)) joins refl
 
-pub others_length : (hashes : List (List ℕ)) → 2 ≤ length hashes → 0 < length (take (length hashes - 1) (drop 1 hashes))
-others_length hashes two = omega (arith, length-take-le (length hashes - 1) (drop 1 hashes) (omega (arith, length-drop 1 hashes)), two)
+pub joins-all : (H : List ℕ → List ℕ) (hashes : List (List ℕ)) (count : ℕ) (root : List ℕ) → count ≤ 0 → Joins H (drop count hashes) root → Joins H hashes root
+joins-all H hashes zero root first joins = joins
+joins-all H hashes (suc count) root first joins = absurd (omega (arith, first))
 
 pub root_is : (H : List ℕ → List ℕ) (entries : List (List ℕ)) (size : ℕ) (indexes : List ℕ) (hashes : List (List ℕ)) (result : List ℕ) → AreCovering 0 size indexes → size ≤ length entries
     → hashes ≡ map (stored_hash H entries) indexes → Joins H hashes result → result ≡ tree_hash H (take size entries)

@@ -1,5 +1,5 @@
 -- The tree's hash from the hashes of the complete subtrees that cover it (RFC 6962, section 2.1).
-use Rattle.std.specs.Prelude.{◌≡◌, ℕ, ◌+◌, ◌*◌, ◌^◌, ◌<◌, ◌≤◌, List, [], ◌∷◌}
+use Rattle.std.specs.Prelude.{◌≡◌, ℕ, ◌+◌, ◌*◌, ◌^◌, ◌<◌, ◌≤◌, List, [], ◌∷◌, ◌++◌}
 use Rattle.tl_store.specs.Stored.{stored_index}
 use Rattle.tl_store.specs.Reader.{readable_size}
 use Rattle.tl_store.specs.declared.reader.ReadFault.{ReadFault}
@@ -27,3 +27,7 @@ pub data AreCovering : ℕ → ℕ → List ℕ → Type 0 where
       → start ≡ place * 2 ^ level → start + 2 ^ level ≤ size → size < start + 2 * 2 ^ level
       → AreCovering (start + 2 ^ level) size rest
       → AreCovering start size (stored_index level place ∷ rest)
+
+-- the new numbers are the old ones, followed by those of subtrees that cover the entries from `start` up to `end`
+abbrev pub AddsCovering : ℕ → ℕ → List ℕ → List ℕ → Type 0
+AddsCovering start end old new = (added : List ℕ) × (new ≡ old ++ added) × AreCovering start end added

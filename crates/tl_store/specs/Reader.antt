@@ -16,8 +16,8 @@ readable_count size = stored_count (readable_size size)
 abbrev pub AreReadable : ℕ → List ℕ → Type 0
 AreReadable size indexes = All (λ index. index < readable_count size) indexes
 
--- when a reader of this size gives this fault: out of range first, and else only where some hash is asked for. `may_fail`
--- says which faults its source may give
+-- when a reader of this size gives this fault: out of range first, and else only where some hash is asked for.
+-- `may_fail` says which faults its source may give
 abbrev pub GivesFault : ℕ → (ReadFault → Type 0) → List ℕ → ReadFault → Type 0
 GivesFault size may_fail indexes OutOfRange = Any (λ index. readable_count size ≤ index) indexes
 GivesFault size may_fail indexes Source = may_fail Source × AreReadable size indexes × (0 < length indexes)

@@ -10,5 +10,5 @@ mod store;
 pub use head::tree_hash;
 pub use index::{split_index, stored_count, stored_index};
 pub use reader::{HashReader, ReadFault};
-pub use segment::{segment_hash, segment_indexes};
+pub use segment::{push_segment_indexes, segment_hash, segment_indexes};
 pub use store::HashStore;

@@ -43,9 +43,9 @@ impl<T: TreeHash, A: Allocator> HashStore<T, A> {
         }
     }
 
-    /// Adds one entry at the end and gives its index, counted from 0. The store takes up to 2^32 - 1 entries. It fails
-    /// only where it has no room for the hashes that come, and then stays as it was. An entry costs one leaf hash, and one node hash for each subtree that it
-    /// completes.
+    /// Adds one entry at the end and gives its index, counted from 0. The store takes up to 2^32 - 1 entries. It
+    /// fails only where it has no room for the hashes that come, and then stays as it was. An entry costs one leaf
+    /// hash, and one node hash for each subtree that it completes.
     pub fn append(&mut self, entry: &[u8]) -> Result<u64, AllocError>
         requires { self.old.size < 2 ^ 32 - 1 }
         ensures entry { (entries : List (List ℕ))

@@ -6,7 +6,7 @@ use Rattle.std.proofs.lemmas.Nat.{pow-add, le-div}
 use Rattle.std.proofs.lemmas.Bool.{cases_lt, cases_order}
 use Rattle.tl_hash.specs.Tree.{tree_hash, inputs}
 use Rattle.tl_tile.proofs.Segments.{HasHashLength}
-use Rattle.tl_proof.proofs.SameSize.{Collision}
+use Rattle.tl_hash.proofs.SameSize.{Collision}
 use Rattle.tl_tile.specs.TileText.{level_count, entries_under, partial_tile}
 use Rattle.tl_tile.specs.Known.{Tiles, IsHashAt, IsOnEdge, IsEdgeHash, KnownRoot, IsFolded, TilesCollide}
 use Rattle.tl_tile.proofs.Segments.{segment, power_of_256, scaled_le, segment-all}

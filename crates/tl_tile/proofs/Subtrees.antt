@@ -6,7 +6,7 @@ use Rattle.std.specs.Int.{IsPowerOfTwo}
 use Rattle.tl_hash.specs.Split.{IsSplit}
 use Rattle.tl_hash.specs.Tree.{inputs}
 use Rattle.tl_hash.proofs.TreeLemmas.{split_induction, length_first, length_rest}
-use Rattle.tl_proof.proofs.SameSize.{inputs-first, inputs-rest}
+use Rattle.tl_hash.proofs.SameSize.{inputs-first, inputs-rest}
 use Rattle.tl_tile.proofs.Segments.{power_divides, power_in_split, positive_power, scaled_le}
 
 -- a part of a prefix that ends within it

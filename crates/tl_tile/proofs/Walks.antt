@@ -9,8 +9,8 @@ use Rattle.tl_hash.specs.Tree.{tree_hash, inputs, node_input}
 use Rattle.tl_hash.proofs.SplitLemmas.{IsSplit-unique}
 use Rattle.tl_hash.proofs.TreeLemmas.{tree_hash-split, tree_hash-none, length-tree_hash}
 use Rattle.tl_tile.proofs.Segments.{HasHashLength}
-use Rattle.tl_proof.proofs.Bytes.{cases_bytes, node_input-injective}
-use Rattle.tl_proof.proofs.SameSize.{Collision, Collision-among, Contains-head, Contains-tail, inputs-root, inputs-first, inputs-rest}
+use Rattle.tl_hash.proofs.Bytes.{cases_bytes, node_input-injective}
+use Rattle.tl_hash.proofs.SameSize.{Collision, Collision-among, Contains-head, Contains-tail, inputs-root, inputs-first, inputs-rest}
 use Rattle.tl_tile.specs.Known.{IsFold, nothing, given, split}
 use Rattle.tl_tile.proofs.Segments.{segment, length-segment, segment-first, segment-rest, IsSplit-scaled, power_divides, power_in_split, positive_power, scaled_le}
 

@@ -2,13 +2,14 @@
 -- entries at one place.
 use Rattle.std.specs.Prelude.{◌≡◌, ◌≢◌, ℕ, ◌<◌, Bool, List, [], ◌∷◌, length, take, Option, Some, None, Result, Ok, Err, slice_index_or}
 use Rattle.tl_hash.specs.Tree.{tree_hash, inputs, leaf_input, node_input}
+use Rattle.tl_hash.specs.Collision.{Collides}
 use Rattle.tl_proof.specs.Acceptance.{roots_from}
-use Rattle.tl_proof.specs.Collisions.{Collides, Exhibits, fold_inputs_from, step_inputs, audit_inputs}
+use Rattle.tl_proof.specs.Collisions.{Exhibits, fold_inputs_from, step_inputs, audit_inputs}
 use Rattle.tl_proof.specs.Acceptance.{Step}
-use Rattle.tl_proof.specs.declared.fork.Children.{Children}
-use Rattle.tl_proof.specs.declared.fork.Fork.{Fork}
-use Rattle.tl_proof.specs.declared.fork.CheckWalk.{CheckWalk}
-use Rattle.tl_proof.specs.declared.fork.ListsWalk.{ListsWalk}
+use Rattle.tl_proof.specs.declared.audit.fork.Children.{Children}
+use Rattle.tl_proof.specs.declared.audit.fork.Fork.{Fork}
+use Rattle.tl_proof.specs.declared.audit.fork.CheckWalk.{CheckWalk}
+use Rattle.tl_proof.specs.declared.audit.fork.Walk.{Walk}
 use Rattle.tl_proof.specs.declared.verdict.Verdict.{Verdict}
 use Rattle.tl_proof.specs.declared.verdict.Verdict.TheVariants.{Extends, Collision}
 use Rattle.tl_proof.specs.declared.verdict.AuditFault.{AuditFault}
@@ -70,10 +71,10 @@ pub record IsCheckWalk (H : List ℕ → List ℕ) (old : ℕ) (known : Bool) (p
 
 -- the walk down the trees of two lists to one place: their roots, and where these are the same, that the leaf
 -- hashes there are, or two nodes that collide
-pub record IsListsWalk (H : List ℕ → List ℕ) (place : ℕ) (old new : List (List ℕ)) (walk : ListsWalk) : Type 0 where
-  pub old_root : walk.old ≡ tree_hash H old
-  pub new_root : walk.new ≡ tree_hash H new
-  pub meets : walk.old ≡ walk.new → SameOrForks H walk.fork (H (leaf_input (entry_at old place))) (H (leaf_input (entry_at new place))) (inputs H old) (inputs H new)
+pub record IsListsWalk (H : List ℕ → List ℕ) (place : ℕ) (old new : List (List ℕ)) (walk : Walk) : Type 0 where
+  pub old_root : walk.first ≡ tree_hash H old
+  pub new_root : walk.second ≡ tree_hash H new
+  pub meets : walk.first ≡ walk.second → SameOrForks H walk.fork (H (leaf_input (entry_at old place))) (H (leaf_input (entry_at new place))) (inputs H old) (inputs H new)
 
 -- the root of the old list is that of the new one's prefix where there is no fork, and else its two nodes
 -- collide, and were hashed for the steps from the old list to the new one

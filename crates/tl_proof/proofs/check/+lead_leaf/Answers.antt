@@ -17,10 +17,10 @@ returns-then-size-le1 g t c =
 
 pub returns-then-index-k : goal.returns-then-index-k
 returns-then-index-k g t c =
-    let step = lead_leaf-left g.T.TreeHash.digest_of c.split_size-k.result c.args.index c.args.size c.args.proof.now c.index-proof-n.result c.args.start c.if-n-eq0.false c.index-proof-n.is c.split_size-k.ensures c.if-index-k.true in
+    let step = lead_leaf-left g.T.TreeHash.digest_of c.split_point-k.result c.args.index c.args.size c.args.proof.now c.index-proof-n.result c.args.start c.if-n-eq0.false c.index-proof-n.is c.split_point-k.ensures c.if-index-k.true in
     rw c.lead_leaf.ensures at c.join_right.ensures ∙ sym step
 
 pub returns-else-index-k : goal.returns-else-index-k
 returns-else-index-k g t c =
-    let step = lead_leaf-right g.T.TreeHash.digest_of c.split_size-k.result c.args.index c.args.size c.args.proof.now c.index-proof-n.result c.args.start c.if-n-eq0.false c.index-proof-n.is c.split_size-k.ensures c.if-index-k.false in
+    let step = lead_leaf-right g.T.TreeHash.digest_of c.split_point-k.result c.args.index c.args.size c.args.proof.now c.index-proof-n.result c.args.start c.if-n-eq0.false c.index-proof-n.is c.split_point-k.ensures c.if-index-k.false in
     rw c.lead_leaf-else-index-k.ensures at c.join_left.ensures ∙ sym step

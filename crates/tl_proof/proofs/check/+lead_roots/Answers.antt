@@ -20,11 +20,11 @@ returns-then-old-new-2 g t c =
 
 pub returns-then-old-k : goal.returns-then-old-k
 returns-then-old-k g t c =
-    let step = lead_roots-left g.T.TreeHash.digest_of c.split_size-k.result c.args.old c.args.new c.args.known c.args.proof.now c.index-proof-n.result c.args.root c.if-n-eq0.false c.index-proof-n.is c.split_size-k.ensures c.if-old-k.true in
+    let step = lead_roots-left g.T.TreeHash.digest_of c.split_point-k.result c.args.old c.args.new c.args.known c.args.proof.now c.index-proof-n.result c.args.root c.if-n-eq0.false c.index-proof-n.is c.split_point-k.ensures c.if-old-k.true in
     rw c.lead_roots.ensures at c.join_new.ensures ∙ sym step
 
 pub returns-else-old-k : goal.returns-else-old-k
 returns-else-old-k g t c =
     let less : c.args.old < c.args.new = omega (arith, c.requires.most, c.if-old-new-2.false) in
-    let step = lead_roots-right g.T.TreeHash.digest_of c.split_size-k.result c.args.old c.args.new c.args.known c.args.proof.now c.index-proof-n.result c.args.root c.if-n-eq0.false c.index-proof-n.is c.split_size-k.ensures c.if-old-k.false less in
+    let step = lead_roots-right g.T.TreeHash.digest_of c.split_point-k.result c.args.old c.args.new c.args.known c.args.proof.now c.index-proof-n.result c.args.root c.if-n-eq0.false c.index-proof-n.is c.split_point-k.ensures c.if-old-k.false less in
     rw c.lead_roots-else-old-k.ensures at c.join_both.ensures ∙ sym step

@@ -10,10 +10,10 @@ returns-then-end-start-eq1-clause-added g t c =
 
 pub returns-in_ok-push-clause-added : goal.returns-in_ok-push-clause-added
 returns-in_ok-push-clause-added g t c =
-    pushed_path-left c.args.index c.args.start c.args.end c.split_size.result c.args.segments.now.items c.push_path.new.segments.items c.push.new.self.items _
-    c.requires.first c.split_size.ensures c.if-index-middle.true c.in_ok-push_path.ensures.added c.in_ok-push.ensures.items refl refl
+    pushed_path-left c.args.index c.args.start c.args.end c.split_point.result c.args.segments.now.items c.push_path.new.segments.items c.push.new.self.items _
+    c.requires.first c.split_point.ensures c.if-index-middle.true c.in_ok-push_path.ensures.added c.in_ok-push.ensures.items refl refl
 
 pub returns-in_ok-push-2-clause-added : goal.returns-in_ok-push-2-clause-added
 returns-in_ok-push-2-clause-added g t c =
-    pushed_path-right c.args.index c.args.start c.args.end c.split_size.result c.args.segments.now.items c.push_path-else-index-middle.new.segments.items c.push-else-index-middle.new.self.items _
-    c.split_size.ensures c.if-index-middle.false c.requires.last c.in_ok-push_path-2.ensures.added c.in_ok-push-2.ensures.items refl refl
+    pushed_path-right c.args.index c.args.start c.args.end c.split_point.result c.args.segments.now.items c.push_path-else-index-middle.new.segments.items c.push-else-index-middle.new.self.items _
+    c.split_point.ensures c.if-index-middle.false c.requires.last c.in_ok-push_path-2.ensures.added c.in_ok-push-2.ensures.items refl refl

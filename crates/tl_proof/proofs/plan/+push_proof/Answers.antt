@@ -15,10 +15,10 @@ returns-else-not-known g t c =
 
 pub returns-in_ok-push-2 : goal.returns-in_ok-push-2
 returns-in_ok-push-2 g t c =
-    pushed_proof-left c.args.old c.args.start c.args.end c.split_size.result c.args.known c.args.segments.now.items c.push_proof.new.segments.items c.push-then-old-middle.new.self.items _
-    c.requires.first c.split_size.ensures c.if-old-middle.true c.in_ok-push_proof.ensures c.in_ok-push-2.ensures.items refl refl
+    pushed_proof-left c.args.old c.args.start c.args.end c.split_point.result c.args.known c.args.segments.now.items c.push_proof.new.segments.items c.push-then-old-middle.new.self.items _
+    c.requires.first c.split_point.ensures c.if-old-middle.true c.in_ok-push_proof.ensures c.in_ok-push-2.ensures.items refl refl
 
 pub returns-in_ok-push-3 : goal.returns-in_ok-push-3
 returns-in_ok-push-3 g t c =
-    pushed_proof-right c.args.old c.args.start c.args.end c.split_size.result c.args.known c.args.segments.now.items c.push_proof-else-old-middle.new.segments.items c.push-else-old-middle.new.self.items _
-    c.split_size.ensures c.if-old-middle.false (omega (arith, c.requires.last, c.if-old-end.false)) c.in_ok-push_proof-2.ensures c.in_ok-push-3.ensures.items refl refl
+    pushed_proof-right c.args.old c.args.start c.args.end c.split_point.result c.args.known c.args.segments.now.items c.push_proof-else-old-middle.new.segments.items c.push-else-old-middle.new.self.items _
+    c.split_point.ensures c.if-old-middle.false (omega (arith, c.requires.last, c.if-old-end.false)) c.in_ok-push_proof-2.ensures c.in_ok-push-3.ensures.items refl refl

@@ -1,5 +1,0 @@
-use Rattle.std.proofs.Common.{◌≡◌, map, take, vec_items}
-use Rattle.tl_proof.proofs.lists.first_difference.Given as goal
-
-abbrev pub invariant-loop-i : goal.invariant-loop-i
-invariant-loop-i g l = map vec_items (take l.i l.old) ≡ map vec_items (take l.i l.new)
