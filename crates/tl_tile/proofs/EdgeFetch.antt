@@ -21,14 +21,6 @@ use Rattle.tl_tile.proofs.Edges.{positive_256}
 use Rattle.tl_tile.proofs.Push.{cases_option, tiles_of-old, tiles_of-cases, there-more}
 use Rattle.tl_tile.proofs.Orders.{edge-skipped, edge-next, edge-prefix}
 
-pub edge-none : (size : ℕ) (xs : List (Tile × List ℕ)) → xs ≡ [] → AreEdgeFrom size 8 xs
-edge-none size xs is = subst (AreEdgeFrom size 8) (sym is) (record {
-  tiles = refl;
-  long = λ t text found. absurd (cc);
-  partial = λ t text found. absurd (cc);
-  edge = λ l high low wide. absurd (omega (arith, high, low));
-})
-
 -- a level without a partial tile
 pub edge-skip : (size level : ℕ) (xs : List (Tile × List ℕ)) (tile : Tile) → level ≤ 7 → tile ≡ partial_tile size level → tile.width ≡ 0 → AreEdgeFrom size (level + 1) xs → AreEdgeFrom size level xs
 edge-skip size level xs tile low_level is none before =
@@ -107,18 +99,6 @@ edge-all H size root known xs edge (strings, fold) same = record {
     known = subst (λ (x : List ℕ). KnownRoot H (tiles_of xs) size x strings) same fold;
     full = λ l i text less found. absurd (omega (arith, (edge.partial (full_tile l i) text found).0));
   };
-}
-
-pub edge-has : (size : ℕ) (xs : List (Tile × List ℕ)) → AreEdgeFrom size 0 xs → HasEdge (tiles_of xs) size
-edge-has size xs edge l low wide = edge.edge l (omega arith) low wide
-
--- or which tell another root
-pub bad-edge : (H : List ℕ → List ℕ) (size : ℕ) (root known : List ℕ) (xs : List (Tile × List ℕ)) (tile : Tile) → AreEdgeFrom size 0 xs
-    → ((strings : List (List ℕ)) × KnownRoot H (tiles_of xs) size known strings) → known ≢ root
-    → tile ≡ partial_tile size tile.level → 0 < tile.width → ((level : ℕ) → tile.level < level → level_count size level % 256 ≡ 0) → IsBadTile H size root xs tile
-bad-edge H size root known xs tile edge (strings, fold) differ is wide highest = record {
-  of_log = inr (is, wide);
-  because = inr (inl (record { known = known; strings = strings; all = edge.tiles; partial = is; highest = highest; tells = fold; differ = differ }));
 }
 
 -- no level above the highest partial tile has a hash

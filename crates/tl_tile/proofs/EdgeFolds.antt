@@ -200,22 +200,6 @@ below-joined H tiles size level text (Some last) hash at wide (some, below_strin
           (subst (λ (x : ℕ). IsFold H (IsEdgeHash tiles size) ((base size level + 0) * u) x hash fold.0) rest fold.1),
     )
 
--- at the level above all of them it is the root
-pub below-all : (H : List ℕ → List ℕ) (tiles : Tiles) (size level : ℕ) (hash : List ℕ) → size < 256 ^ level → KnownBelow H tiles size level (Some hash) → (strings : List (List ℕ)) × KnownRoot H tiles size hash strings
-below-all H tiles size level hash small (some, strings, fold) =
-    let u : ℕ = 256 ^ level in
-    let as_sum : size ≡ 0 * u + size = omega arith in
-    let none : level_count size level ≡ 0 = ap (λ (x : ℕ). x / u) as_sum ∙ div-mul-add 0 u size small in
-    let rest : size % u ≡ size = ap (λ (x : ℕ). x % u) as_sum ∙ mod-mul-add 0 u size small in
-    let start : level_count size level * u ≡ 0 = ap (λ (x : ℕ). x * u) none ∙ omega arith in (
-      strings,
-      subst (λ (x : ℕ). IsFold H (IsEdgeHash tiles size) x size hash strings) start
-          (subst (λ (x : ℕ). IsFold H (IsEdgeHash tiles size) (level_count size level * u) x hash strings) rest fold),
-    )
-
-pub below-first : (H : List ℕ → List ℕ) (tiles : Tiles) (size : ℕ) → KnownBelow H tiles size 0 None
-below-first H tiles size = omega arith
-
 -- what the code has of a level: its tile and text
 same_level_text : (tiles : Tiles) (size level : ℕ) → HasEdge tiles size → level < 8 → (tile : Tile) (text : List ℕ) → tile ≡ partial_tile size level → 0 < tile.width → tiles tile ≡ Some text → IsEdgeLevel tiles size level text
 same_level_text tiles size level edge low tile text is wide fetched =
@@ -223,19 +207,9 @@ same_level_text tiles size level edge low tile text is wide fetched =
     let same : here.0 ≡ text = Some-injective here.0 text (sym here.1.fetched ∙ ap tiles (sym is) ∙ fetched) in
     subst (IsEdgeLevel tiles size level) same here.1
 
-pub level_text-long : (tiles : Tiles) (size level : ℕ) → HasEdge tiles size → level < 8 → (tile : Tile) (text : List ℕ) → tile ≡ partial_tile size level → 0 < tile.width → tiles tile ≡ Some text → length text ≡ 32 * tile.width
-level_text-long tiles size level edge low tile text is wide fetched =
-    omega (arith, (same_level_text tiles size level edge low tile text is wide fetched).long, ap (λ (t : Tile). t.width) is)
-
 pub level_none : (H : List ℕ → List ℕ) (tiles : Tiles) (size level : ℕ) (below : Option (List ℕ)) (tile : Tile) → tile ≡ partial_tile size level → tile.width ≡ 0
     → KnownBelow H tiles size level below → KnownBelow H tiles size (level + 1) below
 level_none H tiles size level below tile is none known = below-none H tiles size level below (sym (ap (λ (t : Tile). t.width) is) ∙ none) known
-
-pub level_missing : (tiles : Tiles) (size level : ℕ) → HasEdge tiles size → level < 8 → (tile : Tile) → tile ≡ partial_tile size level → 0 < tile.width → tiles tile ≡ None → ⊥
-level_missing tiles size level edge low tile is wide missing =
-    let here = edge level low (omega (arith, wide, ap (λ (t : Tile). t.width) is)) in
-    let both : Some here.0 ≡ None = sym here.1.fetched ∙ ap tiles (sym is) ∙ missing in
-    absurd (cc)
 
 pub level_joined : (H : List ℕ → List ℕ) (tiles : Tiles) (size level : ℕ) → HasEdge tiles size → level < 8 → (tile : Tile) (text : List ℕ) (below : Option (List ℕ)) (hash : List ℕ) → tile ≡ partial_tile size level → 0 < tile.width → tiles tile ≡ Some text
     → KnownBelow H tiles size level below → Joined H text tile.width below hash → KnownBelow H tiles size (level + 1) (Some hash)

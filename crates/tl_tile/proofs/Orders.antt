@@ -36,19 +36,10 @@ fetched-push may_answer H size root old new tile text before of next pushed answ
       order = next-push H size root [] old (tile, text) before.order next;
     })
 
-pub fetched-none : (may_answer : Tile → List ℕ → Type 0) (H : List ℕ → List ℕ) (size : ℕ) (root : List ℕ) (xs : List (Tile × List ℕ)) → xs ≡ [] → AreFetched may_answer H size root xs
-fetched-none may_answer H size root xs none = subst (AreFetched may_answer H size root) (sym none) (record { answers = All-nil (λ (f : Tile × List ℕ). Answers may_answer size f.0 f.1); order = tt })
-
 -- a new text of another length
 pub bad-length : (H : List ℕ → List ℕ) (size : ℕ) (root : List ℕ) (old new : List (Tile × List ℕ)) (tile : Tile) (text : List ℕ) → IsTileOf size tile
     → new ≡ old ++ (tile, text) ∷ [] → length text ≢ 32 * tile.width → IsBadTile H size root new tile
 bad-length H size root old new tile text of pushed differ = record { of_log = of; because = inl (text, (old, pushed), differ) }
-
--- a tile that the source lacks
-pub lacking : (H : List ℕ → List ℕ) (may_lack : Tile → Type 0) (size : ℕ) (root : List ℕ) (old new : List (Tile × List ℕ)) (tile : Tile) → IsTileOf size tile → ComesNext H size root old tile
-    → new ≡ old → may_lack tile → IsLacking H may_lack size root new tile
-lacking H may_lack size root old new tile of next same lacks =
-    subst (λ (list : List (Tile × List ℕ)). IsLacking H may_lack size root list tile) (sym same) (record { lacks = lacks; of_log = of; next = next })
 
 -- a fault where more tiles may be lacking
 pub fault-weaker : (H : List ℕ → List ℕ) (few many : Tile → Type 0) (size : ℕ) (root : List ℕ) (fetched : List (Tile × List ℕ)) (fault : ReadFault) → ((t : Tile) → few t → many t)
@@ -175,9 +166,6 @@ overs-up level place [] all = All-nil (λ (f : Tile × List ℕ). IsOver level p
 overs-up level place (f ∷ xs) all =
     let P : Tile × List ℕ → Type 0 = λ x. IsOver (level + 1) (place / 256) x.0 in
     All-cons (λ (x : Tile × List ℕ). IsOver level place x.0) f xs (over-up level place f.0 (All-head P f xs all)) (overs-up level place xs (All-tail P f xs all))
-
-pub adds-none : (level place : ℕ) (xs : List (Tile × List ℕ)) → AddsOver level place xs xs
-adds-none level place xs = record { added = []; joined = sym (append-nil xs); over = All-nil (λ (f : Tile × List ℕ). IsOver level place f.0) }
 
 pub adds-up : (level place : ℕ) (old new : List (Tile × List ℕ)) → AddsOver (level + 1) (place / 256) old new → AddsOver level place old new
 adds-up level place old new adds = record { added = adds.added; joined = adds.joined; over = overs-up level place adds.added adds.over }

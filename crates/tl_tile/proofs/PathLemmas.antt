@@ -27,9 +27,6 @@ pushed_groups old mid new n some first second =
     second ∙ ap (λ (t : List ℕ). t ++ marked_group (n % 1000)) first ∙ append_assoc old (leading_groups (n / 1000)) (marked_group (n % 1000))
     ∙ ap (λ (t : List ℕ). old ++ t) (sym (leading_groups_step n some))
 
-pub leading_groups_none : (n : ℕ) → n ≡ 0 → leading_groups n ≡ []
-leading_groups_none n e = ap leading_groups e
-
 -- ---- digits
 
 pub number_digit : (m d b : ℕ) (bytes : List ℕ) → d < 10 → b ≡ 48 + d → m < 2 ^ 56 → leading_number m (b ∷ bytes) ≡ leading_number (m * 10 + d) bytes
@@ -48,9 +45,6 @@ number_group m g bytes small room =
     ∙ number_digit (m * 10 + g / 100) (g / 10 % 10) (48 + g / 10 % 10) ones (omega arith) refl (omega arith)
     ∙ number_digit ((m * 10 + g / 100) * 10 + g / 10 % 10) (g % 10) (48 + g % 10) bytes (omega arith) refl (omega arith)
     ∙ ap (λ (n : ℕ). leading_number n bytes) (omega arith)
-
-number_slash : (m : ℕ) (bytes : List ℕ) → leading_number m (47 ∷ bytes) ≡ leading_number m bytes
-number_slash m bytes = refl
 
 number_marked : (m g : ℕ) (bytes : List ℕ) → g < 1000 → m * 1000 + g < 2 ^ 56 → leading_number m (marked_group g ++ bytes) ≡ leading_number (m * 1000 + g) bytes
 number_marked m g bytes small room = number_group m g (47 ∷ bytes) small room
@@ -127,12 +121,6 @@ no_width_at bytes digits width some is number apart w low high e = elim (cases_l
       let same : digits ≡ decimal w = append_cancel_left (codes ".p/") digits (decimal w) (sym is ∙ e ∙ part_width w few) in
       let value : width ≡ w = number ∙ ap (leading_number 0) same ∙ number_decimal w (omega arith) in
       apart (omega arith) (omega arith) (same ∙ ap decimal (sym value))
-  | inr full ↦ absurd (omega (arith, ap length (e ∙ full_width w (omega arith))))
-]
-
-pub no_prefix_width : (bytes : List ℕ) → 0 < length bytes → ((rest : List ℕ) → bytes ≢ codes ".p/" ++ rest) → HasNoWidth bytes
-no_prefix_width bytes some apart w low high e = elim (cases_lt w 256) [
-  | inl few ↦ apart (decimal w) (e ∙ part_width w few)
   | inr full ↦ absurd (omega (arith, ap length (e ∙ full_width w (omega arith))))
 ]
 

@@ -163,11 +163,6 @@ is_there-by tiles size level place tile is edge small low less missing = full_wh
 pub there-by : (tiles : Tiles) (size level place : ℕ) (tile : Tile) (text : List ℕ) → tile ≡ tile_with size level place → tiles tile ≡ Some text → HasTileWith tiles size level place
 there-by tiles size level place tile text is found = (text, ap tiles (sym is) ∙ found)
 
--- what the test says of the tiles
-pub there-true : (tiles : Tiles) (size level place : ℕ) (answer : Bool) → IsThere tiles size level place answer → answer ≡ true → HasTileWith tiles size level place
-there-true tiles size level place true is holds = is
-there-true tiles size level place false is holds = absurd (cc)
-
 pub there-false : (tiles : Tiles) (size level place : ℕ) (answer : Bool) → IsThere tiles size level place answer → answer ≡ false → IsNotFetched tiles size level place
 there-false tiles size level place true is holds = absurd (cc)
 there-false tiles size level place false is holds = is
@@ -182,13 +177,6 @@ texts-push {A = A} xs ys tile text pushed =
     ap (map view) pushed ∙ map-append view xs ((tile, text) ∷ [])
 
 -- ---- a full tile that was fetched, and is compared with the tile above
-
--- the last tile of a list
-pub last-of : {A : Type 0} (xs : List (Tile × Vec ℕ A)) (x : Tile × Vec ℕ A) → 0 < length xs → x ≡ get_or xs (length xs - 1) x → IsLast x.0 (vec_items x.1) (texts_of xs)
-last-of xs x some at =
-    let i : ℕ = length xs - 1 in
-    let whole : xs ≡ take i xs ++ x ∷ [] = sym (take_all (i + 1) xs (omega (arith, some))) ∙ take_more xs i x (omega (arith, some)) ∙ ap (λ (y : _). take i xs ++ y ∷ []) (sym at) in
-    (texts_of (take i xs), texts-push (take i xs) xs x.0 x.1 whole)
 
 -- the text of a new tile is the last
 pub new-text : (old new : List (Tile × List ℕ)) (tile t : Tile) (text seen : List ℕ) → new ≡ old ++ (tile, text) ∷ [] → IsLast t seen new → text ≡ seen

@@ -56,10 +56,6 @@ pub text_within : (tiles : Tiles) (size : ℕ) (p : Place) (tile : Tile) (text :
 text_within tiles size p tile text is long at found =
     omega (arith, long tile text found, hashes_within size p is, ap (λ (t : Tile). t.width) at)
 
-pub tells-by : (H : List ℕ → List ℕ) (tiles : Tiles) (size : ℕ) (p : Place) (tile : Tile) (text hash : List ℕ) → tile ≡ tile_with size (p.level / 8) (first_of p) → tiles tile ≡ Some text
-    → Part H text (first_of p % 256) (count_of p) hash → Tells H tiles size p.level p.place hash
-tells-by H tiles size p tile text hash at found part = record { text = text; strings = part.0; fetched = ap tiles (sym at) ∙ found; known = part.1 }
-
 -- what was fetched stays
 abbrev pub Grows : List (Tile × List ℕ) → List (Tile × List ℕ) → Type 0
 Grows fetched after = (t : Tile) (text : List ℕ) → tiles_of fetched t ≡ Some text → tiles_of after t ≡ Some text
@@ -124,12 +120,6 @@ pub part_inside : (tiles : Tiles) (size : ℕ) (p : Place) (first count : ℕ) (
 part_inside tiles size p first count tile text first_is count_is is long at found =
     let here : 32 * (first_of p % 256 + count_of p) ≤ length text = text_within tiles size p tile text is long (at ∙ ap (tile_with size (p.level / 8)) first_is) found in
     subst (λ (x : ℕ). 32 * (x % 256 + count) ≤ length text) (sym first_is) (subst (λ (x : ℕ). 32 * (first_of p % 256 + x) ≤ length text) (sym count_is) here)
-
-pub tells-in : (H : List ℕ → List ℕ) (tiles : Tiles) (size : ℕ) (p : Place) (first count : ℕ) (tile : Tile) (text hash : List ℕ) → first ≡ first_of p → count ≡ count_of p → tile ≡ tile_with size (p.level / 8) first → tiles tile ≡ Some text
-    → Part H text (first % 256) count hash → Tells H tiles size p.level p.place hash
-tells-in H tiles size p first count tile text hash first_is count_is at found part =
-    tells-by H tiles size p tile text hash (at ∙ ap (tile_with size (p.level / 8)) first_is) found
-    (subst (λ (x : ℕ). Part H text (x % 256) (count_of p) hash) first_is (subst (λ (x : ℕ). Part H text (first % 256) x hash) count_is part))
 
 pub first_below : (size : ℕ) (p : Place) (count : ℕ) → count ≡ count_of p → IsPlaceIn size p → p.place * count < level_count size (p.level / 8)
 first_below size p count count_is is =

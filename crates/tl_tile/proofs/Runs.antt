@@ -55,13 +55,6 @@ drop-range_with_len (suc k) a (suc n) =
     let count : n - k ≡ suc n - suc k = omega arith in
     drop-range_with_len k (a + 1) n ∙ (λ i. range_with_len (from i) (count i))
 
--- no places: the last hash is all
-pub run-last : (H : List ℕ → List ℕ) (entries : List (List ℕ)) (u place end : ℕ) (hashes : List (List ℕ)) (last : List ℕ) → length hashes ≡ 0 → IsRun H entries u place end hashes last
-    → last ≡ tree_hash H (part (place * u) end entries)
-run-last H entries u place end hashes last none run =
-    let from : (place + length hashes) * u ≡ place * u = (let e : place + length hashes ≡ place = omega (arith, none) in ap (λ (x : ℕ). x * u) e) in
-    run.last_is ∙ ap (λ (x : ℕ). tree_hash H (part x end entries)) from
-
 -- the first of the places, up to one of them that is the last
 pub run-places : (H : List ℕ → List ℕ) (entries : List (List ℕ)) (u place k : ℕ) (hashes : List (List ℕ)) (own : List ℕ) → IsPowerOfTwo u → 0 < k → k ≤ length hashes → (place + k) * u ≤ length entries
     → hashes ≡ map (place_hash H entries u) (range_with_len place (length hashes)) → own ≡ get_or hashes (k - 1) own → IsRun H entries u place ((place + k) * u) (take (k - 1) hashes) own
