@@ -5,8 +5,8 @@ use Rattle.std.proofs.lemmas.Bool.{cases_eq, cases_lt}
 use Rattle.std.proofs.lemmas.List.{append-nil, map-append}
 use Rattle.tl_tile.specs.declared.resource.Tile.{Tile}
 use Rattle.tl_tile.specs.TileText.{level_count, full_tile, partial_tile}
-use Rattle.tl_tile.specs.Known.{KnownRoot}
-use Rattle.tl_tile.specs.KnownEdge.{IsEdgeLevel, HasEdge}
+use Rattle.tl_tile.specs.Folds.{IsEdgeRoot}
+use Rattle.tl_tile.specs.FetchedEdge.{IsEdgeLevel, HasEdge}
 use Rattle.tl_tile.specs.Fetched.{tiles_of, tiles_in}
 use Rattle.tl_tile.specs.Source.{AreLong}
 use Rattle.tl_tile.specs.Fetching.{edge_tiles}
@@ -87,16 +87,16 @@ edge-first size level xs ys tile low is some before (inr (text, pushed)) =
     edge-prefix size level ys (omega (arith, low))
     (ap tiles_in pushed ∙ map-append view xs ((tile, text) ∷ []) ∙ (λ i. before.tiles i ++ is i ∷ []) ∙ sym (edge-next size level low width))
 
--- all partial tiles, which tell the root
-pub edge-all : (H : List ℕ → List ℕ) (size : ℕ) (root known : List ℕ) (xs : List (Tile × List ℕ)) → AreEdgeFrom size 0 xs
-    → ((strings : List (List ℕ)) × KnownRoot H (tiles_of xs) size known strings) → known ≡ root → AreVerified H size root xs
-edge-all H size root known xs edge (strings, fold) same = record {
+-- all partial tiles, which fold to the root
+pub edge-all : (H : List ℕ → List ℕ) (size : ℕ) (root folded : List ℕ) (xs : List (Tile × List ℕ)) → AreEdgeFrom size 0 xs
+    → ((strings : List (List ℕ)) × IsEdgeRoot H (tiles_of xs) size folded strings) → folded ≡ root → AreVerified H size root xs
+edge-all H size root folded xs edge (strings, fold) same = record {
   first = ([], edge.tiles ∙ sym (append-nil (edge_tiles size)));
   long = edge.long;
   edge = λ l low wide. edge.edge l (omega arith) low wide;
   checked = record {
     strings = strings;
-    known = subst (λ (x : List ℕ). KnownRoot H (tiles_of xs) size x strings) same fold;
+    folds = subst (λ (x : List ℕ). IsEdgeRoot H (tiles_of xs) size x strings) same fold;
     full = λ l i text less found. absurd (omega (arith, (edge.partial (full_tile l i) text found).0));
   };
 }

@@ -10,9 +10,9 @@ use Rattle.tl_hash.specs.Tree.{node_input}
 use Rattle.tl_hash.proofs.SplitLemmas.{IsSplit-positive}
 use Rattle.tl_tile.specs.declared.resource.Tile.{Tile}
 use Rattle.tl_tile.specs.TileText.{level_count, partial_tile}
-use Rattle.tl_tile.specs.Known.{Tiles, IsFold, nothing, given, split, IsHashAt, IsOnEdge, IsOwnHash, IsEdgeHash, KnownRoot}
-use Rattle.tl_tile.specs.KnownEdge.{IsEdgeLevel, HasEdge}
-use Rattle.tl_tile.specs.Inner.KnownEdge.{Joined, KnownBelow}
+use Rattle.tl_tile.specs.Folds.{Tiles, IsFold, nothing, given, split, IsHashAt, IsOnEdge, IsOwnHash, IsEdgeHash, IsEdgeRoot}
+use Rattle.tl_tile.specs.FetchedEdge.{IsEdgeLevel, HasEdge}
+use Rattle.tl_tile.specs.Inner.EdgeRoot.{Joined, IsRestHash}
 use Rattle.tl_tile.proofs.Segments.{IsSplit-scaled, power_of_256, scaled_le}
 use Rattle.tl_tile.proofs.Edges.{Some-injective, positive_256, nothing_above}
 use Rattle.tl_tile.proofs.Checked.{level_count-above}
@@ -42,7 +42,7 @@ own_is_edge tiles size level text at n h less is =
       counts = refl;
       on_edge = own_on_edge size level n less;
       fetched = at.fetched;
-      told = subst (λ (x : ℕ). IsHashAt text x h) (sym column) is;
+      there = subst (λ (x : ℕ). IsHashAt text x h) (sym column) is;
     }
 
 -- no hash of an edge is over more than one place of a partial tile
@@ -151,7 +151,7 @@ above-rest size level =
     ap (λ (x : ℕ). size % x) power ∙ mod-mul size (omega arith) (positive_256 level)
 
 -- a level without a partial tile
-pub below-none : (H : List ℕ → List ℕ) (tiles : Tiles) (size level : ℕ) (below : Option (List ℕ)) → wide_of size level ≡ 0 → KnownBelow H tiles size level below → KnownBelow H tiles size (level + 1) below
+pub below-none : (H : List ℕ → List ℕ) (tiles : Tiles) (size level : ℕ) (below : Option (List ℕ)) → wide_of size level ≡ 0 → IsRestHash H tiles size level below → IsRestHash H tiles size (level + 1) below
 below-none H tiles size level None none is =
     let product : wide_of size level * 256 ^ level ≡ 0 * 256 ^ level = ap (λ (x : ℕ). x * 256 ^ level) none in
     omega (arith, above-rest size level, product, is)
@@ -177,7 +177,7 @@ at_last text last w h long one is =
 
 -- a level with a partial tile
 pub below-joined : (H : List ℕ → List ℕ) (tiles : Tiles) (size level : ℕ) (text : List ℕ) (below : Option (List ℕ)) (hash : List ℕ) → IsEdgeLevel tiles size level text → 0 < wide_of size level
-    → KnownBelow H tiles size level below → Joined H text (wide_of size level) below hash → KnownBelow H tiles size (level + 1) (Some hash)
+    → IsRestHash H tiles size level below → Joined H text (wide_of size level) below hash → IsRestHash H tiles size (level + 1) (Some hash)
 below-joined H tiles size level text None hash at wide none (strings, part) =
     let u : ℕ = 256 ^ level in
     let one : 1 * u ≤ wide_of size level * u = scaled_le 1 (wide_of size level) u (omega (arith, wide)) in
@@ -208,14 +208,14 @@ same_level_text tiles size level edge low tile text is wide fetched =
     subst (IsEdgeLevel tiles size level) same here.1
 
 pub level_none : (H : List ℕ → List ℕ) (tiles : Tiles) (size level : ℕ) (below : Option (List ℕ)) (tile : Tile) → tile ≡ partial_tile size level → tile.width ≡ 0
-    → KnownBelow H tiles size level below → KnownBelow H tiles size (level + 1) below
-level_none H tiles size level below tile is none known = below-none H tiles size level below (sym (ap (λ (t : Tile). t.width) is) ∙ none) known
+    → IsRestHash H tiles size level below → IsRestHash H tiles size (level + 1) below
+level_none H tiles size level below tile is none folds = below-none H tiles size level below (sym (ap (λ (t : Tile). t.width) is) ∙ none) folds
 
 pub level_joined : (H : List ℕ → List ℕ) (tiles : Tiles) (size level : ℕ) → HasEdge tiles size → level < 8 → (tile : Tile) (text : List ℕ) (below : Option (List ℕ)) (hash : List ℕ) → tile ≡ partial_tile size level → 0 < tile.width → tiles tile ≡ Some text
-    → KnownBelow H tiles size level below → Joined H text tile.width below hash → KnownBelow H tiles size (level + 1) (Some hash)
-level_joined H tiles size level edge low tile text below hash is wide fetched known joined =
+    → IsRestHash H tiles size level below → Joined H text tile.width below hash → IsRestHash H tiles size (level + 1) (Some hash)
+level_joined H tiles size level edge low tile text below hash is wide fetched folds joined =
     let width : tile.width ≡ wide_of size level = ap (λ (t : Tile). t.width) is in
-    below-joined H tiles size level text below hash (same_level_text tiles size level edge low tile text is wide fetched) (omega (arith, width, wide)) known
+    below-joined H tiles size level text below hash (same_level_text tiles size level edge low tile text is wide fetched) (omega (arith, width, wide)) folds
     (subst (λ (w : ℕ). Joined H text w below hash) width joined)
 
 -- the partial tile by shifts

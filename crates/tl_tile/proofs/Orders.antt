@@ -9,7 +9,7 @@ use Rattle.std.proofs.lemmas.List.{append-nil, map-append, get_or_default}
 use Rattle.std.proofs.lemmas.List.Elements.{All-nil, All-push, All-append, All-head, All-tail, All-cons, filter-append}
 use Rattle.tl_store.specs.Stored.{stored_index}
 use Rattle.tl_tile.specs.declared.resource.Tile.{Tile}
-use Rattle.tl_tile.specs.declared.place.Place.{Place}
+use Rattle.tl_tile.specs.declared.tile_reader.subtree.Subtree.{Subtree}
 use Rattle.tl_tile.specs.TileText.{level_count, full_tile, partial_tile}
 use Rattle.tl_tile.specs.Fetched.{same_tile, tiles_of, tiles_in}
 use Rattle.tl_tile.specs.Source.{IsTileOf, Answers}
@@ -128,19 +128,19 @@ needed-edge size indexes xs some (rest, are) =
     needed-each size indexes xs some all
 
 -- the tiles over a number's subtree are needed
-pub over-needed : (size i : ℕ) (indexes : List ℕ) (p : Place) (t : Tile) → i < length indexes → stored_index p.level p.place ≡ get_or indexes i 0 → IsOver (p.level / 8) (p.place * 2 ^ (p.level % 8)) t → IsNeededFor size indexes t
+pub over-needed : (size i : ℕ) (indexes : List ℕ) (p : Subtree) (t : Tile) → i < length indexes → stored_index p.level p.place ≡ get_or indexes i 0 → IsOver (p.level / 8) (p.place * 2 ^ (p.level % 8)) t → IsNeededFor size indexes t
 over-needed size i indexes p t less number over =
     let index : ℕ = get_or indexes i 0 in
-    inr (i, index, less, get_or_default indexes i index 0 less, record { place = p; number = number; over = over })
+    inr (i, index, less, get_or_default indexes i index 0 less, record { subtree = p; number = number; over = over })
 
-overs-needed : (size i : ℕ) (indexes : List ℕ) (p : Place) (xs : List (Tile × List ℕ)) → i < length indexes → stored_index p.level p.place ≡ get_or indexes i 0
+overs-needed : (size i : ℕ) (indexes : List ℕ) (p : Subtree) (xs : List (Tile × List ℕ)) → i < length indexes → stored_index p.level p.place ≡ get_or indexes i 0
     → All (λ f. IsOver (p.level / 8) (p.place * 2 ^ (p.level % 8)) f.0) xs → All (λ f. IsNeededFor size indexes f.0) xs
 overs-needed size i indexes p [] less number all = All-nil (λ (f : Tile × List ℕ). IsNeededFor size indexes f.0)
 overs-needed size i indexes p (f ∷ xs) less number all =
     let P : Tile × List ℕ → Type 0 = λ x. IsOver (p.level / 8) (p.place * 2 ^ (p.level % 8)) x.0 in
     All-cons (λ (x : Tile × List ℕ). IsNeededFor size indexes x.0) f xs (over-needed size i indexes p f.0 less number (All-head P f xs all)) (overs-needed size i indexes p xs less number (All-tail P f xs all))
 
-pub needed-more : (size i : ℕ) (indexes : List ℕ) (p : Place) (old new : List (Tile × List ℕ)) → i < length indexes → stored_index p.level p.place ≡ get_or indexes i 0
+pub needed-more : (size i : ℕ) (indexes : List ℕ) (p : Subtree) (old new : List (Tile × List ℕ)) → i < length indexes → stored_index p.level p.place ≡ get_or indexes i 0
     → AddsOver (p.level / 8) (p.place * 2 ^ (p.level % 8)) old new → All (λ f. IsNeededFor size indexes f.0) old → All (λ f. IsNeededFor size indexes f.0) new
 needed-more size i indexes p old new less number adds before =
     let P : Tile × List ℕ → Type 0 = λ f. IsNeededFor size indexes f.0 in

@@ -8,7 +8,7 @@ use Rattle.tl_store.specs.Reader.{readable_count, AreReadable, GivesFault}
 use Rattle.tl_store.specs.declared.reader.ReadFault.{ReadFault}
 use Rattle.tl_store.specs.declared.reader.ReadFault.TheVariants.{OutOfRange, Source, OutOfMemory, BadTile}
 use Rattle.tl_tile.specs.declared.resource.Tile.{Tile}
-use Rattle.tl_tile.specs.Known.{TilesCollide}
+use Rattle.tl_tile.specs.Folds.{TilesCollide}
 use Rattle.tl_tile.specs.Fetched.{tiles_of}
 use Rattle.tl_tile.specs.Source.{AreAnswers}
 use Rattle.tl_tile.specs.Fetching.{IsNeededFor}
