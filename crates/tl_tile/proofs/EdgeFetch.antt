@@ -1,18 +1,16 @@
 -- Fetching the partial tiles, from the highest level down.
 use Rattle.std.proofs.Common.{◌≡◌, ℕ, suc, ◌*◌, ◌/◌, ◌^◌, ◌+◌, ◌%◌, ◌<◌, ◌≤◌, inl, inr, List, [], ◌∷◌, ◌++◌, length, None, refl, sym, ap, subst, ◌∙◌, arith}
-use Rattle.std.specs.Prelude.{◌≢◌}
 use Rattle.std.proofs.lemmas.Bool.{cases_eq, cases_lt}
 use Rattle.std.proofs.lemmas.List.{append-nil, map-append}
 use Rattle.tl_tile.specs.declared.resource.Tile.{Tile}
 use Rattle.tl_tile.specs.TileText.{level_count, full_tile, partial_tile}
 use Rattle.tl_tile.specs.Folds.{IsEdgeRoot}
-use Rattle.tl_tile.specs.FetchedEdge.{IsEdgeLevel, HasEdge}
+use Rattle.tl_tile.specs.FetchedEdge.{IsEdgeLevel}
 use Rattle.tl_tile.specs.Fetched.{tiles_of, tiles_in}
 use Rattle.tl_tile.specs.Source.{AreLong}
 use Rattle.tl_tile.specs.Fetching.{edge_tiles}
 use Rattle.tl_tile.specs.Verified.{AreVerified}
 use Rattle.tl_tile.specs.Inner.Steps.{AreEdgeFrom, AddsOnly}
-use Rattle.tl_tile.specs.SourceFaults.{IsBadTile}
 use Rattle.std.proofs.Math.Nat.{pow-succ', div-mul-le_self}
 use Rattle.std.proofs.Math.Pow.{pow_mono}
 use Rattle.std.proofs.lemmas.Nat.{div-mul-add, le-div, mul-le, pow-add}
@@ -100,6 +98,14 @@ edge-all H size root folded xs edge (strings, fold) same = record {
     full = λ l i text less found. absurd (omega (arith, (edge.partial (full_tile l i) text found).0));
   };
 }
+
+-- and no full tile
+pub edge-no_full : (size level : ℕ) (xs : List (Tile × List ℕ)) → AreEdgeFrom size level xs → (l index : ℕ) → tiles_of xs (full_tile l index) ≡ None
+edge-no_full size level xs edge l index =
+    elim (cases_option (tiles_of xs (full_tile l index))) as (λ _. tiles_of xs (full_tile l index) ≡ None) [
+      | inl none ↦ none
+      | inr (text, found) ↦ absurd (omega (arith, (edge.partial (full_tile l index) text found).0))
+    ]
 
 -- no level above the highest partial tile has a hash
 pub none_above : (size j level : ℕ) → size < 2 * 2 ^ j → j / 8 < level → level_count size level % 256 ≡ 0

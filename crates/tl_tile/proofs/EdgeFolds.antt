@@ -2,7 +2,7 @@
 -- and after them the hash of what the lower levels have.
 use Rattle.std.proofs.Common.{◌≡◌, ℕ, ◌+◌, ◌-◌, ◌*◌, ◌/◌, ◌%◌, ◌^◌, ◌<◌, ◌≤◌, List, [], ◌∷◌, ◌++◌, length, take, drop, Option, Some, None, refl, sym, ap, subst, ◌∙◌, arith}
 use Rattle.std.proofs.Math.Arith.{mod-mul}
-use Rattle.std.proofs.lemmas.Nat.{pow-add, mod_below, div-mul-add, mod-mul-add}
+use Rattle.std.proofs.lemmas.Nat.{pow-add, mod_below, mod-mul-add}
 use Rattle.std.proofs.lemmas.List.{drop-append-le, drop_at, take-append-le, length-drop, take_all}
 use Rattle.std.specs.Int.{IsPowerOfTwo}
 use Rattle.tl_hash.specs.Split.{IsSplit}
@@ -10,7 +10,7 @@ use Rattle.tl_hash.specs.Tree.{node_input}
 use Rattle.tl_hash.proofs.SplitLemmas.{IsSplit-positive}
 use Rattle.tl_tile.specs.declared.resource.Tile.{Tile}
 use Rattle.tl_tile.specs.TileText.{level_count, partial_tile}
-use Rattle.tl_tile.specs.Folds.{Tiles, IsFold, nothing, given, split, IsHashAt, IsOnEdge, IsOwnHash, IsEdgeHash, IsEdgeRoot}
+use Rattle.tl_tile.specs.Folds.{Tiles, IsFold, nothing, given, split, IsHashAt, IsOnEdge, IsOwnHash, IsEdgeHash}
 use Rattle.tl_tile.specs.FetchedEdge.{IsEdgeLevel, HasEdge}
 use Rattle.tl_tile.specs.Inner.EdgeRoot.{Joined, IsRestHash}
 use Rattle.tl_tile.proofs.Segments.{IsSplit-scaled, power_of_256, scaled_le}

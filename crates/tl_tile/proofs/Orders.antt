@@ -18,7 +18,7 @@ use Rattle.tl_store.specs.declared.reader.ReadFault.TheVariants.{OutOfRange, Sou
 use Rattle.tl_tile.specs.Fetching.{IsOver, IsPartialOf, IsNeededFor, edge_from, edge_tiles}
 use Rattle.tl_tile.specs.Verified.{IsNextPartial, ComesNext, AreNext}
 use Rattle.tl_tile.specs.Inner.Steps.{AreFetched, AddsOnly, AddsOver}
-use Rattle.tl_tile.specs.SourceFaults.{IsBadTile, IsLacking, GivesReadFault}
+use Rattle.tl_tile.specs.SourceFaults.{IsBadTile, GivesReadFault}
 use Rattle.tl_tile.proofs.Push.{same_tile-is}
 
 -- ---- one tile more
@@ -195,7 +195,7 @@ none-among level place t (f ∷ xs) low all =
       | inr differ ↦ rw differ (none-among level place t xs low (All-tail P f xs all))
     ]
 
-none-append : (xs ys : List (Tile × List ℕ)) (t : Tile) → tiles_of xs t ≡ None → tiles_of ys t ≡ None → tiles_of (xs ++ ys) t ≡ None
+pub none-append : (xs ys : List (Tile × List ℕ)) (t : Tile) → tiles_of xs t ≡ None → tiles_of ys t ≡ None → tiles_of (xs ++ ys) t ≡ None
 none-append [] ys t none more = more
 none-append (x ∷ xs) ys t none more =
     elim (cases_Bool (same_tile x.0 t)) as (λ _. tiles_of (x ∷ xs ++ ys) t ≡ None) [

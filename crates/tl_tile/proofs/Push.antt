@@ -1,15 +1,14 @@
 -- One fetched tile more.
-use Rattle.std.proofs.Common.{◌≡◌, ℕ, ◌+◌, ◌-◌, ◌*◌, ◌/◌, ◌%◌, ◌^◌, ◌<◌, ◌≤◌, ◌⊎◌, inl, inr, Bool, true, false, ◌&&◌, eqb, List, [], ◌∷◌, ◌++◌, append_assoc, length, map, take, get_or, Option, Some, None, refl, sym, ap, subst, ◌∙◌, arith}
+use Rattle.std.proofs.Common.{◌≡◌, ℕ, ◌+◌, ◌-◌, ◌*◌, ◌/◌, ◌%◌, ◌^◌, ◌<◌, ◌≤◌, ◌⊎◌, inl, inr, Bool, true, false, ◌&&◌, eqb, List, [], ◌∷◌, ◌++◌, append_assoc, length, Option, Some, None, refl, sym, ap, subst, ◌∙◌, arith}
 use Rattle.std.proofs.lemmas.Bool.{cases_Bool, cases_lt, and_parts, eqb-true, eq-eqb}
-use Rattle.std.specs.Prelude.{◌≢◌, vec_items}
-use Rattle.std.specs.declared.vec.Vec.{Vec}
-use Rattle.std.proofs.lemmas.List.{map-append, length-append, take_more, take_all, same_from_push}
+use Rattle.std.specs.Prelude.{◌≢◌}
+use Rattle.std.proofs.lemmas.List.{map-append, length-append, same_from_push}
 use Rattle.tl_tile.specs.declared.resource.Tile.{Tile}
 use Rattle.tl_tile.specs.TileText.{level_count, full_tile, partial_tile, tile_with}
 use Rattle.tl_tile.specs.Folds.{Tiles, IsFold, nothing, given, split, IsEdgeHash, FoldsToAbove}
 use Rattle.tl_tile.specs.FetchedEdge.{HasEdge}
 use Rattle.tl_tile.specs.Inner.EdgeRoot.{Part}
-use Rattle.tl_tile.specs.Fetched.{same_tile, tiles_of, texts_of}
+use Rattle.tl_tile.specs.Fetched.{same_tile, tiles_of}
 use Rattle.tl_tile.specs.Source.{HasTileWith, IsHashWith}
 use Rattle.tl_tile.specs.Inner.Steps.{IsNotFetched, IsThere}
 use Rattle.tl_tile.specs.Fetching.{BeginsWithEdge, edge_tiles}
@@ -159,9 +158,6 @@ full_when_missing tiles size level place edge small low less missing =
 pub is_there-by : (tiles : Tiles) (size level place : ℕ) (tile : Tile) → tile ≡ tile_with size level place → HasEdge tiles size → size ≤ 2 ^ 62 → level ≤ 7 → place < level_count size level
     → tiles tile ≡ None → IsThere tiles size level place false
 is_there-by tiles size level place tile is edge small low less missing = full_when_missing tiles size level place edge small low less (ap tiles (sym is) ∙ missing)
-
-pub there-by : (tiles : Tiles) (size level place : ℕ) (tile : Tile) (text : List ℕ) → tile ≡ tile_with size level place → tiles tile ≡ Some text → HasTileWith tiles size level place
-there-by tiles size level place tile text is found = (text, ap tiles (sym is) ∙ found)
 
 pub there-false : (tiles : Tiles) (size level place : ℕ) (answer : Bool) → IsThere tiles size level place answer → answer ≡ false → IsNotFetched tiles size level place
 there-false tiles size level place true is holds = absurd (cc)

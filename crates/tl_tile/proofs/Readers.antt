@@ -1,10 +1,10 @@
 -- What a reader over tiles answers, by the numbers that were asked.
-use Rattle.std.proofs.Common.{◌≡◌, ℕ, ◌^◌, ◌<◌, ◌≤◌, inl, inr, Bool, cond, List, [], ◌∷◌, length, map, All, refl, sym, ap, subst, ◌∙◌, arith}
+use Rattle.std.proofs.Common.{◌≡◌, ℕ, ◌^◌, ◌<◌, ◌≤◌, inl, inr, Bool, cond, List, length, map, All, refl, sym, ap, subst, ◌∙◌, arith}
 use Rattle.std.proofs.lemmas.Bool.{cases_lt, lt-leb, le-leb}
 use Rattle.std.specs.Prelude.{Result, Ok, Err, IfOk}
 use Rattle.tl_hash.specs.Tree.{tree_hash}
 use Rattle.tl_store.specs.Stored.{stored_count, stored_hash}
-use Rattle.tl_store.specs.Reader.{readable_count, AreReadable, GivesFault}
+use Rattle.tl_store.specs.Reader.{readable_count, AreReadable}
 use Rattle.tl_store.specs.declared.reader.ReadFault.{ReadFault}
 use Rattle.tl_store.specs.declared.reader.ReadFault.TheVariants.{OutOfRange, Source, OutOfMemory, BadTile}
 use Rattle.tl_tile.specs.declared.resource.Tile.{Tile}
@@ -12,8 +12,7 @@ use Rattle.tl_tile.specs.Folds.{TilesCollide}
 use Rattle.tl_tile.specs.Fetched.{tiles_of}
 use Rattle.tl_tile.specs.Source.{AreAnswers}
 use Rattle.tl_tile.specs.Fetching.{IsNeededFor}
-use Rattle.tl_tile.specs.SourceFaults.{GivesReadFault, MayGive}
-use Rattle.tl_tile.proofs.Orders.{fault-weaker}
+use Rattle.tl_tile.specs.SourceFaults.{GivesReadFault}
 use Rattle.tl_tile.specs.TileReader.{Reading, AreAuthentic, StandsAgainst, GivesNumbersFault}
 
 pub readable_is : (size : ℕ) → size ≤ 2 ^ 62 → readable_count size ≡ stored_count size

@@ -12,7 +12,6 @@ use Rattle.tl_tile.specs.declared.resource.Tile.{Tile}
 use Rattle.tl_tile.specs.declared.tile_reader.subtree.Subtree.{Subtree}
 use Rattle.tl_tile.specs.TileText.{level_count, tile_with}
 use Rattle.tl_tile.specs.Folds.{Tiles, AreChecked, IsSubtreeHash, TilesCollide}
-use Rattle.tl_tile.specs.Inner.EdgeRoot.{Part}
 use Rattle.tl_tile.specs.Fetched.{tiles_of}
 use Rattle.tl_tile.specs.Source.{AreLong}
 use Rattle.tl_tile.specs.Inner.Steps.{IsSubtreeOf, IsHashOfNumber, AreHashesOf}

@@ -11,3 +11,7 @@ pub
     mod Steps
 pub
     mod PartialHashes
+pub
+    mod TileTree
+pub
+    mod TreeKeys

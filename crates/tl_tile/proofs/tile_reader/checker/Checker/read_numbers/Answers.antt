@@ -1,6 +1,9 @@
 use Rattle.std.proofs.Common.{◌*◌, ◌/◌, ◌%◌, ◌^◌, length, ap, arith}
 use Rattle.std.proofs.lemmas.List.{length_push}
 use Rattle.tl_tile.proofs.Orders.{needed-edge, needed-more, over-needed, fault-weaker, found-later}
+use Rattle.tl_tile.specs.Fetched.{tiles_of}
+use Rattle.tl_tile.specs.Inner.TreeKeys.{trees_in}
+use Rattle.tl_tile.proofs.TreeReads.{trees-none}
 use Rattle.tl_tile.proofs.Reading.{hashes-more, hashes-none, authentic-all}
 use Rattle.std.proofs.lemmas.Result.{err_from_is_err_and}
 use Rattle.tl_tile.specs.Fetching.{IsOver, IsNeededFor}
@@ -12,6 +15,7 @@ returns-in_err-fetch_edge-clause-needed g c = needed-edge c.args.self.now.size c
 pub loop-index-init : goal.loop-index-init
 loop-index-init g c = record {
   verified = c.in_ok-fetch_edge.ensures.verified;
+  trees = trees-none g.T.TreeHash.digest_of (tiles_of c.fetch_edge.new.fetched) (trees_in c.new-trees.result.map) c.new-trees.ensures c.in_ok-fetch_edge.ensures.no_full;
   fetched = c.fetch_edge.ensures.fetched;
   needed = needed-edge c.args.self.now.size c.args.indexes.now c.fetch_edge.new.fetched c.requires.asked c.fetch_edge.ensures.partial;
   hashes_are = hashes-none g.T.TreeHash.digest_of c.fetch_edge.new.fetched c.args.self.now.size c.args.indexes.now c.new-hashes.result.items c.new-hashes.ensures.items;
@@ -29,6 +33,7 @@ returns-in_err-push-clause-needed g c =
 pub loop-index-preserved : goal.loop-index-preserved
 loop-index-preserved g c = record {
   verified = c.in_ok-hash.ensures.verified;
+  trees = c.in_ok-hash.ensures.trees;
   fetched = c.read_subtree.ensures.fetched;
   needed = needed-more c.args.self.now.size c.loop-index.index-index c.args.indexes.now c.subtree_of-subtree.result c.loop-index.fetched c.read_subtree.new.fetched c.loop-index-test.true c.subtree_of-subtree.ensures.number c.read_subtree.ensures.adds c.loop-index.invariant.needed;
   hashes_are = hashes-more g.T.TreeHash.digest_of c.loop-index.fetched c.read_subtree.new.fetched c.args.self.now.size c.loop-index.index-index c.args.indexes.now 0 c.loop-index.hashes.items c.push.new.self.items c.in_ok-hash.hash
