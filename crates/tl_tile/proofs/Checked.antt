@@ -1,4 +1,4 @@
--- What checked tiles tell is what the entries hash to, or a collision.
+-- What checked tiles fold to is what the entries hash to, or a collision.
 use Rattle.std.proofs.Common.{◌≡◌, ℕ, zero, suc, ◌+◌, ◌-◌, ◌*◌, ◌/◌, ◌%◌, ◌^◌, ◌<◌, ◌≤◌, ◌⊎◌, inl, inr, List, length, take, drop, Some, Contains, refl, sym, ap, subst, ◌∙◌, arith}
 use Rattle.std.proofs.Math.Nat.{div-div-eq-div-mul}
 use Rattle.std.proofs.lemmas.Nat.{pow-add, pow_pos, le-div, div-mul-add, mod-mul-add}
@@ -10,12 +10,12 @@ use Rattle.tl_store.proofs.StoredLemmas.{index_is_place}
 use Rattle.tl_tile.proofs.TileTexts.{pow_of_256}
 use Rattle.tl_tile.proofs.Segments.{HasHashLength}
 use Rattle.tl_tile.specs.TileText.{level_count, entries_under, full_tile, partial_tile, tile_with}
-use Rattle.tl_tile.specs.Known.{Tiles, IsHashAt, IsOwnHash, IsInAbove, AreChecked, KnownPart, TilesCollide}
-use Rattle.tl_tile.specs.TileLaws.{CheckedTilesTellStoredHashes}
+use Rattle.tl_tile.specs.Folds.{Tiles, IsHashAt, IsOwnHash, FoldsToAbove, AreChecked, IsPartHash, TilesCollide}
+use Rattle.tl_tile.specs.TileLaws.{CheckedTilesHaveStoredHashes}
 use Rattle.tl_tile.proofs.Segments.{segment, power_of_256, segment-of_rest, scaled_le}
 use Rattle.tl_tile.proofs.Walks.{IsTarget, walk, fold_of_right}
 use Rattle.tl_tile.proofs.Subtrees.{inputs-subtree}
-use Rattle.tl_tile.proofs.Edges.{IsHashAt-one, positive_256, under_within, tiles_collide, edge_told}
+use Rattle.tl_tile.proofs.Edges.{IsHashAt-one, positive_256, under_within, tiles_collide, edge_right}
 
 -- the levels' counts
 pub level_count-above : (size level : ℕ) → level_count size (level + 1) ≡ level_count size level / 256
@@ -38,11 +38,11 @@ tile_with-same size level place other same =
     ]
 
 -- one hash of a full tile is a place that the walk from its own hash can go to
-own_target : (text : List ℕ) (n : ℕ) (told : List ℕ) → IsHashAt text n told → IsTarget (IsOwnHash text) n 1 told
-own_target text n told is = record {
+own_target : (text : List ℕ) (n : ℕ) (hash_there : List ℕ) → IsHashAt text n hash_there → IsTarget (IsOwnHash text) n 1 hash_there
+own_target text n hash_there is = record {
   power = (0, refl);
   is_given = (refl, is);
-  only = λ h other. IsHashAt-one text n h told other.1 is;
+  only = λ h other. IsHashAt-one text n h hash_there other.1 is;
   clear = λ s c h more low high other. absurd (omega (arith, more, other.0));
   widths = λ s c h other. other.1.whole;
 }
@@ -63,15 +63,15 @@ under_place level index n entries =
     let one : 1 * u ≡ u = omega arith in
     segment-of_rest u n 1 (index * 256) entries ∙ ap (λ (x : ℕ). take x (drop ((index * 256 + n) * u) entries)) one
 
-abbrev Told : (List ℕ → List ℕ) → Tiles → ℕ → List (List ℕ) → ℕ → ℕ → List ℕ → Type 0
-Told H tiles size entries level place told = (told ≡ tree_hash H (entries_under level place entries)) ⊎ TilesCollide H tiles size entries
+abbrev IsRight : (List ℕ → List ℕ) → Tiles → ℕ → List (List ℕ) → ℕ → ℕ → List ℕ → Type 0
+IsRight H tiles size entries level place hash_there = (hash_there ≡ tree_hash H (entries_under level place entries)) ⊎ TilesCollide H tiles size entries
 
--- what a full tile tells, once its own hash is right
-full_told : (H : List ℕ → List ℕ) → ((message : List ℕ) → HasHashLength (H message)) → (tiles : Tiles) (size : ℕ) (entries : List (List ℕ)) → length entries ≡ size
-    → (level index n : ℕ) (text told hash : List ℕ) (strings : List (List ℕ)) → n < 256 → index < level_count size (level + 1) → tiles (full_tile level index) ≡ Some text → IsHashAt text n told
-    → KnownPart H text 0 256 hash strings → hash ≡ tree_hash H (entries_under (level + 1) index entries)
-    → Told H tiles size entries level (index * 256 + n) told
-full_told H wide tiles size entries len level index n text told hash strings low less fetched is known same =
+-- the hashes of a full tile are right, once its own hash is
+full_right : (H : List ℕ → List ℕ) → ((message : List ℕ) → HasHashLength (H message)) → (tiles : Tiles) (size : ℕ) (entries : List (List ℕ)) → length entries ≡ size
+    → (level index n : ℕ) (text hash_there hash : List ℕ) (strings : List (List ℕ)) → n < 256 → index < level_count size (level + 1) → tiles (full_tile level index) ≡ Some text → IsHashAt text n hash_there
+    → IsPartHash H text 0 256 hash strings → hash ≡ tree_hash H (entries_under (level + 1) index entries)
+    → IsRight H tiles size entries level (index * 256 + n) hash_there
+full_right H wide tiles size entries len level index n text hash_there hash strings low less fetched is folds same =
     let u : ℕ = 256 ^ level in
     let rest : List (List ℕ) = drop (index * 256 * u) entries in
     let power : 256 ^ (level + 1) ≡ 256 * u = pow-add 256 level 1 ∙ omega arith in
@@ -79,40 +79,40 @@ full_told H wide tiles size entries len level index n text told hash strings low
     let within : (index + 1) * 256 ^ (level + 1) ≤ size = under_within size (level + 1) index less in
     let fits : (0 + 256) * u ≤ length rest = omega (arith, within, end, len, length-drop (index * 256 * u) entries) in
     let under : entries_under (level + 1) index entries ≡ segment u 0 256 rest = under_tile level index entries in
-    elim (walk H (IsOwnHash text) wide u (power_of_256 level) rest n 1 told (own_target text n told is)
-    0 256 hash strings known fits (same ∙ ap (tree_hash H) under) n (omega arith) (omega (arith, low)))
-    as (λ _. Told H tiles size entries level (index * 256 + n) told) [
+    elim (walk H (IsOwnHash text) wide u (power_of_256 level) rest n 1 hash_there (own_target text n hash_there is)
+    0 256 hash strings folds fits (same ∙ ap (tree_hash H) under) n (omega arith) (omega (arith, low)))
+    as (λ _. IsRight H tiles size entries level (index * 256 + n) hash_there) [
       | inl right ↦ inl (right ∙ ap (tree_hash H) (under_place level index n entries))
       | inr found ↦ inr (tiles_collide H tiles size entries (segment u 0 256 rest) strings
-          (λ x among. inr (level, index, text, hash, strings, fetched, known, among))
+          (λ x among. inr (level, index, text, hash, strings, fetched, folds, among))
           (λ x among. inputs-subtree H (256 ^ (level + 1)) (power_of_256 (level + 1)) entries index (omega (arith, within, len)) x
           (subst (λ (list : List (List ℕ)). Contains (inputs H list) x) (sym under) among))
           found)
     ]
 
 -- each hash of each checked tile is right, or there is a collision
-pub told_place : (H : List ℕ → List ℕ) → ((message : List ℕ) → HasHashLength (H message)) → (tiles : Tiles) (size : ℕ) (root : List ℕ) → AreChecked H tiles size root
+pub place_right : (H : List ℕ → List ℕ) → ((message : List ℕ) → HasHashLength (H message)) → (tiles : Tiles) (size : ℕ) (root : List ℕ) → AreChecked H tiles size root
     → (entries : List (List ℕ)) → length entries ≡ size → tree_hash H entries ≡ root
-    → (fuel level place : ℕ) (text told : List ℕ) → level_count size level ≤ fuel → place < level_count size level
-    → tiles (tile_with size level place) ≡ Some text → IsHashAt text (place % 256) told → Told H tiles size entries level place told
-told_place H wide tiles size root checked entries len is_root zero level place text told low less fetched is = absurd (omega (arith, low, less))
-told_place H wide tiles size root checked entries len is_root (suc fuel) level place text told low less fetched is =
-    elim (cases_lt (place / 256) (level_count size level / 256)) as (λ _. Told H tiles size entries level place told) [
+    → (fuel level place : ℕ) (text hash_there : List ℕ) → level_count size level ≤ fuel → place < level_count size level
+    → tiles (tile_with size level place) ≡ Some text → IsHashAt text (place % 256) hash_there → IsRight H tiles size entries level place hash_there
+place_right H wide tiles size root checked entries len is_root zero level place text hash_there low less fetched is = absurd (omega (arith, low, less))
+place_right H wide tiles size root checked entries len is_root (suc fuel) level place text hash_there low less fetched is =
+    elim (cases_lt (place / 256) (level_count size level / 256)) as (λ _. IsRight H tiles size entries level place hash_there) [
       | inr more ↦
-          edge_told H wide tiles size root checked.strings checked.known entries len is_root level place text told (omega (arith, more), less)
+          edge_right H wide tiles size root checked.strings checked.folds entries len is_root level place text hash_there (omega (arith, more), less)
           (ap tiles (sym (tile_with-partial size level place more)) ∙ fetched) is
       | inl below ↦
           let index : ℕ = place / 256 in
           let above_less : index < level_count size (level + 1) = omega (arith, below, level_count-above size level) in
           let here : tiles (full_tile level index) ≡ Some text = ap tiles (sym (tile_with-full size level place below)) ∙ fetched in
-          let up : IsInAbove H tiles size level index text = checked.full level index text above_less here in
+          let up : FoldsToAbove H tiles size level index text = checked.full level index text above_less here in
           let place_is : index * 256 + place % 256 ≡ place = omega arith in
-          elim (told_place H wide tiles size root checked entries len is_root fuel (level + 1) index up.above up.hash
-          (omega (arith, low, less, level_count-above size level)) above_less up.fetched up.told) as (λ _. Told H tiles size entries level place told) [
+          elim (place_right H wide tiles size root checked entries len is_root fuel (level + 1) index up.above up.hash
+          (omega (arith, low, less, level_count-above size level)) above_less up.fetched up.there) as (λ _. IsRight H tiles size entries level place hash_there) [
             | inr found ↦ inr found
             | inl same ↦
-                subst (λ (p : ℕ). Told H tiles size entries level p told) place_is
-                (full_told H wide tiles size entries len level index (place % 256) text told up.hash up.strings (omega arith) above_less here is up.known same)
+                subst (λ (p : ℕ). IsRight H tiles size entries level p hash_there) place_is
+                (full_right H wide tiles size entries len level index (place % 256) text hash_there up.hash up.strings (omega arith) above_less here is up.folds same)
           ]
     ]
 
@@ -153,13 +153,13 @@ height_of_8 level =
     let sum : level ≡ level % 8 + level / 8 * 8 = omega arith in
     ap (λ (x : ℕ). 2 ^ x) sum ∙ pow-add 2 (level % 8) (level / 8 * 8) ∙ ap (λ (x : ℕ). 2 ^ (level % 8) * x) (sym (pow_of_256 (level / 8)))
 
--- some hashes of a checked tile tell the hash of the entries under them, or there is a collision
-pub told_part : (H : List ℕ → List ℕ) → ((message : List ℕ) → HasHashLength (H message)) → (tiles : Tiles) (size : ℕ) (root : List ℕ) → AreChecked H tiles size root
+-- some hashes of a checked tile fold to the hash of the entries under them, or there is a collision
+pub part_right : (H : List ℕ → List ℕ) → ((message : List ℕ) → HasHashLength (H message)) → (tiles : Tiles) (size : ℕ) (root : List ℕ) → AreChecked H tiles size root
     → (entries : List (List ℕ)) → length entries ≡ size → tree_hash H entries ≡ root
     → (level place count : ℕ) (text hash : List ℕ) (strings : List (List ℕ)) → place % 256 + count ≤ 256 → (place + count) * 256 ^ level ≤ size
-    → tiles (tile_with size level place) ≡ Some text → KnownPart H text (place % 256) count hash strings
+    → tiles (tile_with size level place) ≡ Some text → IsPartHash H text (place % 256) count hash strings
     → (hash ≡ tree_hash H (segment (256 ^ level) place count entries)) ⊎ TilesCollide H tiles size entries
-told_part H wide tiles size root checked entries len is_root level place count text hash strings in_tile in_size fetched known =
+part_right H wide tiles size root checked entries len is_root level place count text hash strings in_tile in_size fetched folds =
     let u : ℕ = 256 ^ level in
     let index : ℕ = place / 256 in
     let start : ℕ = place % 256 in
@@ -178,9 +178,9 @@ told_part H wide tiles size root checked entries len is_root level place count t
     elim (cases_eq (length (take 32 (drop (32 * n) text))) 32) as (λ _. Right j ⊎ TilesCollide H tiles size entries) [
       | inr short ↦ inl (λ h is. absurd (short (ap length (sym is.bytes) ∙ is.whole)))
       | inl whole ↦
-          let told : List ℕ = take 32 (drop (32 * n) text) in
-          let is_here : IsHashAt text (here % 256) told = record { bytes = ap (λ (x : ℕ). take 32 (drop (32 * x) text)) (sym column); whole = whole } in
-          elim (told_place H wide tiles size root checked entries len is_root (level_count size level) level here text told (omega arith)
+          let hash_there : List ℕ = take 32 (drop (32 * n) text) in
+          let is_here : IsHashAt text (here % 256) hash_there = record { bytes = ap (λ (x : ℕ). take 32 (drop (32 * x) text)) (sym column); whole = whole } in
+          elim (place_right H wide tiles size root checked entries len is_root (level_count size level) level here text hash_there (omega arith)
           (omega (arith, places, place_is, less)) same_tile is_here) as (λ _. Right j ⊎ TilesCollide H tiles size entries) [
             | inr found ↦ inr found
             | inl right ↦ inl (λ h is. is.bytes ∙ right ∙ ap (tree_hash H) (sym (under_place level index n entries)))
@@ -192,7 +192,7 @@ told_part H wide tiles size root checked entries len is_root level place count t
           let product : (place + count) * u ≡ index * 256 * u + (start + count) * u = ap (λ (x : ℕ). (x + count) * u) (sym place_is) ∙ omega arith in
           let fits : (start + count) * u ≤ length rest = omega (arith, length-drop (index * 256 * u) entries, in_size, product, len) in
           let right : hash ≡ tree_hash H (segment u start count rest) =
-          fold_of_right H (IsOwnHash text) u (power_of_256 level) rest start count hash strings known fits
+          fold_of_right H (IsOwnHash text) u (power_of_256 level) rest start count hash strings folds fits
           (λ s c h low high is.
           let sum : start + (s - start) ≡ s = omega (arith, low) in
           all (s - start) (omega (arith, low, high, is.0)) h (subst (λ (x : ℕ). IsHashAt text x h) (sym sum) is.1)
@@ -200,8 +200,8 @@ told_part H wide tiles size root checked entries len is_root level place count t
           inl (right ∙ ap (tree_hash H) (segment-of_rest u start count (index * 256) entries ∙ ap (λ (x : ℕ). segment u x count entries) place_is))
     ]
 
-pub checked_tiles_tell_stored_hashes : CheckedTilesTellStoredHashes
-checked_tiles_tell_stored_hashes H wide tiles size root checked level place hash within tells entries len is_root =
+pub checked_tiles_have_stored_hashes : CheckedTilesHaveStoredHashes
+checked_tiles_have_stored_hashes H wide tiles size root checked level place hash within is_hash entries len is_root =
     let l : ℕ = level / 8 in
     let r : ℕ = level % 8 in
     let d : ℕ = 2 ^ r in
@@ -212,8 +212,8 @@ checked_tiles_tell_stored_hashes H wide tiles size root checked level place hash
     let end : (place + 1) * 2 ^ level ≡ (p + d) * u = ap (λ (x : ℕ). (place + 1) * x) height ∙ omega arith in
     let start : p * u ≡ place * 2 ^ level = omega arith ∙ ap (λ (x : ℕ). place * x) (sym height) in
     let stored = index_is_place H entries level place (omega (arith, within, len)) in
-    elim (told_part H wide tiles size root checked entries len is_root l p d tells.text hash tells.strings
-    (in_one_tile place d e.0 (pow_pos r) e.1) (omega (arith, within, end)) tells.fetched tells.known)
+    elim (part_right H wide tiles size root checked entries len is_root l p d is_hash.text hash is_hash.strings
+    (in_one_tile place d e.0 (pow_pos r) e.1) (omega (arith, within, end)) is_hash.fetched is_hash.folds)
     as (λ _. (hash ≡ stored_hash H entries (stored_index level place)) ⊎ TilesCollide H tiles size entries) [
       | inr found ↦ inr found
       | inl right ↦ inl (right ∙ (λ i. tree_hash H (take (sym height i) (drop (start i) entries))) ∙ sym stored.1)

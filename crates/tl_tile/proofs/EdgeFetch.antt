@@ -1,18 +1,16 @@
 -- Fetching the partial tiles, from the highest level down.
 use Rattle.std.proofs.Common.{◌≡◌, ℕ, suc, ◌*◌, ◌/◌, ◌^◌, ◌+◌, ◌%◌, ◌<◌, ◌≤◌, inl, inr, List, [], ◌∷◌, ◌++◌, length, None, refl, sym, ap, subst, ◌∙◌, arith}
-use Rattle.std.specs.Prelude.{◌≢◌}
 use Rattle.std.proofs.lemmas.Bool.{cases_eq, cases_lt}
 use Rattle.std.proofs.lemmas.List.{append-nil, map-append}
 use Rattle.tl_tile.specs.declared.resource.Tile.{Tile}
 use Rattle.tl_tile.specs.TileText.{level_count, full_tile, partial_tile}
-use Rattle.tl_tile.specs.Known.{KnownRoot}
-use Rattle.tl_tile.specs.KnownEdge.{IsEdgeLevel, HasEdge}
+use Rattle.tl_tile.specs.Folds.{IsEdgeRoot}
+use Rattle.tl_tile.specs.FetchedEdge.{IsEdgeLevel}
 use Rattle.tl_tile.specs.Fetched.{tiles_of, tiles_in}
 use Rattle.tl_tile.specs.Source.{AreLong}
 use Rattle.tl_tile.specs.Fetching.{edge_tiles}
 use Rattle.tl_tile.specs.Verified.{AreVerified}
 use Rattle.tl_tile.specs.Inner.Steps.{AreEdgeFrom, AddsOnly}
-use Rattle.tl_tile.specs.SourceFaults.{IsBadTile}
 use Rattle.std.proofs.Math.Nat.{pow-succ', div-mul-le_self}
 use Rattle.std.proofs.Math.Pow.{pow_mono}
 use Rattle.std.proofs.lemmas.Nat.{div-mul-add, le-div, mul-le, pow-add}
@@ -20,14 +18,6 @@ use Rattle.tl_tile.proofs.TileTexts.{pow_of_256}
 use Rattle.tl_tile.proofs.Edges.{positive_256}
 use Rattle.tl_tile.proofs.Push.{cases_option, tiles_of-old, tiles_of-cases, there-more}
 use Rattle.tl_tile.proofs.Orders.{edge-skipped, edge-next, edge-prefix}
-
-pub edge-none : (size : ℕ) (xs : List (Tile × List ℕ)) → xs ≡ [] → AreEdgeFrom size 8 xs
-edge-none size xs is = subst (AreEdgeFrom size 8) (sym is) (record {
-  tiles = refl;
-  long = λ t text found. absurd (cc);
-  partial = λ t text found. absurd (cc);
-  edge = λ l high low wide. absurd (omega (arith, high, low));
-})
 
 -- a level without a partial tile
 pub edge-skip : (size level : ℕ) (xs : List (Tile × List ℕ)) (tile : Tile) → level ≤ 7 → tile ≡ partial_tile size level → tile.width ≡ 0 → AreEdgeFrom size (level + 1) xs → AreEdgeFrom size level xs
@@ -95,31 +85,27 @@ edge-first size level xs ys tile low is some before (inr (text, pushed)) =
     edge-prefix size level ys (omega (arith, low))
     (ap tiles_in pushed ∙ map-append view xs ((tile, text) ∷ []) ∙ (λ i. before.tiles i ++ is i ∷ []) ∙ sym (edge-next size level low width))
 
--- all partial tiles, which tell the root
-pub edge-all : (H : List ℕ → List ℕ) (size : ℕ) (root known : List ℕ) (xs : List (Tile × List ℕ)) → AreEdgeFrom size 0 xs
-    → ((strings : List (List ℕ)) × KnownRoot H (tiles_of xs) size known strings) → known ≡ root → AreVerified H size root xs
-edge-all H size root known xs edge (strings, fold) same = record {
+-- all partial tiles, which fold to the root
+pub edge-all : (H : List ℕ → List ℕ) (size : ℕ) (root folded : List ℕ) (xs : List (Tile × List ℕ)) → AreEdgeFrom size 0 xs
+    → ((strings : List (List ℕ)) × IsEdgeRoot H (tiles_of xs) size folded strings) → folded ≡ root → AreVerified H size root xs
+edge-all H size root folded xs edge (strings, fold) same = record {
   first = ([], edge.tiles ∙ sym (append-nil (edge_tiles size)));
   long = edge.long;
   edge = λ l low wide. edge.edge l (omega arith) low wide;
   checked = record {
     strings = strings;
-    known = subst (λ (x : List ℕ). KnownRoot H (tiles_of xs) size x strings) same fold;
+    folds = subst (λ (x : List ℕ). IsEdgeRoot H (tiles_of xs) size x strings) same fold;
     full = λ l i text less found. absurd (omega (arith, (edge.partial (full_tile l i) text found).0));
   };
 }
 
-pub edge-has : (size : ℕ) (xs : List (Tile × List ℕ)) → AreEdgeFrom size 0 xs → HasEdge (tiles_of xs) size
-edge-has size xs edge l low wide = edge.edge l (omega arith) low wide
-
--- or which tell another root
-pub bad-edge : (H : List ℕ → List ℕ) (size : ℕ) (root known : List ℕ) (xs : List (Tile × List ℕ)) (tile : Tile) → AreEdgeFrom size 0 xs
-    → ((strings : List (List ℕ)) × KnownRoot H (tiles_of xs) size known strings) → known ≢ root
-    → tile ≡ partial_tile size tile.level → 0 < tile.width → ((level : ℕ) → tile.level < level → level_count size level % 256 ≡ 0) → IsBadTile H size root xs tile
-bad-edge H size root known xs tile edge (strings, fold) differ is wide highest = record {
-  of_log = inr (is, wide);
-  because = inr (inl (record { known = known; strings = strings; all = edge.tiles; partial = is; highest = highest; tells = fold; differ = differ }));
-}
+-- and no full tile
+pub edge-no_full : (size level : ℕ) (xs : List (Tile × List ℕ)) → AreEdgeFrom size level xs → (l index : ℕ) → tiles_of xs (full_tile l index) ≡ None
+edge-no_full size level xs edge l index =
+    elim (cases_option (tiles_of xs (full_tile l index))) as (λ _. tiles_of xs (full_tile l index) ≡ None) [
+      | inl none ↦ none
+      | inr (text, found) ↦ absurd (omega (arith, (edge.partial (full_tile l index) text found).0))
+    ]
 
 -- no level above the highest partial tile has a hash
 pub none_above : (size j level : ℕ) → size < 2 * 2 ^ j → j / 8 < level → level_count size level % 256 ≡ 0

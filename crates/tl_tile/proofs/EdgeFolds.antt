@@ -2,7 +2,7 @@
 -- and after them the hash of what the lower levels have.
 use Rattle.std.proofs.Common.{◌≡◌, ℕ, ◌+◌, ◌-◌, ◌*◌, ◌/◌, ◌%◌, ◌^◌, ◌<◌, ◌≤◌, List, [], ◌∷◌, ◌++◌, length, take, drop, Option, Some, None, refl, sym, ap, subst, ◌∙◌, arith}
 use Rattle.std.proofs.Math.Arith.{mod-mul}
-use Rattle.std.proofs.lemmas.Nat.{pow-add, mod_below, div-mul-add, mod-mul-add}
+use Rattle.std.proofs.lemmas.Nat.{pow-add, mod_below, mod-mul-add}
 use Rattle.std.proofs.lemmas.List.{drop-append-le, drop_at, take-append-le, length-drop, take_all}
 use Rattle.std.specs.Int.{IsPowerOfTwo}
 use Rattle.tl_hash.specs.Split.{IsSplit}
@@ -10,9 +10,9 @@ use Rattle.tl_hash.specs.Tree.{node_input}
 use Rattle.tl_hash.proofs.SplitLemmas.{IsSplit-positive}
 use Rattle.tl_tile.specs.declared.resource.Tile.{Tile}
 use Rattle.tl_tile.specs.TileText.{level_count, partial_tile}
-use Rattle.tl_tile.specs.Known.{Tiles, IsFold, nothing, given, split, IsHashAt, IsOnEdge, IsOwnHash, IsEdgeHash, KnownRoot}
-use Rattle.tl_tile.specs.KnownEdge.{IsEdgeLevel, HasEdge}
-use Rattle.tl_tile.specs.Inner.KnownEdge.{Joined, KnownBelow}
+use Rattle.tl_tile.specs.Folds.{Tiles, IsFold, nothing, given, split, IsHashAt, IsOnEdge, IsOwnHash, IsEdgeHash}
+use Rattle.tl_tile.specs.FetchedEdge.{IsEdgeLevel, HasEdge}
+use Rattle.tl_tile.specs.Inner.EdgeRoot.{Joined, IsRestHash}
 use Rattle.tl_tile.proofs.Segments.{IsSplit-scaled, power_of_256, scaled_le}
 use Rattle.tl_tile.proofs.Edges.{Some-injective, positive_256, nothing_above}
 use Rattle.tl_tile.proofs.Checked.{level_count-above}
@@ -42,7 +42,7 @@ own_is_edge tiles size level text at n h less is =
       counts = refl;
       on_edge = own_on_edge size level n less;
       fetched = at.fetched;
-      told = subst (λ (x : ℕ). IsHashAt text x h) (sym column) is;
+      there = subst (λ (x : ℕ). IsHashAt text x h) (sym column) is;
     }
 
 -- no hash of an edge is over more than one place of a partial tile
@@ -151,7 +151,7 @@ above-rest size level =
     ap (λ (x : ℕ). size % x) power ∙ mod-mul size (omega arith) (positive_256 level)
 
 -- a level without a partial tile
-pub below-none : (H : List ℕ → List ℕ) (tiles : Tiles) (size level : ℕ) (below : Option (List ℕ)) → wide_of size level ≡ 0 → KnownBelow H tiles size level below → KnownBelow H tiles size (level + 1) below
+pub below-none : (H : List ℕ → List ℕ) (tiles : Tiles) (size level : ℕ) (below : Option (List ℕ)) → wide_of size level ≡ 0 → IsRestHash H tiles size level below → IsRestHash H tiles size (level + 1) below
 below-none H tiles size level None none is =
     let product : wide_of size level * 256 ^ level ≡ 0 * 256 ^ level = ap (λ (x : ℕ). x * 256 ^ level) none in
     omega (arith, above-rest size level, product, is)
@@ -177,7 +177,7 @@ at_last text last w h long one is =
 
 -- a level with a partial tile
 pub below-joined : (H : List ℕ → List ℕ) (tiles : Tiles) (size level : ℕ) (text : List ℕ) (below : Option (List ℕ)) (hash : List ℕ) → IsEdgeLevel tiles size level text → 0 < wide_of size level
-    → KnownBelow H tiles size level below → Joined H text (wide_of size level) below hash → KnownBelow H tiles size (level + 1) (Some hash)
+    → IsRestHash H tiles size level below → Joined H text (wide_of size level) below hash → IsRestHash H tiles size (level + 1) (Some hash)
 below-joined H tiles size level text None hash at wide none (strings, part) =
     let u : ℕ = 256 ^ level in
     let one : 1 * u ≤ wide_of size level * u = scaled_le 1 (wide_of size level) u (omega (arith, wide)) in
@@ -200,22 +200,6 @@ below-joined H tiles size level text (Some last) hash at wide (some, below_strin
           (subst (λ (x : ℕ). IsFold H (IsEdgeHash tiles size) ((base size level + 0) * u) x hash fold.0) rest fold.1),
     )
 
--- at the level above all of them it is the root
-pub below-all : (H : List ℕ → List ℕ) (tiles : Tiles) (size level : ℕ) (hash : List ℕ) → size < 256 ^ level → KnownBelow H tiles size level (Some hash) → (strings : List (List ℕ)) × KnownRoot H tiles size hash strings
-below-all H tiles size level hash small (some, strings, fold) =
-    let u : ℕ = 256 ^ level in
-    let as_sum : size ≡ 0 * u + size = omega arith in
-    let none : level_count size level ≡ 0 = ap (λ (x : ℕ). x / u) as_sum ∙ div-mul-add 0 u size small in
-    let rest : size % u ≡ size = ap (λ (x : ℕ). x % u) as_sum ∙ mod-mul-add 0 u size small in
-    let start : level_count size level * u ≡ 0 = ap (λ (x : ℕ). x * u) none ∙ omega arith in (
-      strings,
-      subst (λ (x : ℕ). IsFold H (IsEdgeHash tiles size) x size hash strings) start
-          (subst (λ (x : ℕ). IsFold H (IsEdgeHash tiles size) (level_count size level * u) x hash strings) rest fold),
-    )
-
-pub below-first : (H : List ℕ → List ℕ) (tiles : Tiles) (size : ℕ) → KnownBelow H tiles size 0 None
-below-first H tiles size = omega arith
-
 -- what the code has of a level: its tile and text
 same_level_text : (tiles : Tiles) (size level : ℕ) → HasEdge tiles size → level < 8 → (tile : Tile) (text : List ℕ) → tile ≡ partial_tile size level → 0 < tile.width → tiles tile ≡ Some text → IsEdgeLevel tiles size level text
 same_level_text tiles size level edge low tile text is wide fetched =
@@ -223,25 +207,15 @@ same_level_text tiles size level edge low tile text is wide fetched =
     let same : here.0 ≡ text = Some-injective here.0 text (sym here.1.fetched ∙ ap tiles (sym is) ∙ fetched) in
     subst (IsEdgeLevel tiles size level) same here.1
 
-pub level_text-long : (tiles : Tiles) (size level : ℕ) → HasEdge tiles size → level < 8 → (tile : Tile) (text : List ℕ) → tile ≡ partial_tile size level → 0 < tile.width → tiles tile ≡ Some text → length text ≡ 32 * tile.width
-level_text-long tiles size level edge low tile text is wide fetched =
-    omega (arith, (same_level_text tiles size level edge low tile text is wide fetched).long, ap (λ (t : Tile). t.width) is)
-
 pub level_none : (H : List ℕ → List ℕ) (tiles : Tiles) (size level : ℕ) (below : Option (List ℕ)) (tile : Tile) → tile ≡ partial_tile size level → tile.width ≡ 0
-    → KnownBelow H tiles size level below → KnownBelow H tiles size (level + 1) below
-level_none H tiles size level below tile is none known = below-none H tiles size level below (sym (ap (λ (t : Tile). t.width) is) ∙ none) known
-
-pub level_missing : (tiles : Tiles) (size level : ℕ) → HasEdge tiles size → level < 8 → (tile : Tile) → tile ≡ partial_tile size level → 0 < tile.width → tiles tile ≡ None → ⊥
-level_missing tiles size level edge low tile is wide missing =
-    let here = edge level low (omega (arith, wide, ap (λ (t : Tile). t.width) is)) in
-    let both : Some here.0 ≡ None = sym here.1.fetched ∙ ap tiles (sym is) ∙ missing in
-    absurd (cc)
+    → IsRestHash H tiles size level below → IsRestHash H tiles size (level + 1) below
+level_none H tiles size level below tile is none folds = below-none H tiles size level below (sym (ap (λ (t : Tile). t.width) is) ∙ none) folds
 
 pub level_joined : (H : List ℕ → List ℕ) (tiles : Tiles) (size level : ℕ) → HasEdge tiles size → level < 8 → (tile : Tile) (text : List ℕ) (below : Option (List ℕ)) (hash : List ℕ) → tile ≡ partial_tile size level → 0 < tile.width → tiles tile ≡ Some text
-    → KnownBelow H tiles size level below → Joined H text tile.width below hash → KnownBelow H tiles size (level + 1) (Some hash)
-level_joined H tiles size level edge low tile text below hash is wide fetched known joined =
+    → IsRestHash H tiles size level below → Joined H text tile.width below hash → IsRestHash H tiles size (level + 1) (Some hash)
+level_joined H tiles size level edge low tile text below hash is wide fetched folds joined =
     let width : tile.width ≡ wide_of size level = ap (λ (t : Tile). t.width) is in
-    below-joined H tiles size level text below hash (same_level_text tiles size level edge low tile text is wide fetched) (omega (arith, width, wide)) known
+    below-joined H tiles size level text below hash (same_level_text tiles size level edge low tile text is wide fetched) (omega (arith, width, wide)) folds
     (subst (λ (w : ℕ). Joined H text w below hash) width joined)
 
 -- the partial tile by shifts

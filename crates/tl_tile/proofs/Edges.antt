@@ -1,4 +1,4 @@
--- What the partial tiles tell, once they tell the root.
+-- The hashes of the partial tiles are right, once they fold to the root.
 use Rattle.std.proofs.Common.{◌≡◌, ℕ, suc, ◌+◌, ◌-◌, ◌*◌, ◌/◌, ◌%◌, ◌^◌, ◌<◌, ◌≤◌, ◌⊎◌, inl, inr, List, length, take, drop, Some, Contains, refl, sym, ap, subst, ◌∙◌, arith}
 use Rattle.std.specs.Prelude.{unwrap_or}
 use Rattle.std.proofs.Math.Nat.{pow-succ', div-mul-le_self}
@@ -8,7 +8,7 @@ use Rattle.tl_hash.specs.Tree.{tree_hash, inputs}
 use Rattle.tl_tile.proofs.Segments.{HasHashLength}
 use Rattle.tl_hash.proofs.SameSize.{Collision}
 use Rattle.tl_tile.specs.TileText.{level_count, entries_under, partial_tile}
-use Rattle.tl_tile.specs.Known.{Tiles, IsHashAt, IsOnEdge, IsEdgeHash, KnownRoot, IsFolded, TilesCollide}
+use Rattle.tl_tile.specs.Folds.{Tiles, IsHashAt, IsOnEdge, IsEdgeHash, IsEdgeRoot, IsFolded, TilesCollide}
 use Rattle.tl_tile.proofs.Segments.{segment, power_of_256, scaled_le, segment-all}
 pub use Rattle.tl_tile.proofs.Levels.{positive_256}
 use Rattle.tl_tile.proofs.Walks.{IsTarget, walk}
@@ -81,21 +81,21 @@ nothing_above size level place other place_above on_edge more there covers =
     ]
 
 -- a hash of a partial tile is a place that the walk from the root can go to
-pub edge_target : (tiles : Tiles) (size level place : ℕ) (text told : List ℕ) → IsOnEdge size level place → tiles (partial_tile size level) ≡ Some text → IsHashAt text (place % 256) told
-    → IsTarget (IsEdgeHash tiles size) (place * 256 ^ level) (256 ^ level) told
-edge_target tiles size level place text told on_edge fetched is = record {
+pub edge_target : (tiles : Tiles) (size level place : ℕ) (text hash_there : List ℕ) → IsOnEdge size level place → tiles (partial_tile size level) ≡ Some text → IsHashAt text (place % 256) hash_there
+    → IsTarget (IsEdgeHash tiles size) (place * 256 ^ level) (256 ^ level) hash_there
+edge_target tiles size level place text hash_there on_edge fetched is = record {
   power = power_of_256 level;
-  is_given = record { level = level; place = place; text = text; starts = refl; counts = refl; on_edge = on_edge; fetched = fetched; told = is };
+  is_given = record { level = level; place = place; text = text; starts = refl; counts = refl; on_edge = on_edge; fetched = fetched; there = is };
   only = λ h other.
       let level_same : other.level ≡ level = same_level other.level level (sym other.counts) in
       let starts : place * 256 ^ level ≡ other.place * 256 ^ level = other.starts ∙ ap (λ (x : ℕ). other.place * 256 ^ x) level_same in
       let place_same : other.place ≡ place = sym (same_factor place other.place (256 ^ level) (positive_256 level) starts) in
       let text_same : other.text ≡ text = Some-injective other.text text (sym other.fetched ∙ ap (λ (x : ℕ). tiles (partial_tile size x)) level_same ∙ fetched) in
-      other.told.bytes ∙ (λ i. take 32 (drop (32 * (place_same i % 256)) (text_same i))) ∙ sym is.bytes;
+      other.there.bytes ∙ (λ i. take 32 (drop (32 * (place_same i % 256)) (text_same i))) ∙ sym is.bytes;
   clear = λ s c h more low high other.
       nothing_above size level place other.level other.place on_edge (omega (arith, more, other.counts)) other.on_edge.1
       (omega (arith, high, other.starts, other.counts));
-  widths = λ s c h other. other.told.whole;
+  widths = λ s c h other. other.there.whole;
 }
 
 -- a collision of a fold with a list is one of the tiles with it
@@ -111,22 +111,22 @@ tiles_collide H tiles size entries part strings folded among (x, y, found) = rec
   same_digest = sym found.same_digest;
 }
 
-pub edge_told : (H : List ℕ → List ℕ) → ((message : List ℕ) → HasHashLength (H message)) → (tiles : Tiles) (size : ℕ) (root : List ℕ) (strings : List (List ℕ)) → KnownRoot H tiles size root strings
+pub edge_right : (H : List ℕ → List ℕ) → ((message : List ℕ) → HasHashLength (H message)) → (tiles : Tiles) (size : ℕ) (root : List ℕ) (strings : List (List ℕ)) → IsEdgeRoot H tiles size root strings
     → (entries : List (List ℕ)) → length entries ≡ size → tree_hash H entries ≡ root
-    → (level place : ℕ) (text told : List ℕ) → IsOnEdge size level place → tiles (partial_tile size level) ≡ Some text → IsHashAt text (place % 256) told
-    → (told ≡ tree_hash H (entries_under level place entries)) ⊎ TilesCollide H tiles size entries
-edge_told H wide tiles size root strings known entries len is_root level place text told on_edge fetched is =
+    → (level place : ℕ) (text hash_there : List ℕ) → IsOnEdge size level place → tiles (partial_tile size level) ≡ Some text → IsHashAt text (place % 256) hash_there
+    → (hash_there ≡ tree_hash H (entries_under level place entries)) ⊎ TilesCollide H tiles size entries
+edge_right H wide tiles size root strings folds entries len is_root level place text hash_there on_edge fetched is =
     let u : ℕ = 256 ^ level in
     let all : segment 1 0 size entries ≡ entries = segment-all 1 size entries (omega (arith, len)) in
     let within : (place + 1) * u ≤ size = under_within size level place on_edge.1 in
     let here : segment 1 (place * u) u entries ≡ entries_under level place entries =
     (let a : u * 1 ≡ u = omega arith in let b : place * u * 1 ≡ place * u = omega arith in λ i. take (a i) (drop (b i) entries)) in
-    elim (walk H (IsEdgeHash tiles size) wide 1 (0, refl) entries (place * u) u told (edge_target tiles size level place text told on_edge fetched is)
-    0 size root strings known (omega (arith, len)) (sym is_root ∙ ap (tree_hash H) (sym all)) place (omega arith) (omega (arith, within)))
-    as (λ _. (told ≡ tree_hash H (entries_under level place entries)) ⊎ TilesCollide H tiles size entries) [
+    elim (walk H (IsEdgeHash tiles size) wide 1 (0, refl) entries (place * u) u hash_there (edge_target tiles size level place text hash_there on_edge fetched is)
+    0 size root strings folds (omega (arith, len)) (sym is_root ∙ ap (tree_hash H) (sym all)) place (omega arith) (omega (arith, within)))
+    as (λ _. (hash_there ≡ tree_hash H (entries_under level place entries)) ⊎ TilesCollide H tiles size entries) [
       | inl same ↦ inl (same ∙ ap (tree_hash H) here)
       | inr found ↦ inr (tiles_collide H tiles size entries (segment 1 0 size entries) strings
-          (λ x among. inl (root, strings, known, among))
+          (λ x among. inl (root, strings, folds, among))
           (λ x among. subst (λ (list : List (List ℕ)). Contains (inputs H list) x) all among)
           found)
     ]

@@ -11,6 +11,7 @@ use Rattle.tl_tile.specs.RightEdge.{filled_levels, hashes_below, count_below}
 use Rattle.tl_tile.specs.Inner.PartialHashes.{hash_at, partial_hashes}
 use Rattle.tl_tile.proofs.TileTexts.{scaled_le}
 use Rattle.tl_tile.proofs.Levels.{power_of_256, positive_256, next_power, base, wide_of, level_parts, rest_small, base_parts, above_rest, Folds}
+use Rattle.tl_tile.proofs.Runs.{run_of}
 use Rattle.tl_tile.proofs.Below.{length-below, places_text}
 
 -- ---- places of one level, before and after
@@ -264,7 +265,7 @@ fold_step H entries entry size level count below hash result sized filled whole 
     let stop_u : (p + length below + 1) * u ≡ count * u = ap (λ (x : ℕ). x * u) stop in
     let parts : (p + length below + 1) * u ≡ (p + length below) * u + u = omega arith in
     let width : u ≡ size - (p + length below) * u = omega (arith, stop_u, parts, filled.scaled) in
-    let told = folds after u p size (record {
+    let folded = folds after (run_of u p size) (record {
       power = power_of_256 level;
       within = omega (arith, length_more entries entry, sized);
       some = omega (arith, stop_u, parts, filled.scaled, positive);
@@ -276,7 +277,7 @@ fold_step H entries entry size level count below hash result sized filled whole 
     let from : p * u ≡ (count / 256 - 1) * 256 ^ (level + 1) = omega arith ∙ ap (λ (x : ℕ). (count / 256 - 1) * x) (sym power) in
     let spread : (p + length below + 1) * u ≡ p * u + 256 * u = (let e : p + length below + 1 ≡ p + 256 = omega (arith, wide) in ap (λ (x : ℕ). x * u) e ∙ omega arith) in
     let count_u : size - p * u ≡ 256 ^ (level + 1) = omega (arith, spread, stop_u, filled.scaled, power) in
-    told ∙ (λ i. tree_hash H (take (count_u i) (drop (from i) after)))
+    folded ∙ (λ i. tree_hash H (take (count_u i) (drop (from i) after)))
 
 pub text_step : (H : List ℕ → List ℕ) (entries : List (List ℕ)) (entry : List ℕ) (size level count : ℕ) (below : List (List ℕ)) (hash bytes : List ℕ) → length entries + 1 ≡ size → IsFilled size level count → count % 256 ≡ 0
     → below ≡ partial_hashes H entries level → hash ≡ hash_at H (entries ++ entry ∷ []) level (count - 1) → bytes ≡ flat_map (λ hash. hash) (below ++ hash ∷ [])

@@ -1,4 +1,4 @@
--- What honest tiles tell, and that tiles tell one hash.
+-- What honest tiles fold to, and that tiles fold to one hash.
 use Rattle.std.proofs.Common.{◌≡◌, ℕ, zero, suc, ◌+◌, ◌*◌, ◌/◌, ◌%◌, ◌^◌, ◌<◌, ◌≤◌, inl, inr, List, ◌++◌, length, take, drop, Some, refl, sym, ap, subst, ◌∙◌, arith}
 use Rattle.std.specs.List.{flat_map, range_with_len}
 use Rattle.std.proofs.lemmas.Nat.{pow-add}
@@ -9,8 +9,8 @@ use Rattle.tl_hash.proofs.TreeLemmas.{length-tree_hash}
 use Rattle.tl_tile.proofs.Segments.{HasHashLength}
 use Rattle.tl_tile.specs.declared.resource.Tile.{Tile}
 use Rattle.tl_tile.specs.TileText.{level_count, entries_under, tile_text, full_tile, partial_tile, tile_with}
-use Rattle.tl_tile.specs.Known.{Tiles, IsHashAt, IsEdgeHash, IsOwnHash, KnownTile}
-use Rattle.tl_tile.specs.TileLaws.{AreHonest, HonestTilesTellRoot, HonestTilesTellAbove, KnownHashesAreOne}
+use Rattle.tl_tile.specs.Folds.{Tiles, IsHashAt, IsEdgeHash, IsOwnHash, IsTileHash}
+use Rattle.tl_tile.specs.TileLaws.{AreHonest, HonestTilesFoldToRoot, HonestTilesFoldToAbove, FoldedHashesAreOne}
 use Rattle.tl_tile.proofs.Segments.{segment, segment-all, power_of_256}
 use Rattle.tl_tile.proofs.Walks.{fold_of_right, IsFold-unique}
 use Rattle.tl_tile.proofs.Edges.{IsHashAt-one, edge_target, under_within}
@@ -67,26 +67,26 @@ honest_place H wide tiles entries honest level place text hash less fetched is =
           ∙ ap (λ (x : ℕ). tree_hash H (entries_under level x entries)) place_is
     ]
 
-pub honest_tiles_tell_root : HonestTilesTellRoot
-honest_tiles_tell_root H wide tiles entries honest root strings known =
+pub honest_tiles_fold_to_root : HonestTilesFoldToRoot
+honest_tiles_fold_to_root H wide tiles entries honest root strings folds =
     let size : ℕ = length entries in
     let all : segment 1 0 size entries ≡ entries = segment-all 1 size entries (omega arith) in
-    fold_of_right H (IsEdgeHash tiles size) 1 (0, refl) entries 0 size root strings known (omega arith)
+    fold_of_right H (IsEdgeHash tiles size) 1 (0, refl) entries 0 size root strings folds (omega arith)
     (λ s c h low high edge.
     let more : level_count size edge.level / 256 ≤ edge.place / 256 = omega (arith, edge.on_edge.0) in
     let count : c * 1 ≡ 256 ^ edge.level = omega (arith, edge.counts) in
     let start : s * 1 ≡ edge.place * 256 ^ edge.level = omega (arith, edge.starts) in
     honest_place H wide tiles entries honest edge.level edge.place edge.text h edge.on_edge.1
-    (ap tiles (tile_with-partial size edge.level edge.place more) ∙ edge.fetched) edge.told
+    (ap tiles (tile_with-partial size edge.level edge.place more) ∙ edge.fetched) edge.there
     ∙ (λ i. tree_hash H (take (sym count i) (drop (sym start i) entries))))
     ∙ ap (tree_hash H) all
 
-pub text_tells_above : (H : List ℕ → List ℕ) → ((message : List ℕ) → HasHashLength (H message)) → (tiles : Tiles) (entries : List (List ℕ)) → AreHonest H tiles entries
+pub text_folds_to_above : (H : List ℕ → List ℕ) → ((message : List ℕ) → HasHashLength (H message)) → (tiles : Tiles) (entries : List (List ℕ)) → AreHonest H tiles entries
     → (level index : ℕ) (text hash : List ℕ) (strings : List (List ℕ)) → index < level_count (length entries) (level + 1)
-    → text ≡ tile_text H (full_tile level index) entries → KnownTile H text hash strings
+    → text ≡ tile_text H (full_tile level index) entries → IsTileHash H text hash strings
     → (above own : List ℕ) → tiles (tile_with (length entries) (level + 1) index) ≡ Some above → IsHashAt above (index % 256) own
     → hash ≡ own
-text_tells_above H wide tiles entries honest level index text hash strings less text_is known above own fetched_above is =
+text_folds_to_above H wide tiles entries honest level index text hash strings less text_is folds above own fetched_above is =
     let size : ℕ = length entries in
     let u : ℕ = 256 ^ level in
     let rest : List (List ℕ) = drop (index * 256 * u) entries in
@@ -95,7 +95,7 @@ text_tells_above H wide tiles entries honest level index text hash strings less 
     let within : (index + 1) * 256 ^ (level + 1) ≤ size = under_within size (level + 1) index less in
     let fits : (0 + 256) * u ≤ length rest = omega (arith, within, end, length-drop (index * 256 * u) entries) in
     let right : hash ≡ tree_hash H (segment u 0 256 rest) =
-    fold_of_right H (IsOwnHash text) u (power_of_256 level) rest 0 256 hash strings known fits
+    fold_of_right H (IsOwnHash text) u (power_of_256 level) rest 0 256 hash strings folds fits
     (λ s c h low high is_own.
     let small : s < 256 = omega (arith, high, is_own.0) in
     hash_of_text H wide (full_tile level index) entries s h small (subst (λ (bytes : List ℕ). IsHashAt bytes s h) text_is is_own.1)
@@ -105,18 +105,18 @@ text_tells_above H wide tiles entries honest level index text hash strings less 
     ∙ ap (tree_hash H) (sym (under_tile level index entries))
     ∙ sym (honest_place H wide tiles entries honest (level + 1) index above own less fetched_above is)
 
-pub honest_tiles_tell_above : HonestTilesTellAbove
-honest_tiles_tell_above H wide tiles entries honest level index text hash strings less fetched known =
-    text_tells_above H wide tiles entries honest level index text hash strings less (honest (full_tile level index) text fetched) known
+pub honest_tiles_fold_to_above : HonestTilesFoldToAbove
+honest_tiles_fold_to_above H wide tiles entries honest level index text hash strings less fetched folds =
+    text_folds_to_above H wide tiles entries honest level index text hash strings less (honest (full_tile level index) text fetched) folds
 
 -- one hash of a partial tile over some entries
 edge_one : (tiles : Tiles) (size s c : ℕ) (h g : List ℕ) → IsEdgeHash tiles size s c h → IsEdgeHash tiles size s c g → h ≡ g
 edge_one tiles size s c h g one two =
-    let target = edge_target tiles size one.level one.place one.text h one.on_edge one.fetched one.told in
+    let target = edge_target tiles size one.level one.place one.text h one.on_edge one.fetched one.there in
     sym (target.only g (subst (λ (x : ℕ). IsEdgeHash tiles size (one.place * 256 ^ one.level) x g) one.counts (subst (λ (x : ℕ). IsEdgeHash tiles size x c g) one.starts two)))
 
-pub known_hashes_are_one : KnownHashesAreOne
-known_hashes_are_one H tiles size text hash other strings others = (
-  λ known known_too. IsFold-unique H (IsEdgeHash tiles size) (edge_one tiles size) 0 size hash strings known other others known_too,
-  λ known known_too. IsFold-unique H (IsOwnHash text) (λ s c h g one two. IsHashAt-one text s h g one.1 two.1) 0 256 hash strings known other others known_too,
+pub folded_hashes_are_one : FoldedHashesAreOne
+folded_hashes_are_one H tiles size text hash other strings others = (
+  λ folds folds_too. IsFold-unique H (IsEdgeHash tiles size) (edge_one tiles size) 0 size hash strings folds other others folds_too,
+  λ folds folds_too. IsFold-unique H (IsOwnHash text) (λ s c h g one two. IsHashAt-one text s h g one.1 two.1) 0 256 hash strings folds other others folds_too,
 )

@@ -17,7 +17,7 @@ use Rattle.tl_tile.specs.SourceFaults.{IsBadTile, HonestSourceIsRead}
 use Rattle.tl_tile.specs.Source.{IsTileOf, Answers}
 use Rattle.tl_tile.proofs.Edges.{Some-injective}
 use Rattle.tl_tile.proofs.Push.{same_tile-is}
-use Rattle.tl_tile.proofs.Honest.{honest_tiles_tell_root, text_tells_above}
+use Rattle.tl_tile.proofs.Honest.{honest_tiles_fold_to_root, text_folds_to_above}
 
 length-pieces : (f : ℕ → List ℕ) → ((i : ℕ) → length (f i) ≡ 32) → (a n : ℕ) → length (flat_map f (range_with_len a n)) ≡ 32 * n
 length-pieces f wide a zero = refl
@@ -63,12 +63,12 @@ not-bad may_answer H wide entries honest xs answers t bad =
       | inl (text, last, differ) ↦
           let answer = last-answer P xs last.0 (t, text) answers last.1 in
           differ (ap length (honest t text answer.0 answer.1) ∙ length-tile_text H wide t entries)
-      | inr (inl edge) ↦ edge.differ (honest_tiles_tell_root H wide (tiles_of xs) entries all edge.known edge.strings edge.tells)
+      | inr (inl edge) ↦ edge.differ (honest_tiles_fold_to_root H wide (tiles_of xs) entries all edge.other edge.strings edge.folds)
       | inr (inr full) ↦
           let answer = last-answer P xs full.last.0 (t, full.text) answers full.last.1 in
           let text_is : full.text ≡ tile_text H t entries = honest t full.text answer.0 answer.1 in
-          full.differ (sym (text_tells_above H wide (tiles_of xs) entries all t.level t.index full.text full.hash full.strings full.below
-          (text_is ∙ ap (λ (u : Tile). tile_text H u entries) full.full) full.tells full.above.0 full.own full.above.1 full.above.2))
+          full.differ (sym (text_folds_to_above H wide (tiles_of xs) entries all t.level t.index full.text full.hash full.strings full.below
+          (text_is ∙ ap (λ (u : Tile). tile_text H u entries) full.full) full.folds full.above.0 full.own full.above.1 full.above.2))
     ]
 
 pub honest_source_is_read : (may_answer : Tile → List ℕ → Type 0) (may_lack : Tile → Type 0) → HonestSourceIsRead may_answer may_lack

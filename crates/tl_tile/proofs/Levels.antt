@@ -8,11 +8,11 @@ use Rattle.std.proofs.lemmas.Nat.{pow-add, pow_pos, mod_below, div-add-mod'}
 use Rattle.std.proofs.lemmas.List.FromFn.{length-map-range_with_len}
 use Rattle.tl_hash.specs.Tree.{tree_hash}
 use Rattle.tl_tile.specs.TileText.{level_count}
-use Rattle.tl_tile.specs.Run.{part, place_hash, IsRun}
+use Rattle.tl_tile.specs.Run.{part, place_hash, Run, IsRun}
 use Rattle.tl_tile.specs.Inner.Rest.{IsRest}
 use Rattle.tl_tile.specs.Inner.PartialHashes.{hash_at, partial_hashes}
 use Rattle.tl_tile.proofs.NeededLemmas.{next_count}
-use Rattle.tl_tile.proofs.Runs.{run-places}
+use Rattle.tl_tile.proofs.Runs.{run_of, run-places}
 
 -- 256 ^ level is a power of two
 pub power_of_256 : (level : ℕ) → IsPowerOfTwo (256 ^ level)
@@ -67,7 +67,7 @@ partial-run H entries level hashes are =
 -- what the code's fold says of its result
 abbrev pub Folds : (List ℕ → List ℕ) → List (List ℕ) → List ℕ → List ℕ → Type 0
 Folds H hashes last result =
-    (entries : List (List ℕ)) (width place end : ℕ) → IsRun H entries width place end hashes last → result ≡ tree_hash H (part (place * width) end entries)
+    (entries : List (List ℕ)) (run : Run) → IsRun H entries run hashes last → result ≡ tree_hash H (part (run.place * run.width) run.end entries)
 
 -- with a hash below
 pub rest-joined : (H : List ℕ → List ℕ) (entries : List (List ℕ)) (level : ℕ) (hashes : List (List ℕ)) (last result : List ℕ) → hashes ≡ partial_hashes H entries level
@@ -80,7 +80,7 @@ rest-joined H entries level hashes last result are (some, last_is) folds =
     let start : (base n level + length hashes) * u ≡ level_count n level * u = ap (λ (x : ℕ). x * u) at in
     let stop : (base n level + length hashes + 1) * u ≡ level_count n level * u + u = ap (λ (x : ℕ). (x + 1) * u) at ∙ omega arith in
     let parts = level_parts n level in
-    let whole = folds entries u (base n level) n (record {
+    let whole = folds entries (run_of u (base n level) n) (record {
       power = power_of_256 level;
       within = omega arith;
       some = omega (arith, start, parts, some);
@@ -104,8 +104,8 @@ rest-first H entries level hashes first own result are wide first_is own_is none
     let at : base n level + k ≡ level_count n level = omega (arith, base_parts n level, count) in
     let stop : (base n level + k) * u ≡ n = ap (λ (x : ℕ). x * u) at ∙ omega (arith, level_parts n level, none) in
     let run = run-places H entries u (base n level) k hashes own (power_of_256 level) wide (omega arith) (omega (arith, stop)) (partial-run H entries level hashes are) own_is in
-    let run_first : IsRun H entries u (base n level) ((base n level + k) * u) first own = subst (λ (xs : List (List ℕ)). IsRun H entries u (base n level) ((base n level + k) * u) xs own) (sym first_is) run in
-    let whole = folds entries u (base n level) ((base n level + k) * u) run_first in
+    let run_first : IsRun H entries (run_of u (base n level) ((base n level + k) * u)) first own = subst (λ (xs : List (List ℕ)). IsRun H entries (run_of u (base n level) ((base n level + k) * u)) xs own) (sym first_is) run in
+    let whole = folds entries (run_of u (base n level) ((base n level + k) * u)) run_first in
     let one : 1 ≤ k = omega (arith, wide) in
     let product : k * u ≡ wide_of n level * u = ap (λ (x : ℕ). x * u) count in
     let less : k ≡ 1 + (k - 1) = omega (arith, wide) in

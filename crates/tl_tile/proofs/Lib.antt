@@ -27,3 +27,6 @@ pub mod HonestSource
 pub mod Numbers
 pub mod Readers
 pub mod HonestHashes
+pub mod TileTrees
+pub mod TreeKeys
+pub mod TreeReads

@@ -9,7 +9,7 @@ use Rattle.std.proofs.lemmas.List.{append-nil, map-append, get_or_default}
 use Rattle.std.proofs.lemmas.List.Elements.{All-nil, All-push, All-append, All-head, All-tail, All-cons, filter-append}
 use Rattle.tl_store.specs.Stored.{stored_index}
 use Rattle.tl_tile.specs.declared.resource.Tile.{Tile}
-use Rattle.tl_tile.specs.declared.place.Place.{Place}
+use Rattle.tl_tile.specs.declared.tile_reader.subtree.Subtree.{Subtree}
 use Rattle.tl_tile.specs.TileText.{level_count, full_tile, partial_tile}
 use Rattle.tl_tile.specs.Fetched.{same_tile, tiles_of, tiles_in}
 use Rattle.tl_tile.specs.Source.{IsTileOf, Answers}
@@ -18,7 +18,7 @@ use Rattle.tl_store.specs.declared.reader.ReadFault.TheVariants.{OutOfRange, Sou
 use Rattle.tl_tile.specs.Fetching.{IsOver, IsPartialOf, IsNeededFor, edge_from, edge_tiles}
 use Rattle.tl_tile.specs.Verified.{IsNextPartial, ComesNext, AreNext}
 use Rattle.tl_tile.specs.Inner.Steps.{AreFetched, AddsOnly, AddsOver}
-use Rattle.tl_tile.specs.SourceFaults.{IsBadTile, IsLacking, GivesReadFault}
+use Rattle.tl_tile.specs.SourceFaults.{IsBadTile, GivesReadFault}
 use Rattle.tl_tile.proofs.Push.{same_tile-is}
 
 -- ---- one tile more
@@ -36,19 +36,10 @@ fetched-push may_answer H size root old new tile text before of next pushed answ
       order = next-push H size root [] old (tile, text) before.order next;
     })
 
-pub fetched-none : (may_answer : Tile → List ℕ → Type 0) (H : List ℕ → List ℕ) (size : ℕ) (root : List ℕ) (xs : List (Tile × List ℕ)) → xs ≡ [] → AreFetched may_answer H size root xs
-fetched-none may_answer H size root xs none = subst (AreFetched may_answer H size root) (sym none) (record { answers = All-nil (λ (f : Tile × List ℕ). Answers may_answer size f.0 f.1); order = tt })
-
 -- a new text of another length
 pub bad-length : (H : List ℕ → List ℕ) (size : ℕ) (root : List ℕ) (old new : List (Tile × List ℕ)) (tile : Tile) (text : List ℕ) → IsTileOf size tile
     → new ≡ old ++ (tile, text) ∷ [] → length text ≢ 32 * tile.width → IsBadTile H size root new tile
 bad-length H size root old new tile text of pushed differ = record { of_log = of; because = inl (text, (old, pushed), differ) }
-
--- a tile that the source lacks
-pub lacking : (H : List ℕ → List ℕ) (may_lack : Tile → Type 0) (size : ℕ) (root : List ℕ) (old new : List (Tile × List ℕ)) (tile : Tile) → IsTileOf size tile → ComesNext H size root old tile
-    → new ≡ old → may_lack tile → IsLacking H may_lack size root new tile
-lacking H may_lack size root old new tile of next same lacks =
-    subst (λ (list : List (Tile × List ℕ)). IsLacking H may_lack size root list tile) (sym same) (record { lacks = lacks; of_log = of; next = next })
 
 -- a fault where more tiles may be lacking
 pub fault-weaker : (H : List ℕ → List ℕ) (few many : Tile → Type 0) (size : ℕ) (root : List ℕ) (fetched : List (Tile × List ℕ)) (fault : ReadFault) → ((t : Tile) → few t → many t)
@@ -137,19 +128,19 @@ needed-edge size indexes xs some (rest, are) =
     needed-each size indexes xs some all
 
 -- the tiles over a number's subtree are needed
-pub over-needed : (size i : ℕ) (indexes : List ℕ) (p : Place) (t : Tile) → i < length indexes → stored_index p.level p.place ≡ get_or indexes i 0 → IsOver (p.level / 8) (p.place * 2 ^ (p.level % 8)) t → IsNeededFor size indexes t
+pub over-needed : (size i : ℕ) (indexes : List ℕ) (p : Subtree) (t : Tile) → i < length indexes → stored_index p.level p.place ≡ get_or indexes i 0 → IsOver (p.level / 8) (p.place * 2 ^ (p.level % 8)) t → IsNeededFor size indexes t
 over-needed size i indexes p t less number over =
     let index : ℕ = get_or indexes i 0 in
-    inr (i, index, less, get_or_default indexes i index 0 less, record { place = p; number = number; over = over })
+    inr (i, index, less, get_or_default indexes i index 0 less, record { subtree = p; number = number; over = over })
 
-overs-needed : (size i : ℕ) (indexes : List ℕ) (p : Place) (xs : List (Tile × List ℕ)) → i < length indexes → stored_index p.level p.place ≡ get_or indexes i 0
+overs-needed : (size i : ℕ) (indexes : List ℕ) (p : Subtree) (xs : List (Tile × List ℕ)) → i < length indexes → stored_index p.level p.place ≡ get_or indexes i 0
     → All (λ f. IsOver (p.level / 8) (p.place * 2 ^ (p.level % 8)) f.0) xs → All (λ f. IsNeededFor size indexes f.0) xs
 overs-needed size i indexes p [] less number all = All-nil (λ (f : Tile × List ℕ). IsNeededFor size indexes f.0)
 overs-needed size i indexes p (f ∷ xs) less number all =
     let P : Tile × List ℕ → Type 0 = λ x. IsOver (p.level / 8) (p.place * 2 ^ (p.level % 8)) x.0 in
     All-cons (λ (x : Tile × List ℕ). IsNeededFor size indexes x.0) f xs (over-needed size i indexes p f.0 less number (All-head P f xs all)) (overs-needed size i indexes p xs less number (All-tail P f xs all))
 
-pub needed-more : (size i : ℕ) (indexes : List ℕ) (p : Place) (old new : List (Tile × List ℕ)) → i < length indexes → stored_index p.level p.place ≡ get_or indexes i 0
+pub needed-more : (size i : ℕ) (indexes : List ℕ) (p : Subtree) (old new : List (Tile × List ℕ)) → i < length indexes → stored_index p.level p.place ≡ get_or indexes i 0
     → AddsOver (p.level / 8) (p.place * 2 ^ (p.level % 8)) old new → All (λ f. IsNeededFor size indexes f.0) old → All (λ f. IsNeededFor size indexes f.0) new
 needed-more size i indexes p old new less number adds before =
     let P : Tile × List ℕ → Type 0 = λ f. IsNeededFor size indexes f.0 in
@@ -175,9 +166,6 @@ overs-up level place [] all = All-nil (λ (f : Tile × List ℕ). IsOver level p
 overs-up level place (f ∷ xs) all =
     let P : Tile × List ℕ → Type 0 = λ x. IsOver (level + 1) (place / 256) x.0 in
     All-cons (λ (x : Tile × List ℕ). IsOver level place x.0) f xs (over-up level place f.0 (All-head P f xs all)) (overs-up level place xs (All-tail P f xs all))
-
-pub adds-none : (level place : ℕ) (xs : List (Tile × List ℕ)) → AddsOver level place xs xs
-adds-none level place xs = record { added = []; joined = sym (append-nil xs); over = All-nil (λ (f : Tile × List ℕ). IsOver level place f.0) }
 
 pub adds-up : (level place : ℕ) (old new : List (Tile × List ℕ)) → AddsOver (level + 1) (place / 256) old new → AddsOver level place old new
 adds-up level place old new adds = record { added = adds.added; joined = adds.joined; over = overs-up level place adds.added adds.over }
@@ -207,7 +195,7 @@ none-among level place t (f ∷ xs) low all =
       | inr differ ↦ rw differ (none-among level place t xs low (All-tail P f xs all))
     ]
 
-none-append : (xs ys : List (Tile × List ℕ)) (t : Tile) → tiles_of xs t ≡ None → tiles_of ys t ≡ None → tiles_of (xs ++ ys) t ≡ None
+pub none-append : (xs ys : List (Tile × List ℕ)) (t : Tile) → tiles_of xs t ≡ None → tiles_of ys t ≡ None → tiles_of (xs ++ ys) t ≡ None
 none-append [] ys t none more = more
 none-append (x ∷ xs) ys t none more =
     elim (cases_Bool (same_tile x.0 t)) as (λ _. tiles_of (x ∷ xs ++ ys) t ≡ None) [

@@ -2,8 +2,8 @@
 use Rattle.std.proofs.Common.{◌≡◌, ℕ, ◌+◌, ◌-◌, List, [], sym, subst, arith}
 use Rattle.tl_hash.specs.Split.{IsSplit}
 use Rattle.tl_hash.specs.Tree.{node_input}
-use Rattle.tl_tile.specs.Known.{given, split, IsHashAt}
-use Rattle.tl_tile.specs.Inner.KnownEdge.{Part}
+use Rattle.tl_tile.specs.Folds.{given, split, IsHashAt}
+use Rattle.tl_tile.specs.Inner.EdgeRoot.{Part}
 use Rattle.tl_hash.proofs.SplitLemmas.{IsSplit-positive}
 
 pub part-one : (H : List ℕ → List ℕ) (text : List ℕ) (start count : ℕ) (hash : List ℕ) → count ≡ 1 → IsHashAt text start hash → Part H text start count hash

@@ -12,8 +12,8 @@ use Rattle.std.proofs.lemmas.Fmt.{decimal_by_steps}
 use Rattle.std.proofs.lemmas.Slice.Eq.{bytes_eq-Decides}
 use Rattle.tl_tile.specs.declared.resource.Resource.{Resource}
 use Rattle.tl_tile.specs.declared.resource.Resource.TheVariants as resource
-use Rattle.tl_tile.specs.Path.{IsResource, path_text, three_digits, marked_group, index_text, width_text, place_text}
-use Rattle.tl_tile.specs.Inner.ReadPath.{leading_number, leading_groups, Strips, HasNoWidth, HasNoPlace, HasNoTile, IsTilePath, tile_place_text}
+use Rattle.tl_tile.specs.Path.{IsResource, path_text, three_digits, marked_group, index_text, width_text, piece_text}
+use Rattle.tl_tile.specs.Inner.ReadPath.{leading_number, leading_groups, Strips, HasNoWidth, HasNoPiece, HasNoTile, IsTilePath, tile_piece_text}
 
 -- ---- groups
 
@@ -26,9 +26,6 @@ pub pushed_groups : (old mid new : List ℕ) (n : ℕ) → 0 < n → mid ≡ old
 pushed_groups old mid new n some first second =
     second ∙ ap (λ (t : List ℕ). t ++ marked_group (n % 1000)) first ∙ append_assoc old (leading_groups (n / 1000)) (marked_group (n % 1000))
     ∙ ap (λ (t : List ℕ). old ++ t) (sym (leading_groups_step n some))
-
-pub leading_groups_none : (n : ℕ) → n ≡ 0 → leading_groups n ≡ []
-leading_groups_none n e = ap leading_groups e
 
 -- ---- digits
 
@@ -48,9 +45,6 @@ number_group m g bytes small room =
     ∙ number_digit (m * 10 + g / 100) (g / 10 % 10) (48 + g / 10 % 10) ones (omega arith) refl (omega arith)
     ∙ number_digit ((m * 10 + g / 100) * 10 + g / 10 % 10) (g % 10) (48 + g % 10) bytes (omega arith) refl (omega arith)
     ∙ ap (λ (n : ℕ). leading_number n bytes) (omega arith)
-
-number_slash : (m : ℕ) (bytes : List ℕ) → leading_number m (47 ∷ bytes) ≡ leading_number m bytes
-number_slash m bytes = refl
 
 number_marked : (m g : ℕ) (bytes : List ℕ) → g < 1000 → m * 1000 + g < 2 ^ 56 → leading_number m (marked_group g ++ bytes) ≡ leading_number (m * 1000 + g) bytes
 number_marked m g bytes small room = number_group m g (47 ∷ bytes) small room
@@ -118,7 +112,7 @@ number_suffix n width = elim (cases_eq width 256) [
 ]
 
 -- what follows an index has a digit before its first dot
-pub number_place : (index width : ℕ) → index < 2 ^ 56 → leading_number 0 (place_text index width) ≡ index
+pub number_place : (index width : ℕ) → index < 2 ^ 56 → leading_number 0 (piece_text index width) ≡ index
 number_place index width room = number_index index (width_text width) room ∙ number_suffix index width
 
 pub no_width_at : (bytes digits : List ℕ) (width : ℕ) → 0 < length bytes → bytes ≡ codes ".p/" ++ digits → width ≡ leading_number 0 digits → ((0 < width) → (width ≤ 255) → digits ≢ decimal width) → HasNoWidth bytes
@@ -130,24 +124,18 @@ no_width_at bytes digits width some is number apart w low high e = elim (cases_l
   | inr full ↦ absurd (omega (arith, ap length (e ∙ full_width w (omega arith))))
 ]
 
-pub no_prefix_width : (bytes : List ℕ) → 0 < length bytes → ((rest : List ℕ) → bytes ≢ codes ".p/" ++ rest) → HasNoWidth bytes
-no_prefix_width bytes some apart w low high e = elim (cases_lt w 256) [
-  | inl few ↦ apart (decimal w) (e ∙ part_width w few)
-  | inr full ↦ absurd (omega (arith, ap length (e ∙ full_width w (omega arith))))
-]
-
-pub no_place_past : (bytes : List ℕ) (n : ℕ) → n ≡ leading_number 0 bytes → 2 ^ 56 ≤ n → HasNoPlace bytes
+pub no_place_past : (bytes : List ℕ) (n : ℕ) → n ≡ leading_number 0 bytes → 2 ^ 56 ≤ n → HasNoPiece bytes
 no_place_past bytes n is big index width room low high e = absurd (omega (arith, is, ap (leading_number 0) e, number_place index width room))
 
-pub no_place_at : (bytes : List ℕ) (n : ℕ) → n ≡ leading_number 0 bytes → ((rest : List ℕ) → bytes ≢ index_text n ++ rest) → HasNoPlace bytes
+pub no_place_at : (bytes : List ℕ) (n : ℕ) → n ≡ leading_number 0 bytes → ((rest : List ℕ) → bytes ≢ index_text n ++ rest) → HasNoPiece bytes
 no_place_at bytes n is apart index width room low high e =
     let same : n ≡ index = is ∙ ap (leading_number 0) e ∙ number_place index width room in
-    apart (width_text width) (e ∙ ap (λ (k : ℕ). place_text k width) (sym same))
+    apart (width_text width) (e ∙ ap (λ (k : ℕ). piece_text k width) (sym same))
 
-pub no_place_width : (bytes rest : List ℕ) (n : ℕ) → n ≡ leading_number 0 bytes → bytes ≡ index_text n ++ rest → HasNoWidth rest → HasNoPlace bytes
+pub no_place_width : (bytes rest : List ℕ) (n : ℕ) → n ≡ leading_number 0 bytes → bytes ≡ index_text n ++ rest → HasNoWidth rest → HasNoPiece bytes
 no_place_width bytes rest n is joined apart index width room low high e =
     let same : n ≡ index = is ∙ ap (leading_number 0) e ∙ number_place index width room in
-    apart width low high (append_cancel_left (index_text n) rest (width_text width) (sym joined ∙ e ∙ ap (λ (k : ℕ). place_text k width) (sym same)))
+    apart width low high (append_cancel_left (index_text n) rest (width_text width) (sym joined ∙ e ∙ ap (λ (k : ℕ). piece_text k width) (sym same)))
 
 -- ---- no resource
 
@@ -162,8 +150,8 @@ unlike xs ys b is differ same = let equal : bytes_eq xs ys ≡ true = (bytes_eq-
 
 no_resource_at : (text rest : List ℕ) → text ≢ codes "checkpoint" → ((more : List ℕ) → text ≢ codes "tile/entries/" ++ more) → text ≡ codes "tile/" ++ rest → HasNoTile rest
     → (resource : Resource) → IsResource resource → path_text resource ≢ text
-no_resource_at text rest not_head not_entries joined apart (resource.Tile t) ok e = apart t ok (append_cancel_left (codes "tile/") rest (tile_place_text t) (sym joined ∙ sym e))
-no_resource_at text rest not_head not_entries joined apart (resource.Entries index width) ok e = not_entries (place_text index width) (sym e)
+no_resource_at text rest not_head not_entries joined apart (resource.Tile t) ok e = apart t ok (append_cancel_left (codes "tile/") rest (tile_piece_text t) (sym joined ∙ sym e))
+no_resource_at text rest not_head not_entries joined apart (resource.Entries index width) ok e = not_entries (piece_text index width) (sym e)
 no_resource_at text rest not_head not_entries joined apart resource.Checkpoint ok e = not_head (sym e)
 
 pub no_resource : (text rest : List ℕ) (r : Option Resource) → text ≢ codes "checkpoint" → ((more : List ℕ) → text ≢ codes "tile/entries/" ++ more) → text ≡ codes "tile/" ++ rest

@@ -1,15 +1,14 @@
 -- One fetched tile more.
-use Rattle.std.proofs.Common.{◌≡◌, ℕ, ◌+◌, ◌-◌, ◌*◌, ◌/◌, ◌%◌, ◌^◌, ◌<◌, ◌≤◌, ◌⊎◌, inl, inr, Bool, true, false, ◌&&◌, eqb, List, [], ◌∷◌, ◌++◌, append_assoc, length, map, take, get_or, Option, Some, None, refl, sym, ap, subst, ◌∙◌, arith}
+use Rattle.std.proofs.Common.{◌≡◌, ℕ, ◌+◌, ◌-◌, ◌*◌, ◌/◌, ◌%◌, ◌^◌, ◌<◌, ◌≤◌, ◌⊎◌, inl, inr, Bool, true, false, ◌&&◌, eqb, List, [], ◌∷◌, ◌++◌, append_assoc, length, Option, Some, None, refl, sym, ap, subst, ◌∙◌, arith}
 use Rattle.std.proofs.lemmas.Bool.{cases_Bool, cases_lt, and_parts, eqb-true, eq-eqb}
-use Rattle.std.specs.Prelude.{◌≢◌, vec_items}
-use Rattle.std.specs.declared.vec.Vec.{Vec}
-use Rattle.std.proofs.lemmas.List.{map-append, length-append, take_more, take_all, same_from_push}
+use Rattle.std.specs.Prelude.{◌≢◌}
+use Rattle.std.proofs.lemmas.List.{map-append, length-append, same_from_push}
 use Rattle.tl_tile.specs.declared.resource.Tile.{Tile}
 use Rattle.tl_tile.specs.TileText.{level_count, full_tile, partial_tile, tile_with}
-use Rattle.tl_tile.specs.Known.{Tiles, IsFold, nothing, given, split, IsEdgeHash, IsInAbove}
-use Rattle.tl_tile.specs.KnownEdge.{HasEdge}
-use Rattle.tl_tile.specs.Inner.KnownEdge.{Part}
-use Rattle.tl_tile.specs.Fetched.{same_tile, tiles_of, texts_of}
+use Rattle.tl_tile.specs.Folds.{Tiles, IsFold, nothing, given, split, IsEdgeHash, FoldsToAbove}
+use Rattle.tl_tile.specs.FetchedEdge.{HasEdge}
+use Rattle.tl_tile.specs.Inner.EdgeRoot.{Part}
+use Rattle.tl_tile.specs.Fetched.{same_tile, tiles_of}
 use Rattle.tl_tile.specs.Source.{HasTileWith, IsHashWith}
 use Rattle.tl_tile.specs.Inner.Steps.{IsNotFetched, IsThere}
 use Rattle.tl_tile.specs.Fetching.{BeginsWithEdge, edge_tiles}
@@ -85,21 +84,21 @@ first-push size xs f (rest, is) =
 -- a full tile more, with its hash in the tile above, which was fetched before
 pub verified-push : (H : List ℕ → List ℕ) (size : ℕ) (root : List ℕ) (xs : List (Tile × List ℕ)) (f : Tile × List ℕ) → AreVerified H size root xs
     → (level index : ℕ) → f.0 ≡ full_tile level index → length f.1 ≡ 32 * 256
-    → IsInAbove H (tiles_of xs) size level index f.1 → AreVerified H size root (xs ++ f ∷ [])
+    → FoldsToAbove H (tiles_of xs) size level index f.1 → AreVerified H size root (xs ++ f ∷ [])
 verified-push H size root xs f before level index is long above =
     let now : Tiles = tiles_of (xs ++ f ∷ []) in
     let was : Tiles = tiles_of xs in
-    let keeps : (l i : ℕ) (text : List ℕ) → IsInAbove H was size l i text → IsInAbove H now size l i text =
-    (λ l i text a. record { above = a.above; hash = a.hash; strings = a.strings; fetched = tiles_of-old xs f (tile_with size (l + 1) i) a.above a.fetched; told = a.told; known = a.known }) in
+    let keeps : (l i : ℕ) (text : List ℕ) → FoldsToAbove H was size l i text → FoldsToAbove H now size l i text =
+    (λ l i text a. record { above = a.above; hash = a.hash; strings = a.strings; fetched = tiles_of-old xs f (tile_with size (l + 1) i) a.above a.fetched; there = a.there; folds = a.folds }) in
     let partial_was : (l : ℕ) (text : List ℕ) → now (partial_tile size l) ≡ Some text → was (partial_tile size l) ≡ Some text =
     (λ l text found. elim (tiles_of-cases xs f (partial_tile size l) text found) as (λ _. was (partial_tile size l) ≡ Some text) [
       | inl same ↦ same
       | inr other ↦ (let width : 256 ≡ level_count size l % 256 = ap (λ (t : Tile). t.width) (sym is ∙ other.0) in absurd (omega (arith, width)))
     ]) in
     let to : (s c : ℕ) (h : List ℕ) → IsEdgeHash was size s c h → IsEdgeHash now size s c h =
-    (λ s c h e. record { level = e.level; place = e.place; text = e.text; starts = e.starts; counts = e.counts; on_edge = e.on_edge; fetched = tiles_of-old xs f (partial_tile size e.level) e.text e.fetched; told = e.told }) in
+    (λ s c h e. record { level = e.level; place = e.place; text = e.text; starts = e.starts; counts = e.counts; on_edge = e.on_edge; fetched = tiles_of-old xs f (partial_tile size e.level) e.text e.fetched; there = e.there }) in
     let from : (s c : ℕ) (h : List ℕ) → IsEdgeHash now size s c h → IsEdgeHash was size s c h =
-    (λ s c h e. record { level = e.level; place = e.place; text = e.text; starts = e.starts; counts = e.counts; on_edge = e.on_edge; fetched = partial_was e.level e.text e.fetched; told = e.told }) in
+    (λ s c h e. record { level = e.level; place = e.place; text = e.text; starts = e.starts; counts = e.counts; on_edge = e.on_edge; fetched = partial_was e.level e.text e.fetched; there = e.there }) in
     record {
       first = first-push size xs f before.first;
       long = λ t text found.
@@ -112,16 +111,16 @@ verified-push H size root xs f before level index is long above =
           (e.0, record { fetched = tiles_of-old xs f (partial_tile size l) e.0 e.1.fetched; long = e.1.long });
       checked = record {
         strings = before.checked.strings;
-        known = IsFold-map H (IsEdgeHash was size) (IsEdgeHash now size) to from 0 size root before.checked.strings before.checked.known;
+        folds = IsFold-map H (IsEdgeHash was size) (IsEdgeHash now size) to from 0 size root before.checked.strings before.checked.folds;
         full = λ l i text less found.
-            elim (tiles_of-cases xs f (full_tile l i) text found) as (λ _. IsInAbove H now size l i text) [
+            elim (tiles_of-cases xs f (full_tile l i) text found) as (λ _. FoldsToAbove H now size l i text) [
               | inl same ↦ keeps l i text (before.checked.full l i text less same)
               | inr here ↦
                   let level_is : level ≡ l = ap (λ (t : Tile). t.level) (sym is ∙ here.0) in
                   let index_is : index ≡ i = ap (λ (t : Tile). t.index) (sym is ∙ here.0) in
-                  subst (λ (x : ℕ). IsInAbove H now size x i text) level_is
-                  (subst (λ (x : ℕ). IsInAbove H now size level x text) index_is
-                  (subst (λ (x : List ℕ). IsInAbove H now size level index x) here.1 (keeps level index f.1 above)))
+                  subst (λ (x : ℕ). FoldsToAbove H now size x i text) level_is
+                  (subst (λ (x : ℕ). FoldsToAbove H now size level x text) index_is
+                  (subst (λ (x : List ℕ). FoldsToAbove H now size level index x) here.1 (keeps level index f.1 above)))
             ];
       };
     }
@@ -160,14 +159,6 @@ pub is_there-by : (tiles : Tiles) (size level place : ℕ) (tile : Tile) → til
     → tiles tile ≡ None → IsThere tiles size level place false
 is_there-by tiles size level place tile is edge small low less missing = full_when_missing tiles size level place edge small low less (ap tiles (sym is) ∙ missing)
 
-pub there-by : (tiles : Tiles) (size level place : ℕ) (tile : Tile) (text : List ℕ) → tile ≡ tile_with size level place → tiles tile ≡ Some text → HasTileWith tiles size level place
-there-by tiles size level place tile text is found = (text, ap tiles (sym is) ∙ found)
-
--- what the test says of the tiles
-pub there-true : (tiles : Tiles) (size level place : ℕ) (answer : Bool) → IsThere tiles size level place answer → answer ≡ true → HasTileWith tiles size level place
-there-true tiles size level place true is holds = is
-there-true tiles size level place false is holds = absurd (cc)
-
 pub there-false : (tiles : Tiles) (size level place : ℕ) (answer : Bool) → IsThere tiles size level place answer → answer ≡ false → IsNotFetched tiles size level place
 there-false tiles size level place true is holds = absurd (cc)
 there-false tiles size level place false is holds = is
@@ -175,20 +166,7 @@ there-false tiles size level place false is holds = is
 pub full-there : (tiles : Tiles) (size level place : ℕ) → tile_with size level place ≡ full_tile level (place / 256) → (text : List ℕ) × (tiles (full_tile level (place / 256)) ≡ Some text) → HasTileWith tiles size level place
 full-there tiles size level place is (text, found) = (text, ap tiles is ∙ found)
 
--- the texts of one tile more
-pub texts-push : {A : Type 0} (xs ys : List (Tile × Vec ℕ A)) (tile : Tile) (text : Vec ℕ A) → ys ≡ xs ++ (tile, text) ∷ [] → texts_of ys ≡ texts_of xs ++ (tile, vec_items text) ∷ []
-texts-push {A = A} xs ys tile text pushed =
-    let view : Tile × Vec ℕ A → Tile × List ℕ = λ t. (t.0, vec_items t.1) in
-    ap (map view) pushed ∙ map-append view xs ((tile, text) ∷ [])
-
 -- ---- a full tile that was fetched, and is compared with the tile above
-
--- the last tile of a list
-pub last-of : {A : Type 0} (xs : List (Tile × Vec ℕ A)) (x : Tile × Vec ℕ A) → 0 < length xs → x ≡ get_or xs (length xs - 1) x → IsLast x.0 (vec_items x.1) (texts_of xs)
-last-of xs x some at =
-    let i : ℕ = length xs - 1 in
-    let whole : xs ≡ take i xs ++ x ∷ [] = sym (take_all (i + 1) xs (omega (arith, some))) ∙ take_more xs i x (omega (arith, some)) ∙ ap (λ (y : _). take i xs ++ y ∷ []) (sym at) in
-    (texts_of (take i xs), texts-push (take i xs) xs x.0 x.1 whole)
 
 -- the text of a new tile is the last
 pub new-text : (old new : List (Tile × List ℕ)) (tile t : Tile) (text seen : List ℕ) → new ≡ old ++ (tile, text) ∷ [] → IsLast t seen new → text ≡ seen
@@ -202,14 +180,14 @@ pub verified-full : (H : List ℕ → List ℕ) (size : ℕ) (root : List ℕ) (
     → tile ≡ full_tile level index → tiles_of old tile ≡ None → new ≡ old ++ (tile, text) ∷ [] → length text ≡ 32 * tile.width → text ≡ seen
     → IsHashWith (tiles_of old) size (level + 1) index own → Part H seen 0 256 hash → own ≡ hash → AreVerified H size root new
 verified-full H size root old new level index tile text seen own hash before is none pushed long seen_is above part same =
-    let known_is : Part H text 0 256 own = subst (λ (x : List ℕ). Part H x 0 256 own) (sym seen_is) (subst (λ (x : List ℕ). Part H seen 0 256 x) (sym same) part) in
-    let in_above : IsInAbove H (tiles_of old) size level index text = record {
+    let folds_to : Part H text 0 256 own = subst (λ (x : List ℕ). Part H x 0 256 own) (sym seen_is) (subst (λ (x : List ℕ). Part H seen 0 256 x) (sym same) part) in
+    let in_above : FoldsToAbove H (tiles_of old) size level index text = record {
       above = above.0;
       hash = own;
-      strings = known_is.0;
+      strings = folds_to.0;
       fetched = above.1;
-      told = above.2;
-      known = known_is.1;
+      there = above.2;
+      folds = folds_to.1;
     } in
     subst (AreVerified H size root) (sym pushed)
     (verified-push H size root old (tile, text) before level index is (long ∙ ap (λ (t : Tile). 32 * t.width) is) in_above)
@@ -236,7 +214,7 @@ bad-full H size root old new level index tile text seen own hash is below none p
         full = full;
         below = there;
         above = subst (λ (x : ℕ). IsHashWith (tiles_of new) size (tile.level + 1) x own) index_is (subst (λ (x : ℕ). IsHashWith (tiles_of new) size (x + 1) index own) level_is later);
-        tells = part.1;
+        folds = part.1;
         differ = differ;
       }));
     }

@@ -1,19 +1,18 @@
 -- What a reader over tiles answers, by the numbers that were asked.
-use Rattle.std.proofs.Common.{◌≡◌, ℕ, ◌^◌, ◌<◌, ◌≤◌, inl, inr, Bool, cond, List, [], ◌∷◌, length, map, All, refl, sym, ap, subst, ◌∙◌, arith}
+use Rattle.std.proofs.Common.{◌≡◌, ℕ, ◌^◌, ◌<◌, ◌≤◌, inl, inr, Bool, cond, List, length, map, All, refl, sym, ap, subst, ◌∙◌, arith}
 use Rattle.std.proofs.lemmas.Bool.{cases_lt, lt-leb, le-leb}
 use Rattle.std.specs.Prelude.{Result, Ok, Err, IfOk}
 use Rattle.tl_hash.specs.Tree.{tree_hash}
 use Rattle.tl_store.specs.Stored.{stored_count, stored_hash}
-use Rattle.tl_store.specs.Reader.{readable_count, AreReadable, GivesFault}
+use Rattle.tl_store.specs.Reader.{readable_count, AreReadable}
 use Rattle.tl_store.specs.declared.reader.ReadFault.{ReadFault}
 use Rattle.tl_store.specs.declared.reader.ReadFault.TheVariants.{OutOfRange, Source, OutOfMemory, BadTile}
 use Rattle.tl_tile.specs.declared.resource.Tile.{Tile}
-use Rattle.tl_tile.specs.Known.{TilesCollide}
+use Rattle.tl_tile.specs.Folds.{TilesCollide}
 use Rattle.tl_tile.specs.Fetched.{tiles_of}
 use Rattle.tl_tile.specs.Source.{AreAnswers}
 use Rattle.tl_tile.specs.Fetching.{IsNeededFor}
-use Rattle.tl_tile.specs.SourceFaults.{GivesReadFault, MayGive}
-use Rattle.tl_tile.proofs.Orders.{fault-weaker}
+use Rattle.tl_tile.specs.SourceFaults.{GivesReadFault}
 use Rattle.tl_tile.specs.TileReader.{Reading, AreAuthentic, StandsAgainst, GivesNumbersFault}
 
 pub readable_is : (size : ℕ) → size ≤ 2 ^ 62 → readable_count size ≡ stored_count size
@@ -60,12 +59,6 @@ pub if_ok_weaker : {X E : Type 0} (P Q : X → Type 0) (r : Result X E) → ((x 
 if_ok_weaker P Q (Ok x) weaker holds = weaker x holds
 if_ok_weaker P Q (Err e) weaker holds = tt
 
--- no hashes are those of no numbers
-pub authentic_none : (H : List ℕ → List ℕ) (size : ℕ) (root indexes : List ℕ) (fetched : List (Tile × List ℕ)) (hashes : List (List ℕ)) → length indexes ≡ 0 → hashes ≡ []
-    → AreAuthentic H (record { size = size; root = root; indexes = indexes; fetched = fetched }) hashes
-authentic_none H size root [] fetched hashes none is = record { stored = λ entries sized is_root. inl is; honest = λ entries sized honest. is }
-authentic_none H size root (index ∷ indexes) fetched hashes none is = absurd (omega (arith, none))
-
 -- the faults of a read whose numbers are all in range
 pub numbers_fault : (H : List ℕ → List ℕ) (may_lack : Tile → Type 0) (read : Reading) (fault : ReadFault) → AreReadable read.size read.indexes → 0 < length read.indexes
     → GivesReadFault H (λ t. may_lack t × IsNeededFor read.size read.indexes t) read.size read.root read.fetched fault → GivesNumbersFault H may_lack read fault
@@ -73,12 +66,3 @@ numbers_fault H may_lack read OutOfRange readable some gives = absurd gives
 numbers_fault H may_lack read Source readable some gives = ((readable, some), gives)
 numbers_fault H may_lack read OutOfMemory readable some gives = (readable, some)
 numbers_fault H may_lack read (BadTile level index width) readable some gives = ((readable, some), gives)
-
--- the faults of a reader
-pub reader_fault : (H : List ℕ → List ℕ) (may_answer : Tile → List ℕ → Type 0) (may_lack : Tile → Type 0) (read : Reading) (fault : ReadFault) → AreAnswers may_answer read.size read.fetched
-    → GivesNumbersFault H may_lack read fault → GivesFault read.size (MayGive H may_answer may_lack read.size read.root) read.indexes fault
-reader_fault H may_answer may_lack read OutOfRange answers gives = gives.0
-reader_fault H may_answer may_lack read Source answers gives =
-    ((read.fetched, answers, fault-weaker H (λ t. may_lack t × IsNeededFor read.size read.indexes t) may_lack read.size read.root read.fetched Source (λ t few. few.0) gives.1), gives.0.0, gives.0.1)
-reader_fault H may_answer may_lack read OutOfMemory answers gives = gives
-reader_fault H may_answer may_lack read (BadTile level index width) answers gives = ((read.fetched, answers, gives.1), gives.0.0, gives.0.1)

@@ -9,7 +9,7 @@ use Rattle.tl_hash.specs.Split.{IsSplit}
 use Rattle.tl_hash.specs.Tree.{tree_hash, node_input}
 use Rattle.tl_hash.proofs.SplitLemmas.{IsSplit-narrow, IsSplit-positive}
 use Rattle.tl_hash.proofs.TreeLemmas.{tree_hash-split}
-use Rattle.tl_tile.specs.Run.{part, place_hash, IsRun}
+use Rattle.tl_tile.specs.Run.{part, place_hash, Run, IsRun}
 use Rattle.tl_tile.proofs.TileTexts.{scaled_le}
 
 -- a split scales
@@ -55,16 +55,12 @@ drop-range_with_len (suc k) a (suc n) =
     let count : n - k ≡ suc n - suc k = omega arith in
     drop-range_with_len k (a + 1) n ∙ (λ i. range_with_len (from i) (count i))
 
--- no places: the last hash is all
-pub run-last : (H : List ℕ → List ℕ) (entries : List (List ℕ)) (u place end : ℕ) (hashes : List (List ℕ)) (last : List ℕ) → length hashes ≡ 0 → IsRun H entries u place end hashes last
-    → last ≡ tree_hash H (part (place * u) end entries)
-run-last H entries u place end hashes last none run =
-    let from : (place + length hashes) * u ≡ place * u = (let e : place + length hashes ≡ place = omega (arith, none) in ap (λ (x : ℕ). x * u) e) in
-    run.last_is ∙ ap (λ (x : ℕ). tree_hash H (part x end entries)) from
+abbrev pub run_of : ℕ → ℕ → ℕ → Run
+run_of width place end = record { width = width; place = place; end = end }
 
 -- the first of the places, up to one of them that is the last
 pub run-places : (H : List ℕ → List ℕ) (entries : List (List ℕ)) (u place k : ℕ) (hashes : List (List ℕ)) (own : List ℕ) → IsPowerOfTwo u → 0 < k → k ≤ length hashes → (place + k) * u ≤ length entries
-    → hashes ≡ map (place_hash H entries u) (range_with_len place (length hashes)) → own ≡ get_or hashes (k - 1) own → IsRun H entries u place ((place + k) * u) (take (k - 1) hashes) own
+    → hashes ≡ map (place_hash H entries u) (range_with_len place (length hashes)) → own ≡ get_or hashes (k - 1) own → IsRun H entries (run_of u place ((place + k) * u)) (take (k - 1) hashes) own
 run-places H entries u place k hashes own power some most within hashes_are own_is =
     let n : ℕ = length hashes in
     let positive : 0 < u = omega (arith, power.1, pow_pos power.0) in
@@ -91,14 +87,14 @@ run-places H entries u place k hashes own power some most within hashes_are own_
 
 -- the left part of a run
 pub run-left : (H : List ℕ → List ℕ) (entries : List (List ℕ)) (u place end k : ℕ) (hashes : List (List ℕ)) (last own : List ℕ) → IsSplit k (length hashes + 1) → own ≡ get_or hashes (k - 1) own
-    → IsRun H entries u place end hashes last → IsRun H entries u place ((place + k) * u) (take (k - 1) hashes) own
+    → IsRun H entries (run_of u place end) hashes last → IsRun H entries (run_of u place ((place + k) * u)) (take (k - 1) hashes) own
 run-left H entries u place end k hashes last own s own_is run =
     let most : (place + k) * u ≤ (place + length hashes) * u = scaled_le (place + k) (place + length hashes) u (omega (arith, s.below)) in
     run-places H entries u place k hashes own run.power (IsSplit-positive k (length hashes + 1) s) (omega (arith, s.below)) (omega (arith, most, run.some, run.within)) run.hashes_are own_is
 
 -- and its right part
 pub run-right : (H : List ℕ → List ℕ) (entries : List (List ℕ)) (u place end k : ℕ) (hashes : List (List ℕ)) (last : List ℕ) → IsSplit k (length hashes + 1)
-    → IsRun H entries u place end hashes last → IsRun H entries u (place + k) end (drop k hashes) last
+    → IsRun H entries (run_of u place end) hashes last → IsRun H entries (run_of u (place + k) end) (drop k hashes) last
 run-right H entries u place end k hashes last s run =
     let n : ℕ = length hashes in
     let count : length (drop k hashes) ≡ n - k = length-drop k hashes in
@@ -120,7 +116,7 @@ run-right H entries u place end k hashes last s run =
 
 -- the two give the whole
 pub run-node : (H : List ℕ → List ℕ) (entries : List (List ℕ)) (u place end k : ℕ) (hashes : List (List ℕ)) (last left right result : List ℕ) → IsSplit k (length hashes + 1)
-    → IsRun H entries u place end hashes last → left ≡ tree_hash H (part (place * u) ((place + k) * u) entries) → right ≡ tree_hash H (part ((place + k) * u) end entries)
+    → IsRun H entries (run_of u place end) hashes last → left ≡ tree_hash H (part (place * u) ((place + k) * u) entries) → right ≡ tree_hash H (part ((place + k) * u) end entries)
     → result ≡ H (node_input left right) → result ≡ tree_hash H (part (place * u) end entries)
 run-node H entries u place end k hashes last left right result s run left_is right_is result_is =
     let n : ℕ = length hashes in

@@ -11,7 +11,7 @@ use Rattle.tl_hash.proofs.TreeLemmas.{tree_hash-split, tree_hash-none, length-tr
 use Rattle.tl_tile.proofs.Segments.{HasHashLength}
 use Rattle.tl_hash.proofs.Bytes.{cases_bytes, node_input-injective}
 use Rattle.tl_hash.proofs.SameSize.{Collision, Collision-among, Contains-head, Contains-tail, inputs-root, inputs-first, inputs-rest}
-use Rattle.tl_tile.specs.Known.{IsFold, nothing, given, split}
+use Rattle.tl_tile.specs.Folds.{IsFold, nothing, given, split}
 use Rattle.tl_tile.proofs.Segments.{segment, length-segment, segment-first, segment-rest, IsSplit-scaled, power_divides, power_in_split, positive_power, scaled_le}
 
 -- every hash that a fold comes to is a hash, where those given are
@@ -44,22 +44,22 @@ nodes_meet H wide k a b strings entries s is found same =
     ]
 
 -- a place where a fold is given a hash, over w places from t on, where no hash is given over more
-pub record IsTarget (IsGiven : ℕ → ℕ → List ℕ → Type 0) (t w : ℕ) (told : List ℕ) : Type 0 where
+pub record IsTarget (IsGiven : ℕ → ℕ → List ℕ → Type 0) (t w : ℕ) (hash_there : List ℕ) : Type 0 where
   pub power : IsPowerOfTwo w
-  pub is_given : IsGiven t w told
-  pub only : (h : List ℕ) → IsGiven t w h → h ≡ told
+  pub is_given : IsGiven t w hash_there
+  pub only : (h : List ℕ) → IsGiven t w h → h ≡ hash_there
   pub clear : (s c : ℕ) (h : List ℕ) → w < c → s ≤ t → t < s + c → IsGiven s c h → ⊥
   pub widths : (s c : ℕ) (h : List ℕ) → IsGiven s c h → HasHashLength h
 
 abbrev pub Meets : (List ℕ → List ℕ) → ℕ → List (List ℕ) → ℕ → ℕ → List ℕ → ℕ → ℕ → List (List ℕ) → Type 0
-Meets H u entries t w told start count strings =
-    (told ≡ tree_hash H (segment u t w entries)) ⊎ Collision H strings (inputs H (segment u start count entries))
+Meets H u entries t w hash_there start count strings =
+    (hash_there ≡ tree_hash H (segment u t w entries)) ⊎ Collision H strings (inputs H (segment u start count entries))
 
 -- where the run is the target itself
-meets-here : (H : List ℕ → List ℕ) (IsGiven : ℕ → ℕ → List ℕ → Type 0) (u : ℕ) (entries : List (List ℕ)) (t w : ℕ) (told : List ℕ) → IsTarget IsGiven t w told
+meets-here : (H : List ℕ → List ℕ) (IsGiven : ℕ → ℕ → List ℕ → Type 0) (u : ℕ) (entries : List (List ℕ)) (t w : ℕ) (hash_there : List ℕ) → IsTarget IsGiven t w hash_there
     → (start count : ℕ) (hash : List ℕ) → start ≡ t → count ≡ w → IsGiven start count hash → hash ≡ tree_hash H (segment u start count entries)
-    → told ≡ tree_hash H (segment u t w entries)
-meets-here H IsGiven u entries t w told target start count hash at wide is same =
+    → hash_there ≡ tree_hash H (segment u t w entries)
+meets-here H IsGiven u entries t w hash_there target start count hash at wide is same =
     let here : IsGiven t w hash = subst (λ (c : ℕ). IsGiven t c hash) wide (subst (λ (s : ℕ). IsGiven s count hash) at is) in
     sym (target.only hash here) ∙ same ∙ (λ i. tree_hash H (segment u (at i) (wide i) entries))
 
@@ -80,24 +80,24 @@ meets-right H k a lefts rights entries part s is found =
 
 -- the walk down a fold and the tree, to the target
 pub walk : (H : List ℕ → List ℕ) (IsGiven : ℕ → ℕ → List ℕ → Type 0) → ((message : List ℕ) → HasHashLength (H message))
-    → (u : ℕ) → IsPowerOfTwo u → (entries : List (List ℕ)) (t w : ℕ) (told : List ℕ) → IsTarget IsGiven t w told
+    → (u : ℕ) → IsPowerOfTwo u → (entries : List (List ℕ)) (t w : ℕ) (hash_there : List ℕ) → IsTarget IsGiven t w hash_there
     → (start count : ℕ) (hash : List ℕ) (strings : List (List ℕ)) → IsFold H IsGiven start count hash strings
     → (start + count) * u ≤ length entries → hash ≡ tree_hash H (segment u start count entries)
-    → (q : ℕ) → t ≡ start + q * w → t + w ≤ start + count → Meets H u entries t w told start count strings
-walk H IsGiven wide u power entries t w told target start count hash strings (nothing s) within same q at inside =
+    → (q : ℕ) → t ≡ start + q * w → t + w ≤ start + count → Meets H u entries t w hash_there start count strings
+walk H IsGiven wide u power entries t w hash_there target start count hash strings (nothing s) within same q at inside =
     absurd (omega (arith, inside, at, positive_power w target.power))
-walk H IsGiven wide u power entries t w told target start count hash strings (given s c h some is) within same q at inside =
-    elim (cases_order c w) as (λ _. Meets H u entries t w told start count []) [
-      | inl equal ↦ inl (meets-here H IsGiven u entries t w told target s c h (omega (arith, equal, at, inside)) equal is same)
+walk H IsGiven wide u power entries t w hash_there target start count hash strings (given s c h some is) within same q at inside =
+    elim (cases_order c w) as (λ _. Meets H u entries t w hash_there start count []) [
+      | inl equal ↦ inl (meets-here H IsGiven u entries t w hash_there target s c h (omega (arith, equal, at, inside)) equal is same)
       | inr (inl less) ↦ absurd (omega (arith, less, at, inside))
       | inr (inr more) ↦ absurd (target.clear s c h more (omega (arith, at)) (omega (arith, inside, positive_power w target.power)) is)
     ]
-walk H IsGiven wide u power entries t w told target start count hash strings (split s c k left right lefts rights none at_split first second) within same q at inside =
-    elim (cases_lt w c) as (λ _. Meets H u entries t w told start count strings) [
+walk H IsGiven wide u power entries t w hash_there target start count hash strings (split s c k left right lefts rights none at_split first second) within same q at inside =
+    elim (cases_lt w c) as (λ _. Meets H u entries t w hash_there start count strings) [
       | inr small ↦
           let here : t ≡ s = omega (arith, small, at, inside) in
           let whole : w ≡ c = omega (arith, small, at, inside) in
-          absurd (none told (subst (λ (x : ℕ). IsGiven s x told) whole (subst (λ (x : ℕ). IsGiven x w told) here target.is_given)))
+          absurd (none hash_there (subst (λ (x : ℕ). IsGiven s x hash_there) whole (subst (λ (x : ℕ). IsGiven x w hash_there) here target.is_given)))
       | inl more ↦
           let multiple = power_divides w k target.power at_split.power (power_in_split w k c target.power at_split more) in
           let j : ℕ = multiple.0 in
@@ -108,16 +108,16 @@ walk H IsGiven wide u power entries t w told target start count hash strings (sp
           let part_first : take (k * u) here ≡ segment u s k entries = segment-first u s k c entries k_in in
           let part_rest : drop (k * u) here ≡ segment u (s + k) (c - k) entries = segment-rest u s k c entries k_in in
           let left_is : HasHashLength left = IsFold-hash H IsGiven wide target.widths s k left lefts first in
-          elim (nodes_meet H wide (k * u) left right (node_input left right ∷ lefts ++ rights) here scaled left_is (Contains-head (node_input left right) (lefts ++ rights)) same) as (λ _. Meets H u entries t w told s c (node_input left right ∷ lefts ++ rights)) [
+          elim (nodes_meet H wide (k * u) left right (node_input left right ∷ lefts ++ rights) here scaled left_is (Contains-head (node_input left right) (lefts ++ rights)) same) as (λ _. Meets H u entries t w hash_there s c (node_input left right ∷ lefts ++ rights)) [
             | inr collision ↦ inr collision
             | inl both ↦
-                elim (cases_lt q j) as (λ _. Meets H u entries t w told s c (node_input left right ∷ lefts ++ rights)) [
+                elim (cases_lt q j) as (λ _. Meets H u entries t w hash_there s c (node_input left right ∷ lefts ++ rights)) [
                   | inl below ↦
                       let room : (q + 1) * w ≤ j * w = scaled_le (q + 1) j w (omega (arith, below)) in
                       let fits : (s + k) * u ≤ (s + c) * u = scaled_le (s + k) (s + c) u (omega (arith, k_in)) in
-                      elim (walk H IsGiven wide u power entries t w told target s k left lefts first (omega (arith, fits, within)) (both.0 ∙ ap (tree_hash H) part_first) q at (omega (arith, at, room, k_is)))
-                      as (λ _. Meets H u entries t w told s c (node_input left right ∷ lefts ++ rights)) [
-                        | inl told_is ↦ inl told_is
+                      elim (walk H IsGiven wide u power entries t w hash_there target s k left lefts first (omega (arith, fits, within)) (both.0 ∙ ap (tree_hash H) part_first) q at (omega (arith, at, room, k_is)))
+                      as (λ _. Meets H u entries t w hash_there s c (node_input left right ∷ lefts ++ rights)) [
+                        | inl right_is ↦ inl right_is
                         | inr collision ↦ inr (meets-left H (k * u) (node_input left right) lefts rights here (segment u s k entries) scaled part_first collision)
                       ]
                   | inr above ↦
@@ -125,9 +125,9 @@ walk H IsGiven wide u power entries t w told target start count hash strings (sp
                       let product : q * w ≡ j * w + (q - j) * w = ap (λ (x : ℕ). x * w) whole ∙ omega arith in
                       let sum : s + k + (c - k) ≡ s + c = omega (arith, k_in) in
                       let fits : (s + k + (c - k)) * u ≡ (s + c) * u = ap (λ (x : ℕ). x * u) sum in
-                      elim (walk H IsGiven wide u power entries t w told target (s + k) (c - k) right rights second (omega (arith, fits, within)) (both.1 ∙ ap (tree_hash H) part_rest) (q - j) (omega (arith, at, product, k_is)) (omega (arith, inside, sum)))
-                      as (λ _. Meets H u entries t w told s c (node_input left right ∷ lefts ++ rights)) [
-                        | inl told_is ↦ inl told_is
+                      elim (walk H IsGiven wide u power entries t w hash_there target (s + k) (c - k) right rights second (omega (arith, fits, within)) (both.1 ∙ ap (tree_hash H) part_rest) (q - j) (omega (arith, at, product, k_is)) (omega (arith, inside, sum)))
+                      as (λ _. Meets H u entries t w hash_there s c (node_input left right ∷ lefts ++ rights)) [
+                        | inl right_is ↦ inl right_is
                         | inr collision ↦ inr (meets-right H (k * u) (node_input left right) lefts rights here (segment u (s + k) (c - k) entries) scaled part_rest collision)
                       ]
                 ]

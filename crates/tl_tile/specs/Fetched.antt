@@ -2,7 +2,7 @@
 use Rattle.std.specs.Prelude.{ℕ, Bool, List, [], ◌∷◌, map, vec_items, Some, None, ◌&&◌, ◌==◌, if◌then◌else◌}
 use Rattle.std.specs.declared.vec.Vec.{Vec}
 use Rattle.tl_tile.specs.declared.resource.Tile.{Tile}
-use Rattle.tl_tile.specs.Known.{Tiles}
+use Rattle.tl_tile.specs.Folds.{Tiles}
 
 abbrev pub same_tile : Tile → Tile → Bool
 same_tile a b = a.level == b.level && a.index == b.index && a.width == b.width

@@ -3,7 +3,7 @@ use Rattle.std.specs.Prelude.{◌≡◌, ℕ, ◌+◌, ◌-◌, ◌*◌, ◌/◌
 use Rattle.std.specs.List.{range_with_len}
 use Rattle.tl_store.specs.Stored.{stored_index}
 use Rattle.tl_tile.specs.declared.resource.Tile.{Tile}
-use Rattle.tl_tile.specs.declared.place.Place.{Place}
+use Rattle.tl_tile.specs.declared.tile_reader.subtree.Subtree.{Subtree}
 use Rattle.tl_tile.specs.TileText.{full_tile, partial_tile}
 use Rattle.tl_tile.specs.Fetched.{tiles_in}
 
@@ -14,9 +14,9 @@ pub record IsOver (level place : ℕ) (t : Tile) : Type 0 where
 
 -- a stored hash needs a full tile: the one with its subtree's hashes, or one above that
 pub record IsOverNumber (index : ℕ) (t : Tile) : Type 0 where
-  pub place : Place
-  pub number : stored_index place.level place.place ≡ index
-  pub over : IsOver (place.level / 8) (place.place * 2 ^ (place.level % 8)) t
+  pub subtree : Subtree
+  pub number : stored_index subtree.level subtree.place ≡ index
+  pub over : IsOver (subtree.level / 8) (subtree.place * 2 ^ (subtree.level % 8)) t
 
 -- a partial tile of the size
 abbrev pub IsPartialOf : ℕ → Tile → Type 0

@@ -1,6 +1,6 @@
 -- Private words: what contracts of private functions and proofs need.
 pub
-    mod KnownEdge
+    mod EdgeRoot
 pub
     mod ReadPath
 pub
@@ -11,3 +11,7 @@ pub
     mod Steps
 pub
     mod PartialHashes
+pub
+    mod TileTree
+pub
+    mod TreeKeys

@@ -7,8 +7,8 @@ pub mod ReadTile
 pub mod Run
 pub mod RightEdge
 pub mod Law
-pub mod Known
-pub mod KnownEdge
+pub mod Folds
+pub mod FetchedEdge
 pub mod TileLaws
 pub mod Fetched
 pub mod Source

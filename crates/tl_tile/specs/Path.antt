@@ -35,11 +35,11 @@ abbrev pub width_text : ℕ → List ℕ
 width_text w = if w == 256 then [] else codes ".p/" ++ decimal w
 
 -- the index and the suffix
-abbrev pub place_text : ℕ → ℕ → List ℕ
-place_text index width = index_text index ++ width_text width
+abbrev pub piece_text : ℕ → ℕ → List ℕ
+piece_text index width = index_text index ++ width_text width
 
 -- the path of a resource, without a leading slash
 abbrev pub path_text : Resource → List ℕ
-path_text (resource.Tile t) = codes "tile/" ++ (48 + t.level) ∷ 47 ∷ place_text t.index t.width
-path_text (resource.Entries index width) = codes "tile/entries/" ++ place_text index width
+path_text (resource.Tile t) = codes "tile/" ++ (48 + t.level) ∷ 47 ∷ piece_text t.index t.width
+path_text (resource.Entries index width) = codes "tile/entries/" ++ piece_text index width
 path_text resource.Checkpoint = codes "checkpoint"

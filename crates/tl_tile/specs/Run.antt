@@ -12,12 +12,17 @@ part start end entries = take (end - start) (drop start entries)
 abbrev pub place_hash : (List ℕ → List ℕ) → List (List ℕ) → ℕ → ℕ → List ℕ
 place_hash H entries width place = tree_hash H (take width (drop (place * width) entries))
 
--- the hashes of places side by side, each over `width` entries, and a last hash of what follows them up to `end`: at
--- least one entry and at most `width`
-pub record IsRun (H : List ℕ → List ℕ) (entries : List (List ℕ)) (width place end : ℕ) (hashes : List (List ℕ)) (last : List ℕ) : Type 0 where
-  pub power : IsPowerOfTwo width
-  pub within : end ≤ length entries
-  pub some : (place + length hashes) * width < end
-  pub most : end ≤ (place + length hashes + 1) * width
-  pub hashes_are : hashes ≡ map (place_hash H entries width) (range_with_len place (length hashes))
-  pub last_is : last ≡ tree_hash H (part ((place + length hashes) * width) end entries)
+-- places side by side from this one on, over `width` entries each, and what follows them up to the entry `end`
+pub record Run : Type 0 where
+  pub width : ℕ
+  pub place : ℕ
+  pub end : ℕ
+
+-- the hashes of the places of a run, and a last hash of what follows them: at least one entry and at most `width`
+pub record IsRun (H : List ℕ → List ℕ) (entries : List (List ℕ)) (run : Run) (hashes : List (List ℕ)) (last : List ℕ) : Type 0 where
+  pub power : IsPowerOfTwo run.width
+  pub within : run.end ≤ length entries
+  pub some : (run.place + length hashes) * run.width < run.end
+  pub most : run.end ≤ (run.place + length hashes + 1) * run.width
+  pub hashes_are : hashes ≡ map (place_hash H entries run.width) (range_with_len run.place (length hashes))
+  pub last_is : last ≡ tree_hash H (part ((run.place + length hashes) * run.width) run.end entries)

@@ -2,7 +2,7 @@
 use Rattle.std.specs.Prelude.{◌≡◌, ℕ, ◌+◌, ◌*◌, ◌%◌, ◌<◌, List, length, All, Some, ◌⊎◌}
 use Rattle.tl_tile.specs.declared.resource.Tile.{Tile}
 use Rattle.tl_tile.specs.TileText.{level_count, full_tile, partial_tile, tile_with}
-use Rattle.tl_tile.specs.Known.{Tiles, IsHashAt}
+use Rattle.tl_tile.specs.Folds.{Tiles, IsHashAt}
 
 -- a tile of a log of this size
 abbrev pub IsTileOf : ℕ → Tile → Type 0

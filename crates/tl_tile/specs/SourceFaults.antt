@@ -5,7 +5,7 @@ use Rattle.tl_store.specs.declared.reader.ReadFault.{ReadFault}
 use Rattle.tl_store.specs.declared.reader.ReadFault.TheVariants.{OutOfRange, Source, OutOfMemory, BadTile}
 use Rattle.tl_tile.specs.declared.resource.Tile.{Tile}
 use Rattle.tl_tile.specs.TileText.{level_count, full_tile, partial_tile, tile_text}
-use Rattle.tl_tile.specs.Known.{KnownRoot, KnownTile}
+use Rattle.tl_tile.specs.Folds.{IsEdgeRoot, IsTileHash}
 use Rattle.tl_tile.specs.Fetched.{tiles_of, tiles_in}
 use Rattle.tl_tile.specs.Source.{IsTileOf, IsHashWith, AreAnswers}
 use Rattle.tl_tile.specs.Fetching.{edge_tiles}
@@ -19,17 +19,17 @@ IsLast t text fetched = (before : List (Tile × List ℕ)) × (fetched ≡ befor
 abbrev pub HasBadLength : List (Tile × List ℕ) → Tile → Type 0
 HasBadLength fetched t = (text : List ℕ) × IsLast t text fetched × (length text ≢ 32 * t.width)
 
--- all partial tiles were fetched, and no others, and tell another root; this one is the highest
+-- all partial tiles were fetched, and no others, and fold to another root; this one is the highest
 pub record IsBadEdge (H : List ℕ → List ℕ) (size : ℕ) (root : List ℕ) (fetched : List (Tile × List ℕ)) (t : Tile) : Type 0 where
-  pub known : List ℕ
+  pub other : List ℕ
   pub strings : List (List ℕ)
   pub all : tiles_in fetched ≡ edge_tiles size
   pub partial : t ≡ partial_tile size t.level
   pub highest : (level : ℕ) → t.level < level → level_count size level % 256 ≡ 0
-  pub tells : KnownRoot H (tiles_of fetched) size known strings
-  pub differ : known ≢ root
+  pub folds : IsEdgeRoot H (tiles_of fetched) size other strings
+  pub differ : other ≢ root
 
--- the tile that was fetched last is a full one, and tells another hash than the tile above has
+-- the tile that was fetched last is a full one, and folds to another hash than the tile above has for it
 pub record IsBadFull (H : List ℕ → List ℕ) (size : ℕ) (fetched : List (Tile × List ℕ)) (t : Tile) : Type 0 where
   pub text : List ℕ
   pub own : List ℕ
@@ -39,7 +39,7 @@ pub record IsBadFull (H : List ℕ → List ℕ) (size : ℕ) (fetched : List (T
   pub full : t ≡ full_tile t.level t.index
   pub below : t.index < level_count size (t.level + 1)
   pub above : IsHashWith (tiles_of fetched) size (t.level + 1) t.index own
-  pub tells : KnownTile H text hash strings
+  pub folds : IsTileHash H text hash strings
   pub differ : own ≢ hash
 
 -- a tile of the log among those fetched that is not one that the root was made with

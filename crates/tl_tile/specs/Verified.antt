@@ -2,8 +2,8 @@
 use Rattle.std.specs.Prelude.{◌≡◌, ℕ, ◌+◌, List, [], ◌∷◌, ◌++◌, None, ◌⊎◌}
 use Rattle.tl_tile.specs.declared.resource.Tile.{Tile}
 use Rattle.tl_tile.specs.TileText.{full_tile}
-use Rattle.tl_tile.specs.Known.{AreChecked}
-use Rattle.tl_tile.specs.KnownEdge.{HasEdge}
+use Rattle.tl_tile.specs.Folds.{AreChecked}
+use Rattle.tl_tile.specs.FetchedEdge.{HasEdge}
 use Rattle.tl_tile.specs.Fetched.{tiles_of, tiles_in}
 use Rattle.tl_tile.specs.Source.{AreLong, HasTileWith}
 use Rattle.tl_tile.specs.Fetching.{edge_tiles, BeginsWithEdge}

@@ -3,7 +3,7 @@
 ghost use Rattle.std.specs.Prelude.{◌≡◌, ◌<◌, ◌+◌, ◌*◌, ℕ, List};
 ghost use Rattle.tl_hash.specs.Split.{IsSplit};
 ghost use Rattle.tl_hash.specs.Tree.{tree_hash};
-ghost use Rattle.tl_tile.specs.Run.{part, IsRun};
+ghost use Rattle.tl_tile.specs.Run.{part, Run, IsRun};
 ghost use Rattle.tl_tile.specs.Inner.Rest.{IsRest};
 ghost use Rattle.tl_tile.specs.Inner.PartialHashes.{partial_hashes};
 
@@ -19,9 +19,9 @@ pub(crate) fn split_of(count: usize) -> usize
 
 // The hash over subtrees of one width side by side, and a last one after them that is no wider.
 pub(crate) fn fold_run<T: TreeHash>(h: T, hashes: &[Hash], last: Hash) -> Hash
-    ensures { (entries : List (List ℕ)) (width place end : ℕ)
-        → IsRun T.digest_of entries width place end hashes.now last
-        → result ≡ tree_hash T.digest_of (part (place * width) end entries) }
+    ensures { (entries : List (List ℕ)) (run : Run)
+        → IsRun T.digest_of entries run hashes.now last
+        → result ≡ tree_hash T.digest_of (part (run.place * run.width) run.end entries) }
 {
     if hashes.is_empty() {
         return last;

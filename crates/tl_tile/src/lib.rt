@@ -2,28 +2,21 @@
 #![tactic(auto)]
 
 mod bundle;
-mod checker;
 mod edge;
-mod fetched;
 mod filling;
 mod fold;
-mod known;
-mod known_root;
 mod law;
 mod listing;
 mod path;
-mod place;
 mod resource;
 mod source;
 mod source_law;
-mod telling;
 mod tile;
 mod tile_law;
 mod tile_reader;
 
 pub use bundle::{BundleFault, read_bundle, write_bundle};
 pub use edge::Edge;
-pub use fetched::FetchedTiles;
 pub use law::{bundle_has_one_reading, filled_tiles_are_new};
 pub use listing::needed;
 pub use path::{parse_path, path_of};
@@ -31,5 +24,5 @@ pub use resource::{Resource, Tile};
 pub use source::{SourceFault, TileSource};
 pub use source_law::honest_source_law;
 pub use tile::tile_bytes;
-pub use tile_law::{checked_tiles_law, honest_tiles_law, known_hashes_law};
-pub use tile_reader::TileHashReader;
+pub use tile_law::{checked_tiles_law, folded_hashes_law, honest_tiles_law};
+pub use tile_reader::{FetchedTiles, TileHashReader};

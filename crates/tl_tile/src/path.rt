@@ -1,8 +1,8 @@
 //! Paths of resources (C2SP tlog-tiles, "Merkle Tree", "Log Entries" and "Checkpoints").
 
 ghost use Rattle.std.specs.Prelude.{◌≡◌, ◌≢◌, ◌+◌, ◌*◌, ◌/◌, ◌^◌, ◌<◌, ◌≤◌, ◌++◌, List, ℕ, MatchOption, Some, IfSome, IfNone, IfOk, OnOk, string_bytes};
-ghost use Rattle.tl_tile.specs.Path.{IsResource, path_text, three_digits, marked_group, index_text, width_text, place_text};
-ghost use Rattle.tl_tile.specs.Inner.ReadPath.{Strips, leading_number, leading_groups, IsWidth, HasNoWidth, IsPlace, HasNoPlace, IsTilePath, HasNoTile};
+ghost use Rattle.tl_tile.specs.Path.{IsResource, path_text, three_digits, marked_group, index_text, width_text, piece_text};
+ghost use Rattle.tl_tile.specs.Inner.ReadPath.{Strips, leading_number, leading_groups, IsWidth, HasNoWidth, IsPiece, HasNoPiece, IsTilePath, HasNoTile};
 ghost use Rattle.tl_tile.specs.declared.resource.Resource.{Resource};
 
 use crate::resource::{Resource, Tile};
@@ -89,8 +89,8 @@ fn width_of(bytes: &[u8]) -> Option<u32>
 }
 
 // An index and a width. The one text of the index that is read must stand at the front.
-fn place_of(bytes: &[u8]) -> Option<(u64, u32)>
-    ensures { MatchOption result (HasNoPlace bytes.now) (λ place. IsPlace bytes.now place.0 place.1) }
+fn piece_of(bytes: &[u8]) -> Option<(u64, u32)>
+    ensures { MatchOption result (HasNoPiece bytes.now) (λ place. IsPiece bytes.now place.0 place.1) }
 {
     let index = number_before_dot(bytes);
     if index >= 1 << 56 {
@@ -117,7 +117,7 @@ fn tile_of(bytes: &[u8]) -> Option<Resource>
         return None;
     }
     let level = (digit - b'0') as u32;
-    match place_of(&bytes[2..]) {
+    match piece_of(&bytes[2..]) {
         Some((index, width)) => Some(Resource::Tile(Tile {
             level,
             index,
@@ -141,7 +141,7 @@ pub fn parse_path(text: &str) -> Option<Resource>
         return Some(Resource::Checkpoint);
     }
     if let Some(place) = after(bytes, b"tile/entries/") {
-        return match place_of(place) {
+        return match piece_of(place) {
             Some((index, width)) => Some(Resource::Entries { index, width }),
             None => None,
         };
@@ -188,7 +188,7 @@ fn push_groups<A: Allocator>(out: &mut String<A>, n: u64) -> Result<(), AllocErr
 // Adds an index and the suffix of a width.
 fn push_place<A: Allocator>(out: &mut String<A>, index: u64, width: u32) -> Result<(), AllocError>
     requires { width ≤ 256 }
-    ensures { OnOk result (string_bytes out.new ≡ string_bytes out.old ++ place_text index width) }
+    ensures { OnOk result (string_bytes out.new ≡ string_bytes out.old ++ piece_text index width) }
 {
     push_groups(out, index / 1000)?;
     push_three(out, index % 1000)?;

@@ -1,22 +1,22 @@
-//! What holds of tiles by their definitions: what checked tiles tell, and that honest ones pass the checks.
+//! What holds of tiles by their definitions: what checked tiles fold to, and that honest ones pass the checks.
 
-ghost use Rattle.tl_tile.specs.TileLaws.{CheckedTilesTellStoredHashes, HonestTilesTellRoot, HonestTilesTellAbove, HonestTilesTellStoredHashes, KnownHashesAreOne};
+ghost use Rattle.tl_tile.specs.TileLaws.{CheckedTilesHaveStoredHashes, HonestTilesFoldToRoot, HonestTilesFoldToAbove, HonestTilesHaveStoredHashes, FoldedHashesAreOne};
 
-/// What checked tiles tell of a size and a root is stored for each list of that size and root, or two different byte
-/// strings that were hashed have one digest.
+/// What the hashes of a subtree fold to in checked tiles is stored for each list of their size and root, or two
+/// different byte strings that were hashed have one digest.
 pub fn checked_tiles_law()
-    ensures { CheckedTilesTellStoredHashes }
+    ensures { CheckedTilesHaveStoredHashes }
 {}
 
-/// The tiles over a list of entries tell its root, each full one the hash that the tile above has for it, and all of
-/// them its stored hashes.
+/// The tiles over a list of entries fold to its root, each full one to the hash that the tile above has for it, and the
+/// hashes of each subtree to its stored hash.
 pub fn honest_tiles_law()
-    ensures root { HonestTilesTellRoot }
-    ensures above { HonestTilesTellAbove }
-    ensures stored { HonestTilesTellStoredHashes }
+    ensures root { HonestTilesFoldToRoot }
+    ensures above { HonestTilesFoldToAbove }
+    ensures stored { HonestTilesHaveStoredHashes }
 {}
 
-/// Tiles tell one root, and a full tile one hash.
-pub fn known_hashes_law()
-    ensures { KnownHashesAreOne }
+/// Partial tiles fold to one root, and a full tile to one hash.
+pub fn folded_hashes_law()
+    ensures { FoldedHashesAreOne }
 {}

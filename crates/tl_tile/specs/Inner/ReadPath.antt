@@ -6,7 +6,7 @@ use Rattle.std.specs.Char.{is_ascii_digit}
 use Rattle.tl_tile.specs.declared.resource.Tile.{Tile}
 use Rattle.tl_tile.specs.declared.resource.Resource.{Resource}
 use Rattle.tl_tile.specs.declared.resource.Resource.TheVariants as resource
-use Rattle.tl_tile.specs.Path.{IsTile, marked_group, width_text, place_text}
+use Rattle.tl_tile.specs.Path.{IsTile, marked_group, width_text, piece_text}
 
 -- bytes without this beginning, or that they don't begin so
 abbrev pub Strips : {X : Type 0} → (X → List ℕ) → List ℕ → List ℕ → Option X → Type 0
@@ -31,20 +31,20 @@ IsWidth bytes width = (0 < width) × (width ≤ 256) × (bytes ≡ width_text wi
 abbrev pub HasNoWidth : List ℕ → Type 0
 HasNoWidth bytes = (width : ℕ) → 0 < width → width ≤ 256 → bytes ≢ width_text width
 
-abbrev pub IsPlace : List ℕ → ℕ → ℕ → Type 0
-IsPlace bytes index width = (index < 2 ^ 56) × (0 < width) × (width ≤ 256) × (bytes ≡ place_text index width)
+abbrev pub IsPiece : List ℕ → ℕ → ℕ → Type 0
+IsPiece bytes index width = (index < 2 ^ 56) × (0 < width) × (width ≤ 256) × (bytes ≡ piece_text index width)
 
-abbrev pub HasNoPlace : List ℕ → Type 0
-HasNoPlace bytes = (index width : ℕ) → index < 2 ^ 56 → 0 < width → width ≤ 256 → bytes ≢ place_text index width
+abbrev pub HasNoPiece : List ℕ → Type 0
+HasNoPiece bytes = (index width : ℕ) → index < 2 ^ 56 → 0 < width → width ≤ 256 → bytes ≢ piece_text index width
 
 -- what follows `tile/` in the path of a tile
-abbrev pub tile_place_text : Tile → List ℕ
-tile_place_text t = (48 + t.level) ∷ 47 ∷ place_text t.index t.width
+abbrev pub tile_piece_text : Tile → List ℕ
+tile_piece_text t = (48 + t.level) ∷ 47 ∷ piece_text t.index t.width
 
 abbrev pub IsTilePath : List ℕ → Resource → Type 0
-IsTilePath bytes (resource.Tile t) = IsTile t × (bytes ≡ tile_place_text t)
+IsTilePath bytes (resource.Tile t) = IsTile t × (bytes ≡ tile_piece_text t)
 IsTilePath bytes (resource.Entries index width) = ⊥
 IsTilePath bytes resource.Checkpoint = ⊥
 
 abbrev pub HasNoTile : List ℕ → Type 0
-HasNoTile bytes = (t : Tile) → IsTile t → bytes ≢ tile_place_text t
+HasNoTile bytes = (t : Tile) → IsTile t → bytes ≢ tile_piece_text t

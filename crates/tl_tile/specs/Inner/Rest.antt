@@ -1,5 +1,5 @@
 -- What is left of a run of a tile.
-use Rattle.std.specs.Prelude.{◌≡◌, ℕ, ◌-◌, ◌*◌, ◌%◌, ◌^◌, ◌<◌, List, length, Option, Some, None}
+use Rattle.std.specs.Prelude.{◌≡◌, ℕ, ◌*◌, ◌%◌, ◌^◌, ◌<◌, List, length, Option, Some, None}
 use Rattle.tl_hash.specs.Tree.{tree_hash}
 use Rattle.tl_tile.specs.TileText.{level_count}
 use Rattle.tl_tile.specs.Run.{part}

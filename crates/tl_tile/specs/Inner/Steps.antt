@@ -3,10 +3,10 @@ use Rattle.std.specs.Prelude.{◌≡◌, ℕ, ◌+◌, ◌*◌, ◌/◌, ◌%◌
 use Rattle.std.specs.List.{AllZip}
 use Rattle.tl_store.specs.Stored.{stored_index}
 use Rattle.tl_tile.specs.declared.resource.Tile.{Tile}
-use Rattle.tl_tile.specs.declared.place.Place.{Place}
+use Rattle.tl_tile.specs.declared.tile_reader.subtree.Subtree.{Subtree}
 use Rattle.tl_tile.specs.TileText.{level_count, full_tile, tile_with}
-use Rattle.tl_tile.specs.Known.{Tiles, Tells}
-use Rattle.tl_tile.specs.KnownEdge.{IsEdgeLevel}
+use Rattle.tl_tile.specs.Folds.{Tiles, IsSubtreeHash}
+use Rattle.tl_tile.specs.FetchedEdge.{IsEdgeLevel}
 use Rattle.tl_tile.specs.Fetched.{tiles_of, tiles_in}
 use Rattle.tl_tile.specs.Source.{AreAnswers, AreLong, HasTileWith}
 use Rattle.tl_tile.specs.Fetching.{IsOver, edge_from}
@@ -47,16 +47,16 @@ IsThere tiles size level place true = HasTileWith tiles size level place
 IsThere tiles size level place false = IsNotFetched tiles size level place
 
 -- a complete subtree of a log of this size
-abbrev pub IsPlaceIn : ℕ → Place → Type 0
-IsPlaceIn size p = (p.level ≤ 62) × ((p.place + 1) * 2 ^ p.level ≤ size)
+abbrev pub IsSubtreeOf : ℕ → Subtree → Type 0
+IsSubtreeOf size p = (p.level ≤ 62) × ((p.place + 1) * 2 ^ p.level ≤ size)
 
--- the tiles tell this hash of the subtree with this number among the stored hashes
-pub record TellsNumber (H : List ℕ → List ℕ) (tiles : Tiles) (size index : ℕ) (hash : List ℕ) : Type 0 where
-  pub place : Place
-  pub within : IsPlaceIn size place
-  pub number : stored_index place.level place.place ≡ index
-  pub tells : Tells H tiles size place.level place.place hash
+-- the tiles have this hash for the subtree with this number among the stored hashes
+pub record IsHashOfNumber (H : List ℕ → List ℕ) (tiles : Tiles) (size index : ℕ) (hash : List ℕ) : Type 0 where
+  pub subtree : Subtree
+  pub within : IsSubtreeOf size subtree
+  pub number : stored_index subtree.level subtree.place ≡ index
+  pub hash_is : IsSubtreeHash H tiles size subtree.level subtree.place hash
 
--- the hashes that the tiles tell of the subtrees with these numbers
-abbrev pub TellsAll : (List ℕ → List ℕ) → Tiles → ℕ → List ℕ → List (List ℕ) → Type 0
-TellsAll H tiles size indexes hashes = AllZip (λ index hash. TellsNumber H tiles size index hash) indexes hashes
+-- the hashes that the tiles have for the subtrees with these numbers
+abbrev pub AreHashesOf : (List ℕ → List ℕ) → Tiles → ℕ → List ℕ → List (List ℕ) → Type 0
+AreHashesOf H tiles size indexes hashes = AllZip (λ index hash. IsHashOfNumber H tiles size index hash) indexes hashes

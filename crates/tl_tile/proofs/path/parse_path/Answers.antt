@@ -13,8 +13,8 @@ pub returns-clause-only : goal.returns-clause-only
 returns-clause-only c = only_tile c.args.text.now c.in-Some-after.rest.now c.tile_of.result (unlike c.args.text.now _ c.eq.result c.eq.ensures c.if-eq.false)
     (λ more e. c.in_default.ensures more (c.as_bytes-bytes.ensures.value ∙ e)) (sym c.as_bytes-bytes.ensures.value ∙ c.in-Some-after.ensures) c.tile_of.ensures
 
-pub returns-in-Some-place_of-clause-only : goal.returns-in-Some-place_of-clause-only
-returns-in-Some-place_of-clause-only c =
-    let place = c.in-Some-place_of.ensures in
+pub returns-in-Some-piece_of-clause-only : goal.returns-in-Some-piece_of-clause-only
+returns-in-Some-piece_of-clause-only c =
+    let place = c.in-Some-piece_of.ensures in
     let path = sym c.as_bytes-bytes.ensures.value ∙ c.in-Some.ensures ∙ ap (λ t. codes "tile/entries/" ++ t) place.3 in
-    only_path c.args.text.now (Some (resource.Entries c.in-Some-place_of.index c.in-Some-place_of.width)) ((place.0, place.1, place.2), sym path) tt
+    only_path c.args.text.now (Some (resource.Entries c.in-Some-piece_of.index c.in-Some-piece_of.width)) ((place.0, place.1, place.2), sym path) tt

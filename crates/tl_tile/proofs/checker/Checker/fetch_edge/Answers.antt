@@ -1,8 +1,0 @@
-use Rattle.tl_tile.proofs.EdgeFetch.{edge-all}
-use Rattle.tl_tile.proofs.checker.Checker.fetch_edge.Goals as goal
-
-pub returns-clause-verified : goal.returns-clause-verified
-returns-clause-verified g c =
-    let told = rw c.in-Some.is at c.in_ok-known.ensures in
-    edge-all g.T.TreeHash.digest_of c.args.self.now.size c.args.self.now.root c.in-Some.known c.fetch_levels.new.fetched
-    c.in_ok-fetch_levels.ensures.edge told (c.same.ensures.0 c.if-not-same.false)

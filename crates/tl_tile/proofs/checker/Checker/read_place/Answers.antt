@@ -1,9 +1,0 @@
-use Rattle.std.proofs.Common.{arith}
-use Rattle.tl_tile.proofs.Reading.{first_below, first_small}
-use Rattle.tl_tile.proofs.checker.Checker.read_place.Goals as goal
-
-pub overflow_mul-first : goal.overflow_mul-first
-overflow_mul-first g c = omega (arith, first_small c.args.self.now.size c.args.place c.pow-count.result c.pow-count.ensures c.requires.place c.requires.size)
-
-pub fetch_with-requires-clause-place : goal.fetch_with-requires-clause-place
-fetch_with-requires-clause-place g c = first_below c.args.self.now.size c.args.place c.pow-count.result c.pow-count.ensures c.requires.place

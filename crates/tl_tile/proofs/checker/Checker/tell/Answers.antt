@@ -1,8 +1,0 @@
-use Rattle.tl_tile.specs.Fetched.{tiles_of}
-use Rattle.tl_tile.proofs.Reading.{part_inside}
-use Rattle.tl_tile.proofs.checker.Checker.tell.Goals as goal
-
-pub known_part-requires-clause-inside : goal.known_part-requires-clause-inside
-known_part-requires-clause-inside g c =
-    part_inside (tiles_of c.args.fetched.now) c.args.self.now.size c.args.place c.args.first c.args.count c.tile_with-tile.result c.in-Some.text.now
-    c.requires.first c.requires.count c.requires.place c.requires.verified.long c.tile_with-tile.ensures c.in-Some.ensures

@@ -1,0 +1,115 @@
+-- What the hashes of fetched tiles fold to: the root of a log, and the hashes of its subtrees (RFC 6962, 2.1; C2SP
+-- tlog-tiles, "Merkle Tree").
+use Rattle.std.specs.Prelude.{◌≡◌, ◌≢◌, ℕ, ◌+◌, ◌-◌, ◌*◌, ◌/◌, ◌%◌, ◌^◌, ◌<◌, ◌≤◌, List, [], ◌∷◌, ◌++◌, length, take, drop, Option, Some, Contains, ◌⊎◌}
+use Rattle.tl_hash.specs.Split.{IsSplit}
+use Rattle.tl_hash.specs.Tree.{node_input, inputs}
+use Rattle.tl_tile.specs.declared.resource.Tile.{Tile}
+use Rattle.tl_tile.specs.TileText.{level_count, full_tile, partial_tile, tile_with}
+
+-- ---- folding hashes
+
+-- no hash is given of the run of so many places from this one on
+abbrev pub IsNotGiven : (ℕ → ℕ → List ℕ → Type 0) → ℕ → ℕ → Type 0
+IsNotGiven IsGiven start count = (hash : List ℕ) → IsGiven start count hash → ⊥
+
+-- A fold: the tree hash over a run of `count` places from `start` on, where `IsGiven` says of which runs a hash is
+-- given. It comes to one hash, and has a list of the strings that it hashes on the way.
+pub data IsFold (H : List ℕ → List ℕ) (IsGiven : ℕ → ℕ → List ℕ → Type 0) : ℕ → ℕ → List ℕ → List (List ℕ) → Type 0 where
+  -- of no places: the digest of no bytes
+  nothing : (start : ℕ) → IsFold H IsGiven start 0 (H []) ([] ∷ [])
+  -- of a run whose hash is given: that hash, and nothing is hashed
+  given : (start count : ℕ) (hash : List ℕ) → 0 < count → IsGiven start count hash → IsFold H IsGiven start count hash []
+  -- of any other run: the digest of a node over its two parts, split where the tree splits
+  split : (start count k : ℕ) (left right : List ℕ) (lefts rights : List (List ℕ))
+      → IsNotGiven IsGiven start count → IsSplit k count
+      → IsFold H IsGiven start k left lefts → IsFold H IsGiven (start + k) (count - k) right rights
+      → IsFold H IsGiven start count (H (node_input left right)) (node_input left right ∷ lefts ++ rights)
+
+-- the texts of the tiles that were fetched
+abbrev pub Tiles : Type 0
+Tiles = Tile → Option (List ℕ)
+
+-- the hash with this number in a tile's text: 32 bytes of it
+pub record IsHashAt (text : List ℕ) (number : ℕ) (hash : List ℕ) : Type 0 where
+  pub bytes : hash ≡ take 32 (drop (32 * number) text)
+  pub whole : length hash ≡ 32
+
+-- ---- the partial tiles
+
+-- a place of a level lies in the level's partial tile
+abbrev pub IsOnEdge : ℕ → ℕ → ℕ → Type 0
+IsOnEdge size level place = (level_count size level / 256 * 256 ≤ place) × (place < level_count size level)
+
+-- a hash of a partial tile: that of the 256 ^ level entries at one of its places
+pub record IsEdgeHash (tiles : Tiles) (size start count : ℕ) (hash : List ℕ) : Type 0 where
+  pub level : ℕ
+  pub place : ℕ
+  pub text : List ℕ
+  pub starts : start ≡ place * 256 ^ level
+  pub counts : count ≡ 256 ^ level
+  pub on_edge : IsOnEdge size level place
+  pub fetched : tiles (partial_tile size level) ≡ Some text
+  pub there : IsHashAt text (place % 256) hash
+
+-- the root that the hashes of the partial tiles fold to, and the strings hashed for it
+abbrev pub IsEdgeRoot : (List ℕ → List ℕ) → Tiles → ℕ → List ℕ → List (List ℕ) → Type 0
+IsEdgeRoot H tiles size root strings = IsFold H (IsEdgeHash tiles size) 0 size root strings
+
+-- ---- one tile
+
+-- a hash of a tile: that of one place
+abbrev pub IsOwnHash : List ℕ → ℕ → ℕ → List ℕ → Type 0
+IsOwnHash text start count hash = (count ≡ 1) × IsHashAt text start hash
+
+-- the hash that so many hashes of a tile fold to, and the strings hashed for it
+abbrev pub IsPartHash : (List ℕ → List ℕ) → List ℕ → ℕ → ℕ → List ℕ → List (List ℕ) → Type 0
+IsPartHash H text start count hash strings = IsFold H (IsOwnHash text) start count hash strings
+
+-- the hash that all hashes of a full tile fold to, and the strings hashed for it
+abbrev pub IsTileHash : (List ℕ → List ℕ) → List ℕ → List ℕ → List (List ℕ) → Type 0
+IsTileHash H text hash strings = IsPartHash H text 0 256 hash strings
+
+-- ---- checked tiles
+
+-- a full tile folds to the hash that the tile above has for it, and that tile was fetched too
+pub record FoldsToAbove (H : List ℕ → List ℕ) (tiles : Tiles) (size level index : ℕ) (text : List ℕ) : Type 0 where
+  pub above : List ℕ
+  pub hash : List ℕ
+  pub strings : List (List ℕ)
+  pub fetched : tiles (tile_with size (level + 1) index) ≡ Some above
+  pub there : IsHashAt above (index % 256) hash
+  pub folds : IsTileHash H text hash strings
+
+-- what a client checks of the tiles that it fetched: the partial ones fold to the root, and each full one to its hash
+-- in the tile above
+pub record AreChecked (H : List ℕ → List ℕ) (tiles : Tiles) (size : ℕ) (root : List ℕ) : Type 0 where
+  pub strings : List (List ℕ)
+  pub folds : IsEdgeRoot H tiles size root strings
+  pub full : (level index : ℕ) (text : List ℕ) → index < level_count size (level + 1)
+      → tiles (full_tile level index) ≡ Some text → FoldsToAbove H tiles size level index text
+
+-- the hash of the complete subtree over 2 ^ level entries at this place: what its hashes of level / 8 fold to, which
+-- are side by side in one tile
+pub record IsSubtreeHash (H : List ℕ → List ℕ) (tiles : Tiles) (size level place : ℕ) (hash : List ℕ) : Type 0 where
+  pub text : List ℕ
+  pub strings : List (List ℕ)
+  pub fetched : tiles (tile_with size (level / 8) (place * 2 ^ (level % 8))) ≡ Some text
+  pub folds : IsPartHash H text (place * 2 ^ (level % 8) % 256) (2 ^ (level % 8)) hash strings
+
+-- ---- collisions
+
+-- a string that is hashed for the root or for one of the full tiles
+abbrev pub IsFolded : (List ℕ → List ℕ) → Tiles → ℕ → List ℕ → Type 0
+IsFolded H tiles size string =
+    ((root : List ℕ) × (strings : List (List ℕ)) × IsEdgeRoot H tiles size root strings × Contains strings string)
+    ⊎ ((level : ℕ) × (index : ℕ) × (text : List ℕ) × (hash : List ℕ) × (strings : List (List ℕ))
+    × (tiles (full_tile level index) ≡ Some text) × IsTileHash H text hash strings × Contains strings string)
+
+-- an input of the tree over the entries and a string hashed for the tiles, different and with one digest
+pub record TilesCollide (H : List ℕ → List ℕ) (tiles : Tiles) (size : ℕ) (entries : List (List ℕ)) : Type 0 where
+  pub x : List ℕ
+  pub y : List ℕ
+  pub input : Contains (inputs H entries) x
+  pub folded : IsFolded H tiles size y
+  pub differ : x ≢ y
+  pub same_digest : H x ≡ H y
