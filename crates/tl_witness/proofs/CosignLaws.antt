@@ -21,12 +21,6 @@ cosigned text time key name words message signature bytes again id m given some 
   spelled = spelled ∙ ap (λ (t : List ℕ). line_of t id bytes) a ∙ ap (λ (k : ℕ). line_of name k bytes) i ∙ ap (λ (t : List ℕ). line_of name key.id t) b;
 }
 
--- the signer refused this message or gave no bytes
-pub not_cosigned : (text : List ℕ) (time : ℕ) (key : SigningKey) (name message : List ℕ) → message ≡ cosigned_message time text
-    → IsTrue (key.may_refuse message) ⊎ IsTrue (key.may_give message []) → MayFailToCosign text time (named_key name key)
-not_cosigned text time key name message m failed =
-    subst (λ (t : List ℕ). IsTrue (key.may_refuse t) ⊎ IsTrue (key.may_give t [])) m failed
-
 -- a signature of no bytes
 pub gave_none : (key : SigningKey) (message signature : List ℕ) → IsTrue (key.may_give message signature) → signature ≡ [] → IsTrue (key.may_give message [])
 gave_none key message signature given none = subst (λ (t : List ℕ). IsTrue (key.may_give message t)) none given
