@@ -53,10 +53,6 @@ impl<T: TreeHash, A: Allocator> OfOrigin for Entry<T, A> {
     fn origin(&self) -> &str {
         self.origin.name.as_str()
     }
-
-    fn is_of(&self, origin: &str) -> bool {
-        self.origin.name.as_str() == origin
-    }
 }
 
 /// What a witness keeps of every origin: whom it trusts, who cosigns, and the links that it has accepted.

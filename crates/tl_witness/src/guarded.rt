@@ -69,10 +69,6 @@ impl<T: TreeHash, A: Allocator> OfOrigin for Guarded<T, A> {
     fn origin(&self) -> &str {
         self.origin.name.as_str()
     }
-
-    fn is_of(&self, origin: &str) -> bool {
-        self.origin.name.as_str() == origin
-    }
 }
 
 // At most so many links from this place on.

@@ -58,7 +58,7 @@ pub(crate) fn place_by<N: OfOrigin, A: Allocator + Copy>(
     ensures none { IfNone result ((i : ℕ) → slice_get (map N.origin_of list.now) i ≢ Some origin.now) }
 {
     if let Some(place) = places.find(origin) {
-        if place < list.len() && list[place].is_of(origin) {
+        if place < list.len() && list[place].origin() == origin {
             return Some(place);
         }
     }

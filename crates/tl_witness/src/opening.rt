@@ -56,10 +56,6 @@ impl<A: Allocator> OfOrigin for (String<A>, Vec<Link<A>, A>) {
     fn origin(&self) -> &str {
         self.0.as_str()
     }
-
-    fn is_of(&self, origin: &str) -> bool {
-        self.0.as_str() == origin
-    }
 }
 
 // A chain, and its origin.
@@ -74,10 +70,6 @@ impl<T: TreeHash, A: Allocator> OfOrigin for Checked<T, A> {
 
     fn origin(&self) -> &str {
         self.origin.as_str()
-    }
-
-    fn is_of(&self, origin: &str) -> bool {
-        self.origin.as_str() == origin
     }
 }
 

@@ -1,6 +1,6 @@
 //! Where an origin stands in a list.
 
-ghost use Rattle.std.specs.Prelude.{◌≡◌, ◌≢◌, ◌↔◌, ◌<◌, ℕ, IsTrue, IfSome, IfNone, Some, length, map, slice_get};
+ghost use Rattle.std.specs.Prelude.{◌≡◌, ◌≢◌, ◌<◌, ℕ, IfSome, IfNone, Some, length, map, slice_get};
 
 /// What has an origin.
 pub(crate) trait OfOrigin {
@@ -11,10 +11,6 @@ pub(crate) trait OfOrigin {
     /// Its origin.
     fn origin(&self) -> &str
         ensures { result.now ≡ origin_of self.now };
-
-    /// Whether it is of this origin.
-    fn is_of(&self, origin: &str) -> bool
-        ensures { IsTrue result ↔ (origin_of self.now ≡ origin.now) };
 }
 
 /// A place of what has this origin.
@@ -24,7 +20,7 @@ pub(crate) fn place_of<N: OfOrigin>(list: &[N], origin: &str) -> Option<usize>
     ensures none { IfNone result ((i : ℕ) → slice_get (map N.origin_of list.now) i ≢ Some origin.now) }
 {
     for i in 0..list.len() {
-        if list[i].is_of(origin) {
+        if list[i].origin() == origin {
             return Some(i);
         }
     }
