@@ -23,44 +23,28 @@ is_of origin l = bytes_eq l.origin origin
 abbrev has : List ℕ → List ChainLine → Bool
 has origin lines = list_any (is_of origin) lines
 
--- no line before this place is of its origin
-abbrev is_first : List ChainLine → ℕ × ChainLine → Bool
-is_first lines p = not (has p.1.origin (take p.0 lines))
-
 -- ---- the origins
 
-same_first : (all : List ChainLine) (l : ChainLine) (k : ℕ) (x : ChainLine) → k ≤ length all → is_first (all ++ l ∷ []) (k, x) ≡ is_first all (k, x)
-same_first all l k x within = ap (λ (ls : List ChainLine). not (has x.origin ls)) (take-append-le k all (l ∷ []) within)
+last_left : (same has : Bool) (x : List ℕ) → cond has [] (cond (not same) (x ∷ []) []) ≡ cond (same || has) [] (x ∷ [])
+last_left true true x = refl
+last_left true false x = refl
+last_left false true x = refl
+last_left false false x = refl
 
-kept_front : {A : Type 0} (b : Bool) (x : A) (xs ys : List A) → cond b (x ∷ (xs ++ ys)) (xs ++ ys) ≡ cond b (x ∷ xs) xs ++ ys
-kept_front true x xs ys = refl
-kept_front false x xs ys = refl
+filter_last : (p : List ℕ → Bool) (has : Bool) (x : List ℕ) → filter p (cond has [] (x ∷ [])) ≡ cond has [] (cond (p x) (x ∷ []) [])
+filter_last p true x = refl
+filter_last p false x = refl
 
-firsts_more : (all : List ChainLine) (l : ChainLine) (k : ℕ) (rest : List ChainLine) → k + length rest ≡ length all
-    → filter (is_first (all ++ l ∷ [])) (enumerate_from k (rest ++ l ∷ [])) ≡ filter (is_first all) (enumerate_from k rest) ++ filter (is_first (all ++ l ∷ [])) ((length all, l) ∷ [])
-firsts_more all l k [] e =
-    let same : k ≡ length all = omega arith in
-    ap (λ (n : ℕ). filter (is_first (all ++ l ∷ [])) ((n, l) ∷ [])) same
-firsts_more all l k (x ∷ rest) e =
-    let last = filter (is_first (all ++ l ∷ [])) ((length all, l) ∷ []) in
-    let before = filter (is_first all) (enumerate_from (k + 1) rest) in
-    let others = firsts_more all l (k + 1) rest (omega arith) in
-    ap (λ (b : Bool). cond b ((k, x) ∷ filter (is_first (all ++ l ∷ [])) (enumerate_from (k + 1) (rest ++ l ∷ []))) (filter (is_first (all ++ l ∷ [])) (enumerate_from (k + 1) (rest ++ l ∷ []))))
-    (same_first all l k x (omega arith))
-    ∙ ap (λ (t : List (ℕ × ChainLine)). cond (is_first all (k, x)) ((k, x) ∷ t) t) others
-    ∙ kept_front (is_first all (k, x)) (k, x) before last
-
-last_origin : (b : Bool) (n : ℕ) (l : ChainLine) → map (λ (p : ℕ × ChainLine). p.1.origin) (cond (not b) ((n, l) ∷ []) []) ≡ cond b [] (l.origin ∷ [])
-last_origin true n l = refl
-last_origin false n l = refl
-
+-- one line more
 pub origins_more : (lines : List ChainLine) (l : ChainLine) → origins (lines ++ l ∷ []) ≡ origins lines ++ cond (has l.origin lines) [] (l.origin ∷ [])
-origins_more lines l =
-    let f : ℕ × ChainLine → List ℕ = λ p. p.1.origin in
-    ap (map f) (firsts_more lines l 0 lines (omega arith))
-    ∙ map-append f (filter (is_first lines) (enumerate_from 0 lines)) (filter (is_first (lines ++ l ∷ [])) ((length lines, l) ∷ []))
-    ∙ ap (λ (t : List (List ℕ)). origins lines ++ t)
-    (ap (λ (ls : List ChainLine). map f (cond (not (has l.origin ls)) ((length lines, l) ∷ []) [])) (take-append_seam lines (l ∷ [])) ∙ last_origin (has l.origin lines) (length lines) l)
+origins_more [] l = refl
+origins_more (first ∷ lines) l =
+    let other : List ℕ → Bool = λ o. not (bytes_eq first.origin o) in
+    let last = cond (has l.origin lines) [] (l.origin ∷ []) in
+    ap (λ (os : List (List ℕ)). first.origin ∷ filter other os) (origins_more lines l)
+    ∙ ap (λ (os : List (List ℕ)). first.origin ∷ os) (filter-append other (origins lines) last)
+    ∙ ap (λ (os : List (List ℕ)). first.origin ∷ (filter other (origins lines) ++ os))
+    (filter_last other (has l.origin lines) l.origin ∙ last_left (bytes_eq first.origin l.origin) (has l.origin lines) l.origin)
 
 -- ---- the steps of an origin
 

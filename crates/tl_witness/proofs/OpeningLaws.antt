@@ -176,17 +176,17 @@ once_from trusted origin keys saved named trusts chains o k n once = (
   subst (All HasEachKeyOnce) (sym (shown_twice trusted (λ t. t.verifiers) keys trusts k)) once.keys_once,
 )
 
-pub known_to : {E C : Type 0} (trusted : E → Trusted) (origin : E → List ℕ) (saved : C → SavedChain) (named : C → List ℕ) (trusts : List E) (chains : List C)
+pub trusted_to : {E C : Type 0} (trusted : E → Trusted) (origin : E → List ℕ) (saved : C → SavedChain) (named : C → List ℕ) (trusts : List E) (chains : List C)
     → ((t : E) → origin t ≡ (trusted t).origin) → ((c : C) → named c ≡ (saved c).0)
     → All (λ o. IsAmong o (map origin trusts)) (map named chains) → All (IsTrusted (map trusted trusts)) (chain_origins (map saved chains))
-known_to trusted origin saved named trusts chains o n each =
+trusted_to trusted origin saved named trusts chains o n each =
     subst (λ (os : List (List ℕ)). All (λ x. IsAmong x os) (chain_origins (map saved chains))) (shown_twice trusted (λ t. t.origin) origin trusts o)
     (subst (All (λ x. IsAmong x (map origin trusts))) (shown_twice saved (λ c. c.0) named chains n) each)
 
-pub unknown_to : {E C : Type 0} (trusted : E → Trusted) (origin : E → List ℕ) (saved : C → SavedChain) (named : C → List ℕ) (trusts : List E) (chains : List C) (place : ℕ)
+pub untrusted_to : {E C : Type 0} (trusted : E → Trusted) (origin : E → List ℕ) (saved : C → SavedChain) (named : C → List ℕ) (trusts : List E) (chains : List C) (place : ℕ)
     → ((t : E) → origin t ≡ (trusted t).origin) → ((c : C) → named c ≡ (saved c).0)
     → IsFirstNot (λ o. IsAmong o (map origin trusts)) (map named chains) place → IsFirstNot (IsTrusted (map trusted trusts)) (chain_origins (map saved chains)) place
-unknown_to trusted origin saved named trusts chains place o n first =
+untrusted_to trusted origin saved named trusts chains place o n first =
     subst (λ (os : List (List ℕ)). IsFirstNot (λ x. IsAmong x os) (chain_origins (map saved chains)) place) (shown_twice trusted (λ t. t.origin) origin trusts o)
     (subst (λ (os : List (List ℕ)). IsFirstNot (λ x. IsAmong x (map origin trusts)) os place) (shown_twice saved (λ c. c.0) named chains n) first)
 

@@ -11,3 +11,7 @@ pub
     mod ReadSigned
 pub
     mod NamedKey
+pub
+    mod Shown
+pub
+    mod Outcome

@@ -14,7 +14,6 @@ pub mod Cosigned
 pub mod Shared
 pub mod Open
 pub mod Opening
-pub mod Index
 pub mod ChainFields
 pub mod ByOrigin
 pub mod ReadChain

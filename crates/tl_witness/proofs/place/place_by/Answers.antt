@@ -1,7 +1,7 @@
 use Rattle.std.proofs.Common.{◌≡◌, length, refl, sym, true, ◌∙◌, arith}
 use Rattle.std.proofs.lemmas.Slice.Eq.{bytes_eq-Decides}
 use Rattle.tl_witness.proofs.PlaceLaws.{shows_at}
-use Rattle.tl_witness.proofs.index.place_by.Goals as goal
+use Rattle.tl_witness.proofs.place.place_by.Goals as goal
 
 pub returns-then-eq-clause-found : goal.returns-then-eq-clause-found
 returns-then-eq-clause-found g c =
