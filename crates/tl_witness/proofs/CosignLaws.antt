@@ -1,10 +1,10 @@
 -- A cosignature line under a name that was kept.
-use Rattle.std.proofs.Common.{◌≡◌, ℕ, ◌<◌, List, [], length, ap, subst, ◌∙◌, ◌⊎◌}
+use Rattle.std.proofs.Common.{◌≡◌, ℕ, ◌<◌, List, [], length, ap, subst, ◌∙◌}
 use Rattle.std.specs.Prelude.{IsTrue}
 use Rattle.tl_note.specs.Key.{SigningKey, IsKeyName}
 use Rattle.tl_note.specs.Note.{signature_line}
-use Rattle.tl_checkpoint.specs.Cosignature.{cosigned_message, cosignature, Cosigns, MayFailToCosign}
-use Rattle.tl_witness.specs.Inner.NamedKey.{named_key}
+use Rattle.tl_checkpoint.specs.Cosignature.{cosigned_message, cosignature, Cosigns}
+use Rattle.tl_witness.specs.Witnessed.{named_key}
 
 abbrev line_of : List ℕ → ℕ → List ℕ → List ℕ
 line_of name id bytes = signature_line (record { name = name; id = id; bytes = bytes })

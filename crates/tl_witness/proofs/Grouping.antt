@@ -1,17 +1,16 @@
 -- Laws of the chains that lines say, as one line more comes behind them.
-use Rattle.std.proofs.Common.{◌≡◌, ◌≢◌, ℕ, zero, suc, ◌+◌, ◌≤◌, Bool, true, false, List, [], ◌∷◌, ◌++◌, length, map, take, refl, sym, ap, subst, ◌∙◌, cond, inl, inr, Some, arith}
+use Rattle.std.proofs.Common.{◌≡◌, ◌≢◌, ℕ, zero, suc, Bool, true, false, List, [], ◌∷◌, ◌++◌, map, refl, sym, ap, subst, ◌∙◌, cond, inl, inr, Some}
 use Rattle.std.specs.Prelude.{◌||◌, not, bytes_eq, filter, slice_get, slice_set}
-use Rattle.std.specs.List.{list_any, enumerate_from}
-use Rattle.std.proofs.Math.Seq.{take-append_seam}
+use Rattle.std.specs.List.{list_any}
 use Rattle.std.proofs.lemmas.Bool.{cases_Bool, or_cases}
-use Rattle.std.proofs.lemmas.List.{map-append, take-append-le, append-nil}
+use Rattle.std.proofs.lemmas.List.{map-append, append-nil}
 use Rattle.std.proofs.lemmas.List.Elements.{filter-append}
 use Rattle.std.proofs.lemmas.List.Folds.{list_any-append}
 use Rattle.std.proofs.lemmas.Slice.Eq.{bytes_eq-Decides}
 use Rattle.tl_proof.specs.Acceptance.{Step}
 use Rattle.tl_witness.specs.ChainLine.{ChainLine, chains, origins, steps_of}
 use Rattle.tl_witness.specs.ChainFields.{PutsStep}
-use Rattle.tl_witness.specs.Open.{SavedChain, IsAmong, HasTwice, chain_origins}
+use Rattle.tl_witness.specs.Open.{SavedChain, IsAmong, HasTwice, chain_origins, saved_chain}
 use Rattle.tl_witness.proofs.ListLaws.{among_at, among_none, among_or, among_append, among_last}
 use Rattle.tl_witness.proofs.PlaceLaws.{stands_at}
 
@@ -165,7 +164,7 @@ changed_once f g x v (y ∷ xs) (suc place) once there now same =
     ap (λ (z : _). z ∷ map g xs) (same y differ) ∙ ap (λ (zs : List _). f y ∷ zs) (changed_once f g x v xs place (λ t. once (inr t)) there now same)
 
 abbrev chain_of : List ChainLine → List ℕ → SavedChain
-chain_of lines origin = (origin, steps_of origin lines)
+chain_of lines origin = saved_chain origin (steps_of origin lines)
 
 not_of : (l : ChainLine) (origin : List ℕ) → origin ≢ l.origin → is_of origin l ≡ false
 not_of l origin differ = elim (cases_Bool (is_of origin l)) [
@@ -177,13 +176,13 @@ other_chain : (lines : List ChainLine) (l : ChainLine) (origin : List ℕ) → o
 other_chain lines l origin differ =
     let same : steps_of origin (lines ++ l ∷ []) ≡ steps_of origin lines =
     steps_more origin lines l ∙ ap (λ (b : Bool). steps_of origin lines ++ cond b (l.step ∷ []) []) (not_of l origin differ) ∙ append-nil (steps_of origin lines) in
-    ap (λ (steps : List Step). (origin, steps)) same
+    ap (λ (steps : List Step). saved_chain origin steps) same
 
-own_chain : (lines : List ChainLine) (l : ChainLine) → chain_of (lines ++ l ∷ []) l.origin ≡ (l.origin, steps_of l.origin lines ++ l.step ∷ [])
+own_chain : (lines : List ChainLine) (l : ChainLine) → chain_of (lines ++ l ∷ []) l.origin ≡ saved_chain l.origin (steps_of l.origin lines ++ l.step ∷ [])
 own_chain lines l =
     let more : steps_of l.origin (lines ++ l ∷ []) ≡ steps_of l.origin lines ++ l.step ∷ [] =
     steps_more l.origin lines l ∙ ap (λ (b : Bool). steps_of l.origin lines ++ cond b (l.step ∷ []) []) ((bytes_eq-Decides l.origin l.origin).1 refl) in
-    ap (λ (steps : List Step). (l.origin, steps)) more
+    ap (λ (steps : List Step). saved_chain l.origin steps) more
 
 origins_of_chains : (lines : List ChainLine) (os : List (List ℕ)) → chain_origins (map (chain_of lines) os) ≡ os
 origins_of_chains lines [] = refl
@@ -193,14 +192,14 @@ origins_of_chains lines (o ∷ os) = ap (λ (t : List (List ℕ)). o ∷ t) (ori
 pub puts_line : (lines : List ChainLine) (l : ChainLine) (new : List SavedChain) → Grouped lines → PutsStep l.origin l.step (chains lines) new
     → new ≡ chains (lines ++ l ∷ [])
 puts_line lines l new is (inl (place, before, there, now)) =
-    let at = stands_at (chain_of lines) (origins lines) place (l.origin, before) there in
-    let named : at.0 ≡ l.origin = ap (λ (c : SavedChain). c.0) at.2 in
+    let at = stands_at (chain_of lines) (origins lines) place (saved_chain l.origin before) there in
+    let named : at.0 ≡ l.origin = ap (λ (c : SavedChain). c.origin) at.2 in
     let here : slice_get (origins lines) place ≡ Some l.origin = at.1 ∙ ap (λ (o : List ℕ). Some o) named in
-    let earlier : steps_of l.origin lines ≡ before = ap (λ (o : List ℕ). steps_of o lines) (sym named) ∙ ap (λ (c : SavedChain). c.1) at.2 in
+    let earlier : steps_of l.origin lines ≡ before = ap (λ (o : List ℕ). steps_of o lines) (sym named) ∙ ap (λ (c : SavedChain). c.steps) at.2 in
     let known = is.known l.origin (among_at (origins lines) place l.origin here) in
     now
-    ∙ sym (changed_once (chain_of lines) (chain_of (lines ++ l ∷ [])) l.origin (l.origin, before ++ l.step ∷ []) (origins lines) place is.once here
-    (own_chain lines l ∙ ap (λ (steps : List Step). (l.origin, steps ++ l.step ∷ [])) earlier) (other_chain lines l))
+    ∙ sym (changed_once (chain_of lines) (chain_of (lines ++ l ∷ [])) l.origin (saved_chain l.origin (before ++ l.step ∷ [])) (origins lines) place is.once here
+    (own_chain lines l ∙ ap (λ (steps : List Step). saved_chain l.origin (steps ++ l.step ∷ [])) earlier) (other_chain lines l))
     ∙ ap (map (chain_of (lines ++ l ∷ []))) (sym (more_known lines l is known))
 puts_line lines l new is (inr (none, now)) =
     let apart : ¬ (IsAmong l.origin (origins lines)) = λ among.
@@ -211,4 +210,4 @@ puts_line lines l new is (inr (none, now)) =
     ∙ sym (ap (map (chain_of (lines ++ l ∷ []))) (more_new lines l first)
     ∙ map-append (chain_of (lines ++ l ∷ [])) (origins lines) (l.origin ∷ [])
     ∙ ap (λ (cs : List SavedChain). cs ++ chain_of (lines ++ l ∷ []) l.origin ∷ []) (same_others (chain_of lines) (chain_of (lines ++ l ∷ [])) l.origin (origins lines) apart (other_chain lines l))
-    ∙ ap (λ (c : SavedChain). chains lines ++ c ∷ []) (own_chain lines l ∙ ap (λ (steps : List Step). (l.origin, steps ++ l.step ∷ [])) empty))
+    ∙ ap (λ (c : SavedChain). chains lines ++ c ∷ []) (own_chain lines l ∙ ap (λ (steps : List Step). saved_chain l.origin (steps ++ l.step ∷ [])) empty))

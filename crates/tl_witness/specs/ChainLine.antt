@@ -5,6 +5,7 @@ use Rattle.tl_hash.specs.Bytes.{IsHash}
 use Rattle.tl_note.specs.Text.{line, number_text, base64_text, IsSize}
 use Rattle.tl_checkpoint.specs.Checkpoint.{IsOneLine}
 use Rattle.tl_proof.specs.Acceptance.{Step}
+use Rattle.tl_witness.specs.Open.{SavedChain, saved_chain}
 
 -- a step of the chain of an origin
 pub record ChainLine : Type 0 where
@@ -62,5 +63,5 @@ abbrev pub steps_of : List ℕ → List ChainLine → List Step
 steps_of origin lines = map (λ l. l.step) (filter (λ l. bytes_eq l.origin origin) lines)
 
 -- each origin with its steps
-abbrev pub chains : List ChainLine → List (List ℕ × List Step)
-chains lines = map (λ origin. (origin, steps_of origin lines)) (origins lines)
+abbrev pub chains : List ChainLine → List SavedChain
+chains lines = map (λ origin. saved_chain origin (steps_of origin lines)) (origins lines)

@@ -10,8 +10,4 @@ pub
 pub
     mod ReadSigned
 pub
-    mod NamedKey
-pub
-    mod Shown
-pub
     mod Outcome

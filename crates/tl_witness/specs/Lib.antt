@@ -5,6 +5,7 @@ pub mod ChainLine
 pub mod Chain
 pub mod Saver
 pub mod Witnessed
+pub mod Shown
 pub mod Decide
 pub mod Book
 pub mod ReadRequest

@@ -35,10 +35,10 @@ pub trait Shown {
 
 impl<T: TreeHash, A: Allocator + Copy> Shown for Book<T, A> {
     ghost use Rattle.std.specs.Prelude.{map};
-    ghost use Rattle.tl_witness.specs.Inner.Shown.{witnessed};
+    ghost use Rattle.tl_witness.specs.Shown.{witnessed};
 
     ghost shown = { λ b. map (λ s. witnessed s.origin (map (λ v. (Verifier-box v).key v.value) s.origin.verifiers.items)
-      ((Signer-box s.origin.cosigner).signing_key s.origin.cosigner.value) s.chain) b.states.items };
+        ((Signer-box s.origin.cosigner).signing_key s.origin.cosigner.value) s.chain) b.states.items };
 }
 
 impl<T: TreeHash, A: Allocator + Copy> Book<T, A> {

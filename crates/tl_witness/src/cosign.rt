@@ -4,7 +4,7 @@ ghost use Rattle.std.specs.Prelude.{◌≡◌, ◌<◌, ◌⊎◌, [], IfOk, IsT
 ghost use Rattle.std.proofs.Props.{props};
 ghost use Rattle.tl_checkpoint.specs.Cosignature.{Cosigns, MayFailToCosign};
 ghost use Rattle.tl_note.specs.Key.{IsKeyName, SigningKey};
-ghost use Rattle.tl_witness.specs.Inner.NamedKey.{named_key};
+ghost use Rattle.tl_witness.specs.Witnessed.{named_key};
 
 use crate::tools::Tools;
 use std::alloc::{AllocError, Allocator, Global};

@@ -50,10 +50,10 @@ pub(crate) trait ShownGuarded {
 
 impl<T: TreeHash, A: Allocator> ShownGuarded for Guarded<T, A> {
     ghost use Rattle.std.specs.Prelude.{map};
-    ghost use Rattle.tl_witness.specs.Inner.Shown.{witnessed};
+    ghost use Rattle.tl_witness.specs.Shown.{witnessed};
 
     ghost shown_guarded = { λ s. witnessed s.origin (map (λ v. (Verifier-box v).key v.value) s.origin.verifiers.items)
-      ((Signer-box s.origin.cosigner).signing_key s.origin.cosigner.value) s.chain.slot.value };
+        ((Signer-box s.origin.cosigner).signing_key s.origin.cosigner.value) s.chain.slot.value };
 }
 
 impl<T: TreeHash, A: Allocator> OfOrigin for Guarded<T, A> {

@@ -71,14 +71,14 @@ impl<T: TreeHash, A: Allocator> OfOrigin for Checked<T, A> {
     }
 }
 
-// The chains of these links. A chain that breaks is told with its place and its link's.
+// The chains of these links; else the place of the first chain that breaks, and of the link where it does.
 fn check_chains<T: TreeHash, A: Allocator + Copy>(
     alloc: A,
     tree: T,
     chains: Vec<(String<A>, Vec<Link<A>, A>), A>,
 ) -> Result<Vec<Checked<T, A>, A>, BookFault>
     ensures ok { IfOk result (λ checked. (map (λ c. saved_chain (string_bytes c.origin) c.chain) checked.items ≡ map (λ c. saved_chain (string_bytes c.0) (map step_of c.1.items)) chains.items)
-        × All (λ c. IsChain T.digest_of c.1) (map (λ c. saved_chain (string_bytes c.0) (map step_of c.1.items)) chains.items)) }
+        × All (λ c. IsChain T.digest_of c.steps) (map (λ c. saved_chain (string_bytes c.0) (map step_of c.1.items)) chains.items)) }
     ensures err { IfErr result (ChecksChains T.digest_of (map (λ c. saved_chain (string_bytes c.0) (map step_of c.1.items)) chains.items)) }
 {
     let mut checked = Vec::new(alloc);

@@ -42,10 +42,10 @@ pub(crate) trait ShownOrigin {
 
 impl<A: Allocator> ShownOrigin for Origin<A> {
     ghost use Rattle.std.specs.Prelude.{map};
-    ghost use Rattle.tl_witness.specs.Inner.Shown.{witnessed};
+    ghost use Rattle.tl_witness.specs.Shown.{witnessed};
 
     ghost shown_with = { λ o chain. witnessed o (map (λ v. (Verifier-box v).key v.value) o.verifiers.items)
-      ((Signer-box o.cosigner).signing_key o.cosigner.value) chain };
+        ((Signer-box o.cosigner).signing_key o.cosigner.value) chain };
 }
 
 /// One origin, and the links that the witness accepted for it.
@@ -64,10 +64,10 @@ pub(crate) trait ShownState {
 
 impl<T: TreeHash, A: Allocator> ShownState for OriginState<T, A> {
     ghost use Rattle.std.specs.Prelude.{map};
-    ghost use Rattle.tl_witness.specs.Inner.Shown.{witnessed};
+    ghost use Rattle.tl_witness.specs.Shown.{witnessed};
 
     ghost shown_state = { λ s. witnessed s.origin (map (λ v. (Verifier-box v).key v.value) s.origin.verifiers.items)
-      ((Signer-box s.origin.cosigner).signing_key s.origin.cosigner.value) s.chain };
+        ((Signer-box s.origin.cosigner).signing_key s.origin.cosigner.value) s.chain };
 }
 
 impl<T: TreeHash, A: Allocator> OfOrigin for OriginState<T, A> {

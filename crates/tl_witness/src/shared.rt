@@ -34,10 +34,10 @@ pub struct SharedWitness<T: TreeHash, A: Allocator + Copy> {
 
 impl<T: TreeHash, A: Allocator + Copy> Shown for SharedWitness<T, A> {
     ghost use Rattle.std.specs.Prelude.{map};
-    ghost use Rattle.tl_witness.specs.Inner.Shown.{witnessed};
+    ghost use Rattle.tl_witness.specs.Shown.{witnessed};
 
     ghost shown = { λ w. map (λ s. witnessed s.origin (map (λ v. (Verifier-box v).key v.value) s.origin.verifiers.items)
-      ((Signer-box s.origin.cosigner).signing_key s.origin.cosigner.value) s.chain.slot.value) w.states.items };
+        ((Signer-box s.origin.cosigner).signing_key s.origin.cosigner.value) s.chain.slot.value) w.states.items };
 }
 
 // An empty list with room for what a book keeps.

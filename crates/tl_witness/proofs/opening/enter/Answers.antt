@@ -13,8 +13,8 @@ loop-trust-init g c =
 
 pub take_chain-chain-requires : goal.take_chain-chain-requires
 take_chain-chain-requires g c =
-    let same = sym (shown_twice _ (λ d. d.0) (λ d. string_bytes d.origin) c.loop-trust.left.items (λ d. refl)) in
-    let saved = shown_twice _ (λ d. d.0) (λ d. string_bytes d.origin) c.args.chains.items (λ d. refl) in
+    let same = sym (shown_twice _ (λ d. d.origin) (λ d. string_bytes d.origin) c.loop-trust.left.items (λ d. refl)) in
+    let saved = shown_twice _ (λ d. d.origin) (λ d. string_bytes d.origin) c.args.chains.items (λ d. refl) in
     subst (Indexes (index_of c.args.places.now)) (saved ∙ sym c.loop-trust.invariant.3.same_origins ∙ same) c.requires.places
 
 pub name_of-requires : goal.name_of-requires

@@ -11,4 +11,4 @@ pub returns : goal.returns
 returns g c =
     let shows = rw c.as_slice.ensures.value at c.in-Some.ensures.found in
     let place = place_at c.args.self.now.states.items _ (λ e. string_bytes e.origin.name) _ _ _ (λ e. refl) shows c.index.ensures in
-    (let told = c.head.ensures in (_, place, told.0, told.1, (told.2, told.3)))
+    (let is = c.head.ensures in (_, place, is.0, is.1, (is.2, is.3)))
