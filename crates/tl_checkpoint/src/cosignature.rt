@@ -44,8 +44,9 @@ fn signature_of(global: Global, signer: &dyn Signer, message: &[u8]) -> Result<V
     }
 }
 
-// The bytes of a cosignature after the key's identifier.
-fn cosignature_bytes<A: Allocator>(
+/// The bytes of a cosignature after the key's identifier: the time in seconds since the Unix epoch, big-endian in eight
+/// bytes, and what the key signed. It fails only where a growth was refused.
+pub fn cosignature_bytes<A: Allocator>(
     alloc: A,
     time: u64,
     signature: &[u8],

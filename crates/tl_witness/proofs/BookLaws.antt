@@ -6,7 +6,7 @@ use Rattle.std.proofs.lemmas.List.{length-map}
 use Rattle.std.proofs.Math.Seq.{map-set_same}
 use Rattle.tl_witness.specs.declared.finding.Found.{Found}
 use Rattle.tl_witness.specs.Answers.{AsksForMemory}
-use Rattle.tl_witness.specs.Book.{BookOutcome, DecidesBody, IsPlaceOf, Place, RefusesAll}
+use Rattle.tl_witness.specs.Book.{BookOutcome, DecidesBody, IsPlacedIn, Placed, RefusesAll}
 use Rattle.tl_witness.specs.Decide.{Asked, Outcome, Decides}
 use Rattle.tl_witness.specs.Inner.Finding.{IsFound, IsMalformed, IsOfOther}
 use Rattle.tl_witness.specs.Inner.Offer.{asked_by}
@@ -17,7 +17,7 @@ malformed H body time out (inl none) refused = inl (none.0, refused)
 malformed H body time out (inr (request, reads, none)) refused = inr (request, reads, inl (none, refused))
 
 pub of_other : (H : List ℕ → List ℕ) (body : List ℕ) (time : ℕ) (out : BookOutcome) (origins : List (List ℕ)) (other : IsOfOther body origins)
-    → ((place : Place) → ¬ (IsPlaceOf out.book other.signed.head.origin place)) → RefusesAll out 404 → DecidesBody H body time out
+    → ((placed : Placed) → ¬ (IsPlacedIn out.book other.signed.head.origin placed)) → RefusesAll out 404 → DecidesBody H body time out
 of_other H body time out origins other nowhere refused = inr (other.request, other.reads, inr (other.signed, other.note, inl (nowhere, refused)))
 
 -- what came of it at one place
@@ -25,11 +25,11 @@ abbrev pub at_one : BookOutcome → Witnessed → Witnessed → Outcome
 at_one out one after = record { status = out.status; body = out.body; saved = out.saved; saved_after = out.saved_after; one = one; one_after = after }
 
 pub at_place : {A : Type 0} (H : List ℕ → List ℕ) (body : List ℕ) (time : ℕ) (out : BookOutcome) (origins : List (List ℕ)) (found : Found A) (is : IsFound body origins found) (one after : Witnessed)
-    → IsPlaceOf out.book is.signed.head.origin (record { at = found.place; one = one }) → out.book_after ≡ slice_set out.book found.place after
+    → IsPlacedIn out.book is.signed.head.origin (record { place = found.place; one = one }) → out.book_after ≡ slice_set out.book found.place after
     → Decides H (asked_by found.offer time) (at_one out one after) → DecidesBody H body time out
 at_place H body time out origins found is one after place changed decided =
     let asked = subst (λ (a : Asked). Decides H a (at_one out one after)) (is.asks time) decided in
-    inr (is.request, is.reads, inr (is.signed, is.note, inr (record { at = found.place; one = one }, place, (after, changed, asked))))
+    inr (is.request, is.reads, inr (is.signed, is.note, inr (record { place = found.place; one = one }, place, (after, changed, asked))))
 
 -- a body that leads to a place may ask for memory
 pub found_asks : {A : Type 0} (body : List ℕ) (origins : List (List ℕ)) (found : Found A) → IsFound body origins found → AsksForMemory body

@@ -6,21 +6,21 @@ use Rattle.std.specs.Option.{option_map}
 use Rattle.std.proofs.lemmas.List.Elements.{All-nil, All-push}
 use Rattle.tl_proof.specs.Acceptance.{Step, Linked}
 use Rattle.tl_proof.specs.Laws.{MadeOfHashes}
-use Rattle.tl_witness.specs.Chain.{TreeHead, head_of, first_head, Follows, IsLinked, IsChain, last_head}
+use Rattle.tl_witness.specs.Chain.{TreeHead, head_after, first_head, Follows, IsLinked, IsChain, last_head}
 use Rattle.tl_witness.specs.ChainLine.{ChainLine, IsChainLine}
 use Rattle.tl_witness.specs.Open.{IsFirstBreak}
 
 -- the steps lead where the last of them leads
-pub last_head-snoc : (old : TreeHead) (steps : List Step) (step : Step) → last_head old (steps ++ step ∷ []) ≡ head_of step
+pub last_head-snoc : (old : TreeHead) (steps : List Step) (step : Step) → last_head old (steps ++ step ∷ []) ≡ head_after step
 last_head-snoc old [] step = refl
-last_head-snoc old (s ∷ steps) step = last_head-snoc (head_of s) steps step
+last_head-snoc old (s ∷ steps) step = last_head-snoc (head_after s) steps step
 
 -- linked steps are followed by more that are linked from where they lead
 pub linked-append : (H : List ℕ → List ℕ) (old : TreeHead) (steps more : List Step)
     → IsLinked H old steps → IsLinked H (last_head old steps) more → IsLinked H old (steps ++ more)
 unfolding Linked
 linked-append H old [] more first then = then
-linked-append H old (s ∷ steps) more first then = (first.0, linked-append H (head_of s) steps more first.1 then)
+linked-append H old (s ∷ steps) more first then = (first.0, linked-append H (head_after s) steps more first.1 then)
 
 -- a chain grows by a step that follows its last head
 pub linked-snoc : (H : List ℕ → List ℕ) (old : TreeHead) (steps : List Step) (step : Step)
@@ -43,26 +43,26 @@ pub linked-after : (H : List ℕ → List ℕ) (old : TreeHead) (steps more : Li
     → IsLinked H old (steps ++ more) → IsLinked H (last_head old steps) more
 unfolding Linked
 linked-after H old [] more all = all
-linked-after H old (s ∷ steps) more all = linked-after H (head_of s) steps more all.1
+linked-after H old (s ∷ steps) more all = linked-after H (head_after s) steps more all.1
 
 -- the head after the steps is that of the step at the last place
 pub last_head-at : (old : TreeHead) (steps : List Step) (i : ℕ) (step : Step)
-    → slice_get steps i ≡ Some step → i + 1 ≡ length steps → last_head old steps ≡ head_of step
+    → slice_get steps i ≡ Some step → i + 1 ≡ length steps → last_head old steps ≡ head_after step
 last_head-at old [] i step there last = absurd (omega arith)
-last_head-at old (s ∷ []) zero step there last = (let e : s ≡ step = cc in ap head_of e)
+last_head-at old (s ∷ []) zero step there last = (let e : s ≡ step = cc in ap head_after e)
 last_head-at old (s ∷ (m ∷ steps)) zero step there last = absurd (omega arith)
-last_head-at old (s ∷ steps) (suc i) step there last = last_head-at (head_of s) steps i step there (omega arith)
+last_head-at old (s ∷ steps) (suc i) step there last = last_head-at (head_after s) steps i step there (omega arith)
 
 -- the same of the last place
 pub last_head-last : (old : TreeHead) (steps : List Step) (step : Step)
-    → slice_get steps (length steps - 1) ≡ Some step → last_head old steps ≡ head_of step
+    → slice_get steps (length steps - 1) ≡ Some step → last_head old steps ≡ head_after step
 last_head-last old steps step there =
     let within = slice_get_within steps (length steps - 1) step there in
     last_head-at old steps (length steps - 1) step there (omega arith)
 
 -- the same of a list that shows the steps
 pub last_head-map : {A : Type 0} (f : A → Step) (old : TreeHead) (xs : List A) (x : A)
-    → Some x ≡ slice_get xs (length xs - 1) → last_head old (map f xs) ≡ head_of (f x)
+    → Some x ≡ slice_get xs (length xs - 1) → last_head old (map f xs) ≡ head_after (f x)
 last_head-map f old xs x there =
     let shown : slice_get (map f xs) (length xs - 1) ≡ Some (f x) = slice_get-map f xs (length xs - 1) ∙ ap (option_map f) (sym there) in
     last_head-last old (map f xs) (f x) (ap (λ n. slice_get (map f xs) (n - 1)) (length-map xs f) ∙ shown)
@@ -100,7 +100,7 @@ pub come_more : {A : Type 0} (H : List ℕ → List ℕ) (f : A → Step) (xs : 
     → HasCome H f xs i size root → Follows H (record { size = size; root = root }) (f x) → MadeOfHashes (f x) → HasCome H f xs (i + 1) (f x).size (f x).root
 come_more H f xs i size root x lt is come follows made =
     let more : map f (take (i + 1) xs) ≡ map f (take i xs) ++ f x ∷ [] = map_more f xs i x lt ∙ ap (λ (y : _). map f (take i xs) ++ f y ∷ []) (sym is) in
-    let leads : last_head (first_head H) (map f (take (i + 1) xs)) ≡ head_of (f x) = ap (last_head (first_head H)) more ∙ last_head-snoc (first_head H) (map f (take i xs)) (f x) in
+    let leads : last_head (first_head H) (map f (take (i + 1) xs)) ≡ head_after (f x) = ap (last_head (first_head H)) more ∙ last_head-snoc (first_head H) (map f (take i xs)) (f x) in
     record {
       chain = subst (IsChain H) (sym more) (chain-snoc H (map f (take i xs)) (f x) come.chain (follows_here H f xs i size root (f x) come follows) made);
       size_is = ap (λ (h : TreeHead). h.size) leads;

@@ -1,10 +1,10 @@
 -- A cosignature line under a name that was kept.
-use Rattle.std.proofs.Common.{◌≡◌, ℕ, ◌<◌, List, [], length, ap, subst, ◌∙◌, ◌⊎◌}
+use Rattle.std.proofs.Common.{◌≡◌, ℕ, ◌<◌, List, [], length, ap, subst, ◌∙◌}
 use Rattle.std.specs.Prelude.{IsTrue}
 use Rattle.tl_note.specs.Key.{SigningKey, IsKeyName}
 use Rattle.tl_note.specs.Note.{signature_line}
-use Rattle.tl_checkpoint.specs.Cosignature.{cosigned_message, cosignature, Cosigns, MayFailToCosign}
-use Rattle.tl_witness.specs.Inner.NamedKey.{named_key}
+use Rattle.tl_checkpoint.specs.Cosignature.{cosigned_message, cosignature, Cosigns}
+use Rattle.tl_witness.specs.Witnessed.{named_key}
 
 abbrev line_of : List ℕ → ℕ → List ℕ → List ℕ
 line_of name id bytes = signature_line (record { name = name; id = id; bytes = bytes })
@@ -20,12 +20,6 @@ cosigned text time key name words message signature bytes again id m given some 
   named = named;
   spelled = spelled ∙ ap (λ (t : List ℕ). line_of t id bytes) a ∙ ap (λ (k : ℕ). line_of name k bytes) i ∙ ap (λ (t : List ℕ). line_of name key.id t) b;
 }
-
--- the signer refused this message or gave no bytes
-pub not_cosigned : (text : List ℕ) (time : ℕ) (key : SigningKey) (name message : List ℕ) → message ≡ cosigned_message time text
-    → IsTrue (key.may_refuse message) ⊎ IsTrue (key.may_give message []) → MayFailToCosign text time (named_key name key)
-not_cosigned text time key name message m failed =
-    subst (λ (t : List ℕ). IsTrue (key.may_refuse t) ⊎ IsTrue (key.may_give t [])) m failed
 
 -- a signature of no bytes
 pub gave_none : (key : SigningKey) (message signature : List ℕ) → IsTrue (key.may_give message signature) → signature ≡ [] → IsTrue (key.may_give message [])

@@ -8,8 +8,8 @@ use Rattle.tl_proof.specs.Collisions.{IsPrefix, Exhibits, audit_inputs}
 use Rattle.tl_proof.specs.Acceptance.{Step, EndsWith}
 use Rattle.tl_proof.specs.Laws.{MadeOfHashes, LinksExtendOrCollide}
 use Rattle.tl_witness.specs.Answers.{Answers}
-use Rattle.tl_witness.specs.Book.{BookOutcome, DecidesBody, IsLawful, IsPlaceOf, asked_of}
-use Rattle.tl_witness.specs.Chain.{TreeHead, head_of, first_head, last_head, IsLinked}
+use Rattle.tl_witness.specs.Book.{BookOutcome, DecidesBody, IsLawful, IsPlacedIn, asked_of}
+use Rattle.tl_witness.specs.Chain.{TreeHead, head_after, first_head, last_head, IsLinked}
 use Rattle.tl_witness.specs.Cosigned.{CosignedExtendOrCollide, IsCosigned, origins_of}
 use Rattle.tl_witness.specs.Decide.{Asked, Outcome, Decides, Settles}
 use Rattle.tl_witness.specs.Open.{HasTwice, IsAmong}
@@ -23,7 +23,7 @@ use Rattle.tl_witness.proofs.RunLaws.{Moves, answered, asked_made, book-trans, b
 -- after a cosignature the origin's last head is the one that was asked for
 settled_leads : (H : List ℕ → List ℕ) (out : Outcome) (asked : Asked) → out.status ≡ 200
     → (asked.step.size ≡ (last_head (first_head H) out.one.chain).size → asked.step.root ≡ (last_head (first_head H) out.one.chain).root)
-    → Settles out (last_head (first_head H) out.one.chain).size asked → last_head (first_head H) out.one_after.chain ≡ head_of asked.step
+    → Settles out (last_head (first_head H) out.one.chain).size asked → last_head (first_head H) out.one_after.chain ≡ head_after asked.step
 settled_leads H out asked is root (inl refused) = absurd (let e : 500 ≡ 200 = sym refused.1.0 ∙ is in omega arith)
 settled_leads H out asked is root (inr (inl failed)) = absurd (let e : 500 ≡ 200 = sym failed.1.0 ∙ is in omega arith)
 settled_leads H out asked is root (inr (inr (attests, inl same))) =
@@ -34,7 +34,7 @@ settled_leads H out asked is root (inr (inr (attests, inr longer))) =
     ap (λ (o : Witnessed). last_head (first_head H) o.chain) longer.2 ∙ last_head-snoc (first_head H) out.one.chain asked.step
 
 leads : (H : List ℕ → List ℕ) (asked : Asked) (out : Outcome) → Decides H asked out → out.status ≡ 200
-    → last_head (first_head H) out.one_after.chain ≡ head_of asked.step
+    → last_head (first_head H) out.one_after.chain ≡ head_after asked.step
 leads H asked out (inl closed) is = absurd (let e : 403 ≡ 200 = sym closed.1.0 ∙ is in omega arith)
 leads H asked out (inr (opened, inl below)) is = absurd (let e : 400 ≡ 200 = sym below.1.0 ∙ is in omega arith)
 leads H asked out (inr (opened, inr (above, inl other))) is = absurd (let e : 409 ≡ 200 = sym other.1.0 ∙ is in omega arith)
@@ -46,7 +46,7 @@ leads H asked out (inr (opened, inr (above, inr (same, inr (one, inr right))))) 
 record LeadsTo (H : List ℕ → List ℕ) (book : List Witnessed) (checkpoint : Head) : Type 0 where
   place : ℕ
   one : Witnessed
-  is : IsPlaceOf book checkpoint.origin (record { at = place; one = one })
+  is : IsPlacedIn book checkpoint.origin (record { place = place; one = one })
   head : last_head (first_head H) one.chain ≡ record { size = checkpoint.size; root = checkpoint.root }
 
 set_there : (book : List Witnessed) (at : ℕ) (one after : Witnessed) → slice_get book at ≡ Some one → slice_get (slice_set book at after) at ≡ Some after
@@ -59,18 +59,18 @@ decided_leads : (H : List ℕ → List ℕ) (checkpoint : Head) (out : BookOutco
 decided_leads H checkpoint out is lawful (inl none) = absurd (none.0 is.request is.reads)
 decided_leads H checkpoint out is lawful (inr (request, reads, inl none)) = absurd (let e : 400 ≡ 200 = sym none.1.0 ∙ is.status in omega arith)
 decided_leads H checkpoint out is lawful (inr (request, reads, inr (signed, note, inl none))) = absurd (let e : 404 ≡ 200 = sym none.1.0 ∙ is.status in omega arith)
-decided_leads H checkpoint out is lawful (inr (request, reads, inr (signed, note, inr (place, there, changed)))) =
+decided_leads H checkpoint out is lawful (inr (request, reads, inr (signed, note, inr (placed, there, changed)))) =
     let same : signed.head ≡ checkpoint = one_signed_head request.note is.request.note signed is.signed (one_body_note is.body request is.request reads is.reads) note is.note ∙ is.is in
-    let one : Outcome = at_one out place.one changed.0 in
+    let one : Outcome = at_one out placed.one changed.0 in
     let asked : Asked = asked_of request signed is.time in
     let made = asked_made is.body request.note request signed is.time reads note in
-    let chain = place_lawful H out.book place.at place.one lawful there.0 in
-    let kept : changed.0.origin ≡ place.one.origin = origin_kept one (moves H asked one made changed.2) in
+    let chain = place_lawful H out.book placed.place placed.one lawful there.0 in
+    let kept : changed.0.origin ≡ placed.one.origin = origin_kept one (moves H asked one made changed.2) in
     record {
-      place = place.at;
+      place = placed.place;
       one = changed.0;
       is = (
-        subst (λ (b : List Witnessed). slice_get b place.at ≡ Some changed.0) (sym changed.1) (set_there out.book place.at place.one changed.0 there.0),
+        subst (λ (b : List Witnessed). slice_get b placed.place ≡ Some changed.0) (sym changed.1) (set_there out.book placed.place placed.one changed.0 there.0),
         kept ∙ there.1 ∙ ap (λ (h : Head). h.origin) same,
       );
       head = leads H asked one changed.2 is.status ∙ ap (λ (h : Head). record { size = h.size; root = h.root }) same;
@@ -140,12 +140,12 @@ once_at (b ∷ book) (suc i) (suc j) one other once here there same = ap suc (on
 
 last_head-append : (old : TreeHead) (steps more : List Step) → last_head old (steps ++ more) ≡ last_head (last_head old steps) more
 last_head-append old [] more = refl
-last_head-append old (s ∷ steps) more = last_head-append (head_of s) steps more
+last_head-append old (s ∷ steps) more = last_head-append (head_after s) steps more
 
 ends_at : (old : TreeHead) (steps : List Step) → EndsWith old.size old.root steps (last_head old steps).size (last_head old steps).root
 unfolding EndsWith
 ends_at old [] = (refl, refl)
-ends_at old (s ∷ steps) = ends_at (head_of s) steps
+ends_at old (s ∷ steps) = ends_at (head_after s) steps
 
 all_rest : {A : Type 0} (P : A → Type 0) (xs ys : List A) → All P (xs ++ ys) → All P ys
 all_rest P [] ys is = is

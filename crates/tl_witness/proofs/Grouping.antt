@@ -1,17 +1,16 @@
 -- Laws of the chains that lines say, as one line more comes behind them.
-use Rattle.std.proofs.Common.{◌≡◌, ◌≢◌, ℕ, zero, suc, ◌+◌, ◌≤◌, Bool, true, false, List, [], ◌∷◌, ◌++◌, length, map, take, refl, sym, ap, subst, ◌∙◌, cond, inl, inr, Some, arith}
+use Rattle.std.proofs.Common.{◌≡◌, ◌≢◌, ℕ, zero, suc, Bool, true, false, List, [], ◌∷◌, ◌++◌, map, refl, sym, ap, subst, ◌∙◌, cond, inl, inr, Some}
 use Rattle.std.specs.Prelude.{◌||◌, not, bytes_eq, filter, slice_get, slice_set}
-use Rattle.std.specs.List.{list_any, enumerate_from}
-use Rattle.std.proofs.Math.Seq.{take-append_seam}
+use Rattle.std.specs.List.{list_any}
 use Rattle.std.proofs.lemmas.Bool.{cases_Bool, or_cases}
-use Rattle.std.proofs.lemmas.List.{map-append, take-append-le, append-nil}
+use Rattle.std.proofs.lemmas.List.{map-append, append-nil}
 use Rattle.std.proofs.lemmas.List.Elements.{filter-append}
 use Rattle.std.proofs.lemmas.List.Folds.{list_any-append}
 use Rattle.std.proofs.lemmas.Slice.Eq.{bytes_eq-Decides}
 use Rattle.tl_proof.specs.Acceptance.{Step}
 use Rattle.tl_witness.specs.ChainLine.{ChainLine, chains, origins, steps_of}
 use Rattle.tl_witness.specs.ChainFields.{PutsStep}
-use Rattle.tl_witness.specs.Open.{SavedChain, IsAmong, HasTwice, chain_origins}
+use Rattle.tl_witness.specs.Open.{SavedChain, IsAmong, HasTwice, chain_origins, saved_chain}
 use Rattle.tl_witness.proofs.ListLaws.{among_at, among_none, among_or, among_append, among_last}
 use Rattle.tl_witness.proofs.PlaceLaws.{stands_at}
 
@@ -23,44 +22,28 @@ is_of origin l = bytes_eq l.origin origin
 abbrev has : List ℕ → List ChainLine → Bool
 has origin lines = list_any (is_of origin) lines
 
--- no line before this place is of its origin
-abbrev is_first : List ChainLine → ℕ × ChainLine → Bool
-is_first lines p = not (has p.1.origin (take p.0 lines))
-
 -- ---- the origins
 
-same_first : (all : List ChainLine) (l : ChainLine) (k : ℕ) (x : ChainLine) → k ≤ length all → is_first (all ++ l ∷ []) (k, x) ≡ is_first all (k, x)
-same_first all l k x within = ap (λ (ls : List ChainLine). not (has x.origin ls)) (take-append-le k all (l ∷ []) within)
+last_left : (same has : Bool) (x : List ℕ) → cond has [] (cond (not same) (x ∷ []) []) ≡ cond (same || has) [] (x ∷ [])
+last_left true true x = refl
+last_left true false x = refl
+last_left false true x = refl
+last_left false false x = refl
 
-kept_front : {A : Type 0} (b : Bool) (x : A) (xs ys : List A) → cond b (x ∷ (xs ++ ys)) (xs ++ ys) ≡ cond b (x ∷ xs) xs ++ ys
-kept_front true x xs ys = refl
-kept_front false x xs ys = refl
+filter_last : (p : List ℕ → Bool) (has : Bool) (x : List ℕ) → filter p (cond has [] (x ∷ [])) ≡ cond has [] (cond (p x) (x ∷ []) [])
+filter_last p true x = refl
+filter_last p false x = refl
 
-firsts_more : (all : List ChainLine) (l : ChainLine) (k : ℕ) (rest : List ChainLine) → k + length rest ≡ length all
-    → filter (is_first (all ++ l ∷ [])) (enumerate_from k (rest ++ l ∷ [])) ≡ filter (is_first all) (enumerate_from k rest) ++ filter (is_first (all ++ l ∷ [])) ((length all, l) ∷ [])
-firsts_more all l k [] e =
-    let same : k ≡ length all = omega arith in
-    ap (λ (n : ℕ). filter (is_first (all ++ l ∷ [])) ((n, l) ∷ [])) same
-firsts_more all l k (x ∷ rest) e =
-    let last = filter (is_first (all ++ l ∷ [])) ((length all, l) ∷ []) in
-    let before = filter (is_first all) (enumerate_from (k + 1) rest) in
-    let others = firsts_more all l (k + 1) rest (omega arith) in
-    ap (λ (b : Bool). cond b ((k, x) ∷ filter (is_first (all ++ l ∷ [])) (enumerate_from (k + 1) (rest ++ l ∷ []))) (filter (is_first (all ++ l ∷ [])) (enumerate_from (k + 1) (rest ++ l ∷ []))))
-    (same_first all l k x (omega arith))
-    ∙ ap (λ (t : List (ℕ × ChainLine)). cond (is_first all (k, x)) ((k, x) ∷ t) t) others
-    ∙ kept_front (is_first all (k, x)) (k, x) before last
-
-last_origin : (b : Bool) (n : ℕ) (l : ChainLine) → map (λ (p : ℕ × ChainLine). p.1.origin) (cond (not b) ((n, l) ∷ []) []) ≡ cond b [] (l.origin ∷ [])
-last_origin true n l = refl
-last_origin false n l = refl
-
+-- one line more
 pub origins_more : (lines : List ChainLine) (l : ChainLine) → origins (lines ++ l ∷ []) ≡ origins lines ++ cond (has l.origin lines) [] (l.origin ∷ [])
-origins_more lines l =
-    let f : ℕ × ChainLine → List ℕ = λ p. p.1.origin in
-    ap (map f) (firsts_more lines l 0 lines (omega arith))
-    ∙ map-append f (filter (is_first lines) (enumerate_from 0 lines)) (filter (is_first (lines ++ l ∷ [])) ((length lines, l) ∷ []))
-    ∙ ap (λ (t : List (List ℕ)). origins lines ++ t)
-    (ap (λ (ls : List ChainLine). map f (cond (not (has l.origin ls)) ((length lines, l) ∷ []) [])) (take-append_seam lines (l ∷ [])) ∙ last_origin (has l.origin lines) (length lines) l)
+origins_more [] l = refl
+origins_more (first ∷ lines) l =
+    let other : List ℕ → Bool = λ o. not (bytes_eq first.origin o) in
+    let last = cond (has l.origin lines) [] (l.origin ∷ []) in
+    ap (λ (os : List (List ℕ)). first.origin ∷ filter other os) (origins_more lines l)
+    ∙ ap (λ (os : List (List ℕ)). first.origin ∷ os) (filter-append other (origins lines) last)
+    ∙ ap (λ (os : List (List ℕ)). first.origin ∷ (filter other (origins lines) ++ os))
+    (filter_last other (has l.origin lines) l.origin ∙ last_left (bytes_eq first.origin l.origin) (has l.origin lines) l.origin)
 
 -- ---- the steps of an origin
 
@@ -181,7 +164,7 @@ changed_once f g x v (y ∷ xs) (suc place) once there now same =
     ap (λ (z : _). z ∷ map g xs) (same y differ) ∙ ap (λ (zs : List _). f y ∷ zs) (changed_once f g x v xs place (λ t. once (inr t)) there now same)
 
 abbrev chain_of : List ChainLine → List ℕ → SavedChain
-chain_of lines origin = (origin, steps_of origin lines)
+chain_of lines origin = saved_chain origin (steps_of origin lines)
 
 not_of : (l : ChainLine) (origin : List ℕ) → origin ≢ l.origin → is_of origin l ≡ false
 not_of l origin differ = elim (cases_Bool (is_of origin l)) [
@@ -193,13 +176,13 @@ other_chain : (lines : List ChainLine) (l : ChainLine) (origin : List ℕ) → o
 other_chain lines l origin differ =
     let same : steps_of origin (lines ++ l ∷ []) ≡ steps_of origin lines =
     steps_more origin lines l ∙ ap (λ (b : Bool). steps_of origin lines ++ cond b (l.step ∷ []) []) (not_of l origin differ) ∙ append-nil (steps_of origin lines) in
-    ap (λ (steps : List Step). (origin, steps)) same
+    ap (λ (steps : List Step). saved_chain origin steps) same
 
-own_chain : (lines : List ChainLine) (l : ChainLine) → chain_of (lines ++ l ∷ []) l.origin ≡ (l.origin, steps_of l.origin lines ++ l.step ∷ [])
+own_chain : (lines : List ChainLine) (l : ChainLine) → chain_of (lines ++ l ∷ []) l.origin ≡ saved_chain l.origin (steps_of l.origin lines ++ l.step ∷ [])
 own_chain lines l =
     let more : steps_of l.origin (lines ++ l ∷ []) ≡ steps_of l.origin lines ++ l.step ∷ [] =
     steps_more l.origin lines l ∙ ap (λ (b : Bool). steps_of l.origin lines ++ cond b (l.step ∷ []) []) ((bytes_eq-Decides l.origin l.origin).1 refl) in
-    ap (λ (steps : List Step). (l.origin, steps)) more
+    ap (λ (steps : List Step). saved_chain l.origin steps) more
 
 origins_of_chains : (lines : List ChainLine) (os : List (List ℕ)) → chain_origins (map (chain_of lines) os) ≡ os
 origins_of_chains lines [] = refl
@@ -209,14 +192,14 @@ origins_of_chains lines (o ∷ os) = ap (λ (t : List (List ℕ)). o ∷ t) (ori
 pub puts_line : (lines : List ChainLine) (l : ChainLine) (new : List SavedChain) → Grouped lines → PutsStep l.origin l.step (chains lines) new
     → new ≡ chains (lines ++ l ∷ [])
 puts_line lines l new is (inl (place, before, there, now)) =
-    let at = stands_at (chain_of lines) (origins lines) place (l.origin, before) there in
-    let named : at.0 ≡ l.origin = ap (λ (c : SavedChain). c.0) at.2 in
+    let at = stands_at (chain_of lines) (origins lines) place (saved_chain l.origin before) there in
+    let named : at.0 ≡ l.origin = ap (λ (c : SavedChain). c.origin) at.2 in
     let here : slice_get (origins lines) place ≡ Some l.origin = at.1 ∙ ap (λ (o : List ℕ). Some o) named in
-    let earlier : steps_of l.origin lines ≡ before = ap (λ (o : List ℕ). steps_of o lines) (sym named) ∙ ap (λ (c : SavedChain). c.1) at.2 in
+    let earlier : steps_of l.origin lines ≡ before = ap (λ (o : List ℕ). steps_of o lines) (sym named) ∙ ap (λ (c : SavedChain). c.steps) at.2 in
     let known = is.known l.origin (among_at (origins lines) place l.origin here) in
     now
-    ∙ sym (changed_once (chain_of lines) (chain_of (lines ++ l ∷ [])) l.origin (l.origin, before ++ l.step ∷ []) (origins lines) place is.once here
-    (own_chain lines l ∙ ap (λ (steps : List Step). (l.origin, steps ++ l.step ∷ [])) earlier) (other_chain lines l))
+    ∙ sym (changed_once (chain_of lines) (chain_of (lines ++ l ∷ [])) l.origin (saved_chain l.origin (before ++ l.step ∷ [])) (origins lines) place is.once here
+    (own_chain lines l ∙ ap (λ (steps : List Step). saved_chain l.origin (steps ++ l.step ∷ [])) earlier) (other_chain lines l))
     ∙ ap (map (chain_of (lines ++ l ∷ []))) (sym (more_known lines l is known))
 puts_line lines l new is (inr (none, now)) =
     let apart : ¬ (IsAmong l.origin (origins lines)) = λ among.
@@ -227,4 +210,4 @@ puts_line lines l new is (inr (none, now)) =
     ∙ sym (ap (map (chain_of (lines ++ l ∷ []))) (more_new lines l first)
     ∙ map-append (chain_of (lines ++ l ∷ [])) (origins lines) (l.origin ∷ [])
     ∙ ap (λ (cs : List SavedChain). cs ++ chain_of (lines ++ l ∷ []) l.origin ∷ []) (same_others (chain_of lines) (chain_of (lines ++ l ∷ [])) l.origin (origins lines) apart (other_chain lines l))
-    ∙ ap (λ (c : SavedChain). chains lines ++ c ∷ []) (own_chain lines l ∙ ap (λ (steps : List Step). (l.origin, steps ++ l.step ∷ [])) empty))
+    ∙ ap (λ (c : SavedChain). chains lines ++ c ∷ []) (own_chain lines l ∙ ap (λ (steps : List Step). saved_chain l.origin (steps ++ l.step ∷ [])) empty))

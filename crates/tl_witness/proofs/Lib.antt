@@ -16,7 +16,7 @@ pub mod FieldLaws
 pub mod HashFields
 pub mod LineWords
 pub mod NewlineLaws
-pub mod IndexLaws
+pub mod ChainIndexLaws
 pub mod PutLaws
 pub mod Grouping
 pub mod LineText
@@ -28,4 +28,4 @@ pub mod FindingLaws
 pub mod OneRequest
 pub mod CosignedLaws
 pub mod SoundLaws
-pub mod PlacesLaws
+pub mod ByOriginLaws

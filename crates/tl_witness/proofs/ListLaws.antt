@@ -1,7 +1,7 @@
 -- Laws of lists, of what is among them and of what holds of all.
-use Rattle.std.proofs.Common.{◌≡◌, ◌≢◌, ℕ, zero, suc, ◌+◌, ◌<◌, ◌≤◌, List, [], ◌∷◌, ◌++◌, Some, ◌⊎◌, inl, inr, refl, sym, ap, subst, ◌∙◌, map, take, drop, length, get_or, slice_get, arith, All}
+use Rattle.std.proofs.Common.{◌≡◌, ◌≢◌, ℕ, zero, suc, ◌+◌, ◌<◌, List, [], ◌∷◌, ◌++◌, Some, ◌⊎◌, inl, inr, refl, sym, ap, subst, ◌∙◌, map, take, drop, length, get_or, slice_get, arith, All}
 use Rattle.std.specs.List.{AllZip}
-use Rattle.std.proofs.lemmas.List.{map_more, get_or-map, length-map, drop_all, take-map}
+use Rattle.std.proofs.lemmas.List.{map_more, get_or-map, length-map, take-map}
 use Rattle.std.proofs.lemmas.List.Elements.{All-push}
 use Rattle.std.proofs.lemmas.Option.{slice_get-get_or}
 use Rattle.std.proofs.Math.Seq.{drop-cons}
@@ -22,23 +22,6 @@ pub left_from : {A : Type 0} (xs : List A) (i : ℕ) (x : A) → i < length xs �
 left_from xs i x lt is =
     let next : suc i ≡ i + 1 = omega arith in
     drop-cons xs i x lt ∙ ap (λ (n : ℕ). get_or xs i x ∷ drop n xs) next ∙ ap (λ (y : _). y ∷ drop (i + 1) xs) (sym is)
-
-pub twice_first : {A B : Type 0} (f : A → B) (xs : List A) (i : ℕ) (x : A) → i < length xs → x ≡ get_or xs i x
-    → IsAmong (f x) (map f (drop (i + 1) xs)) → HasTwice (map f (drop i xs))
-twice_first f xs i x lt is among = subst (λ (l : List _). HasTwice (map f l)) (sym (left_from xs i x lt is)) (inl among)
-
-pub twice_rest : {A B : Type 0} (f : A → B) (xs : List A) (i : ℕ) (x : A) → i < length xs → x ≡ get_or xs i x
-    → HasTwice (map f (drop (i + 1) xs)) → HasTwice (map f (drop i xs))
-twice_rest f xs i x lt is twice = subst (λ (l : List _). HasTwice (map f l)) (sym (left_from xs i x lt is)) (inr twice)
-
--- what is left has one twice only after a first that comes once
-pub twice_after : {A B : Type 0} (f : A → B) (xs : List A) (i : ℕ) (x : A) → i < length xs → x ≡ get_or xs i x
-    → ¬ (IsAmong (f x) (map f (drop (i + 1) xs))) → HasTwice (map f (drop i xs)) → HasTwice (map f (drop (i + 1) xs))
-twice_after f xs i x lt is once twice =
-    elim (subst (λ (l : List _). HasTwice (map f l)) (left_from xs i x lt is) twice) [ inl among ↦ absurd (once among) | inr rest ↦ rest ]
-
-pub twice_none : {A B : Type 0} (f : A → B) (xs : List A) (i : ℕ) → length xs ≤ i → ¬ (HasTwice (map f (drop i xs)))
-twice_none f xs i past twice = subst (λ (l : List _). HasTwice (map f l)) (drop_all i xs past) twice
 
 -- what holds of the first ones and of the next holds of one more
 pub all_more : {X Y : Type 0} (f : X → Y) (P : Y → Type 0) (xs : List X) (i : ℕ) (x : X) → i < length xs → x ≡ get_or xs i x

@@ -8,8 +8,8 @@ use Rattle.tl_witness.specs.Opening.{ChecksChains}
 
 pub chain_fault : (H : List ℕ → List ℕ) (trusts : List Trusted) (chains : List SavedChain) (fault : BookFault) → AreNamedOnce trusts chains
     → All (IsTrusted trusts) (chain_origins chains) → All IsKeyName (cosigner_names trusts) → ChecksChains H chains fault → RefusesBook H trusts chains fault
-chain_fault H trusts chains TwiceNamed once known named is = absurd is
-chain_fault H trusts chains (NoTrust place) once known named is = absurd is
-chain_fault H trusts chains (BadName place) once known named is = absurd is
-chain_fault H trusts chains (BadChain place link) once known named is = (once, known, named, is)
-chain_fault H trusts chains OutOfMemory once known named is = inr is
+chain_fault H trusts chains TwiceNamed once listed named is = absurd is
+chain_fault H trusts chains (NoTrust place) once listed named is = absurd is
+chain_fault H trusts chains (BadName place) once listed named is = absurd is
+chain_fault H trusts chains (BadChain place link) once listed named is = (once, listed, named, is)
+chain_fault H trusts chains OutOfMemory once listed named is = inr is

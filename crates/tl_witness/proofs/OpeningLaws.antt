@@ -7,7 +7,7 @@ use Rattle.std.proofs.lemmas.List.Elements.{All-head, All-tail}
 use Rattle.tl_proof.specs.Acceptance.{Step}
 use Rattle.tl_witness.specs.Chain.{IsChain}
 use Rattle.tl_note.specs.Key.{Key, IsKeyName}
-use Rattle.tl_witness.specs.Open.{SavedChain, Trusted, AreNamedOnce, HasEachKeyOnce, IsAmong, HasTwice, IsFirstNot, IsFirstBreak, IsFirstBroken, IsKept, IsTrusted, OpensBook, chain_origins, trusted_origins, cosigner_names}
+use Rattle.tl_witness.specs.Open.{SavedChain, saved_chain, Trusted, AreNamedOnce, HasEachKeyOnce, IsAmong, HasTwice, IsFirstNot, IsFirstBreak, IsFirstBroken, IsKept, IsTrusted, OpensBook, chain_origins, trusted_origins, cosigner_names}
 use Rattle.tl_witness.specs.Opening.{TakesChain}
 use Rattle.tl_witness.specs.Witnessed.{Witnessed}
 use Rattle.tl_witness.proofs.Moved.{shown_twice}
@@ -22,43 +22,43 @@ took_none origin chains none = record {
   chain = inr (among_none (chain_origins chains) origin none, refl);
 }
 
-set_origins : (chains : List SavedChain) (place : ℕ) (origin : List ℕ) (taken : List Step) → slice_get chains place ≡ Some (origin, taken)
-    → chain_origins (slice_set chains place (origin, [])) ≡ chain_origins chains
+set_origins : (chains : List SavedChain) (place : ℕ) (origin : List ℕ) (taken : List Step) → slice_get chains place ≡ Some (saved_chain origin taken)
+    → chain_origins (slice_set chains place (saved_chain origin [])) ≡ chain_origins chains
 set_origins [] place origin taken there = absurd cc
 set_origins (c ∷ chains) zero origin taken there =
-    let same : c ≡ (origin, taken) = cc in ap (λ (d : SavedChain). d.0 ∷ chain_origins chains) (sym same)
-set_origins (c ∷ chains) (suc place) origin taken there = ap (λ (os : List (List ℕ)). c.0 ∷ os) (set_origins chains place origin taken there)
+    let same : c ≡ (saved_chain origin taken) = cc in ap (λ (d : SavedChain). d.origin ∷ chain_origins chains) (sym same)
+set_origins (c ∷ chains) (suc place) origin taken there = ap (λ (os : List (List ℕ)). c.origin ∷ os) (set_origins chains place origin taken there)
 
-set_others : (chains : List SavedChain) (place : ℕ) (origin : List ℕ) (c : SavedChain) → IsAmong c (slice_set chains place (origin, [])) → c.0 ≢ origin → IsAmong c chains
+set_others : (chains : List SavedChain) (place : ℕ) (origin : List ℕ) (c : SavedChain) → IsAmong c (slice_set chains place (saved_chain origin [])) → c.origin ≢ origin → IsAmong c chains
 set_others [] place origin c is other = is
-set_others (d ∷ chains) zero origin c (inl same) other = absurd (other (ap (λ (e : SavedChain). e.0) (sym same)))
+set_others (d ∷ chains) zero origin c (inl same) other = absurd (other (ap (λ (e : SavedChain). e.origin) (sym same)))
 set_others (d ∷ chains) zero origin c (inr later) other = inr later
 set_others (d ∷ chains) (suc place) origin c (inl same) other = inl same
 set_others (d ∷ chains) (suc place) origin c (inr later) other = inr (set_others chains place origin c later other)
 
 -- a chain was taken from its place
-pub took_one : (origin : List ℕ) (chains : List SavedChain) (place : ℕ) (taken : List Step) → slice_get chains place ≡ Some (origin, taken)
-    → TakesChain origin chains (slice_set chains place (origin, [])) taken
+pub took_one : (origin : List ℕ) (chains : List SavedChain) (place : ℕ) (taken : List Step) → slice_get chains place ≡ Some (saved_chain origin taken)
+    → TakesChain origin chains (slice_set chains place (saved_chain origin [])) taken
 took_one origin chains place taken there = record {
   same_origins = set_origins chains place origin taken there;
   others = λ c is other. set_others chains place origin c is other;
-  chain = inl (among_at chains place (origin, taken) there);
+  chain = inl (among_at chains place (saved_chain origin taken) there);
 }
 
 -- a chain breaks, of those that come after some that don't
 pub breaks_next : (H : List ℕ → List ℕ) (done : List SavedChain) (c : SavedChain) (rest all : List SavedChain) (link : ℕ) → done ++ c ∷ rest ≡ all
-    → All (λ d. IsChain H d.1) done → IsFirstBreak H c.1 link → IsFirstBroken H all (length done) link
+    → All (λ d. IsChain H d.steps) done → IsFirstBreak H c.steps link → IsFirstBroken H all (length done) link
 breaks_next H done c rest all link whole each breaks = record {
   broken = c;
   there = next_there done c rest all whole;
-  before = subst (All (λ (d : SavedChain). IsChain H d.1)) (sym (done_there done (c ∷ rest) all whole)) each;
+  before = subst (All (λ (d : SavedChain). IsChain H d.steps)) (sym (done_there done (c ∷ rest) all whole)) each;
   breaks = breaks;
 }
 
 -- what is kept of the trusts so far, and what is left of the chains
 pub record HasEntered (saved left : List SavedChain) (trusts : List Trusted) (book : List Witnessed) : Type 0 where
   pub same_origins : chain_origins left ≡ chain_origins saved
-  pub others : (c : SavedChain) → IsAmong c left → ¬ (IsAmong c.0 (trusted_origins trusts)) → IsAmong c saved
+  pub others : (c : SavedChain) → IsAmong c left → ¬ (IsAmong c.origin (trusted_origins trusts)) → IsAmong c saved
   pub kept : AllZip (IsKept saved) trusts book
 
 pub entered_none : (saved : List SavedChain) → HasEntered saved saved [] []
@@ -76,14 +76,14 @@ pub entered_more : (saved left now : List SavedChain) (trusts : List Trusted) (b
 entered_more saved left now trusts book t one taken entered once takes o v s c = record {
   same_origins = takes.same_origins ∙ entered.same_origins;
   others = λ d is other.
-      let apart : ¬ (IsAmong d.0 (trusted_origins trusts ++ t.origin ∷ [])) = subst (λ (os : List (List ℕ)). ¬ (IsAmong d.0 os)) (origins_more trusts t) other in
-      entered.others d (takes.others d is (λ same. apart (last d.0 same))) (λ before. apart (first d.0 before));
+      let apart : ¬ (IsAmong d.origin (trusted_origins trusts ++ t.origin ∷ [])) = subst (λ (os : List (List ℕ)). ¬ (IsAmong d.origin os)) (origins_more trusts t) other in
+      entered.others d (takes.others d is (λ same. apart (last d.origin same))) (λ before. apart (first d.origin before));
   kept = zip_more (IsKept saved) trusts book t one entered.kept (record {
     origin = o;
     verifiers = v;
     cosigner = s;
     chain = elim takes.chain [
-      | inl found ↦ inl (subst (λ (steps : List Step). IsAmong (t.origin, steps) saved) (sym c) (entered.others (t.origin, taken) found once))
+      | inl found ↦ inl (subst (λ (steps : List Step). IsAmong (saved_chain t.origin steps) saved) (sym c) (entered.others (saved_chain t.origin taken) found once))
       | inr none ↦ inr (subst (λ (os : List (List ℕ)). ¬ (IsAmong t.origin os)) entered.same_origins none.0, c ∙ none.1)
     ];
   });
@@ -106,17 +106,17 @@ entered_more saved left now trusts book t one taken entered once takes o v s c =
 
 -- the same of a list that shows the chains
 pub took_at : {A : Type 0} (f : A → SavedChain) (items : List A) (place : ℕ) (origin : List ℕ) (e after : A) (taken : List Step) → place < length items
-    → e ≡ slice_index_or items place e → f e ≡ (origin, taken) → f after ≡ (origin, []) → TakesChain origin (map f items) (map f (slice_set items place after)) taken
+    → e ≡ slice_index_or items place e → f e ≡ (saved_chain origin taken) → f after ≡ (saved_chain origin []) → TakesChain origin (map f items) (map f (slice_set items place after)) taken
 took_at f items place origin e after taken lt read before then =
-    let there = shows_at f items (length items) place e (origin, taken) refl lt read before in
-    let set : slice_set (map f items) place (origin, []) ≡ map f (slice_set items place after) =
+    let there = shows_at f items (length items) place e (saved_chain origin taken) refl lt read before in
+    let set : slice_set (map f items) place (saved_chain origin []) ≡ map f (slice_set items place after) =
     ap (λ (c : SavedChain). slice_set (map f items) place c) (sym then) ∙ sym (map-set f items place after) in
     subst (λ (new : List SavedChain). TakesChain origin (map f items) new taken) set (took_one origin (map f items) place taken there)
 
-pub took_nothing : {A : Type 0} (f : A → SavedChain) (g : A → List ℕ) (items : List A) (origin : List ℕ) (taken : List Step) → ((x : A) → g x ≡ (f x).0)
+pub took_nothing : {A : Type 0} (f : A → SavedChain) (g : A → List ℕ) (items : List A) (origin : List ℕ) (taken : List Step) → ((x : A) → g x ≡ (f x).origin)
     → ((i : ℕ) → slice_get (map g items) i ≢ Some origin) → taken ≡ [] → TakesChain origin (map f items) (map f items) taken
 took_nothing f g items origin taken same none empty =
-    let here = shown_twice f (λ c. c.0) g items same in
+    let here = shown_twice f (λ c. c.origin) g items same in
     subst (λ (steps : List Step). TakesChain origin (map f items) (map f items) steps) (sym empty)
     (took_none origin (map f items) (subst (λ (os : List (List ℕ)). (i : ℕ) → slice_get os i ≢ Some origin) here none))
 
@@ -150,45 +150,45 @@ enters saved left done all book entered same = subst (λ (ts : List Trusted). Al
 
 -- a chain breaks at this place
 pub breaks_at : (H : List ℕ → List ℕ) (done : List SavedChain) (c : SavedChain) (rest all : List SavedChain) (place link : ℕ) → place ≡ length done → done ++ c ∷ rest ≡ all
-    → All (λ d. IsChain H d.1) done → IsFirstBreak H c.1 link → IsFirstBroken H all place link
+    → All (λ d. IsChain H d.steps) done → IsFirstBreak H c.steps link → IsFirstBroken H all place link
 breaks_at H done c rest all place link here whole each breaks =
     subst (λ (n : ℕ). IsFirstBroken H all n link) (sym here) (breaks_next H done c rest all link whole each breaks)
 
 -- ---- what the lists of trusts and chains show
 
 pub once_to : {E C : Type 0} (trusted : E → Trusted) (origin : E → List ℕ) (keys : E → List Key) (saved : C → SavedChain) (named : C → List ℕ) (trusts : List E) (chains : List C)
-    → ((t : E) → origin t ≡ (trusted t).origin) → ((t : E) → keys t ≡ (trusted t).verifiers) → ((c : C) → named c ≡ (saved c).0)
+    → ((t : E) → origin t ≡ (trusted t).origin) → ((t : E) → keys t ≡ (trusted t).verifiers) → ((c : C) → named c ≡ (saved c).origin)
     → ¬ (HasTwice (map origin trusts)) × ¬ (HasTwice (map named chains)) × All HasEachKeyOnce (map keys trusts)
     → AreNamedOnce (map trusted trusts) (map saved chains)
 once_to trusted origin keys saved named trusts chains o k n once = record {
   trusts_once = subst (λ (os : List (List ℕ)). ¬ (HasTwice os)) (shown_twice trusted (λ t. t.origin) origin trusts o) once.0;
-  chains_once = subst (λ (os : List (List ℕ)). ¬ (HasTwice os)) (shown_twice saved (λ c. c.0) named chains n) once.1;
+  chains_once = subst (λ (os : List (List ℕ)). ¬ (HasTwice os)) (shown_twice saved (λ c. c.origin) named chains n) once.1;
   keys_once = subst (All HasEachKeyOnce) (shown_twice trusted (λ t. t.verifiers) keys trusts k) once.2;
 }
 
 pub once_from : {E C : Type 0} (trusted : E → Trusted) (origin : E → List ℕ) (keys : E → List Key) (saved : C → SavedChain) (named : C → List ℕ) (trusts : List E) (chains : List C)
-    → ((t : E) → origin t ≡ (trusted t).origin) → ((t : E) → keys t ≡ (trusted t).verifiers) → ((c : C) → named c ≡ (saved c).0)
+    → ((t : E) → origin t ≡ (trusted t).origin) → ((t : E) → keys t ≡ (trusted t).verifiers) → ((c : C) → named c ≡ (saved c).origin)
     → AreNamedOnce (map trusted trusts) (map saved chains)
     → ¬ (HasTwice (map origin trusts)) × ¬ (HasTwice (map named chains)) × All HasEachKeyOnce (map keys trusts)
 once_from trusted origin keys saved named trusts chains o k n once = (
   subst (λ (os : List (List ℕ)). ¬ (HasTwice os)) (sym (shown_twice trusted (λ t. t.origin) origin trusts o)) once.trusts_once,
-  subst (λ (os : List (List ℕ)). ¬ (HasTwice os)) (sym (shown_twice saved (λ c. c.0) named chains n)) once.chains_once,
+  subst (λ (os : List (List ℕ)). ¬ (HasTwice os)) (sym (shown_twice saved (λ c. c.origin) named chains n)) once.chains_once,
   subst (All HasEachKeyOnce) (sym (shown_twice trusted (λ t. t.verifiers) keys trusts k)) once.keys_once,
 )
 
-pub known_to : {E C : Type 0} (trusted : E → Trusted) (origin : E → List ℕ) (saved : C → SavedChain) (named : C → List ℕ) (trusts : List E) (chains : List C)
-    → ((t : E) → origin t ≡ (trusted t).origin) → ((c : C) → named c ≡ (saved c).0)
+pub trusted_to : {E C : Type 0} (trusted : E → Trusted) (origin : E → List ℕ) (saved : C → SavedChain) (named : C → List ℕ) (trusts : List E) (chains : List C)
+    → ((t : E) → origin t ≡ (trusted t).origin) → ((c : C) → named c ≡ (saved c).origin)
     → All (λ o. IsAmong o (map origin trusts)) (map named chains) → All (IsTrusted (map trusted trusts)) (chain_origins (map saved chains))
-known_to trusted origin saved named trusts chains o n each =
+trusted_to trusted origin saved named trusts chains o n each =
     subst (λ (os : List (List ℕ)). All (λ x. IsAmong x os) (chain_origins (map saved chains))) (shown_twice trusted (λ t. t.origin) origin trusts o)
-    (subst (All (λ x. IsAmong x (map origin trusts))) (shown_twice saved (λ c. c.0) named chains n) each)
+    (subst (All (λ x. IsAmong x (map origin trusts))) (shown_twice saved (λ c. c.origin) named chains n) each)
 
-pub unknown_to : {E C : Type 0} (trusted : E → Trusted) (origin : E → List ℕ) (saved : C → SavedChain) (named : C → List ℕ) (trusts : List E) (chains : List C) (place : ℕ)
-    → ((t : E) → origin t ≡ (trusted t).origin) → ((c : C) → named c ≡ (saved c).0)
+pub untrusted_to : {E C : Type 0} (trusted : E → Trusted) (origin : E → List ℕ) (saved : C → SavedChain) (named : C → List ℕ) (trusts : List E) (chains : List C) (place : ℕ)
+    → ((t : E) → origin t ≡ (trusted t).origin) → ((c : C) → named c ≡ (saved c).origin)
     → IsFirstNot (λ o. IsAmong o (map origin trusts)) (map named chains) place → IsFirstNot (IsTrusted (map trusted trusts)) (chain_origins (map saved chains)) place
-unknown_to trusted origin saved named trusts chains place o n first =
+untrusted_to trusted origin saved named trusts chains place o n first =
     subst (λ (os : List (List ℕ)). IsFirstNot (λ x. IsAmong x os) (chain_origins (map saved chains)) place) (shown_twice trusted (λ t. t.origin) origin trusts o)
-    (subst (λ (os : List (List ℕ)). IsFirstNot (λ x. IsAmong x (map origin trusts)) os place) (shown_twice saved (λ c. c.0) named chains n) first)
+    (subst (λ (os : List (List ℕ)). IsFirstNot (λ x. IsAmong x (map origin trusts)) os place) (shown_twice saved (λ c. c.origin) named chains n) first)
 
 pub names_to : {E : Type 0} (trusted : E → Trusted) (name : E → List ℕ) (trusts : List E) → ((t : E) → name t ≡ (trusted t).cosigner.name)
     → All IsKeyName (map name trusts) → All IsKeyName (cosigner_names (map trusted trusts))
@@ -200,11 +200,11 @@ bad_name_to trusted name trusts place n first = subst (λ (ns : List (List ℕ))
 
 -- the book that is opened
 pub opened_to : (H : List ℕ → List ℕ) (trusts : List Trusted) (checked chains : List SavedChain) (book : List Witnessed) → AreNamedOnce trusts chains
-    → All (IsTrusted trusts) (chain_origins chains) → All IsKeyName (cosigner_names trusts) → All (λ c. IsChain H c.1) chains → checked ≡ chains
+    → All (IsTrusted trusts) (chain_origins chains) → All IsKeyName (cosigner_names trusts) → All (λ c. IsChain H c.steps) chains → checked ≡ chains
     → AllZip (IsKept checked) trusts book → OpensBook H trusts chains book
-opened_to H trusts checked chains book once known named lawful same kept = record {
+opened_to H trusts checked chains book once listed named lawful same kept = record {
   once = once;
-  trusted = known;
+  trusted = listed;
   named = named;
   lawful = lawful;
   kept = subst (λ (cs : List SavedChain). AllZip (IsKept cs) trusts book) same kept;

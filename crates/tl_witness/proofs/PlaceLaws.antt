@@ -4,7 +4,7 @@ use Rattle.std.proofs.lemmas.Option.{slice_get-map, slice_get_read, slice_get_wi
 use Rattle.std.proofs.lemmas.List.{length-map}
 use Rattle.std.specs.Option.{option_map}
 use Rattle.tl_witness.specs.Witnessed.{Witnessed}
-use Rattle.tl_witness.specs.Book.{Place, IsPlaceOf}
+use Rattle.tl_witness.specs.Book.{Placed, IsPlacedIn}
 
 -- what is read at a place shows there
 pub shows_at : {A B : Type 0} (f : A → B) (xs : List A) (n i : ℕ) (x : A) (y : B)
@@ -44,30 +44,30 @@ nowhere f xs n i y whole past below j there =
     below j (omega arith) there
 
 -- no place is of an origin that shows nowhere
-pub no_place : {A : Type 0} (keepers : List A) (view : A → Witnessed) (origin_of : A → List ℕ) (origin : List ℕ)
+pub no_place : {A : Type 0} (states : List A) (view : A → Witnessed) (origin_of : A → List ℕ) (origin : List ℕ)
     → ((k : A) → (view k).origin ≡ origin_of k)
-    → ((i : ℕ) → slice_get (map origin_of keepers) i ≢ Some origin) → (place : Place) → ¬ (IsPlaceOf (map view keepers) origin place)
-no_place keepers view origin_of origin same nowhere place is =
-    let k = stands_at view keepers place.at place.one is.0 in
+    → ((i : ℕ) → slice_get (map origin_of states) i ≢ Some origin) → (placed : Placed) → ¬ (IsPlacedIn (map view states) origin placed)
+no_place states view origin_of origin same nowhere placed is =
+    let k = stands_at view states placed.place placed.one is.0 in
     let named : origin_of k.0 ≡ origin = sym (same k.0) ∙ (ap (λ (w : Witnessed). w.origin) k.2 ∙ is.1) in
-    nowhere place.at (slice_get-map origin_of keepers place.at ∙ (ap (option_map origin_of) k.1 ∙ ap Some named))
+    nowhere placed.place (slice_get-map origin_of states placed.place ∙ (ap (option_map origin_of) k.1 ∙ ap Some named))
 
 -- where an origin shows, there is a place of it
-pub place_at : {A : Type 0} (keepers : List A) (view : A → Witnessed) (origin_of : A → List ℕ) (i : ℕ) (origin : List ℕ) (k : A)
+pub place_at : {A : Type 0} (states : List A) (view : A → Witnessed) (origin_of : A → List ℕ) (i : ℕ) (origin : List ℕ) (k : A)
     → ((k : A) → (view k).origin ≡ origin_of k)
-    → slice_get (map origin_of keepers) i ≡ Some origin → k ≡ slice_index_or keepers i k
-    → IsPlaceOf (map view keepers) origin (record { at = i; one = view k })
-place_at keepers view origin_of i origin k same shows read =
-    let it = stands_at origin_of keepers i origin shows in
-    let here : it.0 ≡ k = sym (get_or_from_slice_get keepers i it.0 k it.1) ∙ sym read in (
-      slice_get-map view keepers i ∙ (ap (option_map view) it.1 ∙ ap (λ x. Some (view x)) here),
+    → slice_get (map origin_of states) i ≡ Some origin → k ≡ slice_index_or states i k
+    → IsPlacedIn (map view states) origin (record { place = i; one = view k })
+place_at states view origin_of i origin k same shows read =
+    let it = stands_at origin_of states i origin shows in
+    let here : it.0 ≡ k = sym (get_or_from_slice_get states i it.0 k it.1) ∙ sym read in (
+      slice_get-map view states i ∙ (ap (option_map view) it.1 ∙ ap (λ x. Some (view x)) here),
       same k ∙ (ap origin_of (sym here) ∙ it.2),
     )
 
 -- what is read where an origin shows is of it
-pub named_at : {A : Type 0} (keepers : List A) (origin_of : A → List ℕ) (i : ℕ) (origin : List ℕ) (k : A)
-    → slice_get (map origin_of keepers) i ≡ Some origin → k ≡ slice_index_or keepers i k → origin_of k ≡ origin
-named_at keepers origin_of i origin k shows read =
-    let it = stands_at origin_of keepers i origin shows in
-    let here : it.0 ≡ k = sym (get_or_from_slice_get keepers i it.0 k it.1) ∙ sym read in
+pub named_at : {A : Type 0} (states : List A) (origin_of : A → List ℕ) (i : ℕ) (origin : List ℕ) (k : A)
+    → slice_get (map origin_of states) i ≡ Some origin → k ≡ slice_index_or states i k → origin_of k ≡ origin
+named_at states origin_of i origin k shows read =
+    let it = stands_at origin_of states i origin shows in
+    let here : it.0 ≡ k = sym (get_or_from_slice_get states i it.0 k it.1) ∙ sym read in
     ap origin_of (sym here) ∙ it.2

@@ -12,16 +12,16 @@ pub same_chain : (o p : List ℕ) (xs ys : List Step) → o ≡ p → xs ≡ ys 
 same_chain o p xs ys e f = ap (λ (q : List ℕ). saved_chain q xs) e ∙ ap (λ (steps : List Step). saved_chain p steps) f
 
 pub puts_known : {A : Type 0} (view : A → SavedChain) (xs : List A) (place : ℕ) (origin : List ℕ) (step : Step) (old new : A)
-    → place < length xs → slice_get (map (λ x. (view x).0) xs) place ≡ Some origin → old ≡ slice_index_or xs place old
-    → (view new).0 ≡ (view old).0 → (view new).1 ≡ (view old).1 ++ step ∷ []
+    → place < length xs → slice_get (map (λ x. (view x).origin) xs) place ≡ Some origin → old ≡ slice_index_or xs place old
+    → (view new).origin ≡ (view old).origin → (view new).steps ≡ (view old).steps ++ step ∷ []
     → PutsStep origin step (map view xs) (map view (slice_set xs place new))
 puts_known view xs place origin step old new room shows read same put =
-    let named : (view old).0 ≡ origin = named_at xs (λ x. (view x).0) place origin old shows read in
-    let made = same_chain (view new).0 origin (view new).1 ((view old).1 ++ step ∷ []) (same ∙ named) put in
+    let named : (view old).origin ≡ origin = named_at xs (λ x. (view x).origin) place origin old shows read in
+    let made = same_chain (view new).origin origin (view new).steps ((view old).steps ++ step ∷ []) (same ∙ named) put in
     inl (
       place,
-      (view old).1,
-      shows_at view xs (length xs) place old (origin, (view old).1) refl room read (ap (λ (o : List ℕ). (o, (view old).1)) named),
+      (view old).steps,
+      shows_at view xs (length xs) place old (saved_chain origin (view old).steps) refl room read (ap (λ (o : List ℕ). saved_chain o (view old).steps) named),
       map-set view xs place new ∙ ap (λ (c : SavedChain). slice_set (map view xs) place c) made,
     )
 
@@ -30,9 +30,9 @@ pub one_step : {A B : Type 0} (f : A → B) (empty links : List A) (link : A) �
 one_step {A} f empty links link none now = ap (map f) now ∙ ap (λ (ls : List A). map f (ls ++ link ∷ [])) none
 
 pub puts_new : {A : Type 0} (view : A → SavedChain) (xs : List A) (origin : List ℕ) (step : Step) (new : A)
-    → ((place : ℕ) → slice_get (map (λ x. (view x).0) xs) place ≢ Some origin) → (view new).0 ≡ origin → (view new).1 ≡ step ∷ []
+    → ((place : ℕ) → slice_get (map (λ x. (view x).origin) xs) place ≢ Some origin) → (view new).origin ≡ origin → (view new).steps ≡ step ∷ []
     → PutsStep origin step (map view xs) (map view (xs ++ new ∷ []))
 puts_new view xs origin step new none named one = inr (
-  subst (λ (os : List (List ℕ)). (place : ℕ) → slice_get os place ≢ Some origin) (shown_twice view (λ c. c.0) (λ x. (view x).0) xs (λ x. refl)) none,
-  map-append view xs (new ∷ []) ∙ ap (λ (c : SavedChain). map view xs ++ c ∷ []) (same_chain (view new).0 origin (view new).1 (step ∷ []) named one),
+  subst (λ (os : List (List ℕ)). (place : ℕ) → slice_get os place ≢ Some origin) (shown_twice view (λ c. c.origin) (λ x. (view x).origin) xs (λ x. refl)) none,
+  map-append view xs (new ∷ []) ∙ ap (λ (c : SavedChain). map view xs ++ c ∷ []) (same_chain (view new).origin origin (view new).steps (step ∷ []) named one),
 )

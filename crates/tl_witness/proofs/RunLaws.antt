@@ -4,7 +4,7 @@ use Rattle.std.specs.Prelude.{slice_set}
 use Rattle.std.proofs.lemmas.List.Elements.{All-head, All-tail, All-cons, All-nil}
 use Rattle.tl_proof.specs.Acceptance.{Step, Linked}
 use Rattle.tl_proof.specs.Laws.{MadeOfHashes}
-use Rattle.tl_witness.specs.Chain.{TreeHead, head_of, first_head, last_head, Follows, IsLinked, IsChain}
+use Rattle.tl_witness.specs.Chain.{TreeHead, head_after, first_head, last_head, Follows, IsLinked, IsChain}
 use Rattle.tl_witness.specs.Witnessed.{Witnessed, with_step}
 use Rattle.tl_witness.specs.Answers.{Answers}
 use Rattle.tl_witness.specs.Decide.{Asked, Outcome, Refuses, Decides, Settles, KeepsStep}
@@ -155,10 +155,10 @@ decided : (H : List ℕ → List ℕ) (body : List ℕ) (time : ℕ) (out : Book
 decided H body time out lawful (inl none) = rw none.1.3 (book-refl H out.book lawful)
 decided H body time out lawful (inr (request, is, inl none)) = rw none.1.3 (book-refl H out.book lawful)
 decided H body time out lawful (inr (request, is, inr (signed, reads, inl none))) = rw none.1.3 (book-refl H out.book lawful)
-decided H body time out lawful (inr (request, is, inr (signed, reads, inr (place, of, changed)))) =
-    let chain = place_lawful H out.book place.at place.one lawful of.0 in
-    let one : Outcome = record { status = out.status; body = out.body; saved = out.saved; saved_after = out.saved_after; one = place.one; one_after = changed.0 } in
-    rw changed.1 (set_later H out.book place.at place.one changed.0 lawful of.0 (same_trust H one chain (moves H (asked_of request signed time) one (asked_made body request.note request signed time is reads) changed.2)))
+decided H body time out lawful (inr (request, is, inr (signed, reads, inr (placed, of, changed)))) =
+    let chain = place_lawful H out.book placed.place placed.one lawful of.0 in
+    let one : Outcome = record { status = out.status; body = out.body; saved = out.saved; saved_after = out.saved_after; one = placed.one; one_after = changed.0 } in
+    rw changed.1 (set_later H out.book placed.place placed.one changed.0 lawful of.0 (same_trust H one chain (moves H (asked_of request signed time) one (asked_made body request.note request signed time is reads) changed.2)))
 
 pub answered : (H : List ℕ → List ℕ) (body : List ℕ) (time : ℕ) (out : BookOutcome) → IsLawful H out.book → Answers H body time out → IsLaterBook H out.book out.book_after
 answered H body time out lawful (inl is) = decided H body time out lawful is
@@ -185,7 +185,7 @@ linked_from H old (first ∷ chain) zero step is there =
     let same : first ≡ step = cc in subst (λ (s : Step). Linked H s.size s.root chain) same is.1
 linked_from H old (first ∷ chain) (suc place) step is there =
     let next : suc (place + 1) ≡ suc place + 1 = omega arith in
-    subst (λ (n : ℕ). Linked H step.size step.root (drop n (first ∷ chain))) next (linked_from H (head_of first) chain place step is.1 there)
+    subst (λ (n : ℕ). Linked H step.size step.root (drop n (first ∷ chain))) next (linked_from H (head_after first) chain place step is.1 there)
 
 pub chains_are_linked : ChainsAreLinkedFromEachStep
 chains_are_linked H chain is = (is.linked, λ place step there. linked_from H (first_head H) chain place step is.linked there)

@@ -5,7 +5,7 @@ use Rattle.std.proofs.lemmas.List.{map-append, take_rest, take_all, drop-map, ta
 use mathlib.Core.List.{IsPrefix}
 use Rattle.tl_proof.specs.Acceptance.{Step}
 use Rattle.tl_proof.specs.Laws.{MadeOfHashes}
-use Rattle.tl_witness.specs.Book.{IsPlaceOf, Place}
+use Rattle.tl_witness.specs.Book.{IsPlacedIn, Placed}
 use Rattle.tl_witness.specs.Chain.{IsChain, IsLinked, first_head}
 use Rattle.tl_witness.specs.Decide.{Asked, Outcome, Decides}
 use Rattle.tl_witness.specs.declared.finding.Found.{Found}
@@ -61,13 +61,13 @@ malformed H book body time answer (inl none) refused = inl (none.0, refused)
 malformed H book body time answer (inr (request, reads, none)) refused = inr (request, reads, inl (none, refused))
 
 pub of_other : (H : List ℕ → List ℕ) (book : List Witnessed) (body : List ℕ) (time : ℕ) (answer : Answer) (origins : List (List ℕ)) (other : IsOfOther body origins)
-    → ((place : Place) → ¬ (IsPlaceOf book other.signed.head.origin place)) → RefusesAnswer answer 404 → DecidesShared H book body time answer
+    → ((placed : Placed) → ¬ (IsPlacedIn book other.signed.head.origin placed)) → RefusesAnswer answer 404 → DecidesShared H book body time answer
 of_other H book body time answer origins other nowhere refused = inr (other.request, other.reads, inr (other.signed, other.note, inl (nowhere, refused)))
 
 pub at_place : {A : Type 0} (H : List ℕ → List ℕ) (book : List Witnessed) (body : List ℕ) (time : ℕ) (answer : Answer) (origins : List (List ℕ)) (found : Found A) (is : IsFound body origins found) (one : Witnessed)
-    → IsPlaceOf book is.signed.head.origin (record { at = found.place; one = one }) → DecidesLater H one (asked_by found.offer time) answer → DecidesShared H book body time answer
+    → IsPlacedIn book is.signed.head.origin (record { place = found.place; one = one }) → DecidesLater H one (asked_by found.offer time) answer → DecidesShared H book body time answer
 at_place H book body time answer origins found is one place decided =
-    inr (is.request, is.reads, inr (is.signed, is.note, inr (record { at = found.place; one = one }, place, subst (λ (a : Asked). DecidesLater H one a answer) (is.asks time) decided)))
+    inr (is.request, is.reads, inr (is.signed, is.note, inr (record { place = found.place; one = one }, place, subst (λ (a : Asked). DecidesLater H one a answer) (is.asks time) decided)))
 
 -- one origin more, later
 pub later_more : (H : List ℕ → List ℕ) (book later : List Witnessed) (one after : Witnessed) → IsLaterBook H book later → IsLater H one after → IsLaterBook H (book ++ one ∷ []) (later ++ after ∷ [])

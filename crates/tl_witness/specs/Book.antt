@@ -1,7 +1,8 @@
 -- The whole book of a witness, and a request to it (C2SP tlog-witness, "add-checkpoint").
-use Rattle.std.specs.Prelude.{◌≡◌, ℕ, List, [], Some, slice_get, slice_set, All}
+use Rattle.std.specs.Prelude.{◌≡◌, ℕ, List, [], Some, slice_get, slice_set, All, vec_items}
 use Rattle.tl_note.specs.Note.{Signature, Note}
 use Rattle.tl_checkpoint.specs.Checkpoint.{Head, IsHead, checkpoint_text}
+use Rattle.tl_witness.specs.declared.reply.Reply.{Reply}
 use Rattle.tl_witness.specs.Cases.{UnlessSome}
 use Rattle.tl_witness.specs.Chain.{IsChain}
 use Rattle.tl_witness.specs.Request.{Body, IsRequest}
@@ -34,19 +35,30 @@ pub record BookOutcome : Type 0 where
   pub book : List Witnessed
   pub book_after : List Witnessed
 
+-- the same, where this is the reply
+abbrev pub book_outcome : {A : Type 0} → Reply A → Saved → Saved → List Witnessed → List Witnessed → BookOutcome
+book_outcome reply saved saved_after book book_after = record {
+  status = reply.status;
+  body = vec_items reply.body;
+  saved = saved;
+  saved_after = saved_after;
+  book = book;
+  book_after = book_after;
+}
+
 -- the reply is this status with no body, and nothing changed
 abbrev pub RefusesAll : BookOutcome → ℕ → Type 0
 RefusesAll out status =
     (out.status ≡ status) × (out.body ≡ []) × (out.saved_after ≡ out.saved) × (out.book_after ≡ out.book)
 
--- a place of the book, and what stands there
-pub record Place : Type 0 where
-  pub at : ℕ
+-- one of a book, and its place there
+pub record Placed : Type 0 where
+  pub place : ℕ
   pub one : Witnessed
 
--- this place of the book is of this origin
-abbrev pub IsPlaceOf : List Witnessed → List ℕ → Place → Type 0
-IsPlaceOf book origin place = (slice_get book place.at ≡ Some place.one) × (place.one.origin ≡ origin)
+-- it stands at its place of the book, and is of this origin
+abbrev pub IsPlacedIn : List Witnessed → List ℕ → Placed → Type 0
+IsPlacedIn book origin placed = (slice_get book placed.place ≡ Some placed.one) × (placed.one.origin ≡ origin)
 
 -- what is asked of an origin
 abbrev pub asked_of : Body → Signed → ℕ → Asked
@@ -59,16 +71,16 @@ asked_of request signed time = record {
 }
 
 -- what came of it at one place of the book, and at no other
-abbrev pub ChangesAt : BookOutcome → Place → (Outcome → Type 0) → Type 0
-ChangesAt out place Decided =
+abbrev pub ChangesAt : BookOutcome → Placed → (Outcome → Type 0) → Type 0
+ChangesAt out placed Decided =
     (after : Witnessed)
-    × (out.book_after ≡ slice_set out.book place.at after)
+    × (out.book_after ≡ slice_set out.book placed.place after)
     × Decided (record {
       status = out.status;
       body = out.body;
       saved = out.saved;
       saved_after = out.saved_after;
-      one = place.one;
+      one = placed.one;
       one_after = after;
     })
 
@@ -77,5 +89,5 @@ abbrev pub DecidesBody : (List ℕ → List ℕ) → List ℕ → ℕ → BookOu
 DecidesBody H body time out =
     UnlessSome (IsRequest body) (RefusesAll out 400) (λ request.
     UnlessSome (IsSigned request.note) (RefusesAll out 400) (λ signed.
-    UnlessSome (IsPlaceOf out.book signed.head.origin) (RefusesAll out 404) (λ place.
-    ChangesAt out place (Decides H (asked_of request signed time)))))
+    UnlessSome (IsPlacedIn out.book signed.head.origin) (RefusesAll out 404) (λ placed.
+    ChangesAt out placed (Decides H (asked_of request signed time)))))

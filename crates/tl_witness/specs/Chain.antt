@@ -11,8 +11,8 @@ pub record TreeHead : Type 0 where
   pub root : List ℕ
 
 -- the head that a step leads to
-abbrev pub head_of : Step → TreeHead
-head_of step = record { size = step.size; root = step.root }
+abbrev pub head_after : Step → TreeHead
+head_after step = record { size = step.size; root = step.root }
 
 -- the step's proof is accepted for its head, from this older head
 abbrev pub Follows : (List ℕ → List ℕ) → TreeHead → Step → Type 0
@@ -25,7 +25,7 @@ IsLinked H old steps = Linked H old.size old.root steps
 -- the head that the steps lead to, from this one
 abbrev pub last_head : TreeHead → List Step → TreeHead
 last_head old [] = old
-last_head old (step ∷ steps) = last_head (head_of step) steps
+last_head old (step ∷ steps) = last_head (head_after step) steps
 
 -- the first head of every origin: size 0 and the hash of no bytes
 abbrev pub first_head : (List ℕ → List ℕ) → TreeHead

@@ -4,7 +4,7 @@ use Rattle.tl_hash.specs.Bytes.{IsHash}
 use Rattle.tl_text.specs.Text.{number_text, base64_text}
 use Rattle.tl_proof.specs.Acceptance.{Step}
 use Rattle.tl_witness.specs.ChainLine.{ChainLine}
-use Rattle.tl_witness.specs.Open.{SavedChain, chain_origins}
+use Rattle.tl_witness.specs.Open.{SavedChain, chain_origins, saved_chain}
 
 -- no byte of the text is this one
 abbrev pub IsWithout : ℕ → List ℕ → Type 0
@@ -37,5 +37,5 @@ pub record AreHashes (count : ℕ) (text : List ℕ) (hashes : List (List ℕ)) 
 -- the step is put behind those of its origin, or begins a new chain
 abbrev pub PutsStep : List ℕ → Step → List SavedChain → List SavedChain → Type 0
 PutsStep origin step old new =
-    ((place : ℕ) × (before : List Step) × (slice_get old place ≡ Some (origin, before)) × (new ≡ slice_set old place (origin, before ++ step ∷ [])))
-    ⊎ (((place : ℕ) → slice_get (chain_origins old) place ≢ Some origin) × (new ≡ old ++ (origin, step ∷ []) ∷ []))
+    ((place : ℕ) × (before : List Step) × (slice_get old place ≡ Some (saved_chain origin before)) × (new ≡ slice_set old place (saved_chain origin (before ++ step ∷ []))))
+    ⊎ (((place : ℕ) → slice_get (chain_origins old) place ≢ Some origin) × (new ≡ old ++ saved_chain origin (step ∷ []) ∷ []))

@@ -1,9 +1,10 @@
 -- Links that a witness saved, as lines (a format of this project).
-use Rattle.std.specs.Prelude.{◌≡◌, ◌≢◌, ℕ, ◌≤◌, not, List, [], ◌∷◌, ◌++◌, length, All, map, filter, take, IsUtf8, bytes_eq}
-use Rattle.std.specs.List.{flat_map, list_any, enumerate_from}
+use Rattle.std.specs.Prelude.{◌≡◌, ◌≢◌, ℕ, ◌≤◌, not, List, [], ◌∷◌, ◌++◌, length, All, map, filter, IsUtf8, bytes_eq}
+use Rattle.std.specs.List.{flat_map}
 use Rattle.tl_hash.specs.Bytes.{IsHash}
 use Rattle.tl_text.specs.Text.{line, number_text, base64_text, IsSize, IsOneLine}
 use Rattle.tl_proof.specs.Acceptance.{Step}
+use Rattle.tl_witness.specs.Open.{SavedChain, saved_chain}
 
 -- a step of the chain of an origin
 pub record ChainLine : Type 0 where
@@ -47,14 +48,19 @@ pub record IsMalformedAt (bytes : List ℕ) (place : ℕ) : Type 0 where
   pub more : rest ≢ []
   pub no_line : (l : ChainLine) (after : List ℕ) → IsChainLine l → rest ≢ chain_line l ++ after
 
--- the origins, each where it comes first
+-- the others, without this one
+abbrev pub without : List ℕ → List (List ℕ) → List (List ℕ)
+without origin others = filter (λ other. not (bytes_eq origin other)) others
+
+-- the origins in the order of their first lines: that of the first line, and then the other lines' without it
 abbrev pub origins : List ChainLine → List (List ℕ)
-origins lines = map (λ p. p.1.origin) (filter (λ p. not (list_any (λ l. bytes_eq l.origin p.1.origin) (take p.0 lines))) (enumerate_from 0 lines))
+origins [] = []
+origins (first ∷ lines) = first.origin ∷ without first.origin (origins lines)
 
 -- the steps of one origin, in order
 abbrev pub steps_of : List ℕ → List ChainLine → List Step
 steps_of origin lines = map (λ l. l.step) (filter (λ l. bytes_eq l.origin origin) lines)
 
 -- each origin with its steps
-abbrev pub chains : List ChainLine → List (List ℕ × List Step)
-chains lines = map (λ origin. (origin, steps_of origin lines)) (origins lines)
+abbrev pub chains : List ChainLine → List SavedChain
+chains lines = map (λ origin. saved_chain origin (steps_of origin lines)) (origins lines)

@@ -6,7 +6,7 @@ use Rattle.tl_proof.specs.Laws.{HasHashLength}
 use Rattle.tl_proof.specs.Collisions.{IsPrefix, Exhibits, audit_inputs}
 use Rattle.tl_proof.specs.Acceptance.{Step}
 use Rattle.tl_witness.specs.Answers.{Answers}
-use Rattle.tl_witness.specs.Book.{BookOutcome, IsLawful, IsPlaceOf, IsSigned, Signed}
+use Rattle.tl_witness.specs.Book.{BookOutcome, IsLawful, IsPlacedIn, IsSigned, Signed}
 use Rattle.tl_witness.specs.Open.{HasTwice, SavedChain, Trusted, OpensBook}
 use Rattle.tl_witness.specs.Request.{Body, IsRequest}
 use Rattle.tl_witness.specs.Runs.{IsBookRun}
@@ -47,8 +47,8 @@ pub record GrewBy (book later : List Witnessed) (origin : List ℕ) (links : Lis
   pub place : ℕ
   pub one : Witnessed
   pub after : Witnessed
-  pub is : IsPlaceOf book origin (record { at = place; one = one })
-  pub is_later : IsPlaceOf later origin (record { at = place; one = after })
+  pub is : IsPlacedIn book origin (record { place = place; one = one })
+  pub is_later : IsPlacedIn later origin (record { place = place; one = after })
   pub grew : after.chain ≡ one.chain ++ links
 
 -- a run of a book in which two requests, the first before the second, were answered with 200 for one origin,

@@ -10,4 +10,4 @@ pub
 pub
     mod ReadSigned
 pub
-    mod NamedKey
+    mod Outcome

@@ -5,6 +5,7 @@ pub mod ChainLine
 pub mod Chain
 pub mod Saver
 pub mod Witnessed
+pub mod Shown
 pub mod Decide
 pub mod Book
 pub mod ReadRequest
@@ -14,7 +15,6 @@ pub mod Cosigned
 pub mod Shared
 pub mod Open
 pub mod Opening
-pub mod Index
 pub mod ChainFields
 pub mod ByOrigin
 pub mod ReadChain

@@ -16,17 +16,19 @@ pub record Trusted : Type 0 where
   pub cosigner : SigningKey
 
 -- a chain that was saved, and its origin
-abbrev pub SavedChain : Type 0
-SavedChain = List ℕ × List Step
+pub record SavedChain : Type 0 where
+  pub origin : List ℕ
+  pub steps : List Step
 
 abbrev pub saved_chain : List ℕ → List Step → SavedChain
-saved_chain origin steps = (origin, steps)
+saved_chain origin steps = record { origin = origin; steps = steps }
 
+-- the origins of trusts, and of chains
 abbrev pub trusted_origins : List Trusted → List (List ℕ)
-trusted_origins trusts = map (λ t. t.origin) trusts
+trusted_origins trusts = map (λ trust. trust.origin) trusts
 
 abbrev pub chain_origins : List SavedChain → List (List ℕ)
-chain_origins chains = map (λ c. c.0) chains
+chain_origins chains = map (λ chain. chain.origin) chains
 
 -- x is one of these
 abbrev pub IsAmong : {A : Type 0} → A → List A → Type 0
@@ -78,8 +80,8 @@ pub record IsFirstBreak (H : List ℕ → List ℕ) (steps : List Step) (place :
 pub record IsFirstBroken (H : List ℕ → List ℕ) (chains : List SavedChain) (place link : ℕ) : Type 0 where
   pub broken : SavedChain
   pub there : slice_get chains place ≡ Some broken
-  pub before : All (λ c. IsChain H c.1) (take place chains)
-  pub breaks : IsFirstBreak H broken.1 link
+  pub before : All (λ chain. IsChain H chain.steps) (take place chains)
+  pub breaks : IsFirstBreak H broken.steps link
 
 -- why a book is not opened: the first of these that applies, or that memory was refused where there is a trust or a
 -- chain
@@ -97,12 +99,12 @@ pub record IsKept (chains : List SavedChain) (trust : Trusted) (one : Witnessed)
   pub origin : one.origin ≡ trust.origin
   pub verifiers : one.verifiers ≡ trust.verifiers
   pub cosigner : one.cosigner ≡ trust.cosigner
-  pub chain : IsAmong (trust.origin, one.chain) chains ⊎ (¬ (IsAmong trust.origin (chain_origins chains)) × (one.chain ≡ []))
+  pub chain : IsAmong (saved_chain trust.origin one.chain) chains ⊎ (¬ (IsAmong trust.origin (chain_origins chains)) × (one.chain ≡ []))
 
 -- the book keeps what is kept for each trust, in order
 pub record OpensBook (H : List ℕ → List ℕ) (trusts : List Trusted) (chains : List SavedChain) (book : List Witnessed) : Type 0 where
   pub once : AreNamedOnce trusts chains
   pub trusted : All (IsTrusted trusts) (chain_origins chains)
   pub named : All IsKeyName (cosigner_names trusts)
-  pub lawful : All (λ c. IsChain H c.1) chains
+  pub lawful : All (λ chain. IsChain H chain.steps) chains
   pub kept : AllZip (IsKept chains) trusts book

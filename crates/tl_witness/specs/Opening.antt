@@ -3,7 +3,7 @@ use Rattle.std.specs.Prelude.{◌≡◌, ◌≢◌, ℕ, ◌⊎◌, ◌<◌, Lis
 use Rattle.tl_proof.specs.Acceptance.{Step}
 use Rattle.tl_witness.specs.declared.opening.BookFault.{BookFault}
 use Rattle.tl_witness.specs.declared.opening.BookFault.TheVariants.{BadChain, OutOfMemory}
-use Rattle.tl_witness.specs.Open.{SavedChain, IsAmong, IsFirstBroken, chain_origins}
+use Rattle.tl_witness.specs.Open.{SavedChain, IsAmong, IsFirstBroken, chain_origins, saved_chain}
 
 -- a chain breaks, or memory was refused where there is one
 abbrev pub ChecksChains : (List ℕ → List ℕ) → List SavedChain → BookFault → Type 0
@@ -14,5 +14,5 @@ ChecksChains H chains _ = ⊥
 -- the chain of this origin was taken, or one of no steps where there is none; the others stay
 pub record TakesChain (origin : List ℕ) (old new : List SavedChain) (taken : List Step) : Type 0 where
   pub same_origins : chain_origins new ≡ chain_origins old
-  pub others : (c : SavedChain) → IsAmong c new → c.0 ≢ origin → IsAmong c old
-  pub chain : IsAmong (origin, taken) old ⊎ (¬ (IsAmong origin (chain_origins old)) × (taken ≡ []))
+  pub others : (c : SavedChain) → IsAmong c new → c.origin ≢ origin → IsAmong c old
+  pub chain : IsAmong (saved_chain origin taken) old ⊎ (¬ (IsAmong origin (chain_origins old)) × (taken ≡ []))

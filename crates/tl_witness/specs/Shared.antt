@@ -1,9 +1,10 @@
 -- What is known of a request to a witness that threads share: other requests may come before it (C2SP tlog-witness,
 -- "add-checkpoint"). H is the digest function, and a book shows what was handed in.
-use Rattle.std.specs.Prelude.{◌≡◌, ℕ, ◌⊎◌, List, []}
+use Rattle.std.specs.Prelude.{◌≡◌, ℕ, ◌⊎◌, List, [], vec_items}
 use Rattle.tl_proof.specs.Acceptance.{Step}
+use Rattle.tl_witness.specs.declared.reply.Reply.{Reply}
 use Rattle.tl_witness.specs.Answers.{AsksForMemory}
-use Rattle.tl_witness.specs.Book.{IsPlaceOf, IsSigned, Place, asked_of}
+use Rattle.tl_witness.specs.Book.{IsPlacedIn, IsSigned, Placed, asked_of}
 use Rattle.tl_witness.specs.Cases.{UnlessSome}
 use Rattle.tl_witness.specs.Decide.{Asked, Decides}
 use Rattle.tl_witness.specs.Request.{IsRequest}
@@ -17,6 +18,10 @@ pub record Answer : Type 0 where
   pub body : List ℕ
   pub saved : Saved
   pub saved_after : Saved
+
+-- the same, where this is the reply
+abbrev pub answer_of : {A : Type 0} → Reply A → Saved → Saved → Answer
+answer_of reply saved saved_after = record { status = reply.status; body = vec_items reply.body; saved = saved; saved_after = saved_after }
 
 -- the reply is this status with no body, and nothing was saved
 abbrev pub RefusesAnswer : Answer → ℕ → Type 0
@@ -42,8 +47,8 @@ abbrev pub DecidesShared : (List ℕ → List ℕ) → List Witnessed → List �
 DecidesShared H book body time answer =
     UnlessSome (IsRequest body) (RefusesAnswer answer 400) (λ request.
     UnlessSome (IsSigned request.note) (RefusesAnswer answer 400) (λ signed.
-    UnlessSome (IsPlaceOf book signed.head.origin) (RefusesAnswer answer 404) (λ place.
-    DecidesLater H place.one (asked_of request signed time) answer)))
+    UnlessSome (IsPlacedIn book signed.head.origin) (RefusesAnswer answer 404) (λ placed.
+    DecidesLater H placed.one (asked_of request signed time) answer)))
 
 -- the cases of a request; or 500 with nothing saved, where memory was asked for
 abbrev pub AnswersShared : (List ℕ → List ℕ) → List Witnessed → List ℕ → ℕ → Answer → Type 0
@@ -51,4 +56,4 @@ AnswersShared H book body time answer = DecidesShared H book body time answer �
 
 -- of the origin at some place: a later chain of it, of which this holds
 abbrev pub IsOfLaterChain : (List ℕ → List ℕ) → List Witnessed → List ℕ → (List Step → Type 0) → Type 0
-IsOfLaterChain H book origin IsSo = (place : Place) × IsPlaceOf book origin place × (later : List Step) × IsLaterChain H place.one.chain later × IsSo later
+IsOfLaterChain H book origin IsSo = (placed : Placed) × IsPlacedIn book origin placed × (later : List Step) × IsLaterChain H placed.one.chain later × IsSo later

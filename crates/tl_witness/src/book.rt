@@ -3,14 +3,12 @@
 ghost use Rattle.std.specs.Prelude.{◌≡◌, IfOk, MatchOption, OnErr, map};
 ghost use Rattle.tl_proof.specs.Acceptance.{step_of};
 ghost use Rattle.tl_witness.specs.Answers.{Answers, AsksForMemory};
-ghost use Rattle.tl_witness.specs.Book.{DecidesBody, IsPlaceOf, Place};
+ghost use Rattle.tl_witness.specs.Book.{DecidesBody, IsPlacedIn, Placed, book_outcome};
 
 use crate::by_origin::ByOrigin;
-use crate::chain::Chain;
 use crate::finding::{Unfound, find_origin};
-use crate::index::place_by;
-use crate::origin::Origin;
-use crate::place::OfOrigin;
+use crate::origin_state::OriginState;
+use crate::place::place_by;
 use crate::reply::{Reply, refusal};
 use crate::saver::Saver;
 use crate::tools::Tools;
@@ -19,51 +17,11 @@ use tl_hash::TreeHash;
 use tl_note::{Signer, Verifier};
 use tl_proof::Link;
 
-/// One origin, and the links that the witness accepted for it.
-#[derive(Drop)]
-pub(crate) struct Entry<T: TreeHash, A: Allocator> {
-    pub(crate) origin: Origin<A>,
-    pub(crate) chain: Chain<T, A>,
-}
-
-/// What contracts see of it.
-pub(crate) trait ShownEntry {
-    ghost use Rattle.tl_witness.specs.Witnessed.{Witnessed};
-
-    ghost shown_entry: { Self → Witnessed };
-}
-
-impl<T: TreeHash, A: Allocator> ShownEntry for Entry<T, A> {
-    ghost use Rattle.std.specs.Prelude.{map, string_bytes};
-    ghost use Rattle.tl_witness.specs.Inner.NamedKey.{named_key};
-
-    ghost shown_entry = { λ e. record {
-      origin = string_bytes e.origin.name;
-      verifiers = map (λ v. (Verifier-box v).key v.value) e.origin.verifiers.items;
-      cosigner = named_key (string_bytes e.origin.cosigner_name.text) ((Signer-box e.origin.cosigner).signing_key e.origin.cosigner.value);
-      chain = e.chain;
-    } };
-}
-
-impl<T: TreeHash, A: Allocator> OfOrigin for Entry<T, A> {
-    ghost use Rattle.std.specs.Prelude.{string_bytes};
-
-    ghost origin_of = { λ e. string_bytes e.origin.name };
-
-    fn origin(&self) -> &str {
-        self.origin.name.as_str()
-    }
-
-    fn is_of(&self, origin: &str) -> bool {
-        self.origin.name.as_str() == origin
-    }
-}
-
 /// What a witness keeps of every origin: whom it trusts, who cosigns, and the links that it has accepted.
 #[derive(Drop)]
 pub struct Book<T: TreeHash, A: Allocator + Copy> {
     pub(crate) tools: Tools<T, A>,
-    pub(crate) entries: Vec<Entry<T, A>, A>,
+    pub(crate) states: Vec<OriginState<T, A>, A>,
     pub(crate) places: ByOrigin<A>,
 }
 
@@ -76,15 +34,11 @@ pub trait Shown {
 }
 
 impl<T: TreeHash, A: Allocator + Copy> Shown for Book<T, A> {
-    ghost use Rattle.std.specs.Prelude.{map, string_bytes};
-    ghost use Rattle.tl_witness.specs.Inner.NamedKey.{named_key};
+    ghost use Rattle.std.specs.Prelude.{map};
+    ghost use Rattle.tl_witness.specs.Shown.{witnessed};
 
-    ghost shown = { λ b. map (λ e. record {
-      origin = string_bytes e.origin.name;
-      verifiers = map (λ v. (Verifier-box v).key v.value) e.origin.verifiers.items;
-      cosigner = named_key (string_bytes e.origin.cosigner_name.text) ((Signer-box e.origin.cosigner).signing_key e.origin.cosigner.value);
-      chain = e.chain;
-    }) b.entries.items };
+    ghost shown = { λ b. map (λ s. witnessed s.origin (map (λ v. (Verifier-box v).key v.value) s.origin.verifiers.items)
+        ((Signer-box s.origin.cosigner).signing_key s.origin.cosigner.value) s.chain) b.states.items };
 }
 
 impl<T: TreeHash, A: Allocator + Copy> Book<T, A> {
@@ -100,28 +54,21 @@ impl<T: TreeHash, A: Allocator + Copy> Book<T, A> {
         saver: &mut S,
     ) -> Result<Reply<A>, AllocError>
         ensures decided { IfOk result (λ reply. DecidesBody T.digest_of body.now time
-            (record {
-              status = reply.status;
-              body = reply.body.items;
-              saved = S.saved saver.old;
-              saved_after = S.saved saver.new;
-              book = ⟦<Book<T, A> as Shown>⟧.shown self.old;
-              book_after = ⟦<Book<T, A> as Shown>⟧.shown self.new;
-            })) }
+            (book_outcome reply (S.saved saver.old) (S.saved saver.new) (⟦<Book<T, A> as Shown>⟧.shown self.old) (⟦<Book<T, A> as Shown>⟧.shown self.new))) }
         ensures unchanged { OnErr result ((S.saved saver.new ≡ S.saved saver.old)
             × (⟦<Book<T, A> as Shown>⟧.shown self.new ≡ ⟦<Book<T, A> as Shown>⟧.shown self.old) × AsksForMemory body.now) }
     {
         let tools = self.tools;
-        let found = match find_origin(tools.alloc, &self.places, self.entries.as_slice(), body) {
+        let found = match find_origin(tools.alloc, &self.places, self.states.as_slice(), body) {
             Ok(found) => found,
             Err(Unfound::Malformed) => return Ok(refusal(tools.alloc, 400)),
             Err(Unfound::Unknown) => return Ok(refusal(tools.alloc, 404)),
             Err(Unfound::OutOfMemory) => return Err(AllocError),
         };
-        let entry = &mut self.entries[found.place];
-        entry
+        let state = &mut self.states[found.place];
+        state
             .origin
-            .answer(tools, &mut entry.chain, found.offer, time, saver)
+            .answer(tools, &mut state.chain, found.offer, time, saver)
     }
 
     /// Answers an add-checkpoint request as `try_add` decides it, and with 500 where that asked for memory which
@@ -129,14 +76,7 @@ impl<T: TreeHash, A: Allocator + Copy> Book<T, A> {
     /// unchanged.
     pub fn add<S: Saver>(&mut self, body: &[u8], time: u64, saver: &mut S) -> Reply<A>
         ensures { Answers T.digest_of body.now time
-            (record {
-              status = result.status;
-              body = result.body.items;
-              saved = S.saved saver.old;
-              saved_after = S.saved saver.new;
-              book = ⟦<Book<T, A> as Shown>⟧.shown self.old;
-              book_after = ⟦<Book<T, A> as Shown>⟧.shown self.new;
-            }) }
+            (book_outcome result (S.saved saver.old) (S.saved saver.new) (⟦<Book<T, A> as Shown>⟧.shown self.old) (⟦<Book<T, A> as Shown>⟧.shown self.new)) }
     {
         match self.try_add(body, time, saver) {
             Ok(reply) => reply,
@@ -146,13 +86,13 @@ impl<T: TreeHash, A: Allocator + Copy> Book<T, A> {
 
     /// The links of an origin, in order. None where the origin is unknown.
     pub fn chain(&self, origin: &str) -> Option<&[Link<A>]>
-        ensures { MatchOption result ((place : Place) → ¬ (IsPlaceOf (⟦<Book<T, A> as Shown>⟧.shown self.now) origin.now place))
-            (λ links. (place : Place) × IsPlaceOf (⟦<Book<T, A> as Shown>⟧.shown self.now) origin.now place × (map step_of links.now ≡ place.one.chain)) }
+        ensures { MatchOption result ((placed : Placed) → ¬ (IsPlacedIn (⟦<Book<T, A> as Shown>⟧.shown self.now) origin.now placed))
+            (λ links. (placed : Placed) × IsPlacedIn (⟦<Book<T, A> as Shown>⟧.shown self.now) origin.now placed × (map step_of links.now ≡ placed.one.chain)) }
     {
-        let place = match place_by(&self.places, self.entries.as_slice(), origin) {
+        let place = match place_by(&self.places, self.states.as_slice(), origin) {
             Some(place) => place,
             None => return None,
         };
-        Some(self.entries[place].chain.links())
+        Some(self.states[place].chain.links())
     }
 }

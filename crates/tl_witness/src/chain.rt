@@ -160,7 +160,7 @@ fn first_break<T: TreeHash, A: Allocator>(tree: T, links: &[Link<A>]) -> Option<
 }
 
 impl<T: TreeHash, A: Allocator> Chain<T, A> {
-    /// The chain of these links. Else it tells the place of the first that isn't accepted from the one before.
+    /// The chain of these links; else the place of the first that isn't accepted from the one before.
     pub(crate) fn from_links(tree: T, links: Vec<Link<A>, A>) -> Result<Self, usize>
         ensures ok { IfOk result (λ chain. (chain ≡ map step_of links.items) × IsChain T.digest_of (map step_of links.items)) }
         ensures err { IfErr result (IsFirstBreak T.digest_of (map step_of links.items)) }

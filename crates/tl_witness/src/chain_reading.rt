@@ -68,7 +68,7 @@ fn link_of<A: Allocator>(alloc: A, fields: &Fields<'_>) -> Result<Link<A>, Alloc
     })
 }
 
-// Adds a link behind those of its origin, which the index tells.
+// Adds a link behind those of its origin, whose place the index has.
 fn put_link<A: Allocator + Copy>(
     alloc: A,
     chains: &mut Vec<(String<A>, Vec<Link<A>, A>), A>,
@@ -97,7 +97,7 @@ fn put_link<A: Allocator + Copy>(
 }
 
 /// The links that these bytes say, one on each line as `write_chain_line` writes it: each origin, in the order of the
-/// first lines, with its links in order. `Malformed` tells the first line that isn't written so; the last one too ends
+/// first lines, with its links in order. `Malformed` names the first line that isn't written so; the last one too ends
 /// with a newline. Memory is asked for after the first line is found to be one. The time grows with the bytes, and
 /// with the logarithm of the number of origins.
 pub fn read_chain<A: Allocator + Copy>(

@@ -2,13 +2,13 @@
 
 ghost use Rattle.std.specs.Prelude.{◌≡◌, ◌<◌, ◌⊎◌, [], IfOk, IsTrue, MatchOption, length, string_bytes};
 ghost use Rattle.std.proofs.Props.{props};
-ghost use Rattle.tl_checkpoint.specs.Cosignature.{Cosigns, MayFailToCosign, cosignature};
+ghost use Rattle.tl_checkpoint.specs.Cosignature.{Cosigns, MayFailToCosign};
 ghost use Rattle.tl_note.specs.Key.{IsKeyName, SigningKey};
-ghost use Rattle.tl_witness.specs.Inner.NamedKey.{named_key};
+ghost use Rattle.tl_witness.specs.Witnessed.{named_key};
 
 use crate::tools::Tools;
 use std::alloc::{AllocError, Allocator, Global};
-use tl_checkpoint::cosign_message;
+use tl_checkpoint::{cosign_message, cosignature_bytes};
 use tl_hash::TreeHash;
 use tl_note::{SignFault, Signer, write_signature_line};
 
@@ -61,19 +61,6 @@ fn signature_of(
         return Ok(None);
     }
     Ok(Some(signature))
-}
-
-// The bytes of a cosignature after the key's identifier.
-fn cosignature_bytes<A: Allocator>(
-    alloc: A,
-    time: u64,
-    signature: &[u8],
-) -> Result<Vec<u8, A>, AllocError>
-    ensures { IfOk result (λ bytes. bytes.items ≡ cosignature time signature.now) }
-{
-    let mut bytes = Vec::from_slice(alloc, &time.to_be_bytes())?;
-    bytes.extend_from_slice(signature)?;
-    Ok(bytes)
 }
 
 // The name of a signer, copied. It fails only where a growth was refused.

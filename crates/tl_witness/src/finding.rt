@@ -9,9 +9,8 @@ ghost use Rattle.tl_witness.specs.ReadRequest.{body_of};
 ghost use Rattle.tl_witness.specs.Inner.ReadSigned.{signed_of};
 
 use crate::by_origin::ByOrigin;
-use crate::index::place_by;
 use crate::offer::Offer;
-use crate::place::OfOrigin;
+use crate::place::{OfOrigin, place_by};
 use crate::request::{AddRequest, RequestFault, parse_request};
 use crate::signed::{SignedCheckpoint, read_signed};
 use std::alloc::Allocator;

@@ -6,14 +6,13 @@ ghost use Rattle.tl_witness.specs.Chain.{first_head, last_head};
 ghost use Rattle.tl_witness.specs.ChainLine.{IsChainLine};
 ghost use Rattle.tl_witness.specs.Inner.Offer.{asked_by};
 ghost use Rattle.tl_witness.specs.Runs.{IsLater, IsLaterChain};
-ghost use Rattle.tl_witness.specs.Shared.{DecidesLater};
+ghost use Rattle.tl_witness.specs.Shared.{DecidesLater, answer_of};
 
-use crate::book::{Entry, ShownEntry};
 use crate::chain::Chain;
 use crate::copy::copy_links;
 use crate::lock::Lock;
 use crate::offer::Offer;
-use crate::origin::Origin;
+use crate::origin_state::{Origin, OriginState, ShownState};
 use crate::place::OfOrigin;
 use crate::reply::Reply;
 use crate::saver::Saver;
@@ -50,15 +49,11 @@ pub(crate) trait ShownGuarded {
 }
 
 impl<T: TreeHash, A: Allocator> ShownGuarded for Guarded<T, A> {
-    ghost use Rattle.std.specs.Prelude.{map, string_bytes};
-    ghost use Rattle.tl_witness.specs.Inner.NamedKey.{named_key};
+    ghost use Rattle.std.specs.Prelude.{map};
+    ghost use Rattle.tl_witness.specs.Shown.{witnessed};
 
-    ghost shown_guarded = { λ e. record {
-      origin = string_bytes e.origin.name;
-      verifiers = map (λ v. (Verifier-box v).key v.value) e.origin.verifiers.items;
-      cosigner = named_key (string_bytes e.origin.cosigner_name.text) ((Signer-box e.origin.cosigner).signing_key e.origin.cosigner.value);
-      chain = e.chain.slot.value;
-    } };
+    ghost shown_guarded = { λ s. witnessed s.origin (map (λ v. (Verifier-box v).key v.value) s.origin.verifiers.items)
+        ((Signer-box s.origin.cosigner).signing_key s.origin.cosigner.value) s.chain.slot.value };
 }
 
 impl<T: TreeHash, A: Allocator> OfOrigin for Guarded<T, A> {
@@ -68,10 +63,6 @@ impl<T: TreeHash, A: Allocator> OfOrigin for Guarded<T, A> {
 
     fn origin(&self) -> &str {
         self.origin.name.as_str()
-    }
-
-    fn is_of(&self, origin: &str) -> bool {
-        self.origin.name.as_str() == origin
     }
 }
 
@@ -92,10 +83,10 @@ fn part_of<A: Allocator>(links: &[Link<A>], from: u64, most: u64) -> &[Link<A>]
 
 impl<T: TreeHash, A: Allocator> Guarded<T, A> {
     /// The origin of a book, and its links behind a lock.
-    pub(crate) fn new(entry: Entry<T, A>) -> Self
-        ensures { ⟦<Guarded<T, A> as ShownGuarded>⟧.shown_guarded result ≡ ⟦<Entry<T, A> as ShownEntry>⟧.shown_entry entry }
+    pub(crate) fn new(state: OriginState<T, A>) -> Self
+        ensures { ⟦<Guarded<T, A> as ShownGuarded>⟧.shown_guarded result ≡ ⟦<OriginState<T, A> as ShownState>⟧.shown_state state }
     {
-        let Entry { origin, chain } = entry;
+        let OriginState { origin, chain } = state;
         let start = Snapshot::of(&chain);
         Guarded {
             origin,
@@ -117,12 +108,7 @@ impl<T: TreeHash, A: Allocator + Copy> Guarded<T, A> {
     ) -> Result<Reply<A>, AllocError>
         requires { IsChainLine (record { origin = string_bytes self.now.origin.name; step = step_of offer.link }) }
         ensures ok { IfOk result (λ reply. DecidesLater T.digest_of (⟦<Guarded<T, A> as ShownGuarded>⟧.shown_guarded self.now) (asked_by offer.entry time)
-            (record {
-              status = reply.status;
-              body = reply.body.items;
-              saved = S.saved saver.old;
-              saved_after = S.saved saver.new;
-            })) }
+            (answer_of reply (S.saved saver.old) (S.saved saver.new))) }
         ensures err { OnErr result (S.saved saver.new ≡ S.saved saver.old) }
     {
         let _turn = self.chain.enter(rt);
@@ -134,13 +120,13 @@ impl<T: TreeHash, A: Allocator + Copy> Guarded<T, A> {
     }
 
     /// The origin as it is once nobody shares it.
-    pub(crate) fn into_entry<R: Wait>(self, rt: &R) -> Entry<T, A>
-        ensures { IsLater T.digest_of (⟦<Guarded<T, A> as ShownGuarded>⟧.shown_guarded self) (⟦<Entry<T, A> as ShownEntry>⟧.shown_entry result) }
+    pub(crate) fn into_state<R: Wait>(self, rt: &R) -> OriginState<T, A>
+        ensures { IsLater T.digest_of (⟦<Guarded<T, A> as ShownGuarded>⟧.shown_guarded self) (⟦<OriginState<T, A> as ShownState>⟧.shown_state result) }
     {
         let Guarded { origin, chain } = self;
         let chain = chain.into_inner(rt);
         chain.is_chain();
-        Entry { origin, chain }
+        OriginState { origin, chain }
     }
 
     /// The size and root that the chain has reached when the lock is taken.

@@ -1,4 +1,4 @@
-//! A lock whose value is known by a tag that was fixed when it was made.
+//! A lock whose value fits a tag that was fixed when it was made.
 
 ghost use Rattle.std.specs.Prelude.{◌≡◌};
 

@@ -4,19 +4,17 @@ ghost use Rattle.std.specs.Prelude.{◌≡◌, ◌<◌, ◌⊎◌, All, IfErr, I
 ghost use Rattle.std.specs.List.{AllZip};
 ghost use Rattle.tl_note.specs.Key.{IsKeyName};
 ghost use Rattle.tl_proof.specs.Acceptance.{step_of};
-ghost use Rattle.tl_witness.specs.ByOrigin.{index_of};
+ghost use Rattle.tl_witness.specs.ByOrigin.{Indexes, index_of};
 ghost use Rattle.tl_witness.specs.Chain.{IsChain};
-ghost use Rattle.tl_witness.specs.Index.{Indexes};
 ghost use Rattle.tl_witness.specs.Open.{HasEachKeyOnce, HasTwice, IsKept, OpensBook, RefusesBook, cosigner_names, saved_chain, trusted_origins};
 ghost use Rattle.tl_witness.specs.Opening.{ChecksChains, TakesChain};
 
-use crate::book::{Book, Entry, Shown, ShownEntry};
+use crate::book::{Book, Shown};
 use crate::by_origin::ByOrigin;
 use crate::chain::Chain;
 use crate::cosign::name_of;
-use crate::index::{first_without, places_in};
-use crate::origin::Origin;
-use crate::place::OfOrigin;
+use crate::origin_state::{Origin, OriginState, ShownState};
+use crate::place::{OfOrigin, first_without, places_in};
 use crate::tools::Tools;
 use crate::trust::{HasKeys, ShownTrust, Trust, are_keys_once, first_bad_name};
 use std::alloc::{AllocError, Allocator, Global};
@@ -56,10 +54,6 @@ impl<A: Allocator> OfOrigin for (String<A>, Vec<Link<A>, A>) {
     fn origin(&self) -> &str {
         self.0.as_str()
     }
-
-    fn is_of(&self, origin: &str) -> bool {
-        self.0.as_str() == origin
-    }
 }
 
 // A chain, and its origin.
@@ -75,20 +69,16 @@ impl<T: TreeHash, A: Allocator> OfOrigin for Checked<T, A> {
     fn origin(&self) -> &str {
         self.origin.as_str()
     }
-
-    fn is_of(&self, origin: &str) -> bool {
-        self.origin.as_str() == origin
-    }
 }
 
-// The chains of these links. A chain that breaks is told with its place and its link's.
+// The chains of these links; else the place of the first chain that breaks, and of the link where it does.
 fn check_chains<T: TreeHash, A: Allocator + Copy>(
     alloc: A,
     tree: T,
     chains: Vec<(String<A>, Vec<Link<A>, A>), A>,
 ) -> Result<Vec<Checked<T, A>, A>, BookFault>
     ensures ok { IfOk result (λ checked. (map (λ c. saved_chain (string_bytes c.origin) c.chain) checked.items ≡ map (λ c. saved_chain (string_bytes c.0) (map step_of c.1.items)) chains.items)
-        × All (λ c. IsChain T.digest_of c.1) (map (λ c. saved_chain (string_bytes c.0) (map step_of c.1.items)) chains.items)) }
+        × All (λ c. IsChain T.digest_of c.steps) (map (λ c. saved_chain (string_bytes c.0) (map step_of c.1.items)) chains.items)) }
     ensures err { IfErr result (ChecksChains T.digest_of (map (λ c. saved_chain (string_bytes c.0) (map step_of c.1.items)) chains.items)) }
 {
     let mut checked = Vec::new(alloc);
@@ -137,16 +127,16 @@ fn enter<T: TreeHash, A: Allocator + Copy>(
     trusts: Vec<Trust<A>, A>,
     chains: Vec<Checked<T, A>, A>,
     places: &ByOrigin<A>,
-) -> Result<Vec<Entry<T, A>, A>, AllocError>
+) -> Result<Vec<OriginState<T, A>, A>, AllocError>
     requires places { Indexes (index_of places.now) (map (λ c. string_bytes c.origin) chains.items) }
     requires once { ¬ (HasTwice (trusted_origins (map (λ t. ⟦<Trust<A> as ShownTrust>⟧.trusted t) trusts.items))) }
     requires named { All IsKeyName (cosigner_names (map (λ t. ⟦<Trust<A> as ShownTrust>⟧.trusted t) trusts.items)) }
-    ensures kept { IfOk result (λ entries. AllZip (IsKept (map (λ c. saved_chain (string_bytes c.origin) c.chain) chains.items))
-        (map (λ t. ⟦<Trust<A> as ShownTrust>⟧.trusted t) trusts.items) (map (λ e. ⟦<Entry<T, A> as ShownEntry>⟧.shown_entry e) entries.items)) }
+    ensures kept { IfOk result (λ states. AllZip (IsKept (map (λ c. saved_chain (string_bytes c.origin) c.chain) chains.items))
+        (map (λ t. ⟦<Trust<A> as ShownTrust>⟧.trusted t) trusts.items) (map (λ e. ⟦<OriginState<T, A> as ShownState>⟧.shown_state e) states.items)) }
     ensures memory { OnErr result (0 < length trusts.items) }
 {
     let mut left = chains;
-    let mut entries = Vec::new(alloc);
+    let mut states = Vec::new(alloc);
     for trust in trusts {
         let chain = take_chain(alloc, tree, &mut left, places, trust.origin.as_str());
         let Trust {
@@ -161,9 +151,9 @@ fn enter<T: TreeHash, A: Allocator + Copy>(
             cosigner,
             cosigner_name,
         };
-        entries.push(Entry { origin, chain })?;
+        states.push(OriginState { origin, chain })?;
     }
-    Ok(entries)
+    Ok(states)
 }
 
 // The places of the trusts and of the chains.
@@ -235,8 +225,8 @@ impl<T: TreeHash, A: Allocator + Copy> Book<T, A> {
             Ok(checked) => checked,
             Err(fault) => return Err(fault),
         };
-        let entries = match enter(alloc, tree, trusts, checked, &places.chains) {
-            Ok(entries) => entries,
+        let states = match enter(alloc, tree, trusts, checked, &places.chains) {
+            Ok(states) => states,
             Err(_) => return Err(BookFault::OutOfMemory),
         };
         Ok(Book {
@@ -245,7 +235,7 @@ impl<T: TreeHash, A: Allocator + Copy> Book<T, A> {
                 alloc,
                 global,
             },
-            entries,
+            states,
             places: places.trusts,
         })
     }

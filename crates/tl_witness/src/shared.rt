@@ -3,16 +3,17 @@
 ghost use Rattle.std.specs.Prelude.{◌≡◌, ◌≤◌, [], ℕ, IfErr, IfOk, MatchOption, OnErr, drop, length, map, take, vec_capacity};
 ghost use Rattle.tl_proof.specs.Acceptance.{step_of};
 ghost use Rattle.tl_witness.specs.Answers.{AsksForMemory};
-ghost use Rattle.tl_witness.specs.Book.{IsPlaceOf, Place};
+ghost use Rattle.tl_witness.specs.Book.{IsPlacedIn, Placed};
 ghost use Rattle.tl_witness.specs.Chain.{first_head, last_head};
 ghost use Rattle.tl_witness.specs.Runs.{IsLaterBook};
-ghost use Rattle.tl_witness.specs.Shared.{AnswersShared, DecidesShared, IsOfLaterChain};
+ghost use Rattle.tl_witness.specs.Shared.{AnswersShared, DecidesShared, IsOfLaterChain, answer_of};
 
-use crate::book::{Book, Entry, Shown};
+use crate::book::{Book, Shown};
 use crate::by_origin::ByOrigin;
 use crate::finding::{Unfound, find_origin};
 use crate::guarded::Guarded;
-use crate::index::place_by;
+use crate::origin_state::OriginState;
+use crate::place::place_by;
 use crate::reply::{Reply, refusal};
 use crate::saver::Saver;
 use crate::tools::Tools;
@@ -27,30 +28,26 @@ use tl_proof::Link;
 #[derive(Drop)]
 pub struct SharedWitness<T: TreeHash, A: Allocator + Copy> {
     tools: Tools<T, A>,
-    entries: Vec<Guarded<T, A>, A>,
+    states: Vec<Guarded<T, A>, A>,
     places: ByOrigin<A>,
 }
 
 impl<T: TreeHash, A: Allocator + Copy> Shown for SharedWitness<T, A> {
-    ghost use Rattle.std.specs.Prelude.{map, string_bytes};
-    ghost use Rattle.tl_witness.specs.Inner.NamedKey.{named_key};
+    ghost use Rattle.std.specs.Prelude.{map};
+    ghost use Rattle.tl_witness.specs.Shown.{witnessed};
 
-    ghost shown = { λ w. map (λ e. record {
-      origin = string_bytes e.origin.name;
-      verifiers = map (λ v. (Verifier-box v).key v.value) e.origin.verifiers.items;
-      cosigner = named_key (string_bytes e.origin.cosigner_name.text) ((Signer-box e.origin.cosigner).signing_key e.origin.cosigner.value);
-      chain = e.chain.slot.value;
-    }) w.entries.items };
+    ghost shown = { λ w. map (λ s. witnessed s.origin (map (λ v. (Verifier-box v).key v.value) s.origin.verifiers.items)
+        ((Signer-box s.origin.cosigner).signing_key s.origin.cosigner.value) s.chain.slot.value) w.states.items };
 }
 
 // An empty list with room for what a book keeps.
 fn room_for<T: TreeHash, A: Allocator + Copy>(
     book: &Book<T, A>,
 ) -> Result<Vec<Guarded<T, A>, A>, AllocError>
-    ensures { IfOk result (λ list. (list.items ≡ []) × (length book.now.entries.items ≤ vec_capacity list)) }
+    ensures { IfOk result (λ list. (list.items ≡ []) × (length book.now.states.items ≤ vec_capacity list)) }
 {
     let mut list = Vec::new(book.tools.alloc);
-    list.reserve(book.entries.len())?;
+    list.reserve(book.states.len())?;
     Ok(list)
 }
 
@@ -64,11 +61,11 @@ pub struct BookBack<T: TreeHash, A: Allocator + Copy> {
 // An empty list with room for what a shared witness keeps.
 fn room_back<T: TreeHash, A: Allocator + Copy>(
     witness: &SharedWitness<T, A>,
-) -> Result<Vec<Entry<T, A>, A>, AllocError>
-    ensures { IfOk result (λ list. (list.items ≡ []) × (length witness.now.entries.items ≤ vec_capacity list)) }
+) -> Result<Vec<OriginState<T, A>, A>, AllocError>
+    ensures { IfOk result (λ list. (list.items ≡ []) × (length witness.now.states.items ≤ vec_capacity list)) }
 {
     let mut list = Vec::new(witness.tools.alloc);
-    list.reserve(witness.entries.len())?;
+    list.reserve(witness.states.len())?;
     Ok(list)
 }
 
@@ -86,20 +83,20 @@ impl<T: TreeHash, A: Allocator + Copy> SharedWitness<T, A> {
         ensures ok { IfOk result (λ w. ⟦<SharedWitness<T, A> as Shown>⟧.shown w ≡ ⟦<Book<T, A> as Shown>⟧.shown book) }
         ensures err { IfErr result (λ back. back.book ≡ book) }
     {
-        let Ok(mut entries) = room_for(&book) else {
+        let Ok(mut states) = room_for(&book) else {
             return Err(BookBack { book });
         };
         let Book {
             tools,
-            entries: before,
+            states: before,
             places,
         } = book;
-        for entry in before {
-            entries.push_reserved(Guarded::new(entry));
+        for state in before {
+            states.push_reserved(Guarded::new(state));
         }
         Ok(SharedWitness {
             tools,
-            entries,
+            states,
             places,
         })
     }
@@ -114,34 +111,24 @@ impl<T: TreeHash, A: Allocator + Copy> SharedWitness<T, A> {
         saver: &mut S,
     ) -> Result<Reply<A>, AllocError>
         ensures decided { IfOk result (λ reply. DecidesShared T.digest_of (⟦<SharedWitness<T, A> as Shown>⟧.shown self.now) body.now time
-            (record {
-              status = reply.status;
-              body = reply.body.items;
-              saved = S.saved saver.old;
-              saved_after = S.saved saver.new;
-            })) }
+            (answer_of reply (S.saved saver.old) (S.saved saver.new))) }
         ensures unchanged { OnErr result ((S.saved saver.new ≡ S.saved saver.old) × AsksForMemory body.now) }
     {
         let tools = self.tools;
-        let found = match find_origin(tools.alloc, &self.places, self.entries.as_slice(), body) {
+        let found = match find_origin(tools.alloc, &self.places, self.states.as_slice(), body) {
             Ok(found) => found,
             Err(Unfound::Malformed) => return Ok(refusal(tools.alloc, 400)),
             Err(Unfound::Unknown) => return Ok(refusal(tools.alloc, 404)),
             Err(Unfound::OutOfMemory) => return Err(AllocError),
         };
-        self.entries[found.place].answer(rt, tools, found.offer, time, saver)
+        self.states[found.place].answer(rt, tools, found.offer, time, saver)
     }
 
     /// Answers an add-checkpoint request as `try_add` decides it, and with 500 where that asked for memory which
     /// was refused.
     pub fn add<R: Wait, S: Saver>(&self, rt: &R, body: &[u8], time: u64, saver: &mut S) -> Reply<A>
         ensures { AnswersShared T.digest_of (⟦<SharedWitness<T, A> as Shown>⟧.shown self.now) body.now time
-            (record {
-              status = result.status;
-              body = result.body.items;
-              saved = S.saved saver.old;
-              saved_after = S.saved saver.new;
-            }) }
+            (answer_of result (S.saved saver.old) (S.saved saver.new)) }
     {
         match self.try_add(rt, body, time, saver) {
             Ok(reply) => reply,
@@ -156,13 +143,13 @@ impl<T: TreeHash, A: Allocator + Copy> SharedWitness<T, A> {
         rt: &R,
         origin: &str,
     ) -> Result<Option<Vec<Link<A>, A>>, AllocError>
-        ensures { IfOk result (λ found. MatchOption found ((place : Place) → ¬ (IsPlaceOf (⟦<SharedWitness<T, A> as Shown>⟧.shown self.now) origin.now place))
+        ensures { IfOk result (λ found. MatchOption found ((placed : Placed) → ¬ (IsPlacedIn (⟦<SharedWitness<T, A> as Shown>⟧.shown self.now) origin.now placed))
             (λ links. IsOfLaterChain T.digest_of (⟦<SharedWitness<T, A> as Shown>⟧.shown self.now) origin.now (λ later. map step_of links.items ≡ later))) }
     {
-        let Some(place) = place_by(&self.places, self.entries.as_slice(), origin) else {
+        let Some(place) = place_by(&self.places, self.states.as_slice(), origin) else {
             return Ok(None);
         };
-        let links = self.entries[place].all_links(rt, self.tools.alloc)?;
+        let links = self.states[place].all_links(rt, self.tools.alloc)?;
         Ok(Some(links))
     }
 
@@ -175,26 +162,26 @@ impl<T: TreeHash, A: Allocator + Copy> SharedWitness<T, A> {
         from: u64,
         most: u64,
     ) -> Result<Option<Vec<Link<A>, A>>, AllocError>
-        ensures { IfOk result (λ found. MatchOption found ((place : Place) → ¬ (IsPlaceOf (⟦<SharedWitness<T, A> as Shown>⟧.shown self.now) origin.now place))
+        ensures { IfOk result (λ found. MatchOption found ((placed : Placed) → ¬ (IsPlacedIn (⟦<SharedWitness<T, A> as Shown>⟧.shown self.now) origin.now placed))
             (λ links. IsOfLaterChain T.digest_of (⟦<SharedWitness<T, A> as Shown>⟧.shown self.now) origin.now (λ later. map step_of links.items ≡ take most (drop from later)))) }
     {
-        let Some(place) = place_by(&self.places, self.entries.as_slice(), origin) else {
+        let Some(place) = place_by(&self.places, self.states.as_slice(), origin) else {
             return Ok(None);
         };
-        let links = self.entries[place].links(rt, self.tools.alloc, from, most)?;
+        let links = self.states[place].links(rt, self.tools.alloc, from, most)?;
         Ok(Some(links))
     }
 
     /// The size and root that an origin has reached when its lock is taken. None where the origin is unknown.
     pub fn head<R: Wait>(&self, rt: &R, origin: &str) -> Option<(u64, Hash)>
-        ensures { MatchOption result ((place : Place) → ¬ (IsPlaceOf (⟦<SharedWitness<T, A> as Shown>⟧.shown self.now) origin.now place))
+        ensures { MatchOption result ((placed : Placed) → ¬ (IsPlacedIn (⟦<SharedWitness<T, A> as Shown>⟧.shown self.now) origin.now placed))
             (λ head. IsOfLaterChain T.digest_of (⟦<SharedWitness<T, A> as Shown>⟧.shown self.now) origin.now
             (λ later. (head.0 ≡ (last_head (first_head T.digest_of) later).size) × (head.1 ≡ (last_head (first_head T.digest_of) later).root))) }
     {
-        let Some(place) = place_by(&self.places, self.entries.as_slice(), origin) else {
+        let Some(place) = place_by(&self.places, self.states.as_slice(), origin) else {
             return None;
         };
-        Some(self.entries[place].head(rt))
+        Some(self.states[place].head(rt))
     }
 
     /// The book, once nobody shares it: the same origins, with chains that begin with those that were handed in. It
@@ -203,20 +190,20 @@ impl<T: TreeHash, A: Allocator + Copy> SharedWitness<T, A> {
         ensures ok { IfOk result (λ book. IsLaterBook T.digest_of (⟦<SharedWitness<T, A> as Shown>⟧.shown self) (⟦<Book<T, A> as Shown>⟧.shown book)) }
         ensures err { IfErr result (λ back. back.witness ≡ self) }
     {
-        let Ok(mut entries) = room_back(&self) else {
+        let Ok(mut states) = room_back(&self) else {
             return Err(WitnessBack { witness: self });
         };
         let SharedWitness {
             tools,
-            entries: before,
+            states: before,
             places,
         } = self;
         for guarded in before {
-            entries.push_reserved(guarded.into_entry(rt));
+            states.push_reserved(guarded.into_state(rt));
         }
         Ok(Book {
             tools,
-            entries,
+            states,
             places,
         })
     }

@@ -40,10 +40,6 @@ impl<A: Allocator> OfOrigin for Trust<A> {
     fn origin(&self) -> &str {
         self.origin.as_str()
     }
-
-    fn is_of(&self, origin: &str) -> bool {
-        self.origin.as_str() == origin
-    }
 }
 
 // Whether the verifier has this name and identifier.

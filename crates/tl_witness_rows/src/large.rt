@@ -1,7 +1,7 @@
 //! Large requests beside small ones: twelve links, 63 hashes, sizes above 2^32, late times, 100 signature lines,
 //! three origins.
 
-use crate::logs::Log;
+use crate::logs::{COSIGNER, COSIGNER_ID, Log, open_book, text_of};
 use crate::posts::TIME;
 use crate::savers::KeepingSaver;
 use std::alloc::{AllocError, Global};
@@ -9,53 +9,13 @@ use std::str;
 use std::test::Fail;
 use tl_checkpoint::check_cosignature;
 use tl_hash::{Hash, Sha256Tree, leaf_hash, node_hash};
-use tl_note::{Signer, Verifier, parse_note};
-use tl_proof::Link;
+use tl_note::{Verifier, parse_note};
 use tl_testing::LengthKey;
-use tl_witness::{Book, BookFault, Reply, Trust, read_chain};
+use tl_witness::{Book, Reply, read_chain};
 
 const ORIGIN: &str = "log.example/large";
 
 type TestBook = Book<Sha256Tree, Global>;
-
-// Trust in the key of a log, cosigned for by a key of its own.
-fn trust(alloc: Global, log: &Log) -> Result<Trust<Global>, AllocError> {
-    let key: Box<dyn Verifier> = Box::new(alloc, LengthKey::new(alloc, log.origin, log.key_id)?)?;
-    let cosigner: Box<dyn Signer> = Box::new(
-        alloc,
-        LengthKey::new(alloc, "w.example", 0x0B0B0B0B)?,
-    )?;
-    let mut verifiers = Vec::new(alloc);
-    verifiers.push(key)?;
-    Ok(Trust {
-        origin: String::from_str(alloc, log.origin)?,
-        verifiers,
-        cosigner,
-    })
-}
-
-// A book that trusts these logs, with saved links.
-fn reopened(
-    alloc: Global,
-    logs: &[Log],
-    saved: Vec<(String, Vec<Link<Global>>)>,
-) -> Result<TestBook, BookFault> {
-    let mut trusts = Vec::new(alloc);
-    for log in logs {
-        let Ok(trust) = trust(alloc, log) else {
-            return Err(BookFault::OutOfMemory);
-        };
-        if trusts.push(trust).is_err() {
-            return Err(BookFault::OutOfMemory);
-        }
-    }
-    Book::open(alloc, alloc, Sha256Tree, trusts, saved)
-}
-
-// A book that trusts these logs.
-fn book_of(alloc: Global, logs: &[Log]) -> Result<TestBook, BookFault> {
-    reopened(alloc, logs, Vec::new(alloc))
-}
 
 fn post(book: &mut TestBook, saver: &mut KeepingSaver, body: &str, time: u64) -> Reply<Global> {
     book.add(body.as_bytes(), time, saver)
@@ -74,7 +34,7 @@ fn twelve_links_one_after_another(rt: HostRuntime) -> Result<(), Fail> {
     let alloc = rt.alloc();
     let logs = [Log::of_size(alloc, ORIGIN, 7, 40)?];
     let log = &logs[0];
-    let mut book = book_of(alloc, &logs)?;
+    let mut book = open_book(alloc, &logs, Vec::new(alloc))?;
     let mut saver = KeepingSaver::new(alloc);
     let mut old = 0;
     for size in [1u64, 2, 3, 5, 8, 9, 16, 17, 31, 32, 33, 40] {
@@ -111,7 +71,7 @@ fn a_proof_of_63_hashes_to_the_largest_size(rt: HostRuntime) -> Result<(), Fail>
     let alloc = rt.alloc();
     let logs = [Log::of_size(alloc, ORIGIN, 7, 1)?];
     let log = &logs[0];
-    let mut book = book_of(alloc, &logs)?;
+    let mut book = open_book(alloc, &logs, Vec::new(alloc))?;
     let mut saver = KeepingSaver::new(alloc);
     let largest = (1u64 << 63) - 1;
     let proof = [leaf_hash(Sha256Tree, b"other"); 63];
@@ -142,7 +102,7 @@ fn a_proof_of_63_hashes_to_the_largest_size(rt: HostRuntime) -> Result<(), Fail>
 fn time_of(alloc: Global, text: &str, reply: &Reply<Global>) -> Result<Option<u64>, Fail> {
     let line = str::from_utf8(reply.body.as_slice())?;
     let note = format!(in alloc; "{text}\n{line}")?;
-    let key: Box<dyn Verifier> = Box::new(alloc, LengthKey::new(alloc, "w.example", 0x0B0B0B0B)?)?;
+    let key: Box<dyn Verifier> = Box::new(alloc, LengthKey::new(alloc, COSIGNER, COSIGNER_ID)?)?;
     let view = parse_note(alloc, note.as_str())?;
     match view.signatures.as_slice() {
         [line] => Ok(check_cosignature(alloc, text, line, &*key)?),
@@ -158,14 +118,14 @@ fn large_sizes_and_late_times(rt: HostRuntime) -> Result<(), Fail> {
     let last = leaf_hash(Sha256Tree, b"last");
     for level in [32u32, 33, 40, 62] {
         let size = 1u64 << level.min(62);
-        let mut book = book_of(alloc, &logs)?;
+        let mut book = open_book(alloc, &logs, Vec::new(alloc))?;
         let mut saver = KeepingSaver::new(alloc);
         let root = log.root(alloc, 1)?;
         let first = log.claim(alloc, 0, &[], size, root)?;
         let time = u64::MAX - size;
         let reply = post(&mut book, &mut saver, first.as_str(), time);
         assert_eq!(rt; reply.status, 200);
-        let root_text = crate::logs::text_of(alloc, &root)?;
+        let root_text = text_of(alloc, &root)?;
         let text = format!(in alloc; "{ORIGIN}\n{size}\n{root_text}\n")?;
         assert_eq!(rt; time_of(alloc, text.as_str(), &reply)?, Some(time));
         let next = log.claim(
@@ -189,7 +149,7 @@ fn notes_of_2_and_of_100_signature_lines(rt: HostRuntime) -> Result<(), Fail> {
     let alloc = rt.alloc();
     let logs = [Log::of_size(alloc, ORIGIN, 7, 4)?];
     let log = &logs[0];
-    let mut book = book_of(alloc, &logs)?;
+    let mut book = open_book(alloc, &logs, Vec::new(alloc))?;
     let mut saver = KeepingSaver::new(alloc);
     let mut old = 0;
     for (size, more, status) in [(1u64, 1u32, 200u16), (3, 99, 200), (4, 100, 400)] {
@@ -225,7 +185,7 @@ fn three_logs(alloc: Global, size: u64) -> Result<[Log; 3], AllocError> {
 fn a_book_goes_on_from_twelve_saved_links_of_three_origins(rt: HostRuntime) -> Result<(), Fail> {
     let alloc = rt.alloc();
     let logs = three_logs(alloc, 30)?;
-    let mut book = book_of(alloc, &logs)?;
+    let mut book = open_book(alloc, &logs, Vec::new(alloc))?;
     let mut saver = KeepingSaver::new(alloc);
     for step in 0..5u64 {
         for (log, last) in logs.iter().rev().zip([3u64, 4, 5]) {
@@ -245,7 +205,7 @@ fn a_book_goes_on_from_twelve_saved_links_of_three_origins(rt: HostRuntime) -> R
     let saved = read_chain(alloc, saver.lines.as_bytes())?;
     assert_eq!(rt; saved.len(), 3);
     assert_eq!(rt; saved[0].0.as_str(), "c.example/with/a/long/name");
-    let mut book = reopened(alloc, &logs, saved)?;
+    let mut book = open_book(alloc, &logs, saved)?;
     assert!(rt; are_kept(&book, &counts));
     for (log, old) in logs.iter().zip([(14u64, 15), (11, 12), (8, 9)]) {
         for (start, status) in [(old.0, 409), (old.1, 200)] {
@@ -261,7 +221,7 @@ fn a_book_goes_on_from_twelve_saved_links_of_three_origins(rt: HostRuntime) -> R
 fn three_origins_grow_apart(rt: HostRuntime) -> Result<(), Fail> {
     let alloc = rt.alloc();
     let logs = three_logs(alloc, 20)?;
-    let mut book = book_of(alloc, &logs)?;
+    let mut book = open_book(alloc, &logs, Vec::new(alloc))?;
     let mut saver = KeepingSaver::new(alloc);
     for (place, old, size, status) in [
         (0usize, 0, 1, 200u16),

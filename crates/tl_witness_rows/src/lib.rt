@@ -34,4 +34,6 @@ mod sharing;
 #[cfg(test)]
 mod steps;
 #[cfg(test)]
+mod tries;
+#[cfg(test)]
 mod waiting;

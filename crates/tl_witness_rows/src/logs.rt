@@ -1,22 +1,34 @@
-//! Logs that sign their own checkpoints, and the bodies of requests for them.
+//! Logs that sign their own checkpoints, the bodies of requests for them, and books that trust them.
 
+use crate::posts::trust_in;
 use base64::engine::general_purpose::STANDARD;
 use std::alloc::{AllocError, Global};
 use std::test::Fail;
 use tl_hash::{Hash, Sha256Tree};
 use tl_note::{Signer, sign_note};
-use tl_proof::prove_tree;
+use tl_proof::{Link, prove_tree};
 use tl_store::{HashStore, tree_hash};
 use tl_testing::LengthKey;
+use tl_witness::{Book, BookFault, Trust};
 
 /// More entries than any of the logs has.
 const MOST: u64 = 1000;
 
-/// A log: its origin, the identifier of its key, which is named like it, and its stored hashes.
+/// Who cosigns for a log, where nothing else is said.
+pub const COSIGNER: &str = "w.example";
+
+/// The identifier of each cosigner's key.
+pub const COSIGNER_ID: u32 = 0x0B0B0B0B;
+
+/// Links that were saved, of each origin.
+pub type Saved = Vec<(String, Vec<Link<Global>>)>;
+
+/// A log: its origin, the identifier of its key, which is named like it, who cosigns for it, and its stored hashes.
 #[derive(Drop)]
 pub struct Log {
     pub origin: &'static str,
     pub key_id: u32,
+    pub cosigner: &'static str,
     store: HashStore<Sha256Tree, Global>,
 }
 
@@ -42,8 +54,16 @@ impl Log {
         Ok(Log {
             origin,
             key_id,
+            cosigner: COSIGNER,
             store,
         })
+    }
+
+    /// The same log, for which this one cosigns.
+    pub fn cosigned_by(self, cosigner: &'static str) -> Log {
+        let mut log = self;
+        log.cosigner = cosigner;
+        log
     }
 
     /// The root over the first so many entries.
@@ -83,4 +103,27 @@ impl Log {
         body.push_str(note.as_str())?;
         Ok(body)
     }
+}
+
+// The trusts in each log's own key for its origin.
+fn trusts(alloc: Global, logs: &[Log]) -> Result<Vec<Trust<Global>>, AllocError> {
+    let mut trusts = Vec::new(alloc);
+    for log in logs {
+        let key = (log.origin, log.key_id);
+        let cosigner = (log.cosigner, COSIGNER_ID);
+        trusts.push(trust_in(alloc, alloc, log.origin, key, cosigner)?)?;
+    }
+    Ok(trusts)
+}
+
+/// A book that trusts each log's own key for its origin, with these saved links.
+pub fn open_book(
+    alloc: Global,
+    logs: &[Log],
+    saved: Saved,
+) -> Result<Book<Sha256Tree, Global>, BookFault> {
+    let Ok(trusts) = trusts(alloc, logs) else {
+        return Err(BookFault::OutOfMemory);
+    };
+    Book::open(alloc, alloc, Sha256Tree, trusts, saved)
 }

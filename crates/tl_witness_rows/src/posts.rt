@@ -27,14 +27,16 @@ pub const COSIGNATURE: &str = "— witness.example CgsMDQAAAABlU/EAAAAAAAAAAF4=\
 /// The time of the requests.
 pub const TIME: u64 = 1700000000;
 
-/// The trust in the log's key for an origin. The witness cosigns.
-pub fn trust<A: Allocator + Copy>(
+/// The trust in this key of a log for an origin, and the key that cosigns, each by its name and identifier.
+pub fn trust_in<A: Allocator + Copy>(
     alloc: Global,
     heap: A,
     origin: &str,
+    log: (&str, u32),
+    cosigner: (&str, u32),
 ) -> Result<Trust<A>, AllocError> {
-    let log = LengthKey::new(alloc, ORIGIN, 0x01020304)?;
-    let witness = LengthKey::new(alloc, "witness.example", 0x0A0B0C0D)?;
+    let log = LengthKey::new(alloc, log.0, log.1)?;
+    let witness = LengthKey::new(alloc, cosigner.0, cosigner.1)?;
     let verifier: Box<dyn Verifier> = Box::new(alloc, log)?;
     let cosigner: Box<dyn Signer> = Box::new(alloc, witness)?;
     let mut verifiers = Vec::new(heap);
@@ -47,21 +49,38 @@ pub fn trust<A: Allocator + Copy>(
     })
 }
 
+/// The trust in the log's key for an origin. The witness cosigns.
+pub fn trust<A: Allocator + Copy>(
+    alloc: Global,
+    heap: A,
+    origin: &str,
+) -> Result<Trust<A>, AllocError> {
+    let cosigner = ("witness.example", 0x0A0B0C0D);
+    trust_in(alloc, heap, origin, (ORIGIN, 0x01020304), cosigner)
+}
+
+// The trusts in the log's key for these origins.
+fn trusts<A: Allocator + Copy>(
+    alloc: Global,
+    heap: A,
+    origins: &[&str],
+) -> Result<Vec<Trust<A>, A>, AllocError> {
+    let mut trusts = Vec::new(heap);
+    for origin in origins {
+        trusts.push(trust(alloc, heap, origin)?)?;
+    }
+    Ok(trusts)
+}
+
 /// A book of these origins, without links.
 pub fn fresh_book<A: Allocator + Copy>(
     alloc: Global,
     heap: A,
     origins: &[&str],
 ) -> Result<Book<Sha256Tree, A>, BookFault> {
-    let mut trusts = Vec::new(heap);
-    for origin in origins {
-        let Ok(trust) = trust(alloc, heap, origin) else {
-            return Err(BookFault::OutOfMemory);
-        };
-        if trusts.push(trust).is_err() {
-            return Err(BookFault::OutOfMemory);
-        }
-    }
+    let Ok(trusts) = trusts(alloc, heap, origins) else {
+        return Err(BookFault::OutOfMemory);
+    };
     Book::open(heap, alloc, Sha256Tree, trusts, Vec::new(heap))
 }
 

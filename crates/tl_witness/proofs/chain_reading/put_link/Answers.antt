@@ -5,9 +5,14 @@ use Rattle.tl_witness.specs.ByOrigin.{index_of}
 use Rattle.tl_witness.specs.ChainFields.{PutsStep}
 use Rattle.tl_witness.specs.Open.{saved_chain}
 use Rattle.tl_witness.specs.ReadChain.{chains_shown}
-use Rattle.tl_witness.proofs.IndexLaws.{known_there, known_within, unknown_there, indexed_known, indexed_new}
+use Rattle.tl_witness.proofs.ChainIndexLaws.{known_there, known_within, unknown_there, indexed_known, indexed_new}
 use Rattle.tl_witness.proofs.PutLaws.{puts_known, one_step, puts_new}
 use Rattle.tl_witness.proofs.chain_reading.put_link.Goals as goal
+
+pub index_mut-chain-requires : goal.index_mut-chain-requires
+index_mut-chain-requires g c =
+    let room = known_within (λ x. saved_chain (string_bytes x.0) (map step_of (vec_items x.1))) c.args.chains.now.items (index_of c.args.index.now) c.args.origin.now c.requires c.in-Some.place c.in-Some.ensures in
+    omega (arith, c.args.chains.now.ok.0)
 
 pub returns-in_ok-push-in-Some : goal.returns-in_ok-push-in-Some
 returns-in_ok-push-in-Some g c =

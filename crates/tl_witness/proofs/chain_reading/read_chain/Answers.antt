@@ -1,7 +1,7 @@
 use Rattle.tl_proof.specs.Acceptance.{step_of}
 use Rattle.tl_witness.specs.ReadChain.{chains_shown}
 use Rattle.tl_witness.specs.ByOrigin.{index_of}
-use Rattle.tl_witness.proofs.IndexLaws.{indexes_none}
+use Rattle.tl_witness.proofs.ByOriginLaws.{indexes_none}
 use Rattle.tl_witness.proofs.LineText.{no_text_line, no_such_words}
 use Rattle.tl_witness.proofs.SavedLines.{read_none, read_more, malformed, begins, reads_refused}
 use Rattle.tl_witness.proofs.chain_reading.read_chain.Goals as goal

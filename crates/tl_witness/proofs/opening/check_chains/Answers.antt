@@ -26,7 +26,7 @@ pub loop-origin-init : goal.loop-origin-init
 loop-origin-init g c =
     let same = c.into_iter-origin-iterator.ensures.into_iter_gives in
     let all = ap length same.0 in
-    (tt, tt, rw (c.new-checked.ensures.items, same.0) refl, rw c.new-checked.ensures.items (All-nil (λ (d : SavedChain). IsChain g.T.TreeHash.digest_of d.1)), omega (arith, c.args.chains.ok.0))
+    (tt, tt, rw (c.new-checked.ensures.items, same.0) refl, rw c.new-checked.ensures.items (All-nil (λ (d : SavedChain). IsChain g.T.TreeHash.digest_of d.steps)), omega (arith, c.args.chains.ok.0))
 
 pub loop-origin-preserved : goal.loop-origin-preserved
 loop-origin-preserved g c =
@@ -35,7 +35,7 @@ loop-origin-preserved g c =
       tt,
       tt,
       rw c.in-Ok-push.ensures.items (moved _ (λ x. saved_chain (string_bytes x.origin) x.chain) c.loop-origin.checked.items _ (c.in-Some.origin, c.in-Some.links) _ c.next.new.self.rest.items _ shown c.in-Some.ensures.steps.0 c.loop-origin.invariant.2),
-      rw c.in-Ok-push.ensures.items (moved_each (λ (d : SavedChain). IsChain g.T.TreeHash.digest_of d.1) (λ x. saved_chain (string_bytes x.origin) x.chain) c.loop-origin.checked.items _ c.loop-origin.invariant.3
+      rw c.in-Ok-push.ensures.items (moved_each (λ (d : SavedChain). IsChain g.T.TreeHash.digest_of d.steps) (λ x. saved_chain (string_bytes x.origin) x.chain) c.loop-origin.checked.items _ c.loop-origin.invariant.3
           (subst (IsChain g.T.TreeHash.digest_of) (sym c.in-Ok.ensures.ok.0) c.in-Ok.ensures.ok.1)),
       omega (arith, c.in-Some.ensures.steps.1, c.loop-origin.invariant.4),
     )
@@ -43,4 +43,4 @@ loop-origin-preserved g c =
 pub returns-clause-ok : goal.returns-clause-ok
 returns-clause-ok g c =
     let whole = moved_all _ (λ x. saved_chain (string_bytes x.origin) x.chain) c.loop-origin.checked.items c.loop-origin.origin-iterator.rest.items _ (omega (arith, c.in-None.ensures.steps.0, c.loop-origin.invariant.4)) c.loop-origin.invariant.2 in
-    (whole, subst (All (λ (d : SavedChain). IsChain g.T.TreeHash.digest_of d.1)) whole c.loop-origin.invariant.3)
+    (whole, subst (All (λ (d : SavedChain). IsChain g.T.TreeHash.digest_of d.steps)) whole c.loop-origin.invariant.3)

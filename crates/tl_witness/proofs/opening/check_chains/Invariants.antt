@@ -11,5 +11,5 @@ invariant-loop-origin g l =
     × (goal.iterator-loop-origin g).is_finite l.origin-iterator
     × (map (λ c. saved_chain (string_bytes c.origin) c.chain) l.checked.items ++ map (λ c. saved_chain (string_bytes c.0) (map step_of c.1.items)) l.origin-iterator.rest.items
     ≡ map (λ c. saved_chain (string_bytes c.0) (map step_of c.1.items)) l.fn.chains.items)
-    × All (λ c. IsChain g.T.TreeHash.digest_of c.1) (map (λ c. saved_chain (string_bytes c.origin) c.chain) l.checked.items)
+    × All (λ c. IsChain g.T.TreeHash.digest_of c.steps) (map (λ c. saved_chain (string_bytes c.origin) c.chain) l.checked.items)
     × (l.origin-iterator.rest.len ≡ length l.origin-iterator.rest.items)

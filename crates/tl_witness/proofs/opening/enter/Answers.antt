@@ -1,6 +1,5 @@
 use Rattle.std.proofs.Common.{length, refl, ap, sym, subst, ◌∙◌, string_bytes, arith}
-use Rattle.tl_witness.specs.ByOrigin.{index_of}
-use Rattle.tl_witness.specs.Index.{Indexes}
+use Rattle.tl_witness.specs.ByOrigin.{Indexes, index_of}
 use Rattle.tl_witness.proofs.Moved.{moved, moved_all, shown_twice}
 use Rattle.tl_witness.proofs.OpeningLaws.{entered_none, entered_push, enters, named_next, not_before}
 use Rattle.tl_witness.proofs.CosignLaws.{same_key}
@@ -10,12 +9,12 @@ pub loop-trust-init : goal.loop-trust-init
 loop-trust-init g c =
     let same = c.into_iter-trust-iterator.ensures.into_iter_gives in
     let all = ap length same.0 in
-    (tt, tt, rw same.0 refl, rw c.new-entries.ensures.items (entered_none _), omega (arith, c.args.trusts.ok.0))
+    (tt, tt, rw same.0 refl, rw c.new-states.ensures.items (entered_none _), omega (arith, c.args.trusts.ok.0))
 
 pub take_chain-chain-requires : goal.take_chain-chain-requires
 take_chain-chain-requires g c =
-    let same = sym (shown_twice _ (λ d. d.0) (λ d. string_bytes d.origin) c.loop-trust.left.items (λ d. refl)) in
-    let saved = shown_twice _ (λ d. d.0) (λ d. string_bytes d.origin) c.args.chains.items (λ d. refl) in
+    let same = sym (shown_twice _ (λ d. d.origin) (λ d. string_bytes d.origin) c.loop-trust.left.items (λ d. refl)) in
+    let saved = shown_twice _ (λ d. d.origin) (λ d. string_bytes d.origin) c.args.chains.items (λ d. refl) in
     subst (Indexes (index_of c.args.places.now)) (saved ∙ sym c.loop-trust.invariant.3.same_origins ∙ same) c.requires.places
 
 pub name_of-requires : goal.name_of-requires
@@ -31,7 +30,7 @@ loop-trust-preserved g c =
       tt,
       tt,
       moved _ _ c.loop-trust.yielded c.in-Some.trust c.in-Some.trust _ c.next.new.self.rest.items _ refl c.in-Some.ensures.steps.0 c.loop-trust.invariant.2,
-      rw c.in_ok-push.ensures.items (entered_push _ _ _ _ _ c.loop-trust.yielded c.loop-trust.entries.items c.in-Some.trust _ c.take_chain-chain.result c.loop-trust.invariant.3
+      rw c.in_ok-push.ensures.items (entered_push _ _ _ _ _ c.loop-trust.yielded c.loop-trust.states.items c.in-Some.trust _ c.take_chain-chain.result c.loop-trust.invariant.3
           (not_before _ _ _ _ whole c.requires.once) takes refl refl (same_key _ _ c.in_ok-cosigner_name.ensures) refl),
       omega (arith, c.in-Some.ensures.steps.1, c.loop-trust.invariant.4),
     )

@@ -5,9 +5,9 @@ use Rattle.tl_witness.proofs.book.Book.chain.Goals as goal
 pub returns-in-None : goal.returns-in-None
 returns-in-None g c =
     let nowhere = rw c.as_slice.ensures.value at c.in-None.ensures.none in
-    no_place c.args.self.now.entries.items _ (λ e. string_bytes e.origin.name) _ (λ e. refl) nowhere
+    no_place c.args.self.now.states.items _ (λ e. string_bytes e.origin.name) _ (λ e. refl) nowhere
 
 pub returns : goal.returns
 returns g c =
     let shows = rw c.as_slice.ensures.value at c.in-Some.ensures.found in
-    (_, place_at c.args.self.now.entries.items _ (λ e. string_bytes e.origin.name) _ _ _ (λ e. refl) shows c.index.ensures, c.links.ensures)
+    (_, place_at c.args.self.now.states.items _ (λ e. string_bytes e.origin.name) _ _ _ (λ e. refl) shows c.index.ensures, c.links.ensures)

@@ -1,11 +1,11 @@
 use Rattle.std.proofs.Common.{◌≡◌, ap, sym}
 use Rattle.tl_proof.specs.Acceptance.{step_of}
-use Rattle.tl_witness.specs.Chain.{TreeHead, head_of, first_head, last_head}
+use Rattle.tl_witness.specs.Chain.{TreeHead, head_after, first_head, last_head}
 use Rattle.tl_witness.proofs.ChainLaws.{last_head-map}
 use Rattle.tl_witness.proofs.chain.Chain.head.Given as given
 use Rattle.tl_witness.proofs.chain.Chain.head.Goals as goal
 
-leads : (g : given.Over) (c : goal.After-result-1 g) → last_head (first_head g.T.TreeHash.digest_of) c.args.self.now ≡ head_of (step_of c.in-Some.link.now)
+leads : (g : given.Over) (c : goal.After-result-1 g) → last_head (first_head g.T.TreeHash.digest_of) c.args.self.now ≡ head_after (step_of c.in-Some.link.now)
 leads g c =
     let value = rw c.deref.ensures.value at c.in-Some.ensures.value in
     rw (← c.self.view_is) (last_head-map step_of (first_head g.T.TreeHash.digest_of) c.self.inside.links.items c.in-Some.link.now value)

@@ -10,24 +10,24 @@ loop-guarded-init g c =
     let room = c.in-Ok.ensures in
     let none = ap length room.0 in
     let all = ap length same.0 in
-    (tt, tt, rw same.0 refl, omega arith, omega (arith, c.args.self.entries.ok.0), rw room.0 refl)
+    (tt, tt, rw same.0 refl, omega arith, omega (arith, c.args.self.states.ok.0), rw room.0 refl)
 
 pub push_reserved-requires : goal.push_reserved-requires
 push_reserved-requires g c =
     let step = ap length c.in-Some.ensures.steps.0 in
-    omega (arith, c.loop-guarded.entries.ok.0, c.loop-guarded.invariant.3)
+    omega (arith, c.loop-guarded.states.ok.0, c.loop-guarded.invariant.3)
 
 pub loop-guarded-preserved : goal.loop-guarded-preserved
 loop-guarded-preserved g c =
     let step = ap length c.in-Some.ensures.steps.0 in
     let pushed = ap length c.push_reserved.ensures.items in
-    let longer = length-append c.loop-guarded.entries.items (c.into_entry.result ∷ []) in (
+    let longer = length-append c.loop-guarded.states.items (c.into_state.result ∷ []) in (
       tt,
       tt,
       moved _ _ c.loop-guarded.yielded c.in-Some.guarded c.in-Some.guarded _ c.next.new.self.rest.items _ refl c.in-Some.ensures.steps.0 c.loop-guarded.invariant.2,
       omega (arith, c.push_reserved.ensures.capacity, c.loop-guarded.invariant.3),
       omega (arith, c.in-Some.ensures.steps.1, c.loop-guarded.invariant.4),
-      rw c.push_reserved.ensures.items (later_push g.T.TreeHash.digest_of _ _ c.loop-guarded.yielded c.loop-guarded.entries.items c.in-Some.guarded c.into_entry.result c.loop-guarded.invariant.5 c.into_entry.ensures),
+      rw c.push_reserved.ensures.items (later_push g.T.TreeHash.digest_of _ _ c.loop-guarded.yielded c.loop-guarded.states.items c.in-Some.guarded c.into_state.result c.loop-guarded.invariant.5 c.into_state.ensures),
     )
 
 pub returns-clause-ok : goal.returns-clause-ok

@@ -1,6 +1,6 @@
 use Rattle.std.proofs.Common.{◌≢◌, None, All, map, take}
 use Rattle.tl_witness.specs.ByOrigin.{index_of}
-use Rattle.tl_witness.proofs.index.first_without.Given as goal
+use Rattle.tl_witness.proofs.place.first_without.Given as goal
 
 -- the origins so far have places
 abbrev pub invariant-loop-i : goal.invariant-loop-i

@@ -1,6 +1,6 @@
 use Rattle.tl_witness.specs.ByOrigin.{index_of}
-use Rattle.tl_witness.proofs.PlacesLaws.{HasIndexed}
-use Rattle.tl_witness.proofs.index.places_in.Given as goal
+use Rattle.tl_witness.proofs.ByOriginLaws.{HasIndexed}
+use Rattle.tl_witness.proofs.place.places_in.Given as goal
 
 -- the origins so far have their places, and each stands there once
 abbrev pub invariant-loop-i : goal.invariant-loop-i

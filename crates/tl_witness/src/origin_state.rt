@@ -1,4 +1,5 @@
-//! An origin: whom the witness trusts for it, and how it answers a request for it.
+//! What is kept of one origin: whom the witness trusts for it and who cosigns, which never changes, and its links. How
+//! it answers a request.
 
 ghost use Rattle.std.specs.Prelude.{◌≡◌, ◌↔◌, ◌≤◌, [], IfOk, IsTrue, OnErr, map, string_bytes};
 ghost use Rattle.tl_note.specs.Open.{Opened};
@@ -7,10 +8,12 @@ ghost use Rattle.tl_witness.specs.Chain.{Follows, first_head, last_head};
 ghost use Rattle.tl_witness.specs.ChainLine.{IsChainLine};
 ghost use Rattle.tl_witness.specs.Decide.{Decides, DecidesFrom, Settles};
 ghost use Rattle.tl_witness.specs.Inner.Offer.{asked_by};
+ghost use Rattle.tl_witness.specs.Inner.Outcome.{outcome_of};
 
 use crate::chain::{Chain, KeepFault};
 use crate::cosign::{KeyName, cosign};
 use crate::offer::Offer;
+use crate::place::OfOrigin;
 use crate::reply::{Reply, conflict, refusal};
 use crate::saver::Saver;
 use crate::tools::Tools;
@@ -38,15 +41,43 @@ pub(crate) trait ShownOrigin {
 }
 
 impl<A: Allocator> ShownOrigin for Origin<A> {
-    ghost use Rattle.std.specs.Prelude.{map, string_bytes};
-    ghost use Rattle.tl_witness.specs.Inner.NamedKey.{named_key};
+    ghost use Rattle.std.specs.Prelude.{map};
+    ghost use Rattle.tl_witness.specs.Shown.{witnessed};
 
-    ghost shown_with = { λ o chain. record {
-      origin = string_bytes o.name;
-      verifiers = map (λ v. (Verifier-box v).key v.value) o.verifiers.items;
-      cosigner = named_key (string_bytes o.cosigner_name.text) ((Signer-box o.cosigner).signing_key o.cosigner.value);
-      chain = chain;
-    } };
+    ghost shown_with = { λ o chain. witnessed o (map (λ v. (Verifier-box v).key v.value) o.verifiers.items)
+        ((Signer-box o.cosigner).signing_key o.cosigner.value) chain };
+}
+
+/// One origin, and the links that the witness accepted for it.
+#[derive(Drop)]
+pub(crate) struct OriginState<T: TreeHash, A: Allocator> {
+    pub(crate) origin: Origin<A>,
+    pub(crate) chain: Chain<T, A>,
+}
+
+/// What contracts see of it.
+pub(crate) trait ShownState {
+    ghost use Rattle.tl_witness.specs.Witnessed.{Witnessed};
+
+    ghost shown_state: { Self → Witnessed };
+}
+
+impl<T: TreeHash, A: Allocator> ShownState for OriginState<T, A> {
+    ghost use Rattle.std.specs.Prelude.{map};
+    ghost use Rattle.tl_witness.specs.Shown.{witnessed};
+
+    ghost shown_state = { λ s. witnessed s.origin (map (λ v. (Verifier-box v).key v.value) s.origin.verifiers.items)
+        ((Signer-box s.origin.cosigner).signing_key s.origin.cosigner.value) s.chain };
+}
+
+impl<T: TreeHash, A: Allocator> OfOrigin for OriginState<T, A> {
+    ghost use Rattle.std.specs.Prelude.{string_bytes};
+
+    ghost origin_of = { λ s. string_bytes s.origin.name };
+
+    fn origin(&self) -> &str {
+        self.origin.name.as_str()
+    }
 }
 
 // Whether memory was refused.
@@ -86,14 +117,8 @@ impl<A: Allocator + Copy> Origin<A> {
         requires follows { Follows T.digest_of (last_head (first_head T.digest_of) chain.old) (step_of link) }
         requires least { (last_head (first_head T.digest_of) chain.old).size ≤ link.size }
         ensures ok { IfOk result (λ reply. Settles
-            (record {
-              status = reply.status;
-              body = reply.body.items;
-              saved = S.saved saver.old;
-              saved_after = S.saved saver.new;
-              one = ⟦<Origin<A> as ShownOrigin>⟧.shown_with self.now chain.old;
-              one_after = ⟦<Origin<A> as ShownOrigin>⟧.shown_with self.now chain.new;
-            })
+            (outcome_of reply (S.saved saver.old) (S.saved saver.new)
+            (⟦<Origin<A> as ShownOrigin>⟧.shown_with self.now chain.old) (⟦<Origin<A> as ShownOrigin>⟧.shown_with self.now chain.new))
             (last_head (first_head T.digest_of) chain.old).size
             (record { old = (last_head (first_head T.digest_of) chain.old).size; step = step_of link; text = text.now; lines = []; time = time })) }
         ensures err { OnErr result ((S.saved saver.new ≡ S.saved saver.old) × (chain.new ≡ chain.old)) }
@@ -128,14 +153,8 @@ impl<A: Allocator + Copy> Origin<A> {
         requires { IsChainLine (record { origin = string_bytes self.now.name; step = step_of link }) }
         ensures ok { IfOk result (λ reply. DecidesFrom T.digest_of (last_head (first_head T.digest_of) chain.old)
             (record { old = old; step = step_of link; text = text.now; lines = []; time = time })
-            (record {
-              status = reply.status;
-              body = reply.body.items;
-              saved = S.saved saver.old;
-              saved_after = S.saved saver.new;
-              one = ⟦<Origin<A> as ShownOrigin>⟧.shown_with self.now chain.old;
-              one_after = ⟦<Origin<A> as ShownOrigin>⟧.shown_with self.now chain.new;
-            })) }
+            (outcome_of reply (S.saved saver.old) (S.saved saver.new)
+            (⟦<Origin<A> as ShownOrigin>⟧.shown_with self.now chain.old) (⟦<Origin<A> as ShownOrigin>⟧.shown_with self.now chain.new))) }
         ensures err { OnErr result ((S.saved saver.new ≡ S.saved saver.old) × (chain.new ≡ chain.old)) }
     {
         let (size, root) = chain.head();
@@ -163,14 +182,8 @@ impl<A: Allocator + Copy> Origin<A> {
     ) -> Result<Reply<A>, AllocError>
         requires { IsChainLine (record { origin = string_bytes self.now.name; step = step_of offer.link }) }
         ensures ok { IfOk result (λ reply. Decides T.digest_of (asked_by offer.entry time)
-            (record {
-              status = reply.status;
-              body = reply.body.items;
-              saved = S.saved saver.old;
-              saved_after = S.saved saver.new;
-              one = ⟦<Origin<A> as ShownOrigin>⟧.shown_with self.now chain.old;
-              one_after = ⟦<Origin<A> as ShownOrigin>⟧.shown_with self.now chain.new;
-            })) }
+            (outcome_of reply (S.saved saver.old) (S.saved saver.new)
+            (⟦<Origin<A> as ShownOrigin>⟧.shown_with self.now chain.old) (⟦<Origin<A> as ShownOrigin>⟧.shown_with self.now chain.new))) }
         ensures err { OnErr result ((S.saved saver.new ≡ S.saved saver.old) × (chain.new ≡ chain.old)) }
     {
         let Offer { old, link, note } = offer;

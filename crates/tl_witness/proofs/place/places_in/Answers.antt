@@ -3,8 +3,8 @@ use Rattle.std.specs.Prelude.{bytes_eq, is_some}
 use Rattle.std.specs.Map.{update}
 use Rattle.std.proofs.lemmas.List.{take_all}
 use Rattle.tl_witness.specs.ByOrigin.{index_of}
-use Rattle.tl_witness.proofs.PlacesLaws.{indexed_first, indexed_more, known_twice, none_known}
-use Rattle.tl_witness.proofs.index.places_in.Goals as goal
+use Rattle.tl_witness.proofs.ByOriginLaws.{indexed_first, indexed_more, known_twice, none_known}
+use Rattle.tl_witness.proofs.place.places_in.Goals as goal
 
 pub loop-i-init : goal.loop-i-init
 loop-i-init g c = indexed_first (index_of c.new-places.result) g.N.OfOrigin.origin_of c.args.list.now c.new-places.ensures

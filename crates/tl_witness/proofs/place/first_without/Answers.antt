@@ -1,9 +1,9 @@
 use Rattle.std.proofs.Common.{◌≢◌, None, ap, ◌∙◌}
 use Rattle.std.proofs.lemmas.List.{take_all}
 use Rattle.tl_witness.specs.ByOrigin.{index_of}
-use Rattle.tl_witness.proofs.PlacesLaws.{unknown, is_known}
+use Rattle.tl_witness.proofs.ByOriginLaws.{unknown, is_known}
 use Rattle.tl_witness.proofs.ListLaws.{all_more, first_fails}
-use Rattle.tl_witness.proofs.index.first_without.Goals as goal
+use Rattle.tl_witness.proofs.place.first_without.Goals as goal
 
 pub returns-then-is_none : goal.returns-then-is_none
 returns-then-is_none g c =

@@ -1,6 +1,6 @@
 use Rattle.std.proofs.Common.{refl, inl, inr}
 use Rattle.std.proofs.lemmas.Result.{IfOk-weaker}
-use Rattle.tl_witness.proofs.origin.Origin.answer.Goals as goal
+use Rattle.tl_witness.proofs.origin_state.Origin.answer.Goals as goal
 
 pub returns-in-Ok-false-clause-ok : goal.returns-in-Ok-false-clause-ok
 returns-in-Ok-false-clause-ok g c =
