@@ -3,7 +3,7 @@ use Rattle.std.specs.List.{All}
 use Rattle.std.specs.Option.{option_to_list}
 use Rattle.std.proofs.lemmas.List.{length-append, get_or_at, get_or_append_left}
 use Rattle.tl_sequencer.specs.Log.{Sender, IsSenderOf}
-use Rattle.tl_rows.proofs.sequencer.pair.Goals as goal
+use Rattle.tl_tests.proofs.sequencer.pair.Goals as goal
 
 module _ {X : Type 0} (P : X → Type 0) (xs ys : List X) (r : Option X) (x : X) (is : xs ≡ ys ++ option_to_list r) (some : r ≡ Some x) (all : All P xs) where
   whole : xs ≡ ys ++ x ∷ []

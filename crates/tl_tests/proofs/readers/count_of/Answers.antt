@@ -1,7 +1,7 @@
 use Rattle.std.proofs.Common.{◌^◌, refl}
 use Rattle.std.proofs.lemmas.Bool.{lt-leb}
 use Rattle.tl_store.specs.Stored.{stored_count}
-use Rattle.tl_rows.proofs.readers.count_of.Goals as goal
+use Rattle.tl_tests.proofs.readers.count_of.Goals as goal
 
 pub returns-else-size : goal.returns-else-size
 unfolding stored_count
