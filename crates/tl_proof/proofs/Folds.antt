@@ -9,8 +9,8 @@ use Rattle.tl_hash.specs.Split.{split_point, IsSplit}
 use Rattle.tl_hash.specs.Tree.{tree_hash, inputs, node_input}
 use Rattle.tl_hash.proofs.SplitLemmas.{split_point_is, split_point-splits}
 use Rattle.tl_hash.proofs.TreeLemmas.{length_first, length_rest, tree_hash-split, tree_hash-prefix, length-tree_hash}
-use Rattle.tl_proof.specs.Acceptance.{roots_from, roots_of_whole}
-use Rattle.tl_proof.specs.Collisions.{fold_inputs_from, inputs_on_left, inputs_on_right}
+use Rattle.tl_proof.specs.Acceptance.{roots_from, roots_of_whole, inputs_on_left, inputs_on_right}
+use Rattle.tl_proof.specs.Collisions.{fold_inputs_from}
 use Rattle.tl_proof.specs.Laws.{HasHashLength}
 use Rattle.tl_hash.proofs.Bytes.{cases_bytes, node_input-injective}
 use Rattle.tl_proof.proofs.Equations.{roots_from-left, roots_from-right}

@@ -5,8 +5,8 @@ use Rattle.std.proofs.lemmas.List.{take_all, take-take, take-map, drop-map, leng
 use Rattle.tl_hash.specs.Split.{IsSplit}
 use Rattle.tl_hash.specs.Tree.{tree_hash, inputs, node_input}
 use Rattle.tl_hash.proofs.TreeLemmas.{length_first, length_rest, tree_hash-split, tree_hash-prefix}
-use Rattle.tl_proof.specs.Acceptance.{roots_from, roots_of_whole}
-use Rattle.tl_proof.specs.Collisions.{fold_inputs_from, inputs_on_left, inputs_on_right}
+use Rattle.tl_proof.specs.Acceptance.{roots_from, roots_of_whole, inputs_on_left, inputs_on_right}
+use Rattle.tl_proof.specs.Collisions.{fold_inputs_from}
 use Rattle.tl_proof.specs.Inner.Forks.{input_of, SameOrForks, fork_of, IsForkOver, IsCheckWalk}
 use Rattle.tl_proof.specs.declared.audit.fork.Fork.{Fork}
 use Rattle.tl_proof.specs.declared.audit.fork.CheckWalk.{CheckWalk}

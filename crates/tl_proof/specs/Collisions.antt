@@ -1,36 +1,16 @@
 -- What an audit shows where one list does not extend another: two of the byte strings that were hashed
 -- (RFC 6962, sections 2.1 and 2.1.2).
-use Rattle.std.specs.Prelude.{◌≡◌, ℕ, ◌-◌, Bool, true, false, List, [], ◌∷◌, ◌++◌, length, take, reverse, nat_lt, nat_le, ◌==◌, if◌then◌else◌, Option, Some, None}
+use Rattle.std.specs.Prelude.{◌≡◌, ℕ, ◌-◌, Bool, true, false, List, [], ◌∷◌, ◌++◌, length, take, reverse, nat_lt, nat_le, ◌==◌, if◌then◌else◌}
 use Rattle.tl_hash.specs.Split.{split_point}
-use Rattle.tl_hash.specs.Tree.{leaf_input, node_input, tree_hash, inputs}
+use Rattle.tl_hash.specs.Tree.{leaf_input, tree_hash, inputs}
 use Rattle.tl_hash.specs.Collision.{Collides}
-use Rattle.tl_proof.specs.Acceptance.{Step, root_from_leaf, roots_from}
-
--- the byte string hashed where a root goes on from its left part
-abbrev pub input_on_left : Option (List ℕ) → List ℕ → List (List ℕ)
-input_on_left None last = []
-input_on_left (Some root) last = node_input root last ∷ []
-
--- the byte string hashed where a root goes on from its right part
-abbrev pub input_on_right : Option (List ℕ) → List ℕ → List (List ℕ)
-input_on_right None last = []
-input_on_right (Some root) last = node_input last root ∷ []
-
--- the byte string hashed where a new root goes on from its left part
-abbrev pub inputs_on_left : Option (List ℕ × List ℕ) → List ℕ → List (List ℕ)
-inputs_on_left None last = []
-inputs_on_left (Some r) last = node_input r.1 last ∷ []
-
--- the two byte strings hashed where an old and a new root go on from their right parts
-abbrev pub inputs_on_right : Option (List ℕ × List ℕ) → List ℕ → List (List ℕ)
-inputs_on_right None last = []
-inputs_on_right (Some r) last = node_input last r.0 ∷ node_input last r.1 ∷ []
+use Rattle.tl_proof.specs.Acceptance.{Step, root_from_leaf, input_on_left, input_on_right, roots_from, inputs_on_left, inputs_on_right}
 
 -- the first list is a prefix of the second
 abbrev pub IsPrefix : List (List ℕ) → List (List ℕ) → Type 0
 IsPrefix old new = old ≡ take (length old) new
 
--- the byte strings whose digests `root_from_leaf` takes
+-- the byte strings hashed on the way that `root_from_leaf` goes, case by case
 unfoldable pub path_inputs_from : (List ℕ → List ℕ) → ℕ → ℕ → List (List ℕ) → List ℕ → List (List ℕ)
 path_inputs_from H index size [] leaf = []
 path_inputs_from H index size (last ∷ others) leaf =
@@ -44,14 +24,18 @@ unfoldable pub path_inputs : (List ℕ → List ℕ) → ℕ → ℕ → List (L
 path_inputs H index size proof entry =
     leaf_input entry ∷ path_inputs_from H index size (reverse proof) (H (leaf_input entry))
 
--- the byte strings whose digests `roots_from` takes
+-- the byte strings hashed on the way that `roots_from` goes, case by case
 unfoldable pub fold_inputs_from : (List ℕ → List ℕ) → ℕ → ℕ → Bool → List (List ℕ) → List ℕ → List (List ℕ)
+-- no hash is left: none
 fold_inputs_from H old new known [] root = []
 fold_inputs_from H old new known (last ∷ others) root =
     let k : ℕ = split_point new in
+    -- all entries are old: none
     if old == new then []
+    -- all old entries lie in the left part: that of the node over it, and those for the left part
     else if nat_le old k
     then inputs_on_left (roots_from H old k known others root) last ++ fold_inputs_from H old k known others root
+    -- the left part is old: those of the two nodes over the right part, and those for the right part
     else inputs_on_right (roots_from H (old - k) (new - k) false others root) last ++ fold_inputs_from H (old - k) (new - k) false others root
 
 -- the byte strings whose digests the check of a consistency proof takes

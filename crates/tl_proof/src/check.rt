@@ -2,7 +2,7 @@
 
 ghost use Rattle.std.specs.Prelude.{◌≡◌, ◌<◌, ◌≤◌, ◌↔◌, IsTrue, reverse, length, option_map, ℕ, List, []};
 ghost use Rattle.tl_hash.specs.Tree.{node_input};
-ghost use Rattle.tl_proof.specs.Acceptance.{root_from_leaf, roots_from, roots_of_whole, AcceptsInclusion, AcceptsConsistency};
+ghost use Rattle.tl_proof.specs.Acceptance.{root_from_leaf, roots_from, roots_of_whole, roots_on_left, roots_on_right, AcceptsInclusion, AcceptsConsistency};
 
 use tl_hash::{Hash, TreeHash, empty_hash, node_hash, split_point};
 
@@ -97,7 +97,7 @@ pub fn check_record<T: TreeHash>(
 
 // The old root as it is, and the node over the new root and a hash to its right.
 fn join_new<T: TreeHash>(h: T, below: Option<(Hash, Hash)>, right: Hash) -> Option<(Hash, Hash)>
-    ensures { result ≡ option_map (λ r. (r.0, T.digest_of (node_input r.1 right))) below }
+    ensures { result ≡ option_map (roots_on_left T.digest_of right) below }
 {
     match below {
         Some((old, new)) => Some((old, node_hash(h, new, right))),
@@ -107,7 +107,7 @@ fn join_new<T: TreeHash>(h: T, below: Option<(Hash, Hash)>, right: Hash) -> Opti
 
 // The nodes over a hash and each of the two roots to its right.
 fn join_both<T: TreeHash>(h: T, left: Hash, below: Option<(Hash, Hash)>) -> Option<(Hash, Hash)>
-    ensures { result ≡ option_map (λ r. (T.digest_of (node_input left r.0), T.digest_of (node_input left r.1))) below }
+    ensures { result ≡ option_map (roots_on_right T.digest_of left) below }
 {
     match below {
         Some((old, new)) => Some((node_hash(h, left, old), node_hash(h, left, new))),

@@ -7,7 +7,7 @@ ghost use Rattle.tl_proof.specs.Inner.Forks.{input_of, fork_of, first_string, se
 use crate::audit::fork::{Children, Fork, Walk};
 use crate::check::same;
 use std::alloc::{AllocError, Allocator};
-use tl_hash::{TreeHash, node_hash};
+use tl_hash::{Hash, TreeHash, node_hash};
 
 // Whether two nodes are over the same hashes. Their byte strings are then the same too, and else are not, since each
 // left hash has 32 bytes: a proof sees that of a hash only where its bytes are read.
@@ -31,20 +31,27 @@ fn fork_over(fork: Fork, below: Option<Fork>) -> Option<Fork>
     }
 }
 
-/// The walk that goes on to two nodes over these hashes from what was found below them.
+/// The walk that goes on to two nodes, each over a left and a right hash, from what was found below them.
 pub(crate) fn walk_to<T: TreeHash>(
     h: T,
-    first: Children,
-    second: Children,
+    first: (Hash, Hash),
+    second: (Hash, Hash),
     below: Option<Fork>,
 ) -> Walk
-    ensures first { result.first ≡ T.digest_of (node_input first.left first.right) }
-    ensures second { result.second ≡ T.digest_of (node_input second.left second.right) }
-    ensures fork { IsForkOver (fork_of first.left first.right second.left second.right) below result.fork }
+    ensures first { result.first ≡ T.digest_of (node_input first.0 first.1) }
+    ensures second { result.second ≡ T.digest_of (node_input second.0 second.1) }
+    ensures fork { IsForkOver (fork_of first.0 first.1 second.0 second.1) below result.fork }
 {
+    let (left, right) = first;
+    let (other_left, other_right) = second;
+    let first = Children { left, right };
+    let second = Children {
+        left: other_left,
+        right: other_right,
+    };
     Walk {
-        first: node_hash(h, first.left, first.right),
-        second: node_hash(h, second.left, second.right),
+        first: node_hash(h, left, right),
+        second: node_hash(h, other_left, other_right),
         fork: fork_over(Fork { first, second }, below),
     }
 }

@@ -7,7 +7,7 @@ ghost use Rattle.tl_proof.specs.Collisions.{fold_inputs};
 ghost use Rattle.tl_proof.specs.Inner.Forks.{SameOrForks, fork_of, IsForkOver, IsCheckWalk};
 
 use crate::audit::exhibits::walk_to;
-use crate::audit::fork::{CheckWalk, Children, Fork};
+use crate::audit::fork::{CheckWalk, Fork};
 use crate::check::lead_roots;
 use std::alloc::Allocator;
 use tl_hash::{Hash, TreeHash, entry_root, node_hash, split_point};
@@ -34,15 +34,7 @@ fn over_left<T: TreeHash>(h: T, below: CheckWalk, last: Hash, beside: Hash) -> C
     ensures list { result.list ≡ T.digest_of (node_input below.list beside) }
     ensures fork { IsForkOver (fork_of below.new last below.list beside) below.fork result.fork }
 {
-    let first = Children {
-        left: below.new,
-        right: last,
-    };
-    let second = Children {
-        left: below.list,
-        right: beside,
-    };
-    let walk = walk_to(h, first, second, below.fork);
+    let walk = walk_to(h, (below.new, last), (below.list, beside), below.fork);
     CheckWalk {
         old: below.old,
         new: walk.first,
@@ -59,15 +51,7 @@ fn over_right<T: TreeHash>(h: T, last: Hash, beside: Hash, below: CheckWalk) -> 
     ensures list { result.list ≡ T.digest_of (node_input beside below.list) }
     ensures fork { IsForkOver (fork_of last below.new beside below.list) below.fork result.fork }
 {
-    let first = Children {
-        left: last,
-        right: below.new,
-    };
-    let second = Children {
-        left: beside,
-        right: below.list,
-    };
-    let walk = walk_to(h, first, second, below.fork);
+    let walk = walk_to(h, (last, below.new), (beside, below.list), below.fork);
     CheckWalk {
         old: node_hash(h, last, below.old),
         new: walk.first,

@@ -5,7 +5,7 @@ ghost use Rattle.tl_proof.specs.Collisions.{IsPrefix};
 ghost use Rattle.tl_proof.specs.Inner.Forks.{DifferAt, IsListsWalk};
 
 use crate::audit::exhibits::walk_to;
-use crate::audit::fork::{Children, Walk};
+use crate::audit::fork::Walk;
 use std::alloc::Allocator;
 use tl_hash::{Hash, TreeHash, entry_root, leaf_hash, split_point};
 
@@ -60,27 +60,21 @@ pub(crate) fn walk_lists<T: TreeHash, B: Allocator>(
         let old_rest = entry_root(h, &old[k..]);
         let new_rest = entry_root(h, &new[k..]);
         let below = walk_lists(h, place, &old[..k], &new[..k]);
-        let first = Children {
-            left: below.first,
-            right: old_rest,
-        };
-        let second = Children {
-            left: below.second,
-            right: new_rest,
-        };
-        walk_to(h, first, second, below.fork)
+        walk_to(
+            h,
+            (below.first, old_rest),
+            (below.second, new_rest),
+            below.fork,
+        )
     } else {
         let old_first = entry_root(h, &old[..k]);
         let new_first = entry_root(h, &new[..k]);
         let below = walk_lists(h, place - k, &old[k..], &new[k..]);
-        let first = Children {
-            left: old_first,
-            right: below.first,
-        };
-        let second = Children {
-            left: new_first,
-            right: below.second,
-        };
-        walk_to(h, first, second, below.fork)
+        walk_to(
+            h,
+            (old_first, below.first),
+            (new_first, below.second),
+            below.fork,
+        )
     }
 }
