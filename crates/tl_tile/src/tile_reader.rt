@@ -1,9 +1,9 @@
 //! Stored hashes from tiles that are checked against a root.
 //!
-//! `checker` fetches the partial tiles, whose hashes fold to the root (`edge_root`). For each number it then fetches the
-//! full tiles over its subtree, from the top down, and compares what each folds to (`fold_tile`) with its hash in the
-//! tile above. What a full tile's hashes fold to on the way is kept in `trees`, where `subtree` finds the number's hash;
-//! from a partial tile it is folded (`hashes`). What a source answered is kept in `fetched`, the bad tile too.
+//! `checker` fetches the partial tiles, whose hashes fold to the root (`edge_root`). For each number it then fetches
+//! the full tiles over its subtree, from the top down, and compares what each folds to (`fold_tile`) with its hash in
+//! the tile above. What a full tile's hashes fold to on the way is kept in `trees`, where `subtree` finds the number's
+//! hash; from a partial tile it is folded (`hashes`). What a source answered is kept in `fetched`, the bad tile too.
 
 ghost use Rattle.std.specs.Prelude.{◌≡◌, ◌≤◌, ◌<◌, ℕ, List, length, map, All, Any, MatchBool, IfOk, IfErr, OnOk};
 ghost use Rattle.tl_store.specs.Stored.{stored_hash};
