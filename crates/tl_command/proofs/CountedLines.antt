@@ -9,7 +9,7 @@ use Rattle.std.proofs.lemmas.List.{append_cancel_left, length-map, length-append
 use Rattle.std.proofs.lemmas.List.Elements.{All-nil, All-cons, All-head, All-tail, All-append}
 use Rattle.tl_text.specs.Text.{number_text, base64_text, IsSize}
 use Rattle.tl_command.specs.AuditText.{Audit, IsAudit, counted_lines, audit_lines, audit_text}
-use Rattle.tl_command.specs.Inner.Shown.{IsRead}
+use Rattle.tl_command.specs.Inner.Shown.{IsAuditRead}
 use Rattle.tl_command.specs.Lines.{entries_of, HasNoNewline}
 use Rattle.tl_command.proofs.LinesLemmas.{step_newline, step_other}
 use Rattle.tl_command.proofs.LineTexts.{entries_of_lines}
@@ -115,7 +115,7 @@ right_of [] ys each = each
 right_of (x ∷ xs) ys each = right_of xs ys (All-tail HasNoNewline x (xs ++ ys) each)
 
 -- an audit that was read of lines without a newline
-pub read_is_audit : (a : Audit) → IsRead a → All HasNoNewline (audit_lines a) → IsAudit a
+pub read_is_audit : (a : Audit) → IsAuditRead a → All HasNoNewline (audit_lines a) → IsAudit a
 read_is_audit a read each =
     let both = left_of (counted_lines (codes "old ") a.old ++ counted_lines (codes "new ") a.new) (map base64_text a.proof) each in
     let old = left_of (counted_lines (codes "old ") a.old) (counted_lines (codes "new ") a.new) both in

@@ -1,4 +1,5 @@
-//! Which tiles are fetched: none for no numbers, and each once for many; and each tile of a large log with a bit changed.
+//! Which tiles are fetched: none for no numbers, and each once for many; and each tile of a large log with a bit
+//! changed.
 
 use crate::reader::stored_bytes;
 use crate::tables::{Trick, TrickSource, store_of};

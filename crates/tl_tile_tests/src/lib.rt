@@ -1,4 +1,5 @@
-//! Tests of tiles beside stored hashes: the right edge of a growing log, and sources of tiles that may lie. It has tests alone.
+//! Tests of tiles beside stored hashes: the right edge of a growing log, and sources of tiles that may lie. It has
+//! tests alone.
 #![tactic(auto)]
 
 #[cfg(test)]

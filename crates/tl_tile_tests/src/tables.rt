@@ -113,7 +113,8 @@ fn all_numbers(alloc: Global, size: u64) -> Result<Vec<u64>, AllocError> {
     Ok(numbers)
 }
 
-// Checks that all hashes of the first `size` entries are read from an honest source, and that a bit of any tile changed is told.
+// Checks that all hashes of the first `size` entries are read from an honest source, and that a bit of any tile
+// changed is told.
 fn reads_all(
     rt: &(impl Abort + AllocGlobal),
     store: &HashStore<Sha256Tree, Global>,

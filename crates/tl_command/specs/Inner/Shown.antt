@@ -13,7 +13,7 @@ abbrev pub audit_shown : {A B : Type 0} → AuditParts A B → Audit
 audit_shown parts = record { old = map vec_items parts.old.now; new = map vec_items parts.new.now; proof = vec_items parts.proof }
 
 -- what is known of an audit once its lines are read, whatever the entries are
-pub record IsRead (a : Audit) : Type 0 where
+pub record IsAuditRead (a : Audit) : Type 0 where
   pub old_count : IsSize (length a.old)
   pub new_count : IsSize (length a.new)
   pub proof : All IsHash a.proof

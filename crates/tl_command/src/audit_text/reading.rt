@@ -4,7 +4,7 @@ ghost use Rattle.std.specs.Prelude.{◌≡◌, ◌≢◌, ◌<◌, ◌++◌, Lis
 ghost use Rattle.tl_hash.specs.Bytes.{IsHash};
 ghost use Rattle.tl_text.specs.Text.{IsSize};
 ghost use Rattle.tl_command.specs.AuditText.{Audit, IsAudit, audit_lines, counted_lines};
-ghost use Rattle.tl_command.specs.Inner.Shown.{audit_shown, IsRead};
+ghost use Rattle.tl_command.specs.Inner.Shown.{audit_shown, IsAuditRead};
 
 use super::AuditParts;
 use crate::lines::{hashes_of, number_after};
@@ -41,7 +41,7 @@ pub(crate) fn read_audit<'a, A: Allocator + Copy, B: Allocator>(
 ) -> Result<Option<AuditParts<'a, A, B>>, AllocError>
     ensures audit { IfOk result (λ found. MatchOption found
         ((a : Audit) → IsAudit a → map vec_items lines.now ≢ audit_lines a)
-        (λ parts. IsRead (audit_shown parts) × (map vec_items lines.now ≡ audit_lines (audit_shown parts)))) }
+        (λ parts. IsAuditRead (audit_shown parts) × (map vec_items lines.now ≡ audit_lines (audit_shown parts)))) }
     ensures memory { OnErr result (0 < length lines.now) }
 {
     let Some((old, rest)) = counted(lines, b"old ") else {

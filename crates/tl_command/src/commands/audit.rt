@@ -89,11 +89,11 @@ fn answer_to<T: TreeHash, A: Allocator + Copy>(
     }
 }
 
-/// Reads the whole input, the text of an audit: two lists of entries, and a consistency proof from the one to the other
-/// (RFC 6962, section 2.1.2). Writes `extends` where the proof is accepted and the first list is a prefix of the second.
-/// Else the answer is `Refused`, and what is written is `not accepted`, or `collision` and in hexadecimal two different
-/// byte strings, hashed for the audit, with one digest. Any other input is `Malformed`. Nothing is written before the
-/// whole input was read.
+/// Reads the whole input, the text of an audit: two lists of entries, and a consistency proof from the one to the
+/// other (RFC 6962, section 2.1.2). Writes `extends` where the proof is accepted and the first list is a prefix of
+/// the second. Else the answer is `Refused`, and what is written is `not accepted`, or `collision` and in hexadecimal
+/// two different byte strings, hashed for the audit, with one digest. Any other input is `Malformed`. Nothing is
+/// written before the whole input was read.
 pub fn run_audit<T: TreeHash, A: Allocator + Copy, R: Read, W: Write>(
     alloc: A,
     h: T,
