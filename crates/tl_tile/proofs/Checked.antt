@@ -84,7 +84,7 @@ full_right H wide tiles size entries len level index n text hash_there hash stri
     as (λ _. IsRight H tiles size entries level (index * 256 + n) hash_there) [
       | inl right ↦ inl (right ∙ ap (tree_hash H) (under_place level index n entries))
       | inr found ↦ inr (tiles_collide H tiles size entries (segment u 0 256 rest) strings
-          (λ x among. inr (level, index, text, hash, strings, fetched, folds, among))
+          (λ x among. inr (record { level = level; index = index; text = text; hash = hash; strings = strings; fetched = fetched; folds = folds; among = among }))
           (λ x among. inputs-subtree H (256 ^ (level + 1)) (power_of_256 (level + 1)) entries index (omega (arith, within, len)) x
           (subst (λ (list : List (List ℕ)). Contains (inputs H list) x) (sym under) among))
           found)

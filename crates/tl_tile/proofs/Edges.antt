@@ -126,7 +126,7 @@ edge_right H wide tiles size root strings folds entries len is_root level place 
     as (λ _. (hash_there ≡ tree_hash H (entries_under level place entries)) ⊎ TilesCollide H tiles size entries) [
       | inl same ↦ inl (same ∙ ap (tree_hash H) here)
       | inr found ↦ inr (tiles_collide H tiles size entries (segment 1 0 size entries) strings
-          (λ x among. inl (root, strings, folds, among))
+          (λ x among. inl (record { root = root; strings = strings; folds = folds; among = among }))
           (λ x among. subst (λ (list : List (List ℕ)). Contains (inputs H list) x) all among)
           found)
     ]

@@ -98,12 +98,27 @@ pub record IsSubtreeHash (H : List ℕ → List ℕ) (tiles : Tiles) (size level
 
 -- ---- collisions
 
+-- a string that is hashed when the partial tiles are folded to a root
+pub record IsFoldedForRoot (H : List ℕ → List ℕ) (tiles : Tiles) (size : ℕ) (string : List ℕ) : Type 0 where
+  pub root : List ℕ
+  pub strings : List (List ℕ)
+  pub folds : IsEdgeRoot H tiles size root strings
+  pub among : Contains strings string
+
+-- a string that is hashed when a full tile is folded
+pub record IsFoldedForTile (H : List ℕ → List ℕ) (tiles : Tiles) (string : List ℕ) : Type 0 where
+  pub level : ℕ
+  pub index : ℕ
+  pub text : List ℕ
+  pub hash : List ℕ
+  pub strings : List (List ℕ)
+  pub fetched : tiles (full_tile level index) ≡ Some text
+  pub folds : IsTileHash H text hash strings
+  pub among : Contains strings string
+
 -- a string that is hashed for the root or for one of the full tiles
 abbrev pub IsFolded : (List ℕ → List ℕ) → Tiles → ℕ → List ℕ → Type 0
-IsFolded H tiles size string =
-    ((root : List ℕ) × (strings : List (List ℕ)) × IsEdgeRoot H tiles size root strings × Contains strings string)
-    ⊎ ((level : ℕ) × (index : ℕ) × (text : List ℕ) × (hash : List ℕ) × (strings : List (List ℕ))
-    × (tiles (full_tile level index) ≡ Some text) × IsTileHash H text hash strings × Contains strings string)
+IsFolded H tiles size string = IsFoldedForRoot H tiles size string ⊎ IsFoldedForTile H tiles string
 
 -- an input of the tree over the entries and a string hashed for the tiles, different and with one digest
 pub record TilesCollide (H : List ℕ → List ℕ) (tiles : Tiles) (size : ℕ) (entries : List (List ℕ)) : Type 0 where
