@@ -1,18 +1,153 @@
 //! The right edge of the log of an input's lines, while the input is read.
 
-use std::alloc::Allocator;
+ghost use Rattle.std.specs.Prelude.{◌≡◌, ◌<◌, ◌≤◌, ◌+◌, ◌-◌, ◌^◌, ◌∷◌, [], ◌++◌, ℕ, List, length, take, vec_items, None, OnOk};
+ghost use Rattle.tl_command.specs.Inner.Growing.{IsGrowing, IsOutcome, IsTold, ReadsEdge};
+ghost use Rattle.tl_command.specs.Lines.{entries_of, HasNoNewline};
+ghost use Rattle.tl_device.specs.Device.{passage};
+
+use crate::fault::RunFault;
+use crate::streams::MOST_INPUT;
+use memchr::memchr;
+use std::alloc::{AllocError, Allocator};
+use std::io::Read;
+use tl_device::Counted;
 use tl_hash::Sha256Tree;
 use tl_tile::Edge;
 
-pub(crate) mod reading;
-mod steps;
-
-/// What is kept of an input so far: the right edge of the log of its whole lines, as much of the last, unended line
-/// as tells whether it is too long, and the place of the first line that is too long, after which the edge stays as
-/// it is.
+// What is kept of an input so far: the right edge of the log of its whole lines, as much of the last, unended line as
+// tells whether it is too long, and the place of the first line that is too long, after which the edge stays as it is.
 #[derive(Drop)]
-pub(crate) struct Growing<A: Allocator> {
-    pub(crate) edge: Edge<Sha256Tree, A>,
-    pub(crate) line: Vec<u8, A>,
-    pub(crate) too_long: Option<u64>,
+struct Growing<A: Allocator> {
+    edge: Edge<Sha256Tree, A>,
+    line: Vec<u8, A>,
+    too_long: Option<u64>,
+}
+
+// One byte more than an entry may have, so that a longer line can be told.
+const MOST_KEPT: usize = 65_536;
+
+impl<A: Allocator + Copy> Growing<A> {
+    // What is kept of no input.
+    fn new(alloc: A) -> Growing<A>
+        ensures size { result.edge.size ≡ 0 }
+        ensures grows { IsGrowing result [] }
+    {
+        Growing {
+            edge: Edge::new(alloc, Sha256Tree),
+            line: Vec::new(alloc),
+            too_long: None,
+        }
+    }
+
+    // More of the last line.
+    fn extend(&mut self, part: &[u8]) -> Result<(), AllocError>
+        requires { HasNoNewline part.now }
+        ensures size { OnOk result (self.new.edge.size ≡ self.old.edge.size) }
+        ensures grows { (input : List ℕ) → IsGrowing self.old input → OnOk result (IsGrowing self.new (input ++ part.now)) }
+    {
+        let room = MOST_KEPT.saturating_sub(self.line.len());
+        self.line.extend_from_slice(&part[..room.min(part.len())])?;
+        Ok(())
+    }
+
+    // Notes that the last line is too long, or adds it to the log.
+    fn log_line(&mut self) -> Result<(), AllocError>
+        requires size { self.old.edge.size < 2 ^ 32 - 1 }
+        requires none { self.old.too_long ≡ None }
+        ensures size { OnOk result (self.new.edge.size ≤ self.old.edge.size + 1) }
+        ensures line { OnOk result (self.new.line ≡ self.old.line) }
+        ensures told { (lines : List (List ℕ)) (last : List ℕ) → IsTold self.old lines → vec_items self.old.line ≡ take 65536 last
+            → OnOk result (IsTold self.new (lines ++ last ∷ [])) }
+    {
+        if self.line.len() == MOST_KEPT {
+            self.too_long = Some(self.edge.size());
+            return Ok(());
+        }
+        self.edge.append(self.line.as_slice())?;
+        Ok(())
+    }
+
+    // The end of the last line.
+    fn end_line(&mut self) -> Result<(), AllocError>
+        requires { self.old.edge.size < 2 ^ 32 - 1 }
+        ensures size { OnOk result (self.new.edge.size ≤ self.old.edge.size + 1) }
+        ensures ended { OnOk result (vec_items self.new.line ≡ []) }
+        ensures grows { (input : List ℕ) → IsGrowing self.old input → OnOk result (IsGrowing self.new (input ++ 10 ∷ [])) }
+    {
+        if self.too_long.is_some() {
+            self.line.clear();
+            return Ok(());
+        }
+        self.log_line()?;
+        self.line.clear();
+        Ok(())
+    }
+
+    // A piece more of the input. The edge takes up to 2^32 - 1 lines.
+    fn take(&mut self, piece: &[u8]) -> Result<(), AllocError>
+        requires { self.old.edge.size + length piece.now < 2 ^ 32 }
+        ensures size { OnOk result (self.new.edge.size ≤ self.old.edge.size + length piece.now) }
+        ensures grows { (input : List ℕ) → IsGrowing self.old input → OnOk result (IsGrowing self.new (input ++ piece.now)) }
+    {
+        let mut at = 0;
+        while let Some(end) = memchr(b'\n', &piece[at..]) {
+            self.extend(&piece[at..at + end])?;
+            self.end_line()?;
+            at += end + 1;
+        }
+        self.extend(&piece[at..])?;
+        Ok(())
+    }
+
+    // What is told of the lines.
+    fn outcome(self) -> Result<Edge<Sha256Tree, A>, RunFault>
+        ensures { (lines : List (List ℕ)) → IsTold self lines → IsOutcome lines result }
+    {
+        let Growing {
+            edge,
+            line: _,
+            too_long,
+        } = self;
+        match too_long {
+            Some(place) => Err(RunFault::EntryTooLong(place)),
+            None => Ok(edge),
+        }
+    }
+
+    /// The end of the input: a last line that isn't empty is one of its lines. Gives the right edge of the log of
+    /// them, or the place of the first that is too long.
+    fn finish(mut self) -> Result<Edge<Sha256Tree, A>, RunFault>
+        requires { self.edge.size < 2 ^ 32 - 1 }
+        ensures { (input : List ℕ) → IsGrowing self input → IsOutcome (entries_of input) result }
+    {
+        if self.line.is_empty() {
+            return self.outcome();
+        }
+        self.end_line()?;
+        self.outcome()
+    }
+}
+
+/// The right edge of the log of the lines of all that the reader gives. An input of more than 64 MiB is `TooLarge`,
+/// and then one with a line of more than 65,535 bytes is `EntryTooLong` of the first such line.
+pub(crate) fn read_edge<A: Allocator + Copy, R: Read>(
+    alloc: A,
+    reader: &mut Counted<R>,
+) -> Result<Edge<Sha256Tree, A>, RunFault>
+    ensures { ReadsEdge (passage R.remaining reader.old reader.new) result }
+{
+    let mut growing = Growing::new(alloc);
+    let mut total = 0u64;
+    let mut buf = [0u8; 65536];
+    while total <= MOST_INPUT {
+        match reader.read_some(&mut buf) {
+            None => return Err(RunFault::Read),
+            Some(0) => return growing.finish(),
+            Some(n) => {
+                growing.take(&buf[..n])?;
+                total += n as u64;
+            }
+        }
+    }
+    Err(RunFault::TooLarge)
 }

@@ -1,10 +1,17 @@
 //! Inclusion and consistency proofs with what they are about, as their texts have them.
 
-use std::alloc::Allocator;
-use tl_hash::Hash;
+ghost use Rattle.std.specs.Prelude.{◌≡◌, ◌≢◌, ◌<◌, length, map, vec_items, IfOk, OnErr, MatchOption, ◌++◌, OnOk};
+ghost use Rattle.tl_command.specs.ProofText.{Inclusion, IsInclusion, inclusion_lines, Consistency, IsConsistency, consistency_lines, inclusion_text, consistency_text};
+ghost use Rattle.tl_command.specs.Inner.Shown.{inclusion_shown, consistency_shown};
+ghost use Rattle.std.specs.List.{flat_map};
+ghost use Rattle.tl_text.specs.Text.{line, number_text, base64_text};
+ghost use Rattle.tl_command.specs.Lines.{lines_text};
 
-pub(crate) mod reading;
-pub(crate) mod writing;
+use crate::lines::{hash_after, hashes_of, number_after};
+use base64::engine::general_purpose::STANDARD;
+use itoa::Buffer;
+use std::alloc::{AllocError, Allocator};
+use tl_hash::Hash;
 
 /// An inclusion proof, and the leaf, the place and the tree that it is about.
 #[derive(Drop)]
@@ -24,4 +31,168 @@ pub(crate) struct ConsistencyProof<A: Allocator> {
     pub(crate) size: u64,
     pub(crate) root: Hash,
     pub(crate) proof: Vec<Hash, A>,
+}
+
+/// The inclusion proof of which these are the lines.
+pub(crate) fn read_inclusion<A: Allocator + Copy, B: Allocator>(
+    alloc: A,
+    lines: &[Vec<u8, B>],
+) -> Result<Option<InclusionProof<A>>, AllocError>
+    ensures proof { IfOk result (λ found. MatchOption found
+        ((p : Inclusion) → IsInclusion p → map vec_items lines.now ≢ inclusion_lines p)
+        (λ p. IsInclusion (inclusion_shown p) × (map vec_items lines.now ≡ inclusion_lines (inclusion_shown p)))) }
+    ensures memory { OnErr result (0 < length lines.now) }
+{
+    let [kind, index, size, leaf, root, proof @ ..] = lines else {
+        return Ok(None);
+    };
+    if kind.as_slice() != b"inclusion".as_slice() {
+        return Ok(None);
+    }
+    let Some(index) = number_after(index.as_slice(), b"index ") else {
+        return Ok(None);
+    };
+    let Some(size) = number_after(size.as_slice(), b"size ") else {
+        return Ok(None);
+    };
+    let Some(leaf) = hash_after(leaf.as_slice(), b"leaf ") else {
+        return Ok(None);
+    };
+    let Some(root) = hash_after(root.as_slice(), b"root ") else {
+        return Ok(None);
+    };
+    let Some(proof) = hashes_of(alloc, proof)? else {
+        return Ok(None);
+    };
+    Ok(Some(InclusionProof {
+        index,
+        size,
+        leaf,
+        root,
+        proof,
+    }))
+}
+
+/// The consistency proof of which these are the lines.
+pub(crate) fn read_consistency<A: Allocator + Copy, B: Allocator>(
+    alloc: A,
+    lines: &[Vec<u8, B>],
+) -> Result<Option<ConsistencyProof<A>>, AllocError>
+    ensures proof { IfOk result (λ found. MatchOption found
+        ((p : Consistency) → IsConsistency p → map vec_items lines.now ≢ consistency_lines p)
+        (λ p. IsConsistency (consistency_shown p) × (map vec_items lines.now ≡ consistency_lines (consistency_shown p)))) }
+    ensures memory { OnErr result (0 < length lines.now) }
+{
+    let [kind, old, old_root, size, root, proof @ ..] = lines else {
+        return Ok(None);
+    };
+    if kind.as_slice() != b"consistency".as_slice() {
+        return Ok(None);
+    }
+    let Some(old) = number_after(old.as_slice(), b"old ") else {
+        return Ok(None);
+    };
+    let Some(old_root) = hash_after(old_root.as_slice(), b"oldroot ") else {
+        return Ok(None);
+    };
+    let Some(size) = number_after(size.as_slice(), b"size ") else {
+        return Ok(None);
+    };
+    let Some(root) = hash_after(root.as_slice(), b"root ") else {
+        return Ok(None);
+    };
+    let Some(proof) = hashes_of(alloc, proof)? else {
+        return Ok(None);
+    };
+    Ok(Some(ConsistencyProof {
+        old,
+        old_root,
+        size,
+        root,
+        proof,
+    }))
+}
+
+// Appends a line: a word, and what follows it.
+fn push_line<A: Allocator>(out: &mut Vec<u8, A>, word: &str, text: &str) -> Result<(), AllocError>
+    ensures { OnOk result (out.new.items ≡ out.old.items ++ line (word.now ++ text.now)) }
+{
+    out.extend_from_slice(word.as_bytes())?;
+    out.extend_from_slice(text.as_bytes())?;
+    out.push(b'\n')?;
+    Ok(())
+}
+
+// Appends a line: a word, and a number.
+fn push_number<A: Allocator>(
+    out: &mut Vec<u8, A>,
+    word: &str,
+    number: u64,
+) -> Result<(), AllocError>
+    ensures { OnOk result (out.new.items ≡ out.old.items ++ line (word.now ++ number_text number)) }
+{
+    push_line(out, word, Buffer::new().format(number))?;
+    Ok(())
+}
+
+// Appends a line: a word, and a hash in base64.
+fn push_hash<A: Allocator + Copy>(
+    alloc: A,
+    out: &mut Vec<u8, A>,
+    word: &str,
+    hash: Hash,
+) -> Result<(), AllocError>
+    ensures { OnOk result (out.new.items ≡ out.old.items ++ line (word.now ++ base64_text hash)) }
+{
+    let text = STANDARD.encode(alloc, hash.as_bytes())?;
+    push_line(out, word, text.as_str())?;
+    Ok(())
+}
+
+// Appends hashes in base64, one a line.
+fn push_hashes<A: Allocator + Copy>(
+    alloc: A,
+    out: &mut Vec<u8, A>,
+    hashes: &[Hash],
+) -> Result<(), AllocError>
+    ensures { OnOk result (out.new.items ≡ out.old.items ++ lines_text (map base64_text hashes.now)) }
+{
+    for hash in hashes {
+        push_hash(alloc, out, "", *hash)?;
+    }
+    Ok(())
+}
+
+/// The text of an inclusion proof. It fails only where a growth was refused.
+pub(crate) fn inclusion_bytes<A: Allocator + Copy, B: Allocator>(
+    alloc: A,
+    p: &InclusionProof<B>,
+) -> Result<Vec<u8, A>, AllocError>
+    ensures { IfOk result (λ bytes. bytes.items ≡ inclusion_text (inclusion_shown p.now)) }
+{
+    let mut out = Vec::new(alloc);
+    push_line(&mut out, "inclusion", "")?;
+    push_number(&mut out, "index ", p.index)?;
+    push_number(&mut out, "size ", p.size)?;
+    push_hash(alloc, &mut out, "leaf ", p.leaf)?;
+    push_hash(alloc, &mut out, "root ", p.root)?;
+    push_hashes(alloc, &mut out, p.proof.as_slice())?;
+    Ok(out)
+}
+
+/// The text of a consistency proof. It fails only where a growth was refused.
+pub(crate) fn consistency_bytes<A: Allocator + Copy, B: Allocator>(
+    alloc: A,
+    p: &ConsistencyProof<B>,
+) -> Result<Vec<u8, A>, AllocError>
+    ensures { IfOk result (λ bytes. bytes.items ≡ consistency_text (consistency_shown p.now)) }
+{
+    let mut out = Vec::new(alloc);
+    push_line(&mut out, "consistency", "")?;
+    push_number(&mut out, "old ", p.old)?;
+    push_hash(alloc, &mut out, "oldroot ", p.old_root)?;
+    push_number(&mut out, "size ", p.size)?;
+    push_hash(alloc, &mut out, "root ", p.root)?;
+    push_hashes(alloc, &mut out, p.proof.as_slice())?;
+    Ok(out)
 }

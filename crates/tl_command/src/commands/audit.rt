@@ -9,8 +9,7 @@ ghost use Rattle.tl_command.specs.Inner.Answers.{AnswersAudit, AnswersAuditText}
 ghost use Rattle.tl_device.specs.Device.{passage};
 ghost use Rattle.tl_command.specs.Run.{Runs};
 
-use crate::audit_text::AuditParts;
-use crate::audit_text::reading::read_audit;
+use crate::audit_text::{AuditParts, read_audit};
 use crate::fault::RunFault;
 use crate::lines::lines_of;
 use crate::streams::{MOST_INPUT, print_text, read_input};

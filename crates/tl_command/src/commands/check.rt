@@ -11,8 +11,7 @@ ghost use Rattle.tl_command.specs.Run.{Runs};
 
 use crate::fault::RunFault;
 use crate::lines::lines_of;
-use crate::proof_text::reading::{read_consistency, read_inclusion};
-use crate::proof_text::{ConsistencyProof, InclusionProof};
+use crate::proof_text::{ConsistencyProof, InclusionProof, read_consistency, read_inclusion};
 use crate::streams::{MOST_INPUT, print_text, read_input};
 use std::alloc::{AllocError, Allocator};
 use std::io::{Read, Write};

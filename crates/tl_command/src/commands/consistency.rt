@@ -9,8 +9,7 @@ ghost use Rattle.tl_command.specs.Run.{Runs};
 
 use crate::entries::read_entries;
 use crate::fault::RunFault;
-use crate::proof_text::ConsistencyProof;
-use crate::proof_text::writing::consistency_bytes;
+use crate::proof_text::{ConsistencyProof, consistency_bytes};
 use crate::stored::{root_of, store_of};
 use crate::streams::{MOST_INPUT, print_text};
 use std::alloc::Allocator;

@@ -5,7 +5,7 @@ ghost use Rattle.tl_command.specs.Head.{RunsHead};
 
 use crate::checkpoint_text::checkpoint_of;
 use crate::fault::RunFault;
-use crate::growing::reading::read_edge;
+use crate::growing::read_edge;
 use crate::streams::print_text;
 use std::alloc::Allocator;
 use std::io::{Read, Write};

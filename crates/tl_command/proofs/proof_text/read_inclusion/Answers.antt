@@ -1,6 +1,6 @@
 use Rattle.std.proofs.Common.{◌∙◌, sym, vec_items}
 use Rattle.tl_command.proofs.HashLines.{five_lines, same_word}
-use Rattle.tl_command.proofs.proof_text.reading.read_inclusion.Goals as goal
+use Rattle.tl_command.proofs.proof_text.read_inclusion.Goals as goal
 
 pub returns-clause-proof : goal.returns-clause-proof
 returns-clause-proof g c =

@@ -1,6 +1,6 @@
 use Rattle.std.proofs.Common.{◌≡◌, ◌+◌, ◌-◌, ◌≤◌}
 use Rattle.tl_command.proofs.GrowingLemmas.{HasRead}
-use Rattle.tl_command.proofs.growing.reading.read_edge.Given as goal
+use Rattle.tl_command.proofs.growing.read_edge.Given as goal
 
 -- the bytes so far were consumed and taken, and the device has not failed in this call
 abbrev pub invariant-loop-total : goal.invariant-loop-total

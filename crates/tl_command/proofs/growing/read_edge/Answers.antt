@@ -3,7 +3,7 @@ use Rattle.std.proofs.KnownBytes.{Consumes-nil, Consumes-trans}
 use Rattle.std.proofs.lemmas.List.{length-append, length-take-le}
 use Rattle.std.specs.Io.KnownBytes.{Consumes}
 use Rattle.tl_command.proofs.GrowingLemmas.{reads_edge}
-use Rattle.tl_command.proofs.growing.reading.read_edge.Goals as goal
+use Rattle.tl_command.proofs.growing.read_edge.Goals as goal
 
 pub loop-total-init : goal.loop-total-init
 loop-total-init g c = record {

@@ -1,7 +1,7 @@
 use Rattle.std.proofs.Common.{◌≡◌, ◌++◌, map, take}
 use Rattle.tl_text.specs.Text.{base64_text}
 use Rattle.tl_command.specs.Lines.{lines_text}
-use Rattle.tl_command.proofs.proof_text.writing.push_hashes.Given as goal
+use Rattle.tl_command.proofs.proof_text.push_hashes.Given as goal
 
 -- the hashes so far were appended
 abbrev pub invariant-loop-hash : goal.invariant-loop-hash

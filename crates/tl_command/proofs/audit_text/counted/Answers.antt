@@ -1,7 +1,7 @@
 use Rattle.std.proofs.Common.{◌∙◌, sym, ap, arith, length, vec_items}
 use Rattle.std.proofs.lemmas.List.{take_rest}
 use Rattle.tl_command.proofs.CountedLines.{slices_found, slices_only, counted_none}
-use Rattle.tl_command.proofs.audit_text.reading.counted.Goals as goal
+use Rattle.tl_command.proofs.audit_text.counted.Goals as goal
 
 pub returns-then-count-rest-clause-only : goal.returns-then-count-rest-clause-only
 returns-then-count-rest-clause-only g c = λ entries others size e.
