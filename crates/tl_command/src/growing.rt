@@ -114,8 +114,8 @@ impl<A: Allocator + Copy> Growing<A> {
         }
     }
 
-    /// The end of the input: a last line that isn't empty is one of its lines. Gives the right edge of the log of
-    /// them, or the place of the first that is too long.
+    // The end of the input: a last line that isn't empty is one of its lines. Gives the right edge of the log of
+    // them, or the place of the first that is too long.
     fn finish(mut self) -> Result<Edge<Sha256Tree, A>, RunFault>
         requires { self.edge.size < 2 ^ 32 - 1 }
         ensures { (input : List ℕ) → IsGrowing self input → IsOutcome (entries_of input) result }
