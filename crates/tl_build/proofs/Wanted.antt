@@ -1,5 +1,5 @@
 -- From the resource that is wanted to the path that was asked for.
-use Rattle.std.proofs.Common.{◌≡◌, ℕ, ◌+◌, ◌*◌, ◌^◌, ◌<◌, [], ◌∷◌, ◌++◌, refl, Bool, true, false, List, length, sym, ap, subst, ◌∙◌, All, ◌≤◌, get_or, inl, inr, ◌⊎◌, ◌↔◌, IsTrue, arith}
+use Rattle.std.proofs.Common.{◌≡◌, ℕ, ◌+◌, ◌*◌, ◌^◌, ◌<◌, [], ◌∷◌, refl, Bool, true, false, List, length, sym, ap, subst, ◌∙◌, All, ◌≤◌, get_or, inl, inr, ◌⊎◌, ◌↔◌, IsTrue, arith}
 use Rattle.std.specs.Prelude.{Contains, None, Some, Option, Result, Ok, Err, IfOk, IfErr}
 use Rattle.std.specs.declared.vec.Vec.{Vec}
 use Rattle.std.proofs.lemmas.Bool.{true≢false}

@@ -1,5 +1,5 @@
 -- A checkpoint and its text (C2SP tlog-checkpoint, "Note text").
-use Rattle.std.specs.Prelude.{ℕ, ◌<◌, List, ◌++◌, length, All, map, string_bytes, vec_items}
+use Rattle.std.specs.Prelude.{ℕ, List, ◌++◌, All, map, string_bytes, vec_items}
 use Rattle.std.specs.List.{flat_map}
 use Rattle.tl_hash.specs.Bytes.{IsHash}
 use Rattle.tl_text.specs.Text.{line, number_text, base64_text, IsOneLine, IsSize}

@@ -1,5 +1,5 @@
 -- Where a command asks for memory: something was read, or something is printed of nothing.
-use Rattle.std.proofs.Common.{◌≡◌, ℕ, ◌+◌, ◌<◌, ◌≤◌, inl, inr, List, [], ◌∷◌, length, None, refl, sym, ap, ◌∙◌, arith}
+use Rattle.std.proofs.Common.{◌≡◌, ℕ, ◌+◌, ◌<◌, ◌≤◌, inl, inr, List, [], ◌∷◌, length, None, refl, ap, arith}
 use Rattle.std.proofs.lemmas.Bool.{cases_lt}
 use Rattle.std.specs.Prelude.{Err}
 use Rattle.tl_text.specs.Text.{IsOneLine}
@@ -8,7 +8,7 @@ use Rattle.tl_command.specs.Inner.Growing.{ReadsEdge}
 use Rattle.tl_command.specs.declared.fault.RunFault.{RunFault}
 use Rattle.tl_command.specs.declared.fault.RunFault.TheVariants.{Refused, Read, Write, TooLarge, EntryTooLong, BadOrigin, BadIndex, BadOld, BadPath, NotThere, Malformed, Chain, Sign, Operator, Listen, Accept, OutOfMemory}
 use Rattle.tl_command.specs.Lines.{entries_of, first_too_long}
-use Rattle.tl_command.specs.Run.{Outcome, Prints, IsAsking, ReadEntries}
+use Rattle.tl_command.specs.Run.{IsAsking, ReadEntries}
 use Rattle.tl_command.specs.Head.{HeadComes, RunsHead, head_text}
 use Rattle.tl_command.specs.ProofText.{consistency_text}
 use Rattle.tl_command.specs.ProofCommands.{ConsistencyComes, consistency_of}

@@ -1,6 +1,6 @@
 -- A number and a hash after a word in a line.
-use Rattle.std.proofs.Common.{◌≡◌, ℕ, ◌+◌, List, ◌++◌, length, take, drop, true, false, sym, ap, ◌∙◌, arith, Bor, Some, None, Ok, Err}
-use Rattle.std.specs.Prelude.{◌≢◌, decimal, IsUtf8, MatchOption, IfOk, Option, Result}
+use Rattle.std.proofs.Common.{◌≡◌, ℕ, ◌+◌, List, ◌++◌, length, take, drop, true, false, sym, ap, ◌∙◌, arith, Bor, Some, None}
+use Rattle.std.specs.Prelude.{◌≢◌, decimal, IsUtf8, MatchOption, Option}
 use Rattle.std.specs.Cmp.Lexicographic.{pointwise}
 use Rattle.std.proofs.Math.Dec.{eqb}
 use Rattle.std.proofs.lemmas.Bool.Decides.{Decides-eqb}

@@ -1,5 +1,5 @@
 -- How a run of a command ends.
-use Rattle.std.specs.Prelude.{◌≡◌, ◌⊎◌, ℕ, List, [], Result, Ok, Err, Option, Some, None}
+use Rattle.std.specs.Prelude.{◌⊎◌, ℕ, List, [], Result, Ok, Err, Option, Some, None}
 use Rattle.tl_text.specs.Text.{line}
 use Rattle.tl_device.specs.Device.{Passage, IsUnwritten, WroteWhole, WrotePart}
 use Rattle.tl_command.specs.Faults.{exit_status, fault_text}

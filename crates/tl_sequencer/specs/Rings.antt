@@ -1,6 +1,6 @@
 -- What the kit's rings hold, as the entries of a log: a ring's end, the entries that come from one, the log in its
 -- lists.
-use Rattle.std.specs.Prelude.{◌≡◌, ℕ, ◌+◌, List, ◌++◌, map, vec_items, length, replicate}
+use Rattle.std.specs.Prelude.{◌≡◌, ℕ, List, ◌++◌, map, vec_items, length, replicate}
 use Rattle.std.specs.List.{All}
 use Rattle.std.specs.declared.vec.Vec.{Vec}
 use Rattle.rtrb.specs.declared.end.End.{End}

@@ -1,8 +1,5 @@
-use Rattle.std.proofs.Common.{◌≡◌, ◌∙◌, ap, sym, subst, length, map, vec_items, string_bytes, arith}
-use Rattle.std.specs.Prelude.{IfOk}
-use Rattle.tl_tile.specs.declared.resource.Resource.{Resource}
+use Rattle.std.proofs.Common.{subst, length, vec_items, arith}
 use Rattle.std.proofs.lemmas.List.{length-map}
-use Rattle.tl_build.specs.Mirror.{checkpoint_note, resource_text}
 use Rattle.tl_build.proofs.NeededParts.{LiesIn, lies}
 use Rattle.tl_build.proofs.command.wanted_bytes.Goals as goal
 

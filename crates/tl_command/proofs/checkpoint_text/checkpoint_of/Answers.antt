@@ -1,4 +1,4 @@
-use Rattle.std.proofs.Common.{◌≡◌, ap, map, string_bytes, vec_items}
+use Rattle.std.proofs.Common.{ap, map, string_bytes}
 use Rattle.std.proofs.lemmas.Str.{IsUtf8-string_bytes}
 use Rattle.tl_command.proofs.CheckpointTexts.{can_be_signed}
 use Rattle.tl_command.proofs.checkpoint_text.checkpoint_of.Goals as goal

@@ -3,7 +3,7 @@ use Rattle.std.proofs.KnownBytes.{Keeps-refl}
 use Rattle.std.proofs.lemmas.Result.{err_from_is_err_and}
 use Rattle.std.proofs.lemmas.List.{length-map}
 use Rattle.tl_command.proofs.LinesLemmas.{length-entries_of}
-use Rattle.tl_command.proofs.Asking.{gave_entry, asks_of_old}
+use Rattle.tl_command.proofs.Asking.{gave_entry}
 use Rattle.tl_command.proofs.commands.inclusion.run_inclusion.Goals as goal
 
 pub proof_of-requires-clause-few : goal.proof_of-requires-clause-few
