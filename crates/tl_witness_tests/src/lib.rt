@@ -34,6 +34,4 @@ mod sharing;
 #[cfg(test)]
 mod steps;
 #[cfg(test)]
-mod tries;
-#[cfg(test)]
 mod waiting;

@@ -3,10 +3,8 @@
 use crate::links::{are_first, two_links};
 use crate::posts::{E2, F1, ORIGIN, TIME, body, fresh_book, trust};
 use crate::savers::KeepingSaver;
-use crate::steps::{MOST, Step, steps};
-use crate::tries::{Judged, Tried, first_wrong, judge};
+use crate::steps::{LINES, MOST, Step, is_due, steps};
 use std::alloc::{AllocError, Allocator, Global};
-use std::sync::Wait;
 use std::test::Fail;
 use tl_hash::Sha256Tree;
 use tl_proof::Link;
@@ -53,23 +51,43 @@ fn opening_answers_out_of_memory(rt: HostRuntime) -> Result<(), Fail> {
     Ok(())
 }
 
-impl<A: Allocator + Copy> Tried for Book<Sha256Tree, A> {
-    fn post<R: Wait>(&mut self, _rt: &R, step: &Step, saver: &mut KeepingSaver) -> Judged {
-        judge(&self.add(step.body.as_bytes(), TIME, saver), step)
+// Whether the links of the book are the first of a chain, so many of them.
+fn has_links<A: Allocator + Copy>(
+    book: &Book<Sha256Tree, A>,
+    whole: &[Link<Global>],
+    count: usize,
+) -> bool {
+    match book.chain(ORIGIN) {
+        Some(links) => are_first(links, whole, count),
+        None => false,
     }
+}
 
-    fn has_links<R: Wait>(
-        &mut self,
-        _rt: &R,
-        _heap: &Refusing<Global>,
-        whole: &[Link<Global>],
-        count: usize,
-    ) -> bool {
-        match self.chain(ORIGIN) {
-            Some(links) => are_first(links, whole, count),
-            None => false,
-        }
+// Puts a request to a book, once more where memory was refused. Whether each reply is the one that is due, and a
+// refusal left the book as it was, with so many links, and saved nothing.
+fn is_taken(
+    book: &mut Book<Sha256Tree, &Refusing<Global>>,
+    heap: &Refusing<Global>,
+    saver: &mut KeepingSaver,
+    step: &Step,
+    whole: &[Link<Global>],
+    count: usize,
+) -> bool {
+    let was_refused = heap.refused();
+    let calls = saver.calls;
+    saver.fails = step.save_fails;
+    let reply = book.add(step.body.as_bytes(), TIME, saver);
+    if heap.refused() == was_refused {
+        return is_due(&reply, step) && has_links(book, whole, step.links);
     }
+    if reply.status != 500 || !reply.body.is_empty() {
+        return false;
+    }
+    if saver.calls != calls || !has_links(book, whole, count) {
+        return false;
+    }
+    let again = book.add(step.body.as_bytes(), TIME, saver);
+    is_due(&again, step) && has_links(book, whole, step.links)
 }
 
 #[test]
@@ -83,15 +101,15 @@ fn a_book_answers_500(rt: HostRuntime) -> Result<(), Fail> {
             assert!(rt; heap.refused());
             continue;
         };
-        let wrong = first_wrong(
-            &rt,
-            alloc,
-            &mut book,
-            &heap,
-            list.as_slice(),
-            whole.as_slice(),
-        );
-        assert_eq!(rt; wrong, None, "with request {number} refused");
+        let mut saver = KeepingSaver::new(alloc);
+        let mut count = 0;
+        for step in list.iter() {
+            let is_right = is_taken(&mut book, &heap, &mut saver, step, whole.as_slice(), count);
+            assert!(rt; is_right, "with request {number} refused, to {}", step.body);
+            count = step.links;
+        }
+        assert_eq!(rt; saver.calls, 3);
+        assert_eq!(rt; saver.lines.as_str(), LINES);
         if !heap.refused() {
             assert!(rt; number > 100);
             return Ok(());

@@ -3,8 +3,7 @@
 use crate::links::{are_first, two_links};
 use crate::posts::{F1, ORIGIN, TIME, fresh_book};
 use crate::savers::KeepingSaver;
-use crate::steps::{MOST, Step, steps};
-use crate::tries::{Judged, Tried, first_wrong, judge};
+use crate::steps::{LINES, MOST, Step, is_due, steps};
 use std::alloc::{Allocator, Global};
 use std::sync::Wait;
 use std::test::Fail;
@@ -34,43 +33,59 @@ fn shared<'h>(
     }
 }
 
-// A copy of the links of the origin, at the second try where memory was refused at the first. None where they are not
-// there, or memory was refused for no cause.
-fn copied<R: Wait, A: Allocator + Copy>(
+// Whether the links are the first of a chain, so many of them, at the second try where memory was refused.
+fn has_links<R: Wait>(
     rt: &R,
-    witness: &SharedWitness<Sha256Tree, A>,
-    heap: &Refusing<Global>,
-) -> Option<Vec<Link<A>, A>> {
+    witness: &SharedWitness<Sha256Tree, Heap<'_>>,
+    heap: Heap<'_>,
+    whole: &[Link<Global>],
+    count: usize,
+) -> bool {
     let was_refused = heap.refused();
-    if let Ok(copies) = witness.chain(rt, ORIGIN) {
-        return copies;
-    }
-    if was_refused || !heap.refused() {
-        return None;
-    }
-    match witness.chain(rt, ORIGIN) {
+    let copies = match witness.chain(rt, ORIGIN) {
         Ok(copies) => copies,
-        Err(_) => None,
+        Err(_) => {
+            if was_refused || !heap.refused() {
+                return false;
+            }
+            match witness.chain(rt, ORIGIN) {
+                Ok(copies) => copies,
+                Err(_) => return false,
+            }
+        }
+    };
+    match copies {
+        Some(links) => are_first(links.as_slice(), whole, count),
+        None => false,
     }
 }
 
-impl<A: Allocator + Copy> Tried for SharedWitness<Sha256Tree, A> {
-    fn post<R: Wait>(&mut self, rt: &R, step: &Step, saver: &mut KeepingSaver) -> Judged {
-        judge(&self.add(rt, step.body.as_bytes(), TIME, saver), step)
+// Puts a request to the witness, once more where memory was refused. Whether each reply is the one that is due, and a
+// refusal left the chain as it was, with so many links, and saved nothing.
+fn is_taken<R: Wait>(
+    rt: &R,
+    witness: &SharedWitness<Sha256Tree, Heap<'_>>,
+    heap: Heap<'_>,
+    saver: &mut KeepingSaver,
+    step: &Step,
+    whole: &[Link<Global>],
+    count: usize,
+) -> bool {
+    let was_refused = heap.refused();
+    let calls = saver.calls;
+    saver.fails = step.save_fails;
+    let reply = witness.add(rt, step.body.as_bytes(), TIME, saver);
+    if heap.refused() == was_refused {
+        return is_due(&reply, step) && has_links(rt, witness, heap, whole, step.links);
     }
-
-    fn has_links<R: Wait>(
-        &mut self,
-        rt: &R,
-        heap: &Refusing<Global>,
-        whole: &[Link<Global>],
-        count: usize,
-    ) -> bool {
-        match copied(rt, self, heap) {
-            Some(links) => are_first(links.as_slice(), whole, count),
-            None => false,
-        }
+    if reply.status != 500 || !reply.body.is_empty() {
+        return false;
     }
+    if saver.calls != calls || !has_links(rt, witness, heap, whole, count) {
+        return false;
+    }
+    let again = witness.add(rt, step.body.as_bytes(), TIME, saver);
+    is_due(&again, step) && has_links(rt, witness, heap, whole, step.links)
 }
 
 #[test]
@@ -84,16 +99,24 @@ fn a_shared_witness_answers_500(rt: HostRuntime) -> Result<(), Fail> {
             assert!(rt; heap.refused());
             continue;
         };
-        let mut witness = shared(book, &heap).ok_or("not shared")?;
-        let wrong = first_wrong(
-            &rt,
-            alloc,
-            &mut witness,
-            &heap,
-            list.as_slice(),
-            whole.as_slice(),
-        );
-        assert_eq!(rt; wrong, None, "with request {number} refused");
+        let witness = shared(book, &heap).ok_or("not shared")?;
+        let mut saver = KeepingSaver::new(alloc);
+        let mut count = 0;
+        for step in list.iter() {
+            let is_right = is_taken(
+                &rt,
+                &witness,
+                &heap,
+                &mut saver,
+                step,
+                whole.as_slice(),
+                count,
+            );
+            assert!(rt; is_right, "with request {number} refused, to {}", step.body);
+            count = step.links;
+        }
+        assert_eq!(rt; saver.calls, 3);
+        assert_eq!(rt; saver.lines.as_str(), LINES);
         if !heap.refused() {
             assert!(rt; number > 100);
             return Ok(());
