@@ -2,12 +2,12 @@
 
 use crate::journal::Journal;
 use base64::engine::general_purpose::STANDARD;
-use std::alloc::{AllocError, Global};
+use std::alloc::Global;
 use std::io;
 use tl_checkpoint::{Checkpoint, write};
 use tl_hash::{Hash, Sha256Tree};
 use tl_key::demo_key;
-use tl_note::{NoteFault, Signer, Verifier, sign_note};
+use tl_note::{Signer, Verifier, sign_note};
 use tl_proof::prove_tree;
 use tl_store::{HashStore, tree_hash};
 use tl_witness::{Book, Trust};
@@ -51,23 +51,8 @@ fn request(
     Ok(body)
 }
 
-// A book that trusts the log's key for the log.
-fn open_book(alloc: Global) -> Result<Book<Sha256Tree, Global>, anyhow::Error> {
-    let verifier: Box<dyn Verifier> = Box::new(alloc, demo_key(alloc, LOG, b"the log's")?)?;
-    let mut verifiers = Vec::new(alloc);
-    verifiers.push(verifier)?;
-    let mut trusts = Vec::new(alloc);
-    trusts.push(Trust {
-        origin: String::from_str(alloc, LOG)?,
-        verifiers,
-        cosigner: Box::new(alloc, demo_key(alloc, "witness.example", b"the witness's")?)?,
-    })?;
-    Ok(Book::open(alloc, alloc, Sha256Tree, trusts, Vec::new(alloc))?)
-}
-
-/// Asks for the checkpoint of one entry, of three with a proof, and of three others that don't begin with the first.
-pub fn ask_a_witness(rt: &impl Print, alloc: Global) -> Result<(), anyhow::Error> {
-    println!(rt; "A witness, asked three times:")?;
+// Requests for the checkpoint of one entry, of three with a proof, and of others that don't begin with these three.
+fn requests(alloc: Global) -> Result<[String; 3], anyhow::Error> {
     let mut log = HashStore::new(alloc, Sha256Tree);
     log.append(b"a cat")?;
     let first = request(alloc, &log, 0, 1)?;
@@ -80,9 +65,24 @@ pub fn ask_a_witness(rt: &impl Print, alloc: Global) -> Result<(), anyhow::Error
     forked.append(b"a hen")?;
     forked.append(b"an owl")?;
     let third = request(alloc, &forked, 3, 4)?;
-    let mut book = open_book(alloc)?;
+    Ok([first, second, third])
+}
+
+/// Opens a book that trusts the log's key for the log, and asks it three times.
+pub fn ask_a_witness(rt: &impl Print, alloc: Global) -> Result<(), anyhow::Error> {
+    println!(rt; "A witness, asked three times:")?;
+    let verifier: Box<dyn Verifier> = Box::new(alloc, demo_key(alloc, LOG, b"the log's")?)?;
+    let mut verifiers = Vec::new(alloc);
+    verifiers.push(verifier)?;
+    let mut trusts = Vec::new(alloc);
+    trusts.push(Trust {
+        origin: String::from_str(alloc, LOG)?,
+        verifiers,
+        cosigner: Box::new(alloc, demo_key(alloc, "witness.example", b"the witness's")?)?,
+    })?;
+    let mut book = Book::open(alloc, alloc, Sha256Tree, trusts, Vec::new(alloc))?;
     let mut journal = Journal::new(alloc);
-    for body in [&first, &second, &third] {
+    for body in &requests(alloc)? {
         let reply = book.add(body.as_bytes(), TIME, &mut journal);
         println!(rt;
             "- status {}, links saved: {}",
