@@ -90,7 +90,7 @@ fn width_of(bytes: &[u8]) -> Option<u32>
 
 // An index and a width. The one text of the index that is read must stand at the front.
 fn piece_of(bytes: &[u8]) -> Option<(u64, u32)>
-    ensures { MatchOption result (HasNoPiece bytes.now) (λ place. IsPiece bytes.now place.0 place.1) }
+    ensures { MatchOption result (HasNoPiece bytes.now) (λ piece. IsPiece bytes.now piece.0 piece.1) }
 {
     let index = number_before_dot(bytes);
     if index >= 1 << 56 {
@@ -140,8 +140,8 @@ pub fn parse_path(text: &str) -> Option<Resource>
     if text == "checkpoint" {
         return Some(Resource::Checkpoint);
     }
-    if let Some(place) = after(bytes, b"tile/entries/") {
-        return match piece_of(place) {
+    if let Some(piece) = after(bytes, b"tile/entries/") {
+        return match piece_of(piece) {
             Some((index, width)) => Some(Resource::Entries { index, width }),
             None => None,
         };
@@ -186,7 +186,7 @@ fn push_groups<A: Allocator>(out: &mut String<A>, n: u64) -> Result<(), AllocErr
 }
 
 // Adds an index and the suffix of a width.
-fn push_place<A: Allocator>(out: &mut String<A>, index: u64, width: u32) -> Result<(), AllocError>
+fn push_piece<A: Allocator>(out: &mut String<A>, index: u64, width: u32) -> Result<(), AllocError>
     requires { width ≤ 256 }
     ensures { OnOk result (string_bytes out.new ≡ string_bytes out.old ++ piece_text index width) }
 {
@@ -211,13 +211,13 @@ pub fn path_of<A: Allocator>(alloc: A, resource: &Resource) -> Result<String<A>,
         Resource::Checkpoint => out.push_str("checkpoint")?,
         Resource::Entries { index, width } => {
             out.push_str("tile/entries/")?;
-            push_place(&mut out, *index, *width)?;
+            push_piece(&mut out, *index, *width)?;
         }
         Resource::Tile(tile) => {
             out.push_str("tile/")?;
             out.push((b'0' + tile.level as u8) as char)?;
             out.push_str("/")?;
-            push_place(&mut out, tile.index, tile.width)?;
+            push_piece(&mut out, tile.index, tile.width)?;
         }
     }
     Ok(out)

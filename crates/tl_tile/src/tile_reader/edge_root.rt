@@ -1,4 +1,4 @@
-//! The root that the partial tiles subtree_hash.
+//! The root that the partial tiles fold to.
 
 ghost use Rattle.std.specs.Prelude.{◌≡◌, ◌+◌, ◌*◌, ◌<◌, ◌≤◌, ◌^◌, ℕ, List, length, IfOk, MatchOption};
 ghost use Rattle.tl_tile.specs.TileText as spec;
@@ -49,7 +49,7 @@ fn join_last<T: TreeHash, A: Allocator + Copy>(
     }
 }
 
-// What the partial tiles up to this level subtree_hash, from what those below it subtree_hash.
+// What the partial tiles up to this level fold to, from what those below it fold to.
 fn add_level<T: TreeHash, A: Allocator + Copy>(
     h: T,
     fetched: &FetchedTiles<A>,
@@ -73,7 +73,7 @@ fn add_level<T: TreeHash, A: Allocator + Copy>(
     Ok(Some(hash))
 }
 
-// The root that the partial tiles subtree_hash of a log; none of no entries.
+// The root that the partial tiles of a log fold to; none of no entries.
 pub(crate) fn edge_root<T: TreeHash, A: Allocator + Copy>(
     h: T,
     fetched: &FetchedTiles<A>,

@@ -1,4 +1,4 @@
-//! The hashes that tiles subtree_hash.
+//! The hashes that the texts of tiles hold, and what they fold to.
 
 ghost use Rattle.std.specs.Prelude.{◌≡◌, ◌+◌, ◌*◌, ◌<◌, ◌≤◌, ℕ, List, length};
 ghost use Rattle.tl_tile.specs.Folds.{IsHashAt, IsPartHash};
@@ -16,7 +16,7 @@ pub(crate) fn hash_in(text: &[u8], number: usize) -> Hash
     Hash::from_bytes(bytes)
 }
 
-// The hash that so many hashes of a tile subtree_hash, from this one on.
+// What so many hashes of a tile fold to, from this one on.
 pub(crate) fn fold_part<T: TreeHash>(h: T, text: &[u8], start: usize, count: usize) -> Hash
     requires some { 0 < count }
     requires inside { 32 * (start + count) ≤ length text.now }
