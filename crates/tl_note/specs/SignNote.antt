@@ -1,7 +1,6 @@
 -- What signing a note answers (C2SP signed-note, "Format").
-use Rattle.std.specs.Prelude.{◌≡◌, ℕ, ◌<◌, ◌≤◌, ◌⊎◌, List, [], length, take, All, slice_get, Result, Ok, Err, Some, IsTrue, string_bytes}
+use Rattle.std.specs.Prelude.{◌≡◌, ℕ, ◌<◌, ◌≤◌, ◌⊎◌, List, [], length, take, All, slice_get, Result, Ok, Err, Some, IsTrue, string_bytes, String}
 use Rattle.std.specs.List.{AllZip}
-use Rattle.std.specs.Prelude.{String}
 use Rattle.tl_note.specs.declared.fault.NoteFault.{NoteFault}
 use Rattle.tl_note.specs.declared.fault.NoteFault.TheVariants.{Malformed, BadName, Ambiguous, InvalidSignature, Unverified, Sign, OutOfMemory}
 use Rattle.tl_note.specs.Key.{SigningKey, IsKeyName}

@@ -7,9 +7,8 @@ use Rattle.tl_hash.specs.Split.{IsSplit}
 use Rattle.tl_hash.specs.Tree.{tree_hash, inputs, leaf_input}
 use Rattle.tl_hash.proofs.TreeLemmas.{split_induction, length_first, length_rest}
 use Rattle.tl_hash.specs.Collision.{Collides}
-use Rattle.tl_proof.specs.Acceptance.{AcceptsConsistency}
+use Rattle.tl_proof.specs.Acceptance.{AcceptsConsistency, Step, Linked, EndsWith}
 use Rattle.tl_proof.specs.Collisions.{fold_inputs, step_inputs, audit_inputs}
-use Rattle.tl_proof.specs.Acceptance.{Step, Linked, EndsWith}
 use Rattle.tl_proof.specs.Inner.Forks.{input_of, SameOrForks, entry_at, DifferAt, LinksFork, ForksAt, ShowsFork, IsListsWalk}
 use Rattle.tl_proof.specs.Audit.{AreAccepted, Audits}
 use Rattle.tl_proof.specs.declared.audit.fork.Fork.{Fork}

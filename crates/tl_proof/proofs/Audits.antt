@@ -6,9 +6,8 @@ use Rattle.std.proofs.lemmas.List.{take_all, take-take, length-take-le, get_or-r
 use Rattle.std.proofs.lemmas.List.Elements.{All-from_get_or, All-get_or, All-head, All-tail, recursion_from_All, Contains-append_left, Contains-append_right}
 use Rattle.tl_hash.specs.Tree.{tree_hash, inputs}
 use Rattle.tl_hash.proofs.TreeLemmas.{tree_hash-none, length-tree_hash}
-use Rattle.tl_proof.specs.Acceptance.{AcceptsConsistency}
+use Rattle.tl_proof.specs.Acceptance.{AcceptsConsistency, Step, Linked, EndsWith}
 use Rattle.tl_proof.specs.Collisions.{IsPrefix, fold_inputs, fold_inputs_from, step_inputs, audit_inputs}
-use Rattle.tl_proof.specs.Acceptance.{Step, Linked, EndsWith}
 use Rattle.tl_proof.specs.Laws.{HasHashLength, MadeOfHashes, LinksExtendOrCollide}
 use Rattle.tl_hash.proofs.SameSize.{Collision, Collision-among, same_or_collide}
 use Rattle.tl_proof.proofs.Folds.{roots_meet}

@@ -3,9 +3,8 @@ use Rattle.std.proofs.Common.{◌≡◌, ℕ, ◌+◌, ◌-◌, ◌<◌, ◌≤�
 use Rattle.std.proofs.lemmas.List.{take_all, take-take, take_more, drop_more, take-append-drop, drop_all, length-map, length-take-le, take-map, get_or-map}
 use Rattle.std.proofs.lemmas.List.Elements.{Contains-append_left, Contains-append_right}
 use Rattle.tl_hash.specs.Tree.{tree_hash, inputs}
-use Rattle.tl_proof.specs.Acceptance.{AcceptsConsistency}
+use Rattle.tl_proof.specs.Acceptance.{AcceptsConsistency, Step, Linked, EndsWith}
 use Rattle.tl_proof.specs.Collisions.{fold_inputs, step_inputs}
-use Rattle.tl_proof.specs.Acceptance.{Step, Linked, EndsWith}
 use Rattle.tl_proof.specs.Inner.Forks.{SameOrForks, end_size, end_root}
 use Rattle.tl_proof.specs.declared.audit.fork.Fork.{Fork}
 use Rattle.tl_proof.proofs.Audits.{AcceptsConsistency-ordered}

@@ -3,9 +3,8 @@ use Rattle.std.specs.Prelude.{◌≡◌, ℕ, ◌<◌, ◌≤◌, ◌⊎◌, Lis
 use Rattle.tl_hash.specs.Tree.{leaf_input, tree_hash, inputs}
 use Rattle.tl_hash.specs.Collision.{Collides}
 use Rattle.tl_proof.specs.Proofs.{inclusion_proof, consistency_proof}
-use Rattle.tl_proof.specs.Acceptance.{AcceptsInclusion, AcceptsConsistency}
+use Rattle.tl_proof.specs.Acceptance.{AcceptsInclusion, AcceptsConsistency, Step, Linked, EndsWith}
 use Rattle.tl_proof.specs.Collisions.{IsPrefix, Exhibits, path_inputs, audit_inputs}
-use Rattle.tl_proof.specs.Acceptance.{Step, Linked, EndsWith}
 
 -- the inclusion proof of each entry is accepted
 abbrev pub InclusionIsAccepted : Type 0

@@ -9,8 +9,7 @@ use Rattle.std.proofs.Math.Seq.{map-set_same}
 use Rattle.tl_sequencer.specs.Merge.{IsMergeBy, IsMerge}
 use Rattle.tl_sequencer.specs.Log.{Ring, Lane, Log, End, IsShort, entries_of, given_of, given_at, end_at}
 use Rattle.tl_sequencer.specs.Rings.{log_of}
-use Rattle.tl_sequencer.specs.Inner.Lanes.{Gives, Ends}
-use Rattle.tl_sequencer.specs.Inner.Lanes.{LaneRefuses}
+use Rattle.tl_sequencer.specs.Inner.Lanes.{Gives, Ends, LaneRefuses}
 use Rattle.tl_sequencer.specs.Steps.{IsLog, IsComplete, IsFirstOpen, sent_of, Takes, Closes}
 use Rattle.tl_sequencer.specs.Faults.{RestFits, EndRefuses}
 use Rattle.tl_sequencer.specs.declared.fault.TakeFault.{TakeFault}

@@ -3,8 +3,7 @@ ghost use Rattle.std.specs.Prelude.{◌≡◌, ◌+◌, ◌≤◌, ◌<◌, ◌+
 ghost use Rattle.std.specs.List.{range_with_len};
 ghost use Rattle.rtrb.specs.Ring.{known_items, received};
 ghost use Rattle.tl_sequencer.specs.Rings.{ring_of, Pours};
-ghost use Rattle.tl_sequencer.specs.Inner.Lanes.{Gives, Ends};
-ghost use Rattle.tl_sequencer.specs.Inner.Lanes.{LaneRefuses};
+ghost use Rattle.tl_sequencer.specs.Inner.Lanes.{Gives, Ends, LaneRefuses};
 
 use crate::ended::Ended;
 use crate::fault::TakeFault;

@@ -5,11 +5,10 @@ use Rattle.std.proofs.Math.Nat.{pow-succ', div-mul-le_self}
 use Rattle.std.proofs.lemmas.Nat.{pow-add, le-div}
 use Rattle.std.proofs.lemmas.Bool.{cases_lt, cases_order}
 use Rattle.tl_hash.specs.Tree.{tree_hash, inputs}
-use Rattle.tl_tile.proofs.Segments.{HasHashLength}
+use Rattle.tl_tile.proofs.Segments.{HasHashLength, segment, power_of_256, scaled_le, segment-all}
 use Rattle.tl_hash.proofs.SameSize.{Collision}
 use Rattle.tl_tile.specs.TileText.{level_count, entries_under, partial_tile}
 use Rattle.tl_tile.specs.Folds.{Tiles, IsHashAt, IsOnEdge, IsEdgeHash, IsEdgeRoot, IsFolded, TilesCollide}
-use Rattle.tl_tile.proofs.Segments.{segment, power_of_256, scaled_le, segment-all}
 pub use Rattle.tl_tile.proofs.Levels.{positive_256}
 use Rattle.tl_tile.proofs.Walks.{IsTarget, walk}
 

@@ -6,12 +6,11 @@ use Rattle.std.proofs.lemmas.Bool.{cases_lt}
 use Rattle.std.proofs.lemmas.List.{take_at, drop_at, drop-drop, length-drop}
 use Rattle.tl_hash.specs.Tree.{tree_hash}
 use Rattle.tl_hash.proofs.TreeLemmas.{length-tree_hash}
-use Rattle.tl_tile.proofs.Segments.{HasHashLength}
+use Rattle.tl_tile.proofs.Segments.{HasHashLength, segment, segment-all, power_of_256}
 use Rattle.tl_tile.specs.declared.resource.Tile.{Tile}
 use Rattle.tl_tile.specs.TileText.{level_count, entries_under, tile_text, full_tile, partial_tile, tile_with}
 use Rattle.tl_tile.specs.Folds.{Tiles, IsHashAt, IsEdgeHash, IsOwnHash, IsTileHash}
 use Rattle.tl_tile.specs.TileLaws.{AreHonest, HonestTilesFoldToRoot, HonestTilesFoldToAbove, FoldedHashesAreOne}
-use Rattle.tl_tile.proofs.Segments.{segment, segment-all, power_of_256}
 use Rattle.tl_tile.proofs.Walks.{fold_of_right, IsFold-unique}
 use Rattle.tl_tile.proofs.Edges.{IsHashAt-one, edge_target, under_within}
 use Rattle.tl_tile.proofs.Checked.{tile_with-full, tile_with-partial, under_tile, under_place}

@@ -11,10 +11,9 @@ use Rattle.tl_store.specs.declared.reader.ReadFault.TheVariants.{OutOfRange, Sou
 use Rattle.tl_tile.specs.declared.resource.Tile.{Tile}
 use Rattle.tl_tile.specs.TileText.{entries_under, tile_text}
 use Rattle.tl_tile.specs.Fetched.{same_tile, tiles_of}
-use Rattle.tl_tile.specs.Source.{AreAnswers}
+use Rattle.tl_tile.specs.Source.{AreAnswers, IsTileOf, Answers}
 use Rattle.tl_tile.specs.TileLaws.{AreHonest}
 use Rattle.tl_tile.specs.SourceFaults.{IsBadTile, HonestSourceIsRead}
-use Rattle.tl_tile.specs.Source.{IsTileOf, Answers}
 use Rattle.tl_tile.proofs.Edges.{Some-injective}
 use Rattle.tl_tile.proofs.Push.{same_tile-is}
 use Rattle.tl_tile.proofs.Honest.{honest_tiles_fold_to_root, text_folds_to_above}

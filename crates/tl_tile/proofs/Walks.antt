@@ -8,11 +8,10 @@ use Rattle.tl_hash.specs.Split.{IsSplit}
 use Rattle.tl_hash.specs.Tree.{tree_hash, inputs, node_input}
 use Rattle.tl_hash.proofs.SplitLemmas.{IsSplit-unique}
 use Rattle.tl_hash.proofs.TreeLemmas.{tree_hash-split, tree_hash-none, length-tree_hash}
-use Rattle.tl_tile.proofs.Segments.{HasHashLength}
+use Rattle.tl_tile.proofs.Segments.{HasHashLength, segment, length-segment, segment-first, segment-rest, IsSplit-scaled, power_divides, power_in_split, positive_power, scaled_le}
 use Rattle.tl_hash.proofs.Bytes.{cases_bytes, node_input-injective}
 use Rattle.tl_hash.proofs.SameSize.{Collision, Collision-among, Contains-head, Contains-tail, inputs-root, inputs-first, inputs-rest}
 use Rattle.tl_tile.specs.Folds.{IsFold, nothing, given, split}
-use Rattle.tl_tile.proofs.Segments.{segment, length-segment, segment-first, segment-rest, IsSplit-scaled, power_divides, power_in_split, positive_power, scaled_le}
 
 -- every hash that a fold comes to is a hash, where those given are
 pub IsFold-hash : (H : List ℕ → List ℕ) (IsGiven : ℕ → ℕ → List ℕ → Type 0) → ((message : List ℕ) → HasHashLength (H message))

@@ -1,8 +1,7 @@
 -- An origin's chain: what the witness has cosigned for it, in order (C2SP tlog-witness, "add-checkpoint"). H is the
 -- digest function.
 use Rattle.std.specs.Prelude.{ℕ, List, [], ◌∷◌, All}
-use Rattle.tl_proof.specs.Acceptance.{AcceptsConsistency}
-use Rattle.tl_proof.specs.Acceptance.{Step, Linked}
+use Rattle.tl_proof.specs.Acceptance.{AcceptsConsistency, Step, Linked}
 use Rattle.tl_proof.specs.Laws.{MadeOfHashes}
 
 -- a tree head: a size and a root hash

@@ -4,8 +4,7 @@ use Rattle.tl_text.specs.Text.{line, number_text}
 use Rattle.tl_note.specs.Note.{Signature}
 use Rattle.tl_note.specs.Open.{Opened}
 use Rattle.tl_checkpoint.specs.Cosignature.{Cosigns, MayFailToCosign}
-use Rattle.tl_proof.specs.Acceptance.{AcceptsConsistency}
-use Rattle.tl_proof.specs.Acceptance.{Step}
+use Rattle.tl_proof.specs.Acceptance.{AcceptsConsistency, Step}
 use Rattle.tl_witness.specs.Cases.{Unless}
 use Rattle.tl_witness.specs.Chain.{TreeHead, first_head, last_head}
 use Rattle.tl_witness.specs.Saver.{Saved, Keeps, Fails}

@@ -3,9 +3,8 @@
 use Rattle.std.specs.Prelude.{◌≡◌, ◌≢◌, ℕ, ◌<◌, Bool, List, [], ◌∷◌, length, take, Option, Some, None, Result, Ok, Err, slice_index_or}
 use Rattle.tl_hash.specs.Tree.{tree_hash, inputs, leaf_input, node_input}
 use Rattle.tl_hash.specs.Collision.{Collides}
-use Rattle.tl_proof.specs.Acceptance.{roots_from}
+use Rattle.tl_proof.specs.Acceptance.{roots_from, Step}
 use Rattle.tl_proof.specs.Collisions.{Exhibits, fold_inputs_from, step_inputs, audit_inputs}
-use Rattle.tl_proof.specs.Acceptance.{Step}
 use Rattle.tl_proof.specs.declared.audit.fork.Children.{Children}
 use Rattle.tl_proof.specs.declared.audit.fork.Fork.{Fork}
 use Rattle.tl_proof.specs.declared.audit.fork.CheckWalk.{CheckWalk}

@@ -1,10 +1,9 @@
 use Rattle.std.proofs.Common.{◌+◌, ◌/◌, arith}
-use Rattle.std.proofs.lemmas.Result.{on_ok_weaker}
+use Rattle.std.proofs.lemmas.Result.{on_ok_weaker, err_from_is_err_and}
 use Rattle.tl_tile.specs.Fetched.{tiles_of}
 use Rattle.tl_tile.specs.Fetching.{IsOver}
 use Rattle.tl_tile.proofs.Push.{there-false, full-there}
 use Rattle.tl_tile.proofs.Orders.{adds-up, adds-more, none-later, over-up, fault-weaker}
-use Rattle.std.proofs.lemmas.Result.{err_from_is_err_and}
 use Rattle.tl_tile.proofs.tile_reader.checker.Checker.+fetch_with.Goals as goal
 
 pub returns-in_err-fetch_with-clause-adds : goal.returns-in_err-fetch_with-clause-adds
