@@ -1,5 +1,6 @@
 -- The command `build`.
 use Rattle.std.specs.Prelude.{◌≡◌, ◌≢◌, ℕ, List, length, Contains, None, Some, Option, Result, Err}
+use Rattle.tl_hash.specs.Bytes.{Bytes}
 use Rattle.tl_note.specs.Key.{IsKeyName}
 use Rattle.tl_tile.specs.declared.resource.Resource.{Resource}
 use Rattle.tl_tile.specs.Path.{IsResource, path_text}
@@ -11,7 +12,7 @@ use Rattle.tl_command.specs.declared.fault.RunFault.TheVariants.{BadOrigin, BadP
 use Rattle.tl_build.specs.Mirror.{checkpoint_note, mirrored, resource_text, listing_text}
 
 -- a resource of the log of these entries has this path, and this is its text
-pub record IsTextAt (note : List ℕ) (entries : List (List ℕ)) (path text : List ℕ) : Type 0 where
+pub record IsTextAt (note : Bytes) (entries : List Bytes) (path text : Bytes) : Type 0 where
   pub found : Resource
   pub served : Contains (mirrored (length entries)) found
   pub named : path_text found ≡ path
@@ -19,17 +20,17 @@ pub record IsTextAt (note : List ℕ) (entries : List (List ℕ)) (path text : L
 
 -- what is printed of the log of these entries: the listing of its resources, or the one with the path that was asked
 -- for
-abbrev pub IsPrinted : List ℕ → List (List ℕ) → Option (List ℕ) → List ℕ → Type 0
+abbrev pub IsPrinted : Bytes → List Bytes → Option Bytes → Bytes → Type 0
 IsPrinted note entries None text = text ≡ listing_text note entries (mirrored (length entries))
 IsPrinted note entries (Some path) text = IsTextAt note entries path text
 
 -- the log of so many entries has no resource with the path that was asked for
-abbrev pub IsMissing : ℕ → Option (List ℕ) → Type 0
+abbrev pub IsMissing : ℕ → Option Bytes → Type 0
 IsMissing size None = ⊥
 IsMissing size (Some path) = (r : Resource) → Contains (mirrored size) r → path_text r ≢ path
 
 -- what comes of an input: what is printed of the log of its lines, no such resource, or a line that is too long
-abbrev pub BuildComes : List ℕ → List ℕ → Option (List ℕ) → List ℕ → Outcome → Type 0
+abbrev pub BuildComes : Bytes → Bytes → Option Bytes → Bytes → Outcome → Type 0
 BuildComes origin secret get input (Prints text) =
     (first_too_long (entries_of input) ≡ None) × IsPrinted (checkpoint_note origin secret (entries_of input)) (entries_of input) get text
 BuildComes origin secret get input (PrintsRefusal text) = ⊥
@@ -37,13 +38,13 @@ BuildComes origin secret get input (Fails NotThere) = (first_too_long (entries_o
 BuildComes origin secret get input (Fails fault) = IsEntryFault (entries_of input) fault
 
 -- the path that was asked for is that of a resource of some log
-abbrev pub IsLawfulPath : Option (List ℕ) → Type 0
+abbrev pub IsLawfulPath : Option Bytes → Type 0
 IsLawfulPath None = Unit {0}
 IsLawfulPath (Some path) = (r : Resource) × IsResource r × (path_text r ≡ path)
 
 -- a run: an origin that is no key's name, and then a path that no resource can have, are refused before anything is
 -- read
-abbrev pub RunsBuild : List ℕ → List ℕ → Option (List ℕ) → Passage → Passage → Result (Unit {0}) RunFault → Type 0
+abbrev pub RunsBuild : Bytes → Bytes → Option Bytes → Passage → Passage → Result (Unit {0}) RunFault → Type 0
 RunsBuild origin secret get i o (Err BadOrigin) = ¬ (IsKeyName origin) × IsUnread i × IsUnwritten o
 RunsBuild origin secret get i o (Err BadPath) = IsKeyName origin × ¬ (IsLawfulPath get) × IsUnread i × IsUnwritten o
 RunsBuild origin secret get i o result = IsKeyName origin × IsLawfulPath get × Runs (BuildComes origin secret get) i o result

@@ -2,6 +2,7 @@
 use Rattle.std.specs.Prelude.{ℕ, ◌*◌, List, [], ◌∷◌, ◌++◌, length, take, drop}
 use Rattle.std.specs.List.{flat_map}
 use Rattle.sha2.specs.Sha256.{sha256}
+use Rattle.tl_hash.specs.Bytes.{Bytes}
 use Rattle.tl_text.specs.Text.{line, number_text}
 use Rattle.tl_note.specs.Note.{Signature, note_bytes}
 use Rattle.tl_tile.specs.declared.resource.Resource.{Resource}
@@ -15,12 +16,12 @@ use Rattle.tl_key.specs.DemoKey.{demo_id}
 use Rattle.tl_command.specs.Head.{head_text}
 
 -- the one signature of a message by the demonstration key of this name and secret
-abbrev pub demo_signature : List ℕ → List ℕ → List ℕ → Signature
+abbrev pub demo_signature : Bytes → Bytes → Bytes → Signature
 demo_signature name secret message = record { name = name; id = demo_id name secret; bytes = hmac secret message }
 
 -- the checkpoint of the log of these entries as a note (C2SP tlog-checkpoint, signed-note), signed by the
 -- demonstration key of its origin
-abbrev pub checkpoint_note : List ℕ → List ℕ → List (List ℕ) → List ℕ
+abbrev pub checkpoint_note : Bytes → Bytes → List Bytes → Bytes
 checkpoint_note origin secret entries =
     note_bytes (head_text origin entries) (demo_signature origin secret (head_text origin entries) ∷ [])
 
@@ -29,15 +30,15 @@ abbrev pub mirrored : ℕ → List Resource
 mirrored size = needed_resources size ++ resource.Checkpoint ∷ []
 
 -- the bytes of a resource over the entries, where this is the checkpoint's note
-abbrev pub resource_text : List ℕ → List (List ℕ) → Resource → List ℕ
+abbrev pub resource_text : Bytes → List Bytes → Resource → Bytes
 resource_text note entries (resource.Tile t) = tile_text sha256 t entries
 resource_text note entries (resource.Entries index width) = bundle_text (take width (drop (index * 256) entries))
 resource_text note entries resource.Checkpoint = note
 
 -- the path of a resource and the number of its bytes, a space between
-abbrev pub listing_line : List ℕ → List (List ℕ) → Resource → List ℕ
+abbrev pub listing_line : Bytes → List Bytes → Resource → Bytes
 listing_line note entries r = line (path_text r ++ 32 ∷ number_text (length (resource_text note entries r)))
 
 -- a line for each resource
-abbrev pub listing_text : List ℕ → List (List ℕ) → List Resource → List ℕ
+abbrev pub listing_text : Bytes → List Bytes → List Resource → Bytes
 listing_text note entries resources = flat_map (listing_line note entries) resources

@@ -1,7 +1,8 @@
 //! The checkpoint of a log as a note, signed by the demonstration key of its origin.
 
-ghost use Rattle.std.specs.Prelude.{◌≡◌, ℕ, List, ◌<◌, ◌^◌, ◌∷◌, [], map, vec_items, string_bytes, IfOk, IfErr};
+ghost use Rattle.std.specs.Prelude.{◌≡◌, List, ◌<◌, ◌^◌, ◌∷◌, [], map, vec_items, string_bytes, IfOk, IfErr};
 ghost use Rattle.sha2.specs.Sha256.{sha256};
+ghost use Rattle.tl_hash.specs.Bytes.{Bytes};
 ghost use Rattle.tl_note.specs.Key.{IsKeyName};
 ghost use Rattle.tl_note.specs.Note.{IsNoteText, note_bytes};
 ghost use Rattle.tl_store.specs.Store.{StandsFor};
@@ -80,7 +81,7 @@ pub(crate) fn checkpoint_note_of<A: Allocator + Copy>(
 ) -> Result<String<A>, RunFault>
     requires origin { IsKeyName origin.now }
     requires few { store.now.size < 2 ^ 32 }
-    ensures note { (entries : List (List ℕ)) → StandsFor store.now sha256 entries
+    ensures note { (entries : List Bytes) → StandsFor store.now sha256 entries
         → IfOk result (λ note. string_bytes note ≡ checkpoint_note origin.now secret.now entries) }
     ensures fault { IfErr result (λ fault. fault ≡ RunFault.OutOfMemory) }
 {

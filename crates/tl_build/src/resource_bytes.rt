@@ -1,7 +1,8 @@
 //! The bytes of each resource of a log.
 
-ghost use Rattle.std.specs.Prelude.{◌≡◌, ◌+◌, ◌*◌, ◌<◌, ◌≤◌, ◌^◌, ℕ, List, length, take, drop, map, vec_items, Contains, IfOk, IfErr};
+ghost use Rattle.std.specs.Prelude.{◌≡◌, ◌+◌, ◌*◌, ◌<◌, ◌≤◌, ◌^◌, List, length, take, drop, map, vec_items, Contains, IfOk, IfErr};
 ghost use Rattle.sha2.specs.Sha256.{sha256};
+ghost use Rattle.tl_hash.specs.Bytes.{Bytes};
 ghost use Rattle.tl_store.specs.Store.{StandsFor};
 ghost use Rattle.tl_tile.specs.Bundle.{bundle_text, AreShortEntries};
 ghost use Rattle.tl_tile.specs.Path.{IsTile};
@@ -24,7 +25,7 @@ pub(crate) fn tile_of<A: Allocator + Copy>(
     requires lawful { IsTile tile }
     requires within { end_of tile ≤ store.now.size }
     requires small { store.now.size ≤ 2 ^ 62 }
-    ensures text { (entries : List (List ℕ)) → StandsFor store.now sha256 entries
+    ensures text { (entries : List Bytes) → StandsFor store.now sha256 entries
         → IfOk result (λ bytes. bytes.items ≡ tile_text sha256 tile entries) }
     ensures fault { IfErr result (λ fault. fault ≡ RunFault.OutOfMemory) }
 {

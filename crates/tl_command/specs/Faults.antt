@@ -1,11 +1,12 @@
 -- What a fault of a command prints, and its exit status.
-use Rattle.std.specs.Prelude.{ℕ, List, ◌++◌, codes, Option, Some, None}
+use Rattle.std.specs.Prelude.{ℕ, ◌++◌, codes, Option, Some, None}
+use Rattle.tl_hash.specs.Bytes.{Bytes}
 use Rattle.tl_text.specs.Text.{number_text}
 use Rattle.tl_command.specs.declared.fault.RunFault.{RunFault}
 use Rattle.tl_command.specs.declared.fault.RunFault.TheVariants.{Refused, Read, Write, TooLarge, EntryTooLong, BadOrigin, BadIndex, BadOld, BadPath, NotThere, Malformed, Chain, Sign, Operator, Listen, Accept, OutOfMemory}
 
 -- the line on standard error, without its newline; a refusal has none, since its answer is on standard output
-abbrev pub fault_text : RunFault → Option (List ℕ)
+abbrev pub fault_text : RunFault → Option Bytes
 fault_text Refused = None
 fault_text Read = Some (codes "tlog: read failed")
 fault_text Write = Some (codes "tlog: write failed")

@@ -1,6 +1,7 @@
 -- The command `head`: the checkpoint of the log whose entries are the lines of the input.
-use Rattle.std.specs.Prelude.{◌≡◌, ℕ, List, [], length, None, Result, Err}
+use Rattle.std.specs.Prelude.{◌≡◌, List, [], length, None, Result, Err}
 use Rattle.sha2.specs.Sha256.{sha256}
+use Rattle.tl_hash.specs.Bytes.{Bytes}
 use Rattle.tl_hash.specs.Tree.{tree_hash}
 use Rattle.tl_checkpoint.specs.Checkpoint.{checkpoint_text}
 use Rattle.tl_text.specs.Text.{IsOneLine}
@@ -11,17 +12,17 @@ use Rattle.tl_command.specs.declared.fault.RunFault.{RunFault}
 use Rattle.tl_command.specs.declared.fault.RunFault.TheVariants.{BadOrigin}
 
 -- the text of the checkpoint of the log of these entries (C2SP tlog-checkpoint), without extensions
-abbrev pub head_text : List ℕ → List (List ℕ) → List ℕ
+abbrev pub head_text : Bytes → List Bytes → Bytes
 head_text origin entries =
     checkpoint_text (record { origin = origin; size = length entries; root = tree_hash sha256 entries; extensions = [] })
 
 -- what comes of an input: the checkpoint of the log of its lines, or the first of them that is too long
-abbrev pub HeadComes : List ℕ → List ℕ → Outcome → Type 0
+abbrev pub HeadComes : Bytes → Bytes → Outcome → Type 0
 HeadComes origin input (Prints text) = (first_too_long (entries_of input) ≡ None) × (text ≡ head_text origin (entries_of input))
 HeadComes origin input (PrintsRefusal text) = ⊥
 HeadComes origin input (Fails fault) = IsEntryFault (entries_of input) fault
 
 -- a run: an origin that isn't one line is refused before anything is read
-abbrev pub RunsHead : List ℕ → Passage → Passage → Result (Unit {0}) RunFault → Type 0
+abbrev pub RunsHead : Bytes → Passage → Passage → Result (Unit {0}) RunFault → Type 0
 RunsHead origin i o (Err BadOrigin) = ¬ (IsOneLine origin) × IsUnread i × IsUnwritten o
 RunsHead origin i o result = IsOneLine origin × Runs (HeadComes origin) i o result

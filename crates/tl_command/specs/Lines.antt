@@ -1,31 +1,32 @@
 -- The entries of an input: its lines.
 use Rattle.std.specs.Prelude.{◌≢◌, ℕ, ◌==◌, nat_lt, List, [], ◌∷◌, length, position, All, Bool, Option}
 use Rattle.std.specs.List.{flat_map, slice_split}
+use Rattle.tl_hash.specs.Bytes.{Bytes}
 use Rattle.tl_text.specs.Text.{line}
 
 -- pieces without a last one that is empty
-abbrev pub without_empty_last : List (List ℕ) → List (List ℕ)
+abbrev pub without_empty_last : List Bytes → List Bytes
 without_empty_last [] = []
 without_empty_last ([] ∷ []) = []
 without_empty_last ((byte ∷ piece) ∷ []) = (byte ∷ piece) ∷ []
 without_empty_last (piece ∷ next ∷ more) = piece ∷ without_empty_last (next ∷ more)
 
 -- the entry has more than 65,535 bytes, the most that an entry bundle can hold (C2SP tlog-tiles, "Log entries")
-abbrev pub is_too_long : List ℕ → Bool
+abbrev pub is_too_long : Bytes → Bool
 is_too_long entry = nat_lt 65535 (length entry)
 
 -- the input is cut at each newline; what follows the last one is an entry if it isn't empty
-unfoldable pub entries_of : List ℕ → List (List ℕ)
+unfoldable pub entries_of : Bytes → List Bytes
 entries_of input = without_empty_last (slice_split (λ byte. byte == 10) input)
 
 -- the place of the first entry that is too long
-abbrev pub first_too_long : List (List ℕ) → Option ℕ
+abbrev pub first_too_long : List Bytes → Option ℕ
 first_too_long entries = position is_too_long entries
 
 -- a line's text has no newline
-abbrev pub HasNoNewline : List ℕ → Type 0
+abbrev pub HasNoNewline : Bytes → Type 0
 HasNoNewline text = All (λ byte. byte ≢ 10) text
 
 -- lines, each ended by its newline
-abbrev pub lines_text : List (List ℕ) → List ℕ
+abbrev pub lines_text : List Bytes → Bytes
 lines_text lines = flat_map line lines

@@ -1,6 +1,7 @@
 -- The commands `inclusion`, `consistency` and `check`.
 use Rattle.std.specs.Prelude.{◌≡◌, ◌≢◌, ℕ, ◌<◌, ◌≤◌, List, [], length, take, slice_index_or, codes, None}
 use Rattle.sha2.specs.Sha256.{sha256}
+use Rattle.tl_hash.specs.Bytes.{Bytes}
 use Rattle.tl_hash.specs.Tree.{leaf_input, tree_hash}
 use Rattle.tl_text.specs.Text.{line}
 use Rattle.tl_proof.specs.Proofs.{inclusion_proof, consistency_proof}
@@ -10,7 +11,7 @@ use Rattle.tl_command.specs.Run.{Outcome, Prints, PrintsRefusal, Fails, IsEntryF
 use Rattle.tl_command.specs.declared.fault.RunFault.TheVariants.{BadIndex, BadOld, Malformed}
 
 -- the inclusion proof of the entry at this index (RFC 6962, section 2.1.1)
-abbrev pub inclusion_of : ℕ → List (List ℕ) → Inclusion
+abbrev pub inclusion_of : ℕ → List Bytes → Inclusion
 inclusion_of index entries = record {
   index = index;
   size = length entries;
@@ -20,7 +21,7 @@ inclusion_of index entries = record {
 }
 
 -- the consistency proof for the first `old` entries (RFC 6962, section 2.1.2)
-abbrev pub consistency_of : ℕ → List (List ℕ) → Consistency
+abbrev pub consistency_of : ℕ → List Bytes → Consistency
 consistency_of old entries = record {
   old = old;
   old_root = tree_hash sha256 (take old entries);
@@ -30,7 +31,7 @@ consistency_of old entries = record {
 }
 
 -- what comes of an input to `inclusion`: the proof over its lines, a line that is too long, or no entry at the index
-abbrev pub InclusionComes : ℕ → List ℕ → Outcome → Type 0
+abbrev pub InclusionComes : ℕ → Bytes → Outcome → Type 0
 InclusionComes index input (Prints text) =
     (first_too_long (entries_of input) ≡ None) × (index < length (entries_of input)) × (text ≡ inclusion_text (inclusion_of index (entries_of input)))
 InclusionComes index input (PrintsRefusal text) = ⊥
@@ -39,7 +40,7 @@ InclusionComes index input (Fails fault) = IsEntryFault (entries_of input) fault
 
 -- what comes of an input to `consistency`: the proof over its lines, a line that is too long, or fewer lines than the
 -- old size
-abbrev pub ConsistencyComes : ℕ → List ℕ → Outcome → Type 0
+abbrev pub ConsistencyComes : ℕ → Bytes → Outcome → Type 0
 ConsistencyComes old input (Prints text) =
     (first_too_long (entries_of input) ≡ None) × (old ≤ length (entries_of input)) × (text ≡ consistency_text (consistency_of old (entries_of input)))
 ConsistencyComes old input (PrintsRefusal text) = ⊥
@@ -47,14 +48,14 @@ ConsistencyComes old input (Fails BadOld) = (first_too_long (entries_of input) �
 ConsistencyComes old input (Fails fault) = IsEntryFault (entries_of input) fault
 
 -- the input is the text of a proof of which this holds
-pub record IsTextOf (Fact : Proof → Type 0) (input : List ℕ) : Type 0 where
+pub record IsTextOf (Fact : Proof → Type 0) (input : Bytes) : Type 0 where
   pub proof : Proof
   pub lawful : IsProof proof
   pub spelled : input ≡ proof_text proof
   pub fact : Fact proof
 
 -- what comes of an input to `check`: a proof's text is accepted or refused, and another input is malformed
-abbrev pub CheckComes : List ℕ → Outcome → Type 0
+abbrev pub CheckComes : Bytes → Outcome → Type 0
 CheckComes input (Prints text) = IsTextOf (Accepts sha256) input × (text ≡ line (codes "accepted"))
 CheckComes input (PrintsRefusal text) = IsTextOf (λ p. ¬ (Accepts sha256 p)) input × (text ≡ line (codes "refused"))
 CheckComes input (Fails Malformed) = (p : Proof) → IsProof p → input ≢ proof_text p

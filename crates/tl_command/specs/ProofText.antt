@@ -1,6 +1,6 @@
 -- Texts of inclusion and consistency proofs (formats of this project).
 use Rattle.std.specs.Prelude.{ℕ, List, ◌∷◌, ◌++◌, All, map, codes}
-use Rattle.tl_hash.specs.Bytes.{IsHash}
+use Rattle.tl_hash.specs.Bytes.{Bytes, Digest, IsHash}
 use Rattle.tl_text.specs.Text.{number_text, base64_text, IsSize}
 use Rattle.tl_proof.specs.Acceptance.{AcceptsInclusion, AcceptsConsistency}
 use Rattle.tl_command.specs.Lines.{lines_text}
@@ -9,17 +9,17 @@ use Rattle.tl_command.specs.Lines.{lines_text}
 pub record Inclusion : Type 0 where
   pub index : ℕ
   pub size : ℕ
-  pub leaf : List ℕ
-  pub root : List ℕ
-  pub proof : List (List ℕ)
+  pub leaf : Bytes
+  pub root : Bytes
+  pub proof : List Bytes
 
 -- a consistency proof (RFC 6962, section 2.1.2), and the two trees that it is about
 pub record Consistency : Type 0 where
   pub old : ℕ
-  pub old_root : List ℕ
+  pub old_root : Bytes
   pub size : ℕ
-  pub root : List ℕ
-  pub proof : List (List ℕ)
+  pub root : Bytes
+  pub proof : List Bytes
 
 -- what has a text: numbers below 2^63, and hashes
 pub record IsInclusion (p : Inclusion) : Type 0 where
@@ -37,19 +37,19 @@ pub record IsConsistency (p : Consistency) : Type 0 where
   pub proof : All IsHash p.proof
 
 -- the lines of an inclusion proof's text
-abbrev pub inclusion_lines : Inclusion → List (List ℕ)
+abbrev pub inclusion_lines : Inclusion → List Bytes
 inclusion_lines p = codes "inclusion" ∷ (codes "index " ++ number_text p.index) ∷ (codes "size " ++ number_text p.size)
     ∷ (codes "leaf " ++ base64_text p.leaf) ∷ (codes "root " ++ base64_text p.root) ∷ map base64_text p.proof
 
 -- the lines of a consistency proof's text
-abbrev pub consistency_lines : Consistency → List (List ℕ)
+abbrev pub consistency_lines : Consistency → List Bytes
 consistency_lines p = codes "consistency" ∷ (codes "old " ++ number_text p.old) ∷ (codes "oldroot " ++ base64_text p.old_root)
     ∷ (codes "size " ++ number_text p.size) ∷ (codes "root " ++ base64_text p.root) ∷ map base64_text p.proof
 
-abbrev pub inclusion_text : Inclusion → List ℕ
+abbrev pub inclusion_text : Inclusion → Bytes
 inclusion_text p = lines_text (inclusion_lines p)
 
-abbrev pub consistency_text : Consistency → List ℕ
+abbrev pub consistency_text : Consistency → Bytes
 consistency_text p = lines_text (consistency_lines p)
 
 -- a proof of either kind
@@ -61,14 +61,14 @@ abbrev pub IsProof : Proof → Type 0
 IsProof (Included p) = IsInclusion p
 IsProof (Consistent p) = IsConsistency p
 
-abbrev pub proof_lines : Proof → List (List ℕ)
+abbrev pub proof_lines : Proof → List Bytes
 proof_lines (Included p) = inclusion_lines p
 proof_lines (Consistent p) = consistency_lines p
 
-abbrev pub proof_text : Proof → List ℕ
+abbrev pub proof_text : Proof → Bytes
 proof_text p = lines_text (proof_lines p)
 
 -- the proof is accepted under this digest function
-abbrev pub Accepts : (List ℕ → List ℕ) → Proof → Type 0
+abbrev pub Accepts : Digest → Proof → Type 0
 Accepts H (Included p) = AcceptsInclusion H p.proof p.size p.root p.index p.leaf
 Accepts H (Consistent p) = AcceptsConsistency H p.proof p.size p.root p.old p.old_root

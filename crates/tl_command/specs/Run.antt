@@ -1,6 +1,7 @@
 -- What a command does with its input and its output.
 use Rattle.std.specs.Prelude.{◌≡◌, ◌⊎◌, ℕ, List, [], Result, Ok, Err, map, vec_items, Some, None}
 use Rattle.std.specs.declared.vec.Vec.{Vec}
+use Rattle.tl_hash.specs.Bytes.{Bytes}
 use Rattle.tl_device.specs.Device.{Passage, IsSteady, HasFailed, IsUnwritten, ReadWhole, ReadPast, GaveSome, WroteWhole, WrotePart}
 use Rattle.tl_command.specs.Lines.{entries_of, first_too_long}
 use Rattle.tl_command.specs.declared.fault.RunFault.{RunFault}
@@ -8,8 +9,8 @@ use Rattle.tl_command.specs.declared.fault.RunFault.TheVariants.{Refused, Read, 
 
 -- what is to come of an input: a text is printed, a text is printed that says no, or nothing is printed
 pub data Outcome : Type 0 where
-  Prints : List ℕ → Outcome
-  PrintsRefusal : List ℕ → Outcome
+  Prints : Bytes → Outcome
+  PrintsRefusal : Bytes → Outcome
   Fails : RunFault → Outcome
 
 -- the most bytes that a command reads, 64 MiB
@@ -17,29 +18,29 @@ abbrev pub most_input : ℕ
 most_input = 67108864
 
 -- the whole input was read, and this is to come of it
-pub record CameOf (Comes : List ℕ → Outcome → Type 0) (i : Passage) (outcome : Outcome) : Type 0 where
-  pub input : List ℕ
+pub record CameOf (Comes : Bytes → Outcome → Type 0) (i : Passage) (outcome : Outcome) : Type 0 where
+  pub input : Bytes
   pub whole : ReadWhole i most_input input
   pub so : Comes input outcome
 
 -- the whole input was read and all was written that is to come of it
-pub record Wrote (Comes : List ℕ → Outcome → Type 0) (how : List ℕ → Outcome) (i o : Passage) : Type 0 where
-  pub text : List ℕ
+pub record Wrote (Comes : Bytes → Outcome → Type 0) (how : Bytes → Outcome) (i o : Passage) : Type 0 where
+  pub text : Bytes
   pub came : CameOf Comes i (how text)
   pub written : WroteWhole o text
 
 -- the whole input was read, and the writer failed in what is to come of it
-pub record WroteSome (Comes : List ℕ → Outcome → Type 0) (i o : Passage) : Type 0 where
-  pub text : List ℕ
+pub record WroteSome (Comes : Bytes → Outcome → Type 0) (i o : Passage) : Type 0 where
+  pub text : Bytes
   pub came : CameOf Comes i (Prints text) ⊎ CameOf Comes i (PrintsRefusal text)
   pub part : WrotePart o text
 
 -- a command asks for memory only where the reader gave some bytes, or where a text is printed of none
-abbrev pub IsAsking : (List ℕ → Outcome → Type 0) → Passage → Type 0
-IsAsking Comes i = GaveSome i ⊎ ((text : List ℕ) × Comes [] (Prints text))
+abbrev pub IsAsking : (Bytes → Outcome → Type 0) → Passage → Type 0
+IsAsking Comes i = GaveSome i ⊎ ((text : Bytes) × Comes [] (Prints text))
 
 -- a run of a command: i is its reader, o its writer, and `Comes` relates an input and what is to come of it
-abbrev pub Runs : (List ℕ → Outcome → Type 0) → Passage → Passage → Result (Unit {0}) RunFault → Type 0
+abbrev pub Runs : (Bytes → Outcome → Type 0) → Passage → Passage → Result (Unit {0}) RunFault → Type 0
 Runs Comes i o (Ok done) = Wrote Comes Prints i o
 Runs Comes i o (Err Refused) = Wrote Comes PrintsRefusal i o
 Runs Comes i o (Err Read) = HasFailed i × IsUnwritten o
@@ -49,20 +50,20 @@ Runs Comes i o (Err OutOfMemory) = IsSteady i × IsUnwritten o × IsAsking Comes
 Runs Comes i o (Err fault) = CameOf Comes i (Fails fault) × IsUnwritten o
 
 -- a fault of the entries of an input: the first one that is too long is at this place
-abbrev pub IsEntryFault : List (List ℕ) → RunFault → Type 0
+abbrev pub IsEntryFault : List Bytes → RunFault → Type 0
 IsEntryFault entries (EntryTooLong place) = first_too_long entries ≡ Some place
 IsEntryFault entries fault = ⊥
 
 -- the entries are the lines of the whole input, and none is too long
-pub record ReadEntries (p : Passage) (most : ℕ) (entries : List (List ℕ)) : Type 0 where
-  pub input : List ℕ
+pub record ReadEntries (p : Passage) (most : ℕ) (entries : List Bytes) : Type 0 where
+  pub input : Bytes
   pub whole : ReadWhole p most input
   pub lines : entries ≡ entries_of input
   pub short : first_too_long entries ≡ None
 
 -- the first entry of the whole input that is too long is at this place
 pub record ReadTooLong (p : Passage) (most place : ℕ) : Type 0 where
-  pub input : List ℕ
+  pub input : Bytes
   pub whole : ReadWhole p most input
   pub first : first_too_long (entries_of input) ≡ Some place
 

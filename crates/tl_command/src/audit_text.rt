@@ -1,7 +1,7 @@
 //! Audits, as their texts have them.
 
-ghost use Rattle.std.specs.Prelude.{◌≡◌, ◌≢◌, ◌<◌, ◌++◌, List, ℕ, length, map, vec_items, IfOk, OnErr, IfSome, MatchOption};
-ghost use Rattle.tl_hash.specs.Bytes.{IsHash};
+ghost use Rattle.std.specs.Prelude.{◌≡◌, ◌≢◌, ◌<◌, ◌++◌, List, length, map, vec_items, IfOk, OnErr, IfSome, MatchOption};
+ghost use Rattle.tl_hash.specs.Bytes.{Bytes, IsHash};
 ghost use Rattle.tl_text.specs.Text.{IsSize};
 ghost use Rattle.tl_command.specs.AuditText.{Audit, IsAudit, audit_lines, counted_lines};
 ghost use Rattle.tl_command.specs.Inner.Shown.{audit_shown, IsAuditRead};
@@ -26,7 +26,7 @@ fn counted<'a, B: Allocator>(
     ensures count { IfSome result (λ r. IsSize (length r.0.now)) }
     ensures found { IfSome result (λ r. map vec_items lines.now ≡ counted_lines word.now (map vec_items r.0.now) ++ map vec_items r.1.now) }
     ensures some { IfSome result (λ r. length r.1.now < length lines.now) }
-    ensures only { (entries others : List (List ℕ)) → IsSize (length entries)
+    ensures only { (entries others : List Bytes) → IsSize (length entries)
         → map vec_items lines.now ≡ counted_lines word.now entries ++ others
         → MatchOption result ⊥ (λ r. (map vec_items r.0.now ≡ entries) × (map vec_items r.1.now ≡ others)) }
 {

@@ -1,6 +1,7 @@
 //! The right edge of the log of an input's lines, while the input is read.
 
-ghost use Rattle.std.specs.Prelude.{◌≡◌, ◌<◌, ◌≤◌, ◌+◌, ◌-◌, ◌^◌, ◌∷◌, [], ◌++◌, ℕ, List, length, take, vec_items, None, OnOk};
+ghost use Rattle.std.specs.Prelude.{◌≡◌, ◌<◌, ◌≤◌, ◌+◌, ◌-◌, ◌^◌, ◌∷◌, [], ◌++◌, List, length, take, vec_items, None, OnOk};
+ghost use Rattle.tl_hash.specs.Bytes.{Bytes};
 ghost use Rattle.tl_command.specs.Inner.Growing.{IsGrowing, IsOutcome, IsTold, ReadsEdge};
 ghost use Rattle.tl_command.specs.Lines.{entries_of, HasNoNewline};
 ghost use Rattle.tl_device.specs.Device.{passage};
@@ -43,7 +44,7 @@ impl<A: Allocator + Copy> Growing<A> {
     fn extend(&mut self, part: &[u8]) -> Result<(), AllocError>
         requires { HasNoNewline part.now }
         ensures size { OnOk result (self.new.edge.size ≡ self.old.edge.size) }
-        ensures grows { (input : List ℕ) → IsGrowing self.old input → OnOk result (IsGrowing self.new (input ++ part.now)) }
+        ensures grows { (input : Bytes) → IsGrowing self.old input → OnOk result (IsGrowing self.new (input ++ part.now)) }
     {
         let room = MOST_KEPT.saturating_sub(self.line.len());
         self.line.extend_from_slice(&part[..room.min(part.len())])?;
@@ -56,7 +57,7 @@ impl<A: Allocator + Copy> Growing<A> {
         requires none { self.old.too_long ≡ None }
         ensures size { OnOk result (self.new.edge.size ≤ self.old.edge.size + 1) }
         ensures line { OnOk result (self.new.line ≡ self.old.line) }
-        ensures told { (lines : List (List ℕ)) (last : List ℕ) → IsTold self.old lines → vec_items self.old.line ≡ take 65536 last
+        ensures told { (lines : List Bytes) (last : Bytes) → IsTold self.old lines → vec_items self.old.line ≡ take 65536 last
             → OnOk result (IsTold self.new (lines ++ last ∷ [])) }
     {
         if self.line.len() == MOST_KEPT {
@@ -72,7 +73,7 @@ impl<A: Allocator + Copy> Growing<A> {
         requires { self.old.edge.size < 2 ^ 32 - 1 }
         ensures size { OnOk result (self.new.edge.size ≤ self.old.edge.size + 1) }
         ensures ended { OnOk result (vec_items self.new.line ≡ []) }
-        ensures grows { (input : List ℕ) → IsGrowing self.old input → OnOk result (IsGrowing self.new (input ++ 10 ∷ [])) }
+        ensures grows { (input : Bytes) → IsGrowing self.old input → OnOk result (IsGrowing self.new (input ++ 10 ∷ [])) }
     {
         if self.too_long.is_some() {
             self.line.clear();
@@ -87,7 +88,7 @@ impl<A: Allocator + Copy> Growing<A> {
     fn take(&mut self, piece: &[u8]) -> Result<(), AllocError>
         requires { self.old.edge.size + length piece.now < 2 ^ 32 }
         ensures size { OnOk result (self.new.edge.size ≤ self.old.edge.size + length piece.now) }
-        ensures grows { (input : List ℕ) → IsGrowing self.old input → OnOk result (IsGrowing self.new (input ++ piece.now)) }
+        ensures grows { (input : Bytes) → IsGrowing self.old input → OnOk result (IsGrowing self.new (input ++ piece.now)) }
     {
         let mut at = 0;
         while let Some(end) = memchr(b'\n', &piece[at..]) {
@@ -101,7 +102,7 @@ impl<A: Allocator + Copy> Growing<A> {
 
     // What is told of the lines.
     fn outcome(self) -> Result<Edge<Sha256Tree, A>, RunFault>
-        ensures { (lines : List (List ℕ)) → IsTold self lines → IsOutcome lines result }
+        ensures { (lines : List Bytes) → IsTold self lines → IsOutcome lines result }
     {
         let Growing {
             edge,
@@ -118,7 +119,7 @@ impl<A: Allocator + Copy> Growing<A> {
     // them, or the place of the first that is too long.
     fn finish(mut self) -> Result<Edge<Sha256Tree, A>, RunFault>
         requires { self.edge.size < 2 ^ 32 - 1 }
-        ensures { (input : List ℕ) → IsGrowing self input → IsOutcome (entries_of input) result }
+        ensures { (input : Bytes) → IsGrowing self input → IsOutcome (entries_of input) result }
     {
         if self.line.is_empty() {
             return self.outcome();

@@ -2,7 +2,7 @@
 //! that spelling.
 
 ghost use Rattle.std.specs.Prelude.{◌≡◌, ◌≢◌, ◌<◌, ◌^◌, ◌++◌, ℕ, List, All, MatchOption, IfOk, OnErr, length, MatchBool, IsUtf8, map, vec_items};
-ghost use Rattle.tl_hash.specs.Bytes.{IsHash};
+ghost use Rattle.tl_hash.specs.Bytes.{Bytes, IsHash};
 ghost use Rattle.tl_text.specs.Text.{number_text, base64_text, IsSize};
 ghost use Rattle.tl_command.specs.Lines.{entries_of, lines_text, HasNoNewline};
 
@@ -14,7 +14,7 @@ use tl_text::{hash_of, size_of};
 
 // Whether a text is lines, each ended by its newline.
 fn is_lines(text: &[u8]) -> bool
-    ensures { MatchBool result (text.now ≡ lines_text (entries_of text.now)) ((lines : List (List ℕ)) → text.now ≢ lines_text lines) }
+    ensures { MatchBool result (text.now ≡ lines_text (entries_of text.now)) ((lines : List Bytes) → text.now ≢ lines_text lines) }
 {
     match text.last() {
         Some(byte) => *byte == b'\n',
@@ -28,7 +28,7 @@ pub(crate) fn lines_of<A: Allocator + Copy>(
     text: &[u8],
 ) -> Result<Option<Vec<Vec<u8, A>, A>>, AllocError>
     ensures lines { IfOk result (λ found. MatchOption found
-        ((lines : List (List ℕ)) → All HasNoNewline lines → text.now ≢ lines_text lines)
+        ((lines : List Bytes) → All HasNoNewline lines → text.now ≢ lines_text lines)
         (λ lines. (map vec_items lines.items ≡ entries_of text.now) × (text.now ≡ lines_text (entries_of text.now)))) }
     ensures memory { OnErr result (0 < length text.now) }
 {
@@ -40,7 +40,7 @@ pub(crate) fn lines_of<A: Allocator + Copy>(
 
 // What follows a word in a line.
 fn text_after<'a>(line: &'a [u8], word: &[u8]) -> Option<&'a str>
-    ensures { MatchOption result ((text : List ℕ) → IsUtf8 text → line.now ≢ word.now ++ text) (λ text. line.now ≡ word.now ++ text.now) }
+    ensures { MatchOption result ((text : Bytes) → IsUtf8 text → line.now ≢ word.now ++ text) (λ text. line.now ≡ word.now ++ text.now) }
 {
     let Some(rest) = line.strip_prefix(word) else {
         return None;
@@ -64,7 +64,7 @@ pub(crate) fn number_after(line: &[u8], word: &[u8]) -> Option<u64>
 /// The hash that follows a word in a line, in base64.
 pub(crate) fn hash_after(line: &[u8], word: &[u8]) -> Option<Hash>
     ensures { MatchOption result
-        ((hash : List ℕ) → IsHash hash → line.now ≢ word.now ++ base64_text hash)
+        ((hash : Bytes) → IsHash hash → line.now ≢ word.now ++ base64_text hash)
         (λ hash. IsHash hash × (line.now ≡ word.now ++ base64_text hash)) }
 {
     let Some(text) = text_after(line, word) else {
@@ -79,7 +79,7 @@ pub(crate) fn hashes_of<A: Allocator + Copy, B: Allocator>(
     lines: &[Vec<u8, B>],
 ) -> Result<Option<Vec<Hash, A>>, AllocError>
     ensures hashes { IfOk result (λ found. MatchOption found
-        ((hashes : List (List ℕ)) → All IsHash hashes → map vec_items lines.now ≢ map base64_text hashes)
+        ((hashes : List Bytes) → All IsHash hashes → map vec_items lines.now ≢ map base64_text hashes)
         (λ hashes. All IsHash hashes.items × (map vec_items lines.now ≡ map base64_text hashes.items))) }
     ensures memory { OnErr result (0 < length lines.now) }
 {

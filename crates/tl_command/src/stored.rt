@@ -1,7 +1,8 @@
 //! The stored hashes of a command's entries under SHA-256, and what is read from them.
 
-ghost use Rattle.std.specs.Prelude.{◌≡◌, ◌<◌, ◌≤◌, ◌^◌, ℕ, List, length, take, map, vec_items, IfOk, IfErr};
+ghost use Rattle.std.specs.Prelude.{◌≡◌, ◌<◌, ◌≤◌, ◌^◌, List, length, take, map, vec_items, IfOk, IfErr};
 ghost use Rattle.sha2.specs.Sha256.{sha256};
+ghost use Rattle.tl_hash.specs.Bytes.{Bytes};
 ghost use Rattle.tl_hash.specs.Tree.{tree_hash as tree_hash_of};
 ghost use Rattle.tl_store.specs.Store.{StandsFor};
 
@@ -45,7 +46,7 @@ pub fn root_of<A: Allocator + Copy>(
 ) -> Result<Hash, RunFault>
     requires within { size ≤ store.now.size }
     requires small { store.now.size ≤ 2 ^ 62 }
-    ensures root { (entries : List (List ℕ)) → StandsFor store.now sha256 entries
+    ensures root { (entries : List Bytes) → StandsFor store.now sha256 entries
         → IfOk result (λ root. root ≡ tree_hash_of sha256 (take size entries)) }
     ensures fault { IfErr result (λ fault. fault ≡ RunFault.OutOfMemory) }
 {

@@ -1,18 +1,19 @@
 -- A key for demonstrations: it signs with HMAC under a secret that its verifier has too.
-use Rattle.std.specs.Prelude.{ℕ, false, List, ◌∷◌, ◌++◌, take, bytes_eq, codes}
+use Rattle.std.specs.Prelude.{ℕ, false, ◌∷◌, ◌++◌, take, bytes_eq, codes}
 use Rattle.std.specs.Int.{w32, from_be_bytes}
 use Rattle.sha2.specs.Sha256.{sha256}
+use Rattle.tl_hash.specs.Bytes.{Bytes}
 use Rattle.tl_key.specs.Hmac.{hmac}
 use Rattle.tl_note.specs.Key.{Key, SigningKey}
 
 -- the first four bytes of a digest of the key's name, its kind and its secret's digest
-abbrev pub demo_id : List ℕ → List ℕ → ℕ
+abbrev pub demo_id : Bytes → Bytes → ℕ
 demo_id name secret = from_be_bytes w32 (take 4 (sha256 (name ++ (0x0A ∷ 0xFF ∷ codes "tlog-demo-hmac-sha256") ++ sha256 secret)))
 
 -- a demonstration key
 pub record Demo : Type 0 where
-  pub name : List ℕ
-  pub secret : List ℕ
+  pub name : Bytes
+  pub secret : Bytes
 
 -- what it signs: its one signature of a message, which it never refuses
 abbrev pub demo_signing_key : Demo → SigningKey

@@ -1,19 +1,20 @@
 -- Keys, by what they accept and give (C2SP signed-note, "Signatures").
-use Rattle.std.specs.Prelude.{◌≡◌, ℕ, ◌<◌, ◌≤◌, ◌≢◌, Bool, false, List, length, All, IsUtf8, chars}
+use Rattle.std.specs.Prelude.{◌≡◌, ℕ, ◌<◌, ◌≤◌, ◌≢◌, Bool, false, length, All, IsUtf8, chars}
 use Rattle.std.specs.Char.{is_whitespace}
+use Rattle.tl_hash.specs.Bytes.{Bytes}
 
 -- what a verifier knows: its name, its identifier, and which signatures of a message it accepts
 pub record Key : Type 0 where
-  pub name : List ℕ
+  pub name : Bytes
   pub id : ℕ
-  pub accepts : List ℕ → List ℕ → Bool
+  pub accepts : Bytes → Bytes → Bool
 
 -- what a signer has: which signatures of a message it may give, and which messages it may refuse
 pub record SigningKey : Type 0 where
-  pub name : List ℕ
+  pub name : Bytes
   pub id : ℕ
-  pub may_give : List ℕ → List ℕ → Bool
-  pub may_refuse : List ℕ → Bool
+  pub may_give : Bytes → Bytes → Bool
+  pub may_refuse : Bytes → Bool
 
 -- a character of a key's name: no white space, no plus, no control
 pub record IsNameChar (c : ℕ) : Type 0 where
@@ -22,7 +23,7 @@ pub record IsNameChar (c : ℕ) : Type 0 where
   pub no_plus : c ≢ 43
 
 -- a key's name isn't empty
-pub record IsKeyName (name : List ℕ) : Type 0 where
+pub record IsKeyName (name : Bytes) : Type 0 where
   pub some : 0 < length name
   pub text : IsUtf8 name
   pub each : All IsNameChar (chars name)

@@ -1,22 +1,23 @@
 -- What a signature line shows, read from its texts (C2SP signed-note, "Format").
-use Rattle.std.specs.Prelude.{◌≡◌, ℕ, List, drop}
+use Rattle.std.specs.Prelude.{◌≡◌, ℕ, drop}
 use Rattle.base64.specs.GeneralPurpose.{decoded_bytes_of}
 use Rattle.base64.specs.Engines.{standard}
+use Rattle.tl_hash.specs.Bytes.{Bytes}
 use Rattle.tl_note.specs.Note.{Signature, IsSignature, signature_field, signature_words}
 
 -- the bytes in a field, after the identifier
-abbrev pub field_signature : List ℕ → List ℕ
+abbrev pub field_signature : Bytes → Bytes
 field_signature field = drop 4 (decoded_bytes_of standard field)
 
 -- the signature that a line shows by its name, its identifier and its field
-abbrev pub shown : List ℕ → ℕ → List ℕ → Signature
+abbrev pub shown : Bytes → ℕ → Bytes → Signature
 shown name id field = record { name = name; id = id; bytes = field_signature field }
 
 -- the line is a lawful one
-pub record ShowsLine (name : List ℕ) (id : ℕ) (field : List ℕ) : Type 0 where
+pub record ShowsLine (name : Bytes) (id : ℕ) (field : Bytes) : Type 0 where
   pub lawful : IsSignature (shown name id field)
   pub spelled : field ≡ signature_field (shown name id field)
 
 -- the text is no signature line
-abbrev pub IsNoLine : List ℕ → Type 0
+abbrev pub IsNoLine : Bytes → Type 0
 IsNoLine text = (s : Signature) → IsSignature s → text ≡ signature_words s → ⊥

@@ -3,14 +3,15 @@ use Rattle.std.specs.Prelude.{◌≡◌, ℕ, ◌<◌, ◌≤◌, ◌⊎◌, ◌
 use Rattle.std.specs.List.{flat_map}
 use Rattle.std.specs.Int.{w32, to_be_bytes}
 use Rattle.base64.specs.GeneralPurpose.{IsBytes}
+use Rattle.tl_hash.specs.Bytes.{Bytes}
 use Rattle.tl_text.specs.Text.{line, base64_text}
 use Rattle.tl_note.specs.Key.{IsKeyName}
 
 -- what a signature line says: the key's name and identifier, and the signature
 pub record Signature : Type 0 where
-  pub name : List ℕ
+  pub name : Bytes
   pub id : ℕ
-  pub bytes : List ℕ
+  pub bytes : Bytes
 
 -- what has a line
 pub record IsSignature (s : Signature) : Type 0 where
@@ -20,15 +21,15 @@ pub record IsSignature (s : Signature) : Type 0 where
   pub bytes : IsBytes s.bytes
 
 -- the identifier, four bytes, big-endian, and the signature, in base64
-abbrev pub signature_field : Signature → List ℕ
+abbrev pub signature_field : Signature → Bytes
 signature_field s = base64_text (to_be_bytes w32 s.id ++ s.bytes)
 
 -- an em dash (U+2014), the name and the field, with spaces between
-abbrev pub signature_words : Signature → List ℕ
+abbrev pub signature_words : Signature → Bytes
 signature_words s = (0xE2 ∷ 0x80 ∷ 0x94 ∷ 32 ∷ []) ++ s.name ++ 32 ∷ signature_field s
 
 -- the words, and a newline
-abbrev pub signature_line : Signature → List ℕ
+abbrev pub signature_line : Signature → Bytes
 signature_line s = line (signature_words s)
 
 -- a character of a note, by its bytes: no control but newline
@@ -36,18 +37,18 @@ abbrev pub IsNoteByte : ℕ → Type 0
 IsNoteByte byte = (32 ≤ byte) ⊎ (byte ≡ 10)
 
 -- a text that can be signed: UTF-8, without control characters but newline, which ends it
-pub record IsNoteText (text : List ℕ) : Type 0 where
+pub record IsNoteText (text : Bytes) : Type 0 where
   pub utf8 : IsUtf8 text
   pub plain : All IsNoteByte text
-  pub front : List ℕ
+  pub front : Bytes
   pub ended : text ≡ front ++ 10 ∷ []
 
 -- the text, an empty line, the signature lines
-abbrev pub note_bytes : List ℕ → List Signature → List ℕ
+abbrev pub note_bytes : Bytes → List Signature → Bytes
 note_bytes text lines = text ++ 10 ∷ flat_map signature_line lines
 
 -- bytes are the note of this text and these lines, of 1 to 100
-pub record Note (bytes text : List ℕ) (lines : List Signature) : Type 0 where
+pub record Note (bytes text : Bytes) (lines : List Signature) : Type 0 where
   pub readable : IsNoteText text
   pub each : All IsSignature lines
   pub some : 0 < length lines
@@ -55,9 +56,9 @@ pub record Note (bytes text : List ℕ) (lines : List Signature) : Type 0 where
   pub spelled : bytes ≡ note_bytes text lines
 
 -- bytes are a note
-abbrev pub IsNote : List ℕ → Type 0
-IsNote bytes = (text : List ℕ) × (lines : List Signature) × Note bytes text lines
+abbrev pub IsNote : Bytes → Type 0
+IsNote bytes = (text : Bytes) × (lines : List Signature) × Note bytes text lines
 
 -- bytes are no note
-abbrev pub HasNoNote : List ℕ → Type 0
-HasNoNote bytes = (text : List ℕ) (lines : List Signature) → Note bytes text lines → ⊥
+abbrev pub HasNoNote : Bytes → Type 0
+HasNoNote bytes = (text : Bytes) (lines : List Signature) → Note bytes text lines → ⊥

@@ -1,6 +1,7 @@
 -- Which lines of a note count, and which are wrong (C2SP signed-note, "Verification"; Go's sumdb/note).
 use Rattle.std.specs.Prelude.{◌≡◌, ℕ, ◌<◌, Bool, ◌&&◌, ◌||◌, not, List, length, map, filter, find, take, count_by, ◌==◌, nat_lt, bytes_eq, slice_get, false, Option, None, Some}
 use Rattle.std.specs.List.{list_any, list_all, enumerate_from}
+use Rattle.tl_hash.specs.Bytes.{Bytes}
 use Rattle.tl_note.specs.Key.{Key}
 use Rattle.tl_note.specs.Note.{Signature}
 
@@ -43,18 +44,18 @@ abbrev pub is_ambiguous : List Key → Placed → Bool
 is_ambiguous keys p = nat_lt 1 (count_by (is_of p.1) keys)
 
 -- the line's verifier accepts its signature of the text
-abbrev pub is_valid : List Key → List ℕ → Placed → Bool
+abbrev pub is_valid : List Key → Bytes → Placed → Bool
 is_valid keys text p = list_all (λ key. key.accepts text p.1.bytes) (filter (is_of p.1) keys)
 
 -- the first counting line that is wrong
-abbrev pub is_wrong : List Key → List ℕ → Placed → Bool
+abbrev pub is_wrong : List Key → Bytes → Placed → Bool
 is_wrong keys text p = is_ambiguous keys p || not (is_valid keys text p)
 
-abbrev pub first_wrong : List Key → List ℕ → List Signature → Option Placed
+abbrev pub first_wrong : List Key → Bytes → List Signature → Option Placed
 first_wrong keys text lines = find (is_wrong keys text) (counting_lines keys lines)
 
 -- the first wrong line is at this place, and is ambiguous or isn't
-abbrev pub FindsWrong : List Key → List ℕ → List Signature → ℕ → Bool → Type 0
+abbrev pub FindsWrong : List Key → Bytes → List Signature → ℕ → Bool → Type 0
 FindsWrong keys text lines place ambiguous = (p : Placed) × (first_wrong keys text lines ≡ Some p) × (p.0 ≡ place) × (is_ambiguous keys p ≡ ambiguous)
 
 -- the places of lines
@@ -66,6 +67,6 @@ abbrev pub NeedsMemory : List Key → List Signature → Type 0
 NeedsMemory keys lines = (line : Signature) × (slice_get lines 0 ≡ Some line) × (is_ambiguous keys (0, line) ≡ false)
 
 -- the note opens: some line counts, and none that counts is wrong
-pub record Opened (keys : List Key) (text : List ℕ) (lines : List Signature) : Type 0 where
+pub record Opened (keys : List Key) (text : Bytes) (lines : List Signature) : Type 0 where
   pub some : 0 < length (counting_lines keys lines)
   pub sound : first_wrong keys text lines ≡ None

@@ -3,6 +3,7 @@ use Rattle.std.proofs.Common.{◌≡◌, ℕ, ◌-◌, ◌<◌, ◌≤◌, ◌�
 use Rattle.std.proofs.lemmas.Bool.{cases_lt}
 use Rattle.std.proofs.lemmas.List.{get_or-take, length-take-le, take_all}
 use Rattle.std.proofs.lemmas.List.Elements.{Contains-append_left, Contains-append_right}
+use Rattle.tl_hash.specs.Bytes.{Digest}
 use Rattle.tl_hash.specs.Split.{IsSplit}
 use Rattle.tl_hash.specs.Tree.{tree_hash, inputs, leaf_input}
 use Rattle.tl_hash.proofs.TreeLemmas.{split_induction, length_first, length_rest}
@@ -26,15 +27,15 @@ use Rattle.tl_hash.proofs.SameSize.{inputs-one, inputs-first, inputs-rest}
 abbrev LeafAt : (List ℕ → List ℕ) → List (List ℕ) → Type 0
 LeafAt H entries = (place : ℕ) → place < length entries → Contains (inputs H entries) (leaf_input (entry_at entries place))
 
-leaf_at-none : (H : List ℕ → List ℕ) → LeafAt H []
+leaf_at-none : (H : Digest) → LeafAt H []
 leaf_at-none H place within = absurd (omega (arith, within))
 
-leaf_at-one : (H : List ℕ → List ℕ) (entry : List ℕ) → LeafAt H (entry ∷ [])
+leaf_at-one : (H : Digest) (entry : List ℕ) → LeafAt H (entry ∷ [])
 leaf_at-one H entry place within =
     let first : place ≡ 0 = omega (arith, within) in
     subst (λ (i : ℕ). Contains (inputs H (entry ∷ [])) (leaf_input (entry_at (entry ∷ []) i))) (sym first) (inputs-one H entry)
 
-leaf_at-split : (H : List ℕ → List ℕ) (k : ℕ) (entries : List (List ℕ)) → IsSplit k (length entries) → LeafAt H (take k entries) → LeafAt H (drop k entries) → LeafAt H entries
+leaf_at-split : (H : Digest) (k : ℕ) (entries : List (List ℕ)) → IsSplit k (length entries) → LeafAt H (take k entries) → LeafAt H (drop k entries) → LeafAt H entries
 leaf_at-split H k entries s first rest place within =
     elim (cases_lt place k) as (λ _. Contains (inputs H entries) (leaf_input (entry_at entries place))) [
       | inl less ↦
@@ -46,31 +47,31 @@ leaf_at-split H k entries s first rest place within =
           (rest (place - k) (omega (arith, more, within, length_rest k entries, s.below))))
     ]
 
-pub inputs-leaf : (H : List ℕ → List ℕ) (entries : List (List ℕ)) (place : ℕ) → place < length entries → Contains (inputs H entries) (leaf_input (entry_at entries place))
+pub inputs-leaf : (H : Digest) (entries : List (List ℕ)) (place : ℕ) → place < length entries → Contains (inputs H entries) (leaf_input (entry_at entries place))
 inputs-leaf H entries = split_induction (LeafAt H) (leaf_at-none H) (leaf_at-one H) (leaf_at-split H) entries
 
 -- what is hashed for the old list, for the new one's prefix and for the steps is hashed for the audit
-audit_inputs-old : (H : List ℕ → List ℕ) (old new : List (List ℕ)) (steps : List Step) (x : List ℕ) → Contains (inputs H old) x → Contains (audit_inputs H old new steps) x
+audit_inputs-old : (H : Digest) (old new : List (List ℕ)) (steps : List Step) (x : List ℕ) → Contains (inputs H old) x → Contains (audit_inputs H old new steps) x
 unfolding audit_inputs
 audit_inputs-old H old new steps x here =
     let part : List (List ℕ) = take (length old) new in
     Contains-append_left (inputs H old ++ inputs H new ++ inputs H part) (step_inputs H new (length old) (tree_hash H old) steps) x
     (Contains-append_left (inputs H old ++ inputs H new) (inputs H part) x (Contains-append_left (inputs H old) (inputs H new) x here))
 
-audit_inputs-part : (H : List ℕ → List ℕ) (old new : List (List ℕ)) (steps : List Step) (x : List ℕ) → Contains (inputs H (take (length old) new)) x → Contains (audit_inputs H old new steps) x
+audit_inputs-part : (H : Digest) (old new : List (List ℕ)) (steps : List Step) (x : List ℕ) → Contains (inputs H (take (length old) new)) x → Contains (audit_inputs H old new steps) x
 unfolding audit_inputs
 audit_inputs-part H old new steps x here =
     let part : List (List ℕ) = take (length old) new in
     Contains-append_left (inputs H old ++ inputs H new ++ inputs H part) (step_inputs H new (length old) (tree_hash H old) steps) x
     (Contains-append_right (inputs H old ++ inputs H new) (inputs H part) x here)
 
-audit_inputs-steps : (H : List ℕ → List ℕ) (old new : List (List ℕ)) (steps : List Step) (x : List ℕ) → Contains (step_inputs H new (length old) (tree_hash H old) steps) x → Contains (audit_inputs H old new steps) x
+audit_inputs-steps : (H : Digest) (old new : List (List ℕ)) (steps : List Step) (x : List ℕ) → Contains (step_inputs H new (length old) (tree_hash H old) steps) x → Contains (audit_inputs H old new steps) x
 unfolding audit_inputs
 audit_inputs-steps H old new steps x here =
     Contains-append_right (inputs H old ++ inputs H new ++ inputs H (take (length old) new)) (step_inputs H new (length old) (tree_hash H old) steps) x here
 
 -- a fork in the links
-pub forks-in_links : (H : List ℕ → List ℕ) (in_links : Option Fork) (fork : Fork) (old new : List (List ℕ)) (place : ℕ) (steps : List Step)
+pub forks-in_links : (H : Digest) (in_links : Option Fork) (fork : Fork) (old new : List (List ℕ)) (place : ℕ) (steps : List Step)
     → in_links ≡ Some fork → LinksFork H in_links old new steps → ForksAt H (Some fork) old new place steps
 forks-in_links H in_links fork old new place steps is found =
     let strings : List (List ℕ) = step_inputs H new (length old) (tree_hash H old) steps in
@@ -84,7 +85,7 @@ forks-in_links H in_links fork old new place steps is found =
     }
 
 -- a fork between the lists, or two leaves
-forks-found : (H : List ℕ → List ℕ) (fork : Option Fork) (old new : List (List ℕ)) (place : ℕ) (steps : List Step) → length old ≤ length new → DifferAt old new place
+forks-found : (H : Digest) (fork : Option Fork) (old new : List (List ℕ)) (place : ℕ) (steps : List Step) → length old ≤ length new → DifferAt old new place
     → SameOrForks H fork (H (leaf_input (entry_at old place))) (H (leaf_input (entry_at (take (length old) new) place))) (inputs H old) (inputs H (take (length old) new))
     → ForksAt H fork old new place steps
 forks-found H (Some fork) old new place steps most differ found = record {
@@ -105,7 +106,7 @@ forks-found H None old new place steps most differ found =
       same_digest = found ∙ ap (λ (z : List ℕ). H (leaf_input z)) entry;
     }
 
-pub forks-in_lists : (H : List ℕ → List ℕ) (in_links : Option Fork) (old new part : List (List ℕ)) (place : ℕ) (walk : Walk) (steps : List Step)
+pub forks-in_lists : (H : Digest) (in_links : Option Fork) (old new part : List (List ℕ)) (place : ℕ) (walk : Walk) (steps : List Step)
     → in_links ≡ None → length old ≤ length new → DifferAt old new place → part ≡ take (length old) new → IsListsWalk H place old part walk
     → LinksFork H in_links old new steps → ForksAt H walk.fork old new place steps
 forks-in_lists H in_links old new part place walk steps is most differ part_is walked found =
@@ -116,7 +117,7 @@ forks-in_lists H in_links old new part place walk steps is most differ part_is w
     forks-found H walk.fork old new place steps most differ (walked_here.meets (walked_here.old_root ∙ same ∙ sym walked_here.new_root))
 
 -- the answer with the strings of a fork
-pub audits-of : {A : Type 0} (H : List ℕ → List ℕ) (old new : List (List ℕ)) (steps : List Step) (fork : Option Fork) (place : ℕ) (a b : List ℕ) (answer : Result (Verdict A) AuditFault)
+pub audits-of : {A : Type 0} (H : Digest) (old new : List (List ℕ)) (steps : List Step) (fork : Option Fork) (place : ℕ) (a b : List ℕ) (answer : Result (Verdict A) AuditFault)
     → AreAccepted H old new steps → DifferAt old new place → ForksAt H fork old new place steps → a ≡ entry_at old place → b ≡ entry_at new place
     → ShowsFork fork a b answer → Audits H old new steps answer
 audits-of H old new steps fork place a b (Ok Extends) accepted differ forks a_is b_is shows = absurd shows
@@ -127,11 +128,11 @@ audits-of H old new steps fork place a b (Err OutOfMemory) accepted differ forks
     (accepted, DifferAt-no_prefix old new place differ)
 
 -- an accepted new list is no shorter
-pub AreAccepted-ordered : (H : List ℕ → List ℕ) (old new : List (List ℕ)) (steps : List Step) → AreAccepted H old new steps → length old ≤ length new
+pub AreAccepted-ordered : (H : Digest) (old new : List (List ℕ)) (steps : List Step) → AreAccepted H old new steps → length old ≤ length new
 AreAccepted-ordered H old new steps accepted = linked_most H steps (length old) (tree_hash H old) (length new) (tree_hash H new) accepted.0 accepted.1
 
 -- one step is accepted where its proof is
-pub AreAccepted-one : (H : List ℕ → List ℕ) (old new : List (List ℕ)) (proof : List (List ℕ)) (m n : ℕ) → m ≡ length old → n ≡ length new
+pub AreAccepted-one : (H : Digest) (old new : List (List ℕ)) (proof : List (List ℕ)) (m n : ℕ) → m ≡ length old → n ≡ length new
     → AcceptsConsistency H proof n (tree_hash H new) m (tree_hash H old) ↔ AreAccepted H old new (record { size = n; root = tree_hash H new; proof = proof } ∷ [])
 unfolding Linked EndsWith
 AreAccepted-one H old new proof m n m_is n_is = (
@@ -140,7 +141,7 @@ AreAccepted-one H old new proof m n m_is n_is = (
 )
 
 -- a fork in one link is one of the chain of this link alone
-links_fork-here : (H : List ℕ → List ℕ) (old new : List (List ℕ)) (proof : List (List ℕ)) (fork : Option Fork)
+links_fork-here : (H : Digest) (old new : List (List ℕ)) (proof : List (List ℕ)) (fork : Option Fork)
     → SameOrForks H fork (tree_hash H old) (tree_hash H (take (length old) new)) (fold_inputs H (length old) (length new) proof (tree_hash H old)) (inputs H new)
     → LinksFork H fork old new (record { size = length new; root = tree_hash H new; proof = proof } ∷ [])
 unfolding step_inputs
@@ -155,7 +156,7 @@ links_fork-here H old new proof fork found =
     (λ x here. Contains-append_left (inputs H part ++ folded) [] x (Contains-append_left (inputs H part) folded x (subst (λ (z : List (List ℕ)). Contains (inputs H z) x) (sym whole) here)))
     found
 
-pub links_fork-one : (H : List ℕ → List ℕ) (old new : List (List ℕ)) (proof : List (List ℕ)) (m n : ℕ) (root : List ℕ) (fork : Option Fork)
+pub links_fork-one : (H : Digest) (old new : List (List ℕ)) (proof : List (List ℕ)) (m n : ℕ) (root : List ℕ) (fork : Option Fork)
     → m ≡ length old → n ≡ length new → root ≡ tree_hash H old → AcceptsConsistency H proof n (tree_hash H new) m root
     → (AcceptsConsistency H proof (length new) (tree_hash H new) m root
     → SameOrForks H fork root (tree_hash H (take m new)) (fold_inputs H m (length new) proof root) (inputs H new))

@@ -4,6 +4,7 @@ use Rattle.std.specs.List.{AllByRecursion}
 use Rattle.std.proofs.lemmas.Bool.{ne_eqb}
 use Rattle.std.proofs.lemmas.List.{take_all, take-take, length-take-le, get_or-reverse, length-reverse}
 use Rattle.std.proofs.lemmas.List.Elements.{All-from_get_or, All-get_or, All-head, All-tail, recursion_from_All, Contains-append_left, Contains-append_right}
+use Rattle.tl_hash.specs.Bytes.{Digest}
 use Rattle.tl_hash.specs.Tree.{tree_hash, inputs}
 use Rattle.tl_hash.proofs.TreeLemmas.{tree_hash-none, length-tree_hash}
 use Rattle.tl_proof.specs.Acceptance.{AcceptsConsistency, Step, Linked, EndsWith}
@@ -22,7 +23,7 @@ All-reverse P xs d all =
 pub reversed_hashes : (proof : List (List ℕ)) → All HasHashLength proof → AllByRecursion HasHashLength (reverse proof)
 reversed_hashes proof all = recursion_from_All HasHashLength (reverse proof) (All-reverse HasHashLength proof [] all)
 
-pub fold_inputs-some : (H : List ℕ → List ℕ) (old new : ℕ) (proof : List (List ℕ)) (root : List ℕ) → 0 < old → fold_inputs H old new proof root ≡ fold_inputs_from H old new true (reverse proof) root
+pub fold_inputs-some : (H : Digest) (old new : ℕ) (proof : List (List ℕ)) (root : List ℕ) → 0 < old → fold_inputs H old new proof root ≡ fold_inputs_from H old new true (reverse proof) root
 unfolding fold_inputs
 fold_inputs-some H old new proof root some =
     let differ : old ≡ 0 → ⊥ = λ e. omega (arith, e, some) in
@@ -33,7 +34,7 @@ abbrev LinkMeets : (List ℕ → List ℕ) → List (List ℕ) → ℕ → ℕ �
 LinkMeets H proof size old old_root entries =
     (old ≤ size) × ((old_root ≡ tree_hash H (take old entries)) ⊎ Collision H (fold_inputs H old size proof old_root) (inputs H entries))
 
-pub link_meets : (H : List ℕ → List ℕ) → ((message : List ℕ) → HasHashLength (H message)) → (proof : List (List ℕ)) (size : ℕ) (root : List ℕ) (old : ℕ) (old_root : List ℕ) (entries : List (List ℕ))
+pub link_meets : (H : Digest) → ((message : List ℕ) → HasHashLength (H message)) → (proof : List (List ℕ)) (size : ℕ) (root : List ℕ) (old : ℕ) (old_root : List ℕ) (entries : List (List ℕ))
     → length entries ≡ size → root ≡ tree_hash H entries → HasHashLength old_root → All HasHashLength proof
     → AcceptsConsistency H proof size root old old_root → LinkMeets H proof size old old_root entries
 unfolding AcceptsConsistency
@@ -52,13 +53,13 @@ abbrev LinksMeet : (List ℕ → List ℕ) → List (List ℕ) → ℕ → List 
 LinksMeet H new old old_root links =
     (old ≤ length new) × ((old_root ≡ tree_hash H (take old new)) ⊎ Collision H (step_inputs H new old old_root links) (step_inputs H new old old_root links))
 
-pub AcceptsConsistency-ordered : (H : List ℕ → List ℕ) (proof : List (List ℕ)) (size : ℕ) (root : List ℕ) (old : ℕ) (old_root : List ℕ) → AcceptsConsistency H proof size root old old_root → old ≤ size
+pub AcceptsConsistency-ordered : (H : Digest) (proof : List (List ℕ)) (size : ℕ) (root : List ℕ) (old : ℕ) (old_root : List ℕ) → AcceptsConsistency H proof size root old old_root → old ≤ size
 unfolding AcceptsConsistency
 AcceptsConsistency-ordered H proof size root old old_root (inl a) = omega (arith, a.0)
 AcceptsConsistency-ordered H proof size root old old_root (inr (inl a)) = omega (arith, a.0)
 AcceptsConsistency-ordered H proof size root old old_root (inr (inr a)) = omega (arith, a.1)
 
-links_meet-link : (H : List ℕ → List ℕ) → ((message : List ℕ) → HasHashLength (H message)) → (new : List (List ℕ)) (old : ℕ) (old_root : List ℕ) (link : Step) (links : List Step)
+links_meet-link : (H : Digest) → ((message : List ℕ) → HasHashLength (H message)) → (new : List (List ℕ)) (old : ℕ) (old_root : List ℕ) (link : Step) (links : List Step)
     → HasHashLength old_root → MadeOfHashes link → AcceptsConsistency H link.proof link.size link.root old old_root
     → LinksMeet H new link.size link.root links → LinksMeet H new old old_root (link ∷ links)
 unfolding step_inputs
@@ -85,7 +86,7 @@ links_meet-link H wide new old old_root link links root_is hashes accepted (with
       ],
     )
 
-pub links_meet : (H : List ℕ → List ℕ) → ((message : List ℕ) → HasHashLength (H message)) → (new : List (List ℕ)) (links : List Step) (old : ℕ) (old_root : List ℕ)
+pub links_meet : (H : Digest) → ((message : List ℕ) → HasHashLength (H message)) → (new : List (List ℕ)) (links : List Step) (old : ℕ) (old_root : List ℕ)
     → HasHashLength old_root → All MadeOfHashes links → Linked H old old_root links → EndsWith old old_root links (length new) (tree_hash H new)
     → LinksMeet H new old old_root links
 unfolding Linked EndsWith

@@ -2,6 +2,7 @@
 use Rattle.std.proofs.Common.{◌≡◌, ℕ, ◌+◌, ◌-◌, ◌<◌, ◌≤◌, ◌↔◌, List, [], ◌∷◌, ◌++◌, length, map, take, drop, get_or, Option, Contains, refl, sym, ap, subst, ◌∙◌, arith}
 use Rattle.std.proofs.lemmas.List.{take_all, take-take, take_more, drop_more, take-append-drop, drop_all, length-map, length-take-le, take-map, get_or-map}
 use Rattle.std.proofs.lemmas.List.Elements.{Contains-append_left, Contains-append_right}
+use Rattle.tl_hash.specs.Bytes.{Digest}
 use Rattle.tl_hash.specs.Tree.{tree_hash, inputs}
 use Rattle.tl_proof.specs.Acceptance.{AcceptsConsistency, Step, Linked, EndsWith}
 use Rattle.tl_proof.specs.Collisions.{fold_inputs, step_inputs}
@@ -18,17 +19,17 @@ Lead H old old_root steps size root = Linked H old old_root steps × EndsWith ol
 abbrev pub LeadOn : (List ℕ → List ℕ) → ℕ → List ℕ → List Step → ℕ → List ℕ → List Step → ℕ → List ℕ → Type 0
 LeadOn H at at_root left old old_root steps size root = Lead H at at_root left size root ↔ Lead H old old_root steps size root
 
-Lead-step : (H : List ℕ → List ℕ) (old : ℕ) (old_root : List ℕ) (step : Step) (steps : List Step) (size : ℕ) (root : List ℕ)
+Lead-step : (H : Digest) (old : ℕ) (old_root : List ℕ) (step : Step) (steps : List Step) (size : ℕ) (root : List ℕ)
     → AcceptsConsistency H step.proof step.size step.root old old_root → Lead H step.size step.root steps size root ↔ Lead H old old_root (step ∷ steps) size root
 unfolding Linked EndsWith
 Lead-step H old old_root step steps size root accepted = (λ a. ((accepted, a.0), a.1), λ a. (a.0.1, a.1))
 
-Lead-accepted : (H : List ℕ → List ℕ) (old : ℕ) (old_root : List ℕ) (step : Step) (steps : List Step) (size : ℕ) (root : List ℕ)
+Lead-accepted : (H : Digest) (old : ℕ) (old_root : List ℕ) (step : Step) (steps : List Step) (size : ℕ) (root : List ℕ)
     → Lead H old old_root (step ∷ steps) size root → AcceptsConsistency H step.proof step.size step.root old old_root
 unfolding Linked EndsWith
 Lead-accepted H old old_root step steps size root a = a.0.0
 
-Lead-none : (H : List ℕ → List ℕ) (old : ℕ) (old_root : List ℕ) (size : ℕ) (root : List ℕ) → ((old ≡ size) × (old_root ≡ root)) ↔ Lead H old old_root [] size root
+Lead-none : (H : Digest) (old : ℕ) (old_root : List ℕ) (size : ℕ) (root : List ℕ) → ((old ≡ size) × (old_root ≡ root)) ↔ Lead H old old_root [] size root
 unfolding Linked EndsWith
 Lead-none H old old_root size root = (λ a. (tt, a), λ a. a.1)
 
@@ -36,7 +37,7 @@ Lead-none H old old_root size root = (λ a. (tt, a), λ a. a.1)
 left_at : {X : Type 0} (f : X → Step) (xs : List X) (i : ℕ) (x : X) → i < length xs → x ≡ get_or xs i x → map f (drop i xs) ≡ f x ∷ map f (drop (i + 1) xs)
 left_at f xs i x within is = ap (map f) (drop_more xs i x within) ∙ ap (λ (z : _). f z ∷ map f (drop (i + 1) xs)) (sym is)
 
-pub LeadOn-step : {X : Type 0} (f : X → Step) (H : List ℕ → List ℕ) (at : ℕ) (at_root : List ℕ) (xs : List X) (i : ℕ) (x : X) (old : ℕ) (old_root : List ℕ) (size : ℕ) (root : List ℕ)
+pub LeadOn-step : {X : Type 0} (f : X → Step) (H : Digest) (at : ℕ) (at_root : List ℕ) (xs : List X) (i : ℕ) (x : X) (old : ℕ) (old_root : List ℕ) (size : ℕ) (root : List ℕ)
     → i < length xs → x ≡ get_or xs i x → AcceptsConsistency H (f x).proof (f x).size (f x).root at at_root
     → LeadOn H at at_root (map f (drop i xs)) old old_root (map f xs) size root
     → LeadOn H (f x).size (f x).root (map f (drop (i + 1) xs)) old old_root (map f xs) size root
@@ -46,7 +47,7 @@ LeadOn-step f H at at_root xs i x old old_root size root within is accepted on =
     let step = Lead-step H at at_root (f x) (map f (drop (i + 1) xs)) size root accepted in
     (λ a. here.0 (step.0 a), λ a. step.1 (here.1 a))
 
-pub LeadOn-refused : {X : Type 0} (f : X → Step) (H : List ℕ → List ℕ) (at : ℕ) (at_root : List ℕ) (xs : List X) (i : ℕ) (x : X) (old : ℕ) (old_root : List ℕ) (size : ℕ) (root : List ℕ)
+pub LeadOn-refused : {X : Type 0} (f : X → Step) (H : Digest) (at : ℕ) (at_root : List ℕ) (xs : List X) (i : ℕ) (x : X) (old : ℕ) (old_root : List ℕ) (size : ℕ) (root : List ℕ)
     → i < length xs → x ≡ get_or xs i x → (AcceptsConsistency H (f x).proof (f x).size (f x).root at at_root → ⊥)
     → LeadOn H at at_root (map f (drop i xs)) old old_root (map f xs) size root
     → Lead H old old_root (map f xs) size root → ⊥
@@ -55,7 +56,7 @@ LeadOn-refused f H at at_root xs i x old old_root size root within is refused on
     subst (λ (left : List Step). LeadOn H at at_root left old old_root (map f xs) size root) (left_at f xs i x within is) on in
     refused (Lead-accepted H at at_root (f x) (map f (drop (i + 1) xs)) size root (here.1 a))
 
-pub LeadOn-end : {X : Type 0} (f : X → Step) (H : List ℕ → List ℕ) (at : ℕ) (at_root : List ℕ) (xs : List X) (i : ℕ) (old : ℕ) (old_root : List ℕ) (size : ℕ) (root : List ℕ)
+pub LeadOn-end : {X : Type 0} (f : X → Step) (H : Digest) (at : ℕ) (at_root : List ℕ) (xs : List X) (i : ℕ) (old : ℕ) (old_root : List ℕ) (size : ℕ) (root : List ℕ)
     → length xs ≤ i → LeadOn H at at_root (map f (drop i xs)) old old_root (map f xs) size root
     → ((at ≡ size) × (at_root ≡ root)) ↔ Lead H old old_root (map f xs) size root
 LeadOn-end f H at at_root xs i old old_root size root all on =
@@ -64,7 +65,7 @@ LeadOn-end f H at at_root xs i old old_root size root all on =
     let last = Lead-none H at at_root size root in
     (λ a. here.0 (last.0 a), λ a. last.1 (here.1 a))
 
-pub LeadOn-start : {X : Type 0} (f : X → Step) (H : List ℕ → List ℕ) (xs : List X) (old : ℕ) (old_root : List ℕ) (size : ℕ) (root : List ℕ) → LeadOn H old old_root (map f (drop 0 xs)) old old_root (map f xs) size root
+pub LeadOn-start : {X : Type 0} (f : X → Step) (H : Digest) (xs : List X) (old : ℕ) (old_root : List ℕ) (size : ℕ) (root : List ℕ) → LeadOn H old old_root (map f (drop 0 xs)) old old_root (map f xs) size root
 LeadOn-start f H xs old old_root size root = (λ a. a, λ a. a)
 
 -- where steps end, with one more
@@ -98,27 +99,27 @@ ends_root [] old old_root size root ends = ends.1
 ends_root (step ∷ steps) old old_root size root ends = ends_root steps step.size step.root size root ends
 
 -- a step is accepted from where those before it end
-pub linked_at : (H : List ℕ → List ℕ) (before : List Step) (step : Step) (after : List Step) (old : ℕ) (old_root : List ℕ) → Linked H old old_root (before ++ step ∷ after)
+pub linked_at : (H : Digest) (before : List Step) (step : Step) (after : List Step) (old : ℕ) (old_root : List ℕ) → Linked H old old_root (before ++ step ∷ after)
     → AcceptsConsistency H step.proof step.size step.root (end_size old before) (end_root old_root before)
 unfolding Linked end_size end_root
 linked_at H [] step after old old_root linked = linked.0
 linked_at H (first ∷ before) step after old old_root linked = linked_at H before step after first.size first.root linked.1
 
 -- no step ends above the last one
-pub linked_most : (H : List ℕ → List ℕ) (steps : List Step) (old : ℕ) (old_root : List ℕ) (size : ℕ) (root : List ℕ) → Linked H old old_root steps → EndsWith old old_root steps size root → old ≤ size
+pub linked_most : (H : Digest) (steps : List Step) (old : ℕ) (old_root : List ℕ) (size : ℕ) (root : List ℕ) → Linked H old old_root steps → EndsWith old old_root steps size root → old ≤ size
 unfolding Linked EndsWith
 linked_most H [] old old_root size root linked ends = omega (arith, ends.0)
 linked_most H (step ∷ steps) old old_root size root linked ends =
     omega (arith, AcceptsConsistency-ordered H step.proof step.size step.root old old_root linked.0, linked_most H steps step.size step.root size root linked.1 ends)
 
-pub most_at : (H : List ℕ → List ℕ) (before after : List Step) (old : ℕ) (old_root : List ℕ) (size : ℕ) (root : List ℕ) → Linked H old old_root (before ++ after) → EndsWith old old_root (before ++ after) size root
+pub most_at : (H : Digest) (before after : List Step) (old : ℕ) (old_root : List ℕ) (size : ℕ) (root : List ℕ) → Linked H old old_root (before ++ after) → EndsWith old old_root (before ++ after) size root
     → end_size old before ≤ size
 unfolding Linked EndsWith end_size
 most_at H [] after old old_root size root linked ends = linked_most H after old old_root size root linked ends
 most_at H (first ∷ before) after old old_root size root linked ends = most_at H before after first.size first.root size root linked.1 ends
 
 -- what is hashed for one step is hashed for all
-pub step_inputs-at : (H : List ℕ → List ℕ) (new : List (List ℕ)) (before : List Step) (step : Step) (after : List Step) (old : ℕ) (old_root : List ℕ) (x : List ℕ)
+pub step_inputs-at : (H : Digest) (new : List (List ℕ)) (before : List Step) (step : Step) (after : List Step) (old : ℕ) (old_root : List ℕ) (x : List ℕ)
     → Contains (inputs H (take step.size new) ++ fold_inputs H (end_size old before) step.size step.proof (end_root old_root before)) x
     → Contains (step_inputs H new old old_root (before ++ step ∷ after)) x
 unfolding step_inputs end_size end_root
@@ -163,7 +164,7 @@ parts_at f xs i d within =
     (drop_more (map f xs) i (f d) (omega (arith, within, length-map xs f)) ∙ ap (λ (z : Step). z ∷ drop (i + 1) (map f xs)) (get_or-map f xs i d (f d) within))
 
 -- the sizes at a step: that before it is at most its own, and that at most the last one
-pub sizes_at : {X : Type 0} (f : X → Step) (H : List ℕ → List ℕ) (xs : List X) (i : ℕ) (d : X) (old : ℕ) (old_root : List ℕ) (size : ℕ) (root : List ℕ)
+pub sizes_at : {X : Type 0} (f : X → Step) (H : Digest) (xs : List X) (i : ℕ) (d : X) (old : ℕ) (old_root : List ℕ) (size : ℕ) (root : List ℕ)
     → i < length xs → Linked H old old_root (map f xs) → EndsWith old old_root (map f xs) size root
     → (end_size old (take i (map f xs)) ≤ (f (get_or xs i d)).size) × ((f (get_or xs i d)).size ≤ size)
 sizes_at f H xs i d old old_root size root within linked ends =
@@ -181,7 +182,7 @@ sizes_at f H xs i d old old_root size root within linked ends =
     )
 
 -- a fork in one link is one of the whole chain
-fork_at-step : (H : List ℕ → List ℕ) (entries : List (List ℕ)) (before : List Step) (step : Step) (after : List Step) (old : ℕ) (old_root : List ℕ) (fork : Option Fork)
+fork_at-step : (H : Digest) (entries : List (List ℕ)) (before : List Step) (step : Step) (after : List Step) (old : ℕ) (old_root : List ℕ) (fork : Option Fork)
     → step.size ≤ length entries → end_size old before ≤ step.size → Linked H old old_root (before ++ step ∷ after) → step.root ≡ tree_hash H (take step.size entries)
     → (AcceptsConsistency H step.proof (length (take step.size entries)) (tree_hash H (take step.size entries)) (end_size old before) (end_root old_root before)
     → SameOrForks H fork (end_root old_root before) (tree_hash H (take (end_size old before) (take step.size entries)))
@@ -212,7 +213,7 @@ FindsAt H part proof size root fork entries =
     AcceptsConsistency H proof (length part) (tree_hash H part) size root
     → SameOrForks H fork root (tree_hash H (take size part)) (fold_inputs H size (length part) proof root) (inputs H part)
 
-pub fork_at-of : {X Y : Type 0} (f : X → Step) (e : Y → List ℕ) (H : List ℕ → List ℕ) (xs : List X) (ys : List Y) (i : ℕ) (d : X) (old : ℕ) (old_root : List ℕ) (proof : List (List ℕ)) (size : ℕ) (root : List ℕ) (fork : Option Fork)
+pub fork_at-of : {X Y : Type 0} (f : X → Step) (e : Y → List ℕ) (H : Digest) (xs : List X) (ys : List Y) (i : ℕ) (d : X) (old : ℕ) (old_root : List ℕ) (proof : List (List ℕ)) (size : ℕ) (root : List ℕ) (fork : Option Fork)
     → i < length xs → Linked H old old_root (map f xs) → EndsWith old old_root (map f xs) (length ys) (tree_hash H (map e ys))
     → end_root old_root (take (i + 1) (map f xs)) ≡ tree_hash H (take (end_size old (take (i + 1) (map f xs))) (map e ys))
     → proof ≡ (f (get_or xs i d)).proof → size ≡ end_size old (take i (map f xs)) → root ≡ end_root old_root (take i (map f xs))
@@ -242,7 +243,7 @@ fork_at-of f e H xs ys i d old old_root proof size root fork within linked ends 
     (fork_at-step H entries before step after old old_root fork (rw (length-map ys e) sizes.1) sizes.0 linked_here step_root found_4)
 
 -- all steps end with the root of the list
-pub ends_meet : {X Y : Type 0} (f : X → Step) (e : Y → List ℕ) (H : List ℕ → List ℕ) (xs : List X) (ys : List Y) (old : ℕ) (old_root : List ℕ)
+pub ends_meet : {X Y : Type 0} (f : X → Step) (e : Y → List ℕ) (H : Digest) (xs : List X) (ys : List Y) (old : ℕ) (old_root : List ℕ)
     → EndsWith old old_root (map f xs) (length ys) (tree_hash H (map e ys))
     → end_root old_root (take (length xs) (map f xs)) ≡ tree_hash H (take (end_size old (take (length xs) (map f xs))) (map e ys))
 ends_meet f e H xs ys old old_root ends =
@@ -254,7 +255,7 @@ ends_meet f e H xs ys old old_root ends =
     ∙ ap (λ (n : ℕ). tree_hash H (take n (map e ys))) (sym (ap (end_size old) whole ∙ size_is))
 
 -- no steps end where they began
-pub start_meets : (H : List ℕ → List ℕ) (entries : List (List ℕ)) (steps : List Step) (count old : ℕ) (old_root : List ℕ) → count ≤ 0
+pub start_meets : (H : Digest) (entries : List (List ℕ)) (steps : List Step) (count old : ℕ) (old_root : List ℕ) → count ≤ 0
     → end_root old_root (take count steps) ≡ tree_hash H (take (end_size old (take count steps)) entries) → old_root ≡ tree_hash H (take old entries)
 start_meets H entries steps count old old_root none is =
     let zero_is : count ≡ 0 = omega (arith, none) in

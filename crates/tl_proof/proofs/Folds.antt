@@ -5,6 +5,7 @@ use Rattle.std.specs.Prelude.{unwrap_or}
 use Rattle.std.specs.List.{AllByRecursion}
 use Rattle.std.proofs.lemmas.Bool.{cases_lt, cases_order, cases_Bool, cond_both, and_parts, eqb-true, eq-eqb, ne_eqb, le-leb, lt-leb}
 use Rattle.std.proofs.lemmas.List.{take_all, take-take}
+use Rattle.tl_hash.specs.Bytes.{Digest}
 use Rattle.tl_hash.specs.Split.{split_point, IsSplit}
 use Rattle.tl_hash.specs.Tree.{tree_hash, inputs, node_input}
 use Rattle.tl_hash.proofs.SplitLemmas.{split_point_is, split_point-splits}
@@ -36,7 +37,7 @@ roots_of_whole-hash true last [] is = tt
 roots_of_whole-hash false last [] is = is
 roots_of_whole-hash known last (other ∷ others) is = tt
 
-pub roots_from-hash : (H : List ℕ → List ℕ) → ((message : List ℕ) → HasHashLength (H message)) → (proof : List (List ℕ)) (old new : ℕ) (known : Bool) (root : List ℕ)
+pub roots_from-hash : (H : Digest) → ((message : List ℕ) → HasHashLength (H message)) → (proof : List (List ℕ)) (old new : ℕ) (known : Bool) (root : List ℕ)
     → HasHashLength root → AllByRecursion HasHashLength proof → IfSome (roots_from H old new known proof root) (λ r. HasHashLength r.1)
 unfolding roots_from
 roots_from-hash H wide [] old new known root is all =
@@ -54,26 +55,26 @@ roots_from-hash H wide (last ∷ others) old new known root is all =
     (λ d. IfSome-map (λ r. (r.0, H (node_input r.1 last))) (λ r. HasHashLength r.1) (λ r. wide (node_input r.1 last)) (roots_from H old k known others root))
     (λ d. IfSome-map (λ r. (H (node_input last r.0), H (node_input last r.1))) (λ r. HasHashLength r.1) (λ r. wide (node_input last r.1)) (roots_from H (old - k) (new - k) false others root)))
 
-new_root-hash : (H : List ℕ → List ℕ) → ((message : List ℕ) → HasHashLength (H message)) → (proof : List (List ℕ)) (old new : ℕ) (known : Bool) (root : List ℕ) (r : List ℕ × List ℕ)
+new_root-hash : (H : Digest) → ((message : List ℕ) → HasHashLength (H message)) → (proof : List (List ℕ)) (old new : ℕ) (known : Bool) (root : List ℕ) (r : List ℕ × List ℕ)
     → HasHashLength root → AllByRecursion HasHashLength proof → roots_from H old new known proof root ≡ Some r → HasHashLength r.1
 new_root-hash H wide proof old new known root r is all leads = rw leads at (roots_from-hash H wide proof old new known root is all)
 
 -- the inputs of a check, a step at a time
-pub fold_inputs_from-left : (H : List ℕ → List ℕ) (k old new : ℕ) (known : Bool) (last : List ℕ) (others : List (List ℕ)) (root : List ℕ) → IsSplit k new → old ≤ k
+pub fold_inputs_from-left : (H : Digest) (k old new : ℕ) (known : Bool) (last : List ℕ) (others : List (List ℕ)) (root : List ℕ) → IsSplit k new → old ≤ k
     → fold_inputs_from H old new known (last ∷ others) root ≡ inputs_on_left (roots_from H old k known others root) last ++ fold_inputs_from H old k known others root
 unfolding fold_inputs_from
 fold_inputs_from-left H k old new known last others root s less =
     let differ : old ≡ new → ⊥ = λ e. omega (arith, e, less, s.below) in
     rw (split_point_is k new s, ne_eqb old new differ, le-leb old k less) refl
 
-pub fold_inputs_from-right : (H : List ℕ → List ℕ) (k old new : ℕ) (known : Bool) (last : List ℕ) (others : List (List ℕ)) (root : List ℕ) → IsSplit k new → k < old → old < new
+pub fold_inputs_from-right : (H : Digest) (k old new : ℕ) (known : Bool) (last : List ℕ) (others : List (List ℕ)) (root : List ℕ) → IsSplit k new → k < old → old < new
     → fold_inputs_from H old new known (last ∷ others) root ≡ inputs_on_right (roots_from H (old - k) (new - k) false others root) last ++ fold_inputs_from H (old - k) (new - k) false others root
 unfolding fold_inputs_from
 fold_inputs_from-right H k old new known last others root s more less =
     let differ : old ≡ new → ⊥ = λ e. omega (arith, e, less) in
     rw (split_point_is k new s, ne_eqb old new differ, lt-leb old k more) refl
 
-pub roots_from-same : (H : List ℕ → List ℕ) (old new : ℕ) (known : Bool) (last : List ℕ) (others : List (List ℕ)) (root : List ℕ) → old ≡ new
+pub roots_from-same : (H : Digest) (old new : ℕ) (known : Bool) (last : List ℕ) (others : List (List ℕ)) (root : List ℕ) → old ≡ new
     → roots_from H old new known (last ∷ others) root ≡ roots_of_whole known (last ∷ others)
 unfolding roots_from
 roots_from-same H old new known last others root same = rw (eq-eqb old new same) refl
@@ -84,13 +85,13 @@ Meets H old new known proof root entries a =
     (a ≡ tree_hash H (take old entries)) ⊎ Collision H (fold_inputs_from H old new known proof root) (inputs H entries)
 
 -- where all entries are old, the two roots are one
-meets-whole : (H : List ℕ → List ℕ) (old new : ℕ) (known : Bool) (proof : List (List ℕ)) (root : List ℕ) (entries : List (List ℕ)) (a b : List ℕ)
+meets-whole : (H : Digest) (old new : ℕ) (known : Bool) (proof : List (List ℕ)) (root : List ℕ) (entries : List (List ℕ)) (a b : List ℕ)
     → length entries ≡ new → old ≡ new → a ≡ b → b ≡ tree_hash H entries → Meets H old new known proof root entries a
 meets-whole H old new known proof root entries a b len same equal is =
     inl (equal ∙ is ∙ ap (tree_hash H) (sym (take_all old entries (omega (arith, len, same)))))
 
 -- a node of the check and a node of the list with one hash: over the same hashes, or their inputs collide
-pub nodes_meet : (H : List ℕ → List ℕ) → ((message : List ℕ) → HasHashLength (H message)) → (k : ℕ) (a b : List ℕ) (strings entries : List (List ℕ)) → IsSplit k (length entries)
+pub nodes_meet : (H : Digest) → ((message : List ℕ) → HasHashLength (H message)) → (k : ℕ) (a b : List ℕ) (strings entries : List (List ℕ)) → IsSplit k (length entries)
     → HasHashLength a → Contains strings (node_input a b) → H (node_input a b) ≡ tree_hash H entries
     → ((a ≡ tree_hash H (take k entries)) × (b ≡ tree_hash H (drop k entries))) ⊎ Collision H strings (inputs H entries)
 nodes_meet H wide k a b strings entries s is found same =
@@ -115,7 +116,7 @@ MeetsAll H proof = (old new : ℕ) (known : Bool) (root : List ℕ) (entries : L
     → length entries ≡ new → 0 < old → old ≤ new → HasHashLength root → AllByRecursion HasHashLength proof
     → roots_from H old new known proof root ≡ Some (a, b) → b ≡ tree_hash H entries → Meets H old new known proof root entries a
 
-meets-nil : (H : List ℕ → List ℕ) → MeetsAll H []
+meets-nil : (H : Digest) → MeetsAll H []
 unfolding roots_from
 meets-nil H old new known root entries a b len some most root_is all leads is =
     elim (cases_Bool (eqb old new && known)) as (λ _. Meets H old new known [] root entries a) [
@@ -128,7 +129,7 @@ meets-nil H old new known root entries a b len some most root_is all leads is =
           absurd (None-no_Some None (a, b) refl (rw e at leads))
     ]
 
-meets-same : (H : List ℕ → List ℕ) (last : List ℕ) (others : List (List ℕ)) (old new : ℕ) (known : Bool) (root : List ℕ) (entries : List (List ℕ)) (a b : List ℕ)
+meets-same : (H : Digest) (last : List ℕ) (others : List (List ℕ)) (old new : ℕ) (known : Bool) (root : List ℕ) (entries : List (List ℕ)) (a b : List ℕ)
     → length entries ≡ new → old ≡ new → roots_of_whole known (last ∷ others) ≡ Some (a, b) → b ≡ tree_hash H entries → Meets H old new known (last ∷ others) root entries a
 meets-same H last [] old new true root entries a b len same leads is = absurd (cc)
 meets-same H last [] old new false root entries a b len same leads is =
@@ -136,7 +137,7 @@ meets-same H last [] old new false root entries a b len same leads is =
     meets-whole H old new false (last ∷ []) root entries a b len same (sym (ap (λ (q : List ℕ × List ℕ). q.0) p) ∙ ap (λ (q : List ℕ × List ℕ). q.1) p) is
 meets-same H last (other ∷ others) old new known root entries a b len same leads is = absurd (cc)
 
-meets-left : (H : List ℕ → List ℕ) → ((message : List ℕ) → HasHashLength (H message)) → (last : List ℕ) (others : List (List ℕ)) → MeetsAll H others
+meets-left : (H : Digest) → ((message : List ℕ) → HasHashLength (H message)) → (last : List ℕ) (others : List (List ℕ)) → MeetsAll H others
     → (k old new : ℕ) (known : Bool) (root : List ℕ) (entries : List (List ℕ)) (a b : List ℕ) (r : List ℕ × List ℕ)
     → IsSplit k new → length entries ≡ new → 0 < old → old ≤ k → HasHashLength root → AllByRecursion HasHashLength others
     → roots_from H old k known others root ≡ Some r → r.0 ≡ a → H (node_input r.1 last) ≡ b → b ≡ tree_hash H entries → Meets H old new known (last ∷ others) root entries a
@@ -157,7 +158,7 @@ meets-left H wide last others deeper k old new known root entries a b r s len so
           ]
     ]
 
-meets-right : (H : List ℕ → List ℕ) → ((message : List ℕ) → HasHashLength (H message)) → (last : List ℕ) (others : List (List ℕ)) → MeetsAll H others
+meets-right : (H : Digest) → ((message : List ℕ) → HasHashLength (H message)) → (last : List ℕ) (others : List (List ℕ)) → MeetsAll H others
     → (k old new : ℕ) (known : Bool) (root : List ℕ) (entries : List (List ℕ)) (a b : List ℕ) (r : List ℕ × List ℕ)
     → IsSplit k new → length entries ≡ new → k < old → old < new → HasHashLength root → HasHashLength last → AllByRecursion HasHashLength others
     → roots_from H (old - k) (new - k) false others root ≡ Some r → H (node_input last r.0) ≡ a → H (node_input last r.1) ≡ b → b ≡ tree_hash H entries → Meets H old new known (last ∷ others) root entries a
@@ -178,7 +179,7 @@ meets-right H wide last others deeper k old new known root entries a b r s len m
           ]
     ]
 
-meets-step : (H : List ℕ → List ℕ) → ((message : List ℕ) → HasHashLength (H message)) → (last : List ℕ) (others : List (List ℕ)) → MeetsAll H others → MeetsAll H (last ∷ others)
+meets-step : (H : Digest) → ((message : List ℕ) → HasHashLength (H message)) → (last : List ℕ) (others : List (List ℕ)) → MeetsAll H others → MeetsAll H (last ∷ others)
 meets-step H wide last others deeper old new known root entries a b len some most root_is all leads is =
     let k : ℕ = split_point new in
     elim (cases_order old new) as (λ _. Meets H old new known (last ∷ others) root entries a) [
@@ -210,6 +211,6 @@ meets-step H wide last others deeper old new known root entries a b len some mos
           ]
     ]
 
-pub roots_meet : (H : List ℕ → List ℕ) → ((message : List ℕ) → HasHashLength (H message)) → (proof : List (List ℕ)) → MeetsAll H proof
+pub roots_meet : (H : Digest) → ((message : List ℕ) → HasHashLength (H message)) → (proof : List (List ℕ)) → MeetsAll H proof
 roots_meet H wide [] = meets-nil H
 roots_meet H wide (last ∷ others) = meets-step H wide last others (roots_meet H wide others)

@@ -1,6 +1,7 @@
 -- The link of a chain at which an old root isn't that of the list's prefix.
 use Rattle.std.proofs.Common.{◌≡◌, ℕ, ◌⊎◌, inl, inr, true, List, length, take, reverse, Some, None, sym, ap, ◌∙◌, arith}
 use Rattle.std.proofs.lemmas.List.{take_all}
+use Rattle.tl_hash.specs.Bytes.{Digest}
 use Rattle.tl_hash.specs.Tree.{tree_hash, inputs}
 use Rattle.tl_hash.proofs.TreeLemmas.{tree_hash-none}
 use Rattle.tl_proof.specs.Acceptance.{roots_from, AcceptsConsistency}
@@ -12,7 +13,7 @@ use Rattle.tl_proof.proofs.Folds.{Some-injective, None-no_Some}
 use Rattle.tl_proof.proofs.Forks.{SameOrForks-among}
 
 -- from no entries, and from as many as the list has, the old root is that of the prefix
-pub link-none : (H : List ℕ → List ℕ) (proof : List (List ℕ)) (old : ℕ) (old_root : List ℕ) (entries : List (List ℕ)) → (old ≡ 0) ⊎ (old ≡ length entries)
+pub link-none : (H : Digest) (proof : List (List ℕ)) (old : ℕ) (old_root : List ℕ) (entries : List (List ℕ)) → (old ≡ 0) ⊎ (old ≡ length entries)
     → AcceptsConsistency H proof (length entries) (tree_hash H entries) old old_root → old_root ≡ tree_hash H (take old entries)
 unfolding AcceptsConsistency
 link-none H proof old old_root entries reason (inl (same, none, equal)) = equal ∙ ap (tree_hash H) (sym (take_all old entries (omega (arith, same))))
@@ -22,14 +23,14 @@ link-none H proof old old_root entries (inl zero_is) (inr (inr (some, less, lead
 link-none H proof old old_root entries (inr same) (inr (inr (some, less, leads))) = absurd (omega (arith, less, same))
 
 -- an accepted proof between two sizes leads to the old root and the list's
-accepted_leads : (H : List ℕ → List ℕ) (proof : List (List ℕ)) (size : ℕ) (root : List ℕ) (old : ℕ) (old_root : List ℕ) → (old ≡ 0 → ⊥) → (old ≡ size → ⊥)
+accepted_leads : (H : Digest) (proof : List (List ℕ)) (size : ℕ) (root : List ℕ) (old : ℕ) (old_root : List ℕ) → (old ≡ 0 → ⊥) → (old ≡ size → ⊥)
     → AcceptsConsistency H proof size root old old_root → roots_from H old size true (reverse proof) old_root ≡ Some (old_root, root)
 unfolding AcceptsConsistency
 accepted_leads H proof size root old old_root some differ (inl a) = absurd (differ a.0)
 accepted_leads H proof size root old old_root some differ (inr (inl a)) = absurd (some a.0)
 accepted_leads H proof size root old old_root some differ (inr (inr a)) = a.2
 
-pub link-walk : (H : List ℕ → List ℕ) (proof : List (List ℕ)) (old : ℕ) (old_root : List ℕ) (entries : List (List ℕ)) (walk : CheckWalk) → (old ≡ 0 → ⊥) → (old ≡ length entries → ⊥)
+pub link-walk : (H : Digest) (proof : List (List ℕ)) (old : ℕ) (old_root : List ℕ) (entries : List (List ℕ)) (walk : CheckWalk) → (old ≡ 0 → ⊥) → (old ≡ length entries → ⊥)
     → IsCheckWalk H old true (reverse proof) old_root entries walk
     → AcceptsConsistency H proof (length entries) (tree_hash H entries) old old_root
     → SameOrForks H walk.fork old_root (tree_hash H (take old entries)) (fold_inputs H old (length entries) proof old_root) (inputs H entries)
@@ -46,7 +47,7 @@ link-walk H proof old old_root entries walk some differ is accepted =
     (λ x here. here)
     (is.meets (new_is ∙ sym is.list))
 
-pub link-nowhere : (H : List ℕ → List ℕ) (proof : List (List ℕ)) (old : ℕ) (old_root : List ℕ) (entries : List (List ℕ)) → (old ≡ 0 → ⊥) → (old ≡ length entries → ⊥)
+pub link-nowhere : (H : Digest) (proof : List (List ℕ)) (old : ℕ) (old_root : List ℕ) (entries : List (List ℕ)) → (old ≡ 0 → ⊥) → (old ≡ length entries → ⊥)
     → roots_from H old (length entries) true (reverse proof) old_root ≡ None
     → AcceptsConsistency H proof (length entries) (tree_hash H entries) old old_root → ⊥
 link-nowhere H proof old old_root entries some differ none accepted =

@@ -1,6 +1,7 @@
 -- Two lists of one length with one root that differ at a place: two nodes on the way there, or the leaves.
 use Rattle.std.proofs.Common.{◌≡◌, ◌≢◌, ℕ, ◌+◌, ◌-◌, ◌<◌, ◌≤◌, List, [], length, map, take, drop, get_or, None, Contains, sym, ap, ◌∙◌, arith}
 use Rattle.std.proofs.lemmas.List.{take_all, take-map, drop-map, length-map, get_or-take, get_or-drop, get_or-map}
+use Rattle.tl_hash.specs.Bytes.{Digest}
 use Rattle.tl_hash.specs.Split.{IsSplit}
 use Rattle.tl_hash.specs.Tree.{tree_hash, inputs, node_input, leaf_input}
 use Rattle.tl_hash.proofs.TreeLemmas.{tree_hash-split, tree_hash-map_one}
@@ -11,7 +12,7 @@ use Rattle.tl_proof.proofs.Forks.{SameOrForks-among, forks_over}
 use Rattle.tl_hash.proofs.SameSize.{inputs-root, inputs-first, inputs-rest}
 
 -- the walk goes on from the first parts
-lists_walk-first : (H : List ℕ → List ℕ) (k place : ℕ) (old new : List (List ℕ)) (beside others : List ℕ) (below walk : Walk)
+lists_walk-first : (H : Digest) (k place : ℕ) (old new : List (List ℕ)) (beside others : List ℕ) (below walk : Walk)
     → IsSplit k (length old) → IsSplit k (length new) → place < k → IsListsWalk H place (take k old) (take k new) below
     → beside ≡ tree_hash H (drop k old) → others ≡ tree_hash H (drop k new)
     → walk.first ≡ H (node_input below.first beside) → walk.second ≡ H (node_input below.second others)
@@ -40,7 +41,7 @@ entry_at-rest k place entries more =
     get_or-drop k entries (place - k) [] ∙ ap (λ (i : ℕ). entry_at entries i) sum
 
 -- the walk goes on from the rests
-lists_walk-rest : (H : List ℕ → List ℕ) (k place : ℕ) (old new : List (List ℕ)) (beside others : List ℕ) (below walk : Walk)
+lists_walk-rest : (H : Digest) (k place : ℕ) (old new : List (List ℕ)) (beside others : List ℕ) (below walk : Walk)
     → IsSplit k (length old) → IsSplit k (length new) → k ≤ place → IsListsWalk H (place - k) (drop k old) (drop k new) below
     → beside ≡ tree_hash H (take k old) → others ≡ tree_hash H (take k new)
     → walk.first ≡ H (node_input beside below.first) → walk.second ≡ H (node_input others below.second)
@@ -64,7 +65,7 @@ lists_walk-rest H k place old new beside others below walk s t more under beside
     }
 
 -- the same of lists of values that have entries
-pub lists_walk-firsts : {X : Type 0} (f : X → List ℕ) (H : List ℕ → List ℕ) (k place : ℕ) (old new : List X) (beside others : List ℕ) (below walk : Walk)
+pub lists_walk-firsts : {X : Type 0} (f : X → List ℕ) (H : Digest) (k place : ℕ) (old new : List X) (beside others : List ℕ) (below walk : Walk)
     → IsSplit k (length old) → length old ≡ length new → place < k → IsListsWalk H place (map f (take k old)) (map f (take k new)) below
     → beside ≡ tree_hash H (map f (drop k old)) → others ≡ tree_hash H (map f (drop k new))
     → walk.first ≡ H (node_input below.first beside) → walk.second ≡ H (node_input below.second others)
@@ -78,7 +79,7 @@ lists_walk-firsts f H k place old new beside others below walk s len less under 
     let new_rest : others ≡ tree_hash H (drop k (map f new)) = rw (drop-map f k new) others_is in
     lists_walk-first H k place (map f old) (map f new) beside others below walk in_old in_new less part old_rest new_rest old_is new_is over
 
-pub lists_walk-rests : {X : Type 0} (f : X → List ℕ) (H : List ℕ → List ℕ) (k place : ℕ) (old new : List X) (beside others : List ℕ) (below walk : Walk)
+pub lists_walk-rests : {X : Type 0} (f : X → List ℕ) (H : Digest) (k place : ℕ) (old new : List X) (beside others : List ℕ) (below walk : Walk)
     → IsSplit k (length old) → length old ≡ length new → k ≤ place → IsListsWalk H (place - k) (map f (drop k old)) (map f (drop k new)) below
     → beside ≡ tree_hash H (map f (take k old)) → others ≡ tree_hash H (map f (take k new))
     → walk.first ≡ H (node_input beside below.first) → walk.second ≡ H (node_input others below.second)
@@ -99,7 +100,7 @@ entry_at-one f xs x place one within is =
     ap (λ (i : ℕ). entry_at (map f xs) i) first ∙ get_or-map f xs 0 x [] (omega (arith, one)) ∙ ap f (sym is)
 
 -- the walk at two leaves
-pub lists_walk-one : {X : Type 0} (f : X → List ℕ) (H : List ℕ → List ℕ) (place : ℕ) (old new : List X) (x y : X) (walk : Walk)
+pub lists_walk-one : {X : Type 0} (f : X → List ℕ) (H : Digest) (place : ℕ) (old new : List X) (x y : X) (walk : Walk)
     → length old ≡ 1 → length old ≡ length new → place < length old → x ≡ get_or old 0 x → y ≡ get_or new 0 y
     → walk.first ≡ H (leaf_input (f x)) → walk.second ≡ H (leaf_input (f y)) → walk.fork ≡ None
     → IsListsWalk H place (map f old) (map f new) walk

@@ -2,6 +2,7 @@
 use Rattle.std.proofs.Common.{◌≡◌, ◌≢◌, ℕ, ◌-◌, ◌<◌, ◌≤◌, ◌⊎◌, inl, inr, Bool, true, false, ◌&&◌, eqb, List, [], ◌∷◌, ◌++◌, length, take, drop, reverse, get_or, map, Option, Some, None, option_map, MatchOption, Contains, refl, sym, ap, subst, ◌∙◌, arith}
 use Rattle.std.proofs.lemmas.Bool.{cases_Bool, and_parts, eqb-true}
 use Rattle.std.proofs.lemmas.List.{take_all, take-take, take-map, drop-map, length-map, length-take-le, length-drop, length-reverse}
+use Rattle.tl_hash.specs.Bytes.{Digest}
 use Rattle.tl_hash.specs.Split.{IsSplit}
 use Rattle.tl_hash.specs.Tree.{tree_hash, inputs, node_input}
 use Rattle.tl_hash.proofs.TreeLemmas.{length_first, length_rest, tree_hash-split, tree_hash-prefix}
@@ -17,7 +18,7 @@ use Rattle.tl_proof.proofs.Folds.{Some-injective, None-no_Some, fold_inputs_from
 use Rattle.tl_hash.proofs.SameSize.{Contains-head, Contains-tail, inputs-root, inputs-first, inputs-rest}
 
 -- a fork stays one among more strings
-pub SameOrForks-among : (H : List ℕ → List ℕ) (fork : Option Fork) (a b c d : List ℕ) (firsts seconds more others : List (List ℕ))
+pub SameOrForks-among : (H : Digest) (fork : Option Fork) (a b c d : List ℕ) (firsts seconds more others : List (List ℕ))
     → (a ≡ b → c ≡ d) → ((x : List ℕ) → Contains firsts x → Contains more x) → ((x : List ℕ) → Contains seconds x → Contains others x)
     → SameOrForks H fork a b firsts seconds → SameOrForks H fork c d more others
 SameOrForks-among H None a b c d firsts seconds more others step first second found = step found
@@ -29,7 +30,7 @@ SameOrForks-among H (Some fork) a b c d firsts seconds more others step first se
 }
 
 -- two nodes with one hash: they collide, or what was found below them counts
-pub forks_over : (H : List ℕ → List ℕ) (fork : Fork) (below result : Option Fork) (a b : List ℕ) (firsts seconds : List (List ℕ))
+pub forks_over : (H : Digest) (fork : Fork) (below result : Option Fork) (a b : List ℕ) (firsts seconds : List (List ℕ))
     → IsForkOver fork below result → Contains firsts (input_of fork.first) → Contains seconds (input_of fork.second)
     → H (input_of fork.first) ≡ H (input_of fork.second)
     → ((fork.first.left ≡ fork.second.left) × (fork.first.right ≡ fork.second.right) → SameOrForks H below a b firsts seconds)
@@ -42,7 +43,7 @@ forks_over H fork below result a b firsts seconds over first second digest met =
     ]
 
 -- the walk goes on from the left part
-pub check_walk-left : (H : List ℕ → List ℕ) (k old : ℕ) (known : Bool) (last : List ℕ) (others : List (List ℕ)) (root : List ℕ) (entries : List (List ℕ)) (beside : List ℕ) (below walk : CheckWalk)
+pub check_walk-left : (H : Digest) (k old : ℕ) (known : Bool) (last : List ℕ) (others : List (List ℕ)) (root : List ℕ) (entries : List (List ℕ)) (beside : List ℕ) (below walk : CheckWalk)
     → IsSplit k (length entries) → old ≤ k → IsCheckWalk H old known others root (take k entries) below → beside ≡ tree_hash H (drop k entries)
     → walk.old ≡ below.old → walk.new ≡ H (node_input below.new last) → walk.list ≡ H (node_input below.list beside)
     → IsForkOver (fork_of below.new last below.list beside) below.fork walk.fork
@@ -73,7 +74,7 @@ check_walk-left H k old known last others root entries beside below walk s less 
     }
 
 -- the walk goes on from the right part
-pub check_walk-right : (H : List ℕ → List ℕ) (k old : ℕ) (known : Bool) (last : List ℕ) (others : List (List ℕ)) (root : List ℕ) (entries : List (List ℕ)) (beside : List ℕ) (below walk : CheckWalk)
+pub check_walk-right : (H : Digest) (k old : ℕ) (known : Bool) (last : List ℕ) (others : List (List ℕ)) (root : List ℕ) (entries : List (List ℕ)) (beside : List ℕ) (below walk : CheckWalk)
     → IsSplit k (length entries) → k < old → old < length entries → IsCheckWalk H (old - k) false others root (drop k entries) below → beside ≡ tree_hash H (take k entries)
     → walk.old ≡ H (node_input last below.old) → walk.new ≡ H (node_input last below.new) → walk.list ≡ H (node_input beside below.list)
     → IsForkOver (fork_of last below.new beside below.list) below.fork walk.fork
@@ -106,7 +107,7 @@ check_walk-right H k old known last others root entries beside below walk s more
     }
 
 -- where no hash is left, or all entries are old, the two roots are one
-one_root-none : (H : List ℕ → List ℕ) (old new : ℕ) (known : Bool) (root : List ℕ) (a b : List ℕ) → roots_from H old new known [] root ≡ Some (a, b) → (a ≡ b) × (old ≡ new)
+one_root-none : (H : Digest) (old new : ℕ) (known : Bool) (root : List ℕ) (a b : List ℕ) → roots_from H old new known [] root ≡ Some (a, b) → (a ≡ b) × (old ≡ new)
 unfolding roots_from
 one_root-none H old new known root a b leads =
     elim (cases_Bool (eqb old new && known)) as (λ _. (a ≡ b) × (old ≡ new)) [
@@ -123,7 +124,7 @@ one_root-same false last [] a b leads =
     let p = Some-injective (last, last) (a, b) leads in sym (ap (λ (q : List ℕ × List ℕ). q.0) p) ∙ ap (λ (q : List ℕ × List ℕ). q.1) p
 one_root-same known last (other ∷ others) a b leads = absurd (cc)
 
-one_root : (H : List ℕ → List ℕ) (old new : ℕ) (known : Bool) (proof : List (List ℕ)) (root : List ℕ) (a b : List ℕ)
+one_root : (H : Digest) (old new : ℕ) (known : Bool) (proof : List (List ℕ)) (root : List ℕ) (a b : List ℕ)
     → (length proof ≡ 0) ⊎ (old ≡ new) → roots_from H old new known proof root ≡ Some (a, b) → (a ≡ b) × (old ≡ new)
 one_root H old new known [] root a b reason leads = one_root-none H old new known root a b leads
 one_root H old new known (last ∷ others) root a b (inl none) leads = absurd (omega (arith, none))
@@ -131,7 +132,7 @@ one_root H old new known (last ∷ others) root a b (inr same) leads =
     (one_root-same known last others a b (sym (roots_from-same H old new known last others root same) ∙ leads), same)
 
 -- the walk over the whole of a list
-pub check_walk-whole : (H : List ℕ → List ℕ) (old : ℕ) (known : Bool) (proof : List (List ℕ)) (root : List ℕ) (entries : List (List ℕ)) (walk : CheckWalk)
+pub check_walk-whole : (H : Digest) (old : ℕ) (known : Bool) (proof : List (List ℕ)) (root : List ℕ) (entries : List (List ℕ)) (walk : CheckWalk)
     → (length proof ≡ 0) ⊎ (old ≡ length entries) → roots_from H old (length entries) known proof root ≡ Some (walk.old, walk.new) → walk.list ≡ tree_hash H entries → walk.fork ≡ None
     → IsCheckWalk H old known proof root entries walk
 check_walk-whole H old known proof root entries walk reason leads list none =
@@ -143,7 +144,7 @@ check_walk-whole H old known proof root entries walk reason leads list none =
     }
 
 -- the same of the parts of a list of values that have entries, and of a proof in its own order
-pub check_walk-first : {X : Type 0} (f : X → List ℕ) (H : List ℕ → List ℕ) (k old : ℕ) (known : Bool) (proof : List (List ℕ)) (last root : List ℕ) (xs : List X) (beside : List ℕ) (below walk : CheckWalk)
+pub check_walk-first : {X : Type 0} (f : X → List ℕ) (H : Digest) (k old : ℕ) (known : Bool) (proof : List (List ℕ)) (last root : List ℕ) (xs : List X) (beside : List ℕ) (below walk : CheckWalk)
     → length proof ≢ 0 → last ≡ get_or proof (length proof - 1) last → IsSplit k (length xs) → old ≤ k
     → IsCheckWalk H old known (reverse (take (length proof - 1) proof)) root (map f (take k xs)) below → beside ≡ tree_hash H (map f (drop k xs))
     → walk.old ≡ below.old → walk.new ≡ H (node_input below.new last) → walk.list ≡ H (node_input below.list beside)
@@ -158,7 +159,7 @@ check_walk-first f H k old known proof last root xs beside below walk some is s 
     subst (λ (p : List (List ℕ)). IsCheckWalk H old known p root (map f xs) walk) (sym whole)
     (check_walk-left H k old known last others root (map f xs) beside below walk s_map less part rest old_is new_is list_is over)
 
-pub check_walk-rest : {X : Type 0} (f : X → List ℕ) (H : List ℕ → List ℕ) (k old : ℕ) (known : Bool) (proof : List (List ℕ)) (last root : List ℕ) (xs : List X) (beside : List ℕ) (below walk : CheckWalk)
+pub check_walk-rest : {X : Type 0} (f : X → List ℕ) (H : Digest) (k old : ℕ) (known : Bool) (proof : List (List ℕ)) (last root : List ℕ) (xs : List X) (beside : List ℕ) (below walk : CheckWalk)
     → length proof ≢ 0 → last ≡ get_or proof (length proof - 1) last → IsSplit k (length xs) → k < old → old ≤ length xs → old ≢ length xs
     → IsCheckWalk H (old - k) false (reverse (take (length proof - 1) proof)) root (map f (drop k xs)) below → beside ≡ tree_hash H (map f (take k xs))
     → walk.old ≡ H (node_input last below.old) → walk.new ≡ H (node_input last below.new) → walk.list ≡ H (node_input beside below.list)
@@ -175,7 +176,7 @@ check_walk-rest f H k old known proof last root xs beside below walk some is s m
     (check_walk-right H k old known last others root (map f xs) beside below walk s_map more less part rest old_is new_is list_is over)
 
 -- the walk that a check leads to, where it leads to one
-walk_of-roots : (H : List ℕ → List ℕ) (old : ℕ) (known : Bool) (proof : List (List ℕ)) (root : List ℕ) (entries : List (List ℕ)) (list : List ℕ) (found : Option CheckWalk) (roots : Option (List ℕ × List ℕ))
+walk_of-roots : (H : Digest) (old : ℕ) (known : Bool) (proof : List (List ℕ)) (root : List ℕ) (entries : List (List ℕ)) (list : List ℕ) (found : Option CheckWalk) (roots : Option (List ℕ × List ℕ))
     → (length proof ≡ 0) ⊎ (old ≡ length entries) → list ≡ tree_hash H entries → roots ≡ roots_from H old (length entries) known proof root
     → found ≡ option_map (λ r. record { old = r.0; new = r.1; list = list; fork = None }) roots
     → MatchOption found (roots_from H old (length entries) known proof root ≡ None) (λ walk. IsCheckWalk H old known proof root entries walk)
@@ -187,7 +188,7 @@ whole_reason : {X : Type 0} (f : X → List ℕ) (old : ℕ) (proof : List (List
 whole_reason f old proof xs (inl none) = inl (length-reverse proof ∙ none)
 whole_reason f old proof xs (inr same) = inr (same ∙ sym (length-map xs f))
 
-pub check_walk-of : {X : Type 0} (f : X → List ℕ) (H : List ℕ → List ℕ) (old : ℕ) (known : Bool) (proof : List (List ℕ)) (root : List ℕ) (xs : List X) (list : List ℕ) (found : Option CheckWalk) (roots : Option (List ℕ × List ℕ))
+pub check_walk-of : {X : Type 0} (f : X → List ℕ) (H : Digest) (old : ℕ) (known : Bool) (proof : List (List ℕ)) (root : List ℕ) (xs : List X) (list : List ℕ) (found : Option CheckWalk) (roots : Option (List ℕ × List ℕ))
     → (length proof ≡ 0) ⊎ (old ≡ length xs) → list ≡ tree_hash H (map f xs) → roots ≡ roots_from H old (length xs) known (reverse proof) root
     → found ≡ option_map (λ r. record { old = r.0; new = r.1; list = list; fork = None }) roots
     → MatchOption found (roots_from H old (length (map f xs)) known (reverse proof) root ≡ None) (λ walk. IsCheckWalk H old known (reverse proof) root (map f xs) walk)
@@ -196,7 +197,7 @@ check_walk-of f H old known proof root xs list found roots reason list_is roots_
     (roots_is ∙ ap (λ (m : ℕ). roots_from H old m known (reverse proof) root) (sym (length-map xs f))) found_is
 
 -- where the check leads nowhere below, it leads nowhere
-pub leads_nowhere-first : {X : Type 0} (f : X → List ℕ) (H : List ℕ → List ℕ) (k old : ℕ) (known : Bool) (proof : List (List ℕ)) (last root : List ℕ) (xs : List X)
+pub leads_nowhere-first : {X : Type 0} (f : X → List ℕ) (H : Digest) (k old : ℕ) (known : Bool) (proof : List (List ℕ)) (last root : List ℕ) (xs : List X)
     → length proof ≢ 0 → last ≡ get_or proof (length proof - 1) last → IsSplit k (length xs) → old ≤ k
     → roots_from H old (length (map f (take k xs))) known (reverse (take (length proof - 1) proof)) root ≡ None
     → roots_from H old (length (map f xs)) known (reverse proof) root ≡ None
@@ -207,7 +208,7 @@ leads_nowhere-first f H k old known proof last root xs some is s less none =
     subst (λ (m : ℕ). roots_from H old m known (reverse (take (length proof - 1) proof)) root ≡ None) len none in
     rw (length-map xs f) (step ∙ ap (option_map (λ (r : List ℕ × List ℕ). (r.0, H (node_input r.1 last)))) none_k)
 
-pub leads_nowhere-rest : {X : Type 0} (f : X → List ℕ) (H : List ℕ → List ℕ) (k old : ℕ) (known : Bool) (proof : List (List ℕ)) (last root : List ℕ) (xs : List X)
+pub leads_nowhere-rest : {X : Type 0} (f : X → List ℕ) (H : Digest) (k old : ℕ) (known : Bool) (proof : List (List ℕ)) (last root : List ℕ) (xs : List X)
     → length proof ≢ 0 → last ≡ get_or proof (length proof - 1) last → IsSplit k (length xs) → k < old → old ≤ length xs → old ≢ length xs
     → roots_from H (old - k) (length (map f (drop k xs))) false (reverse (take (length proof - 1) proof)) root ≡ None
     → roots_from H old (length (map f xs)) known (reverse proof) root ≡ None

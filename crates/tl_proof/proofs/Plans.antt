@@ -5,6 +5,7 @@ use Rattle.std.proofs.lemmas.Nat.{pow-add}
 use Rattle.std.proofs.lemmas.Bool.{cases_lt, cases_eq, eq-eqb, ne_eqb, true≢false}
 use Rattle.std.proofs.lemmas.List.{append-nil, length-take-le, length-drop, take-take, drop-take, drop-drop, map-append}
 use Rattle.std.proofs.lemmas.List.Elements.{All-nil, All-push, All-pop, All-weaker}
+use Rattle.tl_hash.specs.Bytes.{Digest}
 use Rattle.tl_hash.specs.Split.{IsSplit}
 use Rattle.tl_hash.specs.Tree.{tree_hash, tree_of, tree_within}
 use Rattle.tl_hash.proofs.SplitLemmas.{IsSplit-positive}
@@ -62,7 +63,7 @@ All-last P xs x all = (All-pop P (xs ++ x ∷ []) xs (Some x) refl all).1
 pub All-before : {X : Type 0} (P : X → Type 0) → (xs : List X) (x : X) → All P (xs ++ x ∷ []) → All P xs
 All-before P xs x all = (All-pop P (xs ++ x ∷ []) xs (Some x) refl all).0
 
-pub hashes-push : (H : List ℕ → List ℕ) (entries : List (List ℕ)) (below : List Segment) (s : Segment) (start end : ℕ) (hashes : List (List ℕ)) → s.start ≡ start → s.end ≡ end
+pub hashes-push : (H : Digest) (entries : List (List ℕ)) (below : List Segment) (s : Segment) (start end : ℕ) (hashes : List (List ℕ)) → s.start ≡ start → s.end ≡ end
     → map (segment_root H entries) below ≡ hashes
     → map (segment_root H entries) (below ++ s ∷ []) ≡ hashes ++ tree_hash H (entries_in start end entries) ∷ []
 hashes-push H entries below s start end hashes start_is end_is is =
@@ -86,7 +87,7 @@ needs-between size index within =
 
 -- ---- the segments of an inclusion proof
 
-path_of_one : (H : List ℕ → List ℕ) (index : ℕ) (entries : List (List ℕ)) → length entries ≡ 1 → inclusion_proof H index entries ≡ []
+path_of_one : (H : Digest) (index : ℕ) (entries : List (List ℕ)) → length entries ≡ 1 → inclusion_proof H index entries ≡ []
 unfolding inclusion_proof path_in tree_of tree_within
 path_of_one H index [] one = absurd (omega (arith, one))
 path_of_one H index (entry ∷ []) one = refl
@@ -194,7 +195,7 @@ appended-all P new a = subst P (sym a.whole) a.are
 
 -- ---- the segments of a consistency proof
 
-proof_of_all : (H : List ℕ → List ℕ) (old : ℕ) (known : Bool) (entries : List (List ℕ)) → old ≡ length entries → subproof H old (tree_of entries) known ≡ (if known then [] else tree_hash H entries ∷ [])
+proof_of_all : (H : Digest) (old : ℕ) (known : Bool) (entries : List (List ℕ)) → old ≡ length entries → subproof H old (tree_of entries) known ≡ (if known then [] else tree_hash H entries ∷ [])
 unfolding tree_hash
 proof_of_all H old known entries same = subproof-whole H old known entries same
 
@@ -289,14 +290,14 @@ proof-whole_at old start end known s some same unknown start_is end_is =
 
 -- ---- in the words of the provers
 
-pub path-all : (H : List ℕ → List ℕ) (index size : ℕ) (segments : List Segment) (entries : List (List ℕ)) → IsPathPlan index 0 size segments → size ≤ length entries
+pub path-all : (H : Digest) (index size : ℕ) (segments : List Segment) (entries : List (List ℕ)) → IsPathPlan index 0 size segments → size ≤ length entries
     → map (segment_root H entries) segments ≡ inclusion_proof H index (take size entries)
 path-all H index size segments entries plan within =
     let place : index - 0 ≡ index = omega arith in
     let count : size - 0 ≡ size = omega arith in
     plan.hashes H entries within ∙ (λ i. inclusion_proof H (place i) (take (count i) entries))
 
-pub proof-all : (H : List ℕ → List ℕ) (old size : ℕ) (segments : List Segment) (entries : List (List ℕ)) → 0 < old → IsProofPlan old 0 size true segments → size ≤ length entries
+pub proof-all : (H : Digest) (old size : ℕ) (segments : List Segment) (entries : List (List ℕ)) → 0 < old → IsProofPlan old 0 size true segments → size ≤ length entries
     → map (segment_root H entries) segments ≡ consistency_proof H old (take size entries)
 unfolding consistency_proof
 proof-all H old size segments entries some plan within =
@@ -305,11 +306,11 @@ proof-all H old size segments entries some plan within =
     plan.hashes H entries within ∙ (λ i. subproof H (place i) (tree_of (take (count i) entries)) true)
     ∙ sym (ap (λ (b : Bool). cond b [] (subproof H old (tree_of (take size entries)) true)) (ne_eqb old 0 (λ e. omega (arith, e, some))))
 
-pub proof_of_none : (H : List ℕ → List ℕ) (old : ℕ) (entries : List (List ℕ)) → old ≡ 0 → consistency_proof H old entries ≡ []
+pub proof_of_none : (H : Digest) (old : ℕ) (entries : List (List ℕ)) → old ≡ 0 → consistency_proof H old entries ≡ []
 unfolding consistency_proof
 proof_of_none H old entries none = rw (eq-eqb old 0 none) refl
 
-pub proof_of_same : (H : List ℕ → List ℕ) (old size : ℕ) (entries : List (List ℕ)) → 0 < old → old ≡ size → size ≤ length entries → consistency_proof H old (take size entries) ≡ []
+pub proof_of_same : (H : Digest) (old size : ℕ) (entries : List (List ℕ)) → 0 < old → old ≡ size → size ≤ length entries → consistency_proof H old (take size entries) ≡ []
 unfolding consistency_proof
 proof_of_same H old size entries some same within =
     let len : old ≡ length (take size entries) = same ∙ sym (length-take-le size entries within) in

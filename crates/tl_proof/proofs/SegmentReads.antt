@@ -6,6 +6,7 @@ use Rattle.std.proofs.lemmas.Bool.{cases_lt}
 use Rattle.std.proofs.lemmas.List.{append-nil, length-append, drop_more, drop_all, drop-drop, take-append-le, drop-take, map-append, length-map}
 use Rattle.std.proofs.lemmas.List.Sums.{sum_by-cons}
 use Rattle.std.proofs.lemmas.List.Elements.{All-get_or, All-nil, All-cons, All-head, All-tail, All-append, All-take, All-drop, All-weaker}
+use Rattle.tl_hash.specs.Bytes.{Digest}
 use Rattle.tl_hash.specs.Tree.{tree_hash}
 use Rattle.tl_store.specs.Stored.{stored_count, stored_hash}
 use Rattle.tl_store.specs.Reader.{readable_size, GivesFault}
@@ -141,11 +142,11 @@ AddsHashes H segments hashes before after =
     (entries others : List (List ℕ)) (indexes : List ℕ) → AreGroups segments indexes → All (λ s. s.end ≤ length entries) segments → hashes ≡ map (stored_hash H entries) indexes
     → after ≡ before ++ map (segment_root H (entries ++ others)) segments
 
-pub hashes-none : (H : List ℕ → List ℕ) (segments : List Segment) (hashes before : List (List ℕ)) → segments ≡ [] → AddsHashes H segments hashes before before
+pub hashes-none : (H : Digest) (segments : List Segment) (hashes before : List (List ℕ)) → segments ≡ [] → AddsHashes H segments hashes before before
 hashes-none H segments hashes before is entries others indexes groups within from =
     sym (ap (λ (list : List Segment). before ++ map (segment_root H (entries ++ others)) list) is ∙ append-nil before)
 
-hashes_next_at : (H : List ℕ → List ℕ) (s : Segment) (later : List Segment) (count : ℕ) (hashes before between after : List (List ℕ)) (root : List ℕ) → s.start < s.end → count ≡ count_ones (s.end - s.start)
+hashes_next_at : (H : Digest) (s : Segment) (later : List Segment) (count : ℕ) (hashes before between after : List (List ℕ)) (root : List ℕ) → s.start < s.end → count ≡ count_ones (s.end - s.start)
     → Folds H (take count hashes) root → between ≡ before ++ root ∷ [] → AddsHashes H later (drop count hashes) between after
     → AddsHashes H (s ∷ later) hashes before after
 hashes_next_at H s later count hashes before between after root order count_is folds between_is adds entries others _ (next_group s' segments' group numbers covering rest) within from =
@@ -162,7 +163,7 @@ hashes_next_at H s later count hashes before between after root order count_is f
     ∙ (λ i. (between_is ∙ (λ j. before ++ root_is j ∷ [])) i ++ map (segment_root H (entries ++ others)) later)
     ∙ append_assoc before (segment_root H (entries ++ others) s ∷ []) (map (segment_root H (entries ++ others)) later)
 
-pub hashes-next : (H : List ℕ → List ℕ) (segments : List Segment) (s : Segment) (later : List Segment) (count : ℕ) (hashes before between after : List (List ℕ)) (root : List ℕ) → segments ≡ s ∷ later → s.start < s.end
+pub hashes-next : (H : Digest) (segments : List Segment) (s : Segment) (later : List Segment) (count : ℕ) (hashes before between after : List (List ℕ)) (root : List ℕ) → segments ≡ s ∷ later → s.start < s.end
     → count ≡ count_ones (s.end - s.start) → Folds H (take count hashes) root → between ≡ before ++ root ∷ [] → AddsHashes H later (drop count hashes) between after
     → AddsHashes H segments hashes before after
 hashes-next H segments s later count hashes before between after root is order count_is folds between_is adds =
@@ -179,11 +180,11 @@ readable-all count entries segments stands within =
 -- ---- one segment after another
 
 -- the roots of the segments before place i were added, and `from` hashes used
-pub record RootsSoFar (H : List ℕ → List ℕ) (segments : List Segment) (hashes : List (List ℕ)) (i from : ℕ) (roots : List (List ℕ)) : Type 0 where
+pub record RootsSoFar (H : Digest) (segments : List Segment) (hashes : List (List ℕ)) (i from : ℕ) (roots : List (List ℕ)) : Type 0 where
   pub count : from + subtree_count (drop i segments) ≡ length hashes
   pub adds : (after : List (List ℕ)) → AddsHashes H (drop i segments) (drop from hashes) roots after → AddsHashes H segments hashes [] after
 
-pub roots-init : (H : List ℕ → List ℕ) (segments : List Segment) (hashes roots : List (List ℕ)) → length hashes ≡ subtree_count segments → roots ≡ [] → RootsSoFar H segments hashes 0 0 roots
+pub roots-init : (H : Digest) (segments : List Segment) (hashes roots : List (List ℕ)) → length hashes ≡ subtree_count segments → roots ≡ [] → RootsSoFar H segments hashes 0 0 roots
 roots-init H segments hashes roots len is = record {
   count = omega (arith, len);
   adds = λ after adds. subst (λ (list : List (List ℕ)). AddsHashes H segments hashes list after) is adds;
@@ -198,11 +199,11 @@ count_at segments i d s within is =
     ap (λ (list : List Segment). subtree_count list) (segments_at segments i d s within is) ∙ sum_by-cons (λ (x : Segment). count_ones (x.end - x.start)) s (drop (i + 1) segments)
 
 -- the hashes of a segment are there
-pub roots-enough : (H : List ℕ → List ℕ) (segments : List Segment) (hashes : List (List ℕ)) (i from count : ℕ) (roots : List (List ℕ)) (d s : Segment) → i < length segments → s ≡ get_or segments i d
+pub roots-enough : (H : Digest) (segments : List Segment) (hashes : List (List ℕ)) (i from count : ℕ) (roots : List (List ℕ)) (d s : Segment) → i < length segments → s ≡ get_or segments i d
     → count ≡ count_ones (s.end - s.start) → RootsSoFar H segments hashes i from roots → from + count ≤ length hashes
 roots-enough H segments hashes i from count roots d s within is count_is so_far = omega (arith, count_at segments i d s within is, count_is, so_far.count)
 
-pub roots-more : (H : List ℕ → List ℕ) (segments : List Segment) (hashes : List (List ℕ)) (i from count : ℕ) (roots next : List (List ℕ)) (d s : Segment) (root : List ℕ) → i < length segments → s ≡ get_or segments i d
+pub roots-more : (H : Digest) (segments : List Segment) (hashes : List (List ℕ)) (i from count : ℕ) (roots next : List (List ℕ)) (d s : Segment) (root : List ℕ) → i < length segments → s ≡ get_or segments i d
     → IsSegment s → count ≡ count_ones (s.end - s.start) → Folds H (take (from + count - from) (drop from hashes)) root → next ≡ roots ++ root ∷ []
     → RootsSoFar H segments hashes i from roots → RootsSoFar H segments hashes (i + 1) (from + count) next
 roots-more H segments hashes i from count roots next d s root within is part count_is folds next_is so_far = record {
@@ -216,7 +217,7 @@ roots-more H segments hashes i from count roots next d s root within is part cou
       (hashes-next H (drop i segments) s (drop (i + 1) segments) count (drop from hashes) roots next after root (segments_at segments i d s within is) part.some count_is here next_is rest);
 }
 
-pub roots-all : (H : List ℕ → List ℕ) (segments : List Segment) (hashes : List (List ℕ)) (i from : ℕ) (roots : List (List ℕ)) → length segments ≤ i → RootsSoFar H segments hashes i from roots → AddsHashes H segments hashes [] roots
+pub roots-all : (H : Digest) (segments : List Segment) (hashes : List (List ℕ)) (i from : ℕ) (roots : List (List ℕ)) → length segments ≤ i → RootsSoFar H segments hashes i from roots → AddsHashes H segments hashes [] roots
 roots-all H segments hashes i from roots end so_far = so_far.adds roots (hashes-none H (drop i segments) (drop from hashes) roots (drop_all i segments end))
 
 pub segment-at : (segments : List Segment) (i : ℕ) (d s : Segment) → i < length segments → s ≡ get_or segments i d → All IsSegment segments → IsSegment s

@@ -5,6 +5,7 @@ use Rattle.std.specs.Prelude.{IfSome}
 use Rattle.std.specs.List.{AllByRecursion}
 use Rattle.std.proofs.lemmas.Bool.{cases_lt, cases_Bool, cond_both, eqb-true, le-leb, lt-ltb, le-ltb}
 use Rattle.std.proofs.lemmas.List.{get_or-take, get_or-drop}
+use Rattle.tl_hash.specs.Bytes.{Digest}
 use Rattle.tl_hash.specs.Split.{split_point, IsSplit}
 use Rattle.tl_hash.specs.Tree.{tree_hash, inputs, leaf_input, node_input}
 use Rattle.tl_hash.proofs.SplitLemmas.{split_point_is, split_point-splits}
@@ -20,12 +21,12 @@ use Rattle.tl_proof.proofs.Folds.{cases_option, Some-injective, None-no_Some, no
 use Rattle.tl_hash.proofs.SameSize.{Collision, Collision-among, Contains-head, Contains-tail, inputs-first, inputs-rest}
 
 -- the inputs of a check, a step at a time
-path_inputs_from-left : (H : List ℕ → List ℕ) (k index size : ℕ) (last : List ℕ) (others : List (List ℕ)) (leaf : List ℕ) → IsSplit k size → index < k
+path_inputs_from-left : (H : Digest) (k index size : ℕ) (last : List ℕ) (others : List (List ℕ)) (leaf : List ℕ) → IsSplit k size → index < k
     → path_inputs_from H index size (last ∷ others) leaf ≡ input_on_left (root_from_leaf H index k others leaf) last ++ path_inputs_from H index k others leaf
 unfolding path_inputs_from
 path_inputs_from-left H k index size last others leaf s less = rw (split_point_is k size s, lt-ltb index k less) refl
 
-path_inputs_from-right : (H : List ℕ → List ℕ) (k index size : ℕ) (last : List ℕ) (others : List (List ℕ)) (leaf : List ℕ) → IsSplit k size → k ≤ index
+path_inputs_from-right : (H : Digest) (k index size : ℕ) (last : List ℕ) (others : List (List ℕ)) (leaf : List ℕ) → IsSplit k size → k ≤ index
     → path_inputs_from H index size (last ∷ others) leaf ≡ input_on_right (root_from_leaf H (index - k) (size - k) others leaf) last ++ path_inputs_from H (index - k) (size - k) others leaf
 unfolding path_inputs_from
 path_inputs_from-right H k index size last others leaf s more = rw (split_point_is k size s, le-ltb index k more) refl
@@ -41,7 +42,7 @@ ShowsAll H proof = (index size : ℕ) (leaf root : List ℕ) (entries : List (Li
     → root_from_leaf H index size proof leaf ≡ Some root → root ≡ tree_hash H entries → Shows H index size proof leaf entries
 
 -- every root that a check leads to is a hash
-root_from_leaf-hash : (H : List ℕ → List ℕ) → ((message : List ℕ) → HasHashLength (H message)) → (proof : List (List ℕ)) (index size : ℕ) (leaf : List ℕ)
+root_from_leaf-hash : (H : Digest) → ((message : List ℕ) → HasHashLength (H message)) → (proof : List (List ℕ)) (index size : ℕ) (leaf : List ℕ)
     → HasHashLength leaf → IfSome (root_from_leaf H index size proof leaf) HasHashLength
 unfolding root_from_leaf
 root_from_leaf-hash H wide [] index size leaf is = cond_both (eqb size 1) (Some leaf) None (λ o. IfSome o HasHashLength) (λ e. is) (λ e. tt)
@@ -55,13 +56,13 @@ root_from_leaf-hash H wide (last ∷ others) index size leaf is =
     (λ d. IfSome-map (λ root. H (node_input root last)) HasHashLength (λ root. wide (node_input root last)) first)
     (λ d. IfSome-map (λ root. H (node_input last root)) HasHashLength (λ root. wide (node_input last root)) second))
 
-shows-one : (H : List ℕ → List ℕ) (index : ℕ) (leaf root : List ℕ) (entries : List (List ℕ)) → length entries ≡ 1 → index < 1 → leaf ≡ root → root ≡ tree_hash H entries → leaf ≡ H (leaf_input (get_or entries index []))
+shows-one : (H : Digest) (index : ℕ) (leaf root : List ℕ) (entries : List (List ℕ)) → length entries ≡ 1 → index < 1 → leaf ≡ root → root ≡ tree_hash H entries → leaf ≡ H (leaf_input (get_or entries index []))
 shows-one H index leaf root [] len within same is = absurd (omega (arith, len))
 shows-one H zero leaf root (entry ∷ []) len within same is = same ∙ is ∙ tree_hash-one H entry
 shows-one H (suc index) leaf root (entry ∷ []) len within same is = absurd (omega (arith, within))
 shows-one H index leaf root (entry ∷ next ∷ rest) len within same is = absurd (omega (arith, len))
 
-shows-nil : (H : List ℕ → List ℕ) → ShowsAll H []
+shows-nil : (H : Digest) → ShowsAll H []
 unfolding root_from_leaf
 shows-nil H index size leaf root entries len within leaf_is all leads is =
     elim (cases_Bool (eqb size 1)) as (λ _. Shows H index size [] leaf entries) [
@@ -71,7 +72,7 @@ shows-nil H index size leaf root entries len within leaf_is all leads is =
       | inr e ↦ absurd (None-no_Some None root refl (rw e at leads))
     ]
 
-shows-left : (H : List ℕ → List ℕ) → ((message : List ℕ) → HasHashLength (H message)) → (last : List ℕ) (others : List (List ℕ)) → ShowsAll H others
+shows-left : (H : Digest) → ((message : List ℕ) → HasHashLength (H message)) → (last : List ℕ) (others : List (List ℕ)) → ShowsAll H others
     → (k index size : ℕ) (leaf root below : List ℕ) (entries : List (List ℕ)) → IsSplit k size → length entries ≡ size → index < k → HasHashLength leaf → AllByRecursion HasHashLength others
     → root_from_leaf H index k others leaf ≡ Some below → H (node_input below last) ≡ root → root ≡ tree_hash H entries → Shows H index size (last ∷ others) leaf entries
 shows-left H wide last others deeper k index size leaf root below entries s len less leaf_is all leads joins is =
@@ -91,7 +92,7 @@ shows-left H wide last others deeper k index size leaf root below entries s len 
           ]
     ]
 
-shows-right : (H : List ℕ → List ℕ) → ((message : List ℕ) → HasHashLength (H message)) → (last : List ℕ) (others : List (List ℕ)) → ShowsAll H others
+shows-right : (H : Digest) → ((message : List ℕ) → HasHashLength (H message)) → (last : List ℕ) (others : List (List ℕ)) → ShowsAll H others
     → (k index size : ℕ) (leaf root below : List ℕ) (entries : List (List ℕ)) → IsSplit k size → length entries ≡ size → k ≤ index → index < size → HasHashLength leaf → HasHashLength last → AllByRecursion HasHashLength others
     → root_from_leaf H (index - k) (size - k) others leaf ≡ Some below → H (node_input last below) ≡ root → root ≡ tree_hash H entries → Shows H index size (last ∷ others) leaf entries
 shows-right H wide last others deeper k index size leaf root below entries s len more within leaf_is last_is all leads joins is =
@@ -113,7 +114,7 @@ shows-right H wide last others deeper k index size leaf root below entries s len
     ]
 
 -- a proof with a hash leads over two entries or more
-leads-many : (H : List ℕ → List ℕ) (index size : ℕ) (last : List ℕ) (others : List (List ℕ)) (leaf root : List ℕ) → root_from_leaf H index size (last ∷ others) leaf ≡ Some root → 1 < size
+leads-many : (H : Digest) (index size : ℕ) (last : List ℕ) (others : List (List ℕ)) (leaf root : List ℕ) → root_from_leaf H index size (last ∷ others) leaf ≡ Some root → 1 < size
 unfolding root_from_leaf
 leads-many H index size last others leaf root leads =
     elim (cases_lt 1 size) as (λ _. 1 < size) [
@@ -121,7 +122,7 @@ leads-many H index size last others leaf root leads =
       | inr few ↦ absurd (None-no_Some None root refl (rw (le-leb size 1 few) at leads))
     ]
 
-shows-step : (H : List ℕ → List ℕ) → ((message : List ℕ) → HasHashLength (H message)) → (last : List ℕ) (others : List (List ℕ)) → ShowsAll H others → ShowsAll H (last ∷ others)
+shows-step : (H : Digest) → ((message : List ℕ) → HasHashLength (H message)) → (last : List ℕ) (others : List (List ℕ)) → ShowsAll H others → ShowsAll H (last ∷ others)
 shows-step H wide last others deeper index size leaf root entries len within leaf_is all leads is =
     let k : ℕ = split_point size in
     let s : IsSplit k size = split_point-splits size (leads-many H index size last others leaf root leads) in
@@ -142,7 +143,7 @@ shows-step H wide last others deeper index size leaf root entries len within lea
           ]
     ]
 
-leaf_shown : (H : List ℕ → List ℕ) → ((message : List ℕ) → HasHashLength (H message)) → (proof : List (List ℕ)) → ShowsAll H proof
+leaf_shown : (H : Digest) → ((message : List ℕ) → HasHashLength (H message)) → (proof : List (List ℕ)) → ShowsAll H proof
 leaf_shown H wide [] = shows-nil H
 leaf_shown H wide (last ∷ others) = shows-step H wide last others (leaf_shown H wide others)
 

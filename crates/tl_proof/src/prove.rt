@@ -1,6 +1,7 @@
 //! Inclusion and consistency proofs from stored hashes.
 
-ghost use Rattle.std.specs.Prelude.{◌≡◌, ◌≤◌, ◌++◌, ℕ, List, length, take, IfOk, IfErr, OnOk};
+ghost use Rattle.std.specs.Prelude.{◌≡◌, ◌≤◌, ◌++◌, List, length, take, IfOk, IfErr, OnOk};
+ghost use Rattle.tl_hash.specs.Bytes.{Bytes};
 ghost use Rattle.tl_store.specs.Reader.{readable_size};
 ghost use Rattle.tl_proof.specs.Proofs.{inclusion_proof, consistency_proof};
 ghost use Rattle.tl_proof.specs.Needs.{inclusion_needs, consistency_needs};
@@ -25,7 +26,7 @@ pub fn prove_record<T: TreeHash, R: HashReader, A: Allocator + Copy>(
     index: u64,
     reader: &R,
 ) -> Result<Vec<Hash, A>, ProveFault>
-    ensures path { (entries more : List (List ℕ))
+    ensures path { (entries more : List Bytes)
         → R.stands_for reader.now T.digest_of entries
         → size ≤ length (entries ++ more)
         → IfOk result (λ proof. proof.items ≡ inclusion_proof T.digest_of index (take size (entries ++ more))) }
@@ -51,7 +52,7 @@ pub fn prove_tree<T: TreeHash, R: HashReader, A: Allocator + Copy>(
     old: u64,
     reader: &R,
 ) -> Result<Vec<Hash, A>, ProveFault>
-    ensures proof { (entries more : List (List ℕ))
+    ensures proof { (entries more : List Bytes)
         → R.stands_for reader.now T.digest_of entries
         → size ≤ length (entries ++ more)
         → IfOk result (λ proof. proof.items ≡ consistency_proof T.digest_of old (take size (entries ++ more))) }

@@ -2,6 +2,7 @@
 
 ghost use Rattle.std.specs.Prelude.{◌≡◌, ◌≤◌, ◌<◌, ◌-◌, ◌^◌, ◌++◌, ℕ, List, length, map, min, All, IfOk, IfErr, OnOk, OnErr};
 ghost use Rattle.std.specs.Int.RustNames.{count_ones};
+ghost use Rattle.tl_hash.specs.Bytes.{Bytes};
 ghost use Rattle.tl_store.specs.Stored.{stored_hash};
 ghost use Rattle.tl_store.specs.Reader.{readable_size};
 ghost use Rattle.tl_store.specs.Head.{GivesHeadFault};
@@ -57,7 +58,7 @@ fn group_hashes<T: TreeHash, A: Allocator>(
 ) -> Result<Vec<Hash, A>, AllocError>
     requires parts { All IsSegment segments.now }
     requires count { length hashes.now ≡ subtree_count segments.now }
-    ensures hashes { (entries more : List (List ℕ)) (indexes : List ℕ)
+    ensures hashes { (entries more : List Bytes) (indexes : List ℕ)
         → AreGroups segments.now indexes
         → All (λ s. s.end ≤ length entries) segments.now
         → hashes.now ≡ map (stored_hash T.digest_of entries) indexes
@@ -84,7 +85,7 @@ pub(crate) fn read_segments<T: TreeHash, R: HashReader, A: Allocator + Copy>(
 ) -> Result<Vec<Hash, A>, ReadFault>
     requires parts { All IsSegment segments.now }
     requires small { All (λ s. s.end ≤ 2 ^ 62) segments.now }
-    ensures hashes { (entries more : List (List ℕ))
+    ensures hashes { (entries more : List Bytes)
         → R.stands_for reader.now T.digest_of entries
         → IfOk result (λ proof. proof.items ≡ map (segment_root T.digest_of (entries ++ more)) segments.now) }
     ensures in_range { (needed : ℕ) → IsNeeded 0 needed segments.now

@@ -9,6 +9,7 @@ use Rattle.std.proofs.lemmas.Nat.Bits.{bit_at-trailing_zeros}
 use Rattle.std.proofs.lemmas.Bool.{cases_lt, cases_eq, eq-eqb, eqb-true}
 use Rattle.std.proofs.lemmas.List.{length-append, map-append, length-drop, take_all, take-append-le, drop-take, drop-drop, get_or_append_left, nil_from_length}
 use Rattle.std.proofs.Math.Seq.{drop-append_seam}
+use Rattle.tl_hash.specs.Bytes.{Digest}
 use Rattle.tl_hash.specs.Split.{IsSplit}
 use Rattle.tl_hash.specs.Tree.{tree_hash, leaf_input, node_input}
 use Rattle.tl_hash.proofs.SplitLemmas.{below_pow}
@@ -114,7 +115,7 @@ left_part size k level some is low =
     }
 
 -- a node over the left part and the subtree so far is the next subtree
-pub next_subtree : (H : List ℕ → List ℕ) (entries : List (List ℕ)) (entry : List ℕ) (size level : ℕ) → length entries + 1 ≡ size → HasLeftPart size level
+pub next_subtree : (H : Digest) (entries : List (List ℕ)) (entry : List ℕ) (size level : ℕ) → length entries + 1 ≡ size → HasLeftPart size level
     → H (node_input (stored_hash H entries (stored_index level (size / 2 ^ level - 2))) (subtree_hash H (entries ++ entry ∷ []) size level))
     ≡ subtree_hash H (entries ++ entry ∷ []) size (level + 1)
 next_subtree H entries entry size level len part =
@@ -145,7 +146,7 @@ next_subtree H entries entry size level len part =
     ∙ sym (above ∙ tree_hash-split H w last split ∙ (λ i. H (node_input (tree_hash H (first i)) (tree_hash H (second i)))))
 
 -- the leaf is the first
-pub first_subtree : (H : List ℕ → List ℕ) (entries : List (List ℕ)) (entry : List ℕ) (size : ℕ) → length entries + 1 ≡ size
+pub first_subtree : (H : Digest) (entries : List (List ℕ)) (entry : List ℕ) (size : ℕ) → length entries + 1 ≡ size
     → subtree_hash H (entries ++ entry ∷ []) size 0 ≡ H (leaf_input entry)
 first_subtree H entries entry size len =
     let all : List (List ℕ) = entries ++ entry ∷ [] in
@@ -179,13 +180,13 @@ last_level size level some small low high =
 -- ---- the hashes that an entry adds, one after another
 
 -- from the hashes before, those of the subtrees up to `level` were added, and `hash` is the last of them
-pub record ArePushed (H : List ℕ → List ℕ) (size : ℕ) (leaf_hash : List ℕ) (level : ℕ) (hash : List ℕ) (before now : List (List ℕ)) : Type 0 where
+pub record ArePushed (H : Digest) (size : ℕ) (leaf_hash : List ℕ) (level : ℕ) (hash : List ℕ) (before now : List (List ℕ)) : Type 0 where
   pub count : length now ≡ length before + (level + 1)
   pub hashes : (entries : List (List ℕ)) (entry : List ℕ) → length entries + 1 ≡ size → before ≡ stored_hashes H entries → leaf_hash ≡ H (leaf_input entry)
       → (hash ≡ subtree_hash H (entries ++ entry ∷ []) size level)
       × (now ≡ before ++ map (subtree_hash H (entries ++ entry ∷ []) size) (range_with_len 0 (level + 1)))
 
-pub pushed-first : (H : List ℕ → List ℕ) (size : ℕ) (leaf_hash : List ℕ) (before now : List (List ℕ)) → now ≡ before ++ leaf_hash ∷ [] → ArePushed H size leaf_hash 0 leaf_hash before now
+pub pushed-first : (H : Digest) (size : ℕ) (leaf_hash : List ℕ) (before now : List (List ℕ)) → now ≡ before ++ leaf_hash ∷ [] → ArePushed H size leaf_hash 0 leaf_hash before now
 pushed-first H size leaf_hash before now is = record {
   count = ap length is ∙ length-append before (leaf_hash ∷ []);
   hashes = λ entries entry len stored leaf_is.
@@ -193,7 +194,7 @@ pushed-first H size leaf_hash before now is = record {
       (first, is ∙ (λ i. before ++ first i ∷ []));
 }
 
-pub pushed-next : (H : List ℕ → List ℕ) (size : ℕ) (leaf_hash : List ℕ) (level : ℕ) (hash : List ℕ) (before now : List (List ℕ)) (power number : ℕ) (left next : List ℕ) (after : List (List ℕ))
+pub pushed-next : (H : Digest) (size : ℕ) (leaf_hash : List ℕ) (level : ℕ) (hash : List ℕ) (before now : List (List ℕ)) (power number : ℕ) (left next : List ℕ) (after : List (List ℕ))
     → 0 < size → size < 2 ^ 32 → level < trailing_zeros w64 size → power ≡ 2 ^ level → length before ≡ stored_count (size - 1) → number ≡ stored_index level (size / power - 2) → ArePushed H size leaf_hash level hash before now
     → left ≡ get_or now number [] → next ≡ H (node_input left hash) → after ≡ now ++ next ∷ []
     → ArePushed H size leaf_hash (level + 1) next before after
@@ -232,7 +233,7 @@ left_there size level power number before now more some small low power_is count
     let number_is : number ≡ stored_index level (size / 2 ^ level - 2) = left_at size level power number power_is left_number in
     omega (arith, number_is, counted, count, index-in_count (size - 1) level (size / 2 ^ level - 2) (omega (arith, part.end, pow_pos level)))
 
-pub pushed-all : (H : List ℕ → List ℕ) (size : ℕ) (leaf_hash : List ℕ) (level : ℕ) (hash : List ℕ) (before now : List (List ℕ)) → 0 < size → IsHighest level size → ArePushed H size leaf_hash level hash before now
+pub pushed-all : (H : Digest) (size : ℕ) (leaf_hash : List ℕ) (level : ℕ) (hash : List ℕ) (before now : List (List ℕ)) → 0 < size → IsHighest level size → ArePushed H size leaf_hash level hash before now
     → (entries : List (List ℕ)) (entry : List ℕ) → length entries + 1 ≡ size → before ≡ stored_hashes H entries → leaf_hash ≡ H (leaf_input entry)
     → now ≡ stored_hashes H (entries ++ entry ∷ [])
 pushed-all H size leaf_hash level hash before now some is pushed entries entry len stored leaf_is =

@@ -7,6 +7,7 @@ use Rattle.std.proofs.lemmas.Nat.{pow_pos, pow-add, div-mul-add, ones_cat}
 use Rattle.std.proofs.lemmas.Bool.{cases_lt, le-leb, lt-leb}
 use Rattle.std.proofs.lemmas.List.{append-nil, drop_more, drop_all, length-take-le, length-drop, take-take, drop-take, drop-drop}
 use Rattle.std.proofs.lemmas.List.Elements.{All-nil, All-cons, All-head, All-tail}
+use Rattle.tl_hash.specs.Bytes.{Digest}
 use Rattle.tl_hash.specs.Split.{IsSplit}
 use Rattle.tl_hash.specs.Tree.{tree_hash, node_input}
 use Rattle.tl_hash.proofs.TreeLemmas.{tree_hash-none, tree_hash-split}
@@ -154,7 +155,7 @@ abbrev pub segment : ℕ → ℕ → List (List ℕ) → List (List ℕ)
 segment start end entries = take (end - start) (drop start entries)
 
 -- the first subtree's hash
-first_hash : (H : List ℕ → List ℕ) (entries : List (List ℕ)) (start level place : ℕ) → start ≡ place * 2 ^ level → start + 2 ^ level ≤ length entries
+first_hash : (H : Digest) (entries : List (List ℕ)) (start level place : ℕ) → start ≡ place * 2 ^ level → start + 2 ^ level ≤ length entries
     → stored_hash H entries (stored_index level place) ≡ tree_hash H (take (2 ^ level) (drop start entries))
 first_hash H entries start level place at within =
     (index_is_place H entries level place (omega (arith, at, within))).1 ∙ ap (λ (x : ℕ). tree_hash H (take (2 ^ level) (drop x entries))) (sym at)
@@ -165,14 +166,14 @@ Joins H hashes result =
     (entries : List (List ℕ)) (start end : ℕ) (indexes : List ℕ) → AreCovering start end indexes → end ≤ length entries → hashes ≡ map (stored_hash H entries) indexes
     → result ≡ tree_hash H (segment start end entries)
 
-pub joins-none : (H : List ℕ → List ℕ) (hashes : List (List ℕ)) (result : List ℕ) → length hashes ≡ 0 → result ≡ H [] → Joins H hashes result
+pub joins-none : (H : Digest) (hashes : List (List ℕ)) (result : List ℕ) → length hashes ≡ 0 → result ≡ H [] → Joins H hashes result
 joins-none H hashes result empty is entries start end [] (none s e same) within from =
     let count : end - start ≡ 0 = omega (arith, same) in
     is ∙ sym (ap (λ (x : ℕ). tree_hash H (take x (drop start entries))) count ∙ tree_hash-none H)
 joins-none H hashes result empty is entries start end _ (more s e level place rest at fits largest covering) within from =
     absurd (omega (arith, empty, ap length from))
 
-joins_one_at : (H : List ℕ → List ℕ) (hash : List ℕ) (entries : List (List ℕ)) (start end : ℕ) (indexes : List ℕ) → AreCovering start end indexes → end ≤ length entries → hash ∷ [] ≡ map (stored_hash H entries) indexes
+joins_one_at : (H : Digest) (hash : List ℕ) (entries : List (List ℕ)) (start end : ℕ) (indexes : List ℕ) → AreCovering start end indexes → end ≤ length entries → hash ∷ [] ≡ map (stored_hash H entries) indexes
     → hash ≡ tree_hash H (segment start end entries)
 joins_one_at H hash entries start end [] (none s e same) within from = absurd (omega (arith, ap length from))
 joins_one_at H hash entries start end _ (more s e level place [] at fits largest (none s' e' same)) within from =
@@ -181,10 +182,10 @@ joins_one_at H hash entries start end _ (more s e level place [] at fits largest
     first ∙ first_hash H entries start level place at (omega (arith, fits, within)) ∙ ap (λ (x : ℕ). tree_hash H (take x (drop start entries))) count
 joins_one_at H hash entries start end _ (more s e level place (index ∷ rest) at fits largest covering) within from = absurd (omega (arith, ap length from))
 
-pub joins-one : (H : List ℕ → List ℕ) (hashes : List (List ℕ)) (hash : List ℕ) → hashes ≡ hash ∷ [] → Joins H hashes hash
+pub joins-one : (H : Digest) (hashes : List (List ℕ)) (hash : List ℕ) → hashes ≡ hash ∷ [] → Joins H hashes hash
 joins-one H hashes hash is entries start end indexes covering within from = joins_one_at H hash entries start end indexes covering within (sym is ∙ from)
 
-joins_more_at : (H : List ℕ → List ℕ) (left next : List ℕ) (later : List (List ℕ)) (result : List ℕ) → Joins H (next ∷ later) result
+joins_more_at : (H : Digest) (left next : List ℕ) (later : List (List ℕ)) (result : List ℕ) → Joins H (next ∷ later) result
     → (entries : List (List ℕ)) (start end : ℕ) (indexes : List ℕ) → AreCovering start end indexes → end ≤ length entries → left ∷ next ∷ later ≡ map (stored_hash H entries) indexes
     → H (node_input left result) ≡ tree_hash H (segment start end entries)
 joins_more_at H left next later result joins entries start end [] (none s e same) within from = absurd (omega (arith, ap length from))
@@ -208,7 +209,7 @@ joins_more_at H left next later result joins entries start end _ (more s e level
     (λ i. H (node_input (left_is i) (others_is i)))
     ∙ sym (tree_hash-split H w whole split ∙ (λ i. H (node_input (tree_hash H (left_part i)) (tree_hash H (right_part i)))))
 
-pub joins-more : (H : List ℕ → List ℕ) (hashes : List (List ℕ)) (left : List ℕ) (rest : List (List ℕ)) (below result : List ℕ) → hashes ≡ left ∷ rest → 0 < length rest → Joins H rest below
+pub joins-more : (H : Digest) (hashes : List (List ℕ)) (left : List ℕ) (rest : List (List ℕ)) (below result : List ℕ) → hashes ≡ left ∷ rest → 0 < length rest → Joins H rest below
     → result ≡ H (node_input left below) → Joins H hashes result
 joins-more H hashes left [] below result is some joins result_is entries start end indexes covering within from = absurd (omega (arith, some))
 joins-more H hashes left (next ∷ later) below result is some joins result_is entries start end indexes covering within from =
@@ -247,12 +248,12 @@ head_fault count may_fail size indexes (BadTile level index width) some small co
 -- ---- in the words of the code
 
 -- the last hash alone, and one hash more before those that were joined
-pub joins-last : (H : List ℕ → List ℕ) (hashes : List (List ℕ)) (count : ℕ) (last : List ℕ) → count < length hashes → length hashes ≤ count + 1 → last ≡ get_or hashes count last → Joins H (drop count hashes) last
+pub joins-last : (H : Digest) (hashes : List (List ℕ)) (count : ℕ) (last : List ℕ) → count < length hashes → length hashes ≤ count + 1 → last ≡ get_or hashes count last → Joins H (drop count hashes) last
 joins-last H hashes count last within end is =
     joins-one H (drop count hashes) last
     (drop_more hashes count last within ∙ (λ i. sym is i ∷ drop_all (count + 1) hashes end i))
 
-pub joins-next : (H : List ℕ → List ℕ) (hashes : List (List ℕ)) (count : ℕ) (left below : List ℕ) → 0 < count → count < length hashes → left ≡ get_or hashes (count - 1) left → Joins H (drop count hashes) below
+pub joins-next : (H : Digest) (hashes : List (List ℕ)) (count : ℕ) (left below : List ℕ) → 0 < count → count < length hashes → left ≡ get_or hashes (count - 1) left → Joins H (drop count hashes) below
     → Joins H (drop (count - 1) hashes) (H (node_input left below))
 joins-next H hashes count left below some within is joins =
     let next : count - 1 + 1 ≡ count = omega (arith, some) in
@@ -260,17 +261,17 @@ joins-next H hashes count left below some within is joins =
     (drop_more hashes (count - 1) left (omega (arith, within)) ∙ (λ i. sym is i ∷ drop (next i) hashes))
     (omega (arith, length-drop count hashes, within)) joins refl
 
-pub joins-all : (H : List ℕ → List ℕ) (hashes : List (List ℕ)) (count : ℕ) (root : List ℕ) → count ≤ 0 → Joins H (drop count hashes) root → Joins H hashes root
+pub joins-all : (H : Digest) (hashes : List (List ℕ)) (count : ℕ) (root : List ℕ) → count ≤ 0 → Joins H (drop count hashes) root → Joins H hashes root
 joins-all H hashes zero root first joins = joins
 joins-all H hashes (suc count) root first joins = absurd (omega (arith, first))
 
-pub root_is : (H : List ℕ → List ℕ) (entries : List (List ℕ)) (size : ℕ) (indexes : List ℕ) (hashes : List (List ℕ)) (result : List ℕ) → AreCovering 0 size indexes → size ≤ length entries
+pub root_is : (H : Digest) (entries : List (List ℕ)) (size : ℕ) (indexes : List ℕ) (hashes : List (List ℕ)) (result : List ℕ) → AreCovering 0 size indexes → size ≤ length entries
     → hashes ≡ map (stored_hash H entries) indexes → Joins H hashes result → result ≡ tree_hash H (take size entries)
 root_is H entries size indexes hashes result covering within from joins =
     let all : size - 0 ≡ size = omega arith in
     joins entries 0 size indexes covering within from ∙ ap (λ (x : ℕ). tree_hash H (take x entries)) all
 
-pub root_of_none : (H : List ℕ → List ℕ) (entries : List (List ℕ)) (size : ℕ) (result : List ℕ) → size ≡ 0 → result ≡ H [] → result ≡ tree_hash H (take size entries)
+pub root_of_none : (H : Digest) (entries : List (List ℕ)) (size : ℕ) (result : List ℕ) → size ≡ 0 → result ≡ H [] → result ≡ tree_hash H (take size entries)
 root_of_none H entries size result empty is = is ∙ sym (ap (λ (x : ℕ). tree_hash H (take x entries)) empty ∙ tree_hash-none H)
 
 pub within_reader : (count size actual : ℕ) → size ≤ readable_size count → actual ≡ count → size ≤ actual

@@ -6,6 +6,7 @@ use Rattle.std.proofs.lemmas.Nat.{pow_pos, div-add-mod', div-mul-add, mod-mul-ad
 use Rattle.std.proofs.lemmas.Bool.{cases_lt, cases_eq, cases_Bool, eq-eqb, ne_eqb, le-leb, lt-leb}
 use Rattle.std.proofs.lemmas.List.{length-append, length-map, take-append-le, get_or_append_left, get_or-append_right, drop-take}
 use Rattle.std.proofs.lemmas.List.Sums.{sum_by-append, sum_by-cons}
+use Rattle.tl_hash.specs.Bytes.{Digest}
 use Rattle.tl_hash.specs.Tree.{tree_hash}
 use Rattle.tl_hash.proofs.SplitLemmas.{below_pow}
 use Rattle.tl_store.specs.Stored.{stored_count, stored_index, levels_ending, stored_for, stored_hashes, stored_hash}
@@ -112,7 +113,7 @@ count_step n =
     ∙ sum_by-append (λ level. n / 2 ^ level) (levels n) (n ∷ []) in
     omega (arith, count-is n, count-is (suc n), sum_step n (levels (suc n)), more, none, sum_by-cons (λ level. n / 2 ^ level) n [])
 
-length-stored_for : (H : List ℕ → List ℕ) (n : ℕ) (entries : List (List ℕ)) → length (stored_for H n entries) ≡ stored_count n
+length-stored_for : (H : Digest) (n : ℕ) (entries : List (List ℕ)) → length (stored_for H n entries) ≡ stored_count n
 unfolding stored_for
 length-stored_for H zero entries = unfold stored_count in refl
 length-stored_for H (suc n) entries =
@@ -125,11 +126,11 @@ length-stored_for H (suc n) entries =
     )
 
 -- as many hashes are stored as the tree has complete subtrees
-pub count_is_length : (H : List ℕ → List ℕ) (entries : List (List ℕ)) → length (stored_hashes H entries) ≡ stored_count (length entries)
+pub count_is_length : (H : Digest) (entries : List (List ℕ)) → length (stored_hashes H entries) ≡ stored_count (length entries)
 unfolding stored_hashes
 count_is_length H entries = length-stored_for H (length entries) entries
 
-stored_for-append : (H : List ℕ → List ℕ) (n : ℕ) (entries more : List (List ℕ)) → n ≤ length entries → stored_for H n (entries ++ more) ≡ stored_for H n entries
+stored_for-append : (H : Digest) (n : ℕ) (entries more : List (List ℕ)) → n ≤ length entries → stored_for H n (entries ++ more) ≡ stored_for H n entries
 unfolding stored_for
 stored_for-append H zero entries more within = refl
 stored_for-append H (suc n) entries more within =
@@ -138,7 +139,7 @@ stored_for-append H (suc n) entries more within =
     λ i. before i ++ map (λ level. tree_hash H (drop (suc n - 2 ^ level) (part i))) (levels_ending (suc n))
 
 -- an entry more stores the hash of each complete subtree that ends with it, after all the others
-pub entry_appends_its_subtrees : (H : List ℕ → List ℕ) (entries : List (List ℕ)) (entry : List ℕ)
+pub entry_appends_its_subtrees : (H : Digest) (entries : List (List ℕ)) (entry : List ℕ)
     → stored_hashes H (entries ++ entry ∷ [])
     ≡ stored_hashes H entries ++ map (subtree_hash H (entries ++ entry ∷ []) (suc (length entries))) (levels_ending (suc (length entries)))
 unfolding stored_hashes stored_for
@@ -189,7 +190,7 @@ get_or-map f (x ∷ xs) zero within = refl
 get_or-map f (x ∷ xs) (suc i) within = get_or-map f xs i (omega (arith, within))
 
 -- the hash at a place among those that end with one entry
-stored_for-at : (H : List ℕ → List ℕ) (entries : List (List ℕ)) (m i n : ℕ) → suc m ≤ n → i < length (levels_ending (suc m))
+stored_for-at : (H : Digest) (entries : List (List ℕ)) (m i n : ℕ) → suc m ≤ n → i < length (levels_ending (suc m))
     → (stored_count m + i < stored_count n) × (get_or (stored_for H n entries) (stored_count m + i) [] ≡ subtree_hash H entries (suc m) (get_or (levels_ending (suc m)) i 0))
 unfolding stored_for
 stored_for-at H entries m i zero within inside = absurd (omega (arith, within))
@@ -216,7 +217,7 @@ stored_for-at H entries m i (suc n) within inside =
     ]
 
 -- each complete subtree's hash is stored under its number
-pub index_is_place : (H : List ℕ → List ℕ) (entries : List (List ℕ)) (level place : ℕ) → (place + 1) * 2 ^ level ≤ length entries
+pub index_is_place : (H : Digest) (entries : List (List ℕ)) (level place : ℕ) → (place + 1) * 2 ^ level ≤ length entries
     → (stored_index level place < stored_count (length entries))
     × (stored_hash H entries (stored_index level place) ≡ tree_hash H (take (2 ^ level) (drop (place * 2 ^ level) entries)))
 unfolding stored_hashes stored_index

@@ -1,17 +1,18 @@
 -- What a store of hashes holds, and for which entries it stands: those whose stored hashes (Go's
 -- golang.org/x/mod/sumdb/tlog) it has.
 use Rattle.std.specs.Prelude.{◌≡◌, ◌≤◌, ◌^◌, ℕ, List, length}
+use Rattle.tl_hash.specs.Bytes.{Bytes, Digest}
 use Rattle.tl_store.specs.Stored.{stored_hashes}
 
 -- the number of entries, and the hashes stored for them
 pub record Contents : Type 0 where
   pub size : ℕ
-  pub hashes : List (List ℕ)
+  pub hashes : List Bytes
   -- how many hashes there is memory for
   pub room : ℕ
 
 -- the store has the size of these entries, at most 2 ^ 62, and the hashes stored for them under this
 -- digest function
-abbrev pub StandsFor : Contents → (List ℕ → List ℕ) → List (List ℕ) → Type 0
+abbrev pub StandsFor : Contents → Digest → List Bytes → Type 0
 StandsFor store H entries =
     (length entries ≡ store.size) × (length entries ≤ 2 ^ 62) × (store.hashes ≡ stored_hashes H entries)

@@ -5,6 +5,7 @@
 -- leaves are level 0.
 use Rattle.std.specs.Prelude.{ℕ, zero, suc, ◌+◌, ◌-◌, ◌*◌, ◌%◌, ◌^◌, List, [], ◌++◌, length, take, drop, map, filter, sum_by, count_by, ◌==◌, nat_le, slice_index_or}
 use Rattle.std.specs.List.{range_with_len}
+use Rattle.tl_hash.specs.Bytes.{Bytes, Digest}
 use Rattle.tl_hash.specs.Tree.{tree_hash}
 
 -- the number of complete subtrees over n entries: at each level (a tree of n entries has none above n - 1), one for
@@ -23,16 +24,16 @@ levels_ending n = filter (λ level. n % 2 ^ level == 0) (range_with_len 0 n)
 
 -- the hashes stored for the first n entries: each entry adds those of the subtrees that end with it, each over the
 -- last 2 ^ level of the entries so far
-unfoldable pub stored_for : (List ℕ → List ℕ) → ℕ → List (List ℕ) → List (List ℕ)
+unfoldable pub stored_for : Digest → ℕ → List Bytes → List Bytes
 stored_for H zero entries = []
 stored_for H (suc n) entries =
     stored_for H n entries
     ++ map (λ level. tree_hash H (drop (suc n - 2 ^ level) (take (suc n) entries))) (levels_ending (suc n))
 
 -- the hashes stored for a list of entries, in the order of their numbers
-unfoldable pub stored_hashes : (List ℕ → List ℕ) → List (List ℕ) → List (List ℕ)
+unfoldable pub stored_hashes : Digest → List Bytes → List Bytes
 stored_hashes H entries = stored_for H (length entries) entries
 
 -- the stored hash with this number
-abbrev pub stored_hash : (List ℕ → List ℕ) → List (List ℕ) → ℕ → List ℕ
+abbrev pub stored_hash : Digest → List Bytes → ℕ → Bytes
 stored_hash H entries index = slice_index_or (stored_hashes H entries) index []

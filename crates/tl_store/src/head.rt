@@ -1,6 +1,7 @@
 //! The tree's hash from stored hashes.
 
-ghost use Rattle.std.specs.Prelude.{◌≡◌, ◌≤◌, ℕ, List, [], take, Ok, IfOk, IfErr, OnOk};
+ghost use Rattle.std.specs.Prelude.{◌≡◌, ◌≤◌, List, [], take, Ok, IfOk, IfErr, OnOk};
+ghost use Rattle.tl_hash.specs.Bytes.{Bytes};
 ghost use Rattle.tl_hash.specs.Tree.{tree_hash as tree_hash_of};
 ghost use Rattle.tl_store.specs.Reader.{readable_size};
 ghost use Rattle.tl_store.specs.Head.{GivesHeadFault};
@@ -20,7 +21,7 @@ pub fn tree_hash<T: TreeHash, R: HashReader, A: Allocator + Copy>(
     size: u64,
     reader: &R,
 ) -> Result<Hash, ReadFault>
-    ensures root { (entries : List (List ℕ)) → R.stands_for reader.now T.digest_of entries
+    ensures root { (entries : List Bytes) → R.stands_for reader.now T.digest_of entries
         → IfOk result (λ root. root ≡ tree_hash_of T.digest_of (take size entries)) }
     ensures empty { size ≡ 0 → result ≡ Ok (T.digest_of []) }
     ensures in_range { OnOk result (size ≤ readable_size (R.size reader.now)) }

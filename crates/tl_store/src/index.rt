@@ -1,6 +1,7 @@
 //! The numbers of stored hashes, by the binary digits of numbers (Go's golang.org/x/mod/sumdb/tlog).
 
-ghost use Rattle.std.specs.Prelude.{◌≡◌, ◌≤◌, ◌<◌, ◌+◌, ◌-◌, ◌*◌, ◌^◌, ℕ, List, length, take, drop};
+ghost use Rattle.std.specs.Prelude.{◌≡◌, ◌≤◌, ◌<◌, ◌+◌, ◌-◌, ◌*◌, ◌^◌, List, length, take, drop};
+ghost use Rattle.tl_hash.specs.Bytes.{Bytes, Digest};
 ghost use Rattle.tl_hash.specs.Tree.{tree_hash};
 ghost use Rattle.tl_store.specs.Stored as spec;
 
@@ -8,7 +9,7 @@ ghost use Rattle.tl_store.specs.Stored as spec;
 pub fn stored_count(n: u64) -> u64
     requires { n ≤ 2 ^ 62 }
     ensures subtrees { result ≡ spec.stored_count n }
-    ensures hashes { (H : List ℕ → List ℕ) (entries : List (List ℕ))
+    ensures hashes { (H : Digest) (entries : List Bytes)
         → length entries ≡ n
         → length (spec.stored_hashes H entries) ≡ result }
 {
@@ -21,7 +22,7 @@ pub fn stored_index(level: u32, n: u64) -> u64
     requires level { level ≤ 62 }
     requires entries { (n + 1) * 2 ^ level ≤ 2 ^ 62 }
     ensures number { result ≡ spec.stored_index level n }
-    ensures hash { (H : List ℕ → List ℕ) (entries : List (List ℕ))
+    ensures hash { (H : Digest) (entries : List Bytes)
         → (n + 1) * 2 ^ level ≤ length entries
         → spec.stored_hash H entries result
         ≡ tree_hash H (take (2 ^ level) (drop (n * 2 ^ level) entries)) }

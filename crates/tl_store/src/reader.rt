@@ -1,6 +1,7 @@
 //! Reading stored hashes by their numbers, and why it fails.
 
 ghost use Rattle.std.specs.Prelude.{◌≡◌, ◌≤◌, ◌^◌, ℕ, List, length, map, IfOk, IfErr, OnOk};
+ghost use Rattle.tl_hash.specs.Bytes.{Bytes, Digest};
 
 use std::alloc::{AllocError, AllocFailed, Allocator};
 use thiserror::Error;
@@ -54,14 +55,14 @@ pub trait HashReader {
     ghost size: { Self → ℕ };
 
     /// Whether it stands for this list of entries under this digest function.
-    ghost stands_for: { Self → (List ℕ → List ℕ) → List (List ℕ) → Type 0 };
+    ghost stands_for: { Self → Digest → List Bytes → Type 0 };
 
     /// Which of `Source` and `BadTile` it may answer.
     ghost may_fail: { Self → ReadFault → Type 0 };
 
     /// The stored hashes with these numbers, in this order; a number may come more than once.
     fn read<B: Allocator>(&self, alloc: B, indexes: &[u64]) -> Result<Vec<Hash, B>, ReadFault>
-        ensures hashes { (H : List ℕ → List ℕ) (entries : List (List ℕ))
+        ensures hashes { (H : Digest) (entries : List Bytes)
             → stands_for self.now H entries
             → IfOk result (λ hashes. hashes.items ≡ map (stored_hash H entries) indexes.now) }
         ensures count { IfOk result (λ hashes. length hashes.items ≡ length indexes.now) }
@@ -69,7 +70,7 @@ pub trait HashReader {
         ensures faults { IfErr result (GivesFault (size self.now) (may_fail self.now) indexes.now) };
 
     /// A list that the reader stands for has its size, and no more than 2^62 entries.
-    ghost stands_size: { (reader : Self) (H : List ℕ → List ℕ) (entries : List (List ℕ))
+    ghost stands_size: { (reader : Self) (H : Digest) (entries : List Bytes)
         → stands_for reader H entries
         → (length entries ≡ size reader) × (length entries ≤ 2 ^ 62) };
 }

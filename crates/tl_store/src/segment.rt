@@ -2,6 +2,7 @@
 
 ghost use Rattle.std.specs.Prelude.{◌≡◌, ◌<◌, ◌≤◌, ◌+◌, ◌-◌, ◌^◌, ℕ, List, [], take, drop, map, length, vec_len, vec_capacity, IfOk, OnErr};
 ghost use Rattle.std.specs.Int.RustNames.{count_ones};
+ghost use Rattle.tl_hash.specs.Bytes.{Bytes};
 ghost use Rattle.tl_hash.specs.Tree.{tree_hash};
 ghost use Rattle.tl_store.specs.Stored.{stored_hash};
 ghost use Rattle.tl_store.specs.Head.{IsAligned, AreCovering, AddsCovering};
@@ -56,7 +57,7 @@ pub fn segment_indexes<A: Allocator>(
 /// The tree hash (RFC 6962, section 2.1) of entries that are covered by complete subtrees with these hashes, from the
 /// largest to the smallest: each subtree is the left part of a node over all that come after it.
 pub fn segment_hash<T: TreeHash>(h: T, hashes: &[Hash]) -> Hash
-    ensures { (entries : List (List ℕ)) (start end : ℕ) (indexes : List ℕ)
+    ensures { (entries : List Bytes) (start end : ℕ) (indexes : List ℕ)
         → AreCovering start end indexes → end ≤ length entries
         → hashes.now ≡ map (stored_hash T.digest_of entries) indexes
         → result ≡ tree_hash T.digest_of (take (end - start) (drop start entries)) }

@@ -1,6 +1,7 @@
 //! Stored hashes in memory.
 
-ghost use Rattle.std.specs.Prelude.{◌≡◌, ◌≤◌, ◌<◌, ◌+◌, ◌-◌, ◌^◌, ℕ, [], ◌∷◌, ◌++◌, List, length, vec_capacity, All, Any, MatchBool, IfOk, OnOk, OnErr};
+ghost use Rattle.std.specs.Prelude.{◌≡◌, ◌≤◌, ◌<◌, ◌+◌, ◌-◌, ◌^◌, [], ◌∷◌, ◌++◌, List, length, vec_capacity, All, Any, MatchBool, IfOk, OnOk, OnErr};
+ghost use Rattle.tl_hash.specs.Bytes.{Bytes};
 ghost use Rattle.tl_hash.specs.Tree.{leaf_input};
 ghost use Rattle.tl_store.specs.Stored.{stored_count, stored_hashes};
 ghost use Rattle.tl_store.specs.Store.{StandsFor};
@@ -48,7 +49,7 @@ impl<T: TreeHash, A: Allocator> HashStore<T, A> {
     /// hash, and one node hash for each subtree that it completes.
     pub fn append(&mut self, entry: &[u8]) -> Result<u64, AllocError>
         requires { self.old.size < 2 ^ 32 - 1 }
-        ensures entry { (entries : List (List ℕ))
+        ensures entry { (entries : List Bytes)
             → StandsFor self.old T.digest_of entries
             → OnOk result (StandsFor self.new T.digest_of (entries ++ entry.now ∷ [])) }
         ensures index { IfOk result (λ index. index ≡ self.old.size) }
@@ -87,7 +88,7 @@ fn push_subtrees<T: TreeHash, A: Allocator>(
     requires small { size < 2 ^ 32 }
     requires counted { length hashes.old.items ≡ stored_count (size - 1) }
     ensures counted { OnOk result (length hashes.new.items ≡ stored_count size) }
-    ensures added { (entries : List (List ℕ)) (entry : List ℕ)
+    ensures added { (entries : List Bytes) (entry : Bytes)
         → length entries + 1 ≡ size
         → hashes.old.items ≡ stored_hashes T.digest_of entries
         → leaf ≡ T.digest_of (leaf_input entry)

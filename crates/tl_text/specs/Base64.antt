@@ -1,22 +1,23 @@
 -- Texts that are base64 (RFC 4648, section 4), padded.
-use Rattle.std.specs.Prelude.{◌≡◌, ℕ, List, length, take}
+use Rattle.std.specs.Prelude.{◌≡◌, ℕ, length, take}
 use Rattle.base64.specs.GeneralPurpose.{IsBytes}
+use Rattle.tl_hash.specs.Bytes.{Bytes}
 use Rattle.tl_text.specs.Text.{base64_text}
 
 -- the text is base64 of these bytes
-pub record IsSpelled (text bytes : List ℕ) : Type 0 where
+pub record IsSpelled (text bytes : Bytes) : Type 0 where
   pub fit : IsBytes bytes
   pub spelled : text ≡ base64_text bytes
 
 -- the text is base64 of so many bytes, at the front of these
-pub record IsRead (text : List ℕ) (count : ℕ) (bytes : List ℕ) : Type 0 where
+pub record IsRead (text : Bytes) (count : ℕ) (bytes : Bytes) : Type 0 where
   pub spelled : IsSpelled text (take count bytes)
   pub counted : length (take count bytes) ≡ count
 
 -- the text is base64
-abbrev pub IsBase64 : List ℕ → Type 0
-IsBase64 text = (bytes : List ℕ) × IsSpelled text bytes
+abbrev pub IsBase64 : Bytes → Type 0
+IsBase64 text = (bytes : Bytes) × IsSpelled text bytes
 
 -- the text is no base64
-abbrev pub IsNoBase64 : List ℕ → Type 0
-IsNoBase64 text = (bytes : List ℕ) → IsSpelled text bytes → ⊥
+abbrev pub IsNoBase64 : Bytes → Type 0
+IsNoBase64 text = (bytes : Bytes) → IsSpelled text bytes → ⊥

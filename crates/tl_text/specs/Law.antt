@@ -2,6 +2,7 @@
 use Rattle.std.specs.Prelude.{◌≡◌, ℕ, List, All}
 use Rattle.std.specs.List.{flat_map}
 use Rattle.base64.specs.GeneralPurpose.{IsBytes}
+use Rattle.tl_hash.specs.Bytes.{Bytes}
 use Rattle.tl_text.specs.Text.{line, number_text, base64_text, HasNoControl, IsSize}
 
 -- a text is that of one number
@@ -10,8 +11,8 @@ NumbersHaveOneText = (m n : ℕ) → IsSize m → IsSize n → number_text m ≡
 
 -- a text is base64 of one string of bytes
 abbrev pub BytesHaveOneText : Type 0
-BytesHaveOneText = (a b : List ℕ) → IsBytes a → IsBytes b → base64_text a ≡ base64_text b → a ≡ b
+BytesHaveOneText = (a b : Bytes) → IsBytes a → IsBytes b → base64_text a ≡ base64_text b → a ≡ b
 
 -- a text is one list of lines
 abbrev pub LinesHaveOneText : Type 0
-LinesHaveOneText = (xs ys : List (List ℕ)) → All HasNoControl xs → All HasNoControl ys → flat_map line xs ≡ flat_map line ys → xs ≡ ys
+LinesHaveOneText = (xs ys : List Bytes) → All HasNoControl xs → All HasNoControl ys → flat_map line xs ≡ flat_map line ys → xs ≡ ys

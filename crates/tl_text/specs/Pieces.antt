@@ -1,16 +1,16 @@
 -- What isn't a line, a number or a hash in a text.
-use Rattle.std.specs.Prelude.{◌≢◌, ℕ, List, ◌++◌}
-use Rattle.tl_hash.specs.Bytes.{IsHash}
+use Rattle.std.specs.Prelude.{◌≢◌, ℕ, ◌++◌}
+use Rattle.tl_hash.specs.Bytes.{Bytes, IsHash}
 use Rattle.tl_text.specs.Text.{line, number_text, base64_text, HasNoControl, IsSize}
 
 -- the text doesn't begin with a line
-abbrev pub IsNoLine : List ℕ → Type 0
-IsNoLine text = (words rest : List ℕ) → HasNoControl words → text ≢ line words ++ rest
+abbrev pub IsNoLine : Bytes → Type 0
+IsNoLine text = (words rest : Bytes) → HasNoControl words → text ≢ line words ++ rest
 
 -- no number below 2^63 has this text
-abbrev pub IsNoSize : List ℕ → Type 0
+abbrev pub IsNoSize : Bytes → Type 0
 IsNoSize text = (n : ℕ) → IsSize n → text ≢ number_text n
 
 -- no hash has this text
-abbrev pub IsNoHash : List ℕ → Type 0
-IsNoHash text = (hash : List ℕ) → IsHash hash → text ≢ base64_text hash
+abbrev pub IsNoHash : Bytes → Type 0
+IsNoHash text = (hash : Bytes) → IsHash hash → text ≢ base64_text hash

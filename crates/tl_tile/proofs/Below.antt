@@ -4,6 +4,7 @@ use Rattle.std.specs.Prelude.{MatchOption}
 use Rattle.std.specs.List.{flat_map, range_with_len}
 use Rattle.std.proofs.lemmas.Bool.{cases_lt, eq-eqb, ne_eqb}
 use Rattle.std.proofs.lemmas.List.{length-append, take_at, drop_at, take_all}
+use Rattle.tl_hash.specs.Bytes.{Digest}
 use Rattle.tl_hash.specs.Tree.{tree_hash}
 use Rattle.tl_hash.proofs.TreeLemmas.{tree_hash-none}
 use Rattle.tl_tile.specs.declared.resource.Tile.{Tile}
@@ -35,14 +36,14 @@ count_below-within size level (suc m) less =
           subst (λ (x : ℕ). wide_of size x + count_below size x ≤ wide_of size m + count_below size m) (sym same) (omega arith)
     ]
 
-pub length-below : (H : List ℕ → List ℕ) (entries : List (List ℕ)) (level : ℕ) → length (hashes_below H entries level) ≡ count_below (length entries) level
+pub length-below : (H : Digest) (entries : List (List ℕ)) (level : ℕ) → length (hashes_below H entries level) ≡ count_below (length entries) level
 unfolding hashes_below count_below
 length-below H entries zero = refl
 length-below H entries (suc level) =
     omega (arith, length-append (partial_hashes H entries level) (hashes_below H entries level), length-partial H entries level, length-below H entries level)
 
 -- the hashes of one level among those of all below a higher one
-below_split : (H : List ℕ → List ℕ) (entries : List (List ℕ)) (level m : ℕ) → level < m
+below_split : (H : Digest) (entries : List (List ℕ)) (level m : ℕ) → level < m
     → (above : List (List ℕ)) × (hashes_below H entries m ≡ above ++ (partial_hashes H entries level ++ hashes_below H entries level))
 unfolding hashes_below
 below_split H entries level zero less = absurd (omega (arith, less))
@@ -60,7 +61,7 @@ below_split H entries level (suc m) less =
     ]
 
 -- and where they stand
-pub below_slice : (H : List ℕ → List ℕ) (entries : List (List ℕ)) (level start width : ℕ) (kept : List (List ℕ)) → level < 8 → kept ≡ hashes_below H entries 8 → width ≡ wide_of (length entries) level
+pub below_slice : (H : Digest) (entries : List (List ℕ)) (level start width : ℕ) (kept : List (List ℕ)) → level < 8 → kept ≡ hashes_below H entries 8 → width ≡ wide_of (length entries) level
     → start + width + count_below (length entries) level ≡ length kept → take width (drop start kept) ≡ partial_hashes H entries level
 below_slice H entries level start width kept low kept_is width_is place =
     let found = below_split H entries level 8 low in
@@ -83,7 +84,7 @@ joined_places f place a (suc n) =
     ap (λ (x : ℕ). flat_map (λ hash. hash) (map f (range_with_len x n))) next ∙ joined_places f place (a + 1) n in
     ap (λ (xs : List ℕ). f (place + a) ++ xs) rest
 
-pub places_text : (H : List ℕ → List ℕ) (entries : List (List ℕ)) (level index width : ℕ)
+pub places_text : (H : Digest) (entries : List (List ℕ)) (level index width : ℕ)
     → flat_map (λ hash. hash) (map (hash_at H entries level) (range_with_len (index * 256) width)) ≡ tile_text H (record { level = level; index = index; width = width }) entries
 places_text H entries level index width =
     let none : index * 256 ≡ index * 256 + 0 = omega arith in
@@ -91,29 +92,29 @@ places_text H entries level index width =
     ∙ joined_places (hash_at H entries level) (index * 256) 0 width
 
 -- a partial tile's bytes
-pub partial_text : (H : List ℕ → List ℕ) (entries : List (List ℕ)) (level : ℕ) → flat_map (λ hash. hash) (partial_hashes H entries level) ≡ tile_text H (partial_tile (length entries) level) entries
+pub partial_text : (H : Digest) (entries : List (List ℕ)) (level : ℕ) → flat_map (λ hash. hash) (partial_hashes H entries level) ≡ tile_text H (partial_tile (length entries) level) entries
 partial_text H entries level = places_text H entries level (level_count (length entries) level / 256) (level_count (length entries) level % 256)
 
 -- ---- the whole edge
 
 -- nothing is below the lowest level
-pub rest-start : (H : List ℕ → List ℕ) (entries : List (List ℕ)) → IsRest H entries 0 None
+pub rest-start : (H : Digest) (entries : List (List ℕ)) → IsRest H entries 0 None
 rest-start H entries = omega arith
 
 -- nothing but the rest is above the highest
-pub rest-all : (H : List ℕ → List ℕ) (entries : List (List ℕ)) (found : Option (List ℕ)) → length entries < 2 ^ 32 → IsRest H entries 8 found
+pub rest-all : (H : Digest) (entries : List (List ℕ)) (found : Option (List ℕ)) → length entries < 2 ^ 32 → IsRest H entries 8 found
     → MatchOption found (length entries ≡ 0) (λ root. root ≡ tree_hash H entries)
 rest-all H entries None small rest = omega (arith, small, rest)
 rest-all H entries (Some root) small (some, is) =
     let start : level_count (length entries) 8 * 256 ^ 8 ≡ 0 = omega (arith, small) in
     is ∙ ap (λ (x : ℕ). tree_hash H (part x (length entries) entries)) start ∙ ap (tree_hash H) (take_all (length entries - 0) entries (omega arith))
 
-pub root_of_none : (H : List ℕ → List ℕ) (entries : List (List ℕ)) (root : List ℕ) → length entries ≡ 0 → root ≡ H [] → root ≡ tree_hash H entries
+pub root_of_none : (H : Digest) (entries : List (List ℕ)) (root : List ℕ) → length entries ≡ 0 → root ≡ H [] → root ≡ tree_hash H entries
 root_of_none H [] root none is = is ∙ sym (tree_hash-none H)
 root_of_none H (entry ∷ rest) root none is = absurd (omega (arith, none))
 
 -- one level of the edge more
-pub rest-more : (H : List ℕ → List ℕ) (size level start width : ℕ) (kept : List (List ℕ)) (below after : Option (List ℕ)) → level < 8 → width ≡ wide_of size level
+pub rest-more : (H : Digest) (size level start width : ℕ) (kept : List (List ℕ)) (below after : Option (List ℕ)) → level < 8 → width ≡ wide_of size level
     → start + width + count_below size level ≡ length kept
     → ((entries : List (List ℕ)) (l : ℕ) → take width (drop start kept) ≡ partial_hashes H entries l → IsRest H entries l below → IsRest H entries (l + 1) after)
     → (entries : List (List ℕ)) → length entries ≡ size → kept ≡ hashes_below H entries 8 → IsRest H entries level below → IsRest H entries (level + 1) after
@@ -138,13 +139,13 @@ partial_fits size level count length low count_is length_is =
 shown_made : (List ℕ → List ℕ) → List (List ℕ) → ℕ → Bool → Option (Tile × List ℕ)
 shown_made H entries level none = cond none None (Some (partial_tile (length entries) level, tile_text H (partial_tile (length entries) level) entries))
 
-pub partial-none : (H : List ℕ → List ℕ) (entries : List (List ℕ)) (size level : ℕ) → length entries ≡ size → size / 2 ^ (8 * level) % 256 ≡ 0 → None ≡ shown_partial H entries level
+pub partial-none : (H : Digest) (entries : List (List ℕ)) (size level : ℕ) → length entries ≡ size → size / 2 ^ (8 * level) % 256 ≡ 0 → None ≡ shown_partial H entries level
 unfolding shown_made
 partial-none H entries size level sized none =
     let wide : wide_of (length entries) level ≡ 0 = ap (λ (x : ℕ). wide_of x level) sized ∙ sym (ap (λ (x : ℕ). x % 256) (shifted_count size level)) ∙ none in
     sym (ap (shown_made H entries level) (eq-eqb (wide_of (length entries) level) 0 wide))
 
-pub partial-some : (H : List ℕ → List ℕ) (entries : List (List ℕ)) (size level start width : ℕ) (kept : List (List ℕ)) (bytes : List ℕ) → level ≤ 7 → length entries ≡ size → kept ≡ hashes_below H entries 8
+pub partial-some : (H : Digest) (entries : List (List ℕ)) (size level start width : ℕ) (kept : List (List ℕ)) (bytes : List ℕ) → level ≤ 7 → length entries ≡ size → kept ≡ hashes_below H entries 8
     → (size / 2 ^ (8 * level) % 256 ≡ 0 → ⊥) → width ≡ size / 2 ^ (8 * level) % 256 → start + width + count_below size level ≡ length kept → bytes ≡ flat_map (λ hash. hash) (take width (drop start kept))
     → Some (record { level = level; index = size / 2 ^ (8 * level) / 256; width = size / 2 ^ (8 * level) % 256 }, bytes) ≡ shown_partial H entries level
 unfolding shown_made

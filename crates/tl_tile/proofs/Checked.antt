@@ -4,6 +4,7 @@ use Rattle.std.proofs.Math.Nat.{div-div-eq-div-mul}
 use Rattle.std.proofs.lemmas.Nat.{pow-add, pow_pos, le-div, div-mul-add, mod-mul-add}
 use Rattle.std.proofs.lemmas.Bool.{cases_lt, cases_eq, lt-ltb, le-ltb}
 use Rattle.std.proofs.lemmas.List.{length-drop}
+use Rattle.tl_hash.specs.Bytes.{Digest}
 use Rattle.tl_hash.specs.Tree.{tree_hash, inputs}
 use Rattle.tl_store.specs.Stored.{stored_index, stored_hash}
 use Rattle.tl_store.proofs.StoredLemmas.{index_is_place}
@@ -66,7 +67,7 @@ abbrev IsRight : (List ℕ → List ℕ) → Tiles → ℕ → List (List ℕ) �
 IsRight H tiles size entries level place hash_there = (hash_there ≡ tree_hash H (entries_under level place entries)) ⊎ TilesCollide H tiles size entries
 
 -- the hashes of a full tile are right, once its own hash is
-full_right : (H : List ℕ → List ℕ) → ((message : List ℕ) → HasHashLength (H message)) → (tiles : Tiles) (size : ℕ) (entries : List (List ℕ)) → length entries ≡ size
+full_right : (H : Digest) → ((message : List ℕ) → HasHashLength (H message)) → (tiles : Tiles) (size : ℕ) (entries : List (List ℕ)) → length entries ≡ size
     → (level index n : ℕ) (text hash_there hash : List ℕ) (strings : List (List ℕ)) → n < 256 → index < level_count size (level + 1) → tiles (full_tile level index) ≡ Some text → IsHashAt text n hash_there
     → IsPartHash H text 0 256 hash strings → hash ≡ tree_hash H (entries_under (level + 1) index entries)
     → IsRight H tiles size entries level (index * 256 + n) hash_there
@@ -90,7 +91,7 @@ full_right H wide tiles size entries len level index n text hash_there hash stri
     ]
 
 -- each hash of each checked tile is right, or there is a collision
-pub place_right : (H : List ℕ → List ℕ) → ((message : List ℕ) → HasHashLength (H message)) → (tiles : Tiles) (size : ℕ) (root : List ℕ) → AreChecked H tiles size root
+pub place_right : (H : Digest) → ((message : List ℕ) → HasHashLength (H message)) → (tiles : Tiles) (size : ℕ) (root : List ℕ) → AreChecked H tiles size root
     → (entries : List (List ℕ)) → length entries ≡ size → tree_hash H entries ≡ root
     → (fuel level place : ℕ) (text hash_there : List ℕ) → level_count size level ≤ fuel → place < level_count size level
     → tiles (tile_with size level place) ≡ Some text → IsHashAt text (place % 256) hash_there → IsRight H tiles size entries level place hash_there
@@ -153,7 +154,7 @@ height_of_8 level =
     ap (λ (x : ℕ). 2 ^ x) sum ∙ pow-add 2 (level % 8) (level / 8 * 8) ∙ ap (λ (x : ℕ). 2 ^ (level % 8) * x) (sym (pow_of_256 (level / 8)))
 
 -- some hashes of a checked tile fold to the hash of the entries under them, or there is a collision
-pub part_right : (H : List ℕ → List ℕ) → ((message : List ℕ) → HasHashLength (H message)) → (tiles : Tiles) (size : ℕ) (root : List ℕ) → AreChecked H tiles size root
+pub part_right : (H : Digest) → ((message : List ℕ) → HasHashLength (H message)) → (tiles : Tiles) (size : ℕ) (root : List ℕ) → AreChecked H tiles size root
     → (entries : List (List ℕ)) → length entries ≡ size → tree_hash H entries ≡ root
     → (level place count : ℕ) (text hash : List ℕ) (strings : List (List ℕ)) → place % 256 + count ≤ 256 → (place + count) * 256 ^ level ≤ size
     → tiles (tile_with size level place) ≡ Some text → IsPartHash H text (place % 256) count hash strings

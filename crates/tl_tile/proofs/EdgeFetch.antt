@@ -14,6 +14,7 @@ use Rattle.tl_tile.specs.Inner.Steps.{AreEdgeFrom, AddsOnly}
 use Rattle.std.proofs.Math.Nat.{pow-succ', div-mul-le_self}
 use Rattle.std.proofs.Math.Pow.{pow_mono}
 use Rattle.std.proofs.lemmas.Nat.{div-mul-add, le-div, mul-le, pow-add}
+use Rattle.tl_hash.specs.Bytes.{Digest}
 use Rattle.tl_tile.proofs.TileTexts.{pow_of_256}
 use Rattle.tl_tile.proofs.Edges.{positive_256}
 use Rattle.tl_tile.proofs.Push.{cases_option, tiles_of-old, tiles_of-cases, there-more}
@@ -86,7 +87,7 @@ edge-first size level xs ys tile low is some before (inr (text, pushed)) =
     (ap tiles_in pushed ∙ map-append view xs ((tile, text) ∷ []) ∙ (λ i. before.tiles i ++ is i ∷ []) ∙ sym (edge-next size level low width))
 
 -- all partial tiles, which fold to the root
-pub edge-all : (H : List ℕ → List ℕ) (size : ℕ) (root folded : List ℕ) (xs : List (Tile × List ℕ)) → AreEdgeFrom size 0 xs
+pub edge-all : (H : Digest) (size : ℕ) (root folded : List ℕ) (xs : List (Tile × List ℕ)) → AreEdgeFrom size 0 xs
     → ((strings : List (List ℕ)) × IsEdgeRoot H (tiles_of xs) size folded strings) → folded ≡ root → AreVerified H size root xs
 edge-all H size root folded xs edge (strings, fold) same = record {
   first = ([], edge.tiles ∙ sym (append-nil (edge_tiles size)));

@@ -5,6 +5,7 @@ use Rattle.std.proofs.Math.Arith.{mod-mul}
 use Rattle.std.proofs.lemmas.Nat.{pow-add, mod_below, mod-mul-add}
 use Rattle.std.proofs.lemmas.List.{drop-append-le, drop_at, take-append-le, length-drop, take_all}
 use Rattle.std.specs.Int.{IsPowerOfTwo}
+use Rattle.tl_hash.specs.Bytes.{Digest}
 use Rattle.tl_hash.specs.Split.{IsSplit}
 use Rattle.tl_hash.specs.Tree.{node_input}
 use Rattle.tl_hash.proofs.SplitLemmas.{IsSplit-positive}
@@ -52,7 +53,7 @@ no_edge_over tiles size level n count less more h is =
     (omega (arith, is.starts, positive_256 is.level))
 
 -- some hashes of the partial tile, as a fold of the edge
-pub edge_part : (H : List ℕ → List ℕ) (tiles : Tiles) (size level : ℕ) (text : List ℕ) → IsEdgeLevel tiles size level text
+pub edge_part : (H : Digest) (tiles : Tiles) (size level : ℕ) (text : List ℕ) → IsEdgeLevel tiles size level text
     → (more : List ℕ) → ((n : ℕ) (h : List ℕ) → n < wide_of size level → IsHashAt more n h → IsHashAt text n h)
     → (start count : ℕ) (hash : List ℕ) (strings : List (List ℕ)) → IsFold H (IsOwnHash more) start count hash strings → start + count ≤ wide_of size level
     → IsFold H (IsEdgeHash tiles size) ((base size level + start) * 256 ^ level) (count * 256 ^ level) hash strings
@@ -96,7 +97,7 @@ IsSplit-with_rest k n u r power s some less =
     record { power = scaled.power; below = omega (arith, low, some); largest = omega (arith, scaled.largest, parts, less) }
 
 -- the hashes of the partial tile, and the hash of what is below at their end, as a fold of the edge
-pub edge_last : (H : List ℕ → List ℕ) (tiles : Tiles) (size level : ℕ) (text : List ℕ) → IsEdgeLevel tiles size level text
+pub edge_last : (H : Digest) (tiles : Tiles) (size level : ℕ) (text : List ℕ) → IsEdgeLevel tiles size level text
     → (more rest : List ℕ) → ((n : ℕ) (h : List ℕ) → n < wide_of size level → IsHashAt more n h → IsHashAt text n h)
     → ((h : List ℕ) → IsHashAt more (wide_of size level) h → h ≡ rest)
     → 0 < size % 256 ^ level → Below H tiles size level rest
@@ -151,7 +152,7 @@ above-rest size level =
     ap (λ (x : ℕ). size % x) power ∙ mod-mul size (omega arith) (positive_256 level)
 
 -- a level without a partial tile
-pub below-none : (H : List ℕ → List ℕ) (tiles : Tiles) (size level : ℕ) (below : Option (List ℕ)) → wide_of size level ≡ 0 → IsRestHash H tiles size level below → IsRestHash H tiles size (level + 1) below
+pub below-none : (H : Digest) (tiles : Tiles) (size level : ℕ) (below : Option (List ℕ)) → wide_of size level ≡ 0 → IsRestHash H tiles size level below → IsRestHash H tiles size (level + 1) below
 below-none H tiles size level None none is =
     let product : wide_of size level * 256 ^ level ≡ 0 * 256 ^ level = ap (λ (x : ℕ). x * 256 ^ level) none in
     omega (arith, above-rest size level, product, is)
@@ -176,7 +177,7 @@ at_last text last w h long one is =
     is.bytes ∙ ap (take 32) (drop_at text last (32 * w) long) ∙ take_all 32 last (omega (arith, one))
 
 -- a level with a partial tile
-pub below-joined : (H : List ℕ → List ℕ) (tiles : Tiles) (size level : ℕ) (text : List ℕ) (below : Option (List ℕ)) (hash : List ℕ) → IsEdgeLevel tiles size level text → 0 < wide_of size level
+pub below-joined : (H : Digest) (tiles : Tiles) (size level : ℕ) (text : List ℕ) (below : Option (List ℕ)) (hash : List ℕ) → IsEdgeLevel tiles size level text → 0 < wide_of size level
     → IsRestHash H tiles size level below → Joined H text (wide_of size level) below hash → IsRestHash H tiles size (level + 1) (Some hash)
 below-joined H tiles size level text None hash at wide none (strings, part) =
     let u : ℕ = 256 ^ level in
@@ -207,11 +208,11 @@ same_level_text tiles size level edge low tile text is wide fetched =
     let same : here.0 ≡ text = Some-injective here.0 text (sym here.1.fetched ∙ ap tiles (sym is) ∙ fetched) in
     subst (IsEdgeLevel tiles size level) same here.1
 
-pub level_none : (H : List ℕ → List ℕ) (tiles : Tiles) (size level : ℕ) (below : Option (List ℕ)) (tile : Tile) → tile ≡ partial_tile size level → tile.width ≡ 0
+pub level_none : (H : Digest) (tiles : Tiles) (size level : ℕ) (below : Option (List ℕ)) (tile : Tile) → tile ≡ partial_tile size level → tile.width ≡ 0
     → IsRestHash H tiles size level below → IsRestHash H tiles size (level + 1) below
 level_none H tiles size level below tile is none folds = below-none H tiles size level below (sym (ap (λ (t : Tile). t.width) is) ∙ none) folds
 
-pub level_joined : (H : List ℕ → List ℕ) (tiles : Tiles) (size level : ℕ) → HasEdge tiles size → level < 8 → (tile : Tile) (text : List ℕ) (below : Option (List ℕ)) (hash : List ℕ) → tile ≡ partial_tile size level → 0 < tile.width → tiles tile ≡ Some text
+pub level_joined : (H : Digest) (tiles : Tiles) (size level : ℕ) → HasEdge tiles size → level < 8 → (tile : Tile) (text : List ℕ) (below : Option (List ℕ)) (hash : List ℕ) → tile ≡ partial_tile size level → 0 < tile.width → tiles tile ≡ Some text
     → IsRestHash H tiles size level below → Joined H text tile.width below hash → IsRestHash H tiles size (level + 1) (Some hash)
 level_joined H tiles size level edge low tile text below hash is wide fetched folds joined =
     let width : tile.width ≡ wide_of size level = ap (λ (t : Tile). t.width) is in

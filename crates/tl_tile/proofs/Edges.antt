@@ -4,6 +4,7 @@ use Rattle.std.specs.Prelude.{unwrap_or}
 use Rattle.std.proofs.Math.Nat.{pow-succ', div-mul-le_self}
 use Rattle.std.proofs.lemmas.Nat.{pow-add, le-div}
 use Rattle.std.proofs.lemmas.Bool.{cases_lt, cases_order}
+use Rattle.tl_hash.specs.Bytes.{Digest}
 use Rattle.tl_hash.specs.Tree.{tree_hash, inputs}
 use Rattle.tl_tile.proofs.Segments.{HasHashLength, segment, power_of_256, scaled_le, segment-all}
 use Rattle.tl_hash.proofs.SameSize.{Collision}
@@ -98,7 +99,7 @@ edge_target tiles size level place text hash_there on_edge fetched is = record {
 }
 
 -- a collision of a fold with a list is one of the tiles with it
-pub tiles_collide : (H : List ℕ → List ℕ) (tiles : Tiles) (size : ℕ) (entries part strings : List (List ℕ))
+pub tiles_collide : (H : Digest) (tiles : Tiles) (size : ℕ) (entries part strings : List (List ℕ))
     → ((x : List ℕ) → Contains strings x → IsFolded H tiles size x) → ((x : List ℕ) → Contains (inputs H part) x → Contains (inputs H entries) x)
     → Collision H strings (inputs H part) → TilesCollide H tiles size entries
 tiles_collide H tiles size entries part strings folded among (x, y, found) = record {
@@ -110,7 +111,7 @@ tiles_collide H tiles size entries part strings folded among (x, y, found) = rec
   same_digest = sym found.same_digest;
 }
 
-pub edge_right : (H : List ℕ → List ℕ) → ((message : List ℕ) → HasHashLength (H message)) → (tiles : Tiles) (size : ℕ) (root : List ℕ) (strings : List (List ℕ)) → IsEdgeRoot H tiles size root strings
+pub edge_right : (H : Digest) → ((message : List ℕ) → HasHashLength (H message)) → (tiles : Tiles) (size : ℕ) (root : List ℕ) (strings : List (List ℕ)) → IsEdgeRoot H tiles size root strings
     → (entries : List (List ℕ)) → length entries ≡ size → tree_hash H entries ≡ root
     → (level place : ℕ) (text hash_there : List ℕ) → IsOnEdge size level place → tiles (partial_tile size level) ≡ Some text → IsHashAt text (place % 256) hash_there
     → (hash_there ≡ tree_hash H (entries_under level place entries)) ⊎ TilesCollide H tiles size entries

@@ -5,6 +5,7 @@ use Rattle.std.specs.declared.vec.Vec.{Vec}
 use Rattle.std.specs.List.{flat_map, range_with_len}
 use Rattle.std.proofs.lemmas.List.{length-append, drop_at, length-take-le, length-replicate, map-append}
 use Rattle.std.proofs.lemmas.List.FromFn.{map-range_with_len_more}
+use Rattle.tl_hash.specs.Bytes.{Digest}
 use Rattle.tl_hash.specs.Tree.{tree_hash, leaf_input}
 use Rattle.tl_hash.proofs.TreeLemmas.{tree_hash-one}
 use Rattle.tl_tile.specs.declared.resource.Tile.{Tile}
@@ -20,17 +21,17 @@ abbrev pub tiles_below : ℕ → ℕ → List Tile
 tiles_below size level = map (λ l. full_tile l (size / 256 ^ (l + 1) - 1)) (range_with_len 0 level)
 
 -- the hash of the last full place of the level, and the tiles of the levels below it
-pub record IsFilling (H : List ℕ → List ℕ) (after : List (List ℕ)) (size level count : ℕ) (hash : List ℕ) (tiles : List (Tile × List ℕ)) : Type 0 where
+pub record IsFilling (H : Digest) (after : List (List ℕ)) (size level count : ℕ) (hash : List ℕ) (tiles : List (Tile × List ℕ)) : Type 0 where
   pub hash_is : hash ≡ hash_at H after level (count - 1)
   pub tiles_are : tiles ≡ map (shown H after) (tiles_below size level)
 
 -- what is so at each turn of the loop
-pub record AreFilling (H : List ℕ → List ℕ) (size : ℕ) (leaf : List ℕ) (kept : List (List ℕ)) (level count left : ℕ) (hash : List ℕ) (tiles : List (Tile × List ℕ)) : Type 0 where
+pub record AreFilling (H : Digest) (size : ℕ) (leaf : List ℕ) (kept : List (List ℕ)) (level count left : ℕ) (hash : List ℕ) (tiles : List (Tile × List ℕ)) : Type 0 where
   pub filled : IsFilled size level count
   pub place : left + count_below (size - 1) level ≡ length kept
   pub told : (entries : List (List ℕ)) (entry : List ℕ) → length entries + 1 ≡ size → kept ≡ hashes_below H entries 8 → leaf ≡ H (leaf_input entry) → IsFilling H (entries ++ entry ∷ []) size level count hash tiles
 
-pub filling-start : (H : List ℕ → List ℕ) (size : ℕ) (leaf : List ℕ) (kept : List (List ℕ)) (left : ℕ) (tiles : List (Tile × List ℕ)) → 0 < size → left ≡ length kept → tiles ≡ [] → AreFilling H size leaf kept 0 size left leaf tiles
+pub filling-start : (H : Digest) (size : ℕ) (leaf : List ℕ) (kept : List (List ℕ)) (left : ℕ) (tiles : List (Tile × List ℕ)) → 0 < size → left ≡ length kept → tiles ≡ [] → AreFilling H size leaf kept 0 size left leaf tiles
 filling-start H size leaf kept left tiles some left_is none = record {
   filled = record { scaled = omega arith; some = some };
   place = omega (arith, left_is, count_below-none (size - 1));
@@ -43,13 +44,13 @@ filling-start H size leaf kept left tiles some left_is none = record {
 }
 
 -- there are hashes enough for a full tile
-pub filling-room : (H : List ℕ → List ℕ) (size : ℕ) (leaf : List ℕ) (kept : List (List ℕ)) (level count left : ℕ) (hash : List ℕ) (tiles : List (Tile × List ℕ)) → size < 2 ^ 32 → length kept ≡ count_below (size - 1) 8
+pub filling-room : (H : Digest) (size : ℕ) (leaf : List ℕ) (kept : List (List ℕ)) (level count left : ℕ) (hash : List ℕ) (tiles : List (Tile × List ℕ)) → size < 2 ^ 32 → length kept ≡ count_below (size - 1) 8
     → AreFilling H size leaf kept level count left hash tiles → count % 256 ≡ 0 → 255 ≤ left
 filling-room H size leaf kept level count left hash tiles small counted at whole =
     let low = low_level size level count small at.filled in
     omega (arith, count_below-within (size - 1) level 8 (omega (arith, low)), before_wide size level count at.filled whole, at.place, counted)
 
-tiles_more : {A : Type 0} (H : List ℕ → List ℕ) (after : List (List ℕ)) (size level index : ℕ) (old new : List (Tile × Vec ℕ A)) (bytes : Vec ℕ A) → new ≡ old ++ (full_tile level index, bytes) ∷ []
+tiles_more : {A : Type 0} (H : Digest) (after : List (List ℕ)) (size level index : ℕ) (old new : List (Tile × Vec ℕ A)) (bytes : Vec ℕ A) → new ≡ old ++ (full_tile level index, bytes) ∷ []
     → map (λ t. (t.0, vec_items t.1)) old ≡ map (shown H after) (tiles_below size level) → index ≡ size / 256 ^ (level + 1) - 1 → vec_items bytes ≡ tile_text H (full_tile level index) after
     → map (λ t. (t.0, vec_items t.1)) new ≡ map (shown H after) (tiles_below size (level + 1))
 tiles_more {A = A} H after size level index old new bytes pushed so_far index_is text =
@@ -63,7 +64,7 @@ tiles_more {A = A} H after size level index old new bytes pushed so_far index_is
     ∙ sym (ap (map (shown H after)) more ∙ map-append (shown H after) (tiles_below size level) (f level ∷ []))
 
 -- one level more
-pub filling-more : {A : Type 0} (H : List ℕ → List ℕ) (size : ℕ) (leaf : List ℕ) (kept : List (List ℕ)) (level count left start width : ℕ) (hash result : List ℕ) (old new : List (Tile × Vec ℕ A)) (bytes : Vec ℕ A)
+pub filling-more : {A : Type 0} (H : Digest) (size : ℕ) (leaf : List ℕ) (kept : List (List ℕ)) (level count left start width : ℕ) (hash result : List ℕ) (old new : List (Tile × Vec ℕ A)) (bytes : Vec ℕ A)
     → size < 2 ^ 32 → length kept ≡ count_below (size - 1) 8 → AreFilling H size leaf kept level count left hash (map (λ t. (t.0, vec_items t.1)) old) → count % 256 ≡ 0
     → start ≡ left - 255 → width ≡ 255 → bytes.items ≡ flat_map (λ hash. hash) (take width (drop start kept) ++ hash ∷ []) → new ≡ old ++ (full_tile level (count / 256 - 1), bytes) ∷ []
     → Folds H (take width (drop start kept)) hash result
@@ -92,13 +93,13 @@ filling-more H size leaf kept level count left start width hash result old new b
 
 -- ---- at the end of the loop
 
-pub filling-kept : (H : List ℕ → List ℕ) (size : ℕ) (leaf : List ℕ) (kept : List (List ℕ)) (level count left : ℕ) (hash : List ℕ) (tiles : List (Tile × List ℕ)) → size < 2 ^ 32
+pub filling-kept : (H : Digest) (size : ℕ) (leaf : List ℕ) (kept : List (List ℕ)) (level count left : ℕ) (hash : List ℕ) (tiles : List (Tile × List ℕ)) → size < 2 ^ 32
     → AreFilling H size leaf kept level count left hash tiles → (count % 256 ≡ 0 → ⊥) → (entries : List (List ℕ)) (entry : List ℕ) → length entries + 1 ≡ size → kept ≡ hashes_below H entries 8 → leaf ≡ H (leaf_input entry)
     → take left kept ++ hash ∷ [] ≡ hashes_below H (entries ++ entry ∷ []) 8
 filling-kept H size leaf kept level count left hash tiles small at partly entries entry sized kept_is leaf_is =
     fill_kept H entries entry size level count left hash kept sized at.filled partly (omega (arith, low_level size level count small at.filled)) (at.told entries entry sized kept_is leaf_is).hash_is kept_is at.place
 
-pub filling-tiles : (H : List ℕ → List ℕ) (size : ℕ) (leaf : List ℕ) (kept : List (List ℕ)) (level count left : ℕ) (hash : List ℕ) (tiles : List (Tile × List ℕ)) → size < 2 ^ 32
+pub filling-tiles : (H : Digest) (size : ℕ) (leaf : List ℕ) (kept : List (List ℕ)) (level count left : ℕ) (hash : List ℕ) (tiles : List (Tile × List ℕ)) → size < 2 ^ 32
     → AreFilling H size leaf kept level count left hash tiles → (count % 256 ≡ 0 → ⊥) → (entries : List (List ℕ)) (entry : List ℕ) → length entries + 1 ≡ size → kept ≡ hashes_below H entries 8 → leaf ≡ H (leaf_input entry)
     → tiles ≡ shown_filled H (entries ++ entry ∷ [])
 filling-tiles H size leaf kept level count left hash tiles small at partly entries entry sized kept_is leaf_is =

@@ -5,6 +5,7 @@ use Rattle.std.proofs.lemmas.Nat.{div-mul-add, mod-mul-add, div-add-mod'}
 use Rattle.std.proofs.lemmas.Bool.{cases_lt, eq-eqb, ne_eqb}
 use Rattle.std.proofs.lemmas.List.{length-append, take_at, take-append-le, drop-append-le, append-nil, length-drop}
 use Rattle.std.proofs.lemmas.List.FromFn.{map-range_with_len_more, length-map-range_with_len}
+use Rattle.tl_hash.specs.Bytes.{Digest}
 use Rattle.tl_hash.specs.Tree.{tree_hash}
 use Rattle.tl_tile.specs.TileText.{level_count, full_tile, tile_text}
 use Rattle.tl_tile.specs.RightEdge.{filled_levels, hashes_below, count_below}
@@ -17,7 +18,7 @@ use Rattle.tl_tile.proofs.Below.{length-below, places_text}
 -- ---- places of one level, before and after
 
 -- the entries under a full place stay
-pub hash_stays : (H : List ℕ → List ℕ) (entries : List (List ℕ)) (entry : List ℕ) (level place : ℕ) → (place + 1) * 256 ^ level ≤ length entries
+pub hash_stays : (H : Digest) (entries : List (List ℕ)) (entry : List ℕ) (level place : ℕ) → (place + 1) * 256 ^ level ≤ length entries
     → hash_at H (entries ++ entry ∷ []) level place ≡ hash_at H entries level place
 hash_stays H entries entry level place within =
     let u : ℕ = 256 ^ level in
@@ -34,7 +35,7 @@ map_same f g a (suc n) same =
     let rest = map_same f g (a + 1) n (λ i low high. same i (omega (arith, low)) (omega (arith, high))) in
     λ i. first i ∷ rest i
 
-places_stay : (H : List ℕ → List ℕ) (entries : List (List ℕ)) (entry : List ℕ) (level first n : ℕ) → first + n ≤ level_count (length entries) level
+places_stay : (H : Digest) (entries : List (List ℕ)) (entry : List ℕ) (level first n : ℕ) → first + n ≤ level_count (length entries) level
     → map (hash_at H (entries ++ entry ∷ []) level) (range_with_len first n) ≡ map (hash_at H entries level) (range_with_len first n)
 places_stay H entries entry level first n within =
     map_same (hash_at H (entries ++ entry ∷ []) level) (hash_at H entries level) first n
@@ -132,7 +133,7 @@ low_level size level count small filled =
 -- ---- the partial tiles after the entry
 
 -- above the levels that were filled nothing changes
-partial_higher : (H : List ℕ → List ℕ) (entries : List (List ℕ)) (entry : List ℕ) (size level : ℕ) → length entries + 1 ≡ size → 0 < size % 256 ^ level
+partial_higher : (H : Digest) (entries : List (List ℕ)) (entry : List ℕ) (size level : ℕ) → length entries + 1 ≡ size → 0 < size % 256 ^ level
     → partial_hashes H (entries ++ entry ∷ []) level ≡ partial_hashes H entries level
 partial_higher H entries entry size level sized some =
     let after : List (List ℕ) = entries ++ entry ∷ [] in
@@ -144,7 +145,7 @@ partial_higher H entries entry size level sized some =
     ∙ places_stay H entries entry level (base (length entries) level) (wide_of (length entries) level) (omega (arith, base_parts (length entries) level))
 
 -- the level after those has one hash more
-partial_at : (H : List ℕ → List ℕ) (entries : List (List ℕ)) (entry : List ℕ) (size level count : ℕ) (hash : List ℕ) → length entries + 1 ≡ size → IsFilled size level count → (count % 256 ≡ 0 → ⊥)
+partial_at : (H : Digest) (entries : List (List ℕ)) (entry : List ℕ) (size level count : ℕ) (hash : List ℕ) → length entries + 1 ≡ size → IsFilled size level count → (count % 256 ≡ 0 → ⊥)
     → hash ≡ hash_at H (entries ++ entry ∷ []) level (count - 1) → partial_hashes H (entries ++ entry ∷ []) level ≡ partial_hashes H entries level ++ hash ∷ []
 partial_at H entries entry size level count hash sized filled partly hash_is =
     let after : List (List ℕ) = entries ++ entry ∷ [] in
@@ -165,7 +166,7 @@ partial_at H entries entry size level count hash sized filled partly hash_is =
     ∙ (λ i. stay i ++ sym hash_is i ∷ [])
 
 -- the filled levels have no partial tile
-partial_lower : (H : List ℕ → List ℕ) (after : List (List ℕ)) (level higher : ℕ) → level < higher → length after % 256 ^ higher ≡ 0 → partial_hashes H after level ≡ []
+partial_lower : (H : Digest) (after : List (List ℕ)) (level higher : ℕ) → level < higher → length after % 256 ^ higher ≡ 0 → partial_hashes H after level ≡ []
 partial_lower H after level higher less none =
     let size : ℕ = length after in
     let rest : size % 256 ^ (level + 1) ≤ size % 256 ^ higher = rest_up size (level + 1) higher (omega (arith, less)) in
@@ -178,7 +179,7 @@ partial_lower H after level higher less none =
     ] in
     ap (λ (x : ℕ). map (hash_at H after level) (range_with_len (base size level) x)) width
 
-below_none : (H : List ℕ → List ℕ) (after : List (List ℕ)) (level higher : ℕ) → level ≤ higher → length after % 256 ^ higher ≡ 0 → hashes_below H after level ≡ []
+below_none : (H : Digest) (after : List (List ℕ)) (level higher : ℕ) → level ≤ higher → length after % 256 ^ higher ≡ 0 → hashes_below H after level ≡ []
 unfolding hashes_below
 below_none H after zero higher less none = refl
 below_none H after (suc level) higher less none =
@@ -187,7 +188,7 @@ below_none H after (suc level) higher less none =
     λ i. own i ++ rest i
 
 -- what stands before the hashes that the new one takes the place of
-grown : (H : List ℕ → List ℕ) (entries : List (List ℕ)) (entry : List ℕ) (size level count : ℕ) (hash : List ℕ) → length entries + 1 ≡ size → IsFilled size level count → (count % 256 ≡ 0 → ⊥)
+grown : (H : Digest) (entries : List (List ℕ)) (entry : List ℕ) (size level count : ℕ) (hash : List ℕ) → length entries + 1 ≡ size → IsFilled size level count → (count % 256 ≡ 0 → ⊥)
     → hash ≡ hash_at H (entries ++ entry ∷ []) level (count - 1) → (m : ℕ) → level < m
     → (front : List (List ℕ)) × (hashes_below H entries m ≡ front ++ hashes_below H entries level) × (hashes_below H (entries ++ entry ∷ []) m ≡ front ++ hash ∷ [])
 unfolding hashes_below
@@ -221,7 +222,7 @@ grown H entries entry size level count hash sized filled partly hash_is (suc m) 
           )
     ]
 
-pub fill_kept : (H : List ℕ → List ℕ) (entries : List (List ℕ)) (entry : List ℕ) (size level count left : ℕ) (hash : List ℕ) (kept : List (List ℕ)) → length entries + 1 ≡ size → IsFilled size level count → (count % 256 ≡ 0 → ⊥)
+pub fill_kept : (H : Digest) (entries : List (List ℕ)) (entry : List ℕ) (size level count left : ℕ) (hash : List ℕ) (kept : List (List ℕ)) → length entries + 1 ≡ size → IsFilled size level count → (count % 256 ≡ 0 → ⊥)
     → level < 8 → hash ≡ hash_at H (entries ++ entry ∷ []) level (count - 1) → kept ≡ hashes_below H entries 8 → left + count_below (size - 1) level ≡ length kept
     → take left kept ++ hash ∷ [] ≡ hashes_below H (entries ++ entry ∷ []) 8
 fill_kept H entries entry size level count left hash kept sized filled partly low hash_is kept_is place =
@@ -237,7 +238,7 @@ fill_kept H entries entry size level count left hash kept sized filled partly lo
 -- ---- the step of one filled level
 
 -- the hashes before the new one, as they are after it
-before_run : (H : List ℕ → List ℕ) (entries : List (List ℕ)) (entry : List ℕ) (size level count : ℕ) (below : List (List ℕ)) → length entries + 1 ≡ size → IsFilled size level count → count % 256 ≡ 0
+before_run : (H : Digest) (entries : List (List ℕ)) (entry : List ℕ) (size level count : ℕ) (below : List (List ℕ)) → length entries + 1 ≡ size → IsFilled size level count → count % 256 ≡ 0
     → below ≡ partial_hashes H entries level → below ≡ map (hash_at H (entries ++ entry ∷ []) level) (range_with_len ((count / 256 - 1) * 256) 255)
 before_run H entries entry size level count below sized filled whole below_is =
     let old : length entries ≡ size - 1 = omega (arith, sized) in
@@ -249,7 +250,7 @@ before_run H entries entry size level count below sized filled whole below_is =
     below_is ∙ sym (places_stay H entries entry level b w (omega (arith, base_parts (length entries) level)))
     ∙ (λ i. map (hash_at H (entries ++ entry ∷ []) level) (range_with_len (first i) (width i)))
 
-pub fold_step : (H : List ℕ → List ℕ) (entries : List (List ℕ)) (entry : List ℕ) (size level count : ℕ) (below : List (List ℕ)) (hash result : List ℕ) → length entries + 1 ≡ size → IsFilled size level count → count % 256 ≡ 0
+pub fold_step : (H : Digest) (entries : List (List ℕ)) (entry : List ℕ) (size level count : ℕ) (below : List (List ℕ)) (hash result : List ℕ) → length entries + 1 ≡ size → IsFilled size level count → count % 256 ≡ 0
     → below ≡ partial_hashes H entries level → hash ≡ hash_at H (entries ++ entry ∷ []) level (count - 1) → Folds H below hash result
     → result ≡ hash_at H (entries ++ entry ∷ []) (level + 1) (count / 256 - 1)
 fold_step H entries entry size level count below hash result sized filled whole below_is hash_is folds =
@@ -279,7 +280,7 @@ fold_step H entries entry size level count below hash result sized filled whole 
     let count_u : size - p * u ≡ 256 ^ (level + 1) = omega (arith, spread, stop_u, filled.scaled, power) in
     folded ∙ (λ i. tree_hash H (take (count_u i) (drop (from i) after)))
 
-pub text_step : (H : List ℕ → List ℕ) (entries : List (List ℕ)) (entry : List ℕ) (size level count : ℕ) (below : List (List ℕ)) (hash bytes : List ℕ) → length entries + 1 ≡ size → IsFilled size level count → count % 256 ≡ 0
+pub text_step : (H : Digest) (entries : List (List ℕ)) (entry : List ℕ) (size level count : ℕ) (below : List (List ℕ)) (hash bytes : List ℕ) → length entries + 1 ≡ size → IsFilled size level count → count % 256 ≡ 0
     → below ≡ partial_hashes H entries level → hash ≡ hash_at H (entries ++ entry ∷ []) level (count - 1) → bytes ≡ flat_map (λ hash. hash) (below ++ hash ∷ [])
     → bytes ≡ tile_text H (full_tile level (count / 256 - 1)) (entries ++ entry ∷ [])
 text_step H entries entry size level count below hash bytes sized filled whole below_is hash_is bytes_are =

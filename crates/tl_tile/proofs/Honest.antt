@@ -4,6 +4,7 @@ use Rattle.std.specs.List.{flat_map, range_with_len}
 use Rattle.std.proofs.lemmas.Nat.{pow-add}
 use Rattle.std.proofs.lemmas.Bool.{cases_lt}
 use Rattle.std.proofs.lemmas.List.{take_at, drop_at, drop-drop, length-drop}
+use Rattle.tl_hash.specs.Bytes.{Digest}
 use Rattle.tl_hash.specs.Tree.{tree_hash}
 use Rattle.tl_hash.proofs.TreeLemmas.{length-tree_hash}
 use Rattle.tl_tile.proofs.Segments.{HasHashLength, segment, segment-all, power_of_256}
@@ -32,7 +33,7 @@ piece_of f wide a (suc m) (suc n) less =
     ∙ ap f place
 
 -- the hash at a number of a tile's text
-pub hash_of_text : (H : List ℕ → List ℕ) → ((message : List ℕ) → HasHashLength (H message)) → (t : Tile) (entries : List (List ℕ)) (n : ℕ) (hash : List ℕ) → n < t.width
+pub hash_of_text : (H : Digest) → ((message : List ℕ) → HasHashLength (H message)) → (t : Tile) (entries : List (List ℕ)) (n : ℕ) (hash : List ℕ) → n < t.width
     → IsHashAt (tile_text H t entries) n hash → hash ≡ tree_hash H (entries_under t.level (t.index * 256 + n) entries)
 hash_of_text H wide t entries n hash less is =
     let f : ℕ → List ℕ = λ i. tree_hash H (entries_under t.level (t.index * 256 + i) entries) in
@@ -41,14 +42,14 @@ hash_of_text H wide t entries n hash less is =
     ∙ piece_of f (λ i. length-tree_hash H wide (entries_under t.level (t.index * 256 + i) entries)) 0 t.width n less
     ∙ ap f start
 
-honest_hash : (H : List ℕ → List ℕ) → ((message : List ℕ) → HasHashLength (H message)) → (tiles : Tiles) (entries : List (List ℕ)) → AreHonest H tiles entries
+honest_hash : (H : Digest) → ((message : List ℕ) → HasHashLength (H message)) → (tiles : Tiles) (entries : List (List ℕ)) → AreHonest H tiles entries
     → (t : Tile) (text : List ℕ) (n : ℕ) (hash : List ℕ) → tiles t ≡ Some text → n < t.width → IsHashAt text n hash
     → hash ≡ tree_hash H (entries_under t.level (t.index * 256 + n) entries)
 honest_hash H wide tiles entries honest t text n hash fetched less is =
     hash_of_text H wide t entries n hash less (subst (λ (bytes : List ℕ). IsHashAt bytes n hash) (honest t text fetched) is)
 
 -- a hash of an honest tile, by its place
-pub honest_place : (H : List ℕ → List ℕ) → ((message : List ℕ) → HasHashLength (H message)) → (tiles : Tiles) (entries : List (List ℕ)) → AreHonest H tiles entries
+pub honest_place : (H : Digest) → ((message : List ℕ) → HasHashLength (H message)) → (tiles : Tiles) (entries : List (List ℕ)) → AreHonest H tiles entries
     → (level place : ℕ) (text hash : List ℕ) → place < level_count (length entries) level
     → tiles (tile_with (length entries) level place) ≡ Some text → IsHashAt text (place % 256) hash
     → hash ≡ tree_hash H (entries_under level place entries)
@@ -80,7 +81,7 @@ honest_tiles_fold_to_root H wide tiles entries honest root strings folds =
     ∙ (λ i. tree_hash H (take (sym count i) (drop (sym start i) entries))))
     ∙ ap (tree_hash H) all
 
-pub text_folds_to_above : (H : List ℕ → List ℕ) → ((message : List ℕ) → HasHashLength (H message)) → (tiles : Tiles) (entries : List (List ℕ)) → AreHonest H tiles entries
+pub text_folds_to_above : (H : Digest) → ((message : List ℕ) → HasHashLength (H message)) → (tiles : Tiles) (entries : List (List ℕ)) → AreHonest H tiles entries
     → (level index : ℕ) (text hash : List ℕ) (strings : List (List ℕ)) → index < level_count (length entries) (level + 1)
     → text ≡ tile_text H (full_tile level index) entries → IsTileHash H text hash strings
     → (above own : List ℕ) → tiles (tile_with (length entries) (level + 1) index) ≡ Some above → IsHashAt above (index % 256) own

@@ -2,6 +2,7 @@
 use Rattle.std.proofs.Common.{◌≡◌, ℕ, ◌+◌, ◌*◌, ◌/◌, ◌%◌, ◌^◌, ◌<◌, ◌≤◌, List, length, take, drop, Some, sym, ap, subst, ◌∙◌, arith}
 use Rattle.std.proofs.lemmas.Nat.{pow_pos, le-div, div-mul-add, mod-mul-add}
 use Rattle.std.proofs.lemmas.List.{length-drop}
+use Rattle.tl_hash.specs.Bytes.{Digest}
 use Rattle.tl_hash.specs.Tree.{tree_hash}
 use Rattle.tl_store.proofs.StoredLemmas.{index_is_place}
 use Rattle.tl_tile.specs.TileText.{level_count, tile_with}
@@ -13,7 +14,7 @@ use Rattle.tl_tile.proofs.Edges.{positive_256}
 use Rattle.tl_tile.proofs.Checked.{tile_with-same, under_place, in_one_tile, power_in_256, height_of_8}
 use Rattle.tl_tile.proofs.Honest.{honest_place}
 
-honest_part : (H : List ℕ → List ℕ) → ((message : List ℕ) → HasHashLength (H message)) → (tiles : Tiles) (entries : List (List ℕ)) → AreHonest H tiles entries
+honest_part : (H : Digest) → ((message : List ℕ) → HasHashLength (H message)) → (tiles : Tiles) (entries : List (List ℕ)) → AreHonest H tiles entries
     → (level place count : ℕ) (text hash : List ℕ) (strings : List (List ℕ)) → place % 256 + count ≤ 256 → (place + count) * 256 ^ level ≤ length entries
     → tiles (tile_with (length entries) level place) ≡ Some text → IsPartHash H text (place % 256) count hash strings
     → hash ≡ tree_hash H (segment (256 ^ level) place count entries)

@@ -4,6 +4,7 @@ use Rattle.std.specs.List.{flat_map, range_with_len}
 use Rattle.std.proofs.lemmas.Bool.{cases_Bool}
 use Rattle.std.proofs.lemmas.List.{length-append}
 use Rattle.std.proofs.lemmas.List.Elements.{All-head, All-tail}
+use Rattle.tl_hash.specs.Bytes.{Digest}
 use Rattle.tl_hash.specs.Tree.{tree_hash}
 use Rattle.tl_hash.proofs.TreeLemmas.{length-tree_hash}
 use Rattle.tl_tile.proofs.Segments.{HasHashLength}
@@ -22,7 +23,7 @@ length-pieces : (f : ℕ → List ℕ) → ((i : ℕ) → length (f i) ≡ 32) �
 length-pieces f wide a zero = refl
 length-pieces f wide a (suc n) = omega (arith, length-append (f a) (flat_map f (range_with_len (a + 1) n)), wide a, length-pieces f wide (a + 1) n)
 
-pub length-tile_text : (H : List ℕ → List ℕ) → ((message : List ℕ) → HasHashLength (H message)) → (t : Tile) (entries : List (List ℕ)) → length (tile_text H t entries) ≡ 32 * t.width
+pub length-tile_text : (H : Digest) → ((message : List ℕ) → HasHashLength (H message)) → (t : Tile) (entries : List (List ℕ)) → length (tile_text H t entries) ≡ 32 * t.width
 length-tile_text H wide t entries = length-pieces (λ i. tree_hash H (entries_under t.level (t.index * 256 + i) entries)) (λ i. length-tree_hash H wide (entries_under t.level (t.index * 256 + i) entries)) 0 t.width
 
 -- what was found is an answer
@@ -38,7 +39,7 @@ found-answer R (x ∷ xs) answers t text found =
     ]
 
 -- each fault but want of memory contradicts honesty
-pub are_honest : (may_answer : Tile → List ℕ → Type 0) (H : List ℕ → List ℕ) (entries : List (List ℕ))
+pub are_honest : (may_answer : Tile → List ℕ → Type 0) (H : Digest) (entries : List (List ℕ))
     → ((t : Tile) (text : List ℕ) → IsTileOf (length entries) t → may_answer t text → text ≡ tile_text H t entries)
     → (xs : List (Tile × List ℕ)) → AreAnswers may_answer (length entries) xs → AreHonest H (tiles_of xs) entries
 are_honest may_answer H entries honest xs answers t text found =
@@ -52,7 +53,7 @@ at_end R (x ∷ before) f all = at_end R before f (All-tail R x (before ++ f ∷
 last-answer : (R : Tile × List ℕ → Type 0) (xs before : List (Tile × List ℕ)) (f : Tile × List ℕ) → All R xs → xs ≡ before ++ f ∷ [] → R f
 last-answer R xs before f all is = at_end R before f (subst (All R) is all)
 
-not-bad : (may_answer : Tile → List ℕ → Type 0) (H : List ℕ → List ℕ) → ((message : List ℕ) → HasHashLength (H message)) → (entries : List (List ℕ))
+not-bad : (may_answer : Tile → List ℕ → Type 0) (H : Digest) → ((message : List ℕ) → HasHashLength (H message)) → (entries : List (List ℕ))
     → ((t : Tile) (text : List ℕ) → IsTileOf (length entries) t → may_answer t text → text ≡ tile_text H t entries)
     → (xs : List (Tile × List ℕ)) → AreAnswers may_answer (length entries) xs → (t : Tile) → IsBadTile H (length entries) (tree_hash H entries) xs t → ⊥
 not-bad may_answer H wide entries honest xs answers t bad =

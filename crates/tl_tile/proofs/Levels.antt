@@ -6,6 +6,7 @@ use Rattle.std.proofs.Math.Nat.{pow-succ'}
 use Rattle.std.proofs.Math.Arith.{mod-mul}
 use Rattle.std.proofs.lemmas.Nat.{pow-add, pow_pos, mod_below, div-add-mod'}
 use Rattle.std.proofs.lemmas.List.FromFn.{length-map-range_with_len}
+use Rattle.tl_hash.specs.Bytes.{Digest}
 use Rattle.tl_hash.specs.Tree.{tree_hash}
 use Rattle.tl_tile.specs.TileText.{level_count}
 use Rattle.tl_tile.specs.Run.{part, place_hash, Run, IsRun}
@@ -54,11 +55,11 @@ above_start size level =
 pub above_rest : (size level : ℕ) → size % 256 ^ (level + 1) ≡ wide_of size level * 256 ^ level + size % 256 ^ level
 above_rest size level = ap (λ (x : ℕ). size % x) (next_power level) ∙ mod-mul size (omega arith) (positive_256 level)
 
-pub length-partial : (H : List ℕ → List ℕ) (entries : List (List ℕ)) (level : ℕ) → length (partial_hashes H entries level) ≡ wide_of (length entries) level
+pub length-partial : (H : Digest) (entries : List (List ℕ)) (level : ℕ) → length (partial_hashes H entries level) ≡ wide_of (length entries) level
 length-partial H entries level = length-map-range_with_len (hash_at H entries level) (base (length entries) level) (wide_of (length entries) level)
 
 -- the hashes of a partial tile are a level's places side by side
-partial-run : (H : List ℕ → List ℕ) (entries : List (List ℕ)) (level : ℕ) (hashes : List (List ℕ)) → hashes ≡ partial_hashes H entries level
+partial-run : (H : Digest) (entries : List (List ℕ)) (level : ℕ) (hashes : List (List ℕ)) → hashes ≡ partial_hashes H entries level
     → hashes ≡ map (place_hash H entries (256 ^ level)) (range_with_len (base (length entries) level) (length hashes))
 partial-run H entries level hashes are =
     let count : length hashes ≡ wide_of (length entries) level = ap length are ∙ length-partial H entries level in
@@ -70,7 +71,7 @@ Folds H hashes last result =
     (entries : List (List ℕ)) (run : Run) → IsRun H entries run hashes last → result ≡ tree_hash H (part (run.place * run.width) run.end entries)
 
 -- with a hash below
-pub rest-joined : (H : List ℕ → List ℕ) (entries : List (List ℕ)) (level : ℕ) (hashes : List (List ℕ)) (last result : List ℕ) → hashes ≡ partial_hashes H entries level
+pub rest-joined : (H : Digest) (entries : List (List ℕ)) (level : ℕ) (hashes : List (List ℕ)) (last result : List ℕ) → hashes ≡ partial_hashes H entries level
     → IsRest H entries level (Some last) → Folds H hashes last result → IsRest H entries (level + 1) (Some result)
 rest-joined H entries level hashes last result are (some, last_is) folds =
     let n : ℕ = length entries in
@@ -93,7 +94,7 @@ rest-joined H entries level hashes last result are (some, last_is) folds =
     )
 
 -- with none below, and at least one hash in the tile
-pub rest-first : (H : List ℕ → List ℕ) (entries : List (List ℕ)) (level : ℕ) (hashes first : List (List ℕ)) (own result : List ℕ) → hashes ≡ partial_hashes H entries level → 0 < length hashes
+pub rest-first : (H : Digest) (entries : List (List ℕ)) (level : ℕ) (hashes first : List (List ℕ)) (own result : List ℕ) → hashes ≡ partial_hashes H entries level → 0 < length hashes
     → first ≡ take (length hashes - 1) hashes → own ≡ get_or hashes (length hashes - 1) own
     → IsRest H entries level None → Folds H first own result → IsRest H entries (level + 1) (Some result)
 rest-first H entries level hashes first own result are wide first_is own_is none folds =
@@ -116,7 +117,7 @@ rest-first H entries level hashes first own result are wide first_is own_is none
     )
 
 -- with none below, and no hash in the tile
-pub rest-none : (H : List ℕ → List ℕ) (entries : List (List ℕ)) (level : ℕ) (hashes : List (List ℕ)) → hashes ≡ partial_hashes H entries level → length hashes ≡ 0
+pub rest-none : (H : Digest) (entries : List (List ℕ)) (level : ℕ) (hashes : List (List ℕ)) → hashes ≡ partial_hashes H entries level → length hashes ≡ 0
     → IsRest H entries level None → IsRest H entries (level + 1) None
 rest-none H entries level hashes are empty none =
     let n : ℕ = length entries in

@@ -7,6 +7,7 @@ use Rattle.std.proofs.lemmas.Bool.{cases_Bool, lt-ltb, ltb-true}
 use Rattle.std.proofs.lemmas.Grind.{reverse_onto}
 use Rattle.std.proofs.lemmas.List.{append-nil, map-append, get_or_default}
 use Rattle.std.proofs.lemmas.List.Elements.{All-nil, All-push, All-append, All-head, All-tail, All-cons, filter-append}
+use Rattle.tl_hash.specs.Bytes.{Digest}
 use Rattle.tl_store.specs.Stored.{stored_index}
 use Rattle.tl_tile.specs.declared.resource.Tile.{Tile}
 use Rattle.tl_tile.specs.declared.tile_reader.subtree.Subtree.{Subtree}
@@ -23,12 +24,12 @@ use Rattle.tl_tile.proofs.Push.{same_tile-is}
 
 -- ---- one tile more
 
-next-push : (H : List ℕ → List ℕ) (size : ℕ) (root : List ℕ) (before more : List (Tile × List ℕ)) (f : Tile × List ℕ) → AreNext H size root before more → ComesNext H size root (before ++ more) f.0 → AreNext H size root before (more ++ f ∷ [])
+next-push : (H : Digest) (size : ℕ) (root : List ℕ) (before more : List (Tile × List ℕ)) (f : Tile × List ℕ) → AreNext H size root before more → ComesNext H size root (before ++ more) f.0 → AreNext H size root before (more ++ f ∷ [])
 next-push H size root before [] f order next = (subst (λ (list : List (Tile × List ℕ)). ComesNext H size root list f.0) (append-nil before) next, tt)
 next-push H size root before (m ∷ more) f order next =
     (order.0, next-push H size root (before ++ m ∷ []) more f order.1 (subst (λ (list : List (Tile × List ℕ)). ComesNext H size root list f.0) (sym (append_assoc before (m ∷ []) more)) next))
 
-pub fetched-push : (may_answer : Tile → List ℕ → Type 0) (H : List ℕ → List ℕ) (size : ℕ) (root : List ℕ) (old new : List (Tile × List ℕ)) (tile : Tile) (text : List ℕ) → AreFetched may_answer H size root old → IsTileOf size tile
+pub fetched-push : (may_answer : Tile → List ℕ → Type 0) (H : Digest) (size : ℕ) (root : List ℕ) (old new : List (Tile × List ℕ)) (tile : Tile) (text : List ℕ) → AreFetched may_answer H size root old → IsTileOf size tile
     → ComesNext H size root old tile → new ≡ old ++ (tile, text) ∷ [] → may_answer tile text → AreFetched may_answer H size root new
 fetched-push may_answer H size root old new tile text before of next pushed answer =
     subst (AreFetched may_answer H size root) (sym pushed) (record {
@@ -37,12 +38,12 @@ fetched-push may_answer H size root old new tile text before of next pushed answ
     })
 
 -- a new text of another length
-pub bad-length : (H : List ℕ → List ℕ) (size : ℕ) (root : List ℕ) (old new : List (Tile × List ℕ)) (tile : Tile) (text : List ℕ) → IsTileOf size tile
+pub bad-length : (H : Digest) (size : ℕ) (root : List ℕ) (old new : List (Tile × List ℕ)) (tile : Tile) (text : List ℕ) → IsTileOf size tile
     → new ≡ old ++ (tile, text) ∷ [] → length text ≢ 32 * tile.width → IsBadTile H size root new tile
 bad-length H size root old new tile text of pushed differ = record { of_log = of; because = inl (text, (old, pushed), differ) }
 
 -- a fault where more tiles may be lacking
-pub fault-weaker : (H : List ℕ → List ℕ) (few many : Tile → Type 0) (size : ℕ) (root : List ℕ) (fetched : List (Tile × List ℕ)) (fault : ReadFault) → ((t : Tile) → few t → many t)
+pub fault-weaker : (H : Digest) (few many : Tile → Type 0) (size : ℕ) (root : List ℕ) (fetched : List (Tile × List ℕ)) (fault : ReadFault) → ((t : Tile) → few t → many t)
     → GivesReadFault H few size root fetched fault → GivesReadFault H many size root fetched fault
 fault-weaker H few many size root fetched OutOfRange weaker gives = absurd gives
 fault-weaker H few many size root fetched Source weaker (t, gives) = (t, record { lacks = weaker t gives.lacks; of_log = gives.of_log; next = gives.next })

@@ -3,6 +3,7 @@ use Rattle.std.proofs.Common.{◌≡◌, ℕ, ◌+◌, ◌-◌, ◌*◌, ◌/◌
 use Rattle.std.proofs.lemmas.Bool.{cases_Bool, cases_lt, and_parts, eqb-true, eq-eqb}
 use Rattle.std.specs.Prelude.{◌≢◌}
 use Rattle.std.proofs.lemmas.List.{map-append, length-append, same_from_push}
+use Rattle.tl_hash.specs.Bytes.{Digest}
 use Rattle.tl_tile.specs.declared.resource.Tile.{Tile}
 use Rattle.tl_tile.specs.TileText.{level_count, full_tile, partial_tile, tile_with}
 use Rattle.tl_tile.specs.Folds.{Tiles, IsFold, nothing, given, split, IsEdgeHash, FoldsToAbove}
@@ -67,7 +68,7 @@ tiles_of-cases (x ∷ xs) f t text found =
     ]
 
 -- a fold is one of other given hashes that are the same
-pub IsFold-map : (H : List ℕ → List ℕ) (F G : ℕ → ℕ → List ℕ → Type 0) → ((s c : ℕ) (h : List ℕ) → F s c h → G s c h) → ((s c : ℕ) (h : List ℕ) → G s c h → F s c h)
+pub IsFold-map : (H : Digest) (F G : ℕ → ℕ → List ℕ → Type 0) → ((s c : ℕ) (h : List ℕ) → F s c h → G s c h) → ((s c : ℕ) (h : List ℕ) → G s c h → F s c h)
     → (start count : ℕ) (hash : List ℕ) (strings : List (List ℕ)) → IsFold H F start count hash strings → IsFold H G start count hash strings
 IsFold-map H F G to from start count hash strings (nothing s) = nothing s
 IsFold-map H F G to from start count hash strings (given s c h some is) = given s c h some (to s c h is)
@@ -82,7 +83,7 @@ first-push size xs f (rest, is) =
     (rest ++ f.0 ∷ [], map-append view xs (f ∷ []) ∙ ap (λ (list : List Tile). list ++ f.0 ∷ []) is ∙ append_assoc (edge_tiles size) rest (f.0 ∷ []))
 
 -- a full tile more, with its hash in the tile above, which was fetched before
-pub verified-push : (H : List ℕ → List ℕ) (size : ℕ) (root : List ℕ) (xs : List (Tile × List ℕ)) (f : Tile × List ℕ) → AreVerified H size root xs
+pub verified-push : (H : Digest) (size : ℕ) (root : List ℕ) (xs : List (Tile × List ℕ)) (f : Tile × List ℕ) → AreVerified H size root xs
     → (level index : ℕ) → f.0 ≡ full_tile level index → length f.1 ≡ 32 * 256
     → FoldsToAbove H (tiles_of xs) size level index f.1 → AreVerified H size root (xs ++ f ∷ [])
 verified-push H size root xs f before level index is long above =
@@ -176,7 +177,7 @@ new-text old new tile t text seen pushed last =
 pub not-empty : (old new : List (Tile × List ℕ)) (f : Tile × List ℕ) → new ≡ old ++ f ∷ [] → new ≡ [] → ⊥
 not-empty old new f pushed none = omega (arith, ap length (sym pushed ∙ none), length-append old (f ∷ []))
 
-pub verified-full : (H : List ℕ → List ℕ) (size : ℕ) (root : List ℕ) (old new : List (Tile × List ℕ)) (level index : ℕ) (tile : Tile) (text seen own hash : List ℕ) → AreVerified H size root old
+pub verified-full : (H : Digest) (size : ℕ) (root : List ℕ) (old new : List (Tile × List ℕ)) (level index : ℕ) (tile : Tile) (text seen own hash : List ℕ) → AreVerified H size root old
     → tile ≡ full_tile level index → tiles_of old tile ≡ None → new ≡ old ++ (tile, text) ∷ [] → length text ≡ 32 * tile.width → text ≡ seen
     → IsHashWith (tiles_of old) size (level + 1) index own → Part H seen 0 256 hash → own ≡ hash → AreVerified H size root new
 verified-full H size root old new level index tile text seen own hash before is none pushed long seen_is above part same =
@@ -192,7 +193,7 @@ verified-full H size root old new level index tile text seen own hash before is 
     subst (AreVerified H size root) (sym pushed)
     (verified-push H size root old (tile, text) before level index is (long ∙ ap (λ (t : Tile). 32 * t.width) is) in_above)
 
-pub bad-full : (H : List ℕ → List ℕ) (size : ℕ) (root : List ℕ) (old new : List (Tile × List ℕ)) (level index : ℕ) (tile : Tile) (text seen own hash : List ℕ) → tile ≡ full_tile level index
+pub bad-full : (H : Digest) (size : ℕ) (root : List ℕ) (old new : List (Tile × List ℕ)) (level index : ℕ) (tile : Tile) (text seen own hash : List ℕ) → tile ≡ full_tile level index
     → index < level_count size (level + 1) → tiles_of old tile ≡ None → new ≡ old ++ (tile, text) ∷ [] → text ≡ seen
     → IsHashWith (tiles_of old) size (level + 1) index own → Part H seen 0 256 hash → own ≢ hash → IsBadTile H size root new tile
 bad-full H size root old new level index tile text seen own hash is below none pushed seen_is above part differ =
@@ -220,7 +221,7 @@ bad-full H size root old new level index tile text seen own hash is below none p
     }
 
 -- a full tile comes next
-pub next-full : (H : List ℕ → List ℕ) (size : ℕ) (root : List ℕ) (xs : List (Tile × List ℕ)) (level index : ℕ) → AreVerified H size root xs → tiles_of xs (full_tile level index) ≡ None → HasTileWith (tiles_of xs) size (level + 1) index
+pub next-full : (H : Digest) (size : ℕ) (root : List ℕ) (xs : List (Tile × List ℕ)) (level index : ℕ) → AreVerified H size root xs → tiles_of xs (full_tile level index) ≡ None → HasTileWith (tiles_of xs) size (level + 1) index
     → ComesNext H size root xs (full_tile level index)
 next-full H size root xs level index passed new above = record { new = new; next = inr (record { full = refl; passed = passed; above = above }) }
 

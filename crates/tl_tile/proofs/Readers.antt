@@ -2,6 +2,7 @@
 use Rattle.std.proofs.Common.{◌≡◌, ℕ, ◌^◌, ◌<◌, ◌≤◌, inl, inr, Bool, cond, List, length, map, All, refl, sym, ap, subst, ◌∙◌, arith}
 use Rattle.std.proofs.lemmas.Bool.{cases_lt, lt-leb, le-leb}
 use Rattle.std.specs.Prelude.{Result, Ok, Err, IfOk}
+use Rattle.tl_hash.specs.Bytes.{Digest}
 use Rattle.tl_hash.specs.Tree.{tree_hash}
 use Rattle.tl_store.specs.Stored.{stored_count, stored_hash}
 use Rattle.tl_store.specs.Reader.{readable_count, AreReadable}
@@ -48,7 +49,7 @@ all_stored size indexes small readable = λ k d less. omega (arith, readable k d
 
 -- authentic hashes are those of each list that the reader stands for
 pub authentic_stands : (own : List ℕ → List ℕ) (may_answer : Tile → List ℕ → Type 0) (read : Reading) (hashes : List (List ℕ)) → AreAnswers may_answer read.size read.fetched → AreAuthentic own read hashes
-    → (H : List ℕ → List ℕ) (entries : List (List ℕ)) → StandsAgainst own may_answer read.size read.root H entries → hashes ≡ map (stored_hash H entries) read.indexes
+    → (H : Digest) (entries : List (List ℕ)) → StandsAgainst own may_answer read.size read.root H entries → hashes ≡ map (stored_hash H entries) read.indexes
 authentic_stands own may_answer read hashes answers authentic H entries (sized, small, same, is_root, apart) =
     elim (authentic.stored entries sized (ap (λ (G : List ℕ → List ℕ). tree_hash G entries) (sym same) ∙ is_root)) as (λ _. hashes ≡ map (stored_hash H entries) read.indexes) [
       | inl stored ↦ stored ∙ ap (λ (G : List ℕ → List ℕ). map (stored_hash G entries) read.indexes) (sym same)
@@ -60,7 +61,7 @@ if_ok_weaker P Q (Ok x) weaker holds = weaker x holds
 if_ok_weaker P Q (Err e) weaker holds = tt
 
 -- the faults of a read whose numbers are all in range
-pub numbers_fault : (H : List ℕ → List ℕ) (may_lack : Tile → Type 0) (read : Reading) (fault : ReadFault) → AreReadable read.size read.indexes → 0 < length read.indexes
+pub numbers_fault : (H : Digest) (may_lack : Tile → Type 0) (read : Reading) (fault : ReadFault) → AreReadable read.size read.indexes → 0 < length read.indexes
     → GivesReadFault H (λ t. may_lack t × IsNeededFor read.size read.indexes t) read.size read.root read.fetched fault → GivesNumbersFault H may_lack read fault
 numbers_fault H may_lack read OutOfRange readable some gives = absurd gives
 numbers_fault H may_lack read Source readable some gives = ((readable, some), gives)

@@ -5,6 +5,7 @@ use Rattle.std.proofs.Math.Nat.{div-le_self}
 use Rattle.std.proofs.lemmas.Nat.{pow_pos, le-div}
 use Rattle.std.proofs.lemmas.Bool.{cases_lt}
 use Rattle.std.proofs.lemmas.List.{take_more, take_all}
+use Rattle.tl_hash.specs.Bytes.{Digest}
 use Rattle.tl_hash.specs.Tree.{tree_hash}
 use Rattle.tl_tile.proofs.Segments.{HasHashLength}
 use Rattle.tl_store.specs.Stored.{stored_hash}
@@ -60,22 +61,22 @@ abbrev pub Grows : List (Tile × List ℕ) → List (Tile × List ℕ) → Type 
 Grows fetched after = (t : Tile) (text : List ℕ) → tiles_of fetched t ≡ Some text → tiles_of after t ≡ Some text
 
 -- the hashes stay
-subtree_hash-later : (H : List ℕ → List ℕ) (xs ys : List (Tile × List ℕ)) (size level place : ℕ) (hash : List ℕ) → Grows xs ys → IsSubtreeHash H (tiles_of xs) size level place hash → IsSubtreeHash H (tiles_of ys) size level place hash
+subtree_hash-later : (H : Digest) (xs ys : List (Tile × List ℕ)) (size level place : ℕ) (hash : List ℕ) → Grows xs ys → IsSubtreeHash H (tiles_of xs) size level place hash → IsSubtreeHash H (tiles_of ys) size level place hash
 subtree_hash-later H xs ys size level place hash grows are =
     record { text = are.text; strings = are.strings; fetched = grows (tile_with size (level / 8) (place * 2 ^ (level % 8))) are.text are.fetched; folds = are.folds }
 
-number-later : (H : List ℕ → List ℕ) (xs ys : List (Tile × List ℕ)) (size index : ℕ) (hash : List ℕ) → Grows xs ys → IsHashOfNumber H (tiles_of xs) size index hash → IsHashOfNumber H (tiles_of ys) size index hash
+number-later : (H : Digest) (xs ys : List (Tile × List ℕ)) (size index : ℕ) (hash : List ℕ) → Grows xs ys → IsHashOfNumber H (tiles_of xs) size index hash → IsHashOfNumber H (tiles_of ys) size index hash
 number-later H xs ys size index hash grows are =
     record { subtree = are.subtree; within = are.within; number = are.number; hash_is = subtree_hash-later H xs ys size are.subtree.level are.subtree.place hash grows are.hash_is }
 
-pub all-later : (H : List ℕ → List ℕ) (xs ys : List (Tile × List ℕ)) (size : ℕ) (indexes : List ℕ) (hashes : List (List ℕ)) → Grows xs ys → AreHashesOf H (tiles_of xs) size indexes hashes → AreHashesOf H (tiles_of ys) size indexes hashes
+pub all-later : (H : Digest) (xs ys : List (Tile × List ℕ)) (size : ℕ) (indexes : List ℕ) (hashes : List (List ℕ)) → Grows xs ys → AreHashesOf H (tiles_of xs) size indexes hashes → AreHashesOf H (tiles_of ys) size indexes hashes
 all-later H xs ys size [] [] grows are = tt
 all-later H xs ys size [] (h ∷ hashes) grows are = are
 all-later H xs ys size (n ∷ indexes) [] grows are = are
 all-later H xs ys size (n ∷ indexes) (h ∷ hashes) grows are = (number-later H xs ys size n h grows are.0, all-later H xs ys size indexes hashes grows are.1)
 
 -- all these hashes are stored, or there is a collision
-all-stored : (H : List ℕ → List ℕ) → ((message : List ℕ) → HasHashLength (H message)) → (tiles : Tiles) (size : ℕ) (root : List ℕ) → AreChecked H tiles size root
+all-stored : (H : Digest) → ((message : List ℕ) → HasHashLength (H message)) → (tiles : Tiles) (size : ℕ) (root : List ℕ) → AreChecked H tiles size root
     → (entries : List (List ℕ)) → length entries ≡ size → tree_hash H entries ≡ root
     → (indexes : List ℕ) (hashes : List (List ℕ)) → AreHashesOf H tiles size indexes hashes
     → (hashes ≡ map (stored_hash H entries) indexes) ⊎ TilesCollide H tiles size entries
@@ -95,7 +96,7 @@ all-stored H wide tiles size root checked entries len is_root (n ∷ indexes) (h
     ]
 
 -- where the tiles are honest, all these hashes are stored
-all-honest : (H : List ℕ → List ℕ) → ((message : List ℕ) → HasHashLength (H message)) → (tiles : Tiles) (entries : List (List ℕ)) → AreHonest H tiles entries
+all-honest : (H : Digest) → ((message : List ℕ) → HasHashLength (H message)) → (tiles : Tiles) (entries : List (List ℕ)) → AreHonest H tiles entries
     → (indexes : List ℕ) (hashes : List (List ℕ)) → AreHashesOf H tiles (length entries) indexes hashes → hashes ≡ map (stored_hash H entries) indexes
 all-honest H wide tiles entries honest [] [] are = refl
 all-honest H wide tiles entries honest [] (h ∷ hashes) are = absurd are
@@ -106,7 +107,7 @@ all-honest H wide tiles entries honest (n ∷ indexes) (h ∷ hashes) are =
     let rest = all-honest H wide tiles entries honest indexes hashes are.1 in
     λ i. first i ∷ rest i
 
-pub authentic : (H : List ℕ → List ℕ) → ((message : List ℕ) → HasHashLength (H message)) → (read : Reading) → AreChecked H (tiles_of read.fetched) read.size read.root
+pub authentic : (H : Digest) → ((message : List ℕ) → HasHashLength (H message)) → (read : Reading) → AreChecked H (tiles_of read.fetched) read.size read.root
     → (hashes : List (List ℕ)) → AreHashesOf H (tiles_of read.fetched) read.size read.indexes hashes → AreAuthentic H read hashes
 authentic H wide read checked hashes are = record {
   stored = λ entries len is_root. all-stored H wide (tiles_of read.fetched) read.size read.root checked entries len is_root read.indexes hashes are;
@@ -134,7 +135,7 @@ zip-push R (q ∷ ps) [] p h all here = absurd all
 zip-push R (q ∷ ps) (g ∷ hs) p h all here = (all.0, zip-push R ps hs p h all.1 here)
 
 -- one number more
-pub hashes-more : (H : List ℕ → List ℕ) (xs ys : List (Tile × List ℕ)) (size i : ℕ) (indexes : List ℕ) (d : ℕ) (hashes after : List (List ℕ)) (hash : List ℕ) → i < length indexes
+pub hashes-more : (H : Digest) (xs ys : List (Tile × List ℕ)) (size i : ℕ) (indexes : List ℕ) (d : ℕ) (hashes after : List (List ℕ)) (hash : List ℕ) → i < length indexes
     → Grows xs ys → AreHashesOf H (tiles_of xs) size (take i indexes) hashes → IsHashOfNumber H (tiles_of ys) size (get_or indexes i d) hash → after ≡ hashes ++ hash ∷ []
     → AreHashesOf H (tiles_of ys) size (take (i + 1) indexes) after
 hashes-more H xs ys size i indexes d hashes after hash within grows are here pushed =
@@ -143,11 +144,11 @@ hashes-more H xs ys size i indexes d hashes after hash within grows are here pus
     let all : AllZip R (take i indexes ++ n ∷ []) (hashes ++ hash ∷ []) = zip-push R (take i indexes) hashes n hash (all-later H xs ys size (take i indexes) hashes grows are) here in
     subst (λ (list : List ℕ). AllZip R list after) (sym (take_more indexes i d within)) (subst (λ (list : List (List ℕ)). AllZip R (take i indexes ++ n ∷ []) list) (sym pushed) all)
 
-pub authentic-all : (H : List ℕ → List ℕ) → ((message : List ℕ) → HasHashLength (H message)) → (read : Reading) → AreChecked H (tiles_of read.fetched) read.size read.root
+pub authentic-all : (H : Digest) → ((message : List ℕ) → HasHashLength (H message)) → (read : Reading) → AreChecked H (tiles_of read.fetched) read.size read.root
     → (i : ℕ) (hashes : List (List ℕ)) → length read.indexes ≤ i → AreHashesOf H (tiles_of read.fetched) read.size (take i read.indexes) hashes → AreAuthentic H read hashes
 authentic-all H wide read checked i hashes over are =
     authentic H wide read checked hashes
     (subst (λ (list : List ℕ). AreHashesOf H (tiles_of read.fetched) read.size list hashes) (take_all i read.indexes over) are)
 
-pub hashes-none : (H : List ℕ → List ℕ) (xs : List (Tile × List ℕ)) (size : ℕ) (indexes : List ℕ) (hashes : List (List ℕ)) → hashes ≡ [] → AreHashesOf H (tiles_of xs) size (take 0 indexes) hashes
+pub hashes-none : (H : Digest) (xs : List (Tile × List ℕ)) (size : ℕ) (indexes : List ℕ) (hashes : List (List ℕ)) → hashes ≡ [] → AreHashesOf H (tiles_of xs) size (take 0 indexes) hashes
 hashes-none H xs size indexes hashes none = subst (λ (list : List (List ℕ)). AreHashesOf H (tiles_of xs) size (take 0 indexes) list) (sym none) tt

@@ -5,6 +5,7 @@ use Rattle.std.specs.List.{range_with_len}
 use Rattle.std.proofs.lemmas.Nat.{pow-add, pow_pos}
 use Rattle.std.proofs.lemmas.List.{length-take-le, length-drop, take-take, drop-take, drop-drop, drop-map}
 use Rattle.std.proofs.lemmas.List.FromFn.{take-map-range_with_len, get_or-map-range_with_len}
+use Rattle.tl_hash.specs.Bytes.{Digest}
 use Rattle.tl_hash.specs.Split.{IsSplit}
 use Rattle.tl_hash.specs.Tree.{tree_hash, node_input}
 use Rattle.tl_hash.proofs.SplitLemmas.{IsSplit-narrow, IsSplit-positive}
@@ -26,7 +27,7 @@ IsSplit-scaled k n u (j, e) s =
     }
 
 -- the hash over a part is made of those over its two parts
-pub part-split : (H : List ℕ → List ℕ) (start middle end : ℕ) (entries : List (List ℕ)) → start ≤ middle → IsSplit (middle - start) (end - start) → end ≤ length entries
+pub part-split : (H : Digest) (start middle end : ℕ) (entries : List (List ℕ)) → start ≤ middle → IsSplit (middle - start) (end - start) → end ≤ length entries
     → tree_hash H (part start end entries) ≡ H (node_input (tree_hash H (part start middle entries)) (tree_hash H (part middle end entries)))
 part-split H start middle end entries order s within =
     let w : ℕ = middle - start in
@@ -59,7 +60,7 @@ abbrev pub run_of : ℕ → ℕ → ℕ → Run
 run_of width place end = record { width = width; place = place; end = end }
 
 -- the first of the places, up to one of them that is the last
-pub run-places : (H : List ℕ → List ℕ) (entries : List (List ℕ)) (u place k : ℕ) (hashes : List (List ℕ)) (own : List ℕ) → IsPowerOfTwo u → 0 < k → k ≤ length hashes → (place + k) * u ≤ length entries
+pub run-places : (H : Digest) (entries : List (List ℕ)) (u place k : ℕ) (hashes : List (List ℕ)) (own : List ℕ) → IsPowerOfTwo u → 0 < k → k ≤ length hashes → (place + k) * u ≤ length entries
     → hashes ≡ map (place_hash H entries u) (range_with_len place (length hashes)) → own ≡ get_or hashes (k - 1) own → IsRun H entries (run_of u place ((place + k) * u)) (take (k - 1) hashes) own
 run-places H entries u place k hashes own power some most within hashes_are own_is =
     let n : ℕ = length hashes in
@@ -86,14 +87,14 @@ run-places H entries u place k hashes own power some most within hashes_are own_
     }
 
 -- the left part of a run
-pub run-left : (H : List ℕ → List ℕ) (entries : List (List ℕ)) (u place end k : ℕ) (hashes : List (List ℕ)) (last own : List ℕ) → IsSplit k (length hashes + 1) → own ≡ get_or hashes (k - 1) own
+pub run-left : (H : Digest) (entries : List (List ℕ)) (u place end k : ℕ) (hashes : List (List ℕ)) (last own : List ℕ) → IsSplit k (length hashes + 1) → own ≡ get_or hashes (k - 1) own
     → IsRun H entries (run_of u place end) hashes last → IsRun H entries (run_of u place ((place + k) * u)) (take (k - 1) hashes) own
 run-left H entries u place end k hashes last own s own_is run =
     let most : (place + k) * u ≤ (place + length hashes) * u = scaled_le (place + k) (place + length hashes) u (omega (arith, s.below)) in
     run-places H entries u place k hashes own run.power (IsSplit-positive k (length hashes + 1) s) (omega (arith, s.below)) (omega (arith, most, run.some, run.within)) run.hashes_are own_is
 
 -- and its right part
-pub run-right : (H : List ℕ → List ℕ) (entries : List (List ℕ)) (u place end k : ℕ) (hashes : List (List ℕ)) (last : List ℕ) → IsSplit k (length hashes + 1)
+pub run-right : (H : Digest) (entries : List (List ℕ)) (u place end k : ℕ) (hashes : List (List ℕ)) (last : List ℕ) → IsSplit k (length hashes + 1)
     → IsRun H entries (run_of u place end) hashes last → IsRun H entries (run_of u (place + k) end) (drop k hashes) last
 run-right H entries u place end k hashes last s run =
     let n : ℕ = length hashes in
@@ -115,7 +116,7 @@ run-right H entries u place end k hashes last s run =
     }
 
 -- the two give the whole
-pub run-node : (H : List ℕ → List ℕ) (entries : List (List ℕ)) (u place end k : ℕ) (hashes : List (List ℕ)) (last left right result : List ℕ) → IsSplit k (length hashes + 1)
+pub run-node : (H : Digest) (entries : List (List ℕ)) (u place end k : ℕ) (hashes : List (List ℕ)) (last left right result : List ℕ) → IsSplit k (length hashes + 1)
     → IsRun H entries (run_of u place end) hashes last → left ≡ tree_hash H (part (place * u) ((place + k) * u) entries) → right ≡ tree_hash H (part ((place + k) * u) end entries)
     → result ≡ H (node_input left right) → result ≡ tree_hash H (part (place * u) end entries)
 run-node H entries u place end k hashes last left right result s run left_is right_is result_is =

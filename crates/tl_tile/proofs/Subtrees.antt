@@ -3,6 +3,7 @@ use Rattle.std.proofs.Common.{◌≡◌, ℕ, ◌+◌, ◌-◌, ◌*◌, ◌≤�
 use Rattle.std.proofs.lemmas.Bool.{cases_lt}
 use Rattle.std.proofs.lemmas.List.{take-take, drop-drop, drop-take, take_all}
 use Rattle.std.specs.Int.{IsPowerOfTwo}
+use Rattle.tl_hash.specs.Bytes.{Digest}
 use Rattle.tl_hash.specs.Split.{IsSplit}
 use Rattle.tl_hash.specs.Tree.{inputs}
 use Rattle.tl_hash.proofs.TreeLemmas.{split_induction, length_first, length_rest}
@@ -24,11 +25,11 @@ part_is_whole a v entries none all = ap (λ (x : ℕ). take v (drop x entries)) 
 abbrev Holds : (List ℕ → List ℕ) → ℕ → List (List ℕ) → Type 0
 Holds H v entries = (q : ℕ) → (q + 1) * v ≤ length entries → (x : List ℕ) → Contains (inputs H (take v (drop (q * v) entries))) x → Contains (inputs H entries) x
 
-holds-whole : (H : List ℕ → List ℕ) (v q : ℕ) (entries : List (List ℕ)) → q * v ≡ 0 → length entries ≤ v → (x : List ℕ) → Contains (inputs H (take v (drop (q * v) entries))) x → Contains (inputs H entries) x
+holds-whole : (H : Digest) (v q : ℕ) (entries : List (List ℕ)) → q * v ≡ 0 → length entries ≤ v → (x : List ℕ) → Contains (inputs H (take v (drop (q * v) entries))) x → Contains (inputs H entries) x
 holds-whole H v q entries none all x found =
     subst (λ (list : List (List ℕ)). Contains (inputs H list) x) (part_is_whole (q * v) v entries none all) found
 
-holds-split : (H : List ℕ → List ℕ) (v : ℕ) → IsPowerOfTwo v → (k : ℕ) (entries : List (List ℕ)) → IsSplit k (length entries)
+holds-split : (H : Digest) (v : ℕ) → IsPowerOfTwo v → (k : ℕ) (entries : List (List ℕ)) → IsSplit k (length entries)
     → Holds H v (take k entries) → Holds H v (drop k entries) → Holds H v entries
 holds-split H v power k entries s first rest q within x found =
     elim (cases_lt v (length entries)) as (λ _. Contains (inputs H entries) x) [
@@ -56,7 +57,7 @@ holds-split H v power k entries s first rest q within x found =
           ]
     ]
 
-pub inputs-subtree : (H : List ℕ → List ℕ) (v : ℕ) → IsPowerOfTwo v → (entries : List (List ℕ)) → Holds H v entries
+pub inputs-subtree : (H : Digest) (v : ℕ) → IsPowerOfTwo v → (entries : List (List ℕ)) → Holds H v entries
 inputs-subtree H v power entries =
     split_induction (Holds H v)
     (λ q within x found. absurd (omega (arith, within, positive_power v power)))

@@ -4,6 +4,7 @@ use Rattle.std.specs.List.{flat_map, range_with_len}
 use Rattle.std.proofs.Math.Nat.{pow-succ'}
 use Rattle.std.proofs.lemmas.Nat.{pow-add, mul-le}
 use Rattle.std.proofs.lemmas.List.FromFn.{get_or-map-range_with_len, length-map-range_with_len, map-range_with_len_more}
+use Rattle.tl_hash.specs.Bytes.{Digest}
 use Rattle.tl_hash.specs.Tree.{tree_hash}
 use Rattle.tl_store.specs.Stored.{stored_index, stored_hash}
 use Rattle.tl_store.specs.Reader.{readable_count, AreReadable, GivesFault}
@@ -36,7 +37,7 @@ hash_within level index i width less within =
     omega (arith, m, within, ap (λ (x : ℕ). (index * 256 + i + 1) * x) (tile_height level))
 
 -- the stored hashes of a tile, one after the other, are its text
-pub stored_text : (H : List ℕ → List ℕ) (level index a n : ℕ) (entries : List (List ℕ)) → (index * 256 + (a + n)) * 256 ^ level ≤ length entries
+pub stored_text : (H : Digest) (level index a n : ℕ) (entries : List (List ℕ)) → (index * 256 + (a + n)) * 256 ^ level ≤ length entries
     → flat_map (λ hash. hash) (map (stored_hash H entries) (map (λ i. stored_index (8 * level) (index * 256 + i)) (range_with_len a n)))
     ≡ flat_map (λ i. tree_hash H (entries_under level (index * 256 + i) entries)) (range_with_len a n)
 stored_text H level index a zero entries within = refl
@@ -50,7 +51,7 @@ stored_text H level index a (suc n) entries within =
     let rest = stored_text H level index (a + 1) n entries (omega (arith, within, same)) in
     λ i. first i ++ rest i
 
-pub tile_text-stored : (H : List ℕ → List ℕ) (t : Tile) (size : ℕ) (entries : List (List ℕ)) (numbers : List ℕ) (hashes : List (List ℕ)) (bytes : List ℕ) → HasTile size t → length entries ≡ size
+pub tile_text-stored : (H : Digest) (t : Tile) (size : ℕ) (entries : List (List ℕ)) (numbers : List ℕ) (hashes : List (List ℕ)) (bytes : List ℕ) → HasTile size t → length entries ≡ size
     → numbers ≡ tile_numbers t → hashes ≡ map (stored_hash H entries) numbers → bytes ≡ flat_map (λ hash. hash) hashes → bytes ≡ tile_text H t entries
 tile_text-stored H t size entries numbers hashes bytes has len numbers_are hashes_are bytes_are =
     let sum : t.width ≡ 0 + t.width = omega arith in

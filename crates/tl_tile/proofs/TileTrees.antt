@@ -4,6 +4,7 @@ use Rattle.std.specs.Int.{IsPowerOfTwo}
 use Rattle.std.proofs.Math.Nat.{pow-succ'}
 use Rattle.std.proofs.lemmas.Bool.{cases_lt}
 use Rattle.std.proofs.lemmas.List.{length_push, get_or_append_left, get_or-append_right, get_or_default}
+use Rattle.tl_hash.specs.Bytes.{Digest}
 use Rattle.tl_hash.specs.Tree.{node_input}
 use Rattle.tl_tile.specs.Folds.{IsHashAt}
 use Rattle.tl_tile.specs.Inner.EdgeRoot.{Part}
@@ -44,7 +45,7 @@ power_cases w (suc k, is) = inr (2 ^ k, (k, refl), is ∙ pow-succ' 2 k)
 few-above : (count width : ℕ) → count * width ≡ 256 → 2 ≤ width → 2 * count ≤ 256
 few-above count width product wide = omega (arith, product, scaled_le 2 width count wide)
 
-pub tree-own : (H : List ℕ → List ℕ) (text : List ℕ) (hashes : List (List ℕ)) → length hashes ≡ 256 → ((n : ℕ) → n < 256 → IsHashAt text n (get_or hashes n [])) → IsTreeSoFar H text 256 hashes
+pub tree-own : (H : Digest) (text : List ℕ) (hashes : List (List ℕ)) → length hashes ≡ 256 → ((n : ℕ) → n < 256 → IsHashAt text n (get_or hashes n [])) → IsTreeSoFar H text 256 hashes
 tree-own H text hashes many own = record {
   many = many;
   own = own;
@@ -68,7 +69,7 @@ at-place : (hashes : List (List ℕ)) (i j : ℕ) (hash : List ℕ) → i < leng
 at-place hashes i j hash within is same = ap (λ (x : ℕ). get_or hashes x []) same ∙ get_or_default hashes i [] hash within ∙ sym is
 
 -- the node over two hashes that stand side by side
-node-part : (H : List ℕ → List ℕ) (text : List ℕ) (i : ℕ) (hashes : List (List ℕ)) (left right new : List ℕ) → i < 255 → IsTreeSoFar H text (256 + i) hashes
+node-part : (H : Digest) (text : List ℕ) (i : ℕ) (hashes : List (List ℕ)) (left right new : List ℕ) → i < 255 → IsTreeSoFar H text (256 + i) hashes
     → left ≡ get_or hashes (2 * i) left → right ≡ get_or hashes (2 * i + 1) right → new ≡ H (node_input left right)
     → (count width place h : ℕ) → IsPowerOfTwo h → width ≡ 2 * h → count * width ≡ 256 → place < count → level_start count + place ≡ 256 + i → Part H text (place * width) width new
 node-part H text i hashes left right new low tree left_is right_is new_is count width place h half is product less at =
@@ -92,7 +93,7 @@ node-part H text i hashes left right new low tree left_is right_is new_is count 
     (subst (λ (x : ℕ). Part H text x (width - h) right) next (subst (λ (x : ℕ). Part H text ((2 * place + 1) * h) x right) rest (subst (Part H text ((2 * place + 1) * h) h) right_hash second)))
     new_is
 
-pub tree-push : (H : List ℕ → List ℕ) (text : List ℕ) (i : ℕ) (hashes after : List (List ℕ)) (left right new : List ℕ) → i < 255 → IsTreeSoFar H text (256 + i) hashes
+pub tree-push : (H : Digest) (text : List ℕ) (i : ℕ) (hashes after : List (List ℕ)) (left right new : List ℕ) → i < 255 → IsTreeSoFar H text (256 + i) hashes
     → left ≡ get_or hashes (2 * i) left → right ≡ get_or hashes (2 * i + 1) right → new ≡ H (node_input left right) → after ≡ hashes ++ new ∷ []
     → IsTreeSoFar H text (256 + (i + 1)) after
 tree-push H text i hashes after left right new low tree left_is right_is new_is pushed = record {

@@ -3,6 +3,7 @@ use Rattle.std.proofs.Common.{◌≡◌, ℕ, ◌+◌, ◌-◌, ◌*◌, ◌/◌
 use Rattle.std.proofs.lemmas.Bool.{cases_eq, cases_lt, cases_Bool}
 use Rattle.std.proofs.lemmas.List.{get_or_default}
 use Rattle.std.proofs.lemmas.Nat.{div-mul-add, mod-mul-add, pow_pos}
+use Rattle.tl_hash.specs.Bytes.{Digest}
 use Rattle.tl_tile.specs.declared.resource.Tile.{Tile}
 use Rattle.tl_tile.specs.TileText.{level_count, full_tile, tile_with}
 use Rattle.tl_tile.specs.declared.tile_reader.subtree.Subtree.{Subtree}
@@ -21,24 +22,24 @@ use Rattle.tl_tile.proofs.Segments.{scaled_le}
 
 -- ---- which tiles there are
 
-pub tree-there : (H : List ℕ → List ℕ) (tiles : Tiles) (trees : Trees) (size level place : ℕ) (hashes : List (List ℕ)) → AreTreesOf H tiles trees → place / 256 < level_count size level / 256
+pub tree-there : (H : Digest) (tiles : Tiles) (trees : Trees) (size level place : ℕ) (hashes : List (List ℕ)) → AreTreesOf H tiles trees → place / 256 < level_count size level / 256
     → trees level (place / 256) ≡ Some hashes → IsThere tiles size level place true
 tree-there H tiles trees size level place hashes are full has =
     let found = are.found level (place / 256) hashes has in
     (found.0, ap tiles (tile_with-full size level place full) ∙ found.1)
 
-pub tree-not_there : (H : List ℕ → List ℕ) (tiles : Tiles) (trees : Trees) (size level place : ℕ) → AreTreesOf H tiles trees → place / 256 < level_count size level / 256
+pub tree-not_there : (H : Digest) (tiles : Tiles) (trees : Trees) (size level place : ℕ) → AreTreesOf H tiles trees → place / 256 < level_count size level / 256
     → HasEdge tiles size → size ≤ 2 ^ 62 → level ≤ 7 → place < level_count size level → trees level (place / 256) ≡ None → IsThere tiles size level place false
 tree-not_there H tiles trees size level place are full edge small low less has =
     is_there-by tiles size level place (full_tile level (place / 256)) (sym (tile_with-full size level place full)) edge small low less (are.absent level (place / 256) has)
 
 -- ---- hashes in trees
 
-pub tree-many : (H : List ℕ → List ℕ) (tiles : Tiles) (trees : Trees) (level index : ℕ) (hashes : List (List ℕ)) → AreTreesOf H tiles trees → trees level index ≡ Some hashes → length hashes ≡ 511
+pub tree-many : (H : Digest) (tiles : Tiles) (trees : Trees) (level index : ℕ) (hashes : List (List ℕ)) → AreTreesOf H tiles trees → trees level index ≡ Some hashes → length hashes ≡ 511
 tree-many H tiles trees level index hashes are has = (are.found level index hashes has).2.many
 
 -- a hash of a full tile
-pub tree-hash : (H : List ℕ → List ℕ) (tiles : Tiles) (trees : Trees) (size level place : ℕ) (hashes : List (List ℕ)) (hash : List ℕ) → AreTreesOf H tiles trees → place / 256 < level_count size level / 256
+pub tree-hash : (H : Digest) (tiles : Tiles) (trees : Trees) (size level place : ℕ) (hashes : List (List ℕ)) (hash : List ℕ) → AreTreesOf H tiles trees → place / 256 < level_count size level / 256
     → trees level (place / 256) ≡ Some hashes → hash ≡ get_or hashes (place % 256) hash → IsHashWith tiles size level place hash
 tree-hash H tiles trees size level place hashes hash are full has is =
     let found = are.found level (place / 256) hashes has in
@@ -46,7 +47,7 @@ tree-hash H tiles trees size level place hashes hash are full has is =
     (found.0, ap tiles (tile_with-full size level place full) ∙ found.1, subst (IsHashAt found.0 (place % 256)) same (found.2.own (place % 256) (omega arith)))
 
 -- the hash of a full tile
-pub tree-root : (H : List ℕ → List ℕ) (text : List ℕ) (hashes : List (List ℕ)) (hash : List ℕ) → IsTileTree H text hashes → hash ≡ get_or hashes 510 hash → Part H text 0 256 hash
+pub tree-root : (H : Digest) (text : List ℕ) (hashes : List (List ℕ)) (hash : List ℕ) → IsTileTree H text hashes → hash ≡ get_or hashes 510 hash → Part H text 0 256 hash
 tree-root H text hashes hash tree is =
     let same : get_or hashes 510 [] ≡ hash = get_or_default hashes 510 [] hash (omega (arith, tree.many)) ∙ sym is in
     subst (Part H text 0 256) same (tree.parts 1 256 0 (8, refl) refl (omega arith) (omega arith))
@@ -72,7 +73,7 @@ few-many many count product some =
     ]
 
 -- the hash of a complete subtree below a full tile's
-pub tree-part : (H : List ℕ → List ℕ) (text : List ℕ) (hashes : List (List ℕ)) (r count many place first : ℕ) (hash : List ℕ) → IsTileTree H text hashes → r < 8 → count ≡ 2 ^ r → many ≡ 256 / count → first ≡ place * count
+pub tree-part : (H : Digest) (text : List ℕ) (hashes : List (List ℕ)) (r count many place first : ℕ) (hash : List ℕ) → IsTileTree H text hashes → r < 8 → count ≡ 2 ^ r → many ≡ 256 / count → first ≡ place * count
     → hash ≡ get_or hashes (512 - 2 * many + place % many) hash → Part H text (first % 256) count hash
 tree-part H text hashes r count many place first hash tree low is many_is first_is hash_is =
     let e = many-of r count low is in
@@ -97,7 +98,7 @@ tree-index r count place hashes low is long =
     let less : place % (256 / count) < 256 / count = omega (arith, few.0) in
     omega (arith, long, few.0, few.1, less)
 
-pub tree-subtree : (H : List ℕ → List ℕ) (tiles : Tiles) (trees : Trees) (size : ℕ) (p : Subtree) (first count : ℕ) (hashes : List (List ℕ)) (hash : List ℕ) → AreTreesOf H tiles trees
+pub tree-subtree : (H : Digest) (tiles : Tiles) (trees : Trees) (size : ℕ) (p : Subtree) (first count : ℕ) (hashes : List (List ℕ)) (hash : List ℕ) → AreTreesOf H tiles trees
     → first / 256 < level_count size (p.level / 8) / 256 → first ≡ p.place * 2 ^ (p.level % 8) → count ≡ 2 ^ (p.level % 8) → trees (p.level / 8) (first / 256) ≡ Some hashes
     → hash ≡ get_or hashes (512 - 2 * (256 / count) + p.place % (256 / count)) hash → IsSubtreeHash H tiles size p.level p.place hash
 tree-subtree H tiles trees size p first count hashes hash are full first_is count_is has is =
@@ -116,13 +117,13 @@ tree-subtree H tiles trees size p first count hashes hash are full first_is coun
 
 -- ---- one tree more
 
-pub trees-none : (H : List ℕ → List ℕ) (tiles : Tiles) (trees : Trees) → ((level index : ℕ) → trees level index ≡ None) → ((level index : ℕ) → tiles (full_tile level index) ≡ None) → AreTreesOf H tiles trees
+pub trees-none : (H : Digest) (tiles : Tiles) (trees : Trees) → ((level index : ℕ) → trees level index ≡ None) → ((level index : ℕ) → tiles (full_tile level index) ≡ None) → AreTreesOf H tiles trees
 trees-none H tiles trees none no_full = record {
   found = λ level index hashes has. (let both : Some hashes ≡ None = sym has ∙ none level index in absurd (cc));
   absent = λ level index has. no_full level index;
 }
 
-pub trees-push : (H : List ℕ → List ℕ) (xs ys : List (Tile × List ℕ)) (old new : Trees) (level index : ℕ) (tile : Tile) (text : List ℕ) (hashes : List (List ℕ)) → AreTreesOf H (tiles_of xs) old → tile ≡ full_tile level index
+pub trees-push : (H : Digest) (xs ys : List (Tile × List ℕ)) (old new : Trees) (level index : ℕ) (tile : Tile) (text : List ℕ) (hashes : List (List ℕ)) → AreTreesOf H (tiles_of xs) old → tile ≡ full_tile level index
     → tiles_of xs (full_tile level index) ≡ None → ys ≡ xs ++ (tile, text) ∷ [] → IsTileTree H text hashes
     → new level index ≡ Some hashes → ((l i : ℕ) → (l ≡ level → i ≡ index → ⊥) → new l i ≡ old l i) → AreTreesOf H (tiles_of ys) new
 trees-push H xs ys old new level index tile text hashes before is none pushed tree here others =

@@ -4,6 +4,7 @@ use Rattle.std.proofs.Common.{◌≡◌, ℕ, ◌+◌, ◌-◌, ◌*◌, ◌<◌
 use Rattle.std.proofs.lemmas.Bool.{cases_lt, cases_order}
 use Rattle.std.proofs.lemmas.List.Elements.{Contains-append_left, Contains-append_right}
 use Rattle.std.specs.Int.{IsPowerOfTwo}
+use Rattle.tl_hash.specs.Bytes.{Digest}
 use Rattle.tl_hash.specs.Split.{IsSplit}
 use Rattle.tl_hash.specs.Tree.{tree_hash, inputs, node_input}
 use Rattle.tl_hash.proofs.SplitLemmas.{IsSplit-unique}
@@ -14,7 +15,7 @@ use Rattle.tl_hash.proofs.SameSize.{Collision, Collision-among, Contains-head, C
 use Rattle.tl_tile.specs.Folds.{IsFold, nothing, given, split}
 
 -- every hash that a fold comes to is a hash, where those given are
-pub IsFold-hash : (H : List ℕ → List ℕ) (IsGiven : ℕ → ℕ → List ℕ → Type 0) → ((message : List ℕ) → HasHashLength (H message))
+pub IsFold-hash : (H : Digest) (IsGiven : ℕ → ℕ → List ℕ → Type 0) → ((message : List ℕ) → HasHashLength (H message))
     → ((s c : ℕ) (h : List ℕ) → IsGiven s c h → HasHashLength h)
     → (start count : ℕ) (hash : List ℕ) (strings : List (List ℕ)) → IsFold H IsGiven start count hash strings → HasHashLength hash
 IsFold-hash H IsGiven wide widths start count hash strings (nothing s) = wide []
@@ -22,7 +23,7 @@ IsFold-hash H IsGiven wide widths start count hash strings (given s c h some is)
 IsFold-hash H IsGiven wide widths start count hash strings (split s c k left right lefts rights none at first second) = wide (node_input left right)
 
 -- two nodes with one hash: over the same hashes, or the two strings collide
-pub nodes_meet : (H : List ℕ → List ℕ) → ((message : List ℕ) → HasHashLength (H message)) → (k : ℕ) (a b : List ℕ) (strings entries : List (List ℕ)) → IsSplit k (length entries)
+pub nodes_meet : (H : Digest) → ((message : List ℕ) → HasHashLength (H message)) → (k : ℕ) (a b : List ℕ) (strings entries : List (List ℕ)) → IsSplit k (length entries)
     → HasHashLength a → Contains strings (node_input a b) → H (node_input a b) ≡ tree_hash H entries
     → ((a ≡ tree_hash H (take k entries)) × (b ≡ tree_hash H (drop k entries))) ⊎ Collision H strings (inputs H entries)
 nodes_meet H wide k a b strings entries s is found same =
@@ -55,7 +56,7 @@ Meets H u entries t w hash_there start count strings =
     (hash_there ≡ tree_hash H (segment u t w entries)) ⊎ Collision H strings (inputs H (segment u start count entries))
 
 -- where the run is the target itself
-meets-here : (H : List ℕ → List ℕ) (IsGiven : ℕ → ℕ → List ℕ → Type 0) (u : ℕ) (entries : List (List ℕ)) (t w : ℕ) (hash_there : List ℕ) → IsTarget IsGiven t w hash_there
+meets-here : (H : Digest) (IsGiven : ℕ → ℕ → List ℕ → Type 0) (u : ℕ) (entries : List (List ℕ)) (t w : ℕ) (hash_there : List ℕ) → IsTarget IsGiven t w hash_there
     → (start count : ℕ) (hash : List ℕ) → start ≡ t → count ≡ w → IsGiven start count hash → hash ≡ tree_hash H (segment u start count entries)
     → hash_there ≡ tree_hash H (segment u t w entries)
 meets-here H IsGiven u entries t w hash_there target start count hash at wide is same =
@@ -63,14 +64,14 @@ meets-here H IsGiven u entries t w hash_there target start count hash at wide is
     sym (target.only hash here) ∙ same ∙ (λ i. tree_hash H (segment u (at i) (wide i) entries))
 
 -- a collision within the left or the right part of a node
-meets-left : (H : List ℕ → List ℕ) (k : ℕ) (a : List ℕ) (lefts rights entries part : List (List ℕ)) → IsSplit k (length entries) → take k entries ≡ part
+meets-left : (H : Digest) (k : ℕ) (a : List ℕ) (lefts rights entries part : List (List ℕ)) → IsSplit k (length entries) → take k entries ≡ part
     → Collision H lefts (inputs H part) → Collision H (a ∷ lefts ++ rights) (inputs H entries)
 meets-left H k a lefts rights entries part s is found =
     Collision-among H lefts (inputs H (take k entries)) (a ∷ lefts ++ rights) (inputs H entries)
     (λ x here. Contains-tail a x (lefts ++ rights) (Contains-append_left lefts rights x here)) (inputs-first H k entries s)
     (subst (λ (list : List (List ℕ)). Collision H lefts (inputs H list)) (sym is) found)
 
-meets-right : (H : List ℕ → List ℕ) (k : ℕ) (a : List ℕ) (lefts rights entries part : List (List ℕ)) → IsSplit k (length entries) → drop k entries ≡ part
+meets-right : (H : Digest) (k : ℕ) (a : List ℕ) (lefts rights entries part : List (List ℕ)) → IsSplit k (length entries) → drop k entries ≡ part
     → Collision H rights (inputs H part) → Collision H (a ∷ lefts ++ rights) (inputs H entries)
 meets-right H k a lefts rights entries part s is found =
     Collision-among H rights (inputs H (drop k entries)) (a ∷ lefts ++ rights) (inputs H entries)
@@ -78,7 +79,7 @@ meets-right H k a lefts rights entries part s is found =
     (subst (λ (list : List (List ℕ)). Collision H rights (inputs H list)) (sym is) found)
 
 -- the walk down a fold and the tree, to the target
-pub walk : (H : List ℕ → List ℕ) (IsGiven : ℕ → ℕ → List ℕ → Type 0) → ((message : List ℕ) → HasHashLength (H message))
+pub walk : (H : Digest) (IsGiven : ℕ → ℕ → List ℕ → Type 0) → ((message : List ℕ) → HasHashLength (H message))
     → (u : ℕ) → IsPowerOfTwo u → (entries : List (List ℕ)) (t w : ℕ) (hash_there : List ℕ) → IsTarget IsGiven t w hash_there
     → (start count : ℕ) (hash : List ℕ) (strings : List (List ℕ)) → IsFold H IsGiven start count hash strings
     → (start + count) * u ≤ length entries → hash ≡ tree_hash H (segment u start count entries)
@@ -134,7 +135,7 @@ walk H IsGiven wide u power entries t w hash_there target start count hash strin
     ]
 
 -- a fold that is given the hashes of the entries comes to their tree hash
-pub fold_of_right : (H : List ℕ → List ℕ) (IsGiven : ℕ → ℕ → List ℕ → Type 0) (u : ℕ) → IsPowerOfTwo u → (entries : List (List ℕ))
+pub fold_of_right : (H : Digest) (IsGiven : ℕ → ℕ → List ℕ → Type 0) (u : ℕ) → IsPowerOfTwo u → (entries : List (List ℕ))
     → (start count : ℕ) (hash : List ℕ) (strings : List (List ℕ)) → IsFold H IsGiven start count hash strings → (start + count) * u ≤ length entries
     → ((s c : ℕ) (h : List ℕ) → start ≤ s → s + c ≤ start + count → IsGiven s c h → h ≡ tree_hash H (segment u s c entries))
     → hash ≡ tree_hash H (segment u start count entries)
@@ -161,7 +162,7 @@ fold_of_right H IsGiven u power entries start count hash strings (split s c k le
     ∙ sym (tree_hash-split H (k * u) here scaled)
 
 -- a fold is of one hash, where one hash is given of a run
-pub IsFold-unique : (H : List ℕ → List ℕ) (IsGiven : ℕ → ℕ → List ℕ → Type 0) → ((s c : ℕ) (h g : List ℕ) → IsGiven s c h → IsGiven s c g → h ≡ g)
+pub IsFold-unique : (H : Digest) (IsGiven : ℕ → ℕ → List ℕ → Type 0) → ((s c : ℕ) (h g : List ℕ) → IsGiven s c h → IsGiven s c g → h ≡ g)
     → (start count : ℕ) (hash : List ℕ) (strings : List (List ℕ)) → IsFold H IsGiven start count hash strings
     → (other : List ℕ) (others : List (List ℕ)) → IsFold H IsGiven start count other others → hash ≡ other
 IsFold-unique H IsGiven one start count hash strings (nothing s) other others (nothing r) = refl

@@ -2,46 +2,47 @@
 use Rattle.std.specs.Prelude.{ℕ, ◌<◌, ◌^◌, ◌≡◌, ◌≢◌, List, [], ◌++◌, length, All}
 use Rattle.std.specs.List.{flat_map}
 use Rattle.std.specs.Int.{w16, to_be_bytes}
+use Rattle.tl_hash.specs.Bytes.{Bytes}
 
 -- an entry with its length in front, as 16 bits, big-endian
-abbrev pub bundled_entry : List ℕ → List ℕ
+abbrev pub bundled_entry : Bytes → Bytes
 bundled_entry entry = to_be_bytes w16 (length entry) ++ entry
 
 -- the entries, one after the other
-abbrev pub bundle_text : List (List ℕ) → List ℕ
+abbrev pub bundle_text : List Bytes → Bytes
 bundle_text entries = flat_map bundled_entry entries
 
 -- at most 65,535 bytes
-abbrev pub IsShortEntry : List ℕ → Type 0
+abbrev pub IsShortEntry : Bytes → Type 0
 IsShortEntry entry = length entry < 2 ^ 16
 
 -- entries that a bundle can hold
-abbrev pub AreShortEntries : List (List ℕ) → Type 0
+abbrev pub AreShortEntries : List Bytes → Type 0
 AreShortEntries entries = All IsShortEntry entries
 
 -- front is the beginning of whole, and not all of it
-pub record IsProperPrefix (front whole : List ℕ) : Type 0 where
-  pub rest : List ℕ
+pub record IsProperPrefix (front whole : Bytes) : Type 0 where
+  pub rest : Bytes
   pub joined : whole ≡ front ++ rest
   pub more : rest ≢ []
 
 -- bytes end within one entry
-abbrev pub IsPartialEntry : List ℕ → Type 0
-IsPartialEntry bytes = (entry : List ℕ) × IsShortEntry entry × IsProperPrefix bytes (bundled_entry entry)
+abbrev pub IsPartialEntry : Bytes → Type 0
+IsPartialEntry bytes = (entry : Bytes) × IsShortEntry entry × IsProperPrefix bytes (bundled_entry entry)
 
 -- a bundle's entries, as many as its width
-pub record AreEntries (width : ℕ) (entries : List (List ℕ)) : Type 0 where
+pub record AreEntries (width : ℕ) (entries : List Bytes) : Type 0 where
   pub short : AreShortEntries entries
   pub count : length entries ≡ width
 
 -- bytes are a bundle of so many entries
-abbrev pub IsBundle : List ℕ → ℕ → Type 0
-IsBundle bytes width = (entries : List (List ℕ)) × AreEntries width entries × (bytes ≡ bundle_text entries)
+abbrev pub IsBundle : Bytes → ℕ → Type 0
+IsBundle bytes width = (entries : List Bytes) × AreEntries width entries × (bytes ≡ bundle_text entries)
 
 -- bytes end within a bundle of so many entries
-abbrev pub IsTruncated : List ℕ → ℕ → Type 0
-IsTruncated bytes width = (entries : List (List ℕ)) × AreEntries width entries × IsProperPrefix bytes (bundle_text entries)
+abbrev pub IsTruncated : Bytes → ℕ → Type 0
+IsTruncated bytes width = (entries : List Bytes) × AreEntries width entries × IsProperPrefix bytes (bundle_text entries)
 
 -- bytes go on past a bundle of so many entries
-abbrev pub HasTrailing : List ℕ → ℕ → Type 0
-HasTrailing bytes width = (entries : List (List ℕ)) × AreEntries width entries × IsProperPrefix (bundle_text entries) bytes
+abbrev pub HasTrailing : Bytes → ℕ → Type 0
+HasTrailing bytes width = (entries : List Bytes) × AreEntries width entries × IsProperPrefix (bundle_text entries) bytes

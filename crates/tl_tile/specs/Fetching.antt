@@ -1,6 +1,7 @@
 -- Which tiles a read fetches (C2SP tlog-tiles, "Merkle Tree" and "Partial Tiles").
 use Rattle.std.specs.Prelude.{◌≡◌, ℕ, ◌+◌, ◌-◌, ◌*◌, ◌/◌, ◌%◌, ◌^◌, ◌<◌, List, ◌++◌, length, map, filter, reverse, nat_lt, Any, ◌⊎◌}
 use Rattle.std.specs.List.{range_with_len}
+use Rattle.tl_hash.specs.Bytes.{Bytes}
 use Rattle.tl_store.specs.Stored.{stored_index}
 use Rattle.tl_tile.specs.declared.resource.Tile.{Tile}
 use Rattle.tl_tile.specs.declared.tile_reader.subtree.Subtree.{Subtree}
@@ -35,5 +36,5 @@ abbrev pub edge_tiles : ℕ → List Tile
 edge_tiles size = edge_from size 0
 
 -- all partial tiles come first
-abbrev pub BeginsWithEdge : ℕ → List (Tile × List ℕ) → Type 0
+abbrev pub BeginsWithEdge : ℕ → List (Tile × Bytes) → Type 0
 BeginsWithEdge size fetched = (rest : List Tile) × (tiles_in fetched ≡ edge_tiles size ++ rest)

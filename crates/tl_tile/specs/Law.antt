@@ -1,5 +1,6 @@
 -- What holds of the definitions alone.
 use Rattle.std.specs.Prelude.{◌≡◌, ℕ, ◌+◌, List, Contains, ◌↔◌}
+use Rattle.tl_hash.specs.Bytes.{Bytes}
 use Rattle.tl_tile.specs.declared.resource.Tile.{Tile}
 use Rattle.tl_tile.specs.declared.resource.Resource.TheVariants as resource
 use Rattle.tl_tile.specs.Needed.{needed_resources}
@@ -7,17 +8,17 @@ use Rattle.tl_tile.specs.RightEdge.{filled_tiles}
 use Rattle.tl_tile.specs.Bundle.{AreEntries, bundle_text, IsTruncated, HasTrailing}
 
 -- bytes are at most one bundle of a width; then they don't end too soon, and have nothing behind
-pub record BundleIsOne (bytes : List ℕ) (width : ℕ) (entries : List (List ℕ)) : Type 0 where
-  pub alone : (others : List (List ℕ)) → AreEntries width others → bytes ≡ bundle_text others → others ≡ entries
+pub record BundleIsOne (bytes : Bytes) (width : ℕ) (entries : List Bytes) : Type 0 where
+  pub alone : (others : List Bytes) → AreEntries width others → bytes ≡ bundle_text others → others ≡ entries
   pub whole : IsTruncated bytes width → ⊥
   pub ended : HasTrailing bytes width → ⊥
 
 abbrev pub BundlesAreOne : Type 0
-BundlesAreOne = (bytes : List ℕ) (width : ℕ) (entries : List (List ℕ)) → AreEntries width entries → bytes ≡ bundle_text entries → BundleIsOne bytes width entries
+BundlesAreOne = (bytes : Bytes) (width : ℕ) (entries : List Bytes) → AreEntries width entries → bytes ≡ bundle_text entries → BundleIsOne bytes width entries
 
 -- no bytes both end within a bundle and go on past one
 abbrev pub BundleFaultsApart : Type 0
-BundleFaultsApart = (bytes : List ℕ) (width : ℕ) → IsTruncated bytes width → HasTrailing bytes width → ⊥
+BundleFaultsApart = (bytes : Bytes) (width : ℕ) → IsTruncated bytes width → HasTrailing bytes width → ⊥
 
 -- the tiles that an entry fills are the full ones that are needed with it and were not before it
 abbrev pub FilledTilesAreNew : Type 0

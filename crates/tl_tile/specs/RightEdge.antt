@@ -2,6 +2,7 @@
 -- tlog-tiles, "Partial Tiles"). The levels of tiles are 0 to 7.
 use Rattle.std.specs.Prelude.{◌≡◌, ℕ, zero, suc, ◌+◌, ◌-◌, ◌*◌, ◌/◌, ◌%◌, ◌^◌, ◌<◌, List, [], ◌++◌, length, map, filter, ◌==◌, Option, Some, None, if◌then◌else◌}
 use Rattle.std.specs.List.{range_with_len}
+use Rattle.tl_hash.specs.Bytes.{Bytes, Digest}
 use Rattle.tl_hash.specs.Tree.{tree_hash}
 use Rattle.tl_tile.specs.declared.resource.Tile.{Tile}
 use Rattle.tl_tile.specs.TileText.{level_count, entries_under, full_tile, partial_tile, tile_text}
@@ -9,11 +10,11 @@ use Rattle.tl_tile.specs.TileText.{level_count, entries_under, full_tile, partia
 -- ---- tiles that are shown
 
 -- a tile with its bytes over the entries
-abbrev pub shown : (List ℕ → List ℕ) → List (List ℕ) → Tile → Tile × List ℕ
+abbrev pub shown : Digest → List Bytes → Tile → Tile × Bytes
 shown H entries t = (t, tile_text H t entries)
 
 -- the partial tile of a level with its bytes, where there is one
-abbrev pub shown_partial : (List ℕ → List ℕ) → List (List ℕ) → ℕ → Option (Tile × List ℕ)
+abbrev pub shown_partial : Digest → List Bytes → ℕ → Option (Tile × Bytes)
 shown_partial H entries level =
     if level_count (length entries) level % 256 == 0 then None
     else Some (shown H entries (partial_tile (length entries) level))
@@ -27,13 +28,13 @@ abbrev pub filled_tiles : ℕ → List Tile
 filled_tiles n = map (λ level. full_tile level (n / 256 ^ (level + 1) - 1)) (filled_levels n)
 
 -- the full tiles that the last of the entries fills, with their bytes
-abbrev pub shown_filled : (List ℕ → List ℕ) → List (List ℕ) → List (Tile × List ℕ)
+abbrev pub shown_filled : Digest → List Bytes → List (Tile × Bytes)
 shown_filled H entries = map (shown H entries) (filled_tiles (length entries))
 
 -- ---- what a right edge keeps
 
 -- the hashes of the partial tiles of the levels below this one, the highest level first
-unfoldable pub hashes_below : (List ℕ → List ℕ) → List (List ℕ) → ℕ → List (List ℕ)
+unfoldable pub hashes_below : Digest → List Bytes → ℕ → List Bytes
 hashes_below H entries zero = []
 hashes_below H entries (suc level) =
     let count : ℕ = level_count (length entries) level in
@@ -48,12 +49,12 @@ count_below size (suc level) = level_count size level % 256 + count_below size l
 -- the number of entries, and the hashes of all partial tiles
 pub record EdgeContents : Type 0 where
   pub size : ℕ
-  pub kept : List (List ℕ)
+  pub kept : List Bytes
   -- how many hashes there is memory for
   pub room : ℕ
 
 -- the edge has the size of these entries, fewer than 2 ^ 32, and the hashes of their partial tiles under this digest
 -- function, those of the highest level first
-abbrev pub IsEdgeOf : EdgeContents → (List ℕ → List ℕ) → List (List ℕ) → Type 0
+abbrev pub IsEdgeOf : EdgeContents → Digest → List Bytes → Type 0
 IsEdgeOf edge H entries =
     (length entries ≡ edge.size) × (length entries < 2 ^ 32) × (edge.kept ≡ hashes_below H entries 8)

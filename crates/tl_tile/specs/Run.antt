@@ -2,14 +2,15 @@
 use Rattle.std.specs.Prelude.{◌≡◌, ℕ, ◌+◌, ◌-◌, ◌*◌, ◌<◌, ◌≤◌, List, length, take, drop, map}
 use Rattle.std.specs.Int.{IsPowerOfTwo}
 use Rattle.std.specs.List.{range_with_len}
+use Rattle.tl_hash.specs.Bytes.{Bytes, Digest}
 use Rattle.tl_hash.specs.Tree.{tree_hash}
 
 -- the entries from `start` up to `end`
-abbrev pub part : ℕ → ℕ → List (List ℕ) → List (List ℕ)
+abbrev pub part : ℕ → ℕ → List Bytes → List Bytes
 part start end entries = take (end - start) (drop start entries)
 
 -- the hash of the entries under a place, so many under each
-abbrev pub place_hash : (List ℕ → List ℕ) → List (List ℕ) → ℕ → ℕ → List ℕ
+abbrev pub place_hash : Digest → List Bytes → ℕ → ℕ → Bytes
 place_hash H entries width place = tree_hash H (take width (drop (place * width) entries))
 
 -- places side by side from this one on, over `width` entries each, and what follows them up to the entry `end`
@@ -19,7 +20,7 @@ pub record Run : Type 0 where
   pub end : ℕ
 
 -- the hashes of the places of a run, and a last hash of what follows them: at least one entry and at most `width`
-pub record IsRun (H : List ℕ → List ℕ) (entries : List (List ℕ)) (run : Run) (hashes : List (List ℕ)) (last : List ℕ) : Type 0 where
+pub record IsRun (H : Digest) (entries : List Bytes) (run : Run) (hashes : List Bytes) (last : Bytes) : Type 0 where
   pub power : IsPowerOfTwo run.width
   pub within : run.end ≤ length entries
   pub some : (run.place + length hashes) * run.width < run.end

@@ -1,5 +1,6 @@
 -- A reader of stored hashes over a source of tiles that is not trusted, against a size and a root.
 use Rattle.std.specs.Prelude.{◌≡◌, ◌<◌, ◌≤◌, ◌^◌, ℕ, List, [], length, map, Any, ◌⊎◌}
+use Rattle.tl_hash.specs.Bytes.{Bytes, Digest}
 use Rattle.tl_hash.specs.Tree.{tree_hash}
 use Rattle.tl_store.specs.Stored.{stored_hash}
 use Rattle.tl_store.specs.Reader.{readable_count, AreReadable}
@@ -17,33 +18,33 @@ use Rattle.tl_tile.specs.SourceFaults.{IsLacking, IsBadTile}
 pub record Against (S : Type 0) : Type 0 where
   pub source : S
   pub size : ℕ
-  pub root : List ℕ
+  pub root : Bytes
 
 -- one read: what tiles are checked against, the numbers that were asked for, and the tiles that were fetched
 pub record Reading : Type 0 where
   pub size : ℕ
-  pub root : List ℕ
+  pub root : Bytes
   pub indexes : List ℕ
-  pub fetched : List (Tile × List ℕ)
+  pub fetched : List (Tile × Bytes)
 
 -- the stored hashes of the entries with the numbers that were asked for
-abbrev pub stored_hashes : (List ℕ → List ℕ) → List (List ℕ) → Reading → List (List ℕ)
+abbrev pub stored_hashes : Digest → List Bytes → Reading → List Bytes
 stored_hashes H entries read = map (stored_hash H entries) read.indexes
 
 -- authenticated hashes
-pub record AreAuthentic (H : List ℕ → List ℕ) (read : Reading) (hashes : List (List ℕ)) : Type 0 where
+pub record AreAuthentic (H : Digest) (read : Reading) (hashes : List Bytes) : Type 0 where
   -- they are the stored hashes of each list of this size and root, or an input of the list and a string that was hashed
   -- for these tiles collide
-  pub stored : (entries : List (List ℕ)) → length entries ≡ read.size → tree_hash H entries ≡ read.root
+  pub stored : (entries : List Bytes) → length entries ≡ read.size → tree_hash H entries ≡ read.root
       → (hashes ≡ stored_hashes H entries read) ⊎ TilesCollide H (tiles_of read.fetched) read.size entries
   -- where these tiles are the tiles over a list, they are its stored hashes
-  pub honest : (entries : List (List ℕ)) → length entries ≡ read.size → AreHonest H (tiles_of read.fetched) entries
+  pub honest : (entries : List Bytes) → length entries ≡ read.size → AreHonest H (tiles_of read.fetched) entries
       → hashes ≡ stored_hashes H entries read
 
 -- authenticated hashes of a read that fetched some tiles that the source may answer
-abbrev pub AreAuthenticOver : (Tile → List ℕ → Type 0) → (List ℕ → List ℕ) → ℕ → List ℕ → List ℕ → List (List ℕ) → Type 0
+abbrev pub AreAuthenticOver : (Tile → Bytes → Type 0) → Digest → ℕ → Bytes → List ℕ → List Bytes → Type 0
 AreAuthenticOver may_answer H size root indexes hashes =
-    (fetched : List (Tile × List ℕ)) × AreAnswers may_answer size fetched
+    (fetched : List (Tile × Bytes)) × AreAnswers may_answer size fetched
     × AreAuthentic H (record { size = size; root = root; indexes = indexes; fetched = fetched }) hashes
 
 -- all numbers are in range, and there is one
@@ -55,12 +56,12 @@ abbrev pub AsksTooFar : Reading → Type 0
 AsksTooFar read = Any (λ index. readable_count read.size ≤ index) read.indexes
 
 -- a tile that the numbers need and the source may lack comes next after those fetched
-abbrev pub LacksNeeded : (List ℕ → List ℕ) → (Tile → Type 0) → Reading → Type 0
+abbrev pub LacksNeeded : Digest → (Tile → Type 0) → Reading → Type 0
 LacksNeeded H may_lack read =
     (t : Tile) × IsLacking H (λ t. may_lack t × IsNeededFor read.size read.indexes t) read.size read.root read.fetched t
 
 -- what a fault of a read says of its numbers and of the tiles that were fetched
-abbrev pub GivesNumbersFault : (List ℕ → List ℕ) → (Tile → Type 0) → Reading → ReadFault → Type 0
+abbrev pub GivesNumbersFault : Digest → (Tile → Type 0) → Reading → ReadFault → Type 0
 GivesNumbersFault H may_lack read OutOfRange = AsksTooFar read × (read.fetched ≡ [])
 GivesNumbersFault H may_lack read Source = IsAsking read × LacksNeeded H may_lack read
 GivesNumbersFault H may_lack read OutOfMemory = IsAsking read
@@ -69,7 +70,7 @@ GivesNumbersFault H may_lack read (BadTile level index width) =
 
 -- the reader stands for the lists of its size and root, under its own digest function, no input of which collides with
 -- a string that is hashed for tiles that the source may answer
-abbrev pub StandsAgainst : (List ℕ → List ℕ) → (Tile → List ℕ → Type 0) → ℕ → List ℕ → (List ℕ → List ℕ) → List (List ℕ) → Type 0
+abbrev pub StandsAgainst : Digest → (Tile → Bytes → Type 0) → ℕ → Bytes → Digest → List Bytes → Type 0
 StandsAgainst own may_answer size root H entries =
     (length entries ≡ size) × (length entries ≤ 2 ^ 62) × (H ≡ own) × (tree_hash H entries ≡ root)
-    × ((fetched : List (Tile × List ℕ)) → AreAnswers may_answer size fetched → TilesCollide H (tiles_of fetched) size entries → ⊥)
+    × ((fetched : List (Tile × Bytes)) → AreAnswers may_answer size fetched → TilesCollide H (tiles_of fetched) size entries → ⊥)

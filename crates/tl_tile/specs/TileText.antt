@@ -1,6 +1,7 @@
 -- The bytes of a tile (C2SP tlog-tiles, "Merkle Tree").
 use Rattle.std.specs.Prelude.{ℕ, ◌+◌, ◌*◌, ◌/◌, ◌%◌, ◌^◌, List, take, drop, nat_lt, if◌then◌else◌}
 use Rattle.std.specs.List.{flat_map, range_with_len}
+use Rattle.tl_hash.specs.Bytes.{Bytes, Digest}
 use Rattle.tl_hash.specs.Tree.{tree_hash}
 use Rattle.tl_tile.specs.declared.resource.Tile.{Tile}
 
@@ -9,16 +10,16 @@ abbrev pub level_count : ℕ → ℕ → ℕ
 level_count size level = size / 256 ^ level
 
 -- the entries under one hash of a level
-abbrev pub entries_under : ℕ → ℕ → List (List ℕ) → List (List ℕ)
+abbrev pub entries_under : ℕ → ℕ → List Bytes → List Bytes
 entries_under level place entries = take (256 ^ level) (drop (place * 256 ^ level) entries)
 
 -- so many hashes of a level, from a place on
-abbrev pub level_hashes : (List ℕ → List ℕ) → ℕ → ℕ → ℕ → List (List ℕ) → List ℕ
+abbrev pub level_hashes : Digest → ℕ → ℕ → ℕ → List Bytes → Bytes
 level_hashes H level place count entries =
     flat_map (λ i. tree_hash H (entries_under level (place + i) entries)) (range_with_len 0 count)
 
 -- the bytes of a tile: its hashes, one after the other
-abbrev pub tile_text : (List ℕ → List ℕ) → Tile → List (List ℕ) → List ℕ
+abbrev pub tile_text : Digest → Tile → List Bytes → Bytes
 tile_text H t entries = level_hashes H t.level (t.index * 256) t.width entries
 
 -- the full tile of a level with this index

@@ -1,5 +1,6 @@
 -- Fetched tiles that passed the checks, and the order in which a read fetches tiles.
 use Rattle.std.specs.Prelude.{◌≡◌, ℕ, ◌+◌, List, [], ◌∷◌, ◌++◌, None, ◌⊎◌}
+use Rattle.tl_hash.specs.Bytes.{Bytes, Digest}
 use Rattle.tl_tile.specs.declared.resource.Tile.{Tile}
 use Rattle.tl_tile.specs.TileText.{full_tile}
 use Rattle.tl_tile.specs.Folds.{AreChecked}
@@ -9,33 +10,33 @@ use Rattle.tl_tile.specs.Source.{AreLong, HasTileWith}
 use Rattle.tl_tile.specs.Fetching.{edge_tiles, BeginsWithEdge}
 
 -- all partial tiles are among them, each text is as long as it has to be, and they pass the checks against the root
-pub record AreVerified (H : List ℕ → List ℕ) (size : ℕ) (root : List ℕ) (fetched : List (Tile × List ℕ)) : Type 0 where
+pub record AreVerified (H : Digest) (size : ℕ) (root : Bytes) (fetched : List (Tile × Bytes)) : Type 0 where
   pub first : BeginsWithEdge size fetched
   pub long : AreLong (tiles_of fetched)
   pub edge : HasEdge (tiles_of fetched) size
   pub checked : AreChecked H (tiles_of fetched) size root
 
 -- the next of the partial tiles, after these
-abbrev pub IsNextPartial : ℕ → List (Tile × List ℕ) → Tile → Type 0
+abbrev pub IsNextPartial : ℕ → List (Tile × Bytes) → Tile → Type 0
 IsNextPartial size before t = (rest : List Tile) × (edge_tiles size ≡ tiles_in before ++ t ∷ rest)
 
 -- after tiles that passed all checks, a full tile, where the tile above it is among them
-pub record IsNextFull (H : List ℕ → List ℕ) (size : ℕ) (root : List ℕ) (before : List (Tile × List ℕ)) (t : Tile) : Type 0 where
+pub record IsNextFull (H : Digest) (size : ℕ) (root : Bytes) (before : List (Tile × Bytes)) (t : Tile) : Type 0 where
   pub full : t ≡ full_tile t.level t.index
   pub passed : AreVerified H size root before
   pub above : HasTileWith (tiles_of before) size (t.level + 1) t.index
 
 -- a tile that a read may fetch after these: it isn't among them
-pub record ComesNext (H : List ℕ → List ℕ) (size : ℕ) (root : List ℕ) (before : List (Tile × List ℕ)) (t : Tile) : Type 0 where
+pub record ComesNext (H : Digest) (size : ℕ) (root : Bytes) (before : List (Tile × Bytes)) (t : Tile) : Type 0 where
   pub new : tiles_of before t ≡ None
   pub next : IsNextPartial size before t ⊎ IsNextFull H size root before t
 
 -- after some tiles, each of these comes next
-abbrev pub AreNext : (List ℕ → List ℕ) → ℕ → List ℕ → List (Tile × List ℕ) → List (Tile × List ℕ) → Type 0
+abbrev pub AreNext : Digest → ℕ → Bytes → List (Tile × Bytes) → List (Tile × Bytes) → Type 0
 AreNext H size root before [] = Unit {0}
 AreNext H size root before (f ∷ more) = ComesNext H size root before f.0 × AreNext H size root (before ++ f ∷ []) more
 
 -- tiles in the order of a read: the partial ones from the highest level down, and then full ones, each after the tile
 -- above it, when all before it passed the checks; none comes twice
-abbrev pub AreInOrder : (List ℕ → List ℕ) → ℕ → List ℕ → List (Tile × List ℕ) → Type 0
+abbrev pub AreInOrder : Digest → ℕ → Bytes → List (Tile × Bytes) → Type 0
 AreInOrder H size root fetched = AreNext H size root [] fetched

@@ -1,6 +1,7 @@
 //! The right edge of a growing log: its size and the hashes of its partial tiles.
 
-ghost use Rattle.std.specs.Prelude.{◌≡◌, ◌≤◌, ◌<◌, ◌+◌, ◌-◌, ◌%◌, ◌^◌, ◌⊎◌, ℕ, [], ◌∷◌, ◌++◌, List, length, map, vec_items, option_map, MatchOption, IfOk, OnOk, OnErr};
+ghost use Rattle.std.specs.Prelude.{◌≡◌, ◌≤◌, ◌<◌, ◌+◌, ◌-◌, ◌%◌, ◌^◌, ◌⊎◌, [], ◌∷◌, ◌++◌, List, length, map, vec_items, option_map, MatchOption, IfOk, OnOk, OnErr};
+ghost use Rattle.tl_hash.specs.Bytes.{Bytes};
 ghost use Rattle.tl_hash.specs.Tree.{tree_hash};
 ghost use Rattle.tl_tile.specs.TileText.{level_count};
 ghost use Rattle.tl_tile.specs.RightEdge.{shown_partial, shown_filled, hashes_below, count_below, IsEdgeOf};
@@ -52,7 +53,7 @@ fn count_of(size: u64, level: u32) -> usize
 fn root_of<T: TreeHash>(h: T, kept: &[Hash], size: u64) -> Option<Hash>
     requires small { size < 2 ^ 32 }
     requires counted { length kept.now ≡ count_below size 8 }
-    ensures { (entries : List (List ℕ))
+    ensures { (entries : List Bytes)
         → length entries ≡ size
         → kept.now ≡ hashes_below T.digest_of entries 8
         → MatchOption result (size ≡ 0) (λ root. root ≡ tree_hash T.digest_of entries) }
@@ -90,7 +91,7 @@ impl<T: TreeHash, A: Allocator + Copy> Edge<T, A> {
 
     /// The tree hash of the entries (RFC 6962, section 2.1). It takes no memory.
     pub fn root(&self) -> Hash
-        ensures { (entries : List (List ℕ))
+        ensures { (entries : List Bytes)
             → IsEdgeOf self.now T.digest_of entries
             → result ≡ tree_hash T.digest_of entries }
     {
@@ -105,7 +106,7 @@ impl<T: TreeHash, A: Allocator + Copy> Edge<T, A> {
     /// such tile.
     pub fn partial(&self, level: u32) -> Result<Option<(Tile, Vec<u8, A>)>, AllocError>
         requires { level ≤ 7 }
-        ensures tile { (entries : List (List ℕ))
+        ensures tile { (entries : List Bytes)
             → IsEdgeOf self.now T.digest_of entries
             → IfOk result (λ found. option_map (λ t. (t.0, vec_items t.1)) found
             ≡ shown_partial T.digest_of entries level) }
@@ -133,10 +134,10 @@ impl<T: TreeHash, A: Allocator + Copy> Edge<T, A> {
     /// one hash more, or where the entry completes a tile and memory is refused for it; the edge then stays as it was.
     pub fn append(&mut self, entry: &[u8]) -> Result<Vec<(Tile, Vec<u8, A>), A>, AllocError>
         requires { self.old.size < 2 ^ 32 - 1 }
-        ensures entry { (entries : List (List ℕ))
+        ensures entry { (entries : List Bytes)
             → IsEdgeOf self.old T.digest_of entries
             → OnOk result (IsEdgeOf self.new T.digest_of (entries ++ entry.now ∷ [])) }
-        ensures tiles { (entries : List (List ℕ))
+        ensures tiles { (entries : List Bytes)
             → IsEdgeOf self.old T.digest_of entries
             → IfOk result (λ tiles. map (λ t. (t.0, vec_items t.1)) tiles.items
             ≡ shown_filled T.digest_of (entries ++ entry.now ∷ [])) }

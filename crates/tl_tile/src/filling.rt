@@ -1,7 +1,8 @@
 //! The full tiles that an entry completes.
 
-ghost use Rattle.std.specs.Prelude.{◌≡◌, ◌≤◌, ◌<◌, ◌+◌, ◌-◌, ◌%◌, ◌^◌, ℕ, [], ◌∷◌, ◌++◌, List, length, take, IfOk, OnErr};
+ghost use Rattle.std.specs.Prelude.{◌≡◌, ◌≤◌, ◌<◌, ◌+◌, ◌-◌, ◌%◌, ◌^◌, [], ◌∷◌, ◌++◌, List, length, take, IfOk, OnErr};
 ghost use Rattle.std.specs.List.{flat_map};
+ghost use Rattle.tl_hash.specs.Bytes.{Bytes};
 ghost use Rattle.tl_hash.specs.Tree.{leaf_input};
 ghost use Rattle.tl_tile.specs.Fetched.{texts_of};
 ghost use Rattle.tl_tile.specs.RightEdge.{shown_filled, hashes_below, count_below};
@@ -43,11 +44,11 @@ pub(crate) fn fill<T: TreeHash, A: Allocator + Copy>(
     requires counted { length kept.now ≡ count_below (size - 1) 8 }
     ensures counted { IfOk result (λ filled. filled.left + 1 ≡ count_below size 8) }
     ensures within { IfOk result (λ filled. filled.left ≤ length kept.now) }
-    ensures kept { (entries : List (List ℕ)) (entry : List ℕ) → length entries + 1 ≡ size
+    ensures kept { (entries : List Bytes) (entry : Bytes) → length entries + 1 ≡ size
         → kept.now ≡ hashes_below T.digest_of entries 8 → leaf ≡ T.digest_of (leaf_input entry)
         → IfOk result (λ filled. take filled.left kept.now ++ filled.hash ∷ []
         ≡ hashes_below T.digest_of (entries ++ entry ∷ []) 8) }
-    ensures tiles { (entries : List (List ℕ)) (entry : List ℕ) → length entries + 1 ≡ size
+    ensures tiles { (entries : List Bytes) (entry : Bytes) → length entries + 1 ≡ size
         → kept.now ≡ hashes_below T.digest_of entries 8 → leaf ≡ T.digest_of (leaf_input entry)
         → IfOk result (λ filled. texts_of filled.tiles.items ≡ shown_filled T.digest_of (entries ++ entry ∷ [])) }
     ensures memory { OnErr result (size % 256 ≡ 0) }

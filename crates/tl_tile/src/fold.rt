@@ -1,6 +1,7 @@
 //! One hash over hashes that stand side by side.
 
 ghost use Rattle.std.specs.Prelude.{◌≡◌, ◌<◌, ◌+◌, ◌*◌, ℕ, List};
+ghost use Rattle.tl_hash.specs.Bytes.{Bytes};
 ghost use Rattle.tl_hash.specs.Split.{IsSplit};
 ghost use Rattle.tl_hash.specs.Tree.{tree_hash};
 ghost use Rattle.tl_tile.specs.Run.{part, Run, IsRun};
@@ -19,7 +20,7 @@ pub(crate) fn split_of(count: usize) -> usize
 
 // The hash over subtrees of one width side by side, and a last one after them that is no wider.
 pub(crate) fn fold_run<T: TreeHash>(h: T, hashes: &[Hash], last: Hash) -> Hash
-    ensures { (entries : List (List ℕ)) (run : Run)
+    ensures { (entries : List Bytes) (run : Run)
         → IsRun T.digest_of entries run hashes.now last
         → result ≡ tree_hash T.digest_of (part (run.place * run.width) run.end entries) }
 {
@@ -34,7 +35,7 @@ pub(crate) fn fold_run<T: TreeHash>(h: T, hashes: &[Hash], last: Hash) -> Hash
 
 // What the hashes of a level's partial tile add to the hash of what is below them.
 pub(crate) fn fold_level<T: TreeHash>(h: T, hashes: &[Hash], below: Option<Hash>) -> Option<Hash>
-    ensures { (entries : List (List ℕ)) (level : ℕ)
+    ensures { (entries : List Bytes) (level : ℕ)
         → hashes.now ≡ partial_hashes T.digest_of entries level
         → IsRest T.digest_of entries level below
         → IsRest T.digest_of entries (level + 1) result }

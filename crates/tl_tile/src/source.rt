@@ -1,6 +1,7 @@
 //! Sources of tiles.
 
-ghost use Rattle.std.specs.Prelude.{◌≡◌, ℕ, List, IfOk, IfErr};
+ghost use Rattle.std.specs.Prelude.{◌≡◌, IfOk, IfErr};
+ghost use Rattle.tl_hash.specs.Bytes.{Bytes};
 ghost use Rattle.tl_store.specs.declared.reader.ReadFault.TheVariants.{BadTile};
 
 use crate::resource::Tile;
@@ -46,7 +47,7 @@ pub trait TileSource {
     ghost use Rattle.tl_tile.specs.declared.source.SourceFault.TheVariants.{Unavailable};
 
     /// Which bytes it may answer for a tile.
-    ghost may_answer: { Self → Tile → List ℕ → Type 0 };
+    ghost may_answer: { Self → Tile → Bytes → Type 0 };
 
     /// Which tiles it may not have.
     ghost may_lack: { Self → Tile → Type 0 };

@@ -1,7 +1,8 @@
 //! The bytes of a tile.
 
-ghost use Rattle.std.specs.Prelude.{◌≡◌, ◌≤◌, ◌^◌, ℕ, List, IfOk, IfErr, OnOk};
+ghost use Rattle.std.specs.Prelude.{◌≡◌, ◌≤◌, ◌^◌, List, IfOk, IfErr, OnOk};
 ghost use Rattle.std.specs.List.{flat_map};
+ghost use Rattle.tl_hash.specs.Bytes.{Bytes, Digest};
 ghost use Rattle.tl_tile.specs.TileText.{tile_text};
 ghost use Rattle.tl_tile.specs.Path.{IsTile};
 ghost use Rattle.tl_tile.specs.ReadTile.{end_of, HasTile, GivesTileFault};
@@ -50,7 +51,7 @@ pub fn tile_bytes<R: HashReader, A: Allocator + Copy>(
 ) -> Result<Vec<u8, A>, ReadFault>
     requires lawful { IsTile tile }
     requires within { end_of tile ≤ 2 ^ 62 }
-    ensures text { (H : List ℕ → List ℕ) (entries : List (List ℕ)) → R.stands_for reader.now H entries
+    ensures text { (H : Digest) (entries : List Bytes) → R.stands_for reader.now H entries
         → IfOk result (λ bytes. bytes.items ≡ tile_text H tile entries) }
     ensures in_range { OnOk result (HasTile (R.size reader.now) tile) }
     ensures faults { IfErr result (GivesTileFault (R.size reader.now) (R.may_fail reader.now) tile) }

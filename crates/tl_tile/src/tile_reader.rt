@@ -5,7 +5,8 @@
 //! the tile above. What a full tile's hashes fold to on the way is kept in `trees`, where `subtree` finds the number's
 //! hash; from a partial tile it is folded (`hashes`). What a source answered is kept in `fetched`, the bad tile too.
 
-ghost use Rattle.std.specs.Prelude.{◌≡◌, ◌≤◌, ◌<◌, ℕ, List, length, map, All, Any, MatchBool, IfOk, IfErr, OnOk};
+ghost use Rattle.std.specs.Prelude.{◌≡◌, ◌≤◌, ◌<◌, List, length, map, All, Any, MatchBool, IfOk, IfErr, OnOk};
+ghost use Rattle.tl_hash.specs.Bytes.{Bytes, Digest};
 ghost use Rattle.tl_store.specs.Stored.{stored_hash};
 ghost use Rattle.tl_store.specs.Reader.{readable_count, AreReadable, GivesFault};
 ghost use Rattle.tl_tile.specs.Source.{AreAnswers};
@@ -125,7 +126,7 @@ impl<T: TreeHash, S: TileSource, A: Allocator + Copy> HashReader for TileHashRea
 
     /// As `read_checked`, without the tiles.
     fn read<B: Allocator>(&self, alloc: B, indexes: &[u64]) -> Result<Vec<Hash, B>, ReadFault>
-        ensures hashes { (H : List ℕ → List ℕ) (entries : List (List ℕ))
+        ensures hashes { (H : Digest) (entries : List Bytes)
             → StandsAgainst T.digest_of (S.may_answer self.now.source) self.now.size self.now.root H entries
             → IfOk result (λ hashes. hashes.items ≡ map (stored_hash H entries) indexes.now) }
         ensures count { IfOk result (λ hashes. length hashes.items ≡ length indexes.now) }

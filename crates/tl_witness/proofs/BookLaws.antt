@@ -4,6 +4,7 @@ use Rattle.std.specs.Prelude.{slice_set}
 use Rattle.std.proofs.lemmas.Option.{slice_get_within}
 use Rattle.std.proofs.lemmas.List.{length-map}
 use Rattle.std.proofs.Math.Seq.{map-set_same}
+use Rattle.tl_hash.specs.Bytes.{Digest}
 use Rattle.tl_witness.specs.declared.finding.Found.{Found}
 use Rattle.tl_witness.specs.Answers.{AsksForMemory}
 use Rattle.tl_witness.specs.Book.{BookOutcome, DecidesBody, IsPlacedIn, Placed, RefusesAll}
@@ -12,11 +13,11 @@ use Rattle.tl_witness.specs.Inner.Finding.{IsFound, IsMalformed, IsOfOther}
 use Rattle.tl_witness.specs.Inner.Offer.{asked_by}
 use Rattle.tl_witness.specs.Witnessed.{Witnessed}
 
-pub malformed : (H : List ℕ → List ℕ) (body : List ℕ) (time : ℕ) (out : BookOutcome) → IsMalformed body → RefusesAll out 400 → DecidesBody H body time out
+pub malformed : (H : Digest) (body : List ℕ) (time : ℕ) (out : BookOutcome) → IsMalformed body → RefusesAll out 400 → DecidesBody H body time out
 malformed H body time out (inl none) refused = inl (none.0, refused)
 malformed H body time out (inr (request, reads, none)) refused = inr (request, reads, inl (none, refused))
 
-pub of_other : (H : List ℕ → List ℕ) (body : List ℕ) (time : ℕ) (out : BookOutcome) (origins : List (List ℕ)) (other : IsOfOther body origins)
+pub of_other : (H : Digest) (body : List ℕ) (time : ℕ) (out : BookOutcome) (origins : List (List ℕ)) (other : IsOfOther body origins)
     → ((placed : Placed) → ¬ (IsPlacedIn out.book other.signed.head.origin placed)) → RefusesAll out 404 → DecidesBody H body time out
 of_other H body time out origins other nowhere refused = inr (other.request, other.reads, inr (other.signed, other.note, inl (nowhere, refused)))
 
@@ -24,7 +25,7 @@ of_other H body time out origins other nowhere refused = inr (other.request, oth
 abbrev pub at_one : BookOutcome → Witnessed → Witnessed → Outcome
 at_one out one after = record { status = out.status; body = out.body; saved = out.saved; saved_after = out.saved_after; one = one; one_after = after }
 
-pub at_place : {A : Type 0} (H : List ℕ → List ℕ) (body : List ℕ) (time : ℕ) (out : BookOutcome) (origins : List (List ℕ)) (found : Found A) (is : IsFound body origins found) (one after : Witnessed)
+pub at_place : {A : Type 0} (H : Digest) (body : List ℕ) (time : ℕ) (out : BookOutcome) (origins : List (List ℕ)) (found : Found A) (is : IsFound body origins found) (one after : Witnessed)
     → IsPlacedIn out.book is.signed.head.origin (record { place = found.place; one = one }) → out.book_after ≡ slice_set out.book found.place after
     → Decides H (asked_by found.offer time) (at_one out one after) → DecidesBody H body time out
 at_place H body time out origins found is one after place changed decided =

@@ -4,6 +4,7 @@ use Rattle.std.proofs.lemmas.List.{length-map, map_more, take-map, get_or-map}
 use Rattle.std.proofs.lemmas.Option.{slice_get_within, slice_get-map, slice_get-get_or}
 use Rattle.std.specs.Option.{option_map}
 use Rattle.std.proofs.lemmas.List.Elements.{All-nil, All-push}
+use Rattle.tl_hash.specs.Bytes.{Digest}
 use Rattle.tl_proof.specs.Acceptance.{Step, Linked}
 use Rattle.tl_proof.specs.Laws.{MadeOfHashes}
 use Rattle.tl_witness.specs.Chain.{TreeHead, head_after, first_head, Follows, IsLinked, IsChain, last_head}
@@ -16,30 +17,30 @@ last_head-snoc old [] step = refl
 last_head-snoc old (s ∷ steps) step = last_head-snoc (head_after s) steps step
 
 -- linked steps are followed by more that are linked from where they lead
-pub linked-append : (H : List ℕ → List ℕ) (old : TreeHead) (steps more : List Step)
+pub linked-append : (H : Digest) (old : TreeHead) (steps more : List Step)
     → IsLinked H old steps → IsLinked H (last_head old steps) more → IsLinked H old (steps ++ more)
 unfolding Linked
 linked-append H old [] more first then = then
 linked-append H old (s ∷ steps) more first then = (first.0, linked-append H (head_after s) steps more first.1 then)
 
 -- a chain grows by a step that follows its last head
-pub linked-snoc : (H : List ℕ → List ℕ) (old : TreeHead) (steps : List Step) (step : Step)
+pub linked-snoc : (H : Digest) (old : TreeHead) (steps : List Step) (step : Step)
     → IsLinked H old steps → Follows H (last_head old steps) step → IsLinked H old (steps ++ step ∷ [])
 unfolding Linked
 linked-snoc H old steps step first then = linked-append H old steps (step ∷ []) first (then, tt)
 
 -- no steps are linked
-pub linked-none : (H : List ℕ → List ℕ) (old : TreeHead) → IsLinked H old []
+pub linked-none : (H : Digest) (old : TreeHead) → IsLinked H old []
 unfolding Linked
 linked-none H old = tt
 
 -- one step that follows is linked
-pub linked-one : (H : List ℕ → List ℕ) (old : TreeHead) (step : Step) → Follows H old step → IsLinked H old (step ∷ [])
+pub linked-one : (H : Digest) (old : TreeHead) (step : Step) → Follows H old step → IsLinked H old (step ∷ [])
 unfolding Linked
 linked-one H old step follows = (follows, tt)
 
 -- the steps after the first ones are linked from where those lead
-pub linked-after : (H : List ℕ → List ℕ) (old : TreeHead) (steps more : List Step)
+pub linked-after : (H : Digest) (old : TreeHead) (steps more : List Step)
     → IsLinked H old (steps ++ more) → IsLinked H (last_head old steps) more
 unfolding Linked
 linked-after H old [] more all = all
@@ -68,11 +69,11 @@ last_head-map f old xs x there =
     last_head-last old (map f xs) (f x) (ap (λ n. slice_get (map f xs) (n - 1)) (length-map xs f) ∙ shown)
 
 -- no steps are a chain
-pub chain-none : (H : List ℕ → List ℕ) → IsChain H []
+pub chain-none : (H : Digest) → IsChain H []
 chain-none H = record { linked = linked-none H (first_head H); made = All-nil MadeOfHashes }
 
 -- a chain grows by a step of hashes that follows its last head
-pub chain-snoc : (H : List ℕ → List ℕ) (steps : List Step) (step : Step) → IsChain H steps → Follows H (last_head (first_head H) steps) step → MadeOfHashes step
+pub chain-snoc : (H : Digest) (steps : List Step) (step : Step) → IsChain H steps → Follows H (last_head (first_head H) steps) step → MadeOfHashes step
     → IsChain H (steps ++ step ∷ [])
 chain-snoc H steps step is follows made = record {
   linked = linked-snoc H (first_head H) steps step is.linked follows;
@@ -84,19 +85,19 @@ pub line_made : (l : ChainLine) → IsChainLine l → MadeOfHashes l.step
 line_made l is = (is.root.length, λ k d lt. (is.hashes k d lt).length)
 
 -- what the steps before a place lead to, and the step there
-pub record HasCome {A : Type 0} (H : List ℕ → List ℕ) (f : A → Step) (xs : List A) (i size : ℕ) (root : List ℕ) : Type 0 where
+pub record HasCome {A : Type 0} (H : Digest) (f : A → Step) (xs : List A) (i size : ℕ) (root : List ℕ) : Type 0 where
   pub chain : IsChain H (map f (take i xs))
   pub size_is : (last_head (first_head H) (map f (take i xs))).size ≡ size
   pub root_is : (last_head (first_head H) (map f (take i xs))).root ≡ root
 
-pub come_first : {A : Type 0} (H : List ℕ → List ℕ) (f : A → Step) (xs : List A) → HasCome H f xs 0 0 (H [])
+pub come_first : {A : Type 0} (H : Digest) (f : A → Step) (xs : List A) → HasCome H f xs 0 0 (H [])
 come_first H f xs = record { chain = chain-none H; size_is = refl; root_is = refl }
 
-follows_here : {A : Type 0} (H : List ℕ → List ℕ) (f : A → Step) (xs : List A) (i size : ℕ) (root : List ℕ) (step : Step) → HasCome H f xs i size root
+follows_here : {A : Type 0} (H : Digest) (f : A → Step) (xs : List A) (i size : ℕ) (root : List ℕ) (step : Step) → HasCome H f xs i size root
     → Follows H (record { size = size; root = root }) step → Follows H (last_head (first_head H) (map f (take i xs))) step
 follows_here H f xs i size root step come follows = rw (come.size_is, come.root_is) follows
 
-pub come_more : {A : Type 0} (H : List ℕ → List ℕ) (f : A → Step) (xs : List A) (i size : ℕ) (root : List ℕ) (x : A) → i < length xs → x ≡ get_or xs i x
+pub come_more : {A : Type 0} (H : Digest) (f : A → Step) (xs : List A) (i size : ℕ) (root : List ℕ) (x : A) → i < length xs → x ≡ get_or xs i x
     → HasCome H f xs i size root → Follows H (record { size = size; root = root }) (f x) → MadeOfHashes (f x) → HasCome H f xs (i + 1) (f x).size (f x).root
 come_more H f xs i size root x lt is come follows made =
     let more : map f (take (i + 1) xs) ≡ map f (take i xs) ++ f x ∷ [] = map_more f xs i x lt ∙ ap (λ (y : _). map f (take i xs) ++ f y ∷ []) (sym is) in
@@ -107,7 +108,7 @@ come_more H f xs i size root x lt is come follows made =
       root_is = ap (λ (h : TreeHead). h.root) leads;
     }
 
-pub come_break : {A : Type 0} (H : List ℕ → List ℕ) (f : A → Step) (xs : List A) (i size : ℕ) (root : List ℕ) (x : A) → i < length xs → x ≡ get_or xs i x
+pub come_break : {A : Type 0} (H : Digest) (f : A → Step) (xs : List A) (i size : ℕ) (root : List ℕ) (x : A) → i < length xs → x ≡ get_or xs i x
     → HasCome H f xs i size root → ¬ (Follows H (record { size = size; root = root }) (f x)) → IsFirstBreak H (map f xs) i
 come_break H f xs i size root x lt is come breaks = record {
   step = f x;

@@ -2,6 +2,7 @@
 use Rattle.std.proofs.Common.{◌≡◌, ℕ, zero, suc, List, [], ◌∷◌, ◌++◌, Some, ◌⊎◌, inl, inr, refl, ap, sym, ◌∙◌, subst, slice_get, arith, length, All}
 use Rattle.std.specs.Prelude.{slice_set}
 use Rattle.std.proofs.lemmas.List.Elements.{All-tail}
+use Rattle.tl_hash.specs.Bytes.{Digest}
 use Rattle.tl_hash.specs.Tree.{tree_hash}
 use Rattle.tl_checkpoint.specs.Checkpoint.{Head}
 use Rattle.tl_proof.specs.Collisions.{IsPrefix, Exhibits, audit_inputs}
@@ -21,7 +22,7 @@ use Rattle.tl_witness.proofs.OneRequest.{one_body_note, one_signed_head}
 use Rattle.tl_witness.proofs.RunLaws.{Moves, answered, asked_made, book-trans, books_only_grow, later_lawful, moves, place_lawful}
 
 -- after a cosignature the origin's last head is the one that was asked for
-settled_leads : (H : List ℕ → List ℕ) (out : Outcome) (asked : Asked) → out.status ≡ 200
+settled_leads : (H : Digest) (out : Outcome) (asked : Asked) → out.status ≡ 200
     → (asked.step.size ≡ (last_head (first_head H) out.one.chain).size → asked.step.root ≡ (last_head (first_head H) out.one.chain).root)
     → Settles out (last_head (first_head H) out.one.chain).size asked → last_head (first_head H) out.one_after.chain ≡ head_after asked.step
 settled_leads H out asked is root (inl refused) = absurd (let e : 500 ≡ 200 = sym refused.1.0 ∙ is in omega arith)
@@ -33,7 +34,7 @@ settled_leads H out asked is root (inr (inr (attests, inl same))) =
 settled_leads H out asked is root (inr (inr (attests, inr longer))) =
     ap (λ (o : Witnessed). last_head (first_head H) o.chain) longer.2 ∙ last_head-snoc (first_head H) out.one.chain asked.step
 
-leads : (H : List ℕ → List ℕ) (asked : Asked) (out : Outcome) → Decides H asked out → out.status ≡ 200
+leads : (H : Digest) (asked : Asked) (out : Outcome) → Decides H asked out → out.status ≡ 200
     → last_head (first_head H) out.one_after.chain ≡ head_after asked.step
 leads H asked out (inl closed) is = absurd (let e : 403 ≡ 200 = sym closed.1.0 ∙ is in omega arith)
 leads H asked out (inr (opened, inl below)) is = absurd (let e : 400 ≡ 200 = sym below.1.0 ∙ is in omega arith)
@@ -43,7 +44,7 @@ leads H asked out (inr (opened, inr (above, inr (same, inr (one, inl wrong))))) 
 leads H asked out (inr (opened, inr (above, inr (same, inr (one, inr right))))) is = settled_leads H out asked is one right.1
 
 -- the links of the origin of a checkpoint, which lead to it
-record LeadsTo (H : List ℕ → List ℕ) (book : List Witnessed) (checkpoint : Head) : Type 0 where
+record LeadsTo (H : Digest) (book : List Witnessed) (checkpoint : Head) : Type 0 where
   place : ℕ
   one : Witnessed
   is : IsPlacedIn book checkpoint.origin (record { place = place; one = one })
@@ -54,7 +55,7 @@ set_there [] at one after there = absurd cc
 set_there (b ∷ book) zero one after there = refl
 set_there (b ∷ book) (suc at) one after there = set_there book at one after there
 
-decided_leads : (H : List ℕ → List ℕ) (checkpoint : Head) (out : BookOutcome) (is : IsCosigned H checkpoint out) → IsLawful H out.book
+decided_leads : (H : Digest) (checkpoint : Head) (out : BookOutcome) (is : IsCosigned H checkpoint out) → IsLawful H out.book
     → DecidesBody H is.body is.time out → LeadsTo H out.book_after checkpoint
 decided_leads H checkpoint out is lawful (inl none) = absurd (none.0 is.request is.reads)
 decided_leads H checkpoint out is lawful (inr (request, reads, inl none)) = absurd (let e : 400 ≡ 200 = sym none.1.0 ∙ is.status in omega arith)
@@ -80,7 +81,7 @@ decided_leads H checkpoint out is lawful (inr (request, reads, inr (signed, note
     origin_kept out (inl same) = ap (λ (o : Witnessed). o.origin) same
     origin_kept out (inr grown) = ap (λ (o : Witnessed). o.origin) grown.1
 
-cosigned_leads : (H : List ℕ → List ℕ) (checkpoint : Head) (out : BookOutcome) → IsCosigned H checkpoint out → IsLawful H out.book → LeadsTo H out.book_after checkpoint
+cosigned_leads : (H : Digest) (checkpoint : Head) (out : BookOutcome) → IsCosigned H checkpoint out → IsLawful H out.book → LeadsTo H out.book_after checkpoint
 cosigned_leads H checkpoint out is lawful = go is.answered
   where
     go : Answers H is.body is.time out → LeadsTo H out.book_after checkpoint
@@ -89,12 +90,12 @@ cosigned_leads H checkpoint out is lawful = go is.answered
 
 -- ---- runs in parts
 
-record Comes (H : List ℕ → List ℕ) (book : List Witnessed) (outs : List BookOutcome) (last : List Witnessed) : Type 0 where
+record Comes (H : Digest) (book : List Witnessed) (outs : List BookOutcome) (last : List Witnessed) : Type 0 where
   mid : List Witnessed
   later : IsLaterBook H book mid
   run : IsBookRun H mid outs last
 
-comes : (H : List ℕ → List ℕ) (book last : List Witnessed) (before outs : List BookOutcome) → IsLawful H book → IsBookRun H book (before ++ outs) last → Comes H book outs last
+comes : (H : Digest) (book last : List Witnessed) (before outs : List BookOutcome) → IsLawful H book → IsBookRun H book (before ++ outs) last → Comes H book outs last
 comes H book last before outs lawful run =
     let first = cut before book run in
     record { mid = first.0; later = books_only_grow H book first.0 before lawful first.1; run = first.2 }
@@ -105,12 +106,12 @@ comes H book last before outs lawful run =
         let rest = cut before out.book_after run.2 in
         (rest.0, (run.0, run.1, rest.1), rest.2)
 
-later_origins : (H : List ℕ → List ℕ) (book later : List Witnessed) → IsLaterBook H book later → origins_of later ≡ origins_of book
+later_origins : (H : Digest) (book later : List Witnessed) → IsLaterBook H book later → origins_of later ≡ origins_of book
 later_origins H [] later is = ap origins_of is
 later_origins H (one ∷ book) later is =
     ap origins_of is.2 ∙ ap (λ (o : List ℕ). o ∷ origins_of is.1) is.3.origin ∙ ap (λ (os : List (List ℕ)). one.origin ∷ os) (later_origins H book is.1 is.4)
 
-later_there : (H : List ℕ → List ℕ) (book later : List Witnessed) (at : ℕ) (one : Witnessed) → IsLaterBook H book later → slice_get book at ≡ Some one
+later_there : (H : Digest) (book later : List Witnessed) (at : ℕ) (one : Witnessed) → IsLaterBook H book later → slice_get book at ≡ Some one
     → (after : Witnessed) × (slice_get later at ≡ Some after) × IsLater H one after
 later_there H [] later at one is there = absurd cc
 later_there H (first ∷ book) later zero one is there =
@@ -161,7 +162,7 @@ abbrev head_of_list : (List ℕ → List ℕ) → List (List ℕ) → TreeHead
 head_of_list H entries = tree_head (length entries) (tree_hash H entries)
 
 -- links that lead from the head of one list to that of another
-extends : LinksExtendOrCollide → (H : List ℕ → List ℕ) → ((message : List ℕ) → length (H message) ≡ 32) → (chain later links : List Step) (old new : List (List ℕ)) → later ≡ chain ++ links
+extends : LinksExtendOrCollide → (H : Digest) → ((message : List ℕ) → length (H message) ≡ 32) → (chain later links : List Step) (old new : List (List ℕ)) → later ≡ chain ++ links
     → All MadeOfHashes later → IsLinked H (last_head (first_head H) chain) links → last_head (first_head H) chain ≡ head_of_list H old → last_head (first_head H) later ≡ head_of_list H new
     → IsPrefix old new ⊎ ((x : List ℕ) × (y : List ℕ) × Exhibits H x y (audit_inputs H old new links))
 extends law H lengths chain later links old new joined made linked from to =

@@ -1,12 +1,13 @@
 -- Why a book is not opened, once a chain breaks or memory was refused.
 use Rattle.std.proofs.Common.{ℕ, List, All, inr}
+use Rattle.tl_hash.specs.Bytes.{Digest}
 use Rattle.tl_note.specs.Key.{IsKeyName}
 use Rattle.tl_witness.specs.declared.opening.BookFault.{BookFault}
 use Rattle.tl_witness.specs.declared.opening.BookFault.TheVariants.{TwiceNamed, NoTrust, BadName, BadChain, OutOfMemory}
 use Rattle.tl_witness.specs.Open.{SavedChain, Trusted, AreNamedOnce, IsTrusted, RefusesBook, chain_origins, cosigner_names}
 use Rattle.tl_witness.specs.Opening.{ChecksChains}
 
-pub chain_fault : (H : List ℕ → List ℕ) (trusts : List Trusted) (chains : List SavedChain) (fault : BookFault) → AreNamedOnce trusts chains
+pub chain_fault : (H : Digest) (trusts : List Trusted) (chains : List SavedChain) (fault : BookFault) → AreNamedOnce trusts chains
     → All (IsTrusted trusts) (chain_origins chains) → All IsKeyName (cosigner_names trusts) → ChecksChains H chains fault → RefusesBook H trusts chains fault
 chain_fault H trusts chains TwiceNamed once listed named is = absurd is
 chain_fault H trusts chains (NoTrust place) once listed named is = absurd is

@@ -4,6 +4,7 @@ use Rattle.std.specs.Prelude.{slice_set}
 use Rattle.std.specs.List.{AllZip}
 use Rattle.std.proofs.lemmas.List.{map-set, map-append}
 use Rattle.std.proofs.lemmas.List.Elements.{All-head, All-tail}
+use Rattle.tl_hash.specs.Bytes.{Digest}
 use Rattle.tl_proof.specs.Acceptance.{Step}
 use Rattle.tl_witness.specs.Chain.{IsChain}
 use Rattle.tl_note.specs.Key.{Key, IsKeyName}
@@ -46,7 +47,7 @@ took_one origin chains place taken there = record {
 }
 
 -- a chain breaks, of those that come after some that don't
-pub breaks_next : (H : List ℕ → List ℕ) (done : List SavedChain) (c : SavedChain) (rest all : List SavedChain) (link : ℕ) → done ++ c ∷ rest ≡ all
+pub breaks_next : (H : Digest) (done : List SavedChain) (c : SavedChain) (rest all : List SavedChain) (link : ℕ) → done ++ c ∷ rest ≡ all
     → All (λ d. IsChain H d.steps) done → IsFirstBreak H c.steps link → IsFirstBroken H all (length done) link
 breaks_next H done c rest all link whole each breaks = record {
   broken = c;
@@ -149,7 +150,7 @@ pub enters : (saved left : List SavedChain) (done all : List Trusted) (book : Li
 enters saved left done all book entered same = subst (λ (ts : List Trusted). AllZip (IsKept saved) ts book) same entered.kept
 
 -- a chain breaks at this place
-pub breaks_at : (H : List ℕ → List ℕ) (done : List SavedChain) (c : SavedChain) (rest all : List SavedChain) (place link : ℕ) → place ≡ length done → done ++ c ∷ rest ≡ all
+pub breaks_at : (H : Digest) (done : List SavedChain) (c : SavedChain) (rest all : List SavedChain) (place link : ℕ) → place ≡ length done → done ++ c ∷ rest ≡ all
     → All (λ d. IsChain H d.steps) done → IsFirstBreak H c.steps link → IsFirstBroken H all place link
 breaks_at H done c rest all place link here whole each breaks =
     subst (λ (n : ℕ). IsFirstBroken H all n link) (sym here) (breaks_next H done c rest all link whole each breaks)
@@ -199,7 +200,7 @@ pub bad_name_to : {E : Type 0} (trusted : E → Trusted) (name : E → List ℕ)
 bad_name_to trusted name trusts place n first = subst (λ (ns : List (List ℕ)). IsFirstNot IsKeyName ns place) (shown_twice trusted (λ t. t.cosigner.name) name trusts n) first
 
 -- the book that is opened
-pub opened_to : (H : List ℕ → List ℕ) (trusts : List Trusted) (checked chains : List SavedChain) (book : List Witnessed) → AreNamedOnce trusts chains
+pub opened_to : (H : Digest) (trusts : List Trusted) (checked chains : List SavedChain) (book : List Witnessed) → AreNamedOnce trusts chains
     → All (IsTrusted trusts) (chain_origins chains) → All IsKeyName (cosigner_names trusts) → All (λ c. IsChain H c.steps) chains → checked ≡ chains
     → AllZip (IsKept checked) trusts book → OpensBook H trusts chains book
 opened_to H trusts checked chains book once listed named lawful same kept = record {

@@ -2,6 +2,7 @@
 use Rattle.std.proofs.Common.{◌≡◌, ℕ, zero, suc, ◌+◌, List, [], ◌∷◌, ◌++◌, Some, ◌⊎◌, inl, inr, refl, ap, sym, ◌∙◌, subst, append_assoc, append-nil, drop, slice_get, arith}
 use Rattle.std.specs.Prelude.{slice_set}
 use Rattle.std.proofs.lemmas.List.Elements.{All-head, All-tail, All-cons, All-nil}
+use Rattle.tl_hash.specs.Bytes.{Digest}
 use Rattle.tl_proof.specs.Acceptance.{Step, Linked}
 use Rattle.tl_proof.specs.Laws.{MadeOfHashes}
 use Rattle.tl_witness.specs.Chain.{TreeHead, head_after, first_head, last_head, Follows, IsLinked, IsChain}
@@ -19,19 +20,19 @@ Moves H out =
     (out.one_after ≡ out.one)
     ⊎ ((step : Step) × (out.one_after ≡ with_step out.one step) × Follows H (last_head (first_head H) out.one.chain) step × MadeOfHashes step)
 
-kept : (H : List ℕ → List ℕ) (out : Outcome) (size : ℕ) (step : Step)
+kept : (H : Digest) (out : Outcome) (size : ℕ) (step : Step)
     → Follows H (last_head (first_head H) out.one.chain) step → MadeOfHashes step → KeepsStep out size step → Moves H out
 kept H out size step follows made (inl same) = inl same.1.1
 kept H out size step follows made (inr longer) = inr (step, longer.2, follows, made)
 
-settled : (H : List ℕ → List ℕ) (out : Outcome) (asked : Asked)
+settled : (H : Digest) (out : Outcome) (asked : Asked)
     → Follows H (last_head (first_head H) out.one.chain) asked.step → MadeOfHashes asked.step → Settles out (last_head (first_head H) out.one.chain).size asked → Moves H out
 settled H out asked follows made (inl refused) = inl refused.1.2.1
 settled H out asked follows made (inr (inl failed)) = inl failed.1.3
 settled H out asked follows made (inr (inr done)) = kept H out _ asked.step follows made done.1
 
 -- every decision is such an outcome
-pub moves : (H : List ℕ → List ℕ) (asked : Asked) (out : Outcome) → MadeOfHashes asked.step → Decides H asked out → Moves H out
+pub moves : (H : Digest) (asked : Asked) (out : Outcome) → MadeOfHashes asked.step → Decides H asked out → Moves H out
 moves H asked out made (inl closed) = inl closed.1.2.1
 moves H asked out made (inr (opened, inl below)) = inl below.1.2.1
 moves H asked out made (inr (opened, inr (above, inl other))) = inl other.1.2.1
@@ -40,7 +41,7 @@ moves H asked out made (inr (opened, inr (above, inr (same, inr (one, inl wrong)
 moves H asked out made (inr (opened, inr (above, inr (same, inr (one, inr right))))) = settled H out asked right.0 made right.1
 
 -- and so is a refusal
-pub moves_or_stays : (H : List ℕ → List ℕ) (asked : Asked) (out : Outcome) → MadeOfHashes asked.step → Decides H asked out ⊎ Refuses out 500 → Moves H out
+pub moves_or_stays : (H : Digest) (asked : Asked) (out : Outcome) → MadeOfHashes asked.step → Decides H asked out ⊎ Refuses out 500 → Moves H out
 moves_or_stays H asked out made (inl decided) = moves H asked out made decided
 moves_or_stays H asked out made (inr refused) = inl refused.2.1
 
@@ -48,10 +49,10 @@ moves_or_stays H asked out made (inr refused) = inl refused.2.1
 pub asked_made : (body note : List ℕ) (request : Body) (signed : Signed) (time : ℕ) → IsRequest body request → IsSigned note signed → MadeOfHashes (asked_of request signed time).step
 asked_made body note request signed time reads is = (is.head.root.length, λ k d lt. (reads.lawful.hashes k d lt).length)
 
-later-refl : (H : List ℕ → List ℕ) (chain : List Step) → IsChain H chain → IsLaterChain H chain chain
+later-refl : (H : Digest) (chain : List Step) → IsChain H chain → IsLaterChain H chain chain
 later-refl H chain is = (is, ([], sym (append-nil chain), linked-none H (last_head (first_head H) chain)))
 
-pub later-trans : (H : List ℕ → List ℕ) (a b c : List Step) → IsLaterChain H a b → IsLaterChain H b c → IsLaterChain H a c
+pub later-trans : (H : Digest) (a b c : List Step) → IsLaterChain H a b → IsLaterChain H b c → IsLaterChain H a c
 later-trans H a b c ab bc =
     let whole : c ≡ a ++ (ab.1.0 ++ bc.1.0) = bc.1.1 ∙ (ap (λ l. l ++ bc.1.0) ab.1.1 ∙ append_assoc a ab.1.0 bc.1.0) in (
       bc.0,
@@ -61,7 +62,7 @@ later-trans H a b c ab bc =
 abbrev chain_of : Witnessed → List Step
 chain_of one = one.chain
 
-pub stepped : (H : List ℕ → List ℕ) (out : Outcome) → IsChain H out.one.chain → Moves H out → IsLaterChain H out.one.chain out.one_after.chain
+pub stepped : (H : Digest) (out : Outcome) → IsChain H out.one.chain → Moves H out → IsLaterChain H out.one.chain out.one_after.chain
 stepped H out is (inl same) = rw (ap chain_of same) (later-refl H out.one.chain is)
 stepped H out is (inr grown) =
     rw (ap chain_of grown.1) (
@@ -84,7 +85,7 @@ chains_only_grow H one last outs is run = go outs one last is run
 -- ---- whole books
 
 -- nothing but the chain is another
-same_trust : (H : List ℕ → List ℕ) (out : Outcome) → IsChain H out.one.chain → Moves H out → IsLater H out.one out.one_after
+same_trust : (H : Digest) (out : Outcome) → IsChain H out.one.chain → Moves H out → IsLater H out.one out.one_after
 same_trust H out is (inl same) = record {
   origin = ap (λ (o : Witnessed). o.origin) same;
   verifiers = ap (λ (o : Witnessed). o.verifiers) same;
@@ -98,10 +99,10 @@ same_trust H out is (inr grown) = record {
   chain = stepped H out is (inr grown);
 }
 
-one-refl : (H : List ℕ → List ℕ) (one : Witnessed) → IsChain H one.chain → IsLater H one one
+one-refl : (H : Digest) (one : Witnessed) → IsChain H one.chain → IsLater H one one
 one-refl H one is = record { origin = refl; verifiers = refl; cosigner = refl; chain = later-refl H one.chain is }
 
-one-trans : (H : List ℕ → List ℕ) (a b c : Witnessed) → IsLater H a b → IsLater H b c → IsLater H a c
+one-trans : (H : Digest) (a b c : Witnessed) → IsLater H a b → IsLater H b c → IsLater H a c
 one-trans H a b c ab bc = record {
   origin = bc.origin ∙ ab.origin;
   verifiers = bc.verifiers ∙ ab.verifiers;
@@ -112,25 +113,25 @@ one-trans H a b c ab bc = record {
 abbrev HasChain : (List ℕ → List ℕ) → Witnessed → Type 0
 HasChain H one = IsChain H one.chain
 
-book-refl : (H : List ℕ → List ℕ) (book : List Witnessed) → IsLawful H book → IsLaterBook H book book
+book-refl : (H : Digest) (book : List Witnessed) → IsLawful H book → IsLaterBook H book book
 book-refl H [] lawful = refl
 book-refl H (one ∷ book) lawful =
     (one, book, refl, one-refl H one (All-head (HasChain H) one book lawful), book-refl H book (All-tail (HasChain H) one book lawful))
 
-pub book-trans : (H : List ℕ → List ℕ) (a b c : List Witnessed) → IsLaterBook H a b → IsLaterBook H b c → IsLaterBook H a c
+pub book-trans : (H : Digest) (a b c : List Witnessed) → IsLaterBook H a b → IsLaterBook H b c → IsLaterBook H a c
 book-trans H [] b c ab bc = subst (λ (x : List Witnessed). IsLaterBook H x c) ab bc
 book-trans H (one ∷ a) b c ab bc =
     let cd = subst (λ (x : List Witnessed). IsLaterBook H x c) ab.2 bc in
     (cd.0, cd.1, cd.2, one-trans H one ab.0 cd.0 ab.3 cd.3, book-trans H a ab.1 cd.1 ab.4 cd.4)
 
 -- a later book is lawful
-pub later_lawful : (H : List ℕ → List ℕ) (book later : List Witnessed) → IsLaterBook H book later → IsLawful H later
+pub later_lawful : (H : Digest) (book later : List Witnessed) → IsLaterBook H book later → IsLawful H later
 later_lawful H [] later is = subst (IsLawful H) (sym is) (All-nil (HasChain H))
 later_lawful H (one ∷ book) later is =
     subst (IsLawful H) (sym is.2) (All-cons (HasChain H) is.0 is.1 is.3.chain.0 (later_lawful H book is.1 is.4))
 
 -- one place is later, and the others as they were
-set_later : (H : List ℕ → List ℕ) (book : List Witnessed) (at : ℕ) (one after : Witnessed) → IsLawful H book → slice_get book at ≡ Some one
+set_later : (H : Digest) (book : List Witnessed) (at : ℕ) (one after : Witnessed) → IsLawful H book → slice_get book at ≡ Some one
     → IsLater H one after → IsLaterBook H book (slice_set book at after)
 set_later H [] at one after lawful there is = absurd cc
 set_later H (first ∷ book) zero one after lawful there is =
@@ -144,14 +145,14 @@ set_later H (first ∷ book) (suc at) one after lawful there is = (
   set_later H book at one after (All-tail (HasChain H) first book lawful) there is,
 )
 
-pub place_lawful : (H : List ℕ → List ℕ) (book : List Witnessed) (at : ℕ) (one : Witnessed) → IsLawful H book → slice_get book at ≡ Some one → IsChain H one.chain
+pub place_lawful : (H : Digest) (book : List Witnessed) (at : ℕ) (one : Witnessed) → IsLawful H book → slice_get book at ≡ Some one → IsChain H one.chain
 place_lawful H [] at one lawful there = absurd cc
 place_lawful H (first ∷ book) zero one lawful there =
     let same : first ≡ one = cc in subst (HasChain H) same (All-head (HasChain H) first book lawful)
 place_lawful H (first ∷ book) (suc at) one lawful there = place_lawful H book at one (All-tail (HasChain H) first book lawful) there
 
 -- one request leaves a later book
-decided : (H : List ℕ → List ℕ) (body : List ℕ) (time : ℕ) (out : BookOutcome) → IsLawful H out.book → DecidesBody H body time out → IsLaterBook H out.book out.book_after
+decided : (H : Digest) (body : List ℕ) (time : ℕ) (out : BookOutcome) → IsLawful H out.book → DecidesBody H body time out → IsLaterBook H out.book out.book_after
 decided H body time out lawful (inl none) = rw none.1.3 (book-refl H out.book lawful)
 decided H body time out lawful (inr (request, is, inl none)) = rw none.1.3 (book-refl H out.book lawful)
 decided H body time out lawful (inr (request, is, inr (signed, reads, inl none))) = rw none.1.3 (book-refl H out.book lawful)
@@ -160,7 +161,7 @@ decided H body time out lawful (inr (request, is, inr (signed, reads, inr (place
     let one : Outcome = record { status = out.status; body = out.body; saved = out.saved; saved_after = out.saved_after; one = placed.one; one_after = changed.0 } in
     rw changed.1 (set_later H out.book placed.place placed.one changed.0 lawful of.0 (same_trust H one chain (moves H (asked_of request signed time) one (asked_made body request.note request signed time is reads) changed.2)))
 
-pub answered : (H : List ℕ → List ℕ) (body : List ℕ) (time : ℕ) (out : BookOutcome) → IsLawful H out.book → Answers H body time out → IsLaterBook H out.book out.book_after
+pub answered : (H : Digest) (body : List ℕ) (time : ℕ) (out : BookOutcome) → IsLawful H out.book → Answers H body time out → IsLaterBook H out.book out.book_after
 answered H body time out lawful (inl is) = decided H body time out lawful is
 answered H body time out lawful (inr refused) = rw refused.1.3 (book-refl H out.book lawful)
 
@@ -177,7 +178,7 @@ books_only_grow H book last outs lawful run = go outs book last lawful run
 
 -- ---- from each step
 
-linked_from : (H : List ℕ → List ℕ) (old : TreeHead) (chain : List Step) (place : ℕ) (step : Step) → IsLinked H old chain → slice_get chain place ≡ Some step
+linked_from : (H : Digest) (old : TreeHead) (chain : List Step) (place : ℕ) (step : Step) → IsLinked H old chain → slice_get chain place ≡ Some step
     → Linked H step.size step.root (drop (place + 1) chain)
 unfolding Linked
 linked_from H old [] place step is there = absurd cc

@@ -2,6 +2,7 @@
 use Rattle.std.proofs.Common.{◌≡◌, ◌≤◌, ◌-◌, ℕ, List, [], ◌∷◌, ◌++◌, inl, inr, refl, sym, ap, subst, ◌∙◌, map, take, drop, length, append_assoc, arith, Ok, Err}
 use Rattle.std.specs.Prelude.{Result, IfOk, OnErr}
 use Rattle.std.proofs.lemmas.List.{map-append, take_rest, take_all, drop-map, take-map, length-drop, length-map}
+use Rattle.tl_hash.specs.Bytes.{Digest}
 use mathlib.Core.List.{IsPrefix}
 use Rattle.tl_proof.specs.Acceptance.{Step}
 use Rattle.tl_proof.specs.Laws.{MadeOfHashes}
@@ -18,24 +19,24 @@ use Rattle.tl_witness.proofs.ChainLaws.{linked-after}
 use Rattle.tl_witness.proofs.RunLaws.{Moves, moves}
 
 -- a chain that begins with another is a later one
-pub later_chain : (H : List ℕ → List ℕ) (start now : List Step) → IsPrefix start now → IsChain H now → IsLaterChain H start now
+pub later_chain : (H : Digest) (start now : List Step) → IsPrefix start now → IsChain H now → IsLaterChain H start now
 later_chain H start now begins is =
     (is, (begins.0, sym begins.1, linked-after H (first_head H) start begins.0 (subst (IsLinked H (first_head H)) (sym begins.1) is.linked)))
 
 -- the same origin, with a chain that begins with what it had
-pub later_one : (H : List ℕ → List ℕ) (one : Witnessed) (now : List Step) → IsPrefix one.chain now → IsChain H now → IsLater H one (record one { chain = now })
+pub later_one : (H : Digest) (one : Witnessed) (now : List Step) → IsPrefix one.chain now → IsChain H now → IsLater H one (record one { chain = now })
 later_one H one now begins is = record { origin = refl; verifiers = refl; cosigner = refl; chain = later_chain H one.chain now begins is }
 
 pub begins_longer : {A : Type 0} (start now more : List A) → IsPrefix start now → IsPrefix start (now ++ more)
 begins_longer start now more p = (p.0 ++ more, sym (append_assoc start p.0 more) ∙ ap (λ (w : List _). w ++ more) p.1)
 
-moved_begins : (H : List ℕ → List ℕ) (out : Outcome) (start : List Step) → IsPrefix start out.one.chain → Moves H out → IsPrefix start out.one_after.chain
+moved_begins : (H : Digest) (out : Outcome) (start : List Step) → IsPrefix start out.one.chain → Moves H out → IsPrefix start out.one_after.chain
 moved_begins H out start p (inl same) = subst (λ (o : Witnessed). IsPrefix start o.chain) (sym same) p
 moved_begins H out start p (inr grown) =
     subst (λ (o : Witnessed). IsPrefix start o.chain) (sym grown.1) (begins_longer start out.one.chain (grown.0 ∷ []) p)
 
 -- a decision, and a failure, leave a chain that begins with what it began with
-pub begins_still : {X Y : Type 0} (H : List ℕ → List ℕ) (asked : Asked) (result : Result X Y) (out : X → Outcome) (start old new : List Step) (S : Type 0) → IsPrefix start old
+pub begins_still : {X Y : Type 0} (H : Digest) (asked : Asked) (result : Result X Y) (out : X → Outcome) (start old new : List Step) (S : Type 0) → IsPrefix start old
     → MadeOfHashes asked.step → IfOk result (λ x. Decides H asked (out x)) → OnErr result (S × (new ≡ old)) → ((x : X) → (out x).one.chain ≡ old)
     → ((x : X) → (out x).one_after.chain ≡ new) → IsPrefix start new
 begins_still H asked (Ok x) out start old new S p made decided failed before after =
@@ -56,31 +57,31 @@ part_most f from most xs =
 
 -- ---- what is answered
 
-pub malformed : (H : List ℕ → List ℕ) (book : List Witnessed) (body : List ℕ) (time : ℕ) (answer : Answer) → IsMalformed body → RefusesAnswer answer 400 → DecidesShared H book body time answer
+pub malformed : (H : Digest) (book : List Witnessed) (body : List ℕ) (time : ℕ) (answer : Answer) → IsMalformed body → RefusesAnswer answer 400 → DecidesShared H book body time answer
 malformed H book body time answer (inl none) refused = inl (none.0, refused)
 malformed H book body time answer (inr (request, reads, none)) refused = inr (request, reads, inl (none, refused))
 
-pub of_other : (H : List ℕ → List ℕ) (book : List Witnessed) (body : List ℕ) (time : ℕ) (answer : Answer) (origins : List (List ℕ)) (other : IsOfOther body origins)
+pub of_other : (H : Digest) (book : List Witnessed) (body : List ℕ) (time : ℕ) (answer : Answer) (origins : List (List ℕ)) (other : IsOfOther body origins)
     → ((placed : Placed) → ¬ (IsPlacedIn book other.signed.head.origin placed)) → RefusesAnswer answer 404 → DecidesShared H book body time answer
 of_other H book body time answer origins other nowhere refused = inr (other.request, other.reads, inr (other.signed, other.note, inl (nowhere, refused)))
 
-pub at_place : {A : Type 0} (H : List ℕ → List ℕ) (book : List Witnessed) (body : List ℕ) (time : ℕ) (answer : Answer) (origins : List (List ℕ)) (found : Found A) (is : IsFound body origins found) (one : Witnessed)
+pub at_place : {A : Type 0} (H : Digest) (book : List Witnessed) (body : List ℕ) (time : ℕ) (answer : Answer) (origins : List (List ℕ)) (found : Found A) (is : IsFound body origins found) (one : Witnessed)
     → IsPlacedIn book is.signed.head.origin (record { place = found.place; one = one }) → DecidesLater H one (asked_by found.offer time) answer → DecidesShared H book body time answer
 at_place H book body time answer origins found is one place decided =
     inr (is.request, is.reads, inr (is.signed, is.note, inr (record { place = found.place; one = one }, place, subst (λ (a : Asked). DecidesLater H one a answer) (is.asks time) decided)))
 
 -- one origin more, later
-pub later_more : (H : List ℕ → List ℕ) (book later : List Witnessed) (one after : Witnessed) → IsLaterBook H book later → IsLater H one after → IsLaterBook H (book ++ one ∷ []) (later ++ after ∷ [])
+pub later_more : (H : Digest) (book later : List Witnessed) (one after : Witnessed) → IsLaterBook H book later → IsLater H one after → IsLaterBook H (book ++ one ∷ []) (later ++ after ∷ [])
 later_more H [] later one after is more = (after, [], ap (λ (l : List Witnessed). l ++ after ∷ []) is, more, refl)
 later_more H (first ∷ book) later one after is more =
     (is.0, is.1 ++ after ∷ [], ap (λ (l : List Witnessed). l ++ after ∷ []) is.2, is.3, later_more H book is.1 one after is.4 more)
 
 -- the same of lists that show them
-pub later_push : {E G : Type 0} (H : List ℕ → List ℕ) (f : E → Witnessed) (h : G → Witnessed) (done : List E) (entries : List G) (one : E) (after : G)
+pub later_push : {E G : Type 0} (H : Digest) (f : E → Witnessed) (h : G → Witnessed) (done : List E) (entries : List G) (one : E) (after : G)
     → IsLaterBook H (map f done) (map h entries) → IsLater H (f one) (h after) → IsLaterBook H (map f (done ++ one ∷ [])) (map h (entries ++ after ∷ []))
 later_push H f h done entries one after is more =
     subst (λ (b : List Witnessed). IsLaterBook H b (map h (entries ++ after ∷ []))) (sym (map-append f done (one ∷ [])))
     (subst (IsLaterBook H (map f done ++ f one ∷ [])) (sym (map-append h entries (after ∷ []))) (later_more H (map f done) (map h entries) (f one) (h after) is more))
 
-pub later_all : (H : List ℕ → List ℕ) (done all later : List Witnessed) → done ≡ all → IsLaterBook H done later → IsLaterBook H all later
+pub later_all : (H : Digest) (done all later : List Witnessed) → done ≡ all → IsLaterBook H done later → IsLaterBook H all later
 later_all H done all later same is = subst (λ (b : List Witnessed). IsLaterBook H b later) same is

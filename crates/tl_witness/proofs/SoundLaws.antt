@@ -2,6 +2,7 @@
 use Rattle.std.proofs.Common.{◌≡◌, ℕ, List, [], ◌∷◌, inl, inr, ◌⊎◌, refl, sym, ap, subst, ◌∙◌, All}
 use Rattle.std.specs.List.{AllZip}
 use Rattle.std.proofs.lemmas.List.Elements.{All-head, All-tail, All-nil, All-cons}
+use Rattle.tl_hash.specs.Bytes.{Digest}
 use Rattle.tl_witness.specs.Book.{IsLawful}
 use Rattle.tl_witness.specs.Chain.{IsChain}
 use Rattle.tl_witness.specs.Cosigned.{OpenedBooksAreSound, origins_of}
@@ -17,14 +18,14 @@ among_all P x [] is each = absurd is
 among_all P x (y ∷ xs) (inl same) each = subst P same (All-head P y xs each)
 among_all P x (y ∷ xs) (inr later) each = among_all P x xs later (All-tail P y xs each)
 
-kept_chain : (H : List ℕ → List ℕ) (chains : List SavedChain) (trust : Trusted) (one : Witnessed) → All (λ c. IsChain H c.steps) chains → IsKept chains trust one → IsChain H one.chain
+kept_chain : (H : Digest) (chains : List SavedChain) (trust : Trusted) (one : Witnessed) → All (λ c. IsChain H c.steps) chains → IsKept chains trust one → IsChain H one.chain
 kept_chain H chains trust one each kept = go kept.chain
   where
     go : IsAmong (saved_chain trust.origin one.chain) chains ⊎ (¬ (IsAmong trust.origin (chain_origins chains)) × (one.chain ≡ [])) → IsChain H one.chain
     go (inl is) = among_all (λ (c : SavedChain). IsChain H c.steps) (saved_chain trust.origin one.chain) chains is each
     go (inr none) = subst (IsChain H) (sym none.1) (chain-none H)
 
-lawful : (H : List ℕ → List ℕ) (chains : List SavedChain) (trusts : List Trusted) (book : List Witnessed) → All (λ c. IsChain H c.steps) chains → AllZip (IsKept chains) trusts book → IsLawful H book
+lawful : (H : Digest) (chains : List SavedChain) (trusts : List Trusted) (book : List Witnessed) → All (λ c. IsChain H c.steps) chains → AllZip (IsKept chains) trusts book → IsLawful H book
 lawful H chains [] [] each kept = All-nil (HasChain H)
 lawful H chains [] (one ∷ book) each kept = absurd kept
 lawful H chains (trust ∷ trusts) [] each kept = absurd kept

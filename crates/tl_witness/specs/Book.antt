@@ -1,5 +1,6 @@
 -- The whole book of a witness, and a request to it (C2SP tlog-witness, "add-checkpoint").
 use Rattle.std.specs.Prelude.{◌≡◌, ℕ, List, [], Some, slice_get, slice_set, All, vec_items}
+use Rattle.tl_hash.specs.Bytes.{Bytes, Digest}
 use Rattle.tl_note.specs.Note.{Signature, Note}
 use Rattle.tl_checkpoint.specs.Checkpoint.{Head, IsHead, checkpoint_text}
 use Rattle.tl_witness.specs.declared.reply.Reply.{Reply}
@@ -11,17 +12,17 @@ use Rattle.tl_witness.specs.Witnessed.{Witnessed}
 use Rattle.tl_witness.specs.Decide.{Asked, Outcome, Decides}
 
 -- every origin's steps are a chain
-abbrev pub IsLawful : (List ℕ → List ℕ) → List Witnessed → Type 0
+abbrev pub IsLawful : Digest → List Witnessed → Type 0
 IsLawful H book = All (λ one. IsChain H one.chain) book
 
 -- a note whose text is a checkpoint, in parts
 pub record Signed : Type 0 where
-  pub text : List ℕ
+  pub text : Bytes
   pub lines : List Signature
   pub head : Head
 
 -- the bytes are this note, and its text is this checkpoint
-pub record IsSigned (bytes : List ℕ) (signed : Signed) : Type 0 where
+pub record IsSigned (bytes : Bytes) (signed : Signed) : Type 0 where
   pub note : Note bytes signed.text signed.lines
   pub head : IsHead signed.head
   pub spelled : signed.text ≡ checkpoint_text signed.head
@@ -29,7 +30,7 @@ pub record IsSigned (bytes : List ℕ) (signed : Signed) : Type 0 where
 -- what came of a request: the reply, and the saver and the book before and after
 pub record BookOutcome : Type 0 where
   pub status : ℕ
-  pub body : List ℕ
+  pub body : Bytes
   pub saved : Saved
   pub saved_after : Saved
   pub book : List Witnessed
@@ -57,7 +58,7 @@ pub record Placed : Type 0 where
   pub one : Witnessed
 
 -- it stands at its place of the book, and is of this origin
-abbrev pub IsPlacedIn : List Witnessed → List ℕ → Placed → Type 0
+abbrev pub IsPlacedIn : List Witnessed → Bytes → Placed → Type 0
 IsPlacedIn book origin placed = (slice_get book placed.place ≡ Some placed.one) × (placed.one.origin ≡ origin)
 
 -- what is asked of an origin
@@ -85,7 +86,7 @@ ChangesAt out placed Decided =
     })
 
 -- the cases of a request, of which the first that applies decides
-abbrev pub DecidesBody : (List ℕ → List ℕ) → List ℕ → ℕ → BookOutcome → Type 0
+abbrev pub DecidesBody : Digest → Bytes → ℕ → BookOutcome → Type 0
 DecidesBody H body time out =
     UnlessSome (IsRequest body) (RefusesAll out 400) (λ request.
     UnlessSome (IsSigned request.note) (RefusesAll out 400) (λ signed.

@@ -1,14 +1,14 @@
 -- Links that a witness saved, as lines (a format of this project).
 use Rattle.std.specs.Prelude.{◌≡◌, ◌≢◌, ℕ, ◌≤◌, not, List, [], ◌∷◌, ◌++◌, length, All, map, filter, IsUtf8, bytes_eq}
 use Rattle.std.specs.List.{flat_map}
-use Rattle.tl_hash.specs.Bytes.{IsHash}
+use Rattle.tl_hash.specs.Bytes.{Bytes, IsHash}
 use Rattle.tl_text.specs.Text.{line, number_text, base64_text, IsSize, IsOneLine}
 use Rattle.tl_proof.specs.Acceptance.{Step}
 use Rattle.tl_witness.specs.Open.{SavedChain, saved_chain}
 
 -- a step of the chain of an origin
 pub record ChainLine : Type 0 where
-  pub origin : List ℕ
+  pub origin : Bytes
   pub step : Step
 
 -- what has a line
@@ -21,44 +21,44 @@ pub record IsChainLine (l : ChainLine) : Type 0 where
   pub hashes : All IsHash l.step.proof
 
 -- hashes, each behind a space
-abbrev pub spaced_hashes : List (List ℕ) → List ℕ
+abbrev pub spaced_hashes : List Bytes → Bytes
 spaced_hashes hashes = flat_map (λ hash. 32 ∷ base64_text hash) hashes
 
 -- size, root, the number of hashes, the hashes, and the origin to the end of the line
-abbrev pub chain_line : ChainLine → List ℕ
+abbrev pub chain_line : ChainLine → Bytes
 chain_line l =
     line (number_text l.step.size ++ 32 ∷ base64_text l.step.root ++ 32 ∷ number_text (length l.step.proof) ++ spaced_hashes l.step.proof ++ 32 ∷ l.origin)
 
 -- lines, one after the other
-abbrev pub chain_text : List ChainLine → List ℕ
+abbrev pub chain_text : List ChainLine → Bytes
 chain_text lines = flat_map chain_line lines
 
 -- bytes are these lines
-pub record IsChainText (bytes : List ℕ) (lines : List ChainLine) : Type 0 where
+pub record IsChainText (bytes : Bytes) (lines : List ChainLine) : Type 0 where
   pub each : All IsChainLine lines
   pub spelled : bytes ≡ chain_text lines
 
 -- the first lines are well formed, and no line follows them, though bytes do
-pub record IsMalformedAt (bytes : List ℕ) (place : ℕ) : Type 0 where
+pub record IsMalformedAt (bytes : Bytes) (place : ℕ) : Type 0 where
   pub before : List ChainLine
-  pub rest : List ℕ
+  pub rest : Bytes
   pub each : All IsChainLine before
   pub count : length before ≡ place
   pub joined : bytes ≡ chain_text before ++ rest
   pub more : rest ≢ []
-  pub no_line : (l : ChainLine) (after : List ℕ) → IsChainLine l → rest ≢ chain_line l ++ after
+  pub no_line : (l : ChainLine) (after : Bytes) → IsChainLine l → rest ≢ chain_line l ++ after
 
 -- the others, without this one
-abbrev pub without : List ℕ → List (List ℕ) → List (List ℕ)
+abbrev pub without : Bytes → List Bytes → List Bytes
 without origin others = filter (λ other. not (bytes_eq origin other)) others
 
 -- the origins in the order of their first lines: that of the first line, and then the other lines' without it
-abbrev pub origins : List ChainLine → List (List ℕ)
+abbrev pub origins : List ChainLine → List Bytes
 origins [] = []
 origins (first ∷ lines) = first.origin ∷ without first.origin (origins lines)
 
 -- the steps of one origin, in order
-abbrev pub steps_of : List ℕ → List ChainLine → List Step
+abbrev pub steps_of : Bytes → List ChainLine → List Step
 steps_of origin lines = map (λ l. l.step) (filter (λ l. bytes_eq l.origin origin) lines)
 
 -- each origin with its steps

@@ -1,5 +1,6 @@
 -- What cosigned checkpoints of one origin say of each other. H is the digest function.
 use Rattle.std.specs.Prelude.{◌≡◌, ℕ, ◌⊎◌, List, ◌∷◌, ◌++◌, length, map}
+use Rattle.tl_hash.specs.Bytes.{Bytes, Digest}
 use Rattle.tl_hash.specs.Tree.{tree_hash}
 use Rattle.tl_checkpoint.specs.Checkpoint.{Head}
 use Rattle.tl_proof.specs.Laws.{HasHashLength}
@@ -13,22 +14,22 @@ use Rattle.tl_witness.specs.Runs.{IsBookRun}
 use Rattle.tl_witness.specs.Witnessed.{Witnessed}
 
 -- the origins of a book
-abbrev pub origins_of : List Witnessed → List (List ℕ)
+abbrev pub origins_of : List Witnessed → List Bytes
 origins_of book = map (λ one. one.origin) book
 
 -- every origin's steps are a chain, and no origin stands there twice
-pub record IsSound (H : List ℕ → List ℕ) (book : List Witnessed) : Type 0 where
+pub record IsSound (H : Digest) (book : List Witnessed) : Type 0 where
   pub lawful : IsLawful H book
   pub once : ¬ (HasTwice (origins_of book))
 
 -- every book that is opened is sound
 abbrev pub OpenedBooksAreSound : Type 0
 OpenedBooksAreSound =
-    (H : List ℕ → List ℕ) (trusts : List Trusted) (chains : List SavedChain) (book : List Witnessed) → OpensBook H trusts chains book → IsSound H book
+    (H : Digest) (trusts : List Trusted) (chains : List SavedChain) (book : List Witnessed) → OpensBook H trusts chains book → IsSound H book
 
 -- a request with this checkpoint was answered with 200
-pub record IsCosigned (H : List ℕ → List ℕ) (checkpoint : Head) (out : BookOutcome) : Type 0 where
-  pub body : List ℕ
+pub record IsCosigned (H : Digest) (checkpoint : Head) (out : BookOutcome) : Type 0 where
+  pub body : Bytes
   pub time : ℕ
   pub request : Body
   pub signed : Signed
@@ -39,11 +40,11 @@ pub record IsCosigned (H : List ℕ → List ℕ) (checkpoint : Head) (out : Boo
   pub status : out.status ≡ 200
 
 -- the checkpoint's size and root are those of these entries
-abbrev pub IsHeadOf : (List ℕ → List ℕ) → List (List ℕ) → Head → Type 0
+abbrev pub IsHeadOf : Digest → List Bytes → Head → Type 0
 IsHeadOf H entries checkpoint = (checkpoint.size ≡ length entries) × (checkpoint.root ≡ tree_hash H entries)
 
 -- by these links the chain of an origin grew from one book to a later one
-pub record GrewBy (book later : List Witnessed) (origin : List ℕ) (links : List Step) : Type 0 where
+pub record GrewBy (book later : List Witnessed) (origin : Bytes) (links : List Step) : Type 0 where
   pub place : ℕ
   pub one : Witnessed
   pub after : Witnessed
@@ -53,7 +54,7 @@ pub record GrewBy (book later : List Witnessed) (origin : List ℕ) (links : Lis
 
 -- a run of a book in which two requests, the first before the second, were answered with 200 for one origin,
 -- whatever came before, between and after
-pub record CosignsTwice (H : List ℕ → List ℕ) (first second : BookOutcome) (earlier later : Head) : Type 0 where
+pub record CosignsTwice (H : Digest) (first second : BookOutcome) (earlier later : Head) : Type 0 where
   pub book : List Witnessed
   pub last : List Witnessed
   pub before : List BookOutcome
@@ -69,8 +70,8 @@ pub record CosignsTwice (H : List ℕ → List ℕ) (first second : BookOutcome)
 -- byte strings that are hashed for an audit over the links between have one digest
 abbrev pub CosignedExtendOrCollide : Type 0
 CosignedExtendOrCollide =
-    (H : List ℕ → List ℕ) → ((message : List ℕ) → HasHashLength (H message))
+    (H : Digest) → ((message : Bytes) → HasHashLength (H message))
     → (first second : BookOutcome) (earlier later : Head) → CosignsTwice H first second earlier later
-    → (old new : List (List ℕ)) → IsHeadOf H old earlier → IsHeadOf H new later
+    → (old new : List Bytes) → IsHeadOf H old earlier → IsHeadOf H new later
     → (links : List Step) × GrewBy first.book_after second.book_after earlier.origin links
-    × (IsPrefix old new ⊎ ((x : List ℕ) × (y : List ℕ) × Exhibits H x y (audit_inputs H old new links)))
+    × (IsPrefix old new ⊎ ((x : Bytes) × (y : Bytes) × Exhibits H x y (audit_inputs H old new links)))

@@ -1,5 +1,6 @@
 -- What a witness answers to a request for one origin, and what it then keeps (C2SP tlog-witness, "add-checkpoint").
 use Rattle.std.specs.Prelude.{◌≡◌, ℕ, ◌<◌, ◌≤◌, ◌⊎◌, List, []}
+use Rattle.tl_hash.specs.Bytes.{Bytes, Digest}
 use Rattle.tl_text.specs.Text.{line, number_text}
 use Rattle.tl_note.specs.Note.{Signature}
 use Rattle.tl_note.specs.Open.{Opened}
@@ -14,14 +15,14 @@ use Rattle.tl_witness.specs.Witnessed.{Witnessed, with_step}
 pub record Asked : Type 0 where
   pub old : ℕ
   pub step : Step
-  pub text : List ℕ
+  pub text : Bytes
   pub lines : List Signature
   pub time : ℕ
 
 -- what came of it: the reply, and the saver and the origin before and after
 pub record Outcome : Type 0 where
   pub status : ℕ
-  pub body : List ℕ
+  pub body : Bytes
   pub saved : Saved
   pub saved_after : Saved
   pub one : Witnessed
@@ -62,7 +63,7 @@ Settles out size asked =
     ⊎ (Attests out asked × KeepsStep out size asked.step)
 
 -- the cases from the last head on, of which the first that applies decides
-abbrev pub DecidesFrom : (List ℕ → List ℕ) → TreeHead → Asked → Outcome → Type 0
+abbrev pub DecidesFrom : Digest → TreeHead → Asked → Outcome → Type 0
 DecidesFrom H last asked out =
     Unless (asked.old ≤ asked.step.size) (Refuses out 400)
     (Unless (asked.old ≡ last.size) (Conflicts out last.size)
@@ -71,6 +72,6 @@ DecidesFrom H last asked out =
     (Settles out last.size asked))))
 
 -- the same where the note is open to the origin's verifiers, and 403 else
-abbrev pub Decides : (List ℕ → List ℕ) → Asked → Outcome → Type 0
+abbrev pub Decides : Digest → Asked → Outcome → Type 0
 Decides H asked out =
     Unless (Opened out.one.verifiers asked.text asked.lines) (Refuses out 403) (DecidesFrom H (last_head (first_head H) out.one.chain) asked out)

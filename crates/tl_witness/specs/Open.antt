@@ -2,6 +2,7 @@
 -- tlog-witness, "Configuration" and "add-checkpoint"). H is the digest function.
 use Rattle.std.specs.Prelude.{◌≡◌, ℕ, ◌⊎◌, List, [], ◌∷◌, Some, slice_get, take, map, All, length, ◌<◌}
 use Rattle.std.specs.List.{AllZip}
+use Rattle.tl_hash.specs.Bytes.{Bytes, Digest}
 use Rattle.tl_note.specs.Key.{Key, SigningKey, IsKeyName}
 use Rattle.tl_proof.specs.Acceptance.{Step}
 use Rattle.tl_witness.specs.declared.opening.BookFault.{BookFault}
@@ -11,23 +12,23 @@ use Rattle.tl_witness.specs.Witnessed.{Witnessed}
 
 -- whom a witness trusts for an origin, and its cosigner
 pub record Trusted : Type 0 where
-  pub origin : List ℕ
+  pub origin : Bytes
   pub verifiers : List Key
   pub cosigner : SigningKey
 
 -- a chain that was saved, and its origin
 pub record SavedChain : Type 0 where
-  pub origin : List ℕ
+  pub origin : Bytes
   pub steps : List Step
 
-abbrev pub saved_chain : List ℕ → List Step → SavedChain
+abbrev pub saved_chain : Bytes → List Step → SavedChain
 saved_chain origin steps = record { origin = origin; steps = steps }
 
 -- the origins of trusts, and of chains
-abbrev pub trusted_origins : List Trusted → List (List ℕ)
+abbrev pub trusted_origins : List Trusted → List Bytes
 trusted_origins trusts = map (λ trust. trust.origin) trusts
 
-abbrev pub chain_origins : List SavedChain → List (List ℕ)
+abbrev pub chain_origins : List SavedChain → List Bytes
 chain_origins chains = map (λ chain. chain.origin) chains
 
 -- x is one of these
@@ -41,7 +42,7 @@ HasTwice [] = ⊥
 HasTwice (x ∷ xs) = IsAmong x xs ⊎ HasTwice xs
 
 -- a key's name and identifier
-abbrev pub key_name : Key → List ℕ × ℕ
+abbrev pub key_name : Key → Bytes × ℕ
 key_name key = (key.name, key.id)
 
 -- no two verifiers have one name and identifier
@@ -62,22 +63,22 @@ pub record IsFirstNot {A : Type 0} (IsSo : A → Type 0) (xs : List A) (place : 
   pub before : All IsSo (take place xs)
 
 -- every chain is of an origin that is trusted
-abbrev pub IsTrusted : List Trusted → List ℕ → Type 0
+abbrev pub IsTrusted : List Trusted → Bytes → Type 0
 IsTrusted trusts origin = IsAmong origin (trusted_origins trusts)
 
 -- the names of cosigners
-abbrev pub cosigner_names : List Trusted → List (List ℕ)
+abbrev pub cosigner_names : List Trusted → List Bytes
 cosigner_names trusts = map (λ t. t.cosigner.name) trusts
 
 -- the first step that isn't accepted from the one before
-pub record IsFirstBreak (H : List ℕ → List ℕ) (steps : List Step) (place : ℕ) : Type 0 where
+pub record IsFirstBreak (H : Digest) (steps : List Step) (place : ℕ) : Type 0 where
   pub step : Step
   pub there : slice_get steps place ≡ Some step
   pub before : IsChain H (take place steps)
   pub breaks : ¬ (Follows H (last_head (first_head H) (take place steps)) step)
 
 -- the first chain that breaks, and where it first does
-pub record IsFirstBroken (H : List ℕ → List ℕ) (chains : List SavedChain) (place link : ℕ) : Type 0 where
+pub record IsFirstBroken (H : Digest) (chains : List SavedChain) (place link : ℕ) : Type 0 where
   pub broken : SavedChain
   pub there : slice_get chains place ≡ Some broken
   pub before : All (λ chain. IsChain H chain.steps) (take place chains)
@@ -85,7 +86,7 @@ pub record IsFirstBroken (H : List ℕ → List ℕ) (chains : List SavedChain) 
 
 -- why a book is not opened: the first of these that applies, or that memory was refused where there is a trust or a
 -- chain
-abbrev pub RefusesBook : (List ℕ → List ℕ) → List Trusted → List SavedChain → BookFault → Type 0
+abbrev pub RefusesBook : Digest → List Trusted → List SavedChain → BookFault → Type 0
 RefusesBook H trusts chains TwiceNamed = ¬ (AreNamedOnce trusts chains)
 RefusesBook H trusts chains (NoTrust place) = AreNamedOnce trusts chains × IsFirstNot (IsTrusted trusts) (chain_origins chains) place
 RefusesBook H trusts chains (BadName place) =
@@ -102,7 +103,7 @@ pub record IsKept (chains : List SavedChain) (trust : Trusted) (one : Witnessed)
   pub chain : IsAmong (saved_chain trust.origin one.chain) chains ⊎ (¬ (IsAmong trust.origin (chain_origins chains)) × (one.chain ≡ []))
 
 -- the book keeps what is kept for each trust, in order
-pub record OpensBook (H : List ℕ → List ℕ) (trusts : List Trusted) (chains : List SavedChain) (book : List Witnessed) : Type 0 where
+pub record OpensBook (H : Digest) (trusts : List Trusted) (chains : List SavedChain) (book : List Witnessed) : Type 0 where
   pub once : AreNamedOnce trusts chains
   pub trusted : All (IsTrusted trusts) (chain_origins chains)
   pub named : All IsKeyName (cosigner_names trusts)

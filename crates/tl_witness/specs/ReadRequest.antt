@@ -1,6 +1,6 @@
 -- What reading a request answers (C2SP tlog-witness, "add-checkpoint").
 use Rattle.std.specs.Prelude.{◌≡◌, ◌≢◌, ℕ, ◌<◌, ◌≤◌, List, ◌∷◌, ◌++◌, length, All, IsUtf8, Result, Ok, Err}
-use Rattle.tl_hash.specs.Bytes.{IsHash}
+use Rattle.tl_hash.specs.Bytes.{Bytes, IsHash}
 use Rattle.tl_text.specs.Text.{line, base64_text}
 use Rattle.tl_witness.specs.declared.request.AddRequest.{AddRequest}
 use Rattle.tl_witness.specs.declared.request.RequestFault.{RequestFault}
@@ -12,26 +12,26 @@ abbrev pub body_of : {A : Type 0} → AddRequest A → Body
 body_of request = record { old = request.old; proof = request.proof; note = request.note.now }
 
 -- the request that the bytes are, or that they are none; memory is asked for the hashes of a request
-abbrev pub ParsesRequest : {A : Type 0} → List ℕ → Result (AddRequest A) RequestFault → Type 0
+abbrev pub ParsesRequest : {A : Type 0} → Bytes → Result (AddRequest A) RequestFault → Type 0
 ParsesRequest bytes (Ok request) = IsRequest bytes (body_of request)
 ParsesRequest bytes (Err Malformed) = (request : Body) → ¬ (IsRequest bytes request)
 ParsesRequest bytes (Err OutOfMemory) = (request : Body) × IsRequest bytes request × (0 < length request.proof)
 
 -- the text is the lines of these hashes, at most 63, an empty line and the note
-pub record IsProofText (text : List ℕ) (proof : List (List ℕ)) (note : List ℕ) : Type 0 where
+pub record IsProofText (text : Bytes) (proof : List Bytes) (note : Bytes) : Type 0 where
   pub few : length proof ≤ 63
   pub hashes : All IsHash proof
   pub utf8 : IsUtf8 note
   pub spelled : text ≡ hash_lines proof ++ 10 ∷ note
 
 -- the text is that of so many hashes and this note
-abbrev pub HasProof : List ℕ → ℕ → List ℕ → Type 0
-HasProof text count note = (proof : List (List ℕ)) × IsProofText text proof note × (length proof ≡ count)
+abbrev pub HasProof : Bytes → ℕ → Bytes → Type 0
+HasProof text count note = (proof : List Bytes) × IsProofText text proof note × (length proof ≡ count)
 
 -- no hashes and no note have this text
-abbrev pub HasNoProof : List ℕ → Type 0
-HasNoProof text = (proof : List (List ℕ)) (note : List ℕ) → ¬ (IsProofText text proof note)
+abbrev pub HasNoProof : Bytes → Type 0
+HasNoProof text = (proof : List Bytes) (note : Bytes) → ¬ (IsProofText text proof note)
 
 -- the text doesn't begin with the line of a hash
-abbrev pub HasNoHashLine : List ℕ → Type 0
-HasNoHashLine text = (hash rest : List ℕ) → IsHash hash → text ≢ line (base64_text hash) ++ rest
+abbrev pub HasNoHashLine : Bytes → Type 0
+HasNoHashLine text = (hash rest : Bytes) → IsHash hash → text ≢ line (base64_text hash) ++ rest

@@ -1,14 +1,14 @@
 -- The body of an add-checkpoint request (C2SP tlog-witness, "add-checkpoint").
 use Rattle.std.specs.Prelude.{◌≡◌, ℕ, ◌≤◌, List, ◌∷◌, ◌++◌, length, All, IsUtf8, codes}
 use Rattle.std.specs.List.{flat_map}
-use Rattle.tl_hash.specs.Bytes.{IsHash}
+use Rattle.tl_hash.specs.Bytes.{Bytes, IsHash}
 use Rattle.tl_text.specs.Text.{line, number_text, base64_text, IsSize}
 
 -- what a body says: the old size, the consistency proof, the signed checkpoint
 pub record Body : Type 0 where
   pub old : ℕ
-  pub proof : List (List ℕ)
-  pub note : List ℕ
+  pub proof : List Bytes
+  pub note : Bytes
 
 -- what has a body: at most 63 hashes, and a note in UTF-8, of which nothing else is asked here
 pub record IsBody (b : Body) : Type 0 where
@@ -18,14 +18,14 @@ pub record IsBody (b : Body) : Type 0 where
   pub utf8 : IsUtf8 b.note
 
 -- hashes, one on each line
-abbrev pub hash_lines : List (List ℕ) → List ℕ
+abbrev pub hash_lines : List Bytes → Bytes
 hash_lines hashes = flat_map (λ hash. line (base64_text hash)) hashes
 
 -- the old size, the proof, an empty line, the note
-abbrev pub body_text : Body → List ℕ
+abbrev pub body_text : Body → Bytes
 body_text b = line (codes "old " ++ number_text b.old) ++ hash_lines b.proof ++ 10 ∷ b.note
 
 -- the bytes are this body
-pub record IsRequest (bytes : List ℕ) (b : Body) : Type 0 where
+pub record IsRequest (bytes : Bytes) (b : Body) : Type 0 where
   pub lawful : IsBody b
   pub spelled : bytes ≡ body_text b

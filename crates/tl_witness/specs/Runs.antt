@@ -1,5 +1,6 @@
 -- Runs of a witness: any list of requests, with any faults. H is the digest function.
 use Rattle.std.specs.Prelude.{◌≡◌, ℕ, ◌+◌, ◌⊎◌, List, [], ◌∷◌, ◌++◌, Some, slice_get, drop}
+use Rattle.tl_hash.specs.Bytes.{Bytes, Digest}
 use Rattle.tl_proof.specs.Acceptance.{Step, Linked}
 use Rattle.tl_proof.specs.Laws.{MadeOfHashes}
 use Rattle.tl_witness.specs.Chain.{first_head, last_head, IsLinked, IsChain}
@@ -9,14 +10,14 @@ use Rattle.tl_witness.specs.Answers.{Answers}
 use Rattle.tl_witness.specs.Book.{BookOutcome, IsLawful}
 
 -- a chain that grew from a chain: what came after is linked from where the first led
-abbrev pub IsLaterChain : (List ℕ → List ℕ) → List Step → List Step → Type 0
+abbrev pub IsLaterChain : Digest → List Step → List Step → Type 0
 IsLaterChain H chain later =
     IsChain H later
     × ((more : List Step) × (later ≡ chain ++ more) × IsLinked H (last_head (first_head H) chain) more)
 
 -- what came of one request after another to one origin, each decided by the cases of a request, or 500 with nothing
 -- changed
-abbrev pub IsRun : (List ℕ → List ℕ) → Witnessed → List Outcome → Witnessed → Type 0
+abbrev pub IsRun : Digest → Witnessed → List Outcome → Witnessed → Type 0
 IsRun H one [] last = last ≡ one
 IsRun H one (out ∷ outs) last =
     (out.one ≡ one)
@@ -26,38 +27,38 @@ IsRun H one (out ∷ outs) last =
 -- a chain stays a chain and begins with what it was, and the steps between lead from the one to the other
 abbrev pub ChainsOnlyGrow : Type 0
 ChainsOnlyGrow =
-    (H : List ℕ → List ℕ) (one last : Witnessed) (outs : List Outcome)
+    (H : Digest) (one last : Witnessed) (outs : List Outcome)
     → IsChain H one.chain → IsRun H one outs last → IsLaterChain H one.chain last.chain
 
 -- the same of a whole book
-abbrev pub IsBookRun : (List ℕ → List ℕ) → List Witnessed → List BookOutcome → List Witnessed → Type 0
+abbrev pub IsBookRun : Digest → List Witnessed → List BookOutcome → List Witnessed → Type 0
 IsBookRun H book [] last = last ≡ book
 IsBookRun H book (out ∷ outs) last =
     (out.book ≡ book)
-    × ((body : List ℕ) × (time : ℕ) × Answers H body time out)
+    × ((body : Bytes) × (time : ℕ) × Answers H body time out)
     × IsBookRun H out.book_after outs last
 
 -- one origin, later: trusted and cosigned for as before, with a chain that grew
-pub record IsLater (H : List ℕ → List ℕ) (one later : Witnessed) : Type 0 where
+pub record IsLater (H : Digest) (one later : Witnessed) : Type 0 where
   pub origin : later.origin ≡ one.origin
   pub verifiers : later.verifiers ≡ one.verifiers
   pub cosigner : later.cosigner ≡ one.cosigner
   pub chain : IsLaterChain H one.chain later.chain
 
 -- each place of the later book is that of the earlier one, later
-abbrev pub IsLaterBook : (List ℕ → List ℕ) → List Witnessed → List Witnessed → Type 0
+abbrev pub IsLaterBook : Digest → List Witnessed → List Witnessed → Type 0
 IsLaterBook H [] later = later ≡ []
 IsLaterBook H (one ∷ book) later = (after : Witnessed) × (rest : List Witnessed) × (later ≡ after ∷ rest) × IsLater H one after × IsLaterBook H book rest
 
 -- over a whole run each origin keeps its place, its verifiers and its cosigner, and its chain only grows
 abbrev pub BooksOnlyGrow : Type 0
 BooksOnlyGrow =
-    (H : List ℕ → List ℕ) (book last : List Witnessed) (outs : List BookOutcome)
+    (H : Digest) (book last : List Witnessed) (outs : List BookOutcome)
     → IsLawful H book → IsBookRun H book outs last → IsLaterBook H book last
 
 -- the steps after one of a chain are linked from it, and all of them from size 0 and the hash of no bytes
 abbrev pub ChainsAreLinkedFromEachStep : Type 0
 ChainsAreLinkedFromEachStep =
-    (H : List ℕ → List ℕ) (chain : List Step) → IsChain H chain
+    (H : Digest) (chain : List Step) → IsChain H chain
     → Linked H 0 (H []) chain
     × ((place : ℕ) (step : Step) → slice_get chain place ≡ Some step → Linked H step.size step.root (drop (place + 1) chain))

@@ -1,15 +1,16 @@
 -- What a saver shows: it is asked to keep each link before the witness cosigns (C2SP tlog-witness,
 -- "add-checkpoint": persist before responding).
 use Rattle.std.specs.Prelude.{◌≡◌, ℕ, ◌<◌, ◌-◌, ◌^◌, ◌⊎◌, List, [], ◌∷◌, ◌++◌}
+use Rattle.tl_hash.specs.Bytes.{Bytes}
 use Rattle.tl_proof.specs.Acceptance.{Step}
 
 -- how many saves failed, and the origins and steps that were saved, in order
 pub record Saved : Type 0 where
   pub failures : ℕ
-  pub links : List (List ℕ × Step)
+  pub links : List (Bytes × Step)
 
 -- this step of this origin was saved, once and behind the others, and no failure counted
-abbrev pub Keeps : Saved → Saved → List ℕ → Step → Type 0
+abbrev pub Keeps : Saved → Saved → Bytes → Step → Type 0
 Keeps before after origin step = (after.failures ≡ before.failures) × (after.links ≡ before.links ++ (origin, step) ∷ [])
 
 -- a failure was counted, or the count can go no further; nothing was saved

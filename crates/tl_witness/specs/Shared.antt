@@ -1,6 +1,7 @@
 -- What is known of a request to a witness that threads share: other requests may come before it (C2SP tlog-witness,
 -- "add-checkpoint"). H is the digest function, and a book shows what was handed in.
 use Rattle.std.specs.Prelude.{◌≡◌, ℕ, ◌⊎◌, List, [], vec_items}
+use Rattle.tl_hash.specs.Bytes.{Bytes, Digest}
 use Rattle.tl_proof.specs.Acceptance.{Step}
 use Rattle.tl_witness.specs.declared.reply.Reply.{Reply}
 use Rattle.tl_witness.specs.Answers.{AsksForMemory}
@@ -15,7 +16,7 @@ use Rattle.tl_witness.specs.Witnessed.{Witnessed}
 -- the reply, and the saver before and after
 pub record Answer : Type 0 where
   pub status : ℕ
-  pub body : List ℕ
+  pub body : Bytes
   pub saved : Saved
   pub saved_after : Saved
 
@@ -29,7 +30,7 @@ RefusesAnswer answer status = (answer.status ≡ status) × (answer.body ≡ [])
 
 -- the answer is the decision's for this origin as it is when the request comes to its turn: with its own verifiers
 -- and cosigner, and with a chain that begins with the one that was handed in
-pub record DecidesLater (H : List ℕ → List ℕ) (one : Witnessed) (asked : Asked) (answer : Answer) : Type 0 where
+pub record DecidesLater (H : Digest) (one : Witnessed) (asked : Asked) (answer : Answer) : Type 0 where
   pub now : Witnessed
   pub after : Witnessed
   pub later : IsLater H one now
@@ -43,7 +44,7 @@ pub record DecidesLater (H : List ℕ → List ℕ) (one : Witnessed) (asked : A
   })
 
 -- the cases of a request, of which the first that applies decides
-abbrev pub DecidesShared : (List ℕ → List ℕ) → List Witnessed → List ℕ → ℕ → Answer → Type 0
+abbrev pub DecidesShared : Digest → List Witnessed → Bytes → ℕ → Answer → Type 0
 DecidesShared H book body time answer =
     UnlessSome (IsRequest body) (RefusesAnswer answer 400) (λ request.
     UnlessSome (IsSigned request.note) (RefusesAnswer answer 400) (λ signed.
@@ -51,9 +52,9 @@ DecidesShared H book body time answer =
     DecidesLater H placed.one (asked_of request signed time) answer)))
 
 -- the cases of a request; or 500 with nothing saved, where memory was asked for
-abbrev pub AnswersShared : (List ℕ → List ℕ) → List Witnessed → List ℕ → ℕ → Answer → Type 0
+abbrev pub AnswersShared : Digest → List Witnessed → Bytes → ℕ → Answer → Type 0
 AnswersShared H book body time answer = DecidesShared H book body time answer ⊎ (AsksForMemory body × RefusesAnswer answer 500)
 
 -- of the origin at some place: a later chain of it, of which this holds
-abbrev pub IsOfLaterChain : (List ℕ → List ℕ) → List Witnessed → List ℕ → (List Step → Type 0) → Type 0
+abbrev pub IsOfLaterChain : Digest → List Witnessed → Bytes → (List Step → Type 0) → Type 0
 IsOfLaterChain H book origin IsSo = (placed : Placed) × IsPlacedIn book origin placed × (later : List Step) × IsLaterChain H placed.one.chain later × IsSo later

@@ -1,11 +1,12 @@
 -- What a witness keeps of one origin.
-use Rattle.std.specs.Prelude.{ℕ, List, ◌++◌, ◌∷◌, []}
+use Rattle.std.specs.Prelude.{List, ◌++◌, ◌∷◌, []}
+use Rattle.tl_hash.specs.Bytes.{Bytes}
 use Rattle.tl_note.specs.Key.{Key, SigningKey}
 use Rattle.tl_proof.specs.Acceptance.{Step}
 
 -- one origin: whom the witness trusts for it, its cosigner, and its chain
 pub record Witnessed : Type 0 where
-  pub origin : List ℕ
+  pub origin : Bytes
   pub verifiers : List Key
   pub cosigner : SigningKey
   pub chain : List Step
@@ -15,5 +16,5 @@ abbrev pub with_step : Witnessed → Step → Witnessed
 with_step one step = record one { chain = one.chain ++ step ∷ [] }
 
 -- the key under this name
-abbrev pub named_key : List ℕ → SigningKey → SigningKey
+abbrev pub named_key : Bytes → SigningKey → SigningKey
 named_key name key = record key { name = name }

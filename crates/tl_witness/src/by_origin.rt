@@ -1,6 +1,7 @@
 //! Finds the place of an origin in a list, in time that grows with the logarithm of the list's length.
 
-ghost use Rattle.std.specs.Prelude.{◌≡◌, ℕ, List, None, OnErr, OnOk};
+ghost use Rattle.std.specs.Prelude.{◌≡◌, None, OnErr, OnOk};
+ghost use Rattle.tl_hash.specs.Bytes.{Bytes};
 ghost use Rattle.tl_witness.specs.ByOrigin.{index_of};
 ghost use Rattle.tl_witness.specs.Inner.PutsOrigin.{PutsOrigin};
 
@@ -16,7 +17,7 @@ pub(crate) struct ByOrigin<A: Allocator> {
 impl<A: Allocator + Copy> ByOrigin<A> {
     /// No origin has a place. It takes no memory.
     pub(crate) fn new(alloc: A) -> Self
-        ensures { (origin : List ℕ) → index_of result origin ≡ None }
+        ensures { (origin : Bytes) → index_of result origin ≡ None }
     {
         ByOrigin {
             places: BTreeMap::new(alloc),
@@ -34,7 +35,7 @@ impl<A: Allocator + Copy> ByOrigin<A> {
     /// nothing.
     pub(crate) fn add(&mut self, alloc: A, origin: &str, place: usize) -> Result<(), AllocError>
         ensures added { OnOk result (PutsOrigin origin.now place (index_of self.old) (index_of self.new)) }
-        ensures kept { OnErr result ((other : List ℕ) → index_of self.new other ≡ index_of self.old other) }
+        ensures kept { OnErr result ((other : Bytes) → index_of self.new other ≡ index_of self.old other) }
     {
         self.places.insert(String::from_str(alloc, origin)?, place)?;
         Ok(())

@@ -1,7 +1,7 @@
 //! The fields of a chain line. Each reader takes exactly what has that spelling.
 
-ghost use Rattle.std.specs.Prelude.{◌≡◌, ℕ, IfOk, IsUtf8, List, MatchOption};
-ghost use Rattle.tl_hash.specs.Bytes.{IsHash};
+ghost use Rattle.std.specs.Prelude.{◌≡◌, IfOk, IsUtf8, List, MatchOption};
+ghost use Rattle.tl_hash.specs.Bytes.{Bytes, IsHash};
 ghost use Rattle.tl_text.specs.Text.{IsSize, base64_text, number_text};
 ghost use Rattle.tl_witness.specs.ChainFields.{AreHashes, field};
 ghost use Rattle.tl_witness.specs.Inner.ChainFields.{HasHashes, HasNoHash, HasNoHashes, HasNoNumber, IsNoChainLine};
@@ -59,8 +59,8 @@ pub(crate) fn read_hashes<A: Allocator>(
     count: usize,
     text: &str,
 ) -> Result<HashList<A>, AllocError>
-    requires { (rest : List ℕ) × HasHashes count text.now rest }
-    ensures { IfOk result (λ read. (hashes : List (List ℕ)) (rest : List ℕ) → AreHashes count text.now hashes rest → read ≡ hashes) }
+    requires { (rest : Bytes) × HasHashes count text.now rest }
+    ensures { IfOk result (λ read. (hashes : List Bytes) (rest : Bytes) → AreHashes count text.now hashes rest → read ≡ hashes) }
 {
     let mut hashes: Vec<Hash, A> = Vec::with_capacity(alloc, count)?;
     let mut left = text;

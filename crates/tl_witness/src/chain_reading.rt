@@ -1,6 +1,7 @@
 //! Reads the links that a witness saved, from their lines.
 
-ghost use Rattle.std.specs.Prelude.{◌≡◌, ◌==◌, ◌++◌, ◌∷◌, ℕ, IfOk, List, MatchOption, OnOk, position};
+ghost use Rattle.std.specs.Prelude.{◌≡◌, ◌==◌, ◌++◌, ◌∷◌, IfOk, MatchOption, OnOk, position};
+ghost use Rattle.tl_hash.specs.Bytes.{Bytes};
 ghost use Rattle.tl_proof.specs.Acceptance.{step_of};
 ghost use Rattle.tl_witness.specs.ByOrigin.{Indexes, index_of};
 ghost use Rattle.tl_witness.specs.ChainFields.{HasNoLine, IsWithout, PutsStep};
@@ -57,8 +58,8 @@ fn cut_line(bytes: &[u8]) -> Option<(&str, &[u8])>
 
 // The link of a line's fields.
 fn link_of<A: Allocator>(alloc: A, fields: &Fields<'_>) -> Result<Link<A>, AllocError>
-    requires { (words : List ℕ) × ShowsFields words fields.now }
-    ensures { IfOk result (λ link. (words : List ℕ) → ShowsFields words fields.now → IsLineOf words fields.now.origin.now (step_of link)) }
+    requires { (words : Bytes) × ShowsFields words fields.now }
+    ensures { IfOk result (λ link. (words : Bytes) → ShowsFields words fields.now → IsLineOf words fields.now.origin.now (step_of link)) }
 {
     let proof = read_hashes(alloc, fields.count, fields.hashes)?;
     Ok(Link {

@@ -1,6 +1,7 @@
 //! Where an origin stands in a list.
 
 ghost use Rattle.std.specs.Prelude.{◌≡◌, ◌≢◌, ◌<◌, ℕ, All, IfNone, IfOk, IfSome, MatchOption, None, OnErr, Some, length, map, slice_get};
+ghost use Rattle.tl_hash.specs.Bytes.{Bytes};
 ghost use Rattle.tl_witness.specs.ByOrigin.{Indexes, index_of};
 ghost use Rattle.tl_witness.specs.Open.{HasTwice, IsFirstNot};
 
@@ -11,7 +12,7 @@ use std::alloc::{AllocError, Allocator};
 pub(crate) trait OfOrigin {
     ghost use Rattle.std.specs.Prelude.{List, ℕ};
 
-    ghost origin_of: { Self → List ℕ };
+    ghost origin_of: { Self → Bytes };
 
     /// Its origin.
     fn origin(&self) -> &str

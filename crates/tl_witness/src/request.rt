@@ -1,7 +1,7 @@
 //! The body of an add-checkpoint request, read.
 
-ghost use Rattle.std.specs.Prelude.{◌≡◌, ◌++◌, ◌<◌, ℕ, IfOk, IsUtf8, List, MatchOption, OnErr};
-ghost use Rattle.tl_hash.specs.Bytes.{IsHash};
+ghost use Rattle.std.specs.Prelude.{◌≡◌, ◌++◌, ◌<◌, IfOk, IsUtf8, List, MatchOption, OnErr};
+ghost use Rattle.tl_hash.specs.Bytes.{Bytes, IsHash};
 ghost use Rattle.tl_text.specs.Text.{base64_text, line};
 ghost use Rattle.tl_witness.specs.ReadRequest.{HasNoHashLine, HasNoProof, HasProof, IsProofText, ParsesRequest};
 
@@ -92,8 +92,8 @@ fn cut_proof(text: &str) -> Option<(usize, &str)>
 
 // The hashes of so many lines before an empty line.
 fn read_hashes<A: Allocator>(alloc: A, count: usize, text: &str) -> Result<HashList<A>, AllocError>
-    requires { (note : List ℕ) × HasProof text.now count note }
-    ensures read { IfOk result (λ hashes. (proof : List (List ℕ)) (note : List ℕ) → IsProofText text.now proof note → hashes ≡ proof) }
+    requires { (note : Bytes) × HasProof text.now count note }
+    ensures read { IfOk result (λ hashes. (proof : List Bytes) (note : Bytes) → IsProofText text.now proof note → hashes ≡ proof) }
     ensures refused { OnErr result (0 < count) }
 {
     let mut hashes: Vec<Hash, A> = Vec::with_capacity(alloc, count)?;

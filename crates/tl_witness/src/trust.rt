@@ -1,6 +1,7 @@
 //! Whom a witness trusts for an origin.
 
 ghost use Rattle.std.specs.Prelude.{◌≡◌, ◌↔◌, All, IsTrue, MatchOption, map, string_bytes};
+ghost use Rattle.tl_hash.specs.Bytes.{Bytes};
 ghost use Rattle.tl_note.specs.Key.{IsKeyName};
 ghost use Rattle.tl_witness.specs.Open.{HasEachKeyOnce, HasTwice, IsAmong, IsFirstNot, key_name};
 
@@ -95,7 +96,7 @@ pub(crate) trait HasKeys {
 
     ghost keys: { Self → List Key };
 
-    ghost cosigner_name: { Self → List ℕ };
+    ghost cosigner_name: { Self → Bytes };
 
     /// Whether no two verifiers have one name and identifier.
     fn has_each_key_once(&self) -> bool

@@ -1,6 +1,7 @@
 -- What the parts of `build` answer.
 use Rattle.std.specs.Prelude.{◌≡◌, ℕ, List, length, Contains, None, Some, Option, Result, Ok, Err}
 use Rattle.std.specs.declared.vec.Vec.{Vec}
+use Rattle.tl_hash.specs.Bytes.{Bytes}
 use Rattle.tl_tile.specs.declared.resource.Resource.{Resource}
 use Rattle.tl_tile.specs.Path.{IsResource, path_text}
 use Rattle.tl_command.specs.declared.fault.RunFault.{RunFault}
@@ -11,14 +12,14 @@ use Rattle.tl_build.specs.Mirror.{checkpoint_note, mirrored, resource_text, list
 use Rattle.tl_build.specs.Build.{IsLawfulPath}
 
 -- the resource with the path that was asked for
-abbrev pub IsAsked : Option (List ℕ) → Option Resource → Type 0
+abbrev pub IsAsked : Option Bytes → Option Resource → Type 0
 IsAsked None None = Unit {0}
 IsAsked None (Some r) = ⊥
 IsAsked (Some path) None = ⊥
 IsAsked (Some path) (Some r) = IsResource r × (path_text r ≡ path)
 
 -- reading the path that was asked for
-abbrev pub ReadsPath : Option (List ℕ) → Result (Option Resource) RunFault → Type 0
+abbrev pub ReadsPath : Option Bytes → Result (Option Resource) RunFault → Type 0
 ReadsPath get (Ok wanted) = IsAsked get wanted
 ReadsPath get (Err BadPath) = ¬ (IsLawfulPath get)
 ReadsPath get (Err fault) = ⊥
@@ -29,19 +30,19 @@ IsServed resources None = Unit {0}
 IsServed resources (Some r) = Contains resources r
 
 -- what is shown of the log of these entries: the listing, or the resource that is wanted
-abbrev pub IsShown : List ℕ → List (List ℕ) → Option Resource → List ℕ → Type 0
+abbrev pub IsShown : Bytes → List Bytes → Option Resource → Bytes → Type 0
 IsShown note entries None text = text ≡ listing_text note entries (mirrored (length entries))
 IsShown note entries (Some r) text = Contains (mirrored (length entries)) r × (text ≡ resource_text note entries r)
 
 -- what is shown, or that the log has no such resource
-abbrev pub AnswersWanted : {A : Type 0} → List ℕ → List (List ℕ) → Option Resource → Result (Vec ℕ A) RunFault → Type 0
+abbrev pub AnswersWanted : {A : Type 0} → Bytes → List Bytes → Option Resource → Result (Vec ℕ A) RunFault → Type 0
 AnswersWanted note entries wanted (Ok text) = IsShown note entries wanted text.items
 AnswersWanted note entries wanted (Err NotThere) = ¬ (IsServed (mirrored (length entries)) wanted)
 AnswersWanted note entries wanted (Err OutOfMemory) = Unit {0}
 AnswersWanted note entries wanted (Err fault) = ⊥
 
 -- what comes of an input where this resource, or the listing, is wanted
-abbrev pub WantedComes : List ℕ → List ℕ → Option Resource → List ℕ → Outcome → Type 0
+abbrev pub WantedComes : Bytes → Bytes → Option Resource → Bytes → Outcome → Type 0
 WantedComes origin secret wanted input (Prints text) =
     (first_too_long (entries_of input) ≡ None) × IsShown (checkpoint_note origin secret (entries_of input)) (entries_of input) wanted text
 WantedComes origin secret wanted input (PrintsRefusal text) = ⊥

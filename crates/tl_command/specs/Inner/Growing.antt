@@ -1,6 +1,7 @@
 -- The log of an input's lines while the input is read: words of the private clauses of the command `head`.
-use Rattle.std.specs.Prelude.{◌≡◌, ℕ, List, ◌++◌, take, All, MatchOption, None, Some, Result, Ok, Err, vec_items}
+use Rattle.std.specs.Prelude.{◌≡◌, List, ◌++◌, take, All, MatchOption, None, Some, Result, Ok, Err, vec_items}
 use Rattle.sha2.specs.Sha256.{sha256}
+use Rattle.tl_hash.specs.Bytes.{Bytes}
 use Rattle.tl_tile.specs.RightEdge.{EdgeContents, IsEdgeOf}
 use Rattle.tl_device.specs.Device.{Passage, IsSteady, HasFailed, ReadWhole, ReadPast}
 use Rattle.tl_command.specs.Lines.{entries_of, first_too_long, lines_text, HasNoNewline}
@@ -10,14 +11,14 @@ use Rattle.tl_command.specs.declared.fault.RunFault.{RunFault}
 use Rattle.tl_command.specs.declared.fault.RunFault.TheVariants.{Read, TooLarge, EntryTooLong, OutOfMemory}
 
 -- the edge is that of the lines, or the place of the first that is too long is noted
-abbrev pub IsTold : {A : Type 0} → Growing A → List (List ℕ) → Type 0
+abbrev pub IsTold : {A : Type 0} → Growing A → List Bytes → Type 0
 IsTold g lines = MatchOption g.too_long ((first_too_long lines ≡ None) × IsEdgeOf g.edge sha256 lines) (λ place. first_too_long lines ≡ Some place)
 
 -- the input so far is whole lines and the beginning of one more, of which no more is kept than tells that it is too
 -- long; the edge is that of the lines, unless one of them is too long
-pub record IsGrowing {A : Type 0} (g : Growing A) (input : List ℕ) : Type 0 where
-  pub lines : List (List ℕ)
-  pub last : List ℕ
+pub record IsGrowing {A : Type 0} (g : Growing A) (input : Bytes) : Type 0 where
+  pub lines : List Bytes
+  pub last : Bytes
   pub whole : input ≡ lines_text lines ++ last
   pub plain : All HasNoNewline lines
   pub last_plain : HasNoNewline last
@@ -25,7 +26,7 @@ pub record IsGrowing {A : Type 0} (g : Growing A) (input : List ℕ) : Type 0 wh
   pub told : IsTold g lines
 
 -- the edge is that of these lines, of which none is too long, or the place of the first that is
-abbrev pub IsOutcome : List (List ℕ) → Result EdgeContents RunFault → Type 0
+abbrev pub IsOutcome : List Bytes → Result EdgeContents RunFault → Type 0
 IsOutcome lines (Ok edge) = (first_too_long lines ≡ None) × IsEdgeOf edge sha256 lines
 IsOutcome lines (Err (EntryTooLong place)) = first_too_long lines ≡ Some place
 IsOutcome lines (Err OutOfMemory) = Unit {0}
@@ -33,7 +34,7 @@ IsOutcome lines (Err fault) = ⊥
 
 -- the whole input was read, no entry is too long, and the edge is that of its entries
 pub record ReadEdge (p : Passage) (edge : EdgeContents) : Type 0 where
-  pub input : List ℕ
+  pub input : Bytes
   pub whole : ReadWhole p most_input input
   pub short : first_too_long (entries_of input) ≡ None
   pub stands : IsEdgeOf edge sha256 (entries_of input)

@@ -1,6 +1,7 @@
 -- The parts of the entries whose tree hashes make up a proof: words of the provers' own clauses.
 use Rattle.std.specs.Prelude.{◌≡◌, ℕ, ◌-◌, ◌<◌, ◌≤◌, Bool, false, List, [], ◌∷◌, ◌++◌, length, take, drop, map, All, sum_by}
 use Rattle.std.specs.Int.RustNames.{count_ones}
+use Rattle.tl_hash.specs.Bytes.{Bytes, Digest}
 use Rattle.tl_hash.specs.Tree.{tree_of, tree_hash}
 use Rattle.tl_store.specs.Head.{IsAligned, AreCovering}
 use Rattle.tl_proof.specs.Proofs.{inclusion_proof, subproof}
@@ -14,11 +15,11 @@ pub record GrowsBy {X : Type 0} (P : List X → Type 0) (old new : List X) : Typ
   pub are : P added
 
 -- the entries from `start` up to `end`
-abbrev pub entries_in : ℕ → ℕ → List (List ℕ) → List (List ℕ)
+abbrev pub entries_in : ℕ → ℕ → List Bytes → List Bytes
 entries_in start end entries = take (end - start) (drop start entries)
 
 -- the tree hash of a segment of the entries
-abbrev pub segment_root : (List ℕ → List ℕ) → List (List ℕ) → Segment → List ℕ
+abbrev pub segment_root : Digest → List Bytes → Segment → Bytes
 segment_root H entries s = tree_hash H (entries_in s.start s.end entries)
 
 -- it is not empty, and begins where a complete subtree does that has it all
@@ -33,14 +34,14 @@ pub record IsNeeded (low needed : ℕ) (segments : List Segment) : Type 0 where
 
 -- the segments of an inclusion proof in the tree over the entries from `start` up to `end`
 pub record IsPathPlan (index start end : ℕ) (segments : List Segment) : Type 0 where
-  pub hashes : (H : List ℕ → List ℕ) (entries : List (List ℕ)) → end ≤ length entries
+  pub hashes : (H : Digest) (entries : List Bytes) → end ≤ length entries
       → map (segment_root H entries) segments ≡ inclusion_proof H (index - start) (entries_in start end entries)
   pub parts : IsAligned start end → All IsSegment segments
   pub needed : IsNeeded start (inclusion_needs end index) segments
 
 -- the segments of a consistency proof in the tree over the entries from `start` up to `end`
 pub record IsProofPlan (old start end : ℕ) (known : Bool) (segments : List Segment) : Type 0 where
-  pub hashes : (H : List ℕ → List ℕ) (entries : List (List ℕ)) → end ≤ length entries
+  pub hashes : (H : Digest) (entries : List Bytes) → end ≤ length entries
       → map (segment_root H entries) segments ≡ subproof H (old - start) (tree_of (entries_in start end entries)) known
   pub parts : IsAligned start end → All IsSegment segments
   pub most : All (λ s. s.end ≤ end) segments

@@ -1,6 +1,7 @@
 -- What each step of a read makes of the tiles that were fetched.
 use Rattle.std.specs.Prelude.{◌≡◌, ℕ, ◌+◌, ◌*◌, ◌/◌, ◌%◌, ◌^◌, ◌<◌, ◌≤◌, Bool, true, false, List, [], ◌∷◌, ◌++◌, All, Some, None, ◌⊎◌}
 use Rattle.std.specs.List.{AllZip}
+use Rattle.tl_hash.specs.Bytes.{Bytes, Digest}
 use Rattle.tl_store.specs.Stored.{stored_index}
 use Rattle.tl_tile.specs.declared.resource.Tile.{Tile}
 use Rattle.tl_tile.specs.declared.tile_reader.subtree.Subtree.{Subtree}
@@ -13,24 +14,24 @@ use Rattle.tl_tile.specs.Fetching.{IsOver, edge_from}
 use Rattle.tl_tile.specs.Verified.{AreInOrder}
 
 -- the tiles of a read so far, good or bad: answers of the source, in order
-pub record AreFetched (may_answer : Tile → List ℕ → Type 0) (H : List ℕ → List ℕ) (size : ℕ) (root : List ℕ) (fetched : List (Tile × List ℕ)) : Type 0 where
+pub record AreFetched (may_answer : Tile → Bytes → Type 0) (H : Digest) (size : ℕ) (root : Bytes) (fetched : List (Tile × Bytes)) : Type 0 where
   pub answers : AreAnswers may_answer size fetched
   pub order : AreInOrder H size root fetched
 
 -- the partial tiles from this level up were fetched, and no other tiles
-pub record AreEdgeFrom (size level : ℕ) (fetched : List (Tile × List ℕ)) : Type 0 where
+pub record AreEdgeFrom (size level : ℕ) (fetched : List (Tile × Bytes)) : Type 0 where
   pub tiles : tiles_in fetched ≡ edge_from size level
   pub long : AreLong (tiles_of fetched)
-  pub partial : (t : Tile) (text : List ℕ) → tiles_of fetched t ≡ Some text → (t.width < 256) × (level ≤ t.level)
-  pub edge : (l : ℕ) → level ≤ l → l < 8 → 0 < level_count size l % 256 → (text : List ℕ) × IsEdgeLevel (tiles_of fetched) size l text
+  pub partial : (t : Tile) (text : Bytes) → tiles_of fetched t ≡ Some text → (t.width < 256) × (level ≤ t.level)
+  pub edge : (l : ℕ) → level ≤ l → l < 8 → 0 < level_count size l % 256 → (text : Bytes) × IsEdgeLevel (tiles_of fetched) size l text
 
 -- this tile was added, or nothing
-abbrev pub AddsOnly : Tile → List (Tile × List ℕ) → List (Tile × List ℕ) → Type 0
-AddsOnly t before after = (after ≡ before) ⊎ ((text : List ℕ) × (after ≡ before ++ (t, text) ∷ []))
+abbrev pub AddsOnly : Tile → List (Tile × Bytes) → List (Tile × Bytes) → Type 0
+AddsOnly t before after = (after ≡ before) ⊎ ((text : Bytes) × (after ≡ before ++ (t, text) ∷ []))
 
 -- tiles were added, each over this place of a level of tiles
-pub record AddsOver (level place : ℕ) (before after : List (Tile × List ℕ)) : Type 0 where
-  pub added : List (Tile × List ℕ)
+pub record AddsOver (level place : ℕ) (before after : List (Tile × Bytes)) : Type 0 where
+  pub added : List (Tile × Bytes)
   pub joined : after ≡ before ++ added
   pub over : All (λ f. IsOver level place f.0) added
 
@@ -51,12 +52,12 @@ abbrev pub IsSubtreeOf : ℕ → Subtree → Type 0
 IsSubtreeOf size p = (p.level ≤ 62) × ((p.place + 1) * 2 ^ p.level ≤ size)
 
 -- the tiles have this hash for the subtree with this number among the stored hashes
-pub record IsHashOfNumber (H : List ℕ → List ℕ) (tiles : Tiles) (size index : ℕ) (hash : List ℕ) : Type 0 where
+pub record IsHashOfNumber (H : Digest) (tiles : Tiles) (size index : ℕ) (hash : Bytes) : Type 0 where
   pub subtree : Subtree
   pub within : IsSubtreeOf size subtree
   pub number : stored_index subtree.level subtree.place ≡ index
   pub hash_is : IsSubtreeHash H tiles size subtree.level subtree.place hash
 
 -- the hashes that the tiles have for the subtrees with these numbers
-abbrev pub AreHashesOf : (List ℕ → List ℕ) → Tiles → ℕ → List ℕ → List (List ℕ) → Type 0
+abbrev pub AreHashesOf : Digest → Tiles → ℕ → List ℕ → List Bytes → Type 0
 AreHashesOf H tiles size indexes hashes = AllZip (λ index hash. IsHashOfNumber H tiles size index hash) indexes hashes

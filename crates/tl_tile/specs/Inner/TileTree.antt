@@ -1,6 +1,7 @@
 -- All hashes that the hashes of a full tile fold to.
 use Rattle.std.specs.Prelude.{◌≡◌, ℕ, ◌+◌, ◌-◌, ◌*◌, ◌<◌, Option, Some, None, List, [], length, slice_index_or}
 use Rattle.std.specs.Int.{IsPowerOfTwo}
+use Rattle.tl_hash.specs.Bytes.{Bytes, Digest}
 use Rattle.tl_tile.specs.TileText.{full_tile}
 use Rattle.tl_tile.specs.Folds.{Tiles, IsHashAt}
 use Rattle.tl_tile.specs.Inner.EdgeRoot.{Part}
@@ -10,22 +11,22 @@ abbrev pub level_start : ℕ → ℕ
 level_start count = 512 - 2 * count
 
 -- the first of the 511 hashes of a tile's tree, the tile's own 256 before those of the next levels
-pub record IsTreeSoFar (H : List ℕ → List ℕ) (text : List ℕ) (made : ℕ) (hashes : List (List ℕ)) : Type 0 where
+pub record IsTreeSoFar (H : Digest) (text : Bytes) (made : ℕ) (hashes : List Bytes) : Type 0 where
   pub many : length hashes ≡ made
   pub own : (number : ℕ) → number < 256 → IsHashAt text number (slice_index_or hashes number [])
   pub parts : (count width place : ℕ) → IsPowerOfTwo width → count * width ≡ 256 → place < count → level_start count + place < made
       → Part H text (place * width) width (slice_index_or hashes (level_start count + place) [])
 
 -- the hashes of a tile's tree
-abbrev pub IsTileTree : (List ℕ → List ℕ) → List ℕ → List (List ℕ) → Type 0
+abbrev pub IsTileTree : Digest → Bytes → List Bytes → Type 0
 IsTileTree H text hashes = IsTreeSoFar H text 511 hashes
 
 -- the trees of full tiles, by level and index
 abbrev pub Trees : Type 0
-Trees = ℕ → ℕ → Option (List (List ℕ))
+Trees = ℕ → ℕ → Option (List Bytes)
 
 -- the trees of all full tiles that were fetched, and no others
-pub record AreTreesOf (H : List ℕ → List ℕ) (tiles : Tiles) (trees : Trees) : Type 0 where
-  pub found : (level index : ℕ) (hashes : List (List ℕ)) → trees level index ≡ Some hashes
-      → (text : List ℕ) × (tiles (full_tile level index) ≡ Some text) × IsTileTree H text hashes
+pub record AreTreesOf (H : Digest) (tiles : Tiles) (trees : Trees) : Type 0 where
+  pub found : (level index : ℕ) (hashes : List Bytes) → trees level index ≡ Some hashes
+      → (text : Bytes) × (tiles (full_tile level index) ≡ Some text) × IsTileTree H text hashes
   pub absent : (level index : ℕ) → trees level index ≡ None → tiles (full_tile level index) ≡ None

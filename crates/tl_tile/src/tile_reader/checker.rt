@@ -1,6 +1,7 @@
 //! Fetching tiles and checking each against a root.
 
 ghost use Rattle.std.specs.Prelude.{◌≡◌, ◌↔◌, ◌≤◌, ◌<◌, ◌+◌, ◌*◌, ◌/◌, ◌%◌, ◌^◌, ◌∷◌, ◌++◌, ℕ, List, [], length, IfErr, OnOk, IsTrue, MatchBool, Some, None};
+ghost use Rattle.tl_hash.specs.Bytes.{Bytes};
 ghost use Rattle.tl_tile.specs.TileText as spec;
 ghost use Rattle.tl_tile.specs.Fetched.{tiles_of, tiles_in};
 ghost use Rattle.tl_tile.specs.Source.{HasTileWith, IsHashWith, IsTileOf};
@@ -71,7 +72,7 @@ impl<T: TreeHash, S: TileSource> Checker<T, S> {
         requires narrow { tile.width ≤ 256 }
         requires next { ComesNext T.digest_of self.now.size self.now.root fetched.old tile }
         requires fetched { AreFetched (S.may_answer self.now.source) T.digest_of self.now.size self.now.root fetched.old }
-        ensures text { OnOk result ((text : List ℕ) × (fetched.new ≡ fetched.old ++ (tile, text) ∷ []) × (length text ≡ 32 * tile.width)) }
+        ensures text { OnOk result ((text : Bytes) × (fetched.new ≡ fetched.old ++ (tile, text) ∷ []) × (length text ≡ 32 * tile.width)) }
         ensures adds { AddsOnly tile fetched.old fetched.new }
         ensures fetched { AreFetched (S.may_answer self.now.source) T.digest_of self.now.size self.now.root fetched.new }
         ensures faults { IfErr result (GivesReadFault T.digest_of (λ t. S.may_lack self.now.source t × (t ≡ tile)) self.now.size self.now.root fetched.new) }
@@ -201,7 +202,7 @@ impl<T: TreeHash, S: TileSource> Checker<T, S> {
         requires verified { AreVerified T.digest_of self.now.size self.now.root fetched.old }
         requires trees { AreTreesOf T.digest_of (tiles_of fetched.old) (trees_in trees.old.map) }
         requires fetched { AreFetched (S.may_answer self.now.source) T.digest_of self.now.size self.now.root fetched.old }
-        ensures there { OnOk result ((text : List ℕ) × (tiles_of fetched.new (spec.full_tile level index) ≡ Some text)) }
+        ensures there { OnOk result ((text : Bytes) × (tiles_of fetched.new (spec.full_tile level index) ≡ Some text)) }
         ensures verified { OnOk result (AreVerified T.digest_of self.now.size self.now.root fetched.new) }
         ensures trees { OnOk result (AreTreesOf T.digest_of (tiles_of fetched.new) (trees_in trees.new.map)) }
         ensures adds { AddsOnly (spec.full_tile level index) fetched.old fetched.new }

@@ -1,6 +1,7 @@
 //! The root that the partial tiles fold to.
 
-ghost use Rattle.std.specs.Prelude.{◌≡◌, ◌+◌, ◌*◌, ◌<◌, ◌≤◌, ◌^◌, ℕ, List, length, IfOk, MatchOption};
+ghost use Rattle.std.specs.Prelude.{◌≡◌, ◌+◌, ◌*◌, ◌<◌, ◌≤◌, ◌^◌, List, length, IfOk, MatchOption};
+ghost use Rattle.tl_hash.specs.Bytes.{Bytes};
 ghost use Rattle.tl_tile.specs.TileText as spec;
 ghost use Rattle.tl_tile.specs.Folds.{IsEdgeRoot};
 ghost use Rattle.tl_tile.specs.FetchedEdge.{HasEdge};
@@ -82,7 +83,7 @@ pub(crate) fn edge_root<T: TreeHash, A: Allocator + Copy>(
     requires edge { HasEdge (tiles_of fetched.now) size }
     ensures { IfOk result (λ root. MatchOption root
         (size ≡ 0)
-        (λ hash. (strings : List (List ℕ))
+        (λ hash. (strings : List Bytes)
         × IsEdgeRoot T.digest_of (tiles_of fetched.now) size hash strings)) }
 {
     let mut root = None;

@@ -1,6 +1,7 @@
 //! Tiles that were fetched, with their texts.
 
 ghost use Rattle.std.specs.Prelude.{◌≡◌, ◌∷◌, ◌++◌, ℕ, List, [], length, MatchOption, IfOk, IfErr, OnErr, Some, None};
+ghost use Rattle.tl_hash.specs.Bytes.{Bytes};
 ghost use Rattle.tl_tile.specs.Fetched.{same_tile, tiles_of, texts_of};
 ghost use Rattle.tl_tile.specs.SourceFaults.{IsLast};
 ghost use Rattle.tl_tile.specs.declared.source.SourceFault.TheVariants.{Unavailable};
@@ -105,7 +106,7 @@ impl<A: Allocator + Copy> FetchedTiles<A> {
         source: &S,
         tile: Tile,
     ) -> Result<usize, SourceFault>
-        ensures text { IfOk result (λ len. (text : List ℕ) × (self.new ≡ self.old ++ (tile, text) ∷ []) × S.may_answer source.now tile text × (len ≡ length text)) }
+        ensures text { IfOk result (λ len. (text : Bytes) × (self.new ≡ self.old ++ (tile, text) ∷ []) × S.may_answer source.now tile text × (len ≡ length text)) }
         ensures unchanged { OnErr result (self.new ≡ self.old) }
         ensures lacks { IfErr result (λ fault. fault ≡ Unavailable → S.may_lack source.now tile) }
     {

@@ -1,6 +1,7 @@
 //! The hashes that the texts of tiles hold, and what they fold to.
 
-ghost use Rattle.std.specs.Prelude.{◌≡◌, ◌+◌, ◌*◌, ◌<◌, ◌≤◌, ℕ, List, length};
+ghost use Rattle.std.specs.Prelude.{◌≡◌, ◌+◌, ◌*◌, ◌<◌, ◌≤◌, List, length};
+ghost use Rattle.tl_hash.specs.Bytes.{Bytes};
 ghost use Rattle.tl_tile.specs.Folds.{IsHashAt, IsPartHash};
 
 use crate::fold::split_of;
@@ -20,7 +21,7 @@ pub(crate) fn hash_in(text: &[u8], number: usize) -> Hash
 pub(crate) fn fold_part<T: TreeHash>(h: T, text: &[u8], start: usize, count: usize) -> Hash
     requires some { 0 < count }
     requires inside { 32 * (start + count) ≤ length text.now }
-    ensures { (strings : List (List ℕ)) × IsPartHash T.digest_of text.now start count result strings }
+    ensures { (strings : List Bytes) × IsPartHash T.digest_of text.now start count result strings }
 {
     if count == 1 {
         return hash_in(text, start);

@@ -1,5 +1,6 @@
 -- From the body of a request to the place of its origin (C2SP tlog-witness, "add-checkpoint").
 use Rattle.std.specs.Prelude.{◌≡◌, ◌≢◌, ℕ, List, Some, slice_get, Result, Ok, Err, ⊤}
+use Rattle.tl_hash.specs.Bytes.{Bytes}
 use Rattle.tl_proof.specs.Acceptance.{step_of}
 use Rattle.tl_witness.specs.declared.finding.Found.{Found}
 use Rattle.tl_witness.specs.declared.finding.Unfound.{Unfound}
@@ -12,7 +13,7 @@ use Rattle.tl_witness.specs.Inner.Offer.{asked_by}
 use Rattle.tl_witness.specs.Request.{Body, IsRequest}
 
 -- the body is a request whose note is a checkpoint of the origin at this place, and this is what it asks
-pub record IsFound {A : Type 0} (body : List ℕ) (origins : List (List ℕ)) (found : Found A) : Type 0 where
+pub record IsFound {A : Type 0} (body : Bytes) (origins : List Bytes) (found : Found A) : Type 0 where
   pub request : Body
   pub signed : Signed
   pub reads : IsRequest body request
@@ -22,11 +23,11 @@ pub record IsFound {A : Type 0} (body : List ℕ) (origins : List (List ℕ)) (f
   pub line : IsChainLine (record { origin = signed.head.origin; step = step_of found.offer.link })
 
 -- the body is no request, or its note is no checkpoint
-abbrev pub IsMalformed : List ℕ → Type 0
+abbrev pub IsMalformed : Bytes → Type 0
 IsMalformed body = UnlessSome (IsRequest body) ⊤ (λ request. (signed : Signed) → ¬ (IsSigned request.note signed))
 
 -- the body is a request whose note is a checkpoint of another origin
-pub record IsOfOther (body : List ℕ) (origins : List (List ℕ)) : Type 0 where
+pub record IsOfOther (body : Bytes) (origins : List Bytes) : Type 0 where
   pub request : Body
   pub signed : Signed
   pub reads : IsRequest body request
@@ -34,7 +35,7 @@ pub record IsOfOther (body : List ℕ) (origins : List (List ℕ)) : Type 0 wher
   pub nowhere : (place : ℕ) → slice_get origins place ≢ Some signed.head.origin
 
 -- where a body leads
-abbrev pub FindsOrigin : {A : Type 0} → List ℕ → List (List ℕ) → Result (Found A) Unfound → Type 0
+abbrev pub FindsOrigin : {A : Type 0} → Bytes → List Bytes → Result (Found A) Unfound → Type 0
 FindsOrigin body origins (Ok found) = IsFound body origins found
 FindsOrigin body origins (Err Malformed) = IsMalformed body
 FindsOrigin body origins (Err Unknown) = IsOfOther body origins
