@@ -1,5 +1,5 @@
 -- Why a book is not opened, once a chain breaks or memory was refused.
-use Rattle.std.proofs.Common.{ℕ, List, All, inr}
+use Rattle.std.proofs.Common.{List, All, inr}
 use Rattle.tl_hash.specs.Bytes.{Digest}
 use Rattle.tl_note.specs.Key.{IsKeyName}
 use Rattle.tl_witness.specs.declared.opening.BookFault.{BookFault}
