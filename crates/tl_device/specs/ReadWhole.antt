@@ -2,8 +2,8 @@
 use Rattle.std.specs.Prelude.{ℕ, Result, Ok, Err, vec_items}
 use Rattle.std.specs.declared.vec.Vec.{Vec}
 use Rattle.tl_device.specs.Device.{Passage, IsSteady, HasFailed, ReadWhole, ReadPast, GaveSome}
-use Rattle.tl_device.specs.declared.reading.InputFault.{InputFault}
-use Rattle.tl_device.specs.declared.reading.InputFault.TheVariants.{Read, TooLarge, OutOfMemory}
+use Rattle.tl_device.specs.declared.counted.InputFault.{InputFault}
+use Rattle.tl_device.specs.declared.counted.InputFault.TheVariants.{Read, TooLarge, OutOfMemory}
 
 -- reading all that a reader gives, at most so many bytes
 abbrev pub ReadsWhole : {A : Type 0} → ℕ → Passage → Result (Vec ℕ A) InputFault → Type 0

@@ -2,9 +2,5 @@
 #![tactic(auto)]
 
 mod counted;
-mod reading;
-mod writing;
 
-pub use counted::Counted;
-pub use reading::{InputFault, read_whole};
-pub use writing::{WriteFault, write_whole};
+pub use counted::{Counted, InputFault, WriteFault, read_whole, write_whole};

@@ -2,8 +2,6 @@
 //! ends with a status.
 #![tactic(auto)]
 
-mod ending;
 mod running;
 
-pub use ending::end_run;
-pub use running::{run_job, run_words};
+pub use running::{end_run, run_job, run_words};

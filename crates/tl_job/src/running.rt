@@ -1,15 +1,16 @@
-//! From words to the command that they name.
+//! From words to the command that they name, and from how it ended to an exit status.
 
 ghost use Rattle.tl_job.specs.Job.{EndsWords, RunsJob};
 ghost use Rattle.tl_device.specs.Device.{passage};
+ghost use Rattle.std.specs.Prelude.{◌≡◌};
+ghost use Rattle.tl_job.specs.Ending.{Told, status_of, told_of};
 
-use crate::ending::end_run;
-use std::alloc::Global;
+use std::alloc::{Allocator, Global};
 use std::io::{Read, Write};
 use tl_build::run_build;
 use tl_command::{
-    Job, RunFault, WordsFault, read_words, run_audit, run_check, run_consistency, run_head,
-    run_inclusion,
+    Job, RunFault, WordsFault, exit_of, fault_line, read_words, run_audit, run_check,
+    run_consistency, run_head, run_inclusion,
 };
 use tl_device::{Counted, write_whole};
 use tl_hash::Sha256Tree;
@@ -68,4 +69,25 @@ pub fn run_words<R: Read, W: Write, E: Write>(
         }
         Err(WordsFault::OutOfMemory) => end_run(alloc, Err(RunFault::OutOfMemory), errors),
     }
+}
+
+/// Ends a run of a command: a fault's line is written to `errors`, if it has one and there is memory for it, and the
+/// answer is the exit status: 0 where all was done, and else the fault's.
+pub fn end_run<A: Allocator, E: Write>(
+    alloc: A,
+    outcome: Result<(), RunFault>,
+    errors: &mut Counted<E>,
+) -> u8
+    ensures status { result ≡ status_of outcome }
+    ensures told { Told (told_of outcome) (passage E.contents errors.old errors.new) }
+{
+    let Err(fault) = outcome else {
+        return 0;
+    };
+    if let Ok(Some(mut line)) = fault_line(alloc, &fault) {
+        if line.push_str("\n").is_ok() {
+            let _ = write_whole(errors, line.as_bytes());
+        }
+    }
+    exit_of(&fault)
 }

@@ -1,7 +1,7 @@
 -- What opening a note answers (C2SP signed-note, "Verification"; Go's sumdb/note).
 use Rattle.std.specs.Prelude.{◌≡◌, ℕ, List, [], Result, Ok, Err, Some, true, false, IsTrue, not}
 use Rattle.tl_hash.specs.Bytes.{Bytes}
-use Rattle.tl_note.specs.declared.view.OpenedNote.{OpenedNote}
+use Rattle.tl_note.specs.declared.open.OpenedNote.{OpenedNote}
 use Rattle.tl_note.specs.declared.fault.NoteFault.{NoteFault}
 use Rattle.tl_note.specs.declared.fault.NoteFault.TheVariants.{Malformed, BadName, Ambiguous, InvalidSignature, Unverified, Sign, OutOfMemory}
 use Rattle.tl_note.specs.Key.{Key}

@@ -1,7 +1,7 @@
 -- What reading a note answers (C2SP signed-note, "Format").
 use Rattle.std.specs.Prelude.{Result, Ok, Err}
 use Rattle.tl_hash.specs.Bytes.{Bytes}
-use Rattle.tl_note.specs.declared.view.NoteView.{NoteView}
+use Rattle.tl_note.specs.declared.parse.NoteView.{NoteView}
 use Rattle.tl_note.specs.declared.fault.NoteFault.{NoteFault}
 use Rattle.tl_note.specs.declared.fault.NoteFault.TheVariants.{Malformed, OutOfMemory}
 use Rattle.tl_note.specs.Note.{Note, IsNote, HasNoNote}

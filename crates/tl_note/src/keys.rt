@@ -1,7 +1,7 @@
-//! Keys, which are handed in as objects: who signs, and who tells valid signatures from others.
+//! Keys, which are handed in as objects: who signs, who tells valid signatures from others, and how keys are named.
 
-ghost use Rattle.std.specs.Prelude.{◌≡◌, IsTrue, IfOk, IsErrOf};
-ghost use Rattle.tl_note.specs.Key.{Key, SigningKey};
+ghost use Rattle.std.specs.Prelude.{◌≡◌, IsTrue, IfOk, IsErrOf, ◌↔◌};
+ghost use Rattle.tl_note.specs.Key.{Key, SigningKey, IsKeyName, IsNameChar};
 
 use std::alloc::Global;
 use thiserror::Error;
@@ -53,4 +53,19 @@ pub trait Verifier: Send + Sync + Drop {
     /// Whether the signature of the message is valid.
     fn verify(&self, message: &[u8], signature: &[u8]) -> bool
         ensures { result ≡ (key self.now).accepts message.now signature.now };
+}
+
+// Whether a key's name may have this character.
+fn is_name_char(c: char) -> bool
+    ensures { IsTrue result ↔ IsNameChar c }
+{
+    !c.is_whitespace() && c >= ' ' && c != '+'
+}
+
+/// Whether a text may be a key's name: it is not empty, and no character is white space, below 0x20 or a plus sign
+/// (C2SP signed-note, "Signatures").
+pub fn is_key_name(name: &str) -> bool
+    ensures { IsTrue result ↔ IsKeyName name.now }
+{
+    !name.is_empty() && name.chars().all(|c| is_name_char(c))
 }

@@ -4,13 +4,14 @@ ghost use Rattle.std.specs.Prelude.{◌≡◌, MatchOption, IfOk, ◌<◌, lengt
 ghost use Rattle.tl_note.specs.Key.{IsKeyName};
 ghost use Rattle.tl_note.specs.Note.{IsSignature, signature_field, signature_line, signature_words};
 ghost use Rattle.tl_note.specs.Line.{IsNoLine};
+ghost use Rattle.tl_note.specs.Inner.LineField.{IsNoField, ShowsField};
 
-use crate::field::{KEY_ID_LEN, read_key_id};
-use crate::name::is_key_name;
+use crate::keys::is_key_name;
 use base64::DecodeAllocError;
 use base64::engine::general_purpose::STANDARD;
 use std::alloc::{AllocError, Allocator};
 use std::marker::Model;
+use tl_text::{BLOCK_LEN, is_base64, read_block};
 
 /// A signature line of a note, within the message. A contract sees it as the signature that the line shows: the key's
 /// name, its identifier and the bytes of the signature. Reading alone makes one, so the line is a lawful one.
@@ -114,4 +115,28 @@ pub fn write_signature_line<A: Allocator + Copy>(
     STANDARD.encode_string(field.as_slice(), &mut line)?;
     line.push_str("\n")?;
     Ok(line)
+}
+
+// How many bytes of a field are the key's identifier.
+pub(crate) const KEY_ID_LEN: usize = 4;
+
+/// The identifier in a field, which is strict base64 of it, four bytes, big-endian, and of one byte at least.
+pub(crate) fn read_key_id(field: &str) -> Option<u32>
+    ensures { MatchOption result (IsNoField field.now) (λ id. ShowsField id field.now) }
+{
+    let text = field.as_bytes();
+    if text.len() < BLOCK_LEN {
+        return None;
+    }
+    let Some(block) = read_block(&text[..BLOCK_LEN]) else {
+        return None;
+    };
+    if block.count <= KEY_ID_LEN {
+        return None;
+    }
+    if !is_base64(text) {
+        return None;
+    }
+    let bytes = block.bytes;
+    Some(u32::from_be_bytes([bytes[0], bytes[1], bytes[2], bytes[3]]))
 }

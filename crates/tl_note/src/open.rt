@@ -10,10 +10,20 @@ ghost use Rattle.tl_note.specs.OpenNote.{OpensNote, VerifiesNote};
 use crate::fault::NoteFault;
 use crate::keys::Verifier;
 use crate::line::SigView;
-use crate::parse::parse_note;
+use crate::parse::{NoteView, parse_note};
 use crate::verify::{is_known, verify_line};
-use crate::view::{NoteView, OpenedNote};
 use std::alloc::Allocator;
+
+/// An opened note, with the places of its lines, counted from 0 and in order. In `verified` are the lines that count,
+/// each valid: the first of each key that a verifier has. In `unverified` are all lines of keys that no verifier has.
+/// A later line of a known key is in neither.
+#[derive(Debug, Drop)]
+#[non_exhaustive]
+pub struct OpenedNote<'m, A: Allocator> {
+    pub note: NoteView<'m, A>,
+    pub verified: Vec<usize, A>,
+    pub unverified: Vec<usize, A>,
+}
 
 // What a line is found to be.
 #[derive(Clone, Copy)]

@@ -7,11 +7,18 @@ ghost use Rattle.tl_note.specs.View.{ParsesNote};
 
 use crate::fault::NoteFault;
 use crate::line::SigView;
-use crate::view::NoteView;
 use std::alloc::{AllocError, Allocator};
 
 /// How many signature lines a note may have.
 pub(crate) const MOST_LINES: usize = 100;
+
+/// A note's text, with the newline that ends it, and its signature lines, in order.
+#[derive(Debug, Drop)]
+#[non_exhaustive]
+pub struct NoteView<'m, A: Allocator> {
+    pub text: &'m str,
+    pub signatures: Vec<SigView<'m>, A>,
+}
 
 /// Reads a note: a text that ends with a newline, an empty line, and 1 to 100 signature lines (C2SP signed-note,
 /// "Format"). It is `Malformed` exactly where the message is no note. Memory is asked for the lines of a note alone,

@@ -6,9 +6,8 @@ ghost use Rattle.tl_note.specs.SignNote.{IsFirstBadName, SignsNote};
 ghost use Rattle.tl_note.specs.Inner.Signing.{GivesSignature, SignsLine, SignsLines};
 
 use crate::fault::NoteFault;
-use crate::keys::{SignFault, Signer};
+use crate::keys::{SignFault, Signer, is_key_name};
 use crate::line::write_signature_line;
-use crate::name::is_key_name;
 use crate::parse::{MOST_LINES, is_note_text};
 use std::alloc::{Allocator, Global};
 

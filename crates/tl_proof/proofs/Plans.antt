@@ -13,7 +13,7 @@ use Rattle.tl_store.specs.Head.{IsAligned}
 use Rattle.tl_proof.specs.Proofs.{inclusion_proof, path_in, subproof, consistency_proof}
 use Rattle.tl_proof.specs.Needs.{inclusion_needs, consistency_needs}
 use Rattle.tl_proof.specs.Inner.Segments.{GrowsBy, entries_in, segment_root, IsSegment, IsNeeded, IsPathPlan, IsProofPlan}
-use Rattle.tl_proof.specs.declared.segment.Segment.{Segment}
+use Rattle.tl_proof.specs.declared.plan.Segment.{Segment}
 use Rattle.tl_proof.proofs.Equations.{inclusion_proof-left, inclusion_proof-right, subproof-whole, subproof-left, subproof-right}
 
 -- ---- parts of the entries

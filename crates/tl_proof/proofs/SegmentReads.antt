@@ -16,7 +16,7 @@ use Rattle.tl_store.specs.declared.reader.ReadFault.TheVariants.{OutOfRange, Sou
 use Rattle.tl_store.proofs.Readable.{stored_count-mono}
 use Rattle.tl_store.proofs.Covering.{covering-below, covering-within, covering-count, within_reader}
 use Rattle.tl_proof.specs.Inner.Segments.{no_group, next_group, entries_in, segment_root, IsSegment, IsNeeded, AreGroups, subtree_count}
-use Rattle.tl_proof.specs.declared.segment.Segment.{Segment}
+use Rattle.tl_proof.specs.declared.plan.Segment.{Segment}
 
 -- what a read past the end would give
 abbrev pub no_segment : Segment

@@ -9,7 +9,6 @@ mod link;
 mod plan;
 mod prove;
 mod read;
-mod segment;
 mod verdict;
 
 pub use audit::{audit_chain, audit_tree};

@@ -1,8 +1,8 @@
 //! A checkpoint's size and root, with the consistency proof that leads to it.
 
-ghost use Rattle.std.specs.Prelude.{◌≡◌};
+ghost use Rattle.std.specs.Prelude.{◌≡◌, IfOk};
 
-use std::alloc::Allocator;
+use std::alloc::{AllocError, Allocator};
 use std::marker::Model;
 use tl_hash::Hash;
 
@@ -54,4 +54,20 @@ pub struct Link<A: Allocator> {
     pub root: Hash,
     /// The proof from the size and root before.
     pub proof: HashList<A>,
+}
+
+impl<A: Allocator> Link<A> {
+    ghost use Rattle.tl_proof.specs.Acceptance.{step_of};
+
+    /// A copy of a link. It fails only where memory is refused.
+    pub fn copy_of<B: Allocator>(alloc: A, link: &Link<B>) -> Result<Self, AllocError>
+        ensures { IfOk result (λ copy. step_of copy ≡ step_of link.now) }
+    {
+        let hashes = Vec::from_slice(alloc, link.proof.as_slice())?;
+        Ok(Link {
+            size: link.size,
+            root: link.root,
+            proof: HashList::from_vec(hashes),
+        })
+    }
 }

@@ -3,9 +3,15 @@
 ghost use Rattle.std.specs.Prelude.{◌<◌, ◌≤◌, ◌-◌, ◌^◌, Bool, true, IfOk, OnOk, OnErr};
 ghost use Rattle.tl_proof.specs.Inner.Segments.{GrowsBy, IsPathPlan, IsProofPlan};
 
-use crate::segment::Segment;
 use std::alloc::{AllocError, Allocator};
 use tl_hash::split_point;
+
+/// The entries from `start` up to `end`, without that of `end`.
+#[derive(Clone, Copy)]
+pub(crate) struct Segment {
+    pub(crate) start: u64,
+    pub(crate) end: u64,
+}
 
 // Adds the segments of the path from the entry at this index up to the root of the tree over the entries from
 // `start` up to `end`. Each call at least halves their number or takes the left part off, so no more than 62 calls

@@ -8,7 +8,7 @@ ghost use Rattle.tl_store.specs.Reader.{readable_size};
 ghost use Rattle.tl_store.specs.Head.{GivesHeadFault};
 ghost use Rattle.tl_proof.specs.Inner.Segments.{IsSegment, IsNeeded, AreGroups, subtree_count, segment_root};
 
-use crate::segment::Segment;
+use crate::plan::Segment;
 use std::alloc::{AllocError, Allocator};
 use tl_hash::{Hash, TreeHash};
 use tl_store::{HashReader, ReadFault, push_segment_indexes, segment_hash};

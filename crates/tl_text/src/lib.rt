@@ -4,8 +4,6 @@
 mod blocks;
 pub mod law;
 mod pieces;
-mod writing;
 
 pub use blocks::{BLOCK_BYTES, BLOCK_LEN, Block, is_base64, read_block};
-pub use pieces::{first_line, hash_of, is_one_line, size_of};
-pub use writing::push_line;
+pub use pieces::{first_line, hash_of, is_one_line, push_line, size_of};

@@ -1,12 +1,14 @@
-//! Readers of a line, a decimal number, a hash in base64. Each takes exactly what has that spelling.
+//! Readers of a line, a decimal number, a hash in base64, each of which takes exactly what has that spelling; and the
+//! writer of a line.
 
-ghost use Rattle.std.specs.Prelude.{◌≡◌, ◌<◌, ◌^◌, ◌++◌, MatchOption, IsTrue, ◌↔◌, IsUtf8};
+ghost use Rattle.std.specs.Prelude.{◌≡◌, ◌<◌, ◌^◌, ◌++◌, MatchOption, IsTrue, ◌↔◌, IsUtf8, OnOk, string_bytes};
 ghost use Rattle.tl_hash.specs.Bytes.{IsHash};
 ghost use Rattle.tl_text.specs.Text.{line, number_text, base64_text, HasNoControl, IsOneLine};
 ghost use Rattle.tl_text.specs.Pieces.{IsNoLine, IsNoSize, IsNoHash};
 
 use base64::engine::general_purpose::STANDARD;
 use itoa::Buffer;
+use std::alloc::{AllocError, Allocator};
 use tl_hash::Hash;
 
 // Whether a text has no character below 0x20.
@@ -68,4 +70,13 @@ pub fn hash_of(text: &str) -> Option<Hash>
         return None;
     };
     Some(Hash::from_bytes(hash))
+}
+
+/// Appends a text and the newline that ends its line. It fails only where a growth was refused.
+pub fn push_line<A: Allocator>(out: &mut String<A>, text: &str) -> Result<(), AllocError>
+    ensures { OnOk result (string_bytes out.new ≡ string_bytes out.old ++ line text.now) }
+{
+    out.push_str(text)?;
+    out.push_str("\n")?;
+    Ok(())
 }

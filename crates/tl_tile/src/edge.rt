@@ -6,8 +6,7 @@ ghost use Rattle.tl_hash.specs.Tree.{tree_hash};
 ghost use Rattle.tl_tile.specs.TileText.{level_count};
 ghost use Rattle.tl_tile.specs.RightEdge.{shown_partial, shown_filled, hashes_below, count_below, IsEdgeOf};
 
-use crate::filling::fill;
-use crate::fold::fold_level;
+use crate::fold::{fill, fold_level};
 use crate::resource::Tile;
 use crate::tile::join;
 use std::alloc::{AllocError, Allocator};

@@ -5,13 +5,12 @@ ghost use Rattle.tl_proof.specs.Acceptance.{step_of};
 ghost use Rattle.tl_witness.specs.Answers.{Answers, AsksForMemory};
 ghost use Rattle.tl_witness.specs.Book.{DecidesBody, IsPlacedIn, Placed, book_outcome};
 
-use crate::by_origin::ByOrigin;
+use crate::by_origin::{ByOrigin, place_by};
+use crate::cosign::Tools;
 use crate::finding::{Unfound, find_origin};
 use crate::origin_state::OriginState;
-use crate::place::place_by;
 use crate::reply::{Reply, refusal};
 use crate::saver::Saver;
-use crate::tools::Tools;
 use std::alloc::{AllocError, Allocator};
 use tl_hash::TreeHash;
 use tl_note::{Signer, Verifier};

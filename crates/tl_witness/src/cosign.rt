@@ -6,11 +6,18 @@ ghost use Rattle.tl_checkpoint.specs.Cosignature.{Cosigns, MayFailToCosign};
 ghost use Rattle.tl_note.specs.Key.{IsKeyName, SigningKey};
 ghost use Rattle.tl_witness.specs.Witnessed.{named_key};
 
-use crate::tools::Tools;
 use std::alloc::{AllocError, Allocator, Global};
 use tl_checkpoint::{cosign_message, cosignature_bytes};
 use tl_hash::TreeHash;
 use tl_note::{SignFault, Signer, write_signature_line};
+
+/// The digest function, and where memory comes from. `global` is for the cosigner.
+#[derive(Clone, Copy)]
+pub(crate) struct Tools<T: TreeHash, A: Allocator + Copy> {
+    pub(crate) tree: T,
+    pub(crate) alloc: A,
+    pub(crate) global: Global,
+}
 
 /// A name that is a key's name.
 #[derive(Drop)]

@@ -8,13 +8,20 @@ ghost use Rattle.tl_witness.specs.Inner.Offer.{asked_by};
 ghost use Rattle.tl_witness.specs.ReadRequest.{body_of};
 ghost use Rattle.tl_witness.specs.Inner.ReadSigned.{signed_of};
 
-use crate::by_origin::ByOrigin;
-use crate::offer::Offer;
-use crate::place::{OfOrigin, place_by};
-use crate::request::{AddRequest, RequestFault, parse_request};
-use crate::signed::{SignedCheckpoint, read_signed};
+use crate::by_origin::{ByOrigin, OfOrigin, place_by};
+use crate::request::{AddRequest, RequestFault, SignedCheckpoint, parse_request, read_signed};
 use std::alloc::Allocator;
+use tl_note::NoteView;
 use tl_proof::Link;
+
+/// What a request asks of its origin, read: the size that the client believes was cosigned last, the link from
+/// there to the checkpoint, and the note that the checkpoint stands in. No signature is verified.
+#[derive(Drop)]
+pub(crate) struct Offer<'m, A: Allocator> {
+    pub(crate) old: u64,
+    pub(crate) link: Link<A>,
+    pub(crate) note: NoteView<'m, A>,
+}
 
 /// The place of an origin, and what is asked of it.
 #[derive(Drop)]

@@ -8,15 +8,14 @@ ghost use Rattle.tl_witness.specs.Inner.Offer.{asked_by};
 ghost use Rattle.tl_witness.specs.Runs.{IsLater, IsLaterChain};
 ghost use Rattle.tl_witness.specs.Shared.{DecidesLater, answer_of};
 
+use crate::by_origin::OfOrigin;
 use crate::chain::Chain;
-use crate::copy::copy_links;
+use crate::cosign::Tools;
+use crate::finding::Offer;
 use crate::lock::Lock;
-use crate::offer::Offer;
 use crate::origin_state::{Origin, OriginState, ShownState};
-use crate::place::OfOrigin;
 use crate::reply::Reply;
 use crate::saver::Saver;
-use crate::tools::Tools;
 use counted_slot::Fits;
 use std::alloc::{AllocError, Allocator};
 use std::snapshot::Snapshot;
@@ -79,6 +78,20 @@ fn part_of<A: Allocator>(links: &[Link<A>], from: u64, most: u64) -> &[Link<A>]
         return rest;
     }
     &rest[..most as usize]
+}
+
+// Copies of links, in order. It fails only where a growth was refused.
+fn copy_links<A: Allocator + Copy, B: Allocator>(
+    alloc: A,
+    links: &[Link<B>],
+) -> Result<Vec<Link<A>, A>, AllocError>
+    ensures { IfOk result (λ copies. map step_of copies.items ≡ map step_of links.now) }
+{
+    let mut copies = Vec::new(alloc);
+    for link in links {
+        copies.push(Link::copy_of(alloc, link)?)?;
+    }
+    Ok(copies)
 }
 
 impl<T: TreeHash, A: Allocator> Guarded<T, A> {

@@ -10,12 +10,10 @@ ghost use Rattle.tl_witness.specs.Open.{HasEachKeyOnce, HasTwice, IsKept, OpensB
 ghost use Rattle.tl_witness.specs.Opening.{ChecksChains, TakesChain};
 
 use crate::book::{Book, Shown};
-use crate::by_origin::ByOrigin;
+use crate::by_origin::{ByOrigin, OfOrigin, first_without, places_in};
 use crate::chain::Chain;
-use crate::cosign::name_of;
+use crate::cosign::{Tools, name_of};
 use crate::origin_state::{Origin, OriginState, ShownState};
-use crate::place::{OfOrigin, first_without, places_in};
-use crate::tools::Tools;
 use crate::trust::{HasKeys, ShownTrust, Trust, are_keys_once, first_bad_name};
 use std::alloc::{AllocError, Allocator, Global};
 use std::mem;

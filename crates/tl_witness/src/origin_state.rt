@@ -10,13 +10,12 @@ ghost use Rattle.tl_witness.specs.Decide.{Decides, DecidesFrom, Settles};
 ghost use Rattle.tl_witness.specs.Inner.Offer.{asked_by};
 ghost use Rattle.tl_witness.specs.Inner.Outcome.{outcome_of};
 
+use crate::by_origin::OfOrigin;
 use crate::chain::{Chain, KeepFault};
-use crate::cosign::{KeyName, cosign};
-use crate::offer::Offer;
-use crate::place::OfOrigin;
+use crate::cosign::{KeyName, Tools, cosign};
+use crate::finding::Offer;
 use crate::reply::{Reply, conflict, refusal};
 use crate::saver::Saver;
-use crate::tools::Tools;
 use std::alloc::{AllocError, Allocator};
 use tl_hash::TreeHash;
 use tl_note::{NoteFault, NoteView, Signer, Verifier, verify_note};

@@ -1,14 +1,17 @@
 //! The body of an add-checkpoint request, read.
 
-ghost use Rattle.std.specs.Prelude.{◌≡◌, ◌++◌, ◌<◌, IfOk, IsUtf8, List, MatchOption, OnErr};
+ghost use Rattle.std.specs.Prelude.{◌≡◌, ◌++◌, ◌<◌, IfOk, IsUtf8, List, MatchOption, OnErr, ◌↔◌};
 ghost use Rattle.tl_hash.specs.Bytes.{Bytes, IsHash};
 ghost use Rattle.tl_text.specs.Text.{base64_text, line};
 ghost use Rattle.tl_witness.specs.ReadRequest.{HasNoHashLine, HasNoProof, HasProof, IsProofText, ParsesRequest};
+ghost use Rattle.tl_witness.specs.Inner.ReadSigned.{ReadsSigned};
 
 use std::alloc::{AllocError, AllocFailed, Allocator};
 use std::str;
 use thiserror::Error;
+use tl_checkpoint::{Checkpoint, CheckpointFault, parse};
 use tl_hash::Hash;
+use tl_note::{NoteFault, NoteView, parse_note};
 use tl_proof::HashList;
 use tl_text::{first_line, hash_of, size_of};
 
@@ -132,4 +135,41 @@ pub fn parse_request<A: Allocator + Copy>(
     };
     let proof = read_hashes(alloc, count, rest)?;
     Ok(AddRequest { old, proof, note })
+}
+
+/// A note, and the checkpoint that its text is.
+#[derive(Drop)]
+pub(crate) struct SignedCheckpoint<'m, A: Allocator> {
+    pub(crate) note: NoteView<'m, A>,
+    pub(crate) checkpoint: Checkpoint<A>,
+}
+
+// What a fault of the checkpoint is for the request.
+fn fault_of(fault: CheckpointFault) -> RequestFault
+    ensures { (result ≡ RequestFault.OutOfMemory) ↔ (fault ≡ CheckpointFault.OutOfMemory) }
+{
+    match fault {
+        CheckpointFault::OutOfMemory => RequestFault::OutOfMemory,
+        _ => RequestFault::Malformed,
+    }
+}
+
+/// Reads a note and the checkpoint that its text is. `Malformed` where the bytes are no note, or its text is no
+/// checkpoint. No signature is verified.
+pub(crate) fn read_signed<A: Allocator + Copy>(
+    alloc: A,
+    bytes: &str,
+) -> Result<SignedCheckpoint<'_, A>, RequestFault>
+    ensures { ReadsSigned bytes.now result }
+{
+    let note = match parse_note(alloc, bytes) {
+        Ok(note) => note,
+        Err(NoteFault::OutOfMemory) => return Err(RequestFault::OutOfMemory),
+        Err(_) => return Err(RequestFault::Malformed),
+    };
+    let checkpoint = match parse(alloc, note.text) {
+        Ok(checkpoint) => checkpoint,
+        Err(fault) => return Err(fault_of(fault)),
+    };
+    Ok(SignedCheckpoint { note, checkpoint })
 }

@@ -9,14 +9,13 @@ ghost use Rattle.tl_witness.specs.Runs.{IsLaterBook};
 ghost use Rattle.tl_witness.specs.Shared.{AnswersShared, DecidesShared, IsOfLaterChain, answer_of};
 
 use crate::book::{Book, Shown};
-use crate::by_origin::ByOrigin;
+use crate::by_origin::{ByOrigin, place_by};
+use crate::cosign::Tools;
 use crate::finding::{Unfound, find_origin};
 use crate::guarded::Guarded;
 use crate::origin_state::OriginState;
-use crate::place::place_by;
 use crate::reply::{Reply, refusal};
 use crate::saver::Saver;
-use crate::tools::Tools;
 use std::alloc::{AllocError, Allocator};
 use std::sync::Wait;
 use tl_hash::{Hash, TreeHash};

@@ -5,7 +5,7 @@ ghost use Rattle.tl_hash.specs.Bytes.{Bytes};
 ghost use Rattle.tl_note.specs.Key.{IsKeyName};
 ghost use Rattle.tl_witness.specs.Open.{HasEachKeyOnce, HasTwice, IsAmong, IsFirstNot, key_name};
 
-use crate::place::OfOrigin;
+use crate::by_origin::OfOrigin;
 use std::alloc::Allocator;
 use tl_note::{Signer, Verifier, is_key_name};
 

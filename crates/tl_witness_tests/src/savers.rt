@@ -4,7 +4,7 @@ ghost use Rattle.std.specs.Prelude.{◌≡◌, ◌<◌, ◌-◌, ◌^◌, ◌⊎
 ghost use Rattle.tl_proof.specs.Acceptance.{step_of};
 
 use std::alloc::{AllocError, Allocator, Global};
-use tl_proof::{HashList, Link};
+use tl_proof::Link;
 use tl_witness::{SaveFault, Saver, write_chain_line};
 
 /// A saver that keeps what it saved, counts its calls, and fails where it is told to.
@@ -51,15 +51,9 @@ fn copied<A: Allocator>(
 ) -> Result<(String, Link<Global>), AllocError>
     ensures { IfOk result (λ kept. (string_bytes kept.0 ≡ origin.now) × (step_of kept.1 ≡ step_of link.now)) }
 {
-    let hashes = Vec::from_slice(alloc, link.proof.as_slice())?;
-    let name = String::from_str(alloc, origin)?;
     Ok((
-        name,
-        Link {
-            size: link.size,
-            root: link.root,
-            proof: HashList::from_vec(hashes),
-        },
+        String::from_str(alloc, origin)?,
+        Link::copy_of(alloc, link)?,
     ))
 }
 

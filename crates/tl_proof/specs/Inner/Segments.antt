@@ -6,7 +6,7 @@ use Rattle.tl_hash.specs.Tree.{tree_of, tree_hash}
 use Rattle.tl_store.specs.Head.{IsAligned, AreCovering}
 use Rattle.tl_proof.specs.Proofs.{inclusion_proof, subproof}
 use Rattle.tl_proof.specs.Needs.{inclusion_needs}
-use Rattle.tl_proof.specs.declared.segment.Segment.{Segment}
+use Rattle.tl_proof.specs.declared.plan.Segment.{Segment}
 
 -- the new list is the old one, followed by some that are so
 pub record GrowsBy {X : Type 0} (P : List X → Type 0) (old new : List X) : Type 0 where

@@ -1,7 +1,7 @@
 -- What a request that was read asks of its origin.
 use Rattle.std.specs.Prelude.{ℕ}
 use Rattle.tl_proof.specs.Acceptance.{step_of}
-use Rattle.tl_witness.specs.declared.offer.Offer.{Offer}
+use Rattle.tl_witness.specs.declared.finding.Offer.{Offer}
 use Rattle.tl_witness.specs.Decide.{Asked}
 
 -- what is asked at this time

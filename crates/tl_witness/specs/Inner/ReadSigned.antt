@@ -4,7 +4,7 @@ use Rattle.tl_hash.specs.Bytes.{Bytes}
 use Rattle.tl_checkpoint.specs.Checkpoint.{head_of}
 use Rattle.tl_witness.specs.declared.request.RequestFault.{RequestFault}
 use Rattle.tl_witness.specs.declared.request.RequestFault.TheVariants.{Malformed, OutOfMemory}
-use Rattle.tl_witness.specs.declared.signed.SignedCheckpoint.{SignedCheckpoint}
+use Rattle.tl_witness.specs.declared.request.SignedCheckpoint.{SignedCheckpoint}
 use Rattle.tl_witness.specs.Book.{Signed, IsSigned}
 
 -- what a signed checkpoint says

@@ -1,7 +1,7 @@
 use Rattle.tl_proof.specs.Inner.Segments.{IsPathPlan, GrowsBy}
 use Rattle.tl_proof.proofs.Plans.{appended-all}
 use Rattle.std.proofs.Common.{subst, List}
-use Rattle.tl_proof.specs.declared.segment.Segment.{Segment}
+use Rattle.tl_proof.specs.declared.plan.Segment.{Segment}
 use Rattle.tl_proof.proofs.plan.path_segments.Goals as goal
 
 pub returns-clause-plan : goal.returns-clause-plan

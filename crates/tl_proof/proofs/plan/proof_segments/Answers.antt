@@ -1,6 +1,6 @@
 use Rattle.std.proofs.Common.{subst, true, List}
 use Rattle.tl_proof.specs.Inner.Segments.{GrowsBy, IsProofPlan}
-use Rattle.tl_proof.specs.declared.segment.Segment.{Segment}
+use Rattle.tl_proof.specs.declared.plan.Segment.{Segment}
 use Rattle.tl_proof.proofs.Plans.{appended-all}
 use Rattle.tl_proof.proofs.plan.proof_segments.Goals as goal
 

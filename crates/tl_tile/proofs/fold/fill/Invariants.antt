@@ -1,0 +1,10 @@
+use Rattle.std.proofs.Common.{map}
+use Rattle.std.specs.Prelude.{vec_items}
+use Rattle.tl_tile.proofs.FillSteps.{AreFilling}
+use Rattle.tl_tile.proofs.fold.fill.Given as goal
+
+abbrev pub invariant-loop-count : goal.invariant-loop-count
+invariant-loop-count g l = AreFilling g.T.TreeHash.digest_of l.size l.fn.leaf l.kept l.level l.count l.left l.hash (map (λ t. (t.0, vec_items t.1)) l.tiles.items)
+
+abbrev pub decreases-loop-count : goal.decreases-loop-count
+decreases-loop-count g l = l.count

@@ -1,5 +1,0 @@
-use Rattle.tl_tile.proofs.Checked.{checked_tiles_have_stored_hashes}
-use Rattle.tl_tile.proofs.tile_law.checked_tiles_law.Goals as goal
-
-pub returns : goal.returns
-returns c = checked_tiles_have_stored_hashes

@@ -1,5 +1,0 @@
-use Rattle.tl_tile.proofs.Honest.{folded_hashes_are_one}
-use Rattle.tl_tile.proofs.tile_law.folded_hashes_law.Goals as goal
-
-pub returns : goal.returns
-returns c = folded_hashes_are_one
