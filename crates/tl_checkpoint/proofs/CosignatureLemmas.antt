@@ -1,20 +1,24 @@
 -- A cosignature line, put together from its parts.
 use Rattle.std.proofs.Common.{◌≡◌, ℕ, ◌<◌, List, length, ap, subst, ◌∙◌}
 use Rattle.std.specs.Prelude.{IsTrue}
-use Rattle.tl_note.specs.Key.{SigningKey, IsKeyName}
-use Rattle.tl_note.specs.Note.{Signature, signature_line}
+use Rattle.tl_note.specs.Key.{SigningKey, IsKeyName, named_key}
+use Rattle.tl_note.specs.Note.{signature_line}
 use Rattle.tl_checkpoint.specs.Cosignature.{cosigned_message, cosignature, Cosigns}
 
-abbrev made : List ℕ → ℕ → List ℕ → Signature
-made name id bytes = record { name = name; id = id; bytes = bytes }
+abbrev line_of : List ℕ → ℕ → List ℕ → List ℕ
+line_of name id bytes = signature_line (record { name = name; id = id; bytes = bytes })
 
-pub cosigned : (text : List ℕ) (time : ℕ) (key : SigningKey) (words message signature bytes name again : List ℕ) (id : ℕ)
-    → message ≡ cosigned_message time text → IsTrue (key.may_give message signature) → 0 < length signature → name ≡ key.name → IsKeyName name
-    → again ≡ key.name → id ≡ key.id → bytes ≡ cosignature time signature → words ≡ signature_line (record { name = again; id = id; bytes = bytes }) → Cosigns text time key words
-cosigned text time key words message signature bytes name again id m given some n named a i b spelled = record {
+pub cosigned : (text : List ℕ) (time : ℕ) (key : SigningKey) (name words message signature bytes : List ℕ) (id : ℕ)
+    → message ≡ cosigned_message time text → IsTrue (key.may_give message signature) → 0 < length signature → IsKeyName name
+    → id ≡ key.id → bytes ≡ cosignature time signature → words ≡ line_of name id bytes → Cosigns text time (named_key name key) words
+cosigned text time key name words message signature bytes id m given some named i b spelled = record {
   signature = signature;
   given = subst (λ (t : List ℕ). IsTrue (key.may_give t signature)) m given;
   some = some;
-  named = subst IsKeyName n named;
-  spelled = spelled ∙ ap (λ (t : List ℕ). signature_line (made t id bytes)) a ∙ ap (λ (k : ℕ). signature_line (made key.name k bytes)) i ∙ ap (λ (t : List ℕ). signature_line (made key.name key.id t)) b;
+  named = named;
+  spelled = spelled ∙ ap (λ (k : ℕ). line_of name k bytes) i ∙ ap (λ (t : List ℕ). line_of name key.id t) b;
 }
+
+-- a key under its own name
+pub own_name : (name : List ℕ) (key : SigningKey) → name ≡ key.name → named_key name key ≡ key
+own_name name key same = ap (λ (n : List ℕ). named_key n key) same

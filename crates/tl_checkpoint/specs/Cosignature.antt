@@ -1,9 +1,9 @@
 -- What a witness signs, and its signature line (C2SP tlog-cosignature, "Format", version 1).
-use Rattle.std.specs.Prelude.{◌≡◌, ℕ, ◌<◌, ◌^◌, ◌⊎◌, [], ◌++◌, length, codes, IsTrue, Option, Some, None, Result, Ok, Err, String, string_bytes}
+use Rattle.std.specs.Prelude.{◌≡◌, ℕ, ◌<◌, ◌^◌, ◌++◌, length, codes, IsTrue, Option, Some, None, Result, Ok, Err, String, string_bytes}
 use Rattle.std.specs.Int.{w64, to_be_bytes}
 use Rattle.tl_hash.specs.Bytes.{Bytes}
 use Rattle.tl_text.specs.Text.{line, number_text}
-use Rattle.tl_note.specs.Key.{Key, SigningKey, IsKeyName}
+use Rattle.tl_note.specs.Key.{Key, SigningKey, MayGiveNone, IsKeyName}
 use Rattle.tl_note.specs.Note.{Signature, signature_line}
 use Rattle.tl_note.specs.declared.fault.NoteFault.{NoteFault}
 use Rattle.tl_note.specs.declared.fault.NoteFault.TheVariants.{Malformed, BadName, Ambiguous, InvalidSignature, Unverified, Sign, OutOfMemory}
@@ -27,7 +27,7 @@ pub record Cosigns (text : Bytes) (time : ℕ) (key : SigningKey) (words : Bytes
 
 -- the signer may refuse the message, or give no bytes for it
 abbrev pub MayFailToCosign : Bytes → ℕ → SigningKey → Type 0
-MayFailToCosign text time key = IsTrue (key.may_refuse (cosigned_message time text)) ⊎ IsTrue (key.may_give (cosigned_message time text) [])
+MayFailToCosign text time key = MayGiveNone key (cosigned_message time text)
 
 -- writing a cosignature line; the one signer has the place 0
 abbrev pub CosignsLine : {A : Type 0} → Bytes → ℕ → SigningKey → Result (String A) NoteFault → Type 0

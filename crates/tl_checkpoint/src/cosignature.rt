@@ -1,13 +1,15 @@
 //! Cosignatures of checkpoints by witnesses (C2SP tlog-cosignature, version 1).
 
-ghost use Rattle.std.specs.Prelude.{◌≡◌, ◌↔◌, ◌<◌, ◌^◌, length, string_bytes, IfOk, IfErr, OnErr, IsTrue, MatchOption};
-ghost use Rattle.tl_note.specs.Key.{Key, SigningKey};
-ghost use Rattle.tl_checkpoint.specs.Cosignature.{ChecksCosignature, CosignsLine, IsOfKey, cosigned_message, cosignature};
-ghost use Rattle.tl_checkpoint.specs.Inner.Cosigning.{FailsToSign, IsNoCosignature};
+ghost use Rattle.std.specs.Prelude.{◌≡◌, ◌↔◌, ◌<◌, ◌^◌, string_bytes, IfOk, IsErrOf, OnErr, IsTrue, MatchOption};
+ghost use Rattle.tl_note.specs.Key.{IsKeyName, named_key};
+ghost use Rattle.tl_checkpoint.specs.Cosignature.{ChecksCosignature, Cosigns, CosignsLine, IsOfKey, MayFailToCosign, cosigned_message, cosignature};
+ghost use Rattle.tl_checkpoint.specs.Inner.Cosigning.{IsNoCosignature};
 
 use itoa::Buffer;
 use std::alloc::{AllocError, Allocator, Global};
-use tl_note::{NoteFault, SigView, SignFault, Signer, Verifier, is_key_name, write_signature_line};
+use tl_note::{
+    NoteFault, SigView, SignFault, Signer, Verifier, is_key_name, signature_of, write_signature_line,
+};
 use tl_text::push_line;
 
 /// The message that a witness signs for the text of a checkpoint: the version, the time in seconds since the Unix
@@ -27,23 +29,6 @@ pub fn cosign_message<A: Allocator>(
     Ok(message)
 }
 
-// What the signer answers, which is one byte at least.
-fn signature_of(global: Global, signer: &dyn Signer, message: &[u8]) -> Result<Vec<u8>, NoteFault>
-    ensures given { IfOk result (λ signature. IsTrue ((signing_key signer.now).may_give message.now signature.items) × (0 < length signature.items)) }
-    ensures fault { IfErr result (FailsToSign message.now (signing_key signer.now)) }
-{
-    match signer.sign(global, message) {
-        Ok(signature) => {
-            if signature.is_empty() {
-                return Err(NoteFault::Sign(0));
-            }
-            Ok(signature)
-        }
-        Err(SignFault::Refused) => Err(NoteFault::Sign(0)),
-        Err(SignFault::OutOfMemory) => Err(NoteFault::OutOfMemory),
-    }
-}
-
 /// The bytes of a cosignature after the key's identifier: the time in seconds since the Unix epoch, big-endian in eight
 /// bytes, and what the key signed. It fails only where a growth was refused.
 pub fn cosignature_bytes<A: Allocator>(
@@ -56,6 +41,31 @@ pub fn cosignature_bytes<A: Allocator>(
     let mut bytes = Vec::from_slice(alloc, &time.to_be_bytes())?;
     bytes.extend_from_slice(signature)?;
     Ok(bytes)
+}
+
+/// The line by which a witness cosigns the text of a checkpoint at this time, under this name, which is a key's name.
+/// `global` is what the signer takes memory from. It is `Refused` where the signer refuses the message or gives no
+/// bytes.
+pub fn cosign_line_as<A: Allocator + Copy>(
+    alloc: A,
+    global: Global,
+    name: &str,
+    signer: &dyn Signer,
+    time: u64,
+    text: &str,
+) -> Result<String<A>, SignFault>
+    requires { IsKeyName name.now }
+    ensures line { IfOk result (λ line. Cosigns text.now time (named_key name.now (signing_key signer.now)) (string_bytes line)) }
+    ensures refused { IsErrOf result SignFault.Refused → MayFailToCosign text.now time (signing_key signer.now) }
+{
+    let message = cosign_message(alloc, time, text)?;
+    let signature = match signature_of(global, signer, message.as_bytes()) {
+        Ok(signature) => signature,
+        Err(fault) => return Err(fault),
+    };
+    let bytes = cosignature_bytes(alloc, time, signature.as_slice())?;
+    let line = write_signature_line(alloc, name, signer.key_id(), bytes.as_slice())?;
+    Ok(line)
 }
 
 /// The line by which a witness cosigns the text of a checkpoint at this time. `global` is what the signer takes memory
@@ -73,14 +83,11 @@ pub fn cosign_line<A: Allocator + Copy>(
     if !is_key_name(signer.name()) {
         return Err(NoteFault::BadName(0));
     }
-    let message = cosign_message(alloc, time, text)?;
-    let signature = match signature_of(global, signer, message.as_bytes()) {
-        Ok(signature) => signature,
-        Err(fault) => return Err(fault),
-    };
-    let bytes = cosignature_bytes(alloc, time, signature.as_slice())?;
-    let line = write_signature_line(alloc, signer.name(), signer.key_id(), bytes.as_slice())?;
-    Ok(line)
+    match cosign_line_as(alloc, global, signer.name(), signer, time, text) {
+        Ok(line) => Ok(line),
+        Err(SignFault::Refused) => Err(NoteFault::Sign(0)),
+        Err(SignFault::OutOfMemory) => Err(NoteFault::OutOfMemory),
+    }
 }
 
 // Whether the line is of the verifier's key.

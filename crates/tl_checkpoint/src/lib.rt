@@ -8,7 +8,7 @@ mod parsing;
 mod writing;
 
 pub use checkpoint::{Checkpoint, CheckpointFault};
-pub use cosignature::{check_cosignature, cosign_line, cosign_message, cosignature_bytes};
+pub use cosignature::{check_cosignature, cosign_line, cosign_line_as, cosign_message, cosignature_bytes};
 pub use law::text_is_one_checkpoint;
 pub use parsing::parse;
 pub use writing::write;

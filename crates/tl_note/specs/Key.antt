@@ -1,5 +1,5 @@
 -- Keys, by what they accept and give (C2SP signed-note, "Signatures").
-use Rattle.std.specs.Prelude.{◌≡◌, ℕ, ◌<◌, ◌≤◌, ◌≢◌, Bool, false, length, All, IsUtf8, chars}
+use Rattle.std.specs.Prelude.{◌≡◌, ℕ, ◌<◌, ◌≤◌, ◌≢◌, ◌⊎◌, Bool, false, [], length, All, IsTrue, IsUtf8, chars}
 use Rattle.std.specs.Char.{is_whitespace}
 use Rattle.tl_hash.specs.Bytes.{Bytes}
 
@@ -15,6 +15,14 @@ pub record SigningKey : Type 0 where
   pub id : ℕ
   pub may_give : Bytes → Bytes → Bool
   pub may_refuse : Bytes → Bool
+
+-- the key may give no signature of this message: it may refuse it, or give no bytes
+abbrev pub MayGiveNone : SigningKey → Bytes → Type 0
+MayGiveNone key message = IsTrue (key.may_refuse message) ⊎ IsTrue (key.may_give message [])
+
+-- the key under this name
+abbrev pub named_key : Bytes → SigningKey → SigningKey
+named_key name key = record key { name = name }
 
 -- a character of a key's name: no white space, no plus, no control
 pub record IsNameChar (c : ℕ) : Type 0 where

@@ -4,7 +4,7 @@ use Rattle.std.specs.List.{AllZip}
 use Rattle.tl_hash.specs.Bytes.{Bytes}
 use Rattle.tl_note.specs.declared.fault.NoteFault.{NoteFault}
 use Rattle.tl_note.specs.declared.fault.NoteFault.TheVariants.{Malformed, BadName, Ambiguous, InvalidSignature, Unverified, Sign, OutOfMemory}
-use Rattle.tl_note.specs.Key.{SigningKey, IsKeyName}
+use Rattle.tl_note.specs.Key.{MayGiveNone, SigningKey, IsKeyName}
 use Rattle.tl_note.specs.Note.{Signature, Note, IsNoteText}
 
 -- the line is by this signer: its name and identifier, and a signature that it may give for the message
@@ -29,7 +29,7 @@ IsFirstBadName keys place = (key : SigningKey) × (slice_get keys place ≡ Some
 
 -- the signer at this place may refuse the message, or give no bytes for it
 abbrev pub MayFail : Bytes → List SigningKey → ℕ → Type 0
-MayFail message keys place = (key : SigningKey) × (slice_get keys place ≡ Some key) × (IsTrue (key.may_refuse message) ⊎ IsTrue (key.may_give message []))
+MayFail message keys place = (key : SigningKey) × (slice_get keys place ≡ Some key) × MayGiveNone key message
 
 abbrev pub SignsNote : {A : Type 0} → Bytes → List SigningKey → Result (String A) NoteFault → Type 0
 SignsNote text keys (Ok note) = (lines : List Signature) × Note (string_bytes note) text lines × AreSigned text keys lines

@@ -3,7 +3,7 @@
 ghost use Rattle.std.specs.Prelude.{◌≡◌, IsTrue, IfOk, IsErrOf, ◌↔◌};
 ghost use Rattle.tl_note.specs.Key.{Key, SigningKey, IsKeyName, IsNameChar};
 
-use std::alloc::Global;
+use std::alloc::{AllocError, Global};
 use thiserror::Error;
 
 /// Why a signer gives no signature.
@@ -15,6 +15,17 @@ pub enum SignFault {
     /// A request for memory was refused.
     #[error("out of memory")]
     OutOfMemory,
+}
+
+impl From<AllocError> for SignFault {
+    ghost use Rattle.std.specs.Prelude.{◌≡◌};
+    ghost use Rattle.tl_note.specs.declared.keys.SignFault.TheVariants.{OutOfMemory};
+
+    ghost from_gives = { λ _ fault. fault ≡ OutOfMemory };
+
+    fn from(_error: AllocError) -> SignFault {
+        SignFault::OutOfMemory
+    }
 }
 
 /// Who signs messages. Its meaning is a `SigningKey`: a name, an identifier, which signatures it may give for a

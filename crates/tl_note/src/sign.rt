@@ -1,7 +1,7 @@
 //! Signing a note.
 
-ghost use Rattle.std.specs.Prelude.{◌≡◌, IsTrue, IfOk, IsErrOf, MatchOption, All, map, string_bytes};
-ghost use Rattle.tl_note.specs.Key.{IsKeyName};
+ghost use Rattle.std.specs.Prelude.{◌≡◌, ◌<◌, IsTrue, IfOk, IsErrOf, MatchOption, All, length, map, string_bytes};
+ghost use Rattle.tl_note.specs.Key.{IsKeyName, MayGiveNone};
 ghost use Rattle.tl_note.specs.SignNote.{IsFirstBadName, SignsNote};
 ghost use Rattle.tl_note.specs.Inner.Signing.{GivesSignature, SignsLine, SignsLines};
 
@@ -37,6 +37,27 @@ pub fn sign_note<A: Allocator + Copy>(
     Ok(note)
 }
 
+/// The signature of a message by one signer, of one byte at least. It is `Refused` where the signer refuses the message
+/// or gives no bytes.
+pub fn signature_of(
+    global: Global,
+    signer: &dyn Signer,
+    message: &[u8],
+) -> Result<Vec<u8>, SignFault>
+    ensures some { IfOk result (λ signature. 0 < length signature.items) }
+    ensures given { IfOk result (λ signature. IsTrue ((signing_key signer.now).may_give message.now signature.items)) }
+    ensures refused { IsErrOf result SignFault.Refused → MayGiveNone (signing_key signer.now) message.now }
+{
+    let signature = match signer.sign(global, message) {
+        Ok(signature) => signature,
+        Err(fault) => return Err(fault),
+    };
+    if signature.is_empty() {
+        return Err(SignFault::Refused);
+    }
+    Ok(signature)
+}
+
 // The name of a signer's key. A call of an object's method stands in a function of its own, so that its clause speaks
 // of the box.
 fn name_of(signer: &Box<dyn Signer>) -> &str
@@ -50,14 +71,6 @@ fn key_id_of(signer: &Box<dyn Signer>) -> u32
     ensures { result ≡ (signing_key signer.now).id }
 {
     signer.key_id()
-}
-
-// What the signer answers.
-fn answer_of(global: Global, signer: &Box<dyn Signer>, message: &[u8]) -> Result<Vec<u8>, SignFault>
-    ensures given { IfOk result (λ signature. IsTrue ((signing_key signer.now).may_give message.now signature.items)) }
-    ensures refused { IsErrOf result SignFault.Refused → IsTrue ((signing_key signer.now).may_refuse message.now) }
-{
-    signer.sign(global, message)
 }
 
 // The first signer whose name is no key's name.
@@ -112,7 +125,7 @@ fn push_line<A: Allocator + Copy>(
     Ok(())
 }
 
-// The signature of the signer at this place, which has one byte at least.
+// The signature of the signer at this place.
 fn sign_text(
     global: Global,
     text: &str,
@@ -121,13 +134,8 @@ fn sign_text(
 ) -> Result<Vec<u8>, NoteFault>
     ensures { GivesSignature text.now (signing_key signer.now) place result }
 {
-    match answer_of(global, signer, text.as_bytes()) {
-        Ok(signature) => {
-            if signature.is_empty() {
-                return Err(NoteFault::Sign(place));
-            }
-            Ok(signature)
-        }
+    match signature_of(global, &**signer, text.as_bytes()) {
+        Ok(signature) => Ok(signature),
         Err(SignFault::Refused) => Err(NoteFault::Sign(place)),
         Err(SignFault::OutOfMemory) => Err(NoteFault::OutOfMemory),
     }

@@ -14,7 +14,3 @@ pub record Witnessed : Type 0 where
 -- the same, with one step more
 abbrev pub with_step : Witnessed → Step → Witnessed
 with_step one step = record one { chain = one.chain ++ step ∷ [] }
-
--- the key under this name
-abbrev pub named_key : Bytes → SigningKey → SigningKey
-named_key name key = record key { name = name }

@@ -5,21 +5,21 @@ use Rattle.std.specs.declared.vec.Vec.{Vec}
 use Rattle.tl_hash.specs.Bytes.{Bytes}
 use Rattle.tl_note.specs.declared.fault.NoteFault.{NoteFault}
 use Rattle.tl_note.specs.declared.fault.NoteFault.TheVariants.{Sign, OutOfMemory}
-use Rattle.tl_note.specs.Key.{SigningKey}
+use Rattle.tl_note.specs.Key.{MayGiveNone, SigningKey}
 use Rattle.tl_note.specs.Note.{Signature, IsSignature, signature_line}
 use Rattle.tl_note.specs.SignNote.{IsSignedBy, AreSigned, MayFail}
 
 -- what one signer answers: a signature, or that it may refuse the message or give no bytes
 abbrev pub GivesSignature : {A : Type 0} → Bytes → SigningKey → ℕ → Result (Vec ℕ A) NoteFault → Type 0
 GivesSignature message key place (Ok signature) = (0 < length signature.items) × IsTrue (key.may_give message signature.items)
-GivesSignature message key place (Err (Sign at)) = (at ≡ place) × (IsTrue (key.may_refuse message) ⊎ IsTrue (key.may_give message []))
+GivesSignature message key place (Err (Sign at)) = (at ≡ place) × MayGiveNone key message
 GivesSignature message key place (Err OutOfMemory) = ⊤
 GivesSignature message key place (Err _) = ⊥
 
 -- a line by this signer is added
 abbrev pub SignsLine : Bytes → SigningKey → ℕ → Bytes → Bytes → Result ⊤ NoteFault → Type 0
 SignsLine message key place old new (Ok _) = (line : Signature) × IsSignature line × IsSignedBy message key line × (new ≡ old ++ signature_line line)
-SignsLine message key place old new (Err (Sign at)) = (at ≡ place) × (IsTrue (key.may_refuse message) ⊎ IsTrue (key.may_give message []))
+SignsLine message key place old new (Err (Sign at)) = (at ≡ place) × MayGiveNone key message
 SignsLine message key place old new (Err OutOfMemory) = ⊤
 SignsLine message key place old new (Err _) = ⊥
 

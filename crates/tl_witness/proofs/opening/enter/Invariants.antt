@@ -1,6 +1,7 @@
 use Rattle.std.proofs.Common.{◌≡◌, ◌++◌, map, length, string_bytes}
 use Rattle.tl_witness.specs.Open.{Trusted, saved_chain}
-use Rattle.tl_witness.specs.Witnessed.{Witnessed, named_key}
+use Rattle.tl_witness.specs.Witnessed.{Witnessed}
+use Rattle.tl_note.specs.Key.{named_key}
 use Rattle.tl_witness.proofs.OpeningLaws.{HasEntered}
 use Rattle.tl_witness.proofs.opening.enter.Given as goal
 

@@ -1,7 +1,8 @@
 use Rattle.std.proofs.Common.{◌≡◌, ◌++◌, ◌+◌, map, length, ◌≤◌, string_bytes}
 use Rattle.std.specs.Prelude.{vec_capacity}
 use Rattle.tl_witness.specs.Runs.{IsLaterBook}
-use Rattle.tl_witness.specs.Witnessed.{Witnessed, named_key}
+use Rattle.tl_witness.specs.Witnessed.{Witnessed}
+use Rattle.tl_note.specs.Key.{named_key}
 use Rattle.tl_witness.proofs.shared.SharedWitness.into_book.Given as goal
 
 -- what was taken apart and what is left are all, each origin is a later one, and there is room for all

@@ -1,6 +1,7 @@
 use Rattle.std.proofs.Common.{◌≡◌, ◌++◌, ◌+◌, map, length, ◌≤◌, string_bytes}
 use Rattle.std.specs.Prelude.{vec_capacity}
-use Rattle.tl_witness.specs.Witnessed.{Witnessed, named_key}
+use Rattle.tl_witness.specs.Witnessed.{Witnessed}
+use Rattle.tl_note.specs.Key.{named_key}
 use Rattle.tl_witness.proofs.shared.SharedWitness.new.Given as goal
 
 -- what was moved and what is left are all, and there is room for it
