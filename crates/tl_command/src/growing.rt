@@ -64,7 +64,7 @@ impl<A: Allocator + Copy> Growing<A> {
             self.too_long = Some(self.edge.size());
             return Ok(());
         }
-        self.edge.append(self.line.as_slice())?;
+        self.edge.push(self.line.as_slice())?;
         Ok(())
     }
 

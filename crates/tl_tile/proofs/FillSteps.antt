@@ -1,7 +1,5 @@
 -- What the code has done of one entry at each level.
 use Rattle.std.proofs.Common.{◌≡◌, ℕ, ◌+◌, ◌-◌, ◌*◌, ◌/◌, ◌%◌, ◌^◌, ◌<◌, ◌≤◌, List, [], ◌∷◌, ◌++◌, length, map, take, drop, replicate, refl, sym, ap, ◌∙◌, arith}
-use Rattle.std.specs.Prelude.{vec_items}
-use Rattle.std.specs.declared.vec.Vec.{Vec}
 use Rattle.std.specs.List.{flat_map, range_with_len}
 use Rattle.std.proofs.lemmas.List.{length-append, drop_at, length-take-le, length-replicate, map-append}
 use Rattle.std.proofs.lemmas.List.FromFn.{map-range_with_len_more}
@@ -11,7 +9,7 @@ use Rattle.tl_hash.proofs.TreeLemmas.{tree_hash-one}
 use Rattle.tl_tile.specs.declared.resource.Tile.{Tile}
 use Rattle.tl_tile.specs.TileText.{full_tile, tile_text}
 use Rattle.tl_tile.specs.RightEdge.{shown, filled_tiles, shown_filled, hashes_below, count_below}
-use Rattle.tl_tile.specs.Inner.PartialHashes.{hash_at}
+use Rattle.tl_tile.specs.Inner.PartialHashes.{hash_at, partial_hashes}
 use Rattle.tl_tile.proofs.Levels.{wide_of, Folds}
 use Rattle.tl_tile.proofs.Below.{count_below-none, count_below-more, count_below-within, length-below, below_slice}
 use Rattle.tl_tile.proofs.Fills.{IsFilled, count_is, next_filled, before_wide, low_level, length_more, fill_kept, fold_step, text_step, filled_levels_are}
@@ -20,94 +18,101 @@ use Rattle.tl_tile.proofs.Fills.{IsFilled, count_is, next_filled, before_wide, l
 abbrev pub tiles_below : ℕ → ℕ → List Tile
 tiles_below size level = map (λ l. full_tile l (size / 256 ^ (l + 1) - 1)) (range_with_len 0 level)
 
--- the hash of the last full place of the level, and the tiles of the levels below it
-pub record IsFilling (H : Digest) (after : List (List ℕ)) (size level count : ℕ) (hash : List ℕ) (tiles : List (Tile × List ℕ)) : Type 0 where
-  pub hash_is : hash ≡ hash_at H after level (count - 1)
-  pub tiles_are : tiles ≡ map (shown H after) (tiles_below size level)
-
--- what is so at each turn of the loop
-pub record AreFilling (H : Digest) (size : ℕ) (leaf : List ℕ) (kept : List (List ℕ)) (level count left : ℕ) (hash : List ℕ) (tiles : List (Tile × List ℕ)) : Type 0 where
+-- what is so of the kept hashes at each turn of the loop: the hash is that of the last full place of the level
+pub record AreFilling (H : Digest) (size : ℕ) (leaf : List ℕ) (kept : List (List ℕ)) (level count left : ℕ) (hash : List ℕ) : Type 0 where
   pub filled : IsFilled size level count
   pub place : left + count_below (size - 1) level ≡ length kept
-  pub told : (entries : List (List ℕ)) (entry : List ℕ) → length entries + 1 ≡ size → kept ≡ hashes_below H entries 8 → leaf ≡ H (leaf_input entry) → IsFilling H (entries ++ entry ∷ []) size level count hash tiles
+  pub told : (entries : List (List ℕ)) (entry : List ℕ) → length entries + 1 ≡ size → kept ≡ hashes_below H entries 8 → leaf ≡ H (leaf_input entry) → hash ≡ hash_at H (entries ++ entry ∷ []) level (count - 1)
 
-pub filling-start : (H : Digest) (size : ℕ) (leaf : List ℕ) (kept : List (List ℕ)) (left : ℕ) (tiles : List (Tile × List ℕ)) → 0 < size → left ≡ length kept → tiles ≡ [] → AreFilling H size leaf kept 0 size left leaf tiles
-filling-start H size leaf kept left tiles some left_is none = record {
+-- what is so of the tiles: they are those of the levels below
+abbrev pub AreTilesBelow : Digest → ℕ → List ℕ → List (List ℕ) → ℕ → List (Tile × List ℕ) → Type 0
+AreTilesBelow H size leaf kept level tiles = (entries : List (List ℕ)) (entry : List ℕ) → length entries + 1 ≡ size → kept ≡ hashes_below H entries 8 → leaf ≡ H (leaf_input entry) → tiles ≡ map (shown H (entries ++ entry ∷ [])) (tiles_below size level)
+
+pub filling-start : (H : Digest) (size : ℕ) (leaf : List ℕ) (kept : List (List ℕ)) (left : ℕ) → 0 < size → left ≡ length kept → AreFilling H size leaf kept 0 size left leaf
+filling-start H size leaf kept left some left_is = record {
   filled = record { scaled = omega arith; some = some };
   place = omega (arith, left_is, count_below-none (size - 1));
   told = λ entries entry sized kept_is leaf_is.
       let start : length entries ≡ (size - 1) * 1 = omega (arith, sized) in
-      record {
-        hash_is = leaf_is ∙ sym (tree_hash-one H entry) ∙ sym (ap (λ (xs : List (List ℕ)). tree_hash H (take 1 xs)) (drop_at entries (entry ∷ []) ((size - 1) * 1) start));
-        tiles_are = none;
-      };
+      leaf_is ∙ sym (tree_hash-one H entry) ∙ sym (ap (λ (xs : List (List ℕ)). tree_hash H (take 1 xs)) (drop_at entries (entry ∷ []) ((size - 1) * 1) start));
 }
 
 -- there are hashes enough for a full tile
-pub filling-room : (H : Digest) (size : ℕ) (leaf : List ℕ) (kept : List (List ℕ)) (level count left : ℕ) (hash : List ℕ) (tiles : List (Tile × List ℕ)) → size < 2 ^ 32 → length kept ≡ count_below (size - 1) 8
-    → AreFilling H size leaf kept level count left hash tiles → count % 256 ≡ 0 → 255 ≤ left
-filling-room H size leaf kept level count left hash tiles small counted at whole =
+pub filling-room : (H : Digest) (size : ℕ) (leaf : List ℕ) (kept : List (List ℕ)) (level count left : ℕ) (hash : List ℕ) → size < 2 ^ 32 → length kept ≡ count_below (size - 1) 8
+    → AreFilling H size leaf kept level count left hash → count % 256 ≡ 0 → 255 ≤ left
+filling-room H size leaf kept level count left hash small counted at whole =
     let low = low_level size level count small at.filled in
     omega (arith, count_below-within (size - 1) level 8 (omega (arith, low)), before_wide size level count at.filled whole, at.place, counted)
 
-tiles_more : {A : Type 0} (H : Digest) (after : List (List ℕ)) (size level index : ℕ) (old new : List (Tile × Vec ℕ A)) (bytes : Vec ℕ A) → new ≡ old ++ (full_tile level index, bytes) ∷ []
-    → map (λ t. (t.0, vec_items t.1)) old ≡ map (shown H after) (tiles_below size level) → index ≡ size / 256 ^ (level + 1) - 1 → vec_items bytes ≡ tile_text H (full_tile level index) after
-    → map (λ t. (t.0, vec_items t.1)) new ≡ map (shown H after) (tiles_below size (level + 1))
-tiles_more {A = A} H after size level index old new bytes pushed so_far index_is text =
-    let view : Tile × Vec ℕ A → Tile × List ℕ = λ t. (t.0, vec_items t.1) in
+tiles_more : (H : Digest) (after : List (List ℕ)) (size level index : ℕ) (old new : List (Tile × List ℕ)) (bytes : List ℕ) → new ≡ old ++ (full_tile level index, bytes) ∷ []
+    → old ≡ map (shown H after) (tiles_below size level) → index ≡ size / 256 ^ (level + 1) - 1 → bytes ≡ tile_text H (full_tile level index) after
+    → new ≡ map (shown H after) (tiles_below size (level + 1))
+tiles_more H after size level index old new bytes pushed so_far index_is text =
     let f : ℕ → Tile = λ l. full_tile l (size / 256 ^ (l + 1) - 1) in
-    let own : (full_tile level index, vec_items bytes) ≡ shown H after (f level) =
+    let own : (full_tile level index, bytes) ≡ shown H after (f level) =
     (λ i. (full_tile level index, text i)) ∙ ap (λ (x : ℕ). shown H after (full_tile level x)) index_is in
     let more : tiles_below size (level + 1) ≡ tiles_below size level ++ f level ∷ [] = map-range_with_len_more f 0 level level (omega arith) in
-    ap (map view) pushed ∙ map-append view old ((full_tile level index, bytes) ∷ [])
-    ∙ (λ i. so_far i ++ own i ∷ [])
+    pushed ∙ (λ i. so_far i ++ own i ∷ [])
     ∙ sym (ap (map (shown H after)) more ∙ map-append (shown H after) (tiles_below size level) (f level ∷ []))
 
--- one level more
-pub filling-more : {A : Type 0} (H : Digest) (size : ℕ) (leaf : List ℕ) (kept : List (List ℕ)) (level count left start width : ℕ) (hash result : List ℕ) (old new : List (Tile × Vec ℕ A)) (bytes : Vec ℕ A)
-    → size < 2 ^ 32 → length kept ≡ count_below (size - 1) 8 → AreFilling H size leaf kept level count left hash (map (λ t. (t.0, vec_items t.1)) old) → count % 256 ≡ 0
-    → start ≡ left - 255 → width ≡ 255 → bytes.items ≡ flat_map (λ hash. hash) (take width (drop start kept) ++ hash ∷ []) → new ≡ old ++ (full_tile level (count / 256 - 1), bytes) ∷ []
-    → Folds H (take width (drop start kept)) hash result
-    → AreFilling H size leaf kept (level + 1) (count / 256) (left - 255) result (map (λ t. (t.0, vec_items t.1)) new)
-filling-more H size leaf kept level count left start width hash result old new bytes small counted at whole start_is width_is bytes_are pushed folds =
+-- the kept hashes that fold to the next level's hash
+slice_of : (H : Digest) (size : ℕ) (leaf : List ℕ) (kept : List (List ℕ)) (level count left start width : ℕ) (hash : List ℕ) → size < 2 ^ 32 → length kept ≡ count_below (size - 1) 8
+    → AreFilling H size leaf kept level count left hash → count % 256 ≡ 0 → start ≡ left - 255 → width ≡ 255
+    → (entries : List (List ℕ)) → length entries + 1 ≡ size → kept ≡ hashes_below H entries 8 → take width (drop start kept) ≡ partial_hashes H entries level
+slice_of H size leaf kept level count left start width hash small counted at whole start_is width_is entries sized kept_is =
     let low = low_level size level count small at.filled in
-    let room = filling-room H size leaf kept level count left hash (map (λ t. (t.0, vec_items t.1)) old) small counted at whole in
+    let room = filling-room H size leaf kept level count left hash small counted at whole in
     let wide = before_wide size level count at.filled whole in
-    let next = next_filled size level count at.filled whole in
-    let index : count / 256 - 1 ≡ size / 256 ^ (level + 1) - 1 = ap (λ (x : ℕ). x - 1) (sym (count_is size (level + 1) (count / 256) next)) in
+    let before : length entries ≡ size - 1 = omega (arith, sized) in
+    let own_width : width ≡ wide_of (length entries) level = omega (arith, width_is, wide, ap (λ (x : ℕ). wide_of x level) before) in
+    let stands : start + width + count_below (length entries) level ≡ length kept = omega (arith, start_is, width_is, room, at.place, ap (λ (x : ℕ). count_below x level) before) in
+    below_slice H entries level start width kept (omega (arith, low)) kept_is own_width stands
+
+-- one level more
+pub filling-more : (H : Digest) (size : ℕ) (leaf : List ℕ) (kept : List (List ℕ)) (level count left start width : ℕ) (hash result : List ℕ)
+    → size < 2 ^ 32 → length kept ≡ count_below (size - 1) 8 → AreFilling H size leaf kept level count left hash → count % 256 ≡ 0
+    → start ≡ left - 255 → width ≡ 255 → Folds H (take width (drop start kept)) hash result
+    → AreFilling H size leaf kept (level + 1) (count / 256) (left - 255) result
+filling-more H size leaf kept level count left start width hash result small counted at whole start_is width_is folds =
+    let room = filling-room H size leaf kept level count left hash small counted at whole in
+    let wide = before_wide size level count at.filled whole in
     record {
-      filled = next;
+      filled = next_filled size level count at.filled whole;
       place = omega (arith, at.place, room, wide, count_below-more (size - 1) level);
       told = λ entries entry sized kept_is leaf_is.
-          let so_far = at.told entries entry sized kept_is leaf_is in
-          let before : length entries ≡ size - 1 = omega (arith, sized) in
-          let own_width : width ≡ wide_of (length entries) level = omega (arith, width_is, wide, ap (λ (x : ℕ). wide_of x level) before) in
-          let stands : start + width + count_below (length entries) level ≡ length kept = omega (arith, start_is, width_is, room, at.place, ap (λ (x : ℕ). count_below x level) before) in
-          let slice = below_slice H entries level start width kept (omega (arith, low)) kept_is own_width stands in
-          record {
-            hash_is = fold_step H entries entry size level count (take width (drop start kept)) hash result sized at.filled whole slice so_far.hash_is folds;
-            tiles_are = tiles_more H (entries ++ entry ∷ []) size level (count / 256 - 1) old new bytes pushed so_far.tiles_are index
-                (text_step H entries entry size level count (take width (drop start kept)) hash bytes.items sized at.filled whole slice so_far.hash_is bytes_are);
-          };
+          let slice = slice_of H size leaf kept level count left start width hash small counted at whole start_is width_is entries sized kept_is in
+          fold_step H entries entry size level count (take width (drop start kept)) hash result sized at.filled whole slice (at.told entries entry sized kept_is leaf_is) folds;
     }
+
+-- one tile more
+pub tiles-more : (H : Digest) (size : ℕ) (leaf : List ℕ) (kept : List (List ℕ)) (level count left start width : ℕ) (hash : List ℕ) (old new : List (Tile × List ℕ)) (bytes : List ℕ)
+    → size < 2 ^ 32 → length kept ≡ count_below (size - 1) 8 → AreFilling H size leaf kept level count left hash → AreTilesBelow H size leaf kept level old → count % 256 ≡ 0
+    → start ≡ left - 255 → width ≡ 255 → bytes ≡ flat_map (λ hash. hash) (take width (drop start kept) ++ hash ∷ []) → new ≡ old ++ (full_tile level (count / 256 - 1), bytes) ∷ []
+    → AreTilesBelow H size leaf kept (level + 1) new
+tiles-more H size leaf kept level count left start width hash old new bytes small counted at tiles whole start_is width_is bytes_are pushed entries entry sized kept_is leaf_is =
+    let next = next_filled size level count at.filled whole in
+    let index : count / 256 - 1 ≡ size / 256 ^ (level + 1) - 1 = ap (λ (x : ℕ). x - 1) (sym (count_is size (level + 1) (count / 256) next)) in
+    let slice = slice_of H size leaf kept level count left start width hash small counted at whole start_is width_is entries sized kept_is in
+    tiles_more H (entries ++ entry ∷ []) size level (count / 256 - 1) old new bytes pushed (tiles entries entry sized kept_is leaf_is) index
+    (text_step H entries entry size level count (take width (drop start kept)) hash bytes sized at.filled whole slice (at.told entries entry sized kept_is leaf_is) bytes_are)
 
 -- ---- at the end of the loop
 
-pub filling-kept : (H : Digest) (size : ℕ) (leaf : List ℕ) (kept : List (List ℕ)) (level count left : ℕ) (hash : List ℕ) (tiles : List (Tile × List ℕ)) → size < 2 ^ 32
-    → AreFilling H size leaf kept level count left hash tiles → (count % 256 ≡ 0 → ⊥) → (entries : List (List ℕ)) (entry : List ℕ) → length entries + 1 ≡ size → kept ≡ hashes_below H entries 8 → leaf ≡ H (leaf_input entry)
+pub filling-kept : (H : Digest) (size : ℕ) (leaf : List ℕ) (kept : List (List ℕ)) (level count left : ℕ) (hash : List ℕ) → size < 2 ^ 32
+    → AreFilling H size leaf kept level count left hash → (count % 256 ≡ 0 → ⊥) → (entries : List (List ℕ)) (entry : List ℕ) → length entries + 1 ≡ size → kept ≡ hashes_below H entries 8 → leaf ≡ H (leaf_input entry)
     → take left kept ++ hash ∷ [] ≡ hashes_below H (entries ++ entry ∷ []) 8
-filling-kept H size leaf kept level count left hash tiles small at partly entries entry sized kept_is leaf_is =
-    fill_kept H entries entry size level count left hash kept sized at.filled partly (omega (arith, low_level size level count small at.filled)) (at.told entries entry sized kept_is leaf_is).hash_is kept_is at.place
+filling-kept H size leaf kept level count left hash small at partly entries entry sized kept_is leaf_is =
+    fill_kept H entries entry size level count left hash kept sized at.filled partly (omega (arith, low_level size level count small at.filled)) (at.told entries entry sized kept_is leaf_is) kept_is at.place
 
 pub filling-tiles : (H : Digest) (size : ℕ) (leaf : List ℕ) (kept : List (List ℕ)) (level count left : ℕ) (hash : List ℕ) (tiles : List (Tile × List ℕ)) → size < 2 ^ 32
-    → AreFilling H size leaf kept level count left hash tiles → (count % 256 ≡ 0 → ⊥) → (entries : List (List ℕ)) (entry : List ℕ) → length entries + 1 ≡ size → kept ≡ hashes_below H entries 8 → leaf ≡ H (leaf_input entry)
+    → AreFilling H size leaf kept level count left hash → AreTilesBelow H size leaf kept level tiles → (count % 256 ≡ 0 → ⊥) → (entries : List (List ℕ)) (entry : List ℕ) → length entries + 1 ≡ size → kept ≡ hashes_below H entries 8 → leaf ≡ H (leaf_input entry)
     → tiles ≡ shown_filled H (entries ++ entry ∷ [])
-filling-tiles H size leaf kept level count left hash tiles small at partly entries entry sized kept_is leaf_is =
+filling-tiles H size leaf kept level count left hash tiles small at below partly entries entry sized kept_is leaf_is =
     let after : List (List ℕ) = entries ++ entry ∷ [] in
     let new : size ≡ length after = sym (length_more entries entry ∙ sized) in
     let levels = filled_levels_are size level count at.filled partly (omega (arith, low_level size level count small at.filled)) in
     let filled : tiles_below size level ≡ filled_tiles size = sym (ap (map (λ l. full_tile l (size / 256 ^ (l + 1) - 1))) levels) in
-    (at.told entries entry sized kept_is leaf_is).tiles_are ∙ ap (map (shown H after)) (filled ∙ ap filled_tiles new)
+    below entries entry sized kept_is leaf_is ∙ ap (map (shown H after)) (filled ∙ ap filled_tiles new)
 
 -- the number of hashes afterwards, by the hashes of any list of that size
 pub filling-count : (size level count left length_kept : ℕ) → size < 2 ^ 32 → IsFilled size level count → 0 < size → (count % 256 ≡ 0 → ⊥) → length_kept ≡ count_below (size - 1) 8 → left + count_below (size - 1) level ≡ length_kept

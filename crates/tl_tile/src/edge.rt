@@ -1,6 +1,6 @@
 //! The right edge of a growing log: its size and the hashes of its partial tiles.
 
-ghost use Rattle.std.specs.Prelude.{◌≡◌, ◌≤◌, ◌<◌, ◌+◌, ◌-◌, ◌%◌, ◌^◌, ◌⊎◌, [], ◌∷◌, ◌++◌, List, length, map, vec_items, option_map, MatchOption, IfOk, OnOk, OnErr};
+ghost use Rattle.std.specs.Prelude.{◌≡◌, ◌≤◌, ◌<◌, ◌+◌, ◌-◌, ◌%◌, ◌^◌, ◌⊎◌, [], ◌∷◌, ◌++◌, List, length, map, vec_items, option_map, IsTrue, MatchOption, IfOk, OnOk, OnErr};
 ghost use Rattle.tl_hash.specs.Bytes.{Bytes};
 ghost use Rattle.tl_hash.specs.Tree.{tree_hash};
 ghost use Rattle.tl_tile.specs.TileText.{level_count};
@@ -144,10 +144,48 @@ impl<T: TreeHash, A: Allocator + Copy> Edge<T, A> {
         ensures unchanged { OnErr result (self.new ≡ self.old) }
         ensures full { OnErr result ((self.old.room ≤ length self.old.kept) ⊎ ((self.old.size + 1) % 256 ≡ 0)) }
     {
+        match self.add(entry, true) {
+            Ok(tiles) => Ok(tiles),
+            Err(fault) => Err(fault),
+        }
+    }
+
+    /// Adds one entry at the end, as `append` does, and makes no tiles. It fails only where the edge has no room for
+    /// one hash more; the edge then stays as it was.
+    pub fn push(&mut self, entry: &[u8]) -> Result<(), AllocError>
+        requires { self.old.size < 2 ^ 32 - 1 }
+        ensures entry { (entries : List Bytes)
+            → IsEdgeOf self.old T.digest_of entries
+            → OnOk result (IsEdgeOf self.new T.digest_of (entries ++ entry.now ∷ [])) }
+        ensures size { OnOk result (self.new.size ≡ self.old.size + 1) }
+        ensures unchanged { OnErr result (self.new ≡ self.old) }
+        ensures full { OnErr result (self.old.room ≤ length self.old.kept) }
+    {
+        match self.add(entry, false) {
+            Ok(_) => Ok(()),
+            Err(fault) => Err(fault),
+        }
+    }
+
+    // Adds one entry at the end. The full tiles that it completes are made if they are wanted.
+    fn add(&mut self, entry: &[u8], wanted: bool) -> Result<Vec<(Tile, Vec<u8, A>), A>, AllocError>
+        requires { self.old.size < 2 ^ 32 - 1 }
+        ensures entry { (entries : List Bytes)
+            → IsEdgeOf self.old T.digest_of entries
+            → OnOk result (IsEdgeOf self.new T.digest_of (entries ++ entry.now ∷ [])) }
+        ensures tiles { IsTrue wanted → (entries : List Bytes)
+            → IsEdgeOf self.old T.digest_of entries
+            → IfOk result (λ tiles. map (λ t. (t.0, vec_items t.1)) tiles.items
+            ≡ shown_filled T.digest_of (entries ++ entry.now ∷ [])) }
+        ensures size { OnOk result (self.new.size ≡ self.old.size + 1) }
+        ensures unchanged { OnErr result (self.new ≡ self.old) }
+        ensures full { OnErr result ((self.old.room ≤ length self.old.kept)
+            ⊎ (IsTrue wanted × ((self.old.size + 1) % 256 ≡ 0))) }
+    {
         let size = self.size + 1;
         let alloc = *self.kept.allocator();
         let leaf = leaf_hash(self.digest, entry);
-        let filled = fill(alloc, self.digest, &self.kept, size, leaf)?;
+        let filled = fill(alloc, self.digest, wanted, &self.kept, size, leaf)?;
         self.kept.reserve(1)?;
         self.kept.truncate(filled.left);
         self.kept.push_reserved(filled.hash);

@@ -1,8 +1,7 @@
 //! What hashes that stand side by side fold to: one hash, and the full tiles that an entry completes.
 
-ghost use Rattle.std.specs.Prelude.{◌≡◌, ◌<◌, ◌+◌, ◌*◌, ℕ, List, ◌≤◌, ◌-◌, ◌%◌, ◌^◌, [], ◌∷◌, ◌++◌, length, take, IfOk, OnErr};
+ghost use Rattle.std.specs.Prelude.{◌≡◌, ◌<◌, ◌+◌, ◌*◌, ℕ, List, ◌≤◌, ◌-◌, ◌%◌, ◌^◌, [], ◌∷◌, ◌++◌, length, take, IsTrue, IfOk, OnOk, OnErr};
 ghost use Rattle.tl_hash.specs.Bytes.{Bytes};
-ghost use Rattle.tl_hash.specs.Split.{IsSplit};
 ghost use Rattle.tl_hash.specs.Tree.{tree_hash, leaf_input};
 ghost use Rattle.tl_tile.specs.Run.{part, Run, IsRun};
 ghost use Rattle.tl_tile.specs.Inner.Rest.{IsRest};
@@ -14,15 +13,7 @@ ghost use Rattle.tl_tile.specs.RightEdge.{shown_filled, hashes_below, count_belo
 use crate::resource::Tile;
 use crate::tile::join;
 use std::alloc::{AllocError, Allocator};
-use tl_hash::{Hash, TreeHash, node_hash};
-
-// Where a tree over so many subtrees splits: the largest power of two below their number.
-pub(crate) fn split_of(count: usize) -> usize
-    requires { 1 < count }
-    ensures { IsSplit result count }
-{
-    (count - count / 2).next_power_of_two()
-}
+use tl_hash::{Hash, TreeHash, node_hash, split_point};
 
 // The hash over subtrees of one width side by side, and a last one after them that is no wider.
 pub(crate) fn fold_run<T: TreeHash>(h: T, hashes: &[Hash], last: Hash) -> Hash
@@ -33,7 +24,7 @@ pub(crate) fn fold_run<T: TreeHash>(h: T, hashes: &[Hash], last: Hash) -> Hash
     if hashes.is_empty() {
         return last;
     }
-    let k = split_of(hashes.len() + 1);
+    let k = split_point(hashes.len() as u64 + 1) as usize;
     let left = fold_run(h, &hashes[..k - 1], hashes[k - 1]);
     let right = fold_run(h, &hashes[k..], last);
     node_hash(h, left, right)
@@ -73,10 +64,32 @@ fn join_with<A: Allocator>(alloc: A, hashes: &[Hash], last: Hash) -> Result<Vec<
     Ok(bytes)
 }
 
-// What the last of `size` entries, whose leaf hash this is, makes of the hashes kept for those before it.
+// Adds the tile of these hashes and a last one, if tiles are wanted.
+fn push_tile<A: Allocator + Copy>(
+    tiles: &mut Vec<(Tile, Vec<u8, A>), A>,
+    wanted: bool,
+    tile: Tile,
+    hashes: &[Hash],
+    last: Hash,
+) -> Result<(), AllocError>
+    ensures added { IsTrue wanted → OnOk result (texts_of tiles.new.items
+        ≡ texts_of tiles.old.items ++ (tile, flat_map (λ hash. hash) (hashes.now ++ last ∷ [])) ∷ []) }
+    ensures memory { OnErr result (IsTrue wanted) }
+{
+    if !wanted {
+        return Ok(());
+    }
+    let bytes = join_with(*tiles.allocator(), hashes, last)?;
+    tiles.push((tile, bytes))?;
+    Ok(())
+}
+
+// What the last of `size` entries, whose leaf hash this is, makes of the hashes kept for those before it. Its tiles are
+// made if they are wanted.
 pub(crate) fn fill<T: TreeHash, A: Allocator + Copy>(
     alloc: A,
     h: T,
+    wanted: bool,
     kept: &[Hash],
     size: u64,
     leaf: Hash,
@@ -90,10 +103,10 @@ pub(crate) fn fill<T: TreeHash, A: Allocator + Copy>(
         → kept.now ≡ hashes_below T.digest_of entries 8 → leaf ≡ T.digest_of (leaf_input entry)
         → IfOk result (λ filled. take filled.left kept.now ++ filled.hash ∷ []
         ≡ hashes_below T.digest_of (entries ++ entry ∷ []) 8) }
-    ensures tiles { (entries : List Bytes) (entry : Bytes) → length entries + 1 ≡ size
+    ensures tiles { IsTrue wanted → (entries : List Bytes) (entry : Bytes) → length entries + 1 ≡ size
         → kept.now ≡ hashes_below T.digest_of entries 8 → leaf ≡ T.digest_of (leaf_input entry)
         → IfOk result (λ filled. texts_of filled.tiles.items ≡ shown_filled T.digest_of (entries ++ entry ∷ [])) }
-    ensures memory { OnErr result (size % 256 ≡ 0) }
+    ensures memory { OnErr result (IsTrue wanted × (size % 256 ≡ 0)) }
 {
     let mut tiles = Vec::new(alloc);
     let mut left = kept.len();
@@ -108,7 +121,7 @@ pub(crate) fn fill<T: TreeHash, A: Allocator + Copy>(
             width: 256,
         };
         let below = &kept[left - 255..left];
-        tiles.push((tile, join_with(alloc, below, hash)?))?;
+        push_tile(&mut tiles, wanted, tile, below, hash)?;
         hash = fold_run(h, below, hash);
         left -= 255;
         level += 1;

@@ -4,8 +4,7 @@ ghost use Rattle.std.specs.Prelude.{◌≡◌, ◌+◌, ◌*◌, ◌<◌, ◌≤
 ghost use Rattle.tl_hash.specs.Bytes.{Bytes};
 ghost use Rattle.tl_tile.specs.Folds.{IsHashAt, IsPartHash};
 
-use crate::fold::split_of;
-use tl_hash::{Hash, TreeHash, node_hash};
+use tl_hash::{Hash, TreeHash, node_hash, split_point};
 
 // The hash with this number in a tile's text.
 pub(crate) fn hash_in(text: &[u8], number: usize) -> Hash
@@ -26,7 +25,7 @@ pub(crate) fn fold_part<T: TreeHash>(h: T, text: &[u8], start: usize, count: usi
     if count == 1 {
         return hash_in(text, start);
     }
-    let k = split_of(count);
+    let k = split_point(count as u64) as usize;
     let left = fold_part(h, text, start, k);
     let right = fold_part(h, text, start + k, count - k);
     node_hash(h, left, right)

@@ -6,5 +6,5 @@ returns-then-count-eq1 g t c = part-one g.T.TreeHash.digest_of c.args.text.now c
 
 pub returns : goal.returns
 returns g t c =
-    part-split g.T.TreeHash.digest_of c.args.text.now c.args.start c.args.count c.split_of-k.result c.fold_part-left.result c.fold_part-right.result c.node_hash.result
-    c.split_of-k.ensures c.fold_part-left.ensures c.fold_part-right.ensures c.node_hash.ensures
+    part-split g.T.TreeHash.digest_of c.args.text.now c.args.start c.args.count c.split_point-k.result c.fold_part-left.result c.fold_part-right.result c.node_hash.result
+    c.split_point-k.ensures c.fold_part-left.ensures c.fold_part-right.ensures c.node_hash.ensures
