@@ -47,7 +47,7 @@ pub(crate) fn cosign<T: TreeHash, A: Allocator + Copy>(
     text: &str,
 ) -> Result<Option<String<A>>, AllocError>
     ensures { IfOk result (λ signed. MatchOption signed
-        (MayFailToCosign text.now time (named_key (string_bytes name.now.text) (signing_key signer.now)))
+        (MayFailToCosign text.now time (signing_key signer.now))
         (λ line. Cosigns text.now time (named_key (string_bytes name.now.text) (signing_key signer.now)) (string_bytes line))) }
 {
     match cosign_line_as(
