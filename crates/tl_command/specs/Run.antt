@@ -1,8 +1,11 @@
 -- What a command does with its input and its output.
-use Rattle.std.specs.Prelude.{◌≡◌, ◌⊎◌, ℕ, List, [], Result, Ok, Err, map, vec_items, Some, None}
+use Rattle.std.specs.Prelude.{◌≡◌, ◌⊎◌, ℕ, List, [], Option, Some, None, MatchOption, Result, Ok, Err, map, vec_items}
 use Rattle.std.specs.declared.vec.Vec.{Vec}
 use Rattle.tl_hash.specs.Bytes.{Bytes}
 use Rattle.tl_device.specs.Device.{Passage, IsSteady, HasFailed, IsUnwritten, ReadWhole, ReadPast, GaveSome, WroteWhole, WrotePart}
+use Rattle.tl_device.specs.ReadWhole.{InputFails}
+use Rattle.tl_device.specs.declared.counted.InputFault.{InputFault}
+use Rattle.tl_device.specs.declared.counted.InputFault.TheVariants as reading
 use Rattle.tl_command.specs.Lines.{entries_of, first_too_long}
 use Rattle.tl_command.specs.declared.fault.RunFault.{RunFault}
 use Rattle.tl_command.specs.declared.fault.RunFault.TheVariants.{Refused, Read, Write, TooLarge, EntryTooLong, OutOfMemory}
@@ -54,6 +57,17 @@ abbrev pub IsEntryFault : List Bytes → RunFault → Type 0
 IsEntryFault entries (EntryTooLong place) = first_too_long entries ≡ Some place
 IsEntryFault entries fault = ⊥
 
+-- the fault of reading an input that this is, if it is one
+abbrev pub input_fault : RunFault → Option InputFault
+input_fault Read = Some reading.Read
+input_fault TooLarge = Some reading.TooLarge
+input_fault OutOfMemory = Some reading.OutOfMemory
+input_fault fault = None
+
+-- reading an input of at most so many bytes fails with this
+abbrev pub ReadingFails : ℕ → Passage → RunFault → Type 0
+ReadingFails most p fault = MatchOption (input_fault fault) ⊥ (InputFails most p)
+
 -- the entries are the lines of the whole input, and none is too long
 pub record ReadEntries (p : Passage) (most : ℕ) (entries : List Bytes) : Type 0 where
   pub input : Bytes
@@ -70,8 +84,5 @@ pub record ReadTooLong (p : Passage) (most place : ℕ) : Type 0 where
 -- reading the entries of all that a reader gives, at most so many bytes
 abbrev pub ReadsEntries : {A : Type 0} → ℕ → Passage → Result (Vec (Vec ℕ A) A) RunFault → Type 0
 ReadsEntries most p (Ok entries) = ReadEntries p most (map vec_items (vec_items entries))
-ReadsEntries most p (Err Read) = HasFailed p
-ReadsEntries most p (Err TooLarge) = ReadPast p most
 ReadsEntries most p (Err (EntryTooLong place)) = ReadTooLong p most place
-ReadsEntries most p (Err OutOfMemory) = IsSteady p × GaveSome p
-ReadsEntries most p (Err fault) = ⊥
+ReadsEntries most p (Err fault) = ReadingFails most p fault

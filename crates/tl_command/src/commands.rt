@@ -2,6 +2,5 @@
 
 pub(crate) mod audit;
 pub(crate) mod check;
-pub(crate) mod consistency;
 pub(crate) mod head;
-pub(crate) mod inclusion;
+pub(crate) mod proving;

@@ -2,7 +2,6 @@
 #![tactic(auto)]
 
 mod audit_text;
-mod checkpoint_text;
 mod commands;
 mod entries;
 mod fault;
@@ -13,12 +12,10 @@ mod stored;
 mod streams;
 mod words;
 
-pub use checkpoint_text::checkpoint_of;
 pub use commands::audit::run_audit;
 pub use commands::check::run_check;
-pub use commands::consistency::run_consistency;
-pub use commands::head::run_head;
-pub use commands::inclusion::run_inclusion;
+pub use commands::head::{checkpoint_of, run_head};
+pub use commands::proving::{run_consistency, run_inclusion};
 pub use entries::read_entries;
 pub use fault::{RunFault, exit_of, fault_line};
 pub use stored::{root_of, store_of};

@@ -16,5 +16,5 @@ returns-clause-told g c = λ lines last told kept.
     let short = short_tells last (vec_items c.args.self.now.line) kept (λ e. c.if-len-eq-MOST_KEPT.false (omega (arith, e, c.args.self.now.line.ok.0, c.len.ensures))) in
     told_none c.args.self.now.too_long _ _ c.requires.none (
       push_short lines last was.0 short.0,
-      subst (λ (t : List ℕ). IsEdgeOf c.append.new.self sha256 (lines ++ t ∷ [])) (c.as_slice.ensures.value ∙ short.1) (c.in_ok-append.ensures.entry lines was.1),
+      subst (λ (t : List ℕ). IsEdgeOf c.push.new.self sha256 (lines ++ t ∷ [])) (c.as_slice.ensures.value ∙ short.1) (c.in_ok-push.ensures.entry lines was.1),
     )

@@ -4,10 +4,10 @@ use Rattle.std.proofs.lemmas.Result.{err_from_is_err_and}
 use Rattle.std.proofs.lemmas.List.{length-map}
 use Rattle.tl_command.proofs.LinesLemmas.{length-entries_of}
 use Rattle.tl_command.proofs.Asking.{asks_of_old}
-use Rattle.tl_command.proofs.commands.consistency.run_consistency.Goals as goal
+use Rattle.tl_command.proofs.commands.proving.run_consistency.Goals as goal
 
-pub proof_of-requires-clause-few : goal.proof_of-requires-clause-few
-proof_of-requires-clause-few g c =
+pub consistency_over-requires-clause-few : goal.consistency_over-requires-clause-few
+consistency_over-requires-clause-few g c =
     let read = c.in_ok-entries.ensures in
     let few = length-entries_of read.input in
     let same = ap length read.lines in

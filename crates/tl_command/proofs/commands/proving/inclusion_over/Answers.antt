@@ -4,7 +4,7 @@ use Rattle.sha2.specs.Sha256.{sha256}
 use Rattle.std.proofs.lemmas.List.{get_or-map}
 use Rattle.tl_hash.specs.Tree.{leaf_input}
 use Rattle.tl_command.proofs.ProofTexts.{inclusion_is}
-use Rattle.tl_command.proofs.commands.inclusion.proof_of.Goals as goal
+use Rattle.tl_command.proofs.commands.proving.inclusion_over.Goals as goal
 
 pub returns-clause-proof : goal.returns-clause-proof
 returns-clause-proof g c =

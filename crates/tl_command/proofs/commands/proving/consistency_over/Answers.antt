@@ -1,6 +1,6 @@
 use Rattle.std.proofs.Common.{◌∙◌, ◌≡◌, [], ap, sym, map, vec_items, length, arith, append-nil}
 use Rattle.tl_command.proofs.ProofTexts.{consistency_is}
-use Rattle.tl_command.proofs.commands.consistency.proof_of.Goals as goal
+use Rattle.tl_command.proofs.commands.proving.consistency_over.Goals as goal
 
 pub returns-clause-proof : goal.returns-clause-proof
 returns-clause-proof g c =
