@@ -7,15 +7,11 @@ mod audits;
 #[cfg(test)]
 mod builds;
 #[cfg(test)]
-mod devices;
-#[cfg(test)]
 mod heads;
 #[cfg(test)]
 mod keys;
 #[cfg(test)]
 mod large;
-#[cfg(test)]
-mod mirrors;
 #[cfg(test)]
 mod proof_texts;
 #[cfg(test)]

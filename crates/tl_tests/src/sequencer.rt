@@ -5,7 +5,6 @@ ghost use Rattle.tl_sequencer.specs.Log.{IsEndOf, IsSenderOf, rings_of};
 
 mod base;
 mod many;
-mod threads;
 
 use std::alloc::{AllocError, Allocator, Global};
 use std::test::Fail;

@@ -5,8 +5,6 @@
 #[cfg(test)]
 mod edge;
 #[cfg(test)]
-mod equal;
-#[cfg(test)]
 mod fetches;
 #[cfg(test)]
 mod reader;

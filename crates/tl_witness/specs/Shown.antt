@@ -1,10 +1,9 @@
 -- What contracts see of an origin.
 use Rattle.std.specs.Prelude.{List, string_bytes}
-use Rattle.tl_note.specs.Key.{Key, SigningKey}
+use Rattle.tl_note.specs.Key.{Key, SigningKey, named_key}
 use Rattle.tl_proof.specs.Acceptance.{Step}
 use Rattle.tl_witness.specs.declared.origin_state.Origin.{Origin}
 use Rattle.tl_witness.specs.Witnessed.{Witnessed}
-use Rattle.tl_note.specs.Key.{named_key}
 
 -- an origin whose boxes have these keys, with this chain: its cosigner signs under the name that was taken in
 abbrev pub witnessed : {A X Y : Type 0} {F : X → Type 0} {G : Y → Type 0} → Origin A X Y F G → List Key → SigningKey → List Step → Witnessed

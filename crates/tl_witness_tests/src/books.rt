@@ -1,8 +1,12 @@
-//! A book before its first link.
+//! A book before its first link, and what is refused at its opening.
 
-use crate::posts::{E0, E1, ORIGIN, TIME, body, fresh_book};
+use crate::logs::two_links;
+use crate::posts::{E0, E1, F1, ORIGIN, TIME, body, fresh_book, trust};
 use crate::savers::KeepingSaver;
+use std::alloc::{AllocError, Global};
 use std::test::Fail;
+use tl_hash::Sha256Tree;
+use tl_witness::{Book, BookFault};
 
 #[test]
 fn bodies_that_are_no_requests(rt: HostRuntime) -> Result<(), Fail> {
@@ -37,5 +41,40 @@ fn the_log_of_no_entries(rt: HostRuntime) -> Result<(), Fail> {
     assert_eq!(rt; reply.status, 409);
     assert_eq!(rt; reply.body.as_slice(), b"0\n".as_slice());
     assert_eq!(rt; saver.calls, 0);
+    Ok(())
+}
+
+// The fault of opening a book with these trusts and the chain of this origin.
+fn fault(
+    alloc: Global,
+    trusts: usize,
+    origin: &str,
+    proof: &str,
+) -> Result<Option<BookFault>, AllocError> {
+    let mut known = Vec::new(alloc);
+    for _ in 0..trusts {
+        known.push(trust(alloc, alloc, ORIGIN)?)?;
+    }
+    let mut chains = Vec::new(alloc);
+    chains.push((String::from_str(alloc, origin)?, two_links(alloc, proof)?))?;
+    match Book::open(alloc, alloc, Sha256Tree, known, chains) {
+        Ok(_book) => Ok(None),
+        Err(fault) => Ok(Some(fault)),
+    }
+}
+
+#[test]
+fn chains_that_are_taken_and_refused(rt: HostRuntime) -> Result<(), Fail> {
+    let alloc = rt.alloc();
+    assert_eq!(rt; fault(alloc, 1, ORIGIN, F1)?, None);
+    assert_eq!(rt;
+        fault(alloc, 1, ORIGIN, E1)?,
+        Some(BookFault::BadChain { chain: 0, link: 1 })
+    );
+    assert_eq!(rt; fault(alloc, 2, ORIGIN, F1)?, Some(BookFault::TwiceNamed));
+    assert_eq!(rt;
+        fault(alloc, 1, "example.com/x", F1)?,
+        Some(BookFault::NoTrust(0))
+    );
     Ok(())
 }

@@ -1,7 +1,6 @@
 //! Two origins with keys, cosigners and saved links of their own, opened, shared, and made a book again.
 
-use crate::links::are_first;
-use crate::logs::{Log, Saved, open_book};
+use crate::logs::{Log, Saved, are_first, open_book};
 use crate::posts::TIME;
 use crate::savers::KeepingSaver;
 use std::alloc::{AllocError, Global};

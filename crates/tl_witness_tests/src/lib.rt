@@ -8,15 +8,7 @@ mod kept;
 #[cfg(test)]
 mod large;
 #[cfg(test)]
-mod lines;
-#[cfg(test)]
-mod links;
-#[cfg(test)]
 mod logs;
-#[cfg(test)]
-mod opening;
-#[cfg(test)]
-mod origins;
 #[cfg(test)]
 mod posts;
 #[cfg(test)]
@@ -30,8 +22,4 @@ mod savers;
 #[cfg(test)]
 mod sequence;
 #[cfg(test)]
-mod sharing;
-#[cfg(test)]
 mod steps;
-#[cfg(test)]
-mod waiting;

@@ -1,14 +1,15 @@
 //! Logs that sign their own checkpoints, the bodies of requests for them, and books that trust them.
 
-use crate::posts::trust_in;
+use crate::posts::{E1, E2, trust_in};
 use base64::engine::general_purpose::STANDARD;
-use std::alloc::{AllocError, Global};
+use std::alloc::{AllocError, Allocator, Global};
 use std::test::Fail;
 use tl_hash::{Hash, Sha256Tree};
 use tl_note::{Signer, sign_note};
-use tl_proof::{Link, prove_tree};
+use tl_proof::{HashList, Link, prove_tree};
 use tl_store::{HashStore, tree_hash};
 use tl_testing::LengthKey;
+use tl_text::hash_of;
 use tl_witness::{Book, BookFault, Trust};
 
 /// More entries than any of the logs has.
@@ -126,4 +127,63 @@ pub fn open_book(
         return Err(BookFault::OutOfMemory);
     };
     Book::open(alloc, alloc, Sha256Tree, trusts, saved)
+}
+
+/// The hash that a text is in base64, or one of zeros where it is none.
+pub fn hash(text: &str) -> Hash {
+    hash_of(text).unwrap_or(Hash::from_bytes([0; 32]))
+}
+
+/// The chain of size 1 and of this size, with a proof of these hashes.
+pub fn first_link_and<A: Allocator + Copy>(
+    heap: A,
+    size: u64,
+    root: &str,
+    proof: &[&str],
+) -> Result<Vec<Link<A>, A>, AllocError> {
+    let mut links = Vec::new(heap);
+    links.push(Link {
+        size: 1,
+        root: hash(E1),
+        proof: HashList::from_vec(Vec::new(heap)),
+    })?;
+    let mut hashes = Vec::new(heap);
+    for text in proof {
+        hashes.push(hash(text))?;
+    }
+    links.push(Link {
+        size,
+        root: hash(root),
+        proof: HashList::from_vec(hashes),
+    })?;
+    Ok(links)
+}
+
+/// The chain of sizes 1 and 2, with this hash as the second proof.
+pub fn two_links<A: Allocator + Copy>(heap: A, proof: &str) -> Result<Vec<Link<A>, A>, AllocError> {
+    first_link_and(heap, 2, E2, &[proof])
+}
+
+// Whether two links say the same.
+fn is_same<A: Allocator, B: Allocator>(one: &Link<A>, other: &Link<B>) -> bool {
+    one.size == other.size
+        && one.root == other.root
+        && one.proof.as_slice() == other.proof.as_slice()
+}
+
+/// Whether these are the first links of a chain, so many of them.
+pub fn are_first<A: Allocator, B: Allocator>(
+    links: &[Link<A>],
+    whole: &[Link<B>],
+    count: usize,
+) -> bool {
+    if links.len() != count || whole.len() < count {
+        return false;
+    }
+    for (one, other) in links.iter().zip(whole.iter()) {
+        if !is_same(one, other) {
+            return false;
+        }
+    }
+    true
 }

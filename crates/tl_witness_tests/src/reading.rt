@@ -1,13 +1,18 @@
-//! Chains read back from the lines of saved links.
+//! The lines of saved links: written, and chains read back from them.
 
-use crate::links::{are_first, two_links};
-use crate::posts::{E1, E2, F1, ORIGIN, trust};
-use crate::steps::{LINES, MOST};
-use std::alloc::{AllocError, Global};
+ghost use Rattle.tl_proof.specs.Acceptance.{step_of};
+ghost use Rattle.tl_witness.specs.ChainLine.{IsChainLine};
+
+use crate::logs::{are_first, two_links};
+use crate::posts::{E1, E2, F1, ORIGIN, TIME, fresh_book, trust};
+use crate::savers::KeepingSaver;
+use crate::steps::{LINES, MOST, is_due, steps};
+use std::alloc::{AllocError, Allocator, Global};
 use std::test::Fail;
 use tl_hash::Sha256Tree;
+use tl_proof::Link;
 use tl_testing::Refusing;
-use tl_witness::{Book, BookFault, ChainFault, read_chain};
+use tl_witness::{Book, BookFault, ChainFault, SaveFault, Saver, read_chain, write_chain_line};
 
 // The line of a first link of an origin.
 fn first_line(alloc: Global, origin: &str) -> Result<String, AllocError> {
@@ -137,5 +142,70 @@ fn reading_with_memory_refused(rt: HostRuntime) -> Result<(), Fail> {
         assert_eq!(rt; read_chain(&heap, LINES.as_bytes())?.len(), 1);
     }
     assert!(rt; is_read);
+    Ok(())
+}
+
+// Whether the link's line is this one, and OutOfMemory comes where a growth is refused, of which there are some.
+fn is_line_refused<A: Allocator>(alloc: Global, origin: &str, link: &Link<A>, line: &str) -> bool
+    requires { IsChainLine (record { origin = origin.now; step = step_of link.now }) }
+{
+    for number in 1..MOST {
+        let heap = Refusing::at(alloc, number);
+        let is_written = match write_chain_line(&heap, origin, link) {
+            Ok(written) => written.as_str() == line,
+            Err(_) => false,
+        };
+        if is_written == heap.refused() {
+            return false;
+        }
+        if is_written {
+            return number > 1;
+        }
+        let is_written = match write_chain_line(&heap, origin, link) {
+            Ok(written) => written.as_str() == line,
+            Err(_) => false,
+        };
+        if !is_written {
+            return false;
+        }
+    }
+    false
+}
+
+// A saver that tries the lines of its links with growths refused, and then saves them.
+#[derive(Drop)]
+struct TryingSaver {
+    inner: KeepingSaver,
+    are_right: bool,
+}
+
+impl Saver for TryingSaver {
+    ghost saved = { λ s. ⟦<KeepingSaver as Saver>⟧.saved s.inner };
+
+    fn save<A: Allocator>(&mut self, origin: &str, link: &Link<A>) -> Result<(), SaveFault> {
+        let is_right = match write_chain_line(self.inner.alloc, origin, link) {
+            Ok(line) => is_line_refused(self.inner.alloc, origin, link, line.as_str()),
+            Err(_) => false,
+        };
+        self.are_right = self.are_right && is_right;
+        self.inner.save(origin, link)
+    }
+}
+
+#[test]
+fn each_line_with_memory_refused(rt: HostRuntime) -> Result<(), Fail> {
+    let alloc = rt.alloc();
+    let mut book = fresh_book(alloc, alloc, &[ORIGIN])?;
+    let mut saver = TryingSaver {
+        inner: KeepingSaver::new(alloc),
+        are_right: true,
+    };
+    for step in steps(alloc)? {
+        saver.inner.fails = step.save_fails;
+        let reply = book.add(step.body.as_bytes(), TIME, &mut saver);
+        assert!(rt; is_due(&reply, &step));
+    }
+    assert_eq!(rt; saver.inner.lines.as_str(), LINES);
+    assert!(rt; saver.are_right);
     Ok(())
 }

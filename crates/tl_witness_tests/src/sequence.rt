@@ -1,6 +1,6 @@
 //! Requests in order, to a book and to a witness that threads share.
 
-use crate::links::{are_first, two_links};
+use crate::logs::{are_first, two_links};
 use crate::posts::{F1, ORIGIN, TIME, fresh_book};
 use crate::savers::KeepingSaver;
 use crate::steps::{LINES, is_due, steps};
