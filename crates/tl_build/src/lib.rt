@@ -1,5 +1,11 @@
 //! The command `build`: every resource of the log whose entries are the lines of an input, as a static mirror serves
 //! them.
+//!
+//! ```
+//! let path = Some("tile/entries/000.p/2");
+//! run_build(alloc, alloc, "example.com/log", b"a secret", path, &mut reader, &mut writer)?;
+//! assert_eq!(writer.into_inner().as_slice(), b"\0\x05a cat\0\x05a dog");
+//! ```
 #![tactic(auto)]
 
 mod checkpoint_note;

@@ -8,7 +8,8 @@ ghost use Rattle.tl_checkpoint.specs.Inner.Cosigning.{IsNoCosignature};
 use itoa::Buffer;
 use std::alloc::{AllocError, Allocator, Global};
 use tl_note::{
-    NoteFault, SigView, SignFault, Signer, Verifier, is_key_name, signature_of, write_signature_line,
+    NoteFault, SigView, SignFault, Signer, Verifier, is_key_name, signature_of,
+    write_signature_line,
 };
 use tl_text::push_line;
 

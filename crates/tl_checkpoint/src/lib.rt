@@ -1,4 +1,11 @@
 //! Checkpoints of a transparency log and their texts (C2SP tlog-checkpoint).
+//!
+//! ```
+//! let text = "example.com/log\n0\n47DEQpj8HBSa+/TImW+5JCeuQeRkm5NMpJWZG3hSuFU=\n";
+//! let checkpoint = parse(alloc, text)?;
+//! assert!(checkpoint.root == empty_hash(Sha256Tree));
+//! assert_eq!(write(alloc, &checkpoint)?.as_str(), text);
+//! ```
 #![tactic(auto)]
 
 mod checkpoint;
@@ -8,7 +15,9 @@ mod parsing;
 mod writing;
 
 pub use checkpoint::{Checkpoint, CheckpointFault};
-pub use cosignature::{check_cosignature, cosign_line, cosign_line_as, cosign_message, cosignature_bytes};
+pub use cosignature::{
+    check_cosignature, cosign_line, cosign_line_as, cosign_message, cosignature_bytes,
+};
 pub use law::text_is_one_checkpoint;
 pub use parsing::parse;
 pub use writing::write;

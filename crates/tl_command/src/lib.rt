@@ -1,4 +1,11 @@
 //! The commands of the program `tlog`, over any reader and writer.
+//!
+//! ```
+//! let mut reader = Counted::new(b"a cat\na dog\n".as_slice());
+//! let mut writer = Counted::new(Vec::new(alloc));
+//! run_head(alloc, "example.com/log", &mut reader, &mut writer)?;
+//! assert!(writer.into_inner().starts_with(b"example.com/log\n2\n"));
+//! ```
 #![tactic(auto)]
 
 mod audit_text;

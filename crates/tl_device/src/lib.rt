@@ -1,4 +1,12 @@
 //! Readers and writers that remember whether they failed: reading a whole input, writing a whole text.
+//!
+//! ```
+//! let mut reader = Counted::new(b"two\nlines\n".as_slice());
+//! assert_eq!(read_whole(alloc, &mut reader, 100)?.len(), 10);
+//! let mut reader = Counted::new(b"two\nlines\n".as_slice());
+//! assert_eq!(read_whole(alloc, &mut reader, 9), Err(InputFault::TooLarge));
+//! assert!(!reader.failed());
+//! ```
 #![tactic(auto)]
 
 mod counted;

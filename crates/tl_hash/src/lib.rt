@@ -1,4 +1,11 @@
 //! Hashes of the Merkle trees of a transparency log (RFC 6962, section 2.1), over any digest function.
+//!
+//! ```
+//! let cat = leaf_hash(Sha256Tree, b"a cat");
+//! let dog = leaf_hash(Sha256Tree, b"a dog");
+//! let root = node_hash(Sha256Tree, cat, dog);
+//! assert!(root == entry_root(Sha256Tree, &entries)); // of a list of these two
+//! ```
 #![tactic(auto)]
 
 mod digest;

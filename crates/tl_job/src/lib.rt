@@ -1,5 +1,11 @@
 //! What the program does with its words: it runs the command that they name, tells a fault on standard error, and
 //! ends with a status.
+//!
+//! ```
+//! // tlog inclusion --index 7, of an input of two lines
+//! let status = run_words(alloc, &words, &mut reader, &mut writer, &mut errors);
+//! assert_eq!(status, 1);
+//! ```
 #![tactic(auto)]
 
 mod running;

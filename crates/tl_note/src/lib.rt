@@ -1,4 +1,10 @@
 //! Signed notes: texts with the signatures of keys that are handed in (C2SP signed-note).
+//!
+//! ```
+//! let note = sign_note(alloc, alloc, "Two cats were seen.\n", &[signer])?;
+//! let opened = open_note(alloc, note.as_str(), &[verifier])?; // of the same key
+//! assert_eq!(opened.note.text, "Two cats were seen.\n");
+//! ```
 #![tactic(auto)]
 
 mod fault;

@@ -1,4 +1,10 @@
 //! Inclusion and consistency proofs of a Merkle tree, their checks, and the laws of both (RFC 6962, section 2.1).
+//!
+//! ```
+//! let proof = prove_tree(alloc, Sha256Tree, 2, 1, &store)?; // from one entry to two
+//! assert!(check_tree(Sha256Tree, &proof, 2, root, 1, old_root));
+//! assert!(!check_tree(Sha256Tree, &proof, 2, root, 1, root));
+//! ```
 #![tactic(auto)]
 
 mod audit;

@@ -1,5 +1,15 @@
 //! Entries of many submitters, put into one log. Each submitter has a lane, a ring of its own, and no call waits or
 //! takes a lock.
+//!
+//! ```
+//! let (mut log, mut submitters) = open(alloc, 1, 16, 1000)?;
+//! let mut submitter = submitters.pop().unwrap();
+//! assert_eq!(submitter.submit(cat), Ok(0));
+//! assert_eq!(submitter.submit(dog), Ok(1));
+//! assert_eq!(log.take(0, 1), Ok(1)); // one entry of lane 0 is in the log
+//! log.end(submitter.close().unwrap())?; // and now the rest
+//! assert_eq!(log.close()?.len(), 2);
+//! ```
 #![tactic(auto)]
 
 mod complete;

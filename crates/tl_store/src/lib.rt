@@ -1,4 +1,13 @@
 //! Stored hashes of a growing Merkle tree: their numbers, how they are kept and read, and the tree's hash from them.
+//!
+//! ```
+//! let mut store = HashStore::new(alloc, Sha256Tree);
+//! store.append(b"a cat")?;
+//! store.append(b"a dog")?;
+//! let hashes = store.read(alloc, &[stored_index(0, 1), stored_index(1, 0)])?;
+//! assert!(hashes[0] == leaf_hash(Sha256Tree, b"a dog"));
+//! assert!(hashes[1] == tree_hash(alloc, Sha256Tree, 2, &store)?);
+//! ```
 #![tactic(auto)]
 
 mod head;

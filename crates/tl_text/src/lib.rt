@@ -1,4 +1,11 @@
 //! Pieces of texts that several formats share: lines, decimal numbers, base64 of hashes; and that each has one reading.
+//!
+//! ```
+//! let (size, rest) = first_line("12\nmore\n").unwrap();
+//! assert_eq!(rest, "more\n");
+//! assert_eq!(size_of(size), Some(12));
+//! assert_eq!(size_of("012"), None); // each number has one text
+//! ```
 #![tactic(auto)]
 
 mod blocks;

@@ -1,4 +1,13 @@
 //! Tiles of a log, entry bundles, and the paths under which a log serves them (C2SP tlog-tiles).
+//!
+//! ```
+//! let mut edge = Edge::new(alloc, Sha256Tree);
+//! edge.append(b"a cat")?;
+//! edge.append(b"a dog")?;
+//! let (tile, bytes) = edge.partial(0)?.unwrap();
+//! assert_eq!(path_of(alloc, &Resource::Tile(tile))?.as_str(), "tile/0/000.p/2");
+//! assert_eq!(bytes.len(), 64);
+//! ```
 #![tactic(auto)]
 
 mod bundle;

@@ -1,5 +1,5 @@
 //! Which tiles are fetched: none for no numbers, and each once for many; each tile of a large log with a bit changed;
-//! and stored hashes from tiles beside those of a store.
+//! and logs of equal entries, of any size.
 
 use crate::reader::stored_bytes;
 use crate::tables::{Trick, TrickSource, store_of};

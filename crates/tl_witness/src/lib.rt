@@ -1,4 +1,12 @@
 //! A witness of transparency logs: it cosigns checkpoints that extend those it cosigned before (C2SP tlog-witness).
+//!
+//! ```
+//! let mut book = Book::open(alloc, alloc, Sha256Tree, trusts, chains)?;
+//! let reply = book.add(body, 1_700_000_000, &mut saver);
+//! assert_eq!(reply.status, 200); // its body is a cosignature line
+//! let reply = book.add(body, 1_700_000_001, &mut saver);
+//! assert_eq!(reply.status, 409); // the log was cosigned at a larger size since
+//! ```
 #![tactic(auto)]
 
 mod book;

@@ -1,4 +1,4 @@
-//! A book before its first link, and what is refused at its opening.
+//! A book before its first link, and books opened with chains that were saved.
 
 use crate::logs::two_links;
 use crate::posts::{E0, E1, F1, ORIGIN, TIME, body, fresh_book, trust};

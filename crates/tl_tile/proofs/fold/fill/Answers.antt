@@ -6,9 +6,10 @@ use Rattle.tl_tile.proofs.FillSteps.{filling-start, filling-room, filling-more, 
 use Rattle.tl_tile.proofs.fold.fill.Goals as goal
 
 pub loop-count-init : goal.loop-count-init
-loop-count-init g c =
-    (filling-start g.T.TreeHash.digest_of c.args.size c.args.leaf c.args.kept.now (length c.args.kept.now) c.requires.some refl,
-    λ wanted entries entry sized kept leaf. ap (map (λ t. (t.0, vec_items t.1))) c.new-tiles.ensures.items)
+loop-count-init g c = (
+  filling-start g.T.TreeHash.digest_of c.args.size c.args.leaf c.args.kept.now (length c.args.kept.now) c.requires.some refl,
+  λ wanted entries entry sized kept leaf. ap (map (λ t. (t.0, vec_items t.1))) c.new-tiles.ensures.items,
+)
 
 pub overflow_sub-below : goal.overflow_sub-below
 overflow_sub-below g c =
@@ -28,12 +29,13 @@ overflow_add-level g c =
 pub loop-count-preserved : goal.loop-count-preserved
 loop-count-preserved g c =
     let room = filling-room g.T.TreeHash.digest_of c.args.size c.args.leaf c.args.kept.now c.loop-count.level c.loop-count.count c.loop-count.left c.loop-count.hash
-    c.requires.small c.requires.counted c.loop-count.invariant.0 c.loop-count-test.true in
-    (filling-more g.T.TreeHash.digest_of c.args.size c.args.leaf c.args.kept.now c.loop-count.level c.loop-count.count c.loop-count.left (c.loop-count.left - 255) (c.loop-count.left - (c.loop-count.left - 255)) c.loop-count.hash c.fold_run-hash.result
-    c.requires.small c.requires.counted c.loop-count.invariant.0 c.loop-count-test.true refl (omega (arith, room)) c.fold_run-hash.ensures,
-    λ wanted. tiles-more g.T.TreeHash.digest_of c.args.size c.args.leaf c.args.kept.now c.loop-count.level c.loop-count.count c.loop-count.left (c.loop-count.left - 255) (c.loop-count.left - (c.loop-count.left - 255)) c.loop-count.hash
-    (map (λ t. (t.0, vec_items t.1)) c.loop-count.tiles.items) (map (λ t. (t.0, vec_items t.1)) c.push_tile.new.tiles.items) _
-    c.requires.small c.requires.counted c.loop-count.invariant.0 (c.loop-count.invariant.1 wanted) c.loop-count-test.true refl (omega (arith, room)) refl (c.in_ok-push_tile.ensures.added wanted))
+    c.requires.small c.requires.counted c.loop-count.invariant.0 c.loop-count-test.true in (
+      filling-more g.T.TreeHash.digest_of c.args.size c.args.leaf c.args.kept.now c.loop-count.level c.loop-count.count c.loop-count.left (c.loop-count.left - 255) (c.loop-count.left - (c.loop-count.left - 255)) c.loop-count.hash c.fold_run-hash.result
+          c.requires.small c.requires.counted c.loop-count.invariant.0 c.loop-count-test.true refl (omega (arith, room)) c.fold_run-hash.ensures,
+      λ wanted. tiles-more g.T.TreeHash.digest_of c.args.size c.args.leaf c.args.kept.now c.loop-count.level c.loop-count.count c.loop-count.left (c.loop-count.left - 255) (c.loop-count.left - (c.loop-count.left - 255)) c.loop-count.hash
+          (map (λ t. (t.0, vec_items t.1)) c.loop-count.tiles.items) (map (λ t. (t.0, vec_items t.1)) c.push_tile.new.tiles.items) _
+          c.requires.small c.requires.counted c.loop-count.invariant.0 (c.loop-count.invariant.1 wanted) c.loop-count-test.true refl (omega (arith, room)) refl (c.in_ok-push_tile.ensures.added wanted),
+    )
 
 pub returns-clause-counted : goal.returns-clause-counted
 returns-clause-counted g c =
