@@ -11,7 +11,7 @@ ghost use Rattle.tl_tile.specs.Fetched.{texts_of};
 ghost use Rattle.tl_tile.specs.RightEdge.{shown_filled, hashes_below, count_below};
 
 use crate::resource::Tile;
-use crate::tile::join;
+use crate::tile::{full_tile, join};
 use std::alloc::{AllocError, Allocator};
 use tl_hash::{Hash, TreeHash, node_hash, split_point};
 
@@ -115,11 +115,7 @@ pub(crate) fn fill<T: TreeHash, A: Allocator + Copy>(
     let mut level = 0;
     while count % 256 == 0 {
         count /= 256;
-        let tile = Tile {
-            level,
-            index: count - 1,
-            width: 256,
-        };
+        let tile = full_tile(level, count - 1);
         let below = &kept[left - 255..left];
         push_tile(&mut tiles, wanted, tile, below, hash)?;
         hash = fold_run(h, below, hash);

@@ -3,6 +3,7 @@
 ghost use Rattle.std.specs.Prelude.{◌≡◌, ◌≤◌, ◌^◌, List, IfOk, IfErr, OnOk};
 ghost use Rattle.std.specs.List.{flat_map};
 ghost use Rattle.tl_hash.specs.Bytes.{Bytes, Digest};
+ghost use Rattle.tl_tile.specs.TileText as spec;
 ghost use Rattle.tl_tile.specs.TileText.{tile_text};
 ghost use Rattle.tl_tile.specs.Path.{IsTile};
 ghost use Rattle.tl_tile.specs.ReadTile.{end_of, HasTile, GivesTileFault};
@@ -26,6 +27,17 @@ fn numbers_of<A: Allocator>(alloc: A, tile: Tile) -> Result<Vec<u64, A>, ReadFau
         numbers.push(stored_index(8 * tile.level, tile.index * 256 + i as u64))?;
     }
     Ok(numbers)
+}
+
+/// The full tile of a level with this index.
+pub(crate) fn full_tile(level: u32, index: u64) -> Tile
+    ensures { result ≡ spec.full_tile level index }
+{
+    Tile {
+        level,
+        index,
+        width: 256,
+    }
 }
 
 // The hashes, one after the other.

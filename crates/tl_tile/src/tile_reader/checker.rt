@@ -14,6 +14,7 @@ ghost use Rattle.tl_tile.specs.SourceFaults.{GivesReadFault};
 
 use crate::resource::Tile;
 use crate::source::{SourceFault, TileSource, bad_tile};
+use crate::tile::full_tile;
 use crate::tile_reader::edge_root::{edge_root, partial_tile};
 use crate::tile_reader::fetched::FetchedTiles;
 use crate::tile_reader::fold_tile::fold_tile;
@@ -22,17 +23,6 @@ use crate::tile_reader::trees::TileTrees;
 use std::alloc::Allocator;
 use tl_hash::{Hash, TreeHash};
 use tl_store::ReadFault;
-
-// The full tile of a level with this index.
-fn full_tile(level: u32, index: u64) -> Tile
-    ensures { result ≡ spec.full_tile level index }
-{
-    Tile {
-        level,
-        index,
-        width: 256,
-    }
-}
 
 // The partial tile of the highest level that has one.
 fn highest_tile(size: u64) -> Tile

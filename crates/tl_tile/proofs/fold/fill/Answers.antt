@@ -1,4 +1,6 @@
-use Rattle.std.proofs.Common.{◌-◌, length, map, ap, arith, refl}
+use Rattle.std.proofs.Common.{◌-◌, ◌∙◌, ◌++◌, ◌∷◌, [], length, map, take, drop, ap, arith, refl}
+use Rattle.std.specs.List.{flat_map}
+use Rattle.tl_tile.specs.declared.resource.Tile.{Tile}
 use Rattle.std.specs.Prelude.{vec_items}
 use Rattle.std.proofs.lemmas.Result.{err_from_is_err_and}
 use Rattle.tl_tile.proofs.Fills.{low_level, filled_whole}
@@ -34,7 +36,7 @@ loop-count-preserved g c =
           c.requires.small c.requires.counted c.loop-count.invariant.0 c.loop-count-test.true refl (omega (arith, room)) c.fold_run-hash.ensures,
       λ wanted. tiles-more g.T.TreeHash.digest_of c.args.size c.args.leaf c.args.kept.now c.loop-count.level c.loop-count.count c.loop-count.left (c.loop-count.left - 255) (c.loop-count.left - (c.loop-count.left - 255)) c.loop-count.hash
           (map (λ t. (t.0, vec_items t.1)) c.loop-count.tiles.items) (map (λ t. (t.0, vec_items t.1)) c.push_tile.new.tiles.items) _
-          c.requires.small c.requires.counted c.loop-count.invariant.0 (c.loop-count.invariant.1 wanted) c.loop-count-test.true refl (omega (arith, room)) refl (c.in_ok-push_tile.ensures.added wanted),
+          c.requires.small c.requires.counted c.loop-count.invariant.0 (c.loop-count.invariant.1 wanted) c.loop-count-test.true refl (omega (arith, room)) refl (c.in_ok-push_tile.ensures.added wanted ∙ ap (λ (t : Tile). map (λ t. (t.0, vec_items t.1)) c.loop-count.tiles.items ++ (t, flat_map (λ hash. hash) (take (c.loop-count.left - (c.loop-count.left - 255)) (drop (c.loop-count.left - 255) c.args.kept.now) ++ c.loop-count.hash ∷ [])) ∷ []) c.full_tile-tile.ensures),
     )
 
 pub returns-clause-counted : goal.returns-clause-counted
