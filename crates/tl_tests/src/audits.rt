@@ -1,6 +1,7 @@
 //! Audits: lists that extend, lists that collide under a weak digest, proofs that are refused, and growths refused in
 //! turn.
 
+use crate::readers::store_of_list;
 use std::alloc::{AllocError, Allocator, Global};
 use std::test::Fail;
 use tl_hash::{Hash, Sha256Tree, TreeHash, entry_root};
@@ -92,16 +93,6 @@ fn nodes_text(alloc: Global, first: [&str; 2], second: [&str; 2]) -> Result<Stri
     Ok(text)
 }
 
-fn store_of(alloc: Global, list: &[Vec<u8>]) -> Result<HashStore<Sha256Tree, Global>, AllocError> {
-    let mut store = HashStore::new(alloc, Sha256Tree);
-    for entry in list {
-        if store.size() < MOST {
-            store.append(entry)?;
-        }
-    }
-    Ok(store)
-}
-
 #[test]
 fn one_proof_between_two_lists(rt: HostRuntime) -> Result<(), Fail> {
     let alloc = rt.alloc();
@@ -116,7 +107,7 @@ fn one_proof_between_two_lists(rt: HostRuntime) -> Result<(), Fail> {
     assert_eq!(rt; told(alloc, answer)?.as_str(), "not accepted");
     let list = entries(alloc, 8)?;
     let first = entries(alloc, 6)?;
-    let proof = prove_tree(alloc, Sha256Tree, 8, 6, &store_of(alloc, &list)?)?;
+    let proof = prove_tree(alloc, Sha256Tree, 8, 6, &store_of_list(alloc, &list)?)?;
     let answer = audit_tree(alloc, Sha256Tree, &first, &list, &proof);
     assert_eq!(rt; told(alloc, answer)?.as_str(), "extends");
     let answer = audit_tree(alloc, Sha256Tree, &first, &list, &[]);

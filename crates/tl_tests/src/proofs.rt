@@ -1,5 +1,6 @@
 //! Proofs: the worked examples, each bit changed, all small sizes, and growths refused in turn.
 
+use crate::readers::store_of_list;
 use std::alloc::{AllocError, Global};
 use std::test::Fail;
 use tl_hash::{Hash, Sha256Tree, empty_hash, leaf_hash};
@@ -94,16 +95,6 @@ fn is_each_bit_needed(alloc: Global, claim: &Claim, proof: &[Hash]) -> Result<bo
     Ok(is_needed)
 }
 
-fn store_of(alloc: Global, list: &[Vec<u8>]) -> Result<HashStore<Sha256Tree, Global>, AllocError> {
-    let mut store = HashStore::new(alloc, Sha256Tree);
-    for entry in list {
-        if store.size() < MOST {
-            store.append(entry)?;
-        }
-    }
-    Ok(store)
-}
-
 // The hashes in hexadecimal, one after another.
 fn in_hex(alloc: Global, hashes: &[Hash]) -> Result<String, AllocError> {
     let mut text = String::new(alloc);
@@ -136,7 +127,7 @@ fn joined(alloc: Global, texts: [&str; 3]) -> Result<String, AllocError> {
 fn proofs_over_the_eight_entries(rt: HostRuntime) -> Result<(), Fail> {
     let alloc = rt.alloc();
     let list = entries(alloc, 8)?;
-    let store = store_of(alloc, &list)?;
+    let store = store_of_list(alloc, &list)?;
     let root = tree_hash(alloc, Sha256Tree, 8, &store)?;
     for (index, want) in [(0u64, [LEAVES[1], N23, N47]), (5, [LEAVES[4], N67, N03])] {
         let proof = prove_record(alloc, Sha256Tree, 8, index, &store)?;
@@ -177,7 +168,7 @@ fn proofs_over_the_eight_entries(rt: HostRuntime) -> Result<(), Fail> {
 #[test]
 fn proofs_over_seven_entries_have_these_lengths(rt: HostRuntime) -> Result<(), Fail> {
     let alloc = rt.alloc();
-    let store = store_of(alloc, &entries(alloc, 7)?)?;
+    let store = store_of_list(alloc, &entries(alloc, 7)?)?;
     for (index, length) in [(0u64, 3usize), (3, 3), (4, 3), (6, 2)] {
         assert_eq!(rt;
             prove_record(alloc, Sha256Tree, 7, index, &store)?.len(),
@@ -196,7 +187,7 @@ fn proofs_over_seven_entries_have_these_lengths(rt: HostRuntime) -> Result<(), F
 #[test]
 fn sizes_past_the_reader_are_out_of_range_where_a_hash_is(rt: HostRuntime) -> Result<(), Fail> {
     let alloc = rt.alloc();
-    let store = store_of(alloc, &entries(alloc, 7)?)?;
+    let store = store_of_list(alloc, &entries(alloc, 7)?)?;
     let refused = Some(ProveFault::Read(ReadFault::OutOfRange));
     assert!(rt; prove_record(alloc, Sha256Tree, 8, 0, &store).err() == refused);
     assert_eq!(rt; prove_record(alloc, Sha256Tree, 8, 7, &store)?.len(), 3);
@@ -259,7 +250,7 @@ fn every_proof_of_sizes_to_70_is_exact(rt: HostRuntime) -> Result<(), Fail> {
 #[test]
 fn provers_answer_out_of_memory(rt: HostRuntime) -> Result<(), Fail> {
     let alloc = rt.alloc();
-    let store = store_of(alloc, &entries(alloc, 7)?)?;
+    let store = store_of_list(alloc, &entries(alloc, 7)?)?;
     for number in 1..MOST {
         let heap = Refusing::at(alloc, number);
         let fault = prove_record(&heap, Sha256Tree, 7, 4, &store).err();

@@ -1,8 +1,79 @@
-//! Readers of stored hashes for tests: one of equal entries, which needs no store, and one whose source fails.
+//! Stores of few entries, and readers of stored hashes for tests: one that counts its reads, one of equal entries, which
+//! needs no store, and one whose source fails.
 
-use std::alloc::{Allocator, Global};
+use std::alloc::{AllocError, Allocator, Global};
+use std::cell::Cell;
 use tl_hash::{Hash, Sha256Tree, leaf_hash, node_hash};
 use tl_store::{HashReader, HashStore, ReadFault, split_index, stored_count};
+
+// More entries than any of the tests has.
+const MOST: u64 = 1000;
+
+/// A store of these entries, of which there are few.
+pub(crate) fn store_of<A: Allocator>(
+    alloc: A,
+    entries: &[&[u8]],
+) -> Result<HashStore<Sha256Tree, A>, AllocError> {
+    let mut store = HashStore::new(alloc, Sha256Tree);
+    for entry in entries {
+        if store.size() < MOST {
+            store.append(entry)?;
+        }
+    }
+    Ok(store)
+}
+
+/// A store of the entries of a list, of which there are few.
+pub(crate) fn store_of_list(
+    alloc: Global,
+    list: &[Vec<u8>],
+) -> Result<HashStore<Sha256Tree, Global>, AllocError> {
+    let mut store = HashStore::new(alloc, Sha256Tree);
+    for entry in list {
+        if store.size() < MOST {
+            store.append(entry)?;
+        }
+    }
+    Ok(store)
+}
+
+/// A reader over a store that counts its reads and the hashes asked of it.
+#[derive(Drop)]
+pub(crate) struct CountedReader {
+    store: HashStore<Sha256Tree, Global>,
+    pub(crate) reads: Cell<u32>,
+    pub(crate) hashes: Cell<usize>,
+}
+
+impl CountedReader {
+    /// A reader over this store of which nothing was read yet.
+    pub(crate) fn over(store: HashStore<Sha256Tree, Global>) -> CountedReader {
+        CountedReader {
+            store,
+            reads: Cell::new(0),
+            hashes: Cell::new(0),
+        }
+    }
+}
+
+impl HashReader for CountedReader {
+    ghost use Rattle.tl_store.specs.Store.{StandsFor};
+
+    ghost size = { λ r. r.store.size };
+
+    ghost stands_for = { λ r H entries. StandsFor r.store H entries };
+
+    ghost may_fail = { λ r fault. ⊥ };
+
+    fn read<B: Allocator>(&self, alloc: B, indexes: &[u64]) -> Result<Vec<Hash, B>, ReadFault> {
+        self.reads.set(self.reads.get().saturating_add(1));
+        self.hashes
+            .set(self.hashes.get().saturating_add(indexes.len()));
+        self.store.read(alloc, indexes)
+    }
+
+    ghost stands_size = { λ r H entries stands. (stands.0, stands.1) };
+}
 
 /// A log of equal entries, of any size: the hashes of one level are all the same.
 #[derive(Clone, Copy)]

@@ -1,10 +1,8 @@
 //! Stored hashes: the numbers, a store over the worked entries, heads, and refused growths.
 
-use crate::readers::FailingReader;
-use std::alloc::{AllocError, Allocator, Global};
-use std::cell::Cell;
+use crate::readers::{CountedReader, FailingReader, store_of};
 use std::test::Fail;
-use tl_hash::{Hash, Sha256Tree, empty_hash, entry_root};
+use tl_hash::{Sha256Tree, empty_hash, entry_root};
 use tl_proof::{ProveFault, prove_record, prove_tree};
 use tl_store::{
     HashReader, HashStore, ReadFault, split_index, stored_count, stored_index, tree_hash,
@@ -15,20 +13,6 @@ use tl_tile::{Tile, tile_bytes};
 
 // More requests than any of the calls makes.
 const MOST: u64 = 1000;
-
-// A store of these entries, of which there are few.
-fn store_of<A: Allocator>(
-    alloc: A,
-    entries: &[&[u8]],
-) -> Result<HashStore<Sha256Tree, A>, AllocError> {
-    let mut store = HashStore::new(alloc, Sha256Tree);
-    for entry in entries {
-        if store.size() < MOST {
-            store.append(entry)?;
-        }
-    }
-    Ok(store)
-}
 
 #[test]
 fn numbers_of_subtrees_and_back(rt: HostRuntime) -> Result<(), Fail> {
@@ -198,42 +182,11 @@ fn tree_hash_answers_out_of_memory(rt: HostRuntime) -> Result<(), Fail> {
     Ok(())
 }
 
-// A reader over a store that counts its reads and the hashes asked of it.
-#[derive(Drop)]
-struct CountedReader {
-    store: HashStore<Sha256Tree, Global>,
-    reads: Cell<u32>,
-    hashes: Cell<usize>,
-}
-
-impl HashReader for CountedReader {
-    ghost use Rattle.tl_store.specs.Store.{StandsFor};
-
-    ghost size = { λ r. r.store.size };
-
-    ghost stands_for = { λ r H entries. StandsFor r.store H entries };
-
-    ghost may_fail = { λ r fault. ⊥ };
-
-    fn read<B: Allocator>(&self, alloc: B, indexes: &[u64]) -> Result<Vec<Hash, B>, ReadFault> {
-        self.reads.set(self.reads.get().saturating_add(1));
-        self.hashes
-            .set(self.hashes.get().saturating_add(indexes.len()));
-        self.store.read(alloc, indexes)
-    }
-
-    ghost stands_size = { λ r H entries stands. (stands.0, stands.1) };
-}
-
 #[test]
 fn head_is_one_read_of_the_covering_subtrees(rt: HostRuntime) -> Result<(), Fail> {
     let alloc = rt.alloc();
     for (size, reads, hashes) in [(0, 0, 0), (1, 1, 1), (6, 1, 2), (7, 1, 3), (8, 1, 1)] {
-        let reader = CountedReader {
-            store: store_of(alloc, &ENTRIES)?,
-            reads: Cell::new(0),
-            hashes: Cell::new(0),
-        };
+        let reader = CountedReader::over(store_of(alloc, &ENTRIES)?);
         let _root = tree_hash(alloc, Sha256Tree, size, &reader)?;
         assert_eq!(rt; reader.reads.get(), reads, "at {size}");
         assert_eq!(rt; reader.hashes.get(), hashes, "at {size}");

@@ -1,10 +1,10 @@
 //! Tiles, entry bundles and their paths: worked examples, and refused growths.
 
-use std::alloc::{AllocError, Allocator, Global};
-use std::cell::Cell;
+use crate::readers::{CountedReader, store_of};
+use std::alloc::{AllocError, Global};
 use std::test::Fail;
-use tl_hash::{Hash, Sha256Tree};
-use tl_store::{HashReader, HashStore, ReadFault};
+use tl_hash::Sha256Tree;
+use tl_store::{HashStore, ReadFault};
 use tl_testing::Refusing;
 use tl_testing::vectors::{ENTRIES, LEAVES};
 use tl_tile::{
@@ -189,20 +189,6 @@ fn longest_entry_of_a_bundle(rt: HostRuntime) -> Result<(), Fail> {
     Ok(())
 }
 
-// A store of these entries, of which there are few.
-fn store_of<A: Allocator>(
-    alloc: A,
-    entries: &[&[u8]],
-) -> Result<HashStore<Sha256Tree, A>, AllocError> {
-    let mut store = HashStore::new(alloc, Sha256Tree);
-    for entry in entries {
-        if store.size() < MOST {
-            store.append(entry)?;
-        }
-    }
-    Ok(store)
-}
-
 #[test]
 fn tile_of_two_leaf_hashes(rt: HostRuntime) -> Result<(), Fail> {
     let alloc = rt.alloc();
@@ -230,33 +216,6 @@ fn tile_of_two_leaf_hashes(rt: HostRuntime) -> Result<(), Fail> {
     Ok(())
 }
 
-// A reader over a store that counts its reads and the hashes asked of it.
-#[derive(Drop)]
-struct CountedReader {
-    store: HashStore<Sha256Tree, Global>,
-    reads: Cell<u32>,
-    hashes: Cell<usize>,
-}
-
-impl HashReader for CountedReader {
-    ghost use Rattle.tl_store.specs.Store.{StandsFor};
-
-    ghost size = { λ r. r.store.size };
-
-    ghost stands_for = { λ r H entries. StandsFor r.store H entries };
-
-    ghost may_fail = { λ r fault. ⊥ };
-
-    fn read<B: Allocator>(&self, alloc: B, indexes: &[u64]) -> Result<Vec<Hash, B>, ReadFault> {
-        self.reads.set(self.reads.get().saturating_add(1));
-        self.hashes
-            .set(self.hashes.get().saturating_add(indexes.len()));
-        self.store.read(alloc, indexes)
-    }
-
-    ghost stands_size = { λ r H entries stands. (stands.0, stands.1) };
-}
-
 #[test]
 fn tile_is_one_read_of_its_hashes(rt: HostRuntime) -> Result<(), Fail> {
     let alloc = rt.alloc();
@@ -266,11 +225,7 @@ fn tile_is_one_read_of_its_hashes(rt: HostRuntime) -> Result<(), Fail> {
             store.append(&number.to_be_bytes())?;
         }
     }
-    let reader = CountedReader {
-        store,
-        reads: Cell::new(0),
-        hashes: Cell::new(0),
-    };
+    let reader = CountedReader::over(store);
     let mut reads = 0u32;
     let mut hashes = 0usize;
     for (level, index, width) in [(0, 0, 256), (0, 1, 44), (1, 0, 1)] {

@@ -1,12 +1,13 @@
 //! The right edge of a log: worked examples, a table beside a store of all hashes, and refused growths.
 
+use crate::reader::stored_bytes;
 use std::alloc::{AllocError, Allocator, Global};
 use std::test::Fail;
 use tl_hash::{Sha256Tree, empty_hash, entry_root};
 use tl_store::{HashStore, ReadFault, tree_hash};
 use tl_testing::Refusing;
 use tl_testing::vectors::{ENTRIES, LEAVES, ROOTS};
-use tl_tile::{Edge, Resource, Tile, needed, tile_bytes};
+use tl_tile::{Edge, Resource, Tile, needed};
 
 // More entries than any of the tests appends.
 const MOST: u64 = 100_000;
@@ -96,41 +97,6 @@ struct Both {
     edge: Edge<Sha256Tree, Global>,
     store: HashStore<Sha256Tree, Global>,
     full: usize,
-}
-
-// The bytes of a tile of the three lowest levels by the store.
-fn stored_bytes(
-    alloc: Global,
-    tile: Tile,
-    store: &HashStore<Sha256Tree, Global>,
-) -> Result<Vec<u8>, ReadFault> {
-    let Tile {
-        level,
-        index,
-        width,
-    } = tile;
-    if index >= MOST || width == 0 || width > 256 {
-        return Err(ReadFault::OutOfRange);
-    }
-    let lawful = match level {
-        0 => Tile {
-            level: 0,
-            index,
-            width,
-        },
-        1 => Tile {
-            level: 1,
-            index,
-            width,
-        },
-        2 => Tile {
-            level: 2,
-            index,
-            width,
-        },
-        _ => return Err(ReadFault::OutOfRange),
-    };
-    tile_bytes(alloc, lawful, store)
 }
 
 // Adds an entry to both, and says whether the edge gave tiles with the bytes that the store has.

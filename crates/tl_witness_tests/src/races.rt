@@ -150,7 +150,7 @@ fn answer_meanwhile<R: Wait>(
 }
 
 // The replies where the second request, and one to no origin, come while the link of the first is saved.
-fn replies<R: Threads + Wait + Sync>(
+fn replies_in_a_save<R: Threads + Wait + Sync>(
     rt: &R,
     alloc: Global,
     witness: &Witness,
@@ -185,7 +185,7 @@ fn a_request_waits_for_no_other_origin(rt: HostRuntime) -> Result<(), Fail> {
                 return Ok(());
             };
             let bodies = (quick.as_str(), unknown.as_str());
-            let (late, meanwhile) = replies(&rt, alloc, &witness, slow.as_str(), bodies)?;
+            let (late, meanwhile) = replies_in_a_save(&rt, alloc, &witness, slow.as_str(), bodies)?;
             assert!(rt; meanwhile.is_saving);
             assert_eq!(rt; (late.status, meanwhile.reply.status), (200, 200));
             assert_eq!(rt;

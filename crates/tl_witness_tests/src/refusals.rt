@@ -175,7 +175,7 @@ fn shared<'h>(
 }
 
 // Whether the links are the first of a chain, so many of them, at the second try where memory was refused.
-fn has_links<R: Wait>(
+fn has_shared_links<R: Wait>(
     rt: &R,
     witness: &SharedWitness<Sha256Tree, Heap<'_>>,
     heap: Heap<'_>,
@@ -203,7 +203,7 @@ fn has_links<R: Wait>(
 
 // Puts a request to the witness, once more where memory was refused. Whether each reply is the one that is due, and a
 // refusal left the chain as it was, with so many links, and saved nothing.
-fn is_taken<R: Wait>(
+fn is_taken_shared<R: Wait>(
     rt: &R,
     witness: &SharedWitness<Sha256Tree, Heap<'_>>,
     heap: Heap<'_>,
@@ -217,16 +217,16 @@ fn is_taken<R: Wait>(
     saver.fails = step.save_fails;
     let reply = witness.add(rt, step.body.as_bytes(), TIME, saver);
     if heap.refused() == was_refused {
-        return is_due(&reply, step) && has_links(rt, witness, heap, whole, step.links);
+        return is_due(&reply, step) && has_shared_links(rt, witness, heap, whole, step.links);
     }
     if reply.status != 500 || !reply.body.is_empty() {
         return false;
     }
-    if saver.calls != calls || !has_links(rt, witness, heap, whole, count) {
+    if saver.calls != calls || !has_shared_links(rt, witness, heap, whole, count) {
         return false;
     }
     let again = witness.add(rt, step.body.as_bytes(), TIME, saver);
-    is_due(&again, step) && has_links(rt, witness, heap, whole, step.links)
+    is_due(&again, step) && has_shared_links(rt, witness, heap, whole, step.links)
 }
 
 #[test]
@@ -244,7 +244,7 @@ fn a_shared_witness_answers_500(rt: HostRuntime) -> Result<(), Fail> {
         let mut saver = KeepingSaver::new(alloc);
         let mut count = 0;
         for step in list.iter() {
-            let is_right = is_taken(
+            let is_right = is_taken_shared(
                 &rt,
                 &witness,
                 &heap,
