@@ -30,7 +30,7 @@ fn words_of(alloc: Global, words: &[&str]) -> Result<Vec<String>, AllocError> {
 }
 
 // Runs the words over this reader.
-fn run<R: Read + Drop>(alloc: Global, words: &[&str], reader: R) -> Result<Ended, AllocError> {
+fn run_line<R: Read + Drop>(alloc: Global, words: &[&str], reader: R) -> Result<Ended, AllocError> {
     let words = words_of(alloc, words)?;
     let mut reader = Counted::new(reader);
     let mut writer = Counted::new(Vec::new(alloc));
@@ -74,7 +74,7 @@ fn faults_are_told_on_standard_error(rt: HostRuntime) -> Result<(), Fail> {
         (&["tlog", "check"], b"x\n", b"tlog: malformed input\n", 1),
     ];
     for (words, input, errors, status) in cases {
-        let ended = run(alloc, words, input)?;
+        let ended = run_line(alloc, words, input)?;
         assert_eq!(rt; ended.errors.as_slice(), errors);
         assert!(rt; ended.output.is_empty());
         assert_eq!(rt; ended.status, status);
@@ -90,7 +90,7 @@ fn words_that_name_no_job_are_explained(rt: HostRuntime) -> Result<(), Fail> {
         &["tlog", "head", "--size", "1"],
     ];
     for words in words {
-        let ended = run(rt.alloc(), words, b"a\n".as_slice())?;
+        let ended = run_line(rt.alloc(), words, b"a\n".as_slice())?;
         assert!(rt; ended.errors.len() > 10);
         assert!(rt; ended.output.is_empty());
         assert_eq!(rt; ended.status, 2);
@@ -102,7 +102,7 @@ fn words_that_name_no_job_are_explained(rt: HostRuntime) -> Result<(), Fail> {
 fn a_device_that_fails_ends_with_3(rt: HostRuntime) -> Result<(), Fail> {
     let alloc = rt.alloc();
     let reader = FailingReader::new(b"a\n", 1, 2, ErrorKind::Other);
-    let ended = run(alloc, &["tlog", "head", "--origin", "x"], reader)?;
+    let ended = run_line(alloc, &["tlog", "head", "--origin", "x"], reader)?;
     assert_eq!(rt; ended.errors.as_slice(), b"tlog: read failed\n".as_slice());
     assert_eq!(rt; ended.status, 3);
     let words = words_of(alloc, &["tlog", "head", "--origin", ""])?;
