@@ -3,6 +3,7 @@ use Rattle.std.specs.Prelude.{◌≢◌, ℕ, ◌==◌, nat_lt, List, [], ◌∷
 use Rattle.std.specs.List.{flat_map, slice_split}
 use Rattle.tl_hash.specs.Bytes.{Bytes}
 use Rattle.tl_text.specs.Text.{line}
+use Rattle.tl_tile.specs.Bundle.{most_entry}
 
 -- pieces without a last one that is empty
 abbrev pub without_empty_last : List Bytes → List Bytes
@@ -11,9 +12,9 @@ without_empty_last ([] ∷ []) = []
 without_empty_last ((byte ∷ piece) ∷ []) = (byte ∷ piece) ∷ []
 without_empty_last (piece ∷ next ∷ more) = piece ∷ without_empty_last (next ∷ more)
 
--- the entry has more than 65,535 bytes, the most that an entry bundle can hold (C2SP tlog-tiles, "Log entries")
+-- the entry has more bytes than an entry bundle can hold (C2SP tlog-tiles, "Log entries")
 abbrev pub is_too_long : Bytes → Bool
-is_too_long entry = nat_lt 65535 (length entry)
+is_too_long entry = nat_lt most_entry (length entry)
 
 -- the input is cut at each newline; what follows the last one is an entry if it isn't empty
 unfoldable pub entries_of : Bytes → List Bytes

@@ -11,9 +11,7 @@ use memchr::memchr;
 use std::alloc::{AllocError, Allocator};
 use std::io::Read;
 use tl_device::Counted;
-
-// The most bytes of an entry that an entry bundle can hold.
-const LONGEST_ENTRY: usize = 65_535;
+use tl_tile::LONGEST_ENTRY;
 
 // The first entry of an input that isn't empty, and the rest of the input.
 fn first_entry(input: &[u8]) -> (&[u8], &[u8])

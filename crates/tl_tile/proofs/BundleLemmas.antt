@@ -10,7 +10,7 @@ use Rattle.std.proofs.lemmas.Grind.{flat_map-append}
 use Rattle.std.proofs.lemmas.List.Concat.{flat_map-cons}
 use Rattle.std.proofs.lemmas.List.Elements.{All-append, All-cons, All-replicate, All-nil, All-push, All-head, All-tail}
 use Rattle.tl_tile.specs.Law.{BundlesAreOne, BundleFaultsApart}
-use Rattle.tl_tile.specs.Bundle.{bundled_entry, bundle_text, IsShortEntry, AreShortEntries, AreEntries, IsPartialEntry, IsBundle, IsTruncated, HasTrailing}
+use Rattle.tl_tile.specs.Bundle.{most_entry, bundled_entry, bundle_text, IsShortEntry, AreShortEntries, AreEntries, IsPartialEntry, IsBundle, IsTruncated, HasTrailing}
 
 abbrev pub IsBytes : List ℕ → Type 0
 IsBytes bytes = (i : ℕ) → get_or bytes i 0 < 256
@@ -95,8 +95,8 @@ all_read bytes count es (b ∷ rest) read none = absurd (omega (arith, none))
 
 -- ---- writing
 
-pub too_long_at : {A : Type 0} (entries : List (Vec ℕ A)) (i : ℕ) (v : Vec ℕ A) → i < length entries → v ≡ get_or entries i v → 2 ^ 16 ≤ length v.items
-    → Any (λ entry. 2 ^ 16 ≤ length entry) (map vec_items entries)
+pub too_long_at : {A : Type 0} (entries : List (Vec ℕ A)) (i : ℕ) (v : Vec ℕ A) → i < length entries → v ≡ get_or entries i v → most_entry < length v.items
+    → Any (λ entry. most_entry < length entry) (map vec_items entries)
 too_long_at entries i v less at long = (i, v.items, omega (arith, less, length-map entries vec_items), get_or-map vec_items entries i v v.items less ∙ ap vec_items (sym at), long)
 
 -- the entries up to the next
@@ -106,7 +106,7 @@ entries_more entries i v less at =
     let one : take (i + 1) entries ≡ take i entries ++ v ∷ [] = take_more entries i v less ∙ ap (λ (x : _). take i entries ++ x ∷ []) (sym at) in
     ap (map vec_items) one ∙ map-append vec_items (take i entries) (v ∷ [])
 
-pub short_more : {A : Type 0} (entries : List (Vec ℕ A)) (i : ℕ) (v : Vec ℕ A) → i < length entries → v ≡ get_or entries i v → length v.items < 2 ^ 16
+pub short_more : {A : Type 0} (entries : List (Vec ℕ A)) (i : ℕ) (v : Vec ℕ A) → i < length entries → v ≡ get_or entries i v → length v.items ≤ most_entry
     → AreShortEntries (map vec_items (take i entries)) → AreShortEntries (map vec_items (take (i + 1) entries))
 short_more entries i v less at short so_far =
     subst AreShortEntries (sym (entries_more entries i v less at)) (All-push IsShortEntry (map vec_items (take i entries)) v.items so_far short)
@@ -147,8 +147,8 @@ one_bundle (a ∷ cs) (b ∷ bs) x y sa sb len e =
     let left : bundle_text (a ∷ cs) ++ x ≡ to_be_bytes w16 (length a) ++ (a ++ (bundle_text cs ++ x)) = ap (λ (t : List ℕ). t ++ x) (flat_map-cons bundled_entry a cs) ∙ simp append_assoc in
     let right : bundle_text (b ∷ bs) ++ y ≡ to_be_bytes w16 (length b) ++ (b ++ (bundle_text bs ++ y)) = ap (λ (t : List ℕ). t ++ y) (flat_map-cons bundled_entry b bs) ∙ simp append_assoc in
     let same : to_be_bytes w16 (length a) ++ (a ++ (bundle_text cs ++ x)) ≡ to_be_bytes w16 (length b) ++ (b ++ (bundle_text bs ++ y)) = sym left ∙ e ∙ right in
-    let small_a : length a < 2 ^ 16 = All-head IsShortEntry a cs sa in
-    let small_b : length b < 2 ^ 16 = All-head IsShortEntry b bs sb in
+    let small_a : length a < 2 ^ 16 = omega (arith, All-head IsShortEntry a cs sa) in
+    let small_b : length b < 2 ^ 16 = omega (arith, All-head IsShortEntry b bs sb) in
     let heads : to_be_bytes w16 (length a) ≡ to_be_bytes w16 (length b) = ap (take 2) same in
     let len_ab : length a ≡ length b = sym (from_be_bytes-to_be_bytes_2 (length a) small_a) ∙ ap (from_be_bytes w16) heads ∙ from_be_bytes-to_be_bytes_2 (length b) small_b in
     let tails : a ++ (bundle_text cs ++ x) ≡ b ++ (bundle_text bs ++ y) = ap (drop 2) same in

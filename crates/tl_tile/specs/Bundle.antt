@@ -1,5 +1,5 @@
 -- An entry bundle (C2SP tlog-tiles, "Log Entries").
-use Rattle.std.specs.Prelude.{ℕ, ◌<◌, ◌^◌, ◌≡◌, ◌≢◌, List, [], ◌++◌, length, All}
+use Rattle.std.specs.Prelude.{ℕ, ◌≤◌, ◌≡◌, ◌≢◌, List, [], ◌++◌, length, All}
 use Rattle.std.specs.List.{flat_map}
 use Rattle.std.specs.Int.{w16, to_be_bytes}
 use Rattle.tl_hash.specs.Bytes.{Bytes}
@@ -12,9 +12,13 @@ bundled_entry entry = to_be_bytes w16 (length entry) ++ entry
 abbrev pub bundle_text : List Bytes → Bytes
 bundle_text entries = flat_map bundled_entry entries
 
--- at most 65,535 bytes
+-- the most bytes of an entry, whose length has 16 bits
+abbrev pub most_entry : ℕ
+most_entry = 65535
+
+-- an entry that a bundle can hold
 abbrev pub IsShortEntry : Bytes → Type 0
-IsShortEntry entry = length entry < 2 ^ 16
+IsShortEntry entry = length entry ≤ most_entry
 
 -- entries that a bundle can hold
 abbrev pub AreShortEntries : List Bytes → Type 0

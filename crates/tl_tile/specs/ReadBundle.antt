@@ -1,15 +1,15 @@
 -- What writing and reading a bundle answer.
-use Rattle.std.specs.Prelude.{ℕ, ◌≡◌, ◌≤◌, ◌^◌, List, length, Result, Ok, Err, Any, map, vec_items}
+use Rattle.std.specs.Prelude.{ℕ, ◌≡◌, ◌<◌, List, length, Result, Ok, Err, Any, map, vec_items}
 use Rattle.std.specs.declared.vec.Vec.{Vec}
 use Rattle.tl_hash.specs.Bytes.{Bytes}
 use Rattle.tl_tile.specs.declared.bundle.BundleFault.{BundleFault}
 use Rattle.tl_tile.specs.declared.bundle.BundleFault.TheVariants.{EntryTooLong, Truncated, Trailing, OutOfMemory}
-use Rattle.tl_tile.specs.Bundle.{bundle_text, AreShortEntries, AreEntries, IsBundle, IsTruncated, HasTrailing}
+use Rattle.tl_tile.specs.Bundle.{most_entry, bundle_text, AreShortEntries, AreEntries, IsBundle, IsTruncated, HasTrailing}
 
 -- the text, or that an entry is too long; memory is asked for only where none is
 abbrev pub WritesBundle : {A : Type 0} → List Bytes → Result (Vec ℕ A) BundleFault → Type 0
 WritesBundle entries (Ok text) = AreShortEntries entries × (text.items ≡ bundle_text entries)
-WritesBundle entries (Err EntryTooLong) = Any (λ entry. 2 ^ 16 ≤ length entry) entries
+WritesBundle entries (Err EntryTooLong) = Any (λ entry. most_entry < length entry) entries
 WritesBundle entries (Err Truncated) = ⊥
 WritesBundle entries (Err Trailing) = ⊥
 WritesBundle entries (Err OutOfMemory) = AreShortEntries entries

@@ -1,12 +1,15 @@
 //! Entry bundles: entries one after the other, each with its length in front (C2SP tlog-tiles, "Log Entries").
 
 ghost use Rattle.std.specs.Prelude.{◌≡◌, ◌<◌, ◌≤◌, ◌^◌, ◌++◌, length, OnOk, IfOk, MatchOption, MatchBool, Any, map, vec_items};
-ghost use Rattle.tl_tile.specs.Bundle.{bundled_entry, bundle_text, IsShortEntry, AreShortEntries, AreEntries, IsBundle, IsPartialEntry};
+ghost use Rattle.tl_tile.specs.Bundle.{most_entry, bundled_entry, bundle_text, IsShortEntry, AreShortEntries, AreEntries, IsBundle, IsPartialEntry};
 ghost use Rattle.tl_tile.specs.ReadBundle.{ReadsBundle, WritesBundle, ChecksBundle};
 ghost use Rattle.tl_tile.specs.declared.bundle.BundleFault.TheVariants.{OutOfMemory};
 
 use std::alloc::{AllocError, AllocFailed, Allocator};
 use thiserror::Error;
+
+/// The most bytes of an entry, whose length a bundle has in 16 bits (C2SP tlog-tiles, "Log Entries").
+pub const LONGEST_ENTRY: usize = 65_535;
 
 /// Why a bundle could not be written or read, in the order in which the refusals are checked.
 #[derive(Clone, Copy, Debug, PartialEq, Eq, Error)]
@@ -51,14 +54,14 @@ fn push_entry<A: Allocator>(out: &mut Vec<u8, A>, entry: &[u8]) -> Result<(), Al
     Ok(())
 }
 
-// Whether each entry has at most 65,535 bytes.
+// Whether each entry has at most `LONGEST_ENTRY` bytes.
 fn are_short<B: Allocator>(entries: &[Vec<u8, B>]) -> bool
     ensures { MatchBool result
         (AreShortEntries (map vec_items entries.now))
-        (Any (λ entry. 2 ^ 16 ≤ length entry) (map vec_items entries.now)) }
+        (Any (λ entry. most_entry < length entry) (map vec_items entries.now)) }
 {
     for entry in entries {
-        if entry.len() > 65_535 {
+        if entry.len() > LONGEST_ENTRY {
             return false;
         }
     }
