@@ -15,7 +15,7 @@ use Rattle.tl_tile.proofs.OnePath.{only_path}
 use Rattle.tl_tile.proofs.TileTexts.{scaled_le}
 use Rattle.tl_device.specs.Device.{Passage, IsUnwritten}
 use Rattle.tl_command.specs.Lines.{entries_of, first_too_long}
-use Rattle.tl_command.specs.Run.{Outcome, Prints, PrintsRefusal, Fails, Runs, CameOf, IsAsking, ReadEntries, most_input}
+use Rattle.tl_command.specs.Run.{Output, Prints, PrintsRefusal, Fails, Runs, CameOf, IsAsking, ReadEntries, most_input}
 use Rattle.tl_command.specs.declared.fault.RunFault.{RunFault}
 use Rattle.tl_command.specs.declared.fault.RunFault.TheVariants as fault
 use Rattle.tl_command.proofs.Asking.{gave_entry, none_too_long}
@@ -69,7 +69,7 @@ asked_lawful (Some path) None asked = absurd asked
 asked_lawful (Some path) (Some r) asked = (r, asked.0, asked.1)
 
 -- what comes of an input where a resource is wanted is what comes where its path is asked for
-wanted_comes : (origin secret : List ℕ) (get : Option (List ℕ)) (wanted : Option Resource) (input : List ℕ) (outcome : Outcome) → length input ≤ most_input
+wanted_comes : (origin secret : List ℕ) (get : Option (List ℕ)) (wanted : Option Resource) (input : List ℕ) (outcome : Output) → length input ≤ most_input
     → IsAsked get wanted → WantedComes origin secret wanted input outcome → BuildComes origin secret get input outcome
 wanted_comes origin secret get wanted input (Prints text) fits asked comes =
     (comes.0, asked_shown (checkpoint_note origin secret (entries_of input)) (entries_of input) get wanted text asked comes.1)
@@ -93,12 +93,12 @@ wanted_comes origin secret get wanted input (Fails fault.Listen) fits asked come
 wanted_comes origin secret get wanted input (Fails fault.Accept) fits asked comes = absurd comes
 wanted_comes origin secret get wanted input (Fails fault.OutOfMemory) fits asked comes = absurd comes
 
-came : (origin secret : List ℕ) (get : Option (List ℕ)) (wanted : Option Resource) (i : Passage) (outcome : Outcome) → IsAsked get wanted
+came : (origin secret : List ℕ) (get : Option (List ℕ)) (wanted : Option Resource) (i : Passage) (outcome : Output) → IsAsked get wanted
     → CameOf (WantedComes origin secret wanted) i outcome → CameOf (BuildComes origin secret get) i outcome
 came origin secret get wanted i outcome asked is =
     record { input = is.input; whole = is.whole; so = wanted_comes origin secret get wanted is.input outcome is.whole.fits asked is.so }
 
-never : (origin secret : List ℕ) (get : Option (List ℕ)) (wanted : Option Resource) (i o : Passage) (outcome : Outcome) → IsAsked get wanted
+never : (origin secret : List ℕ) (get : Option (List ℕ)) (wanted : Option Resource) (i o : Passage) (outcome : Output) → IsAsked get wanted
     → CameOf (WantedComes origin secret wanted) i outcome × IsUnwritten o → CameOf (BuildComes origin secret get) i outcome × IsUnwritten o
 never origin secret get wanted i o outcome asked is = (came origin secret get wanted i outcome asked is.0, is.1)
 

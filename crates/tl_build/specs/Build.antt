@@ -6,7 +6,7 @@ use Rattle.tl_tile.specs.declared.resource.Resource.{Resource}
 use Rattle.tl_tile.specs.Path.{IsResource, path_text}
 use Rattle.tl_device.specs.Device.{Passage, IsUnread, IsUnwritten}
 use Rattle.tl_command.specs.Lines.{entries_of, first_too_long}
-use Rattle.tl_command.specs.Run.{Outcome, Prints, PrintsRefusal, Fails, Runs, IsEntryFault}
+use Rattle.tl_command.specs.Run.{Output, Prints, PrintsRefusal, Fails, Runs, IsEntryFault}
 use Rattle.tl_command.specs.declared.fault.RunFault.{RunFault}
 use Rattle.tl_command.specs.declared.fault.RunFault.TheVariants.{BadOrigin, BadPath, NotThere}
 use Rattle.tl_build.specs.Mirror.{checkpoint_note, mirrored, resource_text, listing_text}
@@ -30,7 +30,7 @@ IsMissing size None = ⊥
 IsMissing size (Some path) = (r : Resource) → Contains (mirrored size) r → path_text r ≢ path
 
 -- what comes of an input: what is printed of the log of its lines, no such resource, or a line that is too long
-abbrev pub BuildComes : Bytes → Bytes → Option Bytes → Bytes → Outcome → Type 0
+abbrev pub BuildComes : Bytes → Bytes → Option Bytes → Bytes → Output → Type 0
 BuildComes origin secret get input (Prints text) =
     (first_too_long (entries_of input) ≡ None) × IsPrinted (checkpoint_note origin secret (entries_of input)) (entries_of input) get text
 BuildComes origin secret get input (PrintsRefusal text) = ⊥

@@ -8,22 +8,22 @@ use Rattle.tl_proof.specs.Audit.{AreAccepted}
 use Rattle.tl_proof.specs.Collisions.{IsPrefix, Exhibits, audit_inputs}
 use Rattle.tl_proof.specs.Acceptance.{Step}
 use Rattle.tl_command.specs.AuditText.{Audit, IsAudit, audit_text}
-use Rattle.tl_command.specs.Run.{Outcome, Prints, PrintsRefusal, Fails}
+use Rattle.tl_command.specs.Run.{Output, Prints, PrintsRefusal, Fails}
 use Rattle.tl_command.specs.declared.fault.RunFault.TheVariants.{Malformed}
 
 -- the one step of an audit: to the new list's size and root by the proof
-abbrev pub steps_of : Digest → Audit → List Step
-steps_of H a = record { size = length a.new; root = tree_hash H a.new; proof = a.proof } ∷ []
+abbrev pub audited_steps : Digest → Audit → List Step
+audited_steps H a = record { size = length a.new; root = tree_hash H a.new; proof = a.proof } ∷ []
 
 -- the proof is accepted from the old list's size and root to the new list's (RFC 6962, section 2.1.2)
 abbrev pub IsAccepted : Digest → Audit → Type 0
-IsAccepted H a = AreAccepted H a.old a.new (steps_of H a)
+IsAccepted H a = AreAccepted H a.old a.new (audited_steps H a)
 
 -- the text tells of two different byte strings that were hashed for the audit and have one digest
 pub record ShowsCollision (H : Digest) (a : Audit) (text : Bytes) : Type 0 where
   pub first : Bytes
   pub second : Bytes
-  pub collide : Exhibits H first second (audit_inputs H a.old a.new (steps_of H a))
+  pub collide : Exhibits H first second (audit_inputs H a.old a.new (audited_steps H a))
   pub spelled : text ≡ line (codes "collision") ++ line (encode_lower first) ++ line (encode_lower second)
 
 -- what is printed where the answer is no
@@ -41,7 +41,7 @@ pub record IsAuditOf (Fact : Audit → Type 0) (input : Bytes) : Type 0 where
 
 -- what comes of an input: the proof is accepted and the old list is a prefix of the new one, or the answer is no, or
 -- the input is malformed
-abbrev pub AuditComes : Digest → Bytes → Outcome → Type 0
+abbrev pub AuditComes : Digest → Bytes → Output → Type 0
 AuditComes H input (Prints text) = IsAuditOf (λ a. IsAccepted H a × IsPrefix a.old a.new) input × (text ≡ line (codes "extends"))
 AuditComes H input (PrintsRefusal text) = IsAuditOf (λ a. AuditRefuses H a text) input
 AuditComes H input (Fails Malformed) = (a : Audit) → IsAudit a → input ≢ audit_text a

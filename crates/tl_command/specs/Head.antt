@@ -7,7 +7,7 @@ use Rattle.tl_checkpoint.specs.Checkpoint.{checkpoint_text}
 use Rattle.tl_text.specs.Text.{IsOneLine}
 use Rattle.tl_device.specs.Device.{Passage, IsUnread, IsUnwritten}
 use Rattle.tl_command.specs.Lines.{entries_of, first_too_long}
-use Rattle.tl_command.specs.Run.{Outcome, Prints, PrintsRefusal, Fails, Runs, IsEntryFault}
+use Rattle.tl_command.specs.Run.{Output, Prints, PrintsRefusal, Fails, Runs, IsEntryFault}
 use Rattle.tl_command.specs.declared.fault.RunFault.{RunFault}
 use Rattle.tl_command.specs.declared.fault.RunFault.TheVariants.{BadOrigin}
 
@@ -17,7 +17,7 @@ head_text origin entries =
     checkpoint_text (record { origin = origin; size = length entries; root = tree_hash sha256 entries; extensions = [] })
 
 -- what comes of an input: the checkpoint of the log of its lines, or the first of them that is too long
-abbrev pub HeadComes : Bytes → Bytes → Outcome → Type 0
+abbrev pub HeadComes : Bytes → Bytes → Output → Type 0
 HeadComes origin input (Prints text) = (first_too_long (entries_of input) ≡ None) × (text ≡ head_text origin (entries_of input))
 HeadComes origin input (PrintsRefusal text) = ⊥
 HeadComes origin input (Fails fault) = IsEntryFault (entries_of input) fault

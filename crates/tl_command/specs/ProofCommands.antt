@@ -7,7 +7,7 @@ use Rattle.tl_text.specs.Text.{line}
 use Rattle.tl_proof.specs.Proofs.{inclusion_proof, consistency_proof}
 use Rattle.tl_command.specs.Lines.{entries_of, first_too_long}
 use Rattle.tl_command.specs.ProofText.{Inclusion, Consistency, Proof, IsProof, inclusion_text, consistency_text, proof_text, Accepts}
-use Rattle.tl_command.specs.Run.{Outcome, Prints, PrintsRefusal, Fails, IsEntryFault}
+use Rattle.tl_command.specs.Run.{Output, Prints, PrintsRefusal, Fails, IsEntryFault}
 use Rattle.tl_command.specs.declared.fault.RunFault.TheVariants.{BadIndex, BadOld, Malformed}
 
 -- the inclusion proof of the entry at this index (RFC 6962, section 2.1.1)
@@ -31,7 +31,7 @@ consistency_of old entries = record {
 }
 
 -- what comes of an input to `inclusion`: the proof over its lines, a line that is too long, or no entry at the index
-abbrev pub InclusionComes : ℕ → Bytes → Outcome → Type 0
+abbrev pub InclusionComes : ℕ → Bytes → Output → Type 0
 InclusionComes index input (Prints text) =
     (first_too_long (entries_of input) ≡ None) × (index < length (entries_of input)) × (text ≡ inclusion_text (inclusion_of index (entries_of input)))
 InclusionComes index input (PrintsRefusal text) = ⊥
@@ -40,7 +40,7 @@ InclusionComes index input (Fails fault) = IsEntryFault (entries_of input) fault
 
 -- what comes of an input to `consistency`: the proof over its lines, a line that is too long, or fewer lines than the
 -- old size
-abbrev pub ConsistencyComes : ℕ → Bytes → Outcome → Type 0
+abbrev pub ConsistencyComes : ℕ → Bytes → Output → Type 0
 ConsistencyComes old input (Prints text) =
     (first_too_long (entries_of input) ≡ None) × (old ≤ length (entries_of input)) × (text ≡ consistency_text (consistency_of old (entries_of input)))
 ConsistencyComes old input (PrintsRefusal text) = ⊥
@@ -55,7 +55,7 @@ pub record IsTextOf (Fact : Proof → Type 0) (input : Bytes) : Type 0 where
   pub fact : Fact proof
 
 -- what comes of an input to `check`: a proof's text is accepted or refused, and another input is malformed
-abbrev pub CheckComes : Bytes → Outcome → Type 0
+abbrev pub CheckComes : Bytes → Output → Type 0
 CheckComes input (Prints text) = IsTextOf (Accepts sha256) input × (text ≡ line (codes "accepted"))
 CheckComes input (PrintsRefusal text) = IsTextOf (λ p. ¬ (Accepts sha256 p)) input × (text ≡ line (codes "refused"))
 CheckComes input (Fails Malformed) = (p : Proof) → IsProof p → input ≢ proof_text p

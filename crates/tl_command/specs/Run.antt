@@ -11,39 +11,39 @@ use Rattle.tl_command.specs.declared.fault.RunFault.{RunFault}
 use Rattle.tl_command.specs.declared.fault.RunFault.TheVariants.{Refused, Read, Write, TooLarge, EntryTooLong, OutOfMemory}
 
 -- what is to come of an input: a text is printed, a text is printed that says no, or nothing is printed
-pub data Outcome : Type 0 where
-  Prints : Bytes → Outcome
-  PrintsRefusal : Bytes → Outcome
-  Fails : RunFault → Outcome
+pub data Output : Type 0 where
+  Prints : Bytes → Output
+  PrintsRefusal : Bytes → Output
+  Fails : RunFault → Output
 
 -- the most bytes that a command reads, 64 MiB
 abbrev pub most_input : ℕ
 most_input = 67108864
 
 -- the whole input was read, and this is to come of it
-pub record CameOf (Comes : Bytes → Outcome → Type 0) (i : Passage) (outcome : Outcome) : Type 0 where
+pub record CameOf (Comes : Bytes → Output → Type 0) (i : Passage) (outcome : Output) : Type 0 where
   pub input : Bytes
   pub whole : ReadWhole i most_input input
   pub so : Comes input outcome
 
 -- the whole input was read and all was written that is to come of it
-pub record Wrote (Comes : Bytes → Outcome → Type 0) (how : Bytes → Outcome) (i o : Passage) : Type 0 where
+pub record Wrote (Comes : Bytes → Output → Type 0) (how : Bytes → Output) (i o : Passage) : Type 0 where
   pub text : Bytes
   pub came : CameOf Comes i (how text)
   pub written : WroteWhole o text
 
 -- the whole input was read, and the writer failed in what is to come of it
-pub record WroteSome (Comes : Bytes → Outcome → Type 0) (i o : Passage) : Type 0 where
+pub record WroteSome (Comes : Bytes → Output → Type 0) (i o : Passage) : Type 0 where
   pub text : Bytes
   pub came : CameOf Comes i (Prints text) ⊎ CameOf Comes i (PrintsRefusal text)
   pub part : WrotePart o text
 
 -- a command asks for memory only where the reader gave some bytes, or where a text is printed of none
-abbrev pub IsAsking : (Bytes → Outcome → Type 0) → Passage → Type 0
+abbrev pub IsAsking : (Bytes → Output → Type 0) → Passage → Type 0
 IsAsking Comes i = GaveSome i ⊎ ((text : Bytes) × Comes [] (Prints text))
 
 -- a run of a command: i is its reader, o its writer, and `Comes` relates an input and what is to come of it
-abbrev pub Runs : (Bytes → Outcome → Type 0) → Passage → Passage → Result (Unit {0}) RunFault → Type 0
+abbrev pub Runs : (Bytes → Output → Type 0) → Passage → Passage → Result (Unit {0}) RunFault → Type 0
 Runs Comes i o (Ok done) = Wrote Comes Prints i o
 Runs Comes i o (Err Refused) = Wrote Comes PrintsRefusal i o
 Runs Comes i o (Err Read) = HasFailed i × IsUnwritten o

@@ -7,7 +7,7 @@ use Rattle.tl_tile.specs.Path.{IsResource, path_text}
 use Rattle.tl_command.specs.declared.fault.RunFault.{RunFault}
 use Rattle.tl_command.specs.declared.fault.RunFault.TheVariants.{BadPath, NotThere, OutOfMemory}
 use Rattle.tl_command.specs.Lines.{entries_of, first_too_long}
-use Rattle.tl_command.specs.Run.{Outcome, Prints, PrintsRefusal, Fails, IsEntryFault}
+use Rattle.tl_command.specs.Run.{Output, Prints, PrintsRefusal, Fails, IsEntryFault}
 use Rattle.tl_build.specs.Mirror.{checkpoint_note, mirrored, resource_text, listing_text}
 use Rattle.tl_build.specs.Build.{IsLawfulPath}
 
@@ -42,7 +42,7 @@ AnswersWanted note entries wanted (Err OutOfMemory) = Unit {0}
 AnswersWanted note entries wanted (Err fault) = ⊥
 
 -- what comes of an input where this resource, or the listing, is wanted
-abbrev pub WantedComes : Bytes → Bytes → Option Resource → Bytes → Outcome → Type 0
+abbrev pub WantedComes : Bytes → Bytes → Option Resource → Bytes → Output → Type 0
 WantedComes origin secret wanted input (Prints text) =
     (first_too_long (entries_of input) ≡ None) × IsShown (checkpoint_note origin secret (entries_of input)) (entries_of input) wanted text
 WantedComes origin secret wanted input (PrintsRefusal text) = ⊥
