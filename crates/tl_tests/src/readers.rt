@@ -1,5 +1,5 @@
-//! Stores of few entries, and readers of stored hashes for tests: one that counts its reads, one of equal entries, which
-//! needs no store, and one whose source fails.
+//! Stores of few entries, and readers of stored hashes for tests: one that counts its reads, one of equal entries,
+//! which needs no store, and one whose source fails.
 
 use std::alloc::{AllocError, Allocator, Global};
 use std::cell::Cell;
