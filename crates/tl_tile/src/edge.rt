@@ -144,10 +144,7 @@ impl<T: TreeHash, A: Allocator + Copy> Edge<T, A> {
         ensures unchanged { OnErr result (self.new ≡ self.old) }
         ensures full { OnErr result ((self.old.room ≤ length self.old.kept) ⊎ ((self.old.size + 1) % 256 ≡ 0)) }
     {
-        match self.add(entry, true) {
-            Ok(tiles) => Ok(tiles),
-            Err(fault) => Err(fault),
-        }
+        self.add(entry, true)
     }
 
     /// Adds one entry at the end, as `append` does, and makes no tiles. It fails only where the edge has no room for
@@ -161,10 +158,8 @@ impl<T: TreeHash, A: Allocator + Copy> Edge<T, A> {
         ensures unchanged { OnErr result (self.new ≡ self.old) }
         ensures full { OnErr result (self.old.room ≤ length self.old.kept) }
     {
-        match self.add(entry, false) {
-            Ok(_) => Ok(()),
-            Err(fault) => Err(fault),
-        }
+        self.add(entry, false)?;
+        Ok(())
     }
 
     // Adds one entry at the end. The full tiles that it completes are made if they are wanted.
