@@ -18,7 +18,3 @@ cosigned text time key name words message signature bytes id m given some named 
   named = named;
   spelled = spelled ∙ ap (λ (k : ℕ). line_of name k bytes) i ∙ ap (λ (t : List ℕ). line_of name key.id t) b;
 }
-
--- a key under its own name
-pub own_name : (name : List ℕ) (key : SigningKey) → name ≡ key.name → named_key name key ≡ key
-own_name name key same = ap (λ (n : List ℕ). named_key n key) same

@@ -66,11 +66,6 @@ note_of text new keys can adds = record {
   spelled = adds.added ∙ append_assoc text (10 ∷ []) (flat_map signature_line adds.lines);
 }
 
--- a signature of no bytes
-pub gives_none : (key : SigningKey) (message text signature : List ℕ) → IsTrue (key.may_give text signature) → text ≡ message → length signature ≡ 0 → IsTrue (key.may_give message [])
-gives_none key message text [] given same empty = subst (λ (m : List ℕ). IsTrue (key.may_give m [])) same given
-gives_none key message text (b ∷ bytes) given same empty = absurd (omega arith)
-
 -- the line of a signer
 pub line_of : (key : SigningKey) (message name signature old new : List ℕ) (id : ℕ) → IsSignature (record { name = name; id = id; bytes = signature }) → name ≡ key.name → id ≡ key.id → IsTrue (key.may_give message signature)
     → new ≡ old ++ signature_line (record { name = name; id = id; bytes = signature }) → (line : Signature) × IsSignature line × IsSignedBy message key line × (new ≡ old ++ signature_line line)

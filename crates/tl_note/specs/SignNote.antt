@@ -1,5 +1,5 @@
 -- What signing a note answers (C2SP signed-note, "Format").
-use Rattle.std.specs.Prelude.{◌≡◌, ℕ, ◌<◌, ◌≤◌, ◌⊎◌, List, [], length, take, All, slice_get, Result, Ok, Err, Some, IsTrue, string_bytes, String}
+use Rattle.std.specs.Prelude.{◌≡◌, ℕ, ◌<◌, ◌≤◌, List, length, take, All, slice_get, Result, Ok, Err, Some, IsTrue, string_bytes, String}
 use Rattle.std.specs.List.{AllZip}
 use Rattle.tl_hash.specs.Bytes.{Bytes}
 use Rattle.tl_note.specs.declared.fault.NoteFault.{NoteFault}

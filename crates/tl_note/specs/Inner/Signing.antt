@@ -1,5 +1,5 @@
 -- The steps of signing: one signature, one line, all lines.
-use Rattle.std.specs.Prelude.{◌≡◌, ℕ, ◌<◌, ◌⊎◌, List, [], ◌++◌, length, All, Result, Ok, Err, ⊤, IsTrue}
+use Rattle.std.specs.Prelude.{◌≡◌, ℕ, ◌<◌, List, ◌++◌, length, All, Result, Ok, Err, ⊤, IsTrue}
 use Rattle.std.specs.List.{flat_map}
 use Rattle.std.specs.declared.vec.Vec.{Vec}
 use Rattle.tl_hash.specs.Bytes.{Bytes}

@@ -1,4 +1,4 @@
-use Rattle.std.proofs.Common.{ap, subst, ◌∙◌}
+use Rattle.std.proofs.Common.{ap, ◌∙◌}
 use Rattle.tl_checkpoint.specs.Cosignature.{cosignature}
 use Rattle.tl_checkpoint.proofs.CosignatureLemmas.{cosigned}
 use Rattle.tl_checkpoint.proofs.cosignature.cosign_line_as.Goals as goal
