@@ -1,0 +1,142 @@
+//! Digests of four messages together.
+
+ghost use Rattle.std.specs.Prelude.{◌≡◌, ℕ, ◌+◌, ◌*◌, ◌/◌, ◌<◌, ◌≤◌, List, [], ◌∷◌, ◌++◌, length, slice_index, slice_index_or};
+ghost use Rattle.sha2.specs.Sha256.{compress, digest_bytes, initial_hash_256, sha256, word_at};
+ghost use Rattle.tl_lanes.specs.Lanes.{lane, lane_at};
+
+use crate::block::tagged_block;
+use crate::quad::compress4;
+use std::simd::u32x4;
+
+// The word that four bytes of a block are, the first byte the highest.
+fn word_from(block: &[u8; 64], at: usize) -> u32
+    requires { at + 4 ≤ 64 }
+    ensures { result ≡ word_at block.now at }
+{
+    u32::from_be_bytes([block[at], block[at + 1], block[at + 2], block[at + 3]])
+}
+
+// The vector that has word `k` of each block in its lane.
+#[inline(always)]
+fn gather(blocks: &[[u8; 64]; 4], k: usize) -> u32x4
+    requires { k < 16 }
+    ensures { (j : ℕ) → j < 4 → slice_index result j ≡ word_at (slice_index_or blocks.now j []) (4 * k) }
+{
+    u32x4::from_array([
+        word_from(&blocks[0], 4 * k),
+        word_from(&blocks[1], 4 * k),
+        word_from(&blocks[2], 4 * k),
+        word_from(&blocks[3], 4 * k),
+    ])
+}
+
+// Takes a block of each message in.
+#[inline(always)]
+fn take_in(state: &mut [u32x4; 8], blocks: &[[u8; 64]; 4])
+    ensures { (j : ℕ) → j < 4 → lane j state.new ≡ compress (lane j state.old) (slice_index_or blocks.now j []) }
+{
+    let mut words = [u32x4::splat(0); 16];
+    'gathered: for k in 0..16 {
+        words[k] = gather(blocks, k);
+    }
+    compress4(state, words);
+}
+
+// The hash values before any block (5.3.3).
+fn start() -> [u32x4; 8]
+    ensures { (j : ℕ) → j < 4 → lane j result ≡ initial_hash_256 }
+{
+    [
+        u32x4::splat(0x6a09e667),
+        u32x4::splat(0xbb67ae85),
+        u32x4::splat(0x3c6ef372),
+        u32x4::splat(0xa54ff53a),
+        u32x4::splat(0x510e527f),
+        u32x4::splat(0x9b05688c),
+        u32x4::splat(0x1f83d9ab),
+        u32x4::splat(0x5be0cd19),
+    ]
+}
+
+// Message `j`'s hash value as bytes.
+fn finish(state: &[u32x4; 8], j: usize) -> [u8; 32]
+    requires { j < 4 }
+    ensures { result ≡ digest_bytes (lane j state.now) 8 }
+{
+    let mut digest = [0u8; 32];
+    'written: for i in 0..8 {
+        let word = state[i].to_array()[j];
+        digest[4 * i..4 * i + 4].copy_from_slice(&word.to_be_bytes());
+    }
+    digest
+}
+
+// The work of both public functions. It is inlined into each: where the lengths are known, as for
+// pairs of hashes, the compiler then knows how many blocks there are and where the padding falls.
+#[inline(always)]
+fn four_digests(tag: u8, a: &[u8], b: &[u8], c: &[u8], d: &[u8]) -> [[u8; 32]; 4]
+    requires b { (length b.now + 9) / 64 ≡ (length a.now + 9) / 64 }
+    requires c { (length c.now + 9) / 64 ≡ (length a.now + 9) / 64 }
+    requires d { (length d.now + 9) / 64 ≡ (length a.now + 9) / 64 }
+    ensures a { slice_index_or result 0 [] ≡ sha256 (tag ∷ a.now) }
+    ensures b { slice_index_or result 1 [] ≡ sha256 (tag ∷ b.now) }
+    ensures c { slice_index_or result 2 [] ≡ sha256 (tag ∷ c.now) }
+    ensures d { slice_index_or result 3 [] ≡ sha256 (tag ∷ d.now) }
+{
+    let mut state = start();
+    let count = (a.len() + 9) / 64 + 1;
+    'blocks: for t in 0..count {
+        let blocks = [
+            tagged_block(tag, a, t),
+            tagged_block(tag, b, t),
+            tagged_block(tag, c, t),
+            tagged_block(tag, d, t),
+        ];
+        take_in(&mut state, &blocks);
+    }
+    [
+        finish(&state, 0),
+        finish(&state, 1),
+        finish(&state, 2),
+        finish(&state, 3),
+    ]
+}
+
+/// The SHA-256 digests of four messages: the byte `tag` and then `a`, `b`, `c` or `d`. All four must
+/// have the same number of blocks when padded.
+#[inline(never)]
+pub fn digest4(tag: u8, a: &[u8], b: &[u8], c: &[u8], d: &[u8]) -> [[u8; 32]; 4]
+    requires b { (length b.now + 9) / 64 ≡ (length a.now + 9) / 64 }
+    requires c { (length c.now + 9) / 64 ≡ (length a.now + 9) / 64 }
+    requires d { (length d.now + 9) / 64 ≡ (length a.now + 9) / 64 }
+    ensures a { slice_index_or result 0 [] ≡ sha256 (tag ∷ a.now) }
+    ensures b { slice_index_or result 1 [] ≡ sha256 (tag ∷ b.now) }
+    ensures c { slice_index_or result 2 [] ≡ sha256 (tag ∷ c.now) }
+    ensures d { slice_index_or result 3 [] ≡ sha256 (tag ∷ d.now) }
+{
+    four_digests(tag, a, b, c, d)
+}
+
+// A pair of hashes as one run of bytes.
+#[inline(always)]
+fn joined(left: &[u8; 32], right: &[u8; 32]) -> [u8; 64]
+    ensures { result ≡ left.now ++ right.now }
+{
+    let mut both = [0u8; 64];
+    both[..32].copy_from_slice(left);
+    both[32..].copy_from_slice(right);
+    both
+}
+
+/// The SHA-256 digests of four pairs of neighbours among `hashes`, each with the byte `tag` before it.
+#[inline(never)]
+pub fn digest_pairs4(tag: u8, hashes: &[[u8; 32]; 8]) -> [[u8; 32]; 4]
+    ensures { (j : ℕ) → j < 4 → slice_index_or result j []
+        ≡ sha256 (tag ∷ (slice_index_or hashes.now (2 * j) [] ++ slice_index_or hashes.now (2 * j + 1) [])) }
+{
+    let a = joined(&hashes[0], &hashes[1]);
+    let b = joined(&hashes[2], &hashes[3]);
+    let c = joined(&hashes[4], &hashes[5]);
+    let d = joined(&hashes[6], &hashes[7]);
+    four_digests(tag, &a, &b, &c, &d)
+}
