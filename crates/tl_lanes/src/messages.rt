@@ -71,8 +71,8 @@ fn finish(state: &[u32x4; 8], j: usize) -> [u8; 32]
     digest
 }
 
-// The work of both public functions. It is inlined into each: where the lengths are known, as for
-// pairs of hashes, the compiler then knows how many blocks there are and where the padding falls.
+// The work of both public functions. It is inlined into each: where the lengths are known, as for pairs of hashes, the
+// compiler then knows how many blocks there are and where the padding falls.
 #[inline(always)]
 fn four_digests(tag: u8, a: &[u8], b: &[u8], c: &[u8], d: &[u8]) -> [[u8; 32]; 4]
     requires b { (length b.now + 9) / 64 ≡ (length a.now + 9) / 64 }
@@ -102,8 +102,9 @@ fn four_digests(tag: u8, a: &[u8], b: &[u8], c: &[u8], d: &[u8]) -> [[u8; 32]; 4
     ]
 }
 
-/// The SHA-256 digests of four messages: the byte `tag` and then `a`, `b`, `c` or `d`. All four must
-/// have the same number of blocks when padded.
+/// The SHA-256 digests (FIPS 180-4, section 6.2) of four messages, in order: each is the byte `tag` and then `a`, `b`,
+/// `c` or `d`. All four must have the same number of blocks when padded: `(n + 9) / 64` is the same for the lengths `n`
+/// of `a`, `b`, `c` and `d` in bytes.
 #[inline(never)]
 pub fn digest4(tag: u8, a: &[u8], b: &[u8], c: &[u8], d: &[u8]) -> [[u8; 32]; 4]
     requires b { (length b.now + 9) / 64 ≡ (length a.now + 9) / 64 }
@@ -128,7 +129,8 @@ fn joined(left: &[u8; 32], right: &[u8; 32]) -> [u8; 64]
     both
 }
 
-/// The SHA-256 digests of four pairs of neighbours among `hashes`, each with the byte `tag` before it.
+/// The SHA-256 digests (FIPS 180-4, section 6.2) of four messages of 65 bytes: digest `j` is of the byte `tag`, then
+/// hash `2 * j` and then hash `2 * j + 1`, where the first hash is 0.
 #[inline(never)]
 pub fn digest_pairs4(tag: u8, hashes: &[[u8; 32]; 8]) -> [[u8; 32]; 4]
     ensures { (j : ℕ) → j < 4 → slice_index_or result j []

@@ -1,7 +1,7 @@
 //! One block of each of four messages, taken through SHA-256's rounds (FIPS 180-4, 6.2.2) together.
 //!
-//! A vector is a word of each message. What a function says of its vectors it says for each lane
-//! `j`, in the terms of the specification for a single message.
+//! A vector is a word of each message. What a function says of its vectors it says for each lane `j`, in the terms of
+//! the specification for a single message.
 
 ghost use Rattle.std.specs.Prelude.{◌≡◌, ℕ, ◌+◌, ◌*◌, ◌/◌, ◌^◌, ◌<◌, ◌≤◌, List, bit_and, bit_xor, slice_index, slice_set};
 ghost use Rattle.std.specs.Int.{rotate_right, w32};
@@ -69,9 +69,8 @@ fn choose(x: u32x4, y: u32x4, z: u32x4) -> u32x4
     xor(z, and(x, xor(y, z)))
 }
 
-// Maj, by four operations in place of five. A round calls it with `b` and `c` for `y` and `z`, which
-// were `a` and `b` in the round before. So the compiler can reuse that round's `xor(x, y)` as this
-// one's `xor(y, z)`, and three operations remain.
+// Maj, by four operations in place of five. A round calls it with `b` and `c` for `y` and `z`, which were `a` and `b`
+// in the round before. So the compiler can reuse that round's `xor(x, y)` as this one's `xor(y, z)`, and three remain.
 #[inline(always)]
 fn majority(x: u32x4, y: u32x4, z: u32x4) -> u32x4
     ensures { (j : ℕ) → j < 4 → slice_index result j ≡ maj (slice_index x j) (slice_index y j) (slice_index z j) }
@@ -79,10 +78,9 @@ fn majority(x: u32x4, y: u32x4, z: u32x4) -> u32x4
     xor(y, and(xor(x, y), xor(y, z)))
 }
 
-// The sigma functions are sums of rotations of `x`. Rotating a partial sum rotates each of its parts,
-// so here each rotation is of all that has been summed. It goes on from where the one before stopped:
-// with distances 9, 11 and 2 from the inside out, `x` is rotated by 2, 2 + 11 and 2 + 11 + 9. As
-// measured, this is faster than three rotations of `x`.
+// The sigma functions are sums of rotations of `x`. Rotating a partial sum rotates each of its parts, so here each
+// rotation is of all that has been summed. It goes on from where the one before stopped: with distances 9, 11 and 2
+// from the inside out, `x` is rotated by 2, 2 + 11 and 2 + 11 + 9. As measured, this is faster than three rotations.
 #[inline(always)]
 fn upper_sigma0(x: u32x4) -> u32x4
     ensures { (j : ℕ) → j < 4 → slice_index result j ≡ big_sigma0 (slice_index x j) }
@@ -156,8 +154,8 @@ fn four_early(ring: &[u32x4; 16], vars: [u32x4; 8], t: usize) -> [u32x4; 8]
     early_round(ring, third, t + 3)
 }
 
-// Makes a schedule's next word. It is a sum of four of the last sixteen words, of which the oldest is
-// needed for the last time, so the new word is put in its place.
+// Makes a schedule's next word. It is a sum of four of the last sixteen words, of which the oldest is needed for the
+// last time, so the new word is put in its place.
 #[inline(always)]
 fn extend(ring: &mut [u32x4; 16], place: usize) -> u32x4
     requires { place < 16 }
@@ -179,8 +177,7 @@ fn extend(ring: &mut [u32x4; 16], place: usize) -> u32x4
 // Round `16 * turn + place`, after the first sixteen. It makes the word that it takes.
 #[inline(always)]
 fn late_round(ring: &mut [u32x4; 16], vars: [u32x4; 8], turn: usize, place: usize) -> [u32x4; 8]
-    requires low { 1 ≤ turn }
-    requires high { turn < 4 }
+    requires turn { (0 < turn) × (turn ≤ 3) }
     requires place { place < 16 }
     ensures { (j : ℕ) → j < 4 → (b h : List ℕ) → IsRoundsAt b h (column j ring.old) (lane j vars) (16 * turn + place)
         → IsRoundsAt b h (column j ring.new) (lane j result) (16 * turn + (place + 1)) }
@@ -191,8 +188,7 @@ fn late_round(ring: &mut [u32x4; 16], vars: [u32x4; 8], turn: usize, place: usiz
 
 #[inline(always)]
 fn four_late(ring: &mut [u32x4; 16], vars: [u32x4; 8], turn: usize, place: usize) -> [u32x4; 8]
-    requires low { 1 ≤ turn }
-    requires high { turn < 4 }
+    requires turn { (0 < turn) × (turn ≤ 3) }
     requires place { place + 4 ≤ 16 }
     ensures { (j : ℕ) → j < 4 → (b h : List ℕ) → IsRoundsAt b h (column j ring.old) (lane j vars) (16 * turn + place)
         → IsRoundsAt b h (column j ring.new) (lane j result) (16 * turn + (place + 4)) }
@@ -203,7 +199,9 @@ fn four_late(ring: &mut [u32x4; 16], vars: [u32x4; 8], turn: usize, place: usize
     late_round(ring, third, turn, place + 3)
 }
 
-/// Takes one block of each message into its hash value. `words` holds the blocks' words: word `k` of all four in vector `k`.
+/// Takes one block of each of four messages into its hash value (FIPS 180-4, section 6.2.2). Lane `j` of all vectors is
+/// message `j`'s. `state` has the eight words of the hash values. `words` has the blocks' words: vector `k` the four
+/// that bytes `4 * k` to `4 * k + 3` of the blocks are, the first byte the highest.
 #[inline(never)]
 pub fn compress4(state: &mut [u32x4; 8], words: [u32x4; 16])
     ensures { (j : ℕ) → j < 4 → (b : List ℕ) → ((k : ℕ) → k < 16 → lane_at words k j ≡ word_at b (4 * k))
@@ -214,8 +212,7 @@ pub fn compress4(state: &mut [u32x4; 8], words: [u32x4; 16])
     vars = four_early(&ring, vars, 4);
     vars = four_early(&ring, vars, 8);
     vars = four_early(&ring, vars, 12);
-    // A turn goes once round the ring. Its places are numbers in the text, so no `% 16` is left to be
-    // computed while it runs.
+    // A turn goes once round the ring. Its places are numbers in the text, so no `% 16` is left to be computed.
     'turns: for turn in 1..4 {
         vars = four_late(&mut ring, vars, turn, 0);
         vars = four_late(&mut ring, vars, turn, 4);

@@ -4,7 +4,7 @@ use Rattle.tl_lanes.proofs.quad.extend.Goals as goal
 
 pub returns : goal.returns
 returns c =
-    let at : c.args.place % 16 ≡ c.args.place = omega arith in
+    let turned : c.args.place % 16 ≡ c.args.place = omega arith in
     record {
       value = λ j h.
           rw (
@@ -14,7 +14,7 @@ returns c =
             c.lower_sigma0.ensures j h,
             c.add-recent.ensures j h,
             c.lower_sigma1.ensures j h,
-            at,
+            turned,
           ) refl;
       ring = refl;
     }
