@@ -1,12 +1,13 @@
 //! Digest functions that a tree can be hashed with.
 
-ghost use Rattle.std.specs.Prelude.{◌≡◌, ◌++◌, length};
+ghost use Rattle.std.specs.Prelude.{◌≡◌, ℕ, ◌+◌, ◌*◌, ◌/◌, ◌<◌, [], ◌∷◌, ◌++◌, length, slice_index_or};
 ghost use Rattle.sha2.specs.Sha256.{sha256};
 ghost use Rattle.tl_hash.specs.Bytes.{Bytes};
 ghost use Rattle.tl_hash.specs.Sha256Length.{length-sha256};
 
 use crate::hash::Hash;
 use sha2::{Digest, Sha256};
+use tl_lanes::{digest_pairs4, digest4};
 
 /// A digest function H from byte strings to hashes. It belongs to the type: two values of one type have the same H.
 pub trait TreeHash: Copy {
@@ -17,6 +18,36 @@ pub trait TreeHash: Copy {
     fn digest(&self, a: &[u8], b: &[u8], c: &[u8]) -> Hash
         ensures { result ≡ digest_of (a.now ++ b.now ++ c.now) };
 
+    /// The digests of four messages, in order: each is the byte `tag` and then `a`, `b`, `c` or `d`. A type can take them
+    /// side by side; as it stands here they are taken one after the other.
+    fn digest_four(&self, tag: u8, a: &[u8], b: &[u8], c: &[u8], d: &[u8]) -> [Hash; 4]
+        ensures a { slice_index_or result 0 [] ≡ digest_of (tag ∷ a.now) }
+        ensures b { slice_index_or result 1 [] ≡ digest_of (tag ∷ b.now) }
+        ensures c { slice_index_or result 2 [] ≡ digest_of (tag ∷ c.now) }
+        ensures d { slice_index_or result 3 [] ≡ digest_of (tag ∷ d.now) }
+    {
+        [
+            self.digest(&[tag], a, &[]),
+            self.digest(&[tag], b, &[]),
+            self.digest(&[tag], c, &[]),
+            self.digest(&[tag], d, &[]),
+        ]
+    }
+
+    /// The digests of four messages of 65 bytes: digest `j` is of the byte `tag`, then hash `2 * j` and then hash
+    /// `2 * j + 1`, where the first hash is 0. A type can take them side by side, as in `digest_four`.
+    fn digest_pairs(&self, tag: u8, hashes: &[Hash; 8]) -> [Hash; 4]
+        ensures pairs { (j : ℕ) → j < 4 → slice_index_or result j []
+            ≡ digest_of (tag ∷ (slice_index_or hashes.now (2 * j) [] ++ slice_index_or hashes.now (2 * j + 1) [])) }
+    {
+        [
+            self.digest(&[tag], hashes[0].as_bytes(), hashes[1].as_bytes()),
+            self.digest(&[tag], hashes[2].as_bytes(), hashes[3].as_bytes()),
+            self.digest(&[tag], hashes[4].as_bytes(), hashes[5].as_bytes()),
+            self.digest(&[tag], hashes[6].as_bytes(), hashes[7].as_bytes()),
+        ]
+    }
+
     /// Every digest has 32 bytes.
     ghost digest_length: { (message : Bytes) → length (digest_of message) ≡ 32 };
 }
@@ -24,6 +55,13 @@ pub trait TreeHash: Copy {
 /// SHA-256 (FIPS 180-4).
 #[derive(Clone, Copy, Debug)]
 pub struct Sha256Tree;
+
+// One less than the number of blocks that SHA-256 pads a message to: a byte, and then `rest`.
+fn last_block(rest: &[u8]) -> usize
+    ensures { result ≡ (length rest.now + 9) / 64 }
+{
+    (rest.len() + 9) / 64
+}
 
 impl TreeHash for Sha256Tree {
     ghost digest_of = { sha256 };
@@ -34,6 +72,45 @@ impl TreeHash for Sha256Tree {
         hasher.update(b);
         hasher.update(c);
         Hash::from_bytes(hasher.finalize())
+    }
+
+    fn digest_four(&self, tag: u8, a: &[u8], b: &[u8], c: &[u8], d: &[u8]) -> [Hash; 4] {
+        let last = last_block(a);
+        if last_block(b) == last && last_block(c) == last && last_block(d) == last {
+            let digests = digest4(tag, a, b, c, d);
+            return [
+                Hash::from_bytes(digests[0]),
+                Hash::from_bytes(digests[1]),
+                Hash::from_bytes(digests[2]),
+                Hash::from_bytes(digests[3]),
+            ];
+        }
+        [
+            self.digest(&[tag], a, &[]),
+            self.digest(&[tag], b, &[]),
+            self.digest(&[tag], c, &[]),
+            self.digest(&[tag], d, &[]),
+        ]
+    }
+
+    fn digest_pairs(&self, tag: u8, hashes: &[Hash; 8]) -> [Hash; 4] {
+        let bytes = [
+            *hashes[0].as_bytes(),
+            *hashes[1].as_bytes(),
+            *hashes[2].as_bytes(),
+            *hashes[3].as_bytes(),
+            *hashes[4].as_bytes(),
+            *hashes[5].as_bytes(),
+            *hashes[6].as_bytes(),
+            *hashes[7].as_bytes(),
+        ];
+        let pairs = digest_pairs4(tag, &bytes);
+        [
+            Hash::from_bytes(pairs[0]),
+            Hash::from_bytes(pairs[1]),
+            Hash::from_bytes(pairs[2]),
+            Hash::from_bytes(pairs[3]),
+        ]
     }
 
     ghost digest_length = { length-sha256 };

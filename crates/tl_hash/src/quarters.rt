@@ -1,0 +1,65 @@
+//! Trees over lists of one length, hashed side by side.
+
+ghost use Rattle.std.specs.Prelude.{◌≡◌, ◌*◌, ◌<◌, [], length, map, slice_index_or, vec_items};
+ghost use Rattle.tl_hash.specs.Split.{IsSplit};
+ghost use Rattle.tl_hash.specs.Tree.{tree_hash};
+
+use crate::digest::TreeHash;
+use crate::hash::Hash;
+use crate::split::split_point;
+use crate::tree::node_hash;
+use std::alloc::Allocator;
+
+/// The Merkle tree hashes of four lists of equally many entries, one or more (RFC 6962, section 2.1). The recursion goes
+/// down the four lists in step.
+pub(crate) fn four_roots<T: TreeHash, A: Allocator>(
+    h: T,
+    a: &[Vec<u8, A>],
+    b: &[Vec<u8, A>],
+    c: &[Vec<u8, A>],
+    d: &[Vec<u8, A>],
+) -> [Hash; 4]
+    requires some { 0 < length a.now }
+    requires b { length b.now ≡ length a.now }
+    requires c { length c.now ≡ length a.now }
+    requires d { length d.now ≡ length a.now }
+    ensures a { slice_index_or result 0 [] ≡ tree_hash T.digest_of (map vec_items a.now) }
+    ensures b { slice_index_or result 1 [] ≡ tree_hash T.digest_of (map vec_items b.now) }
+    ensures c { slice_index_or result 2 [] ≡ tree_hash T.digest_of (map vec_items c.now) }
+    ensures d { slice_index_or result 3 [] ≡ tree_hash T.digest_of (map vec_items d.now) }
+{
+    if a.len() == 1 {
+        return h.digest_four(0, &a[0], &b[0], &c[0], &d[0]);
+    }
+    let k = split_point(a.len() as u64) as usize;
+    let left = four_roots(h, &a[..k], &b[..k], &c[..k], &d[..k]);
+    let right = four_roots(h, &a[k..], &b[k..], &c[k..], &d[k..]);
+    let pairs = [
+        left[0], right[0], left[1], right[1], left[2], right[2], left[3], right[3],
+    ];
+    h.digest_pairs(1, &pairs)
+}
+
+/// The Merkle tree hash of a list of `2 * k` entries that are four times `q`, by its quarters side by side (RFC 6962,
+/// section 2.1).
+pub(crate) fn quarters_root<T: TreeHash, A: Allocator>(
+    h: T,
+    entries: &[Vec<u8, A>],
+    k: usize,
+    q: usize,
+) -> Hash
+    requires whole { length entries.now ≡ 2 * k }
+    requires half { k ≡ 2 * q }
+    requires split { IsSplit k (length entries.now) }
+    requires halves_split { IsSplit q k }
+    requires some { 0 < q }
+    ensures { result ≡ tree_hash T.digest_of (map vec_items entries.now) }
+{
+    let (left, right) = entries.split_at(k);
+    let (a, b) = left.split_at(q);
+    let (c, d) = right.split_at(q);
+    let four = four_roots(h, a, b, c, d);
+    let first = node_hash(h, four[0], four[1]);
+    let second = node_hash(h, four[2], four[3]);
+    node_hash(h, first, second)
+}
