@@ -7,8 +7,9 @@ use crate::digest::TreeHash;
 use crate::hash::Hash;
 use crate::tree::node_hash;
 
-// The hashes of the nodes over the four pairs of hashes that begin at `from`.
-fn four_nodes<T: TreeHash>(h: T, level: &[Hash], from: usize) -> [Hash; 4]
+/// The hashes of the nodes over four pairs of hashes that stand side by side (RFC 6962, section 2.1): node `j` is over
+/// hashes `from + 2 * j` and the one after it, where the first is 0. `level` has at least `from + 8` hashes.
+pub fn four_nodes<T: TreeHash>(h: T, level: &[Hash], from: usize) -> [Hash; 4]
     requires { from + 8 ≤ length level.now }
     ensures { (j : ℕ) → j < 4 → slice_index_or result j []
         ≡ T.digest_of (node_input (slice_index_or level.now (from + 2 * j) []) (slice_index_or level.now (from + 2 * j + 1) [])) }

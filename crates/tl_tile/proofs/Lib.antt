@@ -28,5 +28,6 @@ pub mod Numbers
 pub mod Readers
 pub mod HonestHashes
 pub mod TileTrees
+pub mod FourNodes
 pub mod TreeKeys
 pub mod TreeReads

@@ -1,12 +1,13 @@
 //! All hashes that the hashes of a full tile fold to.
 
-ghost use Rattle.std.specs.Prelude.{◌≡◌, ◌<◌, ℕ, List, [], length, IfOk, slice_index_or};
+ghost use Rattle.std.specs.Prelude.{◌≡◌, ◌<◌, ◌+◌, ◌*◌, ℕ, List, [], length, IfOk, OnOk, slice_index_or};
+ghost use Rattle.tl_hash.specs.Bytes.{Bytes};
 ghost use Rattle.tl_tile.specs.Folds.{IsHashAt};
-ghost use Rattle.tl_tile.specs.Inner.TileTree.{IsTileTree};
+ghost use Rattle.tl_tile.specs.Inner.TileTree.{IsTileTree, IsTreeSoFar};
 
 use crate::tile_reader::hashes::hash_in;
 use std::alloc::{AllocError, Allocator};
-use tl_hash::{Hash, TreeHash, node_hash};
+use tl_hash::{Hash, TreeHash, four_nodes, node_hash};
 
 // The hashes of a full tile.
 fn own_hashes<A: Allocator>(alloc: A, text: &[u8]) -> Result<Vec<Hash, A>, AllocError>
@@ -21,6 +22,22 @@ fn own_hashes<A: Allocator>(alloc: A, text: &[u8]) -> Result<Vec<Hash, A>, Alloc
     Ok(hashes)
 }
 
+// Adds the nodes over the next four pairs of a tile's tree.
+fn push_four<T: TreeHash, A: Allocator>(
+    h: T,
+    hashes: &mut Vec<Hash, A>,
+    four: usize,
+) -> Result<(), AllocError>
+    requires low { four < 63 }
+    requires many { length hashes.old.items ≡ 256 + 4 * four }
+    ensures { (text : Bytes) → IsTreeSoFar T.digest_of text (256 + 4 * four) hashes.old.items
+        → OnOk result (IsTreeSoFar T.digest_of text (256 + 4 * (four + 1)) hashes.new.items) }
+{
+    let nodes = four_nodes(h, hashes, 8 * four);
+    hashes.extend_from_slice(&nodes)?;
+    Ok(())
+}
+
 // The hashes of a full tile, then those of each two of them, and so on up to the one hash of the tile.
 pub(crate) fn fold_tile<T: TreeHash, A: Allocator>(
     alloc: A,
@@ -31,7 +48,10 @@ pub(crate) fn fold_tile<T: TreeHash, A: Allocator>(
     ensures { IfOk result (λ hashes. IsTileTree T.digest_of text.now hashes.items) }
 {
     let mut hashes = own_hashes(alloc, text)?;
-    for node in 0..255 {
+    for four in 0..63 {
+        push_four(h, &mut hashes, four)?;
+    }
+    for node in 252..255 {
         let left = hashes[2 * node];
         let right = hashes[2 * node + 1];
         hashes.push(node_hash(h, left, right))?;

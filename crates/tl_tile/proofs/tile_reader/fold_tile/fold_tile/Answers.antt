@@ -2,8 +2,8 @@ use Rattle.std.proofs.Common.{arith}
 use Rattle.tl_tile.proofs.TileTrees.{tree-own, tree-push}
 use Rattle.tl_tile.proofs.tile_reader.fold_tile.fold_tile.Goals as goal
 
-pub loop-node-init : goal.loop-node-init
-loop-node-init g c = tree-own g.T.TreeHash.digest_of c.args.text.now c.in_ok-hashes.hashes.items c.in_ok-hashes.ensures.many c.in_ok-hashes.ensures.own
+pub loop-four-init : goal.loop-four-init
+loop-four-init g c = tree-own g.T.TreeHash.digest_of c.args.text.now c.in_ok-hashes.hashes.items c.in_ok-hashes.ensures.many c.in_ok-hashes.ensures.own
 
 pub loop-node-preserved : goal.loop-node-preserved
 loop-node-preserved g c =
