@@ -29,5 +29,6 @@ pub mod Readers
 pub mod HonestHashes
 pub mod TileTrees
 pub mod FourNodes
+pub mod FoldSteps
 pub mod TreeKeys
 pub mod TreeReads

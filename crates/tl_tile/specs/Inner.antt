@@ -14,4 +14,6 @@ pub
 pub
     mod TileTree
 pub
+    mod FoldsTo
+pub
     mod TreeKeys

@@ -10,6 +10,7 @@ ghost use Rattle.std.specs.List.{flat_map};
 ghost use Rattle.tl_tile.specs.Fetched.{texts_of};
 ghost use Rattle.tl_tile.specs.RightEdge.{shown_filled, hashes_below, count_below};
 
+use crate::four_runs::fold_full;
 use crate::resource::Tile;
 use crate::tile::{full_tile, join};
 use std::alloc::{AllocError, Allocator};
@@ -118,7 +119,7 @@ pub(crate) fn fill<T: TreeHash, A: Allocator + Copy>(
         let tile = full_tile(level, count - 1);
         let below = &kept[left - 255..left];
         push_tile(&mut tiles, wanted, tile, below, hash)?;
-        hash = fold_run(h, below, hash);
+        hash = fold_full(h, below, hash);
         left -= 255;
         level += 1;
     }

@@ -13,6 +13,7 @@
 mod bundle;
 mod edge;
 mod fold;
+mod four_runs;
 mod law;
 mod listing;
 mod path;

@@ -32,8 +32,8 @@ pub loop-count-preserved : goal.loop-count-preserved
 loop-count-preserved g c =
     let room = filling-room g.T.TreeHash.digest_of c.args.size c.args.leaf c.args.kept.now c.loop-count.level c.loop-count.count c.loop-count.left c.loop-count.hash
     c.requires.small c.requires.counted c.loop-count.invariant.0 c.loop-count-test.true in (
-      filling-more g.T.TreeHash.digest_of c.args.size c.args.leaf c.args.kept.now c.loop-count.level c.loop-count.count c.loop-count.left (c.loop-count.left - 255) (c.loop-count.left - (c.loop-count.left - 255)) c.loop-count.hash c.fold_run-hash.result
-          c.requires.small c.requires.counted c.loop-count.invariant.0 c.loop-count-test.true refl (omega (arith, room)) c.fold_run-hash.ensures,
+      filling-more g.T.TreeHash.digest_of c.args.size c.args.leaf c.args.kept.now c.loop-count.level c.loop-count.count c.loop-count.left (c.loop-count.left - 255) (c.loop-count.left - (c.loop-count.left - 255)) c.loop-count.hash c.fold_full-hash.result
+          c.requires.small c.requires.counted c.loop-count.invariant.0 c.loop-count-test.true refl (omega (arith, room)) c.fold_full-hash.ensures,
       λ wanted. tiles-more g.T.TreeHash.digest_of c.args.size c.args.leaf c.args.kept.now c.loop-count.level c.loop-count.count c.loop-count.left (c.loop-count.left - 255) (c.loop-count.left - (c.loop-count.left - 255)) c.loop-count.hash
           (map (λ t. (t.0, vec_items t.1)) c.loop-count.tiles.items) (map (λ t. (t.0, vec_items t.1)) c.push_tile.new.tiles.items) _
           c.requires.small c.requires.counted c.loop-count.invariant.0 (c.loop-count.invariant.1 wanted) c.loop-count-test.true refl (omega (arith, room)) refl (c.in_ok-push_tile.ensures.added wanted ∙ ap (λ (t : Tile). map (λ t. (t.0, vec_items t.1)) c.loop-count.tiles.items ++ (t, flat_map (λ hash. hash) (take (c.loop-count.left - (c.loop-count.left - 255)) (drop (c.loop-count.left - 255) c.args.kept.now) ++ c.loop-count.hash ∷ [])) ∷ []) c.full_tile-tile.ensures),
