@@ -40,8 +40,8 @@ pub(crate) fn four_roots<T: TreeHash, A: Allocator>(
     h.digest_pairs(1, &pairs)
 }
 
-/// The Merkle tree hash of a list of four times `q` entries (RFC 6962, section 2.1), by its quarters side by side. `q` is
-/// a power of two.
+/// The Merkle tree hash of a list of four times `q` entries (RFC 6962, section 2.1), by its quarters side by side. `q`
+/// is a power of two.
 pub(crate) fn quarters_root<T: TreeHash, A: Allocator>(
     h: T,
     entries: &[Vec<u8, A>],
