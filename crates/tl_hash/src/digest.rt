@@ -18,8 +18,8 @@ pub trait TreeHash: Copy {
     fn digest(&self, a: &[u8], b: &[u8], c: &[u8]) -> Hash
         ensures { result ≡ digest_of (a.now ++ b.now ++ c.now) };
 
-    /// The digests of four messages, in order: each is the byte `tag` and then `a`, `b`, `c` or `d`. A type can take them
-    /// side by side; as it stands here they are taken one after the other.
+    /// The digests of four messages, in order: each is the byte `tag` and then `a`, `b`, `c` or `d`. A type can take
+    /// them side by side; as it stands here they are taken one after the other.
     fn digest_four(&self, tag: u8, a: &[u8], b: &[u8], c: &[u8], d: &[u8]) -> [Hash; 4]
         ensures a { slice_index_or result 0 [] ≡ digest_of (tag ∷ a.now) }
         ensures b { slice_index_or result 1 [] ≡ digest_of (tag ∷ b.now) }

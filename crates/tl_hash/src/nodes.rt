@@ -28,9 +28,8 @@ pub fn four_nodes<T: TreeHash>(h: T, level: &[Hash], from: usize) -> [Hash; 4]
 }
 
 /// The hashes of the nodes over `count` pairs of hashes (RFC 6962, section 2.1): node `i` is over hashes `2 * i` and
-/// `2 * i + 1`, where the first is 0. They are written over the first `count` hashes, four at a time, so the hashes of a
-/// level become those of the level above it. `level` has at least `2 * count` hashes; of those after the first `count`
-/// nothing is said.
+/// `2 * i + 1`, where the first is 0. They are written over the first `count` hashes, so a level's hashes become those
+/// of the level above it. `level` has at least `2 * count` hashes; of those after the first `count` nothing is said.
 pub fn node_hashes<T: TreeHash>(h: T, level: &mut [Hash], count: usize)
     requires { 2 * count ≤ length level.old }
     ensures len { length level.new ≡ length level.old }

@@ -1,7 +1,7 @@
 //! Trees over lists of one length, hashed side by side.
 
 ghost use Rattle.std.specs.Prelude.{◌≡◌, ◌*◌, ◌<◌, [], length, map, slice_index_or, vec_items};
-ghost use Rattle.tl_hash.specs.Split.{IsSplit};
+ghost use Rattle.std.specs.Int.{IsPowerOfTwo};
 ghost use Rattle.tl_hash.specs.Tree.{tree_hash};
 
 use crate::digest::TreeHash;
@@ -10,8 +10,8 @@ use crate::split::split_point;
 use crate::tree::node_hash;
 use std::alloc::Allocator;
 
-/// The Merkle tree hashes of four lists of equally many entries, one or more (RFC 6962, section 2.1). The recursion goes
-/// down the four lists in step.
+/// The Merkle tree hashes of four lists of equally many entries, one or more (RFC 6962, section 2.1). The recursion
+/// goes down the four lists in step.
 pub(crate) fn four_roots<T: TreeHash, A: Allocator>(
     h: T,
     a: &[Vec<u8, A>],
@@ -40,22 +40,19 @@ pub(crate) fn four_roots<T: TreeHash, A: Allocator>(
     h.digest_pairs(1, &pairs)
 }
 
-/// The Merkle tree hash of a list of `2 * k` entries that are four times `q`, by its quarters side by side (RFC 6962,
-/// section 2.1).
+/// The Merkle tree hash of a list of four times `q` entries (RFC 6962, section 2.1), by its quarters side by side. `q`
+/// is a power of two.
 pub(crate) fn quarters_root<T: TreeHash, A: Allocator>(
     h: T,
     entries: &[Vec<u8, A>],
-    k: usize,
     q: usize,
 ) -> Hash
-    requires whole { length entries.now ≡ 2 * k }
-    requires half { k ≡ 2 * q }
-    requires split { IsSplit k (length entries.now) }
-    requires halves_split { IsSplit q k }
+    requires whole { length entries.now ≡ 4 * q }
+    requires power { IsPowerOfTwo q }
     requires some { 0 < q }
     ensures { result ≡ tree_hash T.digest_of (map vec_items entries.now) }
 {
-    let (left, right) = entries.split_at(k);
+    let (left, right) = entries.split_at(2 * q);
     let (a, b) = left.split_at(q);
     let (c, d) = right.split_at(q);
     let four = four_roots(h, a, b, c, d);

@@ -30,8 +30,9 @@ pub fn node_hash<T: TreeHash>(h: T, left: Hash, right: Hash) -> Hash
     h.digest(&[1], left.as_bytes(), right.as_bytes())
 }
 
-/// The Merkle tree hash of a list of entries, by the plain recursion of RFC 6962, section 2.1. A part of the tree that is
-/// over four equal quarters has them hashed side by side. It takes no memory but one call's for each level of the tree.
+/// The Merkle tree hash of a list of entries, by the recursion of RFC 6962, section 2.1. A part whose number of entries
+/// is a power of two, 4 or more, is hashed by its quarters side by side. It takes no memory but one call's for each
+/// level of the tree.
 #[tactic(auto, using(crate::proofs::TreeLemmas::tree_hash_of_none))]
 pub fn entry_root<T: TreeHash, A: Allocator>(h: T, entries: &[Vec<u8, A>]) -> Hash
     ensures { result ≡ tree_hash T.digest_of (map vec_items entries.now) }
@@ -41,11 +42,8 @@ pub fn entry_root<T: TreeHash, A: Allocator>(h: T, entries: &[Vec<u8, A>]) -> Ha
         1 => leaf_hash(h, &entries[0]),
         n => {
             let k = split_point(n as u64) as usize;
-            if k > 1 {
-                let q = split_point(k as u64) as usize;
-                if k == 2 * q && n == 2 * k {
-                    return quarters_root(h, entries, k, q);
-                }
+            if k > 1 && n == 2 * k {
+                return quarters_root(h, entries, k / 2);
             }
             let left = entry_root(h, &entries[..k]);
             let right = entry_root(h, &entries[k..]);

@@ -6,7 +6,8 @@ use Rattle.std.proofs.lemmas.Simd.{Each1-get_or}
 use Rattle.std.specs.Int.{w32, rotate_right}
 use Rattle.std.specs.Simd.Lanes.{zip2, Each1}
 use Rattle.sha2.specs.Sha256.{add32, small_sigma0, small_sigma1, window_word}
-use Rattle.tl_lanes.specs.Lanes.{column, lane, lane_at}
+use Rattle.tl_lanes.specs.Inner.Columns.{column}
+use Rattle.tl_lanes.specs.Lanes.{lane, lane_at}
 use mir.Val.{Fits}
 
 -- what holds of the four numbers below 4 holds of each of them

@@ -6,7 +6,8 @@
 ghost use Rattle.std.specs.Prelude.{◌≡◌, ℕ, ◌+◌, ◌*◌, ◌/◌, ◌^◌, ◌<◌, ◌≤◌, List, bit_and, bit_xor, slice_index, slice_set};
 ghost use Rattle.std.specs.Int.{rotate_right, w32};
 ghost use Rattle.sha2.specs.Sha256.{IsRoundsAt, IsWindow, add32, big_sigma0, big_sigma1, ch, compress, maj, round, rounds, schedule, small_sigma0, small_sigma1, window_word, word_at};
-ghost use Rattle.tl_lanes.specs.Lanes.{column, lane, lane_at};
+ghost use Rattle.tl_lanes.specs.Inner.Columns.{column};
+ghost use Rattle.tl_lanes.specs.Lanes.{lane, lane_at};
 
 use crate::consts::ROUND_CONSTANTS;
 use std::simd::u32x4;

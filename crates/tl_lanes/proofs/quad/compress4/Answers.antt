@@ -1,7 +1,8 @@
 use Rattle.std.proofs.Common.{◌≡◌, ℕ, ◌<◌, List, length, slice_index, refl, ap, ◌*◌, ◌∙◌, arith}
 use Rattle.std.proofs.lemmas.List.{length-map}
 use Rattle.sha2.specs.Sha256.{IsWindow, add_state, compress, rounds, schedule, word_at}
-use Rattle.tl_lanes.specs.Lanes.{column, lane, lane_at}
+use Rattle.tl_lanes.specs.Inner.Columns.{column}
+use Rattle.tl_lanes.specs.Lanes.{lane, lane_at}
 use Rattle.tl_lanes.proofs.LaneLemmas.{column_at}
 use Rattle.tl_lanes.proofs.Ring.{as_many, ring_of_block}
 use Rattle.tl_lanes.proofs.quad.compress4.Goals as goal

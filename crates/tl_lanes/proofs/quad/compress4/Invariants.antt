@@ -1,6 +1,7 @@
 use Rattle.std.proofs.Common.{◌≡◌, ℕ, ◌<◌, List, ◌*◌}
 use Rattle.sha2.specs.Sha256.{IsRoundsAt, word_at}
-use Rattle.tl_lanes.specs.Lanes.{column, lane, lane_at}
+use Rattle.tl_lanes.specs.Inner.Columns.{column}
+use Rattle.tl_lanes.specs.Lanes.{lane, lane_at}
 use Rattle.tl_lanes.proofs.quad.compress4.Given as goal
 
 -- each message whose block lies in its lane of the words has been through 16 rounds a turn

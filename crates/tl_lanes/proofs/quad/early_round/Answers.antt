@@ -1,5 +1,6 @@
 use Rattle.std.proofs.Common.{sym}
-use Rattle.tl_lanes.specs.Lanes.{column, lane}
+use Rattle.tl_lanes.specs.Inner.Columns.{column}
+use Rattle.tl_lanes.specs.Lanes.{lane}
 use Rattle.tl_lanes.proofs.LaneLemmas.{column_at}
 use Rattle.tl_lanes.proofs.Ring.{early_round}
 use Rattle.tl_lanes.proofs.quad.early_round.Goals as goal

@@ -1,5 +1,6 @@
 use Rattle.std.proofs.Common.{◌≡◌, ◌+◌, ◌*◌, ◌%◌, ◌∙◌, ap, arith}
-use Rattle.tl_lanes.specs.Lanes.{column, lane}
+use Rattle.tl_lanes.specs.Inner.Columns.{column}
+use Rattle.tl_lanes.specs.Lanes.{lane}
 use Rattle.tl_lanes.proofs.LaneLemmas.{column_set}
 use Rattle.tl_lanes.proofs.Ring.{as_many, late_round, ring_place}
 use Rattle.tl_lanes.proofs.quad.late_round.Goals as goal
