@@ -1,5 +1,5 @@
-use Rattle.std.proofs.Common.{◌∙◌, [], vec_items, arith}
-use Rattle.std.proofs.lemmas.List.{get_or_default, take_rest}
+use Rattle.std.proofs.Common.{vec_items, arith}
+use Rattle.std.proofs.lemmas.List.{take_rest}
 use Rattle.tl_hash.proofs.TreeLemmas.{tree_hash-map_one, tree_hash-of_parts}
 use Rattle.tl_hash.proofs.quarters.+four_roots.Goals as goal
 
@@ -30,27 +30,27 @@ returns-then-a-eq1-clause-d g t c =
 pub returns-clause-a : goal.returns-clause-a
 returns-clause-a g t c =
     let k = c.split_point-k.result in
-    let left = get_or_default c.four_roots-left.result 0 c.index-left-0.result [] (omega arith) ∙ c.four_roots-left.ensures.a in
-    let right = get_or_default c.four_roots-right.result 0 c.index-right-0.result [] (omega arith) ∙ rw (take_rest c.args.a.now k) at c.four_roots-right.ensures.a in
-    tree_hash-of_parts vec_items g.T.TreeHash.digest_of k c.args.a.now _ _ _ c.split_point-k.ensures left right (c.digest_pairs.ensures.pairs 0 (omega arith))
+    let left = c.four_roots-left.ensures.a in
+    let right = rw (take_rest c.args.a.now k) at c.four_roots-right.ensures.a in
+    tree_hash-of_parts vec_items g.T.TreeHash.digest_of k c.args.a.now _ _ _ c.split_point-k.ensures left right (c.nodes_over.ensures 0 (omega arith))
 
 pub returns-clause-b : goal.returns-clause-b
 returns-clause-b g t c =
     let k = c.split_point-k.result in
-    let left = get_or_default c.four_roots-left.result 1 c.index-left-1.result [] (omega arith) ∙ c.four_roots-left.ensures.b in
-    let right = get_or_default c.four_roots-right.result 1 c.index-right-1.result [] (omega arith) ∙ rw (take_rest c.args.b.now k) at c.four_roots-right.ensures.b in
-    tree_hash-of_parts vec_items g.T.TreeHash.digest_of k c.args.b.now _ _ _ (rw c.requires.b c.split_point-k.ensures) left right (c.digest_pairs.ensures.pairs 1 (omega arith))
+    let left = c.four_roots-left.ensures.b in
+    let right = rw (take_rest c.args.b.now k) at c.four_roots-right.ensures.b in
+    tree_hash-of_parts vec_items g.T.TreeHash.digest_of k c.args.b.now _ _ _ (rw c.requires.b c.split_point-k.ensures) left right (c.nodes_over.ensures 1 (omega arith))
 
 pub returns-clause-c : goal.returns-clause-c
 returns-clause-c g t c =
     let k = c.split_point-k.result in
-    let left = get_or_default c.four_roots-left.result 2 c.index-left-2.result [] (omega arith) ∙ c.four_roots-left.ensures.c in
-    let right = get_or_default c.four_roots-right.result 2 c.index-right-2.result [] (omega arith) ∙ rw (take_rest c.args.c.now k) at c.four_roots-right.ensures.c in
-    tree_hash-of_parts vec_items g.T.TreeHash.digest_of k c.args.c.now _ _ _ (rw c.requires.c c.split_point-k.ensures) left right (c.digest_pairs.ensures.pairs 2 (omega arith))
+    let left = c.four_roots-left.ensures.c in
+    let right = rw (take_rest c.args.c.now k) at c.four_roots-right.ensures.c in
+    tree_hash-of_parts vec_items g.T.TreeHash.digest_of k c.args.c.now _ _ _ (rw c.requires.c c.split_point-k.ensures) left right (c.nodes_over.ensures 2 (omega arith))
 
 pub returns-clause-d : goal.returns-clause-d
 returns-clause-d g t c =
     let k = c.split_point-k.result in
-    let left = get_or_default c.four_roots-left.result 3 c.index-left-3.result [] (omega arith) ∙ c.four_roots-left.ensures.d in
-    let right = get_or_default c.four_roots-right.result 3 c.index-right-3.result [] (omega arith) ∙ rw (take_rest c.args.d.now k) at c.four_roots-right.ensures.d in
-    tree_hash-of_parts vec_items g.T.TreeHash.digest_of k c.args.d.now _ _ _ (rw c.requires.d c.split_point-k.ensures) left right (c.digest_pairs.ensures.pairs 3 (omega arith))
+    let left = c.four_roots-left.ensures.d in
+    let right = rw (take_rest c.args.d.now k) at c.four_roots-right.ensures.d in
+    tree_hash-of_parts vec_items g.T.TreeHash.digest_of k c.args.d.now _ _ _ (rw c.requires.d c.split_point-k.ensures) left right (c.nodes_over.ensures 3 (omega arith))
