@@ -1,11 +1,12 @@
 -- What the hashes of a run fold to, by parts.
 use Rattle.std.proofs.Common.{◌≡◌, ℕ, zero, suc, ◌+◌, ◌-◌, ◌*◌, ◌<◌, ◌≤◌, List, [], ◌∷◌, ◌++◌, length, take, drop, get_or, refl, sym, ap, subst, ◌∙◌, arith}
+use Rattle.std.specs.Int.{IsPowerOfTwo}
 use Rattle.std.proofs.Math.Seq.{take-suc}
-use Rattle.std.proofs.lemmas.List.{drop-append-le, get_or_append_left, get_or_default, length_push, take-append-le}
+use Rattle.std.proofs.lemmas.List.{drop-append-le, get_or_default, length-drop, length-take-le, length_push, take-append-le}
 use Rattle.tl_hash.specs.Bytes.{Digest}
 use Rattle.tl_hash.specs.Split.{IsSplit}
 use Rattle.tl_hash.specs.Tree.{tree_hash, node_input}
-use Rattle.tl_hash.proofs.SplitLemmas.{IsSplit-positive}
+use Rattle.tl_hash.proofs.SplitLemmas.{IsPowerOfTwo-twice, IsSplit-positive, IsSplit-twice}
 use Rattle.tl_tile.specs.Run.{part, Run, IsRun}
 use Rattle.tl_tile.specs.Inner.FoldsTo.{FoldsTo}
 use Rattle.tl_tile.proofs.Runs.{run_of, run-left, run-right, run-node}
@@ -54,12 +55,30 @@ folds-single H [] hash one is = absurd (omega (arith, one))
 folds-single H (x ∷ []) hash one is = subst (FoldsTo H (x ∷ [])) (sym is) (folds-one H x)
 folds-single H (x ∷ y ∷ more) hash one is = absurd (omega (arith, one))
 
--- of results that stand in arrays
-pub folds-parts : (H : Digest) (j k : ℕ) (hashes lefts rights nodes : List (List ℕ)) (left right : List ℕ) → IsSplit k (length hashes) → j < length lefts → j < length rights
-    → left ≡ get_or lefts j left → right ≡ get_or rights j right
+-- of results that stand in lists
+pub folds-parts : (H : Digest) (j k : ℕ) (hashes lefts rights nodes : List (List ℕ)) → IsSplit k (length hashes)
     → FoldsTo H (take k hashes) (get_or lefts j []) → FoldsTo H (drop k hashes) (get_or rights j [])
-    → get_or nodes j [] ≡ H (node_input left right) → FoldsTo H hashes (get_or nodes j [])
-folds-parts H j k hashes lefts rights nodes left right split in_lefts in_rights left_is right_is left_folds right_folds is =
-    let first : get_or lefts j [] ≡ left = get_or_default lefts j [] left in_lefts ∙ sym left_is in
-    let second : get_or rights j [] ≡ right = get_or_default rights j [] right in_rights ∙ sym right_is in
-    folds-split H k hashes left right (get_or nodes j []) split (subst (FoldsTo H (take k hashes)) first left_folds) (subst (FoldsTo H (drop k hashes)) second right_folds) is
+    → get_or nodes j [] ≡ H (node_input (get_or lefts j []) (get_or rights j [])) → FoldsTo H hashes (get_or nodes j [])
+folds-parts H j k hashes lefts rights nodes split left_folds right_folds is =
+    folds-split H k hashes (get_or lefts j []) (get_or rights j []) (get_or nodes j []) split left_folds right_folds is
+
+-- of a result that stands in a list
+pub folds-at : (H : Digest) (hashes four : List (List ℕ)) (j : ℕ) (other : List ℕ) → j < length four
+    → FoldsTo H hashes (get_or four j []) → FoldsTo H hashes (get_or four j other)
+folds-at H hashes four j other within = subst (FoldsTo H hashes) (sym (get_or_default four j other [] within))
+
+-- hashes fold as their quarters do
+pub folds-quarters : (H : Digest) (q : ℕ) (hashes : List (List ℕ)) (a b c d first second hash : List ℕ) → length hashes ≡ 4 * q → IsPowerOfTwo q → 0 < q
+    → FoldsTo H (take q (take (2 * q) hashes)) a → FoldsTo H (drop q (take (2 * q) hashes)) b
+    → FoldsTo H (take q (drop (2 * q) hashes)) c → FoldsTo H (drop q (drop (2 * q) hashes)) d
+    → first ≡ H (node_input a b) → second ≡ H (node_input c d) → hash ≡ H (node_input first second) → FoldsTo H hashes hash
+folds-quarters H q hashes a b c d first second hash len power some fold_a fold_b fold_c fold_d first_is second_is is =
+    let left_len : length (take (2 * q) hashes) ≡ 2 * q = length-take-le (2 * q) hashes (omega (arith, len)) in
+    let right_len : length (drop (2 * q) hashes) ≡ 2 * q = omega (arith, length-drop (2 * q) hashes, len) in
+    let all_len : length hashes ≡ 2 * (2 * q) = omega (arith, len) in
+    let half : IsSplit q (2 * q) = IsSplit-twice q power some in
+    let whole : IsSplit (2 * q) (2 * (2 * q)) = IsSplit-twice (2 * q) (IsPowerOfTwo-twice q power) (omega (arith, some)) in
+    folds-split H (2 * q) hashes first second hash (subst (IsSplit (2 * q)) (sym all_len) whole)
+    (folds-split H q (take (2 * q) hashes) a b first (subst (IsSplit q) (sym left_len) half) fold_a fold_b first_is)
+    (folds-split H q (drop (2 * q) hashes) c d second (subst (IsSplit q) (sym right_len) half) fold_c fold_d second_is)
+    is

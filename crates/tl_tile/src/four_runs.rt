@@ -1,12 +1,13 @@
 //! Runs of hashes of one length, folded side by side.
 
 ghost use Rattle.std.specs.Prelude.{◌≡◌, ◌*◌, ◌<◌, List, [], length, slice_index_or};
+ghost use Rattle.std.specs.Int.{IsPowerOfTwo};
 ghost use Rattle.tl_hash.specs.Bytes.{Bytes};
 ghost use Rattle.tl_hash.specs.Tree.{tree_hash};
 ghost use Rattle.tl_tile.specs.Run.{part, Run, IsRun};
 ghost use Rattle.tl_tile.specs.Inner.FoldsTo.{FoldsTo};
 
-use tl_hash::{Hash, TreeHash, four_nodes, node_hash, split_point};
+use tl_hash::{Hash, TreeHash, node_hash, nodes_over, split_point};
 
 // What the hashes of four runs of one length fold to: the recursion of `fold_run`, down the four in step.
 fn fold_four<T: TreeHash>(h: T, a: &[Hash], b: &[Hash], c: &[Hash], d: &[Hash]) -> [Hash; 4]
@@ -25,13 +26,26 @@ fn fold_four<T: TreeHash>(h: T, a: &[Hash], b: &[Hash], c: &[Hash], d: &[Hash]) 
     let k = split_point(a.len() as u64) as usize;
     let left = fold_four(h, &a[..k], &b[..k], &c[..k], &d[..k]);
     let right = fold_four(h, &a[k..], &b[k..], &c[k..], &d[k..]);
-    let pairs = [
-        left[0], right[0], left[1], right[1], left[2], right[2], left[3], right[3],
-    ];
-    four_nodes(h, &pairs, 0)
+    nodes_over(h, &left, &right)
 }
 
-// The hash over the 256 hashes of a full tile, of which the last is apart: by the tile's quarters side by side.
+// What four times `quarter` hashes of a run fold to, by their quarters side by side.
+fn fold_quarters<T: TreeHash>(h: T, hashes: &[Hash], quarter: usize) -> Hash
+    requires whole { length hashes.now ≡ 4 * quarter }
+    requires power { IsPowerOfTwo quarter }
+    requires some { 0 < quarter }
+    ensures { FoldsTo T.digest_of hashes.now result }
+{
+    let (left, right) = hashes.split_at(2 * quarter);
+    let (a, b) = left.split_at(quarter);
+    let (c, d) = right.split_at(quarter);
+    let four = fold_four(h, a, b, c, d);
+    let first = node_hash(h, four[0], four[1]);
+    let second = node_hash(h, four[2], four[3]);
+    node_hash(h, first, second)
+}
+
+// The hash over the 256 hashes of a full tile, of which the last is apart.
 pub(crate) fn fold_full<T: TreeHash>(h: T, hashes: &[Hash], last: Hash) -> Hash
     requires { length hashes.now ≡ 255 }
     ensures { (entries : List Bytes) (run : Run)
@@ -40,11 +54,5 @@ pub(crate) fn fold_full<T: TreeHash>(h: T, hashes: &[Hash], last: Hash) -> Hash
 {
     let mut all = [last; 256];
     all[..255].copy_from_slice(hashes);
-    let (left, right) = all.split_at(128);
-    let (a, b) = left.split_at(64);
-    let (c, d) = right.split_at(64);
-    let four = fold_four(h, a, b, c, d);
-    let first = node_hash(h, four[0], four[1]);
-    let second = node_hash(h, four[2], four[3]);
-    node_hash(h, first, second)
+    fold_quarters(h, &all, 64)
 }

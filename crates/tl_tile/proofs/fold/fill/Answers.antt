@@ -1,7 +1,8 @@
-use Rattle.std.proofs.Common.{◌-◌, ◌∙◌, ◌++◌, ◌∷◌, [], length, map, take, drop, ap, arith, refl}
+use Rattle.std.proofs.Common.{◌≡◌, ◌-◌, ◌∙◌, ◌++◌, ◌∷◌, [], length, map, take, drop, ap, arith, refl}
 use Rattle.std.specs.List.{flat_map}
 use Rattle.tl_tile.specs.declared.resource.Tile.{Tile}
 use Rattle.std.specs.Prelude.{vec_items}
+use Rattle.std.proofs.lemmas.List.{length-drop, length-take-le}
 use Rattle.std.proofs.lemmas.Result.{err_from_is_err_and}
 use Rattle.tl_tile.proofs.Fills.{low_level, filled_whole}
 use Rattle.tl_tile.proofs.FillSteps.{filling-start, filling-room, filling-more, tiles-more, filling-kept, filling-tiles, filling-count}
@@ -22,6 +23,15 @@ pub overflow_sub-left : goal.overflow_sub-left
 overflow_sub-left g c =
     filling-room g.T.TreeHash.digest_of c.args.size c.args.leaf c.args.kept.now c.loop-count.level c.loop-count.count c.loop-count.left c.loop-count.hash
     c.requires.small c.requires.counted c.loop-count.invariant.0 c.loop-count-test.true
+
+pub fold_full-hash-requires : goal.fold_full-hash-requires
+fold_full-hash-requires g c =
+    let kept = c.args.kept.now in
+    let left = c.loop-count.left in
+    let room = filling-room g.T.TreeHash.digest_of c.args.size c.args.leaf kept c.loop-count.level c.loop-count.count left c.loop-count.hash
+    c.requires.small c.requires.counted c.loop-count.invariant.0 c.loop-count-test.true in
+    let count : left - (left - 255) ≡ 255 = omega (arith, room) in
+    length-take-le (left - (left - 255)) (drop (left - 255) kept) (omega (arith, length-drop (left - 255) kept, c.loop-count.invariant.0.place)) ∙ count
 
 pub overflow_add-level : goal.overflow_add-level
 overflow_add-level g c =

@@ -17,24 +17,20 @@ returns-then-a-eq1-clause-d g t c = folds-single g.T.TreeHash.digest_of c.args.d
 
 pub returns-clause-a : goal.returns-clause-a
 returns-clause-a g t c =
-    folds-parts g.T.TreeHash.digest_of 0 c.split_point-k.result c.args.a.now c.fold_four-left.result c.fold_four-right.result c.four_nodes.result c.index-left-0.result c.index-right-0.result c.split_point-k.ensures
-    (omega arith) (omega arith) c.index-left-0.is c.index-right-0.is
-    c.fold_four-left.ensures.a (rw take_rest at c.fold_four-right.ensures.a) (let is = c.four_nodes.ensures 0 (omega arith) in ?)
+    folds-parts g.T.TreeHash.digest_of 0 c.split_point-k.result c.args.a.now c.fold_four-left.result c.fold_four-right.result c.nodes_over.result c.split_point-k.ensures
+    c.fold_four-left.ensures.a (rw take_rest at c.fold_four-right.ensures.a) (c.nodes_over.ensures 0 (omega arith))
 
 pub returns-clause-b : goal.returns-clause-b
 returns-clause-b g t c =
-    folds-parts g.T.TreeHash.digest_of 1 c.split_point-k.result c.args.b.now c.fold_four-left.result c.fold_four-right.result c.four_nodes.result c.index-left-1.result c.index-right-1.result (rw c.requires.b c.split_point-k.ensures)
-    (omega arith) (omega arith) c.index-left-1.is c.index-right-1.is
-    c.fold_four-left.ensures.b (rw take_rest at c.fold_four-right.ensures.b) (c.four_nodes.ensures 1 (omega arith))
+    folds-parts g.T.TreeHash.digest_of 1 c.split_point-k.result c.args.b.now c.fold_four-left.result c.fold_four-right.result c.nodes_over.result (rw c.requires.b c.split_point-k.ensures)
+    c.fold_four-left.ensures.b (rw take_rest at c.fold_four-right.ensures.b) (c.nodes_over.ensures 1 (omega arith))
 
 pub returns-clause-c : goal.returns-clause-c
 returns-clause-c g t c =
-    folds-parts g.T.TreeHash.digest_of 2 c.split_point-k.result c.args.c.now c.fold_four-left.result c.fold_four-right.result c.four_nodes.result c.index-left-2.result c.index-right-2.result (rw c.requires.c c.split_point-k.ensures)
-    (omega arith) (omega arith) c.index-left-2.is c.index-right-2.is
-    c.fold_four-left.ensures.c (rw take_rest at c.fold_four-right.ensures.c) (c.four_nodes.ensures 2 (omega arith))
+    folds-parts g.T.TreeHash.digest_of 2 c.split_point-k.result c.args.c.now c.fold_four-left.result c.fold_four-right.result c.nodes_over.result (rw c.requires.c c.split_point-k.ensures)
+    c.fold_four-left.ensures.c (rw take_rest at c.fold_four-right.ensures.c) (c.nodes_over.ensures 2 (omega arith))
 
 pub returns-clause-d : goal.returns-clause-d
 returns-clause-d g t c =
-    folds-parts g.T.TreeHash.digest_of 3 c.split_point-k.result c.args.d.now c.fold_four-left.result c.fold_four-right.result c.four_nodes.result c.index-left-3.result c.index-right-3.result (rw c.requires.d c.split_point-k.ensures)
-    (omega arith) (omega arith) c.index-left-3.is c.index-right-3.is
-    c.fold_four-left.ensures.d (rw take_rest at c.fold_four-right.ensures.d) (c.four_nodes.ensures 3 (omega arith))
+    folds-parts g.T.TreeHash.digest_of 3 c.split_point-k.result c.args.d.now c.fold_four-left.result c.fold_four-right.result c.nodes_over.result (rw c.requires.d c.split_point-k.ensures)
+    c.fold_four-left.ensures.d (rw take_rest at c.fold_four-right.ensures.d) (c.nodes_over.ensures 3 (omega arith))
