@@ -1,5 +1,5 @@
 -- What the hashes of a run fold to, by parts.
-use Rattle.std.proofs.Common.{◌≡◌, ℕ, zero, suc, ◌+◌, ◌-◌, ◌*◌, ◌<◌, ◌≤◌, List, [], ◌∷◌, ◌++◌, length, take, drop, get_or, refl, sym, ap, subst, ◌∙◌, arith}
+use Rattle.std.proofs.Common.{◌≡◌, ℕ, suc, ◌+◌, ◌-◌, ◌*◌, ◌<◌, ◌≤◌, List, [], ◌∷◌, ◌++◌, length, take, drop, get_or, refl, sym, ap, subst, ◌∙◌, arith}
 use Rattle.std.specs.Int.{IsPowerOfTwo}
 use Rattle.std.proofs.Math.Seq.{take-suc}
 use Rattle.std.proofs.lemmas.List.{drop-append-le, get_or_default, length-drop, length-take-le, length_push, take-append-le}
@@ -7,7 +7,7 @@ use Rattle.tl_hash.specs.Bytes.{Digest}
 use Rattle.tl_hash.specs.Split.{IsSplit}
 use Rattle.tl_hash.specs.Tree.{tree_hash, node_input}
 use Rattle.tl_hash.proofs.SplitLemmas.{IsPowerOfTwo-twice, IsSplit-positive, IsSplit-twice}
-use Rattle.tl_tile.specs.Run.{part, Run, IsRun}
+use Rattle.tl_tile.specs.Run.{part}
 use Rattle.tl_tile.specs.Inner.FoldsTo.{FoldsTo}
 use Rattle.tl_tile.proofs.Runs.{run_of, run-left, run-right, run-node}
 
