@@ -30,5 +30,6 @@ pub mod HonestHashes
 pub mod TileTrees
 pub mod FourNodes
 pub mod FoldSteps
+pub mod FourEntries
 pub mod TreeKeys
 pub mod TreeReads

@@ -2,7 +2,7 @@
 
 ghost use Rattle.std.specs.Prelude.{◌≡◌, ◌≤◌, ◌<◌, ◌+◌, ◌-◌, ◌%◌, ◌^◌, ◌⊎◌, [], ◌∷◌, ◌++◌, List, length, map, vec_items, option_map, IsTrue, MatchOption, IfOk, OnOk, OnErr};
 ghost use Rattle.tl_hash.specs.Bytes.{Bytes};
-ghost use Rattle.tl_hash.specs.Tree.{tree_hash};
+ghost use Rattle.tl_hash.specs.Tree.{leaf_input, tree_hash};
 ghost use Rattle.tl_tile.specs.TileText.{level_count};
 ghost use Rattle.tl_tile.specs.RightEdge.{shown_partial, shown_filled, hashes_below, count_below, IsEdgeOf};
 
@@ -144,7 +144,15 @@ impl<T: TreeHash, A: Allocator + Copy> Edge<T, A> {
         ensures unchanged { OnErr result (self.new ≡ self.old) }
         ensures full { OnErr result ((self.old.room ≤ length self.old.kept) ⊎ ((self.old.size + 1) % 256 ≡ 0)) }
     {
-        self.add(entry, true)
+        let size = self.size + 1;
+        let alloc = *self.kept.allocator();
+        let leaf = leaf_hash(self.digest, entry);
+        let filled = fill(alloc, self.digest, true, &self.kept, size, leaf)?;
+        self.kept.reserve(1)?;
+        self.kept.truncate(filled.left);
+        self.kept.push_reserved(filled.hash);
+        self.size = size;
+        Ok(filled.tiles)
     }
 
     /// Adds one entry at the end, as `append` does, and makes no tiles. It fails only where the edge has no room for
@@ -158,33 +166,57 @@ impl<T: TreeHash, A: Allocator + Copy> Edge<T, A> {
         ensures unchanged { OnErr result (self.new ≡ self.old) }
         ensures full { OnErr result (self.old.room ≤ length self.old.kept) }
     {
-        self.add(entry, false)?;
+        self.kept.reserve(1)?;
+        let hash = leaf_hash(self.digest, entry);
+        self.push_leaf(hash);
         Ok(())
     }
 
-    // Adds one entry at the end. The full tiles that it completes are made if they are wanted.
-    fn add(&mut self, entry: &[u8], wanted: bool) -> Result<Vec<(Tile, Vec<u8, A>), A>, AllocError>
-        requires { self.old.size < 2 ^ 32 - 1 }
-        ensures entry { (entries : List Bytes)
+    /// Adds four entries at the end, as four calls of `push` do, and hashes them side by side. It fails only where the
+    /// edge has no room for four hashes more; the edge then stays as it was.
+    pub fn push_four(
+        &mut self,
+        first: &[u8],
+        second: &[u8],
+        third: &[u8],
+        fourth: &[u8],
+    ) -> Result<(), AllocError>
+        requires { self.old.size < 2 ^ 32 - 4 }
+        ensures entries { (entries : List Bytes)
             → IsEdgeOf self.old T.digest_of entries
-            → OnOk result (IsEdgeOf self.new T.digest_of (entries ++ entry.now ∷ [])) }
-        ensures tiles { IsTrue wanted → (entries : List Bytes)
-            → IsEdgeOf self.old T.digest_of entries
-            → IfOk result (λ tiles. map (λ t. (t.0, vec_items t.1)) tiles.items
-            ≡ shown_filled T.digest_of (entries ++ entry.now ∷ [])) }
-        ensures size { OnOk result (self.new.size ≡ self.old.size + 1) }
+            → OnOk result (IsEdgeOf self.new T.digest_of (entries ++ first.now ∷ second.now ∷ third.now ∷ fourth.now ∷ [])) }
+        ensures size { OnOk result (self.new.size ≡ self.old.size + 4) }
         ensures unchanged { OnErr result (self.new ≡ self.old) }
-        ensures full { OnErr result ((self.old.room ≤ length self.old.kept)
-            ⊎ (IsTrue wanted × ((self.old.size + 1) % 256 ≡ 0))) }
+        ensures full { OnErr result (self.old.room < length self.old.kept + 4) }
+    {
+        self.kept.reserve(4)?;
+        let leaves = self.digest.digest_four(0, first, second, third, fourth);
+        self.push_leaf(leaves[0]);
+        self.push_leaf(leaves[1]);
+        self.push_leaf(leaves[2]);
+        self.push_leaf(leaves[3]);
+        Ok(())
+    }
+
+    // Adds an entry by its leaf hash, where the edge has room for one hash more.
+    fn push_leaf(&mut self, leaf: Hash)
+        requires size { self.old.size < 2 ^ 32 - 1 }
+        requires room { length self.old.kept < self.old.room }
+        ensures entry { (entries : List Bytes) (entry : Bytes)
+            → leaf ≡ T.digest_of (leaf_input entry)
+            → IsEdgeOf self.old T.digest_of entries
+            → IsEdgeOf self.new T.digest_of (entries ++ entry ∷ []) }
+        ensures size { self.new.size ≡ self.old.size + 1 }
+        ensures kept { length self.new.kept ≤ length self.old.kept + 1 }
+        ensures room { self.new.room ≡ self.old.room }
     {
         let size = self.size + 1;
         let alloc = *self.kept.allocator();
-        let leaf = leaf_hash(self.digest, entry);
-        let filled = fill(alloc, self.digest, wanted, &self.kept, size, leaf)?;
-        self.kept.reserve(1)?;
+        let Ok(filled) = fill(alloc, self.digest, false, &self.kept, size, leaf) else {
+            unreachable!();
+        };
         self.kept.truncate(filled.left);
         self.kept.push_reserved(filled.hash);
         self.size = size;
-        Ok(filled.tiles)
     }
 }
