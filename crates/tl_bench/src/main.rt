@@ -2,6 +2,7 @@
 #![tactic(auto)]
 
 mod chains;
+mod plain;
 mod proving;
 mod reading;
 mod rings;

@@ -1,21 +1,25 @@
 //! Stored hashes read a second from a source of tiles in memory, each tile checked against the root.
 
+use crate::plain::PlainTree;
 use crate::proving::{Store, store_of};
 use std::alloc::{Allocator, Global};
 use std::io;
 use std::time::{Clock, Duration, Instant};
-use tl_hash::{Hash, Sha256Tree};
+use tl_hash::{Hash, Sha256Tree, TreeHash};
 use tl_store::{HashReader, stored_index, tree_hash};
 use tl_tile::{Resource, SourceFault, Tile, TileHashReader, TileSource, needed, tile_bytes};
 
 // The entries of the log.
 const SIZE: u64 = 1_000_000;
 
-// The hashes that one read asks for: those of one tile.
+// The hashes of a tile.
 const WIDTH: u64 = 256;
 
-// The reads that are made.
+// The reads of all hashes of one tile.
 const READS: u64 = 2_000;
+
+// The reads of one hash from each of 256 tiles.
+const WIDE_READS: u64 = 15;
 
 // The bytes of tiles, by level and index.
 #[derive(Drop)]
@@ -80,15 +84,49 @@ fn numbers_of(alloc: Global, read: u64) -> Option<Vec<u64>> {
     Some(numbers)
 }
 
-// How many hashes the reads gave.
-fn read_all(alloc: Global, memory: &Memory, root: Hash) -> Option<u64> {
+// The numbers of one leaf of each of 256 tiles, side by side.
+fn wide_numbers_of(alloc: Global, read: u64) -> Option<Vec<u64>> {
+    let first = read.wrapping_mul(WIDTH) % 3_600;
+    let mut numbers = Vec::new(alloc);
+    for place in 0..WIDTH {
+        numbers
+            .push(stored_index(0, (first + place) * WIDTH + place))
+            .ok()?;
+    }
+    Some(numbers)
+}
+
+// How many hashes a read of these numbers gives.
+fn read_of<T: TreeHash>(
+    alloc: Global,
+    h: T,
+    memory: &Memory,
+    root: Hash,
+    numbers: &[u64],
+) -> Option<u64> {
+    let reader = TileHashReader::new(alloc, h, SIZE, root, memory);
+    let hashes = reader.read(alloc, numbers).ok()?;
+    Some(hashes.len() as u64)
+}
+
+// How many hashes the reads of one tile each gave.
+fn read_tiles<T: TreeHash>(alloc: Global, h: T, memory: &Memory, root: Hash) -> Option<u64> {
     let mut count = 0u64;
     for read in 0..READS {
-        let reader = TileHashReader::new(alloc, Sha256Tree, SIZE, root, memory);
-        let hashes = reader
-            .read(alloc, numbers_of(alloc, read)?.as_slice())
-            .ok()?;
-        count = count.wrapping_add(hashes.len() as u64);
+        let numbers = numbers_of(alloc, read)?;
+        let read = read_of(alloc, h, memory, root, numbers.as_slice())?;
+        count = count.wrapping_add(read);
+    }
+    Some(count)
+}
+
+// How many hashes the reads of 256 tiles each gave.
+fn read_widely<T: TreeHash>(alloc: Global, h: T, memory: &Memory, root: Hash) -> Option<u64> {
+    let mut count = 0u64;
+    for read in 0..WIDE_READS {
+        let numbers = wide_numbers_of(alloc, read)?;
+        let read = read_of(alloc, h, memory, root, numbers.as_slice())?;
+        count = count.wrapping_add(read);
     }
     Some(count)
 }
@@ -101,8 +139,36 @@ fn rate(count: u64, took: Duration) -> u128 {
     }
 }
 
-/// Prints how many stored hashes a second are read from tiles in memory, 256 of one tile a read, over a log of
-/// 1,000,000 entries. False where a read or memory was refused.
+// Prints what both kinds of reads take with this digest, which is called so.
+fn tell<R: Clock + Print, T: TreeHash>(
+    rt: &R,
+    alloc: Global,
+    h: T,
+    name: &str,
+    memory: &Memory,
+    root: Hash,
+) -> io::Result<bool> {
+    let start = Instant::now(rt)?;
+    let Some(count) = read_tiles(alloc, h, memory, root) else {
+        return Ok(false);
+    };
+    let took = start.elapsed(rt)?;
+    let start = Instant::now(rt)?;
+    let Some(wide) = read_widely(alloc, h, memory, root) else {
+        return Ok(false);
+    };
+    let took_widely = start.elapsed(rt)?;
+    println!(rt;
+        "tiles of 1000000 entries, {name}: {} hashes a second of one tile a read, {} a second of 256 tiles a read",
+        rate(count, took),
+        rate(wide, took_widely)
+    )?;
+    Ok(true)
+}
+
+/// Prints how many stored hashes a second are read from tiles in memory over a log of 1,000,000 entries, 256 of one
+/// tile a read and one of each of 256 tiles a read, with SHA-256 one by one and four side by side. False where a read
+/// or memory was refused.
 pub fn tiles<R: Clock + Print>(rt: &R, alloc: Global) -> io::Result<bool> {
     let Some(store) = store_of(alloc, SIZE) else {
         return Ok(false);
@@ -113,14 +179,6 @@ pub fn tiles<R: Clock + Print>(rt: &R, alloc: Global) -> io::Result<bool> {
     ) else {
         return Ok(false);
     };
-    let start = Instant::now(rt)?;
-    let Some(count) = read_all(alloc, &memory, root) else {
-        return Ok(false);
-    };
-    let took = start.elapsed(rt)?;
-    println!(rt;
-        "tiles: {count} hashes of 1000000 entries, {} a second",
-        rate(count, took)
-    )?;
-    Ok(true)
+    Ok(tell(rt, alloc, PlainTree, "one by one", &memory, root)?
+        && tell(rt, alloc, Sha256Tree, "four at a time", &memory, root)?)
 }

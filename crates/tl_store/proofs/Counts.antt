@@ -10,7 +10,7 @@ use Rattle.tl_hash.proofs.SplitLemmas.{below_pow}
 use Rattle.tl_store.specs.Stored.{stored_count}
 use Rattle.tl_store.proofs.StoredLemmas.{count-is}
 
-range-append : (a n m : ℕ) → range_with_len a (n + m) ≡ range_with_len a n ++ range_with_len (a + n) m
+pub range-append : (a n m : ℕ) → range_with_len a (n + m) ≡ range_with_len a n ++ range_with_len (a + n) m
 range-append a zero m =
     let count : 0 + m ≡ m = omega arith in
     let start : a ≡ a + 0 = omega arith in

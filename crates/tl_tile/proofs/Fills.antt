@@ -28,7 +28,7 @@ hash_stays H entries entry level place within =
     take-append-le u (drop (place * u) entries) (entry ∷ []) (omega (arith, within, sum, length-drop (place * u) entries)) in
     ap (λ (xs : List (List ℕ)). tree_hash H (take u xs)) rest ∙ ap (tree_hash H) front
 
-map_same : {X : Type 0} (f g : ℕ → X) (a n : ℕ) → ((i : ℕ) → a ≤ i → i < a + n → f i ≡ g i) → map f (range_with_len a n) ≡ map g (range_with_len a n)
+pub map_same : {X : Type 0} (f g : ℕ → X) (a n : ℕ) → ((i : ℕ) → a ≤ i → i < a + n → f i ≡ g i) → map f (range_with_len a n) ≡ map g (range_with_len a n)
 map_same f g a zero same = refl
 map_same f g a (suc n) same =
     let first = same a (omega arith) (omega arith) in

@@ -31,5 +31,6 @@ pub mod TileTrees
 pub mod FourNodes
 pub mod FoldSteps
 pub mod FourEntries
+pub mod Adding
 pub mod TreeKeys
 pub mod TreeReads

@@ -17,3 +17,5 @@ pub
     mod FoldsTo
 pub
     mod TreeKeys
+pub
+    mod Adds

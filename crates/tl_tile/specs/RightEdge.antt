@@ -1,7 +1,7 @@
 -- The right edge of a growing log: the partial tiles of its size, and the full tiles that an entry completes (C2SP
 -- tlog-tiles, "Partial Tiles"). The levels of tiles are 0 to 7.
-use Rattle.std.specs.Prelude.{◌≡◌, ℕ, zero, suc, ◌+◌, ◌-◌, ◌*◌, ◌/◌, ◌%◌, ◌^◌, ◌<◌, List, [], ◌++◌, length, map, filter, ◌==◌, Option, Some, None, if◌then◌else◌}
-use Rattle.std.specs.List.{range_with_len}
+use Rattle.std.specs.Prelude.{◌≡◌, ℕ, zero, suc, ◌+◌, ◌-◌, ◌*◌, ◌/◌, ◌%◌, ◌^◌, ◌<◌, List, [], ◌++◌, length, take, map, filter, ◌==◌, Option, Some, None, if◌then◌else◌}
+use Rattle.std.specs.List.{flat_map, range_with_len}
 use Rattle.tl_hash.specs.Bytes.{Bytes, Digest}
 use Rattle.tl_hash.specs.Tree.{tree_hash}
 use Rattle.tl_tile.specs.declared.resource.Tile.{Tile}
@@ -30,6 +30,11 @@ filled_tiles n = map (λ level. full_tile level (n / 256 ^ (level + 1) - 1)) (fi
 -- the full tiles that the last of the entries fills, with their bytes
 abbrev pub shown_filled : Digest → List Bytes → List (Tile × Bytes)
 shown_filled H entries = map (shown H entries) (filled_tiles (length entries))
+
+-- the full tiles that the entries after the first `from` fill, with their bytes: those of each in turn
+abbrev pub shown_since : Digest → ℕ → List Bytes → List (Tile × Bytes)
+shown_since H from entries =
+    flat_map (λ count. shown_filled H (take count entries)) (range_with_len (from + 1) (length entries - from))
 
 -- ---- what a right edge keeps
 

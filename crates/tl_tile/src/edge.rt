@@ -1,10 +1,12 @@
 //! The right edge of a growing log: its size and the hashes of its partial tiles.
 
-ghost use Rattle.std.specs.Prelude.{◌≡◌, ◌≤◌, ◌<◌, ◌+◌, ◌-◌, ◌%◌, ◌^◌, ◌⊎◌, [], ◌∷◌, ◌++◌, List, length, map, vec_items, option_map, IsTrue, MatchOption, IfOk, OnOk, OnErr};
+ghost use Rattle.std.specs.Prelude.{◌≡◌, ◌≤◌, ◌<◌, ◌+◌, ◌-◌, ◌%◌, ◌^◌, ◌⊎◌, [], ◌∷◌, ◌++◌, List, length, map, take, vec_items, option_map, MatchOption, IfOk, OnOk, OnErr};
 ghost use Rattle.tl_hash.specs.Bytes.{Bytes};
 ghost use Rattle.tl_hash.specs.Tree.{leaf_input, tree_hash};
 ghost use Rattle.tl_tile.specs.TileText.{level_count};
-ghost use Rattle.tl_tile.specs.RightEdge.{shown_partial, shown_filled, hashes_below, count_below, IsEdgeOf};
+ghost use Rattle.tl_tile.specs.RightEdge.{shown_partial, shown_filled, shown_since, hashes_below, count_below, IsEdgeOf};
+ghost use Rattle.tl_tile.specs.Inner.Adds.{Adds};
+ghost use Rattle.tl_tile.specs.Fetched.{texts_of};
 
 use crate::fold::{fill, fold_level};
 use crate::resource::Tile;
@@ -144,15 +146,41 @@ impl<T: TreeHash, A: Allocator + Copy> Edge<T, A> {
         ensures unchanged { OnErr result (self.new ≡ self.old) }
         ensures full { OnErr result ((self.old.room ≤ length self.old.kept) ⊎ ((self.old.size + 1) % 256 ≡ 0)) }
     {
-        let size = self.size + 1;
         let alloc = *self.kept.allocator();
         let leaf = leaf_hash(self.digest, entry);
-        let filled = fill(alloc, self.digest, true, &self.kept, size, leaf)?;
+        let filled = fill(alloc, self.digest, true, &self.kept, self.size + 1, leaf)?;
         self.kept.reserve(1)?;
-        self.kept.truncate(filled.left);
-        self.kept.push_reserved(filled.hash);
-        self.size = size;
+        self.keep(filled.left, filled.hash);
         Ok(filled.tiles)
+    }
+
+    /// Adds entries at the end, as so many calls of `append` do, and gives all the full tiles that those calls give,
+    /// in their order. It hashes four entries side by side. The edge takes up to 2^32 - 1 entries in all. It fails only
+    /// where memory is refused, and asks for none where there are no entries; the edge then stays as it was.
+    pub fn append_all<B: Allocator>(
+        &mut self,
+        entries: &[Vec<u8, B>],
+    ) -> Result<Vec<(Tile, Vec<u8, A>), A>, AllocError>
+        requires { self.old.size + length entries.now < 2 ^ 32 }
+        ensures entries { (before : List Bytes)
+            → IsEdgeOf self.old T.digest_of before
+            → OnOk result (IsEdgeOf self.new T.digest_of (before ++ map vec_items entries.now)) }
+        ensures tiles { (before : List Bytes)
+            → IsEdgeOf self.old T.digest_of before
+            → IfOk result (λ tiles. map (λ t. (t.0, vec_items t.1)) tiles.items
+            ≡ shown_since T.digest_of (length before) (before ++ map vec_items entries.now)) }
+        ensures size { OnOk result (self.new.size ≡ self.old.size + length entries.now) }
+        ensures unchanged { OnErr result (self.new ≡ self.old) }
+        ensures memory { OnErr result (0 < length entries.now) }
+    {
+        let mut tiles = Vec::new(*self.kept.allocator());
+        if entries.is_empty() {
+            return Ok(tiles);
+        }
+        let mut grown = self.copy()?;
+        grown.append_each(entries, &mut tiles)?;
+        *self = grown;
+        Ok(tiles)
     }
 
     /// Adds one entry at the end, as `append` does, and makes no tiles. It fails only where the edge has no room for
@@ -198,6 +226,93 @@ impl<T: TreeHash, A: Allocator + Copy> Edge<T, A> {
         Ok(())
     }
 
+    // The same edge once more.
+    fn copy(&self) -> Result<Edge<T, A>, AllocError>
+        ensures size { IfOk result (λ edge. edge.size ≡ self.now.size) }
+        ensures kept { IfOk result (λ edge. edge.kept ≡ self.now.kept) }
+    {
+        Ok(Edge {
+            digest: self.digest,
+            kept: Vec::from_slice(*self.kept.allocator(), &self.kept)?,
+            size: self.size,
+        })
+    }
+
+    // Adds entries, and the tiles that they fill to those that are there.
+    fn append_each<B: Allocator>(
+        &mut self,
+        entries: &[Vec<u8, B>],
+        tiles: &mut Vec<(Tile, Vec<u8, A>), A>,
+    ) -> Result<(), AllocError>
+        requires { self.old.size + length entries.now < 2 ^ 32 }
+        ensures { OnOk result (Adds T.digest_of (map vec_items entries.now) self.old self.new (texts_of tiles.old.items) (texts_of tiles.new.items)) }
+    {
+        let mut at = 0;
+        while at < entries.len() {
+            at += self.append_some(&entries[at..], tiles)?;
+        }
+        Ok(())
+    }
+
+    // Adds the first of some entries, as `append_each` does: four, or one where there are fewer. Gives how many.
+    fn append_some<B: Allocator>(
+        &mut self,
+        entries: &[Vec<u8, B>],
+        tiles: &mut Vec<(Tile, Vec<u8, A>), A>,
+    ) -> Result<usize, AllocError>
+        requires some { 0 < length entries.now }
+        requires small { self.old.size + length entries.now < 2 ^ 32 }
+        ensures some { IfOk result (λ count. 0 < count) }
+        ensures within { IfOk result (λ count. count ≤ length entries.now) }
+        ensures adds { IfOk result (λ count. Adds T.digest_of (map vec_items (take count entries.now)) self.old self.new (texts_of tiles.old.items) (texts_of tiles.new.items)) }
+    {
+        if let [first, second, third, fourth, ..] = entries {
+            self.append_four(first, second, third, fourth, tiles)?;
+            return Ok(4);
+        }
+        let leaf = leaf_hash(self.digest, &entries[0]);
+        self.append_leaf(leaf, tiles)?;
+        Ok(1)
+    }
+
+    // Adds four entries, as `append_each` does.
+    fn append_four(
+        &mut self,
+        first: &[u8],
+        second: &[u8],
+        third: &[u8],
+        fourth: &[u8],
+        tiles: &mut Vec<(Tile, Vec<u8, A>), A>,
+    ) -> Result<(), AllocError>
+        requires { self.old.size < 2 ^ 32 - 4 }
+        ensures { OnOk result (Adds T.digest_of (first.now ∷ second.now ∷ third.now ∷ fourth.now ∷ []) self.old self.new (texts_of tiles.old.items) (texts_of tiles.new.items)) }
+    {
+        let leaves = self.digest.digest_four(0, first, second, third, fourth);
+        self.append_leaf(leaves[0], tiles)?;
+        self.append_leaf(leaves[1], tiles)?;
+        self.append_leaf(leaves[2], tiles)?;
+        self.append_leaf(leaves[3], tiles)?;
+        Ok(())
+    }
+
+    // Adds an entry by its leaf hash, as `append_each` does.
+    fn append_leaf(
+        &mut self,
+        leaf: Hash,
+        tiles: &mut Vec<(Tile, Vec<u8, A>), A>,
+    ) -> Result<(), AllocError>
+        requires { self.old.size < 2 ^ 32 - 1 }
+        ensures { (entry : Bytes) → leaf ≡ T.digest_of (leaf_input entry)
+            → OnOk result (Adds T.digest_of (entry ∷ []) self.old self.new (texts_of tiles.old.items) (texts_of tiles.new.items)) }
+    {
+        let alloc = *self.kept.allocator();
+        let mut filled = fill(alloc, self.digest, true, &self.kept, self.size + 1, leaf)?;
+        self.kept.reserve(1)?;
+        tiles.append(&mut filled.tiles)?;
+        self.keep(filled.left, filled.hash);
+        Ok(())
+    }
+
     // Adds an entry by its leaf hash, where the edge has room for one hash more.
     fn push_leaf(&mut self, leaf: Hash)
         requires size { self.old.size < 2 ^ 32 - 1 }
@@ -210,13 +325,25 @@ impl<T: TreeHash, A: Allocator + Copy> Edge<T, A> {
         ensures kept { length self.new.kept ≤ length self.old.kept + 1 }
         ensures room { self.new.room ≡ self.old.room }
     {
-        let size = self.size + 1;
         let alloc = *self.kept.allocator();
-        let Ok(filled) = fill(alloc, self.digest, false, &self.kept, size, leaf) else {
+        let Ok(filled) = fill(alloc, self.digest, false, &self.kept, self.size + 1, leaf) else {
             unreachable!();
         };
-        self.kept.truncate(filled.left);
-        self.kept.push_reserved(filled.hash);
-        self.size = size;
+        self.keep(filled.left, filled.hash);
+    }
+
+    // Puts one hash in the place of all that are kept after so many, for one entry more.
+    fn keep(&mut self, left: usize, hash: Hash)
+        requires small { self.old.size < 2 ^ 32 - 1 }
+        requires within { left ≤ length self.old.kept }
+        requires counted { left + 1 ≡ count_below (self.old.size + 1) 8 }
+        requires room { left < self.old.room }
+        ensures size { self.new.size ≡ self.old.size + 1 }
+        ensures kept { self.new.kept ≡ take left self.old.kept ++ hash ∷ [] }
+        ensures room { self.new.room ≡ self.old.room }
+    {
+        self.kept.truncate(left);
+        self.kept.push_reserved(hash);
+        self.size += 1;
     }
 }

@@ -223,3 +223,69 @@ fn append_leaves_the_edge_as_it_was(rt: HostRuntime) -> Result<(), Fail> {
     assert!(rt; false, "each run was refused");
     Ok(())
 }
+
+// Adds entries together to an edge that has few.
+fn add_all<A: Allocator + Copy>(
+    edge: &mut Edge<Sha256Tree, A>,
+    entries: &[Vec<u8, Global>],
+) -> Result<Tiles<A>, AllocError> {
+    if edge.size() < MOST && entries.len() < 100_000 {
+        return edge.append_all(entries);
+    }
+    Err(AllocError)
+}
+
+// Entries of four bytes, each another.
+fn many(alloc: Global, count: u32) -> Result<Vec<Vec<u8, Global>, Global>, AllocError> {
+    let mut entries = Vec::new(alloc);
+    for number in 0..count {
+        entries.push(Vec::from_slice(alloc, &number.to_be_bytes())?)?;
+    }
+    Ok(entries)
+}
+
+#[test]
+fn entries_together_are_entries_one_by_one(rt: HostRuntime) -> Result<(), Fail> {
+    let alloc = rt.alloc();
+    let mut together = Edge::new(alloc, Sha256Tree);
+    let mut singly = Edge::new(alloc, Sha256Tree);
+    for count in [0, 1, 3, 4, 5, 250, 256, 257, 513, 66_000] {
+        let entries = many(alloc, count)?;
+        let tiles = add_all(&mut together, entries.as_slice())?;
+        let mut want = Vec::new(alloc);
+        for entry in &entries {
+            want.append(&mut add(&mut singly, entry)?)?;
+        }
+        assert!(rt; are_same(tiles.as_slice(), want.as_slice()), "{count}");
+        assert_eq!(rt; together.size(), singly.size());
+        assert!(rt; together.root() == singly.root(), "{count}");
+    }
+    Ok(())
+}
+
+#[test]
+fn append_all_leaves_the_edge_as_it_was(rt: HostRuntime) -> Result<(), Fail> {
+    let alloc = rt.alloc();
+    let entries = many(alloc, 600)?;
+    let mut whole = Edge::new(alloc, Sha256Tree);
+    let want = add_all(&mut whole, entries.as_slice())?;
+    for number in 1..MOST {
+        let heap = Refusing::at(alloc, number);
+        let mut edge = Edge::new(&heap, Sha256Tree);
+        let mut tiles = add_all(&mut edge, entries.as_slice());
+        if tiles.is_err() {
+            assert!(rt; heap.refused());
+            assert_eq!(rt; edge.size(), 0);
+            assert!(rt; edge.root() == empty_hash(Sha256Tree));
+            tiles = add_all(&mut edge, entries.as_slice());
+        }
+        assert!(rt; are_same(tiles?.as_slice(), want.as_slice()), "{number}");
+        assert!(rt; edge.root() == whole.root(), "{number}");
+        if !heap.refused() {
+            assert!(rt; number > 5);
+            return Ok(());
+        }
+    }
+    assert!(rt; false, "each run was refused");
+    Ok(())
+}
