@@ -112,3 +112,9 @@ grown_four old new input piece four rest was begins none_was none_kept none_now 
       kept = kept_now;
       told = told_none new.too_long _ _ none_now (none_longer four was.lines told.0 begins.short, pushed was.lines told.1);
     }
+
+-- no byte of a piece more
+pub none_taken : (input piece : List ℕ) (n : ℕ) → n ≤ 0 → input ++ take n piece ≡ input
+none_taken input piece n none =
+    let zero : n ≡ 0 = omega arith in
+    ap (λ (m : ℕ). input ++ take m piece) zero ∙ append-nil input
