@@ -1,7 +1,7 @@
 -- Whole lines at the beginning of a piece of input, and the log of an input's lines with those added.
-use Rattle.std.proofs.Common.{◌≡◌, ℕ, ◌+◌, ◌-◌, ◌<◌, ◌≤◌, true, false, List, [], ◌∷◌, ◌++◌, length, get_or, take, drop, refl, sym, ap, subst, ◌∙◌, arith, append_assoc, append-nil, All, Some, None, vec_items}
+use Rattle.std.proofs.Common.{◌≡◌, ℕ, ◌+◌, ◌-◌, ◌<◌, ◌≤◌, true, false, List, [], ◌∷◌, ◌++◌, length, get_or, take, drop, refl, sym, ap, ◌∙◌, arith, append_assoc, append-nil, All, Some, None, vec_items}
 use Rattle.std.specs.Prelude.{◌==◌, Option, is_some}
-use Rattle.std.proofs.Math.Seq.{take-append_seam}
+use Rattle.std.proofs.Math.Seq.{take-add, take-append_seam}
 use Rattle.std.proofs.lemmas.Bool.{eqb-true, le-ltb}
 use Rattle.std.proofs.lemmas.Grind.{flat_map-append}
 use Rattle.std.proofs.lemmas.List.{length-append, length-take-le, take-append-drop, take_more, take_rest, get_or-take}
@@ -50,9 +50,9 @@ begins_found s end lt found before short =
     }
 
 -- one line more
-pub begins-more : (bytes rest end : List ℕ) (lines : List (List ℕ)) (next : List ℕ) → BeginsWith bytes lines rest → BeginsWith rest (next ∷ []) end
+pub begins_more : (bytes rest end : List ℕ) (lines : List (List ℕ)) (next : List ℕ) → BeginsWith bytes lines rest → BeginsWith rest (next ∷ []) end
     → BeginsWith bytes (lines ++ next ∷ []) end
-begins-more bytes rest end lines next front more = record {
+begins_more bytes rest end lines next front more = record {
   whole = front.whole ∙ ap (λ (t : List ℕ). lines_text lines ++ t) more.whole ∙ sym (append_assoc (lines_text lines) (lines_text (next ∷ [])) end)
       ∙ ap (λ (t : List ℕ). t ++ end) (sym (flat_map-append line lines (next ∷ [])));
   plain = All-append HasNoNewline lines (next ∷ []) front.plain more.plain;
@@ -70,19 +70,10 @@ none_longer (text ∷ new) lines none short =
 lines_before : (bytes : List ℕ) (lines : List (List ℕ)) (rest : List ℕ) → BeginsWith bytes lines rest → length bytes ≡ length (lines_text lines) + length rest
 lines_before bytes lines rest begins = ap length begins.whole ∙ length-append (lines_text lines) rest
 
-pub begins-front : (bytes : List ℕ) (lines : List (List ℕ)) (rest : List ℕ) → BeginsWith bytes lines rest → take (length bytes - length rest) bytes ≡ lines_text lines
-begins-front bytes lines rest begins =
+pub begins_front : (bytes : List ℕ) (lines : List (List ℕ)) (rest : List ℕ) → BeginsWith bytes lines rest → take (length bytes - length rest) bytes ≡ lines_text lines
+begins_front bytes lines rest begins =
     let count : length bytes - length rest ≡ length (lines_text lines) = omega (arith, lines_before bytes lines rest begins) in
     ap (λ (n : ℕ). take n bytes) count ∙ ap (λ (t : List ℕ). take (length (lines_text lines)) t) begins.whole ∙ take-append_seam (lines_text lines) rest
-
--- each line takes a byte at least
-line_for_each : (lines : List (List ℕ)) → length lines ≤ length (lines_text lines)
-line_for_each [] = omega arith
-line_for_each (text ∷ lines) =
-    omega (arith, line_for_each lines, ap length (flat_map-cons line text lines), length-append (line text) (lines_text lines), length-append text (10 ∷ []))
-
-pub lines_within : (bytes : List ℕ) (lines : List (List ℕ)) (rest : List ℕ) → BeginsWith bytes lines rest → length lines + length rest ≤ length bytes
-lines_within bytes lines rest begins = omega (arith, line_for_each lines, lines_before bytes lines rest begins)
 
 -- whole lines, and whole lines after them
 lines_after : (before new : List (List ℕ)) (last : List ℕ) → last ≡ [] → (lines_text before ++ last) ++ lines_text new ≡ lines_text (before ++ new) ++ []
@@ -105,7 +96,7 @@ grown_four old new input piece four rest was begins none_was none_kept none_now 
     record {
       lines = was.lines ++ four;
       last = [];
-      whole = ap (λ (t : List ℕ). input ++ t) (begins-front piece four rest begins) ∙ ap (λ (t : List ℕ). t ++ lines_text four) was.whole
+      whole = ap (λ (t : List ℕ). input ++ t) (begins_front piece four rest begins) ∙ ap (λ (t : List ℕ). t ++ lines_text four) was.whole
           ∙ lines_after was.lines four was.last last;
       plain = All-append HasNoNewline was.lines four was.plain begins.plain;
       last_plain = All-nil IsOther;
@@ -118,3 +109,9 @@ pub none_taken : (input piece : List ℕ) (n : ℕ) → n ≤ 0 → input ++ tak
 none_taken input piece n none =
     let zero : n ≡ 0 = omega arith in
     ap (λ (m : ℕ). input ++ take m piece) zero ∙ append-nil input
+
+-- bytes more of a piece, after those that were taken
+pub part_more : (input piece : List ℕ) (at n : ℕ) → (input ++ take at piece) ++ take n (take (length piece - at) (drop at piece)) ≡ input ++ take (at + n) piece
+part_more input piece at n =
+    ap (λ (t : List ℕ). (input ++ take at piece) ++ take n t) (take_rest piece at) ∙ append_assoc input (take at piece) (take n (drop at piece))
+    ∙ ap (λ (t : List ℕ). input ++ t) (sym (take-add at n piece))

@@ -17,7 +17,6 @@ pub(crate) struct FourLines<'a> {
 }
 
 // The first line of a piece and what follows its newline, where the piece has one and the line isn't too long.
-#[tactic(auto, using(crate::proofs::WholeLines::begins_found))]
 fn cut_line(piece: &[u8]) -> Option<(&[u8], &[u8])>
     ensures { IfSome result (λ cut. BeginsWith piece.entry.now (cut.0.now ∷ []) cut.1.now) }
 {

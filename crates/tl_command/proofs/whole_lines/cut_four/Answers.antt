@@ -1,5 +1,5 @@
 use Rattle.std.proofs.Common.{[], ◌∷◌}
-use Rattle.tl_command.proofs.WholeLines.{begins-more}
+use Rattle.tl_command.proofs.WholeLines.{begins_more}
 use Rattle.tl_command.proofs.whole_lines.cut_four.Goals as goal
 
 pub returns : goal.returns
@@ -7,6 +7,6 @@ returns c =
     let first = c.in_ok-first.first.now in
     let second = c.in_ok-second.second.now in
     let third = c.in_ok-third.third.now in
-    let two = begins-more _ _ _ (first ∷ []) second c.in_ok-first.ensures c.in_ok-second.ensures in
-    let three = begins-more _ _ _ (first ∷ second ∷ []) third two c.in_ok-third.ensures in
-    begins-more _ _ _ (first ∷ second ∷ third ∷ []) c.in_ok-fourth.fourth.now three c.in_ok-fourth.ensures
+    let two = begins_more _ _ _ (first ∷ []) second c.in_ok-first.ensures c.in_ok-second.ensures in
+    let three = begins_more _ _ _ (first ∷ second ∷ []) third two c.in_ok-third.ensures in
+    begins_more _ _ _ (first ∷ second ∷ third ∷ []) c.in_ok-fourth.fourth.now three c.in_ok-fourth.ensures

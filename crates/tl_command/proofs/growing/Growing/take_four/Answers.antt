@@ -1,4 +1,4 @@
-use Rattle.std.proofs.Common.{◌≡◌, ◌∷◌, [], List, ℕ, length, vec_items, sym, arith}
+use Rattle.std.proofs.Common.{◌≡◌, ◌∷◌, [], length, vec_items, sym, arith}
 use Rattle.std.proofs.lemmas.Bool.Decides.{nat_tests}
 use Rattle.tl_command.proofs.GrowingLemmas.{empty_list}
 use Rattle.tl_command.proofs.WholeLines.{grown_four, no_place}
