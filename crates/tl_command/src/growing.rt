@@ -85,8 +85,8 @@ impl<A: Allocator + Copy> Growing<A> {
         Ok(())
     }
 
-    // The first four lines of a piece, hashed side by side. Gives the number of bytes taken: none where a line is begun,
-    // a line was too long, or no four whole lines stand there that an entry can have.
+    // The first four lines of a piece, hashed side by side. Gives the number of bytes taken: none where a line is
+    // begun, a line was too long, or no four whole lines stand there that an entry can have.
     fn take_four(&mut self, piece: &[u8]) -> Result<usize, AllocError>
         requires { self.old.edge.size + length piece.now < 2 ^ 32 }
         ensures within { IfOk result (λ taken. taken ≤ length piece.now) }
