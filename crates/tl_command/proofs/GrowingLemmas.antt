@@ -1,11 +1,11 @@
 -- The log of an input's lines, one part of the input more.
-use Rattle.std.proofs.Common.{inl, inr, ◌≡◌, ℕ, ◌+◌, ◌-◌, ◌<◌, ◌≤◌, Bool, true, false, cond, List, [], ◌∷◌, ◌++◌, length, get_or, take, drop, min, refl, sym, ap, ◌∙◌, arith, append_assoc, append-nil, eq-eqb, lt-ltb, All, Some, None}
+use Rattle.std.proofs.Common.{inl, inr, ◌≡◌, ℕ, ◌+◌, ◌-◌, ◌<◌, ◌≤◌, Bool, true, false, cond, List, [], ◌∷◌, ◌++◌, length, get_or, take, min, refl, sym, ap, ◌∙◌, arith, append_assoc, append-nil, eq-eqb, lt-ltb, All, Some, None}
 use Rattle.std.specs.Prelude.{◌≢◌, ◌==◌, nat_lt, not, Option, MatchOption, is_some, Result, Ok, Err}
 use Rattle.std.specs.List.{position_or_len}
-use Rattle.std.proofs.Math.Seq.{take-append-add, take-add}
-use Rattle.std.proofs.lemmas.Bool.{cases_lt, le-ltb, ne_eqb, eqb-true}
+use Rattle.std.proofs.Math.Seq.{take-append-add}
+use Rattle.std.proofs.lemmas.Bool.{cases_lt, le-ltb, ne_eqb}
 use Rattle.std.proofs.lemmas.Grind.{flat_map-append}
-use Rattle.std.proofs.lemmas.List.{take_all, take_min, take-append-le, length-take-le, length-append, take_rest, take_more, get_or_default}
+use Rattle.std.proofs.lemmas.List.{take_all, take_min, take-append-le, length-take-le, length-append, get_or_default}
 use Rattle.std.proofs.lemmas.List.Concat.{flat_map-cons}
 use Rattle.std.proofs.lemmas.List.Elements.{All-push, All-head, All-tail}
 use Rattle.std.proofs.lemmas.List.Folds.{position_or_len_push}
@@ -172,23 +172,6 @@ same_entries lines last input plain last_plain e some =
 -- no newline was found
 pub none_found : (s : List ℕ) → ((j : ℕ) → 0 ≤ j → j < length s → (get_or s j 0 == 10) ≡ true → ⊥) → HasNoNewline s
 none_found s none k d lt e = none k (omega arith) lt (eq-eqb (get_or s k 0) 10 (get_or_default s k 0 d lt ∙ e))
-
--- a line more of a piece, with its newline
-pub piece_more : (input piece : List ℕ) (at end : ℕ) → at ≤ length piece → end < length (take (length piece - at) (drop at piece))
-    → (get_or (take (length piece - at) (drop at piece)) end 0 == 10) ≡ true
-    → ((input ++ take at piece) ++ take (at + end - at) (drop at piece)) ++ 10 ∷ [] ≡ input ++ take (at + (end + 1)) piece
-piece_more input piece at end within lt found =
-    let rest = drop at piece in
-    let all : take (length piece - at) rest ≡ rest = take_rest piece at in
-    let byte : get_or rest end 0 ≡ 10 = ap (λ (s : List ℕ). get_or s end 0) (sym all) ∙ eqb-true _ _ found in
-    let inside : end < length rest = omega (arith, lt, ap length all) in
-    let count : at + end - at ≡ end = omega arith in
-    let one : take end rest ++ 10 ∷ [] ≡ take (end + 1) rest = ap (λ (b : ℕ). take end rest ++ b ∷ []) (sym byte) ∙ sym (take_more rest end 0 inside) in
-    ap (λ (n : ℕ). ((input ++ take at piece) ++ take n rest) ++ 10 ∷ []) count
-    ∙ append_assoc (input ++ take at piece) (take end rest) (10 ∷ [])
-    ∙ ap (λ (t : List ℕ). (input ++ take at piece) ++ t) one
-    ∙ append_assoc input (take at piece) (take (end + 1) rest)
-    ∙ ap (λ (t : List ℕ). input ++ t) (sym (take-add at (end + 1) piece))
 
 -- what is told of the entries of a whole input that was read
 pub reads_edge : (p : Passage) (input : List ℕ) (result : Result EdgeContents RunFault) → ReadWhole p most_input input → IsOutcome (entries_of input) result → ReadsEdge p result

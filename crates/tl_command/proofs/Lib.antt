@@ -7,4 +7,5 @@ pub mod HashLines
 pub mod ProofTexts
 pub mod CountedLines
 pub mod GrowingLemmas
+pub mod WholeLines
 pub mod CheckpointTexts

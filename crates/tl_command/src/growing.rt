@@ -1,6 +1,6 @@
 //! The right edge of the log of an input's lines, while the input is read.
 
-ghost use Rattle.std.specs.Prelude.{◌≡◌, ◌<◌, ◌≤◌, ◌+◌, ◌-◌, ◌^◌, ◌∷◌, [], ◌++◌, List, length, take, vec_items, None, OnOk};
+ghost use Rattle.std.specs.Prelude.{◌≡◌, ◌<◌, ◌≤◌, ◌+◌, ◌-◌, ◌^◌, ◌∷◌, [], ◌++◌, List, length, take, vec_items, None, IfOk, OnOk};
 ghost use Rattle.tl_hash.specs.Bytes.{Bytes};
 ghost use Rattle.tl_command.specs.Inner.Growing.{IsGrowing, IsOutcome, IsTold, ReadsEdge};
 ghost use Rattle.tl_command.specs.Lines.{entries_of, HasNoNewline};
@@ -8,6 +8,7 @@ ghost use Rattle.tl_device.specs.Device.{passage};
 
 use crate::fault::RunFault;
 use crate::streams::MOST_INPUT;
+use crate::whole_lines::cut_four;
 use memchr::memchr;
 use std::alloc::{AllocError, Allocator};
 use std::io::Read;
@@ -84,6 +85,47 @@ impl<A: Allocator + Copy> Growing<A> {
         Ok(())
     }
 
+    // The first four lines of a piece, hashed side by side. Gives the number of bytes taken: none where a line is
+    // begun, a line was too long, or no four whole lines stand there that an entry can have.
+    fn take_four(&mut self, piece: &[u8]) -> Result<usize, AllocError>
+        requires { self.old.edge.size + length piece.now < 2 ^ 32 }
+        ensures within { IfOk result (λ taken. taken ≤ length piece.now) }
+        ensures size { IfOk result (λ taken. self.new.edge.size ≤ self.old.edge.size + taken) }
+        ensures grows { (input : Bytes) → IsGrowing self.old input → IfOk result (λ taken. IsGrowing self.new (input ++ take taken piece.now)) }
+    {
+        if !self.line.is_empty() || self.too_long.is_some() {
+            return Ok(0);
+        }
+        let Some(four) = cut_four(piece) else {
+            return Ok(0);
+        };
+        self.edge
+            .push_four(four.first, four.second, four.third, four.fourth)?;
+        Ok(piece.len() - four.rest.len())
+    }
+
+    // The beginning of a piece: four lines of it, or else one, or all of it where it has no newline. Gives the number
+    // of bytes taken.
+    fn take_some(&mut self, piece: &[u8]) -> Result<usize, AllocError>
+        requires { self.old.edge.size + length piece.now < 2 ^ 32 }
+        ensures some { 0 < length piece.now → IfOk result (λ taken. 0 < taken) }
+        ensures within { IfOk result (λ taken. taken ≤ length piece.now) }
+        ensures size { IfOk result (λ taken. self.new.edge.size ≤ self.old.edge.size + taken) }
+        ensures grows { (input : Bytes) → IsGrowing self.old input → IfOk result (λ taken. IsGrowing self.new (input ++ take taken piece.now)) }
+    {
+        let taken = self.take_four(piece)?;
+        if taken > 0 {
+            return Ok(taken);
+        }
+        let Some(end) = memchr(b'\n', piece) else {
+            self.extend(piece)?;
+            return Ok(piece.len());
+        };
+        self.extend(&piece[..end])?;
+        self.end_line()?;
+        Ok(end + 1)
+    }
+
     // A piece more of the input. The edge takes up to 2^32 - 1 lines.
     fn take(&mut self, piece: &[u8]) -> Result<(), AllocError>
         requires { self.old.edge.size + length piece.now < 2 ^ 32 }
@@ -91,12 +133,9 @@ impl<A: Allocator + Copy> Growing<A> {
         ensures grows { (input : Bytes) → IsGrowing self.old input → OnOk result (IsGrowing self.new (input ++ piece.now)) }
     {
         let mut at = 0;
-        while let Some(end) = memchr(b'\n', &piece[at..]) {
-            self.extend(&piece[at..at + end])?;
-            self.end_line()?;
-            at += end + 1;
+        while at < piece.len() {
+            at += self.take_some(&piece[at..])?;
         }
-        self.extend(&piece[at..])?;
         Ok(())
     }
 

@@ -17,6 +17,7 @@ mod lines;
 mod proof_text;
 mod stored;
 mod streams;
+mod whole_lines;
 mod words;
 
 pub use commands::audit::run_audit;

@@ -1,10 +1,10 @@
 -- The log of an input's lines while the input is read: words of the private clauses of the command `head`.
-use Rattle.std.specs.Prelude.{◌≡◌, List, ◌++◌, take, All, MatchOption, None, Some, Result, Ok, Err, vec_items}
+use Rattle.std.specs.Prelude.{◌≡◌, List, ◌++◌, take, All, MatchOption, false, None, Some, Result, Ok, Err, vec_items}
 use Rattle.sha2.specs.Sha256.{sha256}
 use Rattle.tl_hash.specs.Bytes.{Bytes}
 use Rattle.tl_tile.specs.RightEdge.{EdgeContents, IsEdgeOf}
 use Rattle.tl_device.specs.Device.{Passage, IsSteady, HasFailed, ReadWhole, ReadPast}
-use Rattle.tl_command.specs.Lines.{entries_of, first_too_long, lines_text, HasNoNewline}
+use Rattle.tl_command.specs.Lines.{entries_of, first_too_long, is_too_long, lines_text, HasNoNewline}
 use Rattle.tl_command.specs.Run.{most_input, ReadTooLong}
 use Rattle.tl_command.specs.declared.growing.Growing.{Growing}
 use Rattle.tl_command.specs.declared.fault.RunFault.{RunFault}
@@ -24,6 +24,12 @@ pub record IsGrowing {A : Type 0} (g : Growing A) (input : Bytes) : Type 0 where
   pub last_plain : HasNoNewline last
   pub kept : vec_items g.line ≡ take 65536 last
   pub told : IsTold g lines
+
+-- the bytes are these whole lines, of which none is too long, and then the rest
+pub record BeginsWith (bytes : Bytes) (lines : List Bytes) (rest : Bytes) : Type 0 where
+  pub whole : bytes ≡ lines_text lines ++ rest
+  pub plain : All HasNoNewline lines
+  pub short : All (λ text. is_too_long text ≡ false) lines
 
 -- the edge is that of these lines, of which none is too long, or the place of the first that is
 abbrev pub IsOutcome : List Bytes → Result EdgeContents RunFault → Type 0

@@ -3,12 +3,12 @@ use Rattle.tl_command.specs.Inner.Growing.{IsGrowing}
 use Rattle.tl_command.proofs.growing.Growing.take.Given as goal
 
 -- the piece was taken up to here
-abbrev pub invariant-loop-end : goal.invariant-loop-end
-invariant-loop-end g l = record {
+abbrev pub invariant-loop-at : goal.invariant-loop-at
+invariant-loop-at g l = record {
   within : l.at ≤ length l.piece;
   size : l.self.edge.size ≤ l.initial.self.edge.size + l.at;
   grows : (input : List ℕ) → IsGrowing l.initial.self input → IsGrowing l.self (input ++ take l.at l.piece);
 }
 
-abbrev pub decreases-loop-end : goal.decreases-loop-end
-decreases-loop-end g l = length l.piece - l.at
+abbrev pub decreases-loop-at : goal.decreases-loop-at
+decreases-loop-at g l = length l.piece - l.at

@@ -1,0 +1,117 @@
+-- Whole lines at the beginning of a piece of input, and the log of an input's lines with those added.
+use Rattle.std.proofs.Common.{◌≡◌, ℕ, ◌+◌, ◌-◌, ◌<◌, ◌≤◌, true, false, List, [], ◌∷◌, ◌++◌, length, get_or, take, drop, refl, sym, ap, ◌∙◌, arith, append_assoc, append-nil, All, Some, None, vec_items}
+use Rattle.std.specs.Prelude.{◌==◌, Option, is_some}
+use Rattle.std.proofs.Math.Seq.{take-add, take-append_seam}
+use Rattle.std.proofs.lemmas.Bool.{eqb-true, le-ltb}
+use Rattle.std.proofs.lemmas.Grind.{flat_map-append}
+use Rattle.std.proofs.lemmas.List.{length-append, length-take-le, take-append-drop, take_more, take_rest, get_or-take}
+use Rattle.std.proofs.lemmas.List.Concat.{flat_map-cons}
+use Rattle.std.proofs.lemmas.List.Elements.{All-append, All-head, All-nil, All-push, All-tail}
+use Rattle.sha2.specs.Sha256.{sha256}
+use Rattle.tl_text.specs.Text.{line}
+use Rattle.tl_tile.specs.RightEdge.{IsEdgeOf}
+use Rattle.tl_command.specs.Inner.Growing.{BeginsWith, IsGrowing}
+use Rattle.tl_command.specs.declared.growing.Growing.{Growing}
+use Rattle.tl_command.specs.Lines.{first_too_long, is_too_long, lines_text, HasNoNewline}
+use Rattle.tl_command.proofs.GrowingLemmas.{none_found, nothing_kept, push_short, told_none, told_was, IsOther}
+
+abbrev pub IsShort : List ℕ → Type 0
+IsShort text = is_too_long text ≡ false
+
+-- what stands before the newline that a search found
+pub plain_before : (s : List ℕ) (end : ℕ) → end ≤ length s → ((j : ℕ) → 0 ≤ j → j < end → (get_or s j 0 == 10) ≡ true → ⊥) → HasNoNewline (take end s)
+plain_before s end within none =
+    let count = length-take-le end s within in
+    none_found (take end s) (λ j low lt same. none j low (omega (arith, lt, count)) (ap (λ (b : ℕ). b == 10) (sym (get_or-take end s j 0 (omega (arith, lt, count)))) ∙ same))
+
+-- that and the newline are the front of the bytes
+line_ends : (s : List ℕ) (end : ℕ) → end < length s → (get_or s end 0 == 10) ≡ true → line (take end s) ≡ take (end + 1) s
+line_ends s end lt found = ap (λ (b : ℕ). take end s ++ b ∷ []) (sym (eqb-true (get_or s end 0) 10 found)) ∙ sym (take_more s end 0 lt)
+
+pub line_front : (input s : List ℕ) (end : ℕ) → end < length s → (get_or s end 0 == 10) ≡ true → (input ++ take end s) ++ 10 ∷ [] ≡ input ++ take (end + 1) s
+line_front input s end lt found = append_assoc input (take end s) (10 ∷ []) ∙ ap (λ (t : List ℕ). input ++ t) (line_ends s end lt found)
+
+-- the text of one line
+one_line : (text : List ℕ) → lines_text (text ∷ []) ≡ line text
+one_line text = flat_map-cons line text [] ∙ append-nil (line text)
+
+-- bytes begin with the line that a search found, if it isn't too long
+pub begins_found : (s : List ℕ) (end : ℕ) → end < length s → (get_or s end 0 == 10) ≡ true
+    → ((j : ℕ) → 0 ≤ j → j < end → (get_or s j 0 == 10) ≡ true → ⊥) → end ≤ 65535
+    → BeginsWith s (take end s ∷ []) (take (length s - (end + 1)) (drop (end + 1) s))
+begins_found s end lt found before short =
+    let text = take end s in
+    let count : length text ≡ end = length-take-le end s (omega arith) in
+    record {
+      whole = sym (ap (λ (t : List ℕ). t ++ take (length s - (end + 1)) (drop (end + 1) s)) (one_line text ∙ line_ends s end lt found)
+          ∙ ap (λ (t : List ℕ). take (end + 1) s ++ t) (take_rest s (end + 1)) ∙ take-append-drop (end + 1) s);
+      plain = All-push HasNoNewline [] text (All-nil HasNoNewline) (plain_before s end (omega arith) before);
+      short = All-push IsShort [] text (All-nil IsShort) (le-ltb 65535 (length text) (omega (arith, count, short)));
+    }
+
+-- one line more
+pub begins_more : (bytes rest end : List ℕ) (lines : List (List ℕ)) (next : List ℕ) → BeginsWith bytes lines rest → BeginsWith rest (next ∷ []) end
+    → BeginsWith bytes (lines ++ next ∷ []) end
+begins_more bytes rest end lines next front more = record {
+  whole = front.whole ∙ ap (λ (t : List ℕ). lines_text lines ++ t) more.whole ∙ sym (append_assoc (lines_text lines) (lines_text (next ∷ [])) end)
+      ∙ ap (λ (t : List ℕ). t ++ end) (sym (flat_map-append line lines (next ∷ [])));
+  plain = All-append HasNoNewline lines (next ∷ []) front.plain more.plain;
+  short = All-append IsShort lines (next ∷ []) front.short more.short;
+}
+
+-- where no line was too long, and lines more of which none is
+pub none_longer : (new lines : List (List ℕ)) → first_too_long lines ≡ None → All IsShort new → first_too_long (lines ++ new) ≡ None
+none_longer [] lines none short = ap first_too_long (append-nil lines) ∙ none
+none_longer (text ∷ new) lines none short =
+    ap first_too_long (sym (append_assoc lines (text ∷ []) new))
+    ∙ none_longer new (lines ++ text ∷ []) (push_short lines text none (All-head IsShort text new short)) (All-tail IsShort text new short)
+
+-- what stands before the rest is the lines
+lines_before : (bytes : List ℕ) (lines : List (List ℕ)) (rest : List ℕ) → BeginsWith bytes lines rest → length bytes ≡ length (lines_text lines) + length rest
+lines_before bytes lines rest begins = ap length begins.whole ∙ length-append (lines_text lines) rest
+
+pub begins_front : (bytes : List ℕ) (lines : List (List ℕ)) (rest : List ℕ) → BeginsWith bytes lines rest → take (length bytes - length rest) bytes ≡ lines_text lines
+begins_front bytes lines rest begins =
+    let count : length bytes - length rest ≡ length (lines_text lines) = omega (arith, lines_before bytes lines rest begins) in
+    ap (λ (n : ℕ). take n bytes) count ∙ ap (λ (t : List ℕ). take (length (lines_text lines)) t) begins.whole ∙ take-append_seam (lines_text lines) rest
+
+-- whole lines, and whole lines after them
+lines_after : (before new : List (List ℕ)) (last : List ℕ) → last ≡ [] → (lines_text before ++ last) ++ lines_text new ≡ lines_text (before ++ new) ++ []
+lines_after before new last none =
+    ap (λ (t : List ℕ). (lines_text before ++ t) ++ lines_text new) none ∙ ap (λ (t : List ℕ). t ++ lines_text new) (append-nil (lines_text before))
+    ∙ sym (flat_map-append line before new) ∙ sym (append-nil (lines_text (before ++ new)))
+
+pub no_place : (place : Option ℕ) → is_some place ≡ false → place ≡ None
+no_place None none = refl
+no_place (Some i) none = absurd cc
+
+-- whole lines more, where no line is begun and none was too long
+pub grown_four : {A : Type 0} (old new : Growing A) (input piece : List ℕ) (four : List (List ℕ)) (rest : List ℕ) → IsGrowing old input → BeginsWith piece four rest
+    → old.too_long ≡ None → vec_items old.line ≡ [] → new.too_long ≡ None → vec_items new.line ≡ []
+    → ((lines : List (List ℕ)) → IsEdgeOf old.edge sha256 lines → IsEdgeOf new.edge sha256 (lines ++ four))
+    → IsGrowing new (input ++ take (length piece - length rest) piece)
+grown_four old new input piece four rest was begins none_was none_kept none_now kept_now pushed =
+    let last : was.last ≡ [] = nothing_kept was.last (sym was.kept ∙ none_kept) in
+    let told = told_was old was.lines none_was was.told in
+    record {
+      lines = was.lines ++ four;
+      last = [];
+      whole = ap (λ (t : List ℕ). input ++ t) (begins_front piece four rest begins) ∙ ap (λ (t : List ℕ). t ++ lines_text four) was.whole
+          ∙ lines_after was.lines four was.last last;
+      plain = All-append HasNoNewline was.lines four was.plain begins.plain;
+      last_plain = All-nil IsOther;
+      kept = kept_now;
+      told = told_none new.too_long _ _ none_now (none_longer four was.lines told.0 begins.short, pushed was.lines told.1);
+    }
+
+-- no byte of a piece more
+pub none_taken : (input piece : List ℕ) (n : ℕ) → n ≤ 0 → input ++ take n piece ≡ input
+none_taken input piece n none =
+    let zero : n ≡ 0 = omega arith in
+    ap (λ (m : ℕ). input ++ take m piece) zero ∙ append-nil input
+
+-- bytes more of a piece, after those that were taken
+pub part_more : (input piece : List ℕ) (at n : ℕ) → (input ++ take at piece) ++ take n (take (length piece - at) (drop at piece)) ≡ input ++ take (at + n) piece
+part_more input piece at n =
+    ap (λ (t : List ℕ). (input ++ take at piece) ++ take n t) (take_rest piece at) ∙ append_assoc input (take at piece) (take n (drop at piece))
+    ∙ ap (λ (t : List ℕ). input ++ t) (sym (take-add at n piece))

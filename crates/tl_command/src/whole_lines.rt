@@ -1,0 +1,46 @@
+//! The whole lines at the beginning of a piece of input.
+
+ghost use Rattle.std.specs.Prelude.{[], ◌∷◌, IfSome};
+ghost use Rattle.tl_command.specs.Inner.Growing.{BeginsWith};
+
+use memchr::memchr;
+use tl_tile::LONGEST_ENTRY;
+
+/// The first four whole lines of a piece of input, without their newlines, and what follows them.
+#[derive(Drop)]
+pub(crate) struct FourLines<'a> {
+    pub(crate) first: &'a [u8],
+    pub(crate) second: &'a [u8],
+    pub(crate) third: &'a [u8],
+    pub(crate) fourth: &'a [u8],
+    pub(crate) rest: &'a [u8],
+}
+
+// The first line of a piece and what follows its newline, where the piece has one and the line isn't too long.
+fn cut_line(piece: &[u8]) -> Option<(&[u8], &[u8])>
+    ensures { IfSome result (λ cut. BeginsWith piece.entry.now (cut.0.now ∷ []) cut.1.now) }
+{
+    let end = memchr(b'\n', piece)?;
+    if end > LONGEST_ENTRY {
+        return None;
+    }
+    Some((&piece[..end], &piece[end + 1..]))
+}
+
+/// The first four lines of a piece, where four whole lines stand there and none of them is too long.
+pub(crate) fn cut_four(piece: &[u8]) -> Option<FourLines<'_>>
+    ensures { IfSome result (λ four.
+        BeginsWith piece.entry.now (four.first.now ∷ four.second.now ∷ four.third.now ∷ four.fourth.now ∷ []) four.rest.now) }
+{
+    let (first, rest) = cut_line(piece)?;
+    let (second, rest) = cut_line(rest)?;
+    let (third, rest) = cut_line(rest)?;
+    let (fourth, rest) = cut_line(rest)?;
+    Some(FourLines {
+        first,
+        second,
+        third,
+        fourth,
+        rest,
+    })
+}
