@@ -1,6 +1,6 @@
 -- Entries added one after another.
-use Rattle.std.proofs.Common.{◌≡◌, ℕ, ◌+◌, ◌<◌, ◌≤◌, List, [], ◌∷◌, ◌++◌, length, take, map, get_or, sym, ap, subst, ◌∙◌, append_assoc, arith}
-use Rattle.std.proofs.lemmas.List.{length-append, append-nil, map-append, length-map, length-take-le, map_more, take_all}
+use Rattle.std.proofs.Common.{◌≡◌, ℕ, ◌+◌, ◌<◌, ◌≤◌, List, [], ◌∷◌, ◌++◌, length, take, drop, map, get_or, refl, sym, ap, subst, ◌∙◌, append_assoc, arith}
+use Rattle.std.proofs.lemmas.List.{length-append, append-nil, length-map, length-take-le, map_more}
 use Rattle.tl_hash.specs.Bytes.{Bytes, Digest}
 use Rattle.tl_hash.specs.Tree.{leaf_input}
 use Rattle.tl_store.specs.Stored.{stored_count, stored_hashes}
@@ -48,7 +48,7 @@ adds-four H size a b c d before one two three now first second third fourth =
     (adds-then H (size + 1) (size + 2) (b ∷ []) (c ∷ d ∷ []) one two now second (omega arith)
     (adds-then H (size + 2) (size + 3) (c ∷ []) (d ∷ []) two three now third (omega arith) fourth))
 
--- ---- from a list of them
+-- ---- the next of a list
 
 taken : {X : Type 0} (f : X → Bytes) (xs : List X) (i : ℕ) → i ≤ length xs → length (map f (take i xs)) ≡ i
 taken f xs i low = length-map (take i xs) f ∙ length-take-le i xs low
@@ -58,29 +58,6 @@ one_more : {X : Type 0} (f : X → Bytes) (xs : List X) (i after : ℕ) (x : X) 
 one_more f xs i after x after_is low x_is =
     ap (λ (n : ℕ). map f (take n xs)) after_is ∙ map_more f xs i x low ∙ (λ k. map f (take i xs) ++ f (sym x_is k) ∷ [])
 
-four_more : {X : Type 0} (f : X → Bytes) (xs : List X) (i after : ℕ) (a b c d : X) → after ≡ i + 4 → after ≤ length xs
-    → a ≡ get_or xs i a → b ≡ get_or xs (i + 1) b → c ≡ get_or xs (i + 2) c → d ≡ get_or xs (i + 3) d
-    → map f (take after xs) ≡ map f (take i xs) ++ f a ∷ f b ∷ f c ∷ f d ∷ []
-four_more f xs i after a b c d after_is low a_is b_is c_is d_is =
-    let done : List Bytes = map f (take i xs) in
-    let one = one_more f xs i (i + 1) a (omega arith) (omega (arith, after_is, low)) a_is in
-    let two = one_more f xs (i + 1) (i + 2) b (omega arith) (omega (arith, after_is, low)) b_is in
-    let three = one_more f xs (i + 2) (i + 3) c (omega arith) (omega (arith, after_is, low)) c_is in
-    let four = one_more f xs (i + 3) after d (omega (arith, after_is)) (omega (arith, after_is, low)) d_is in
-    four
-    ∙ (λ k. three k ++ f d ∷ [])
-    ∙ (λ k. (two k ++ f c ∷ []) ++ f d ∷ [])
-    ∙ (λ k. ((one k ++ f b ∷ []) ++ f c ∷ []) ++ f d ∷ [])
-    ∙ append_assoc ((done ++ f a ∷ []) ++ f b ∷ []) (f c ∷ []) (f d ∷ [])
-    ∙ append_assoc (done ++ f a ∷ []) (f b ∷ []) (f c ∷ f d ∷ [])
-    ∙ append_assoc done (f a ∷ []) (f b ∷ f c ∷ f d ∷ [])
-
--- none so far
-pub adds-start : {X : Type 0} (f : X → Bytes) (H : Digest) (size : ℕ) (xs : List X) (hashes : List Bytes)
-    → AddsEntries H size (map f (take 0 xs)) hashes hashes
-adds-start f H size xs hashes = adds-none H size hashes
-
--- the next one
 pub adds-next : {X : Type 0} (f : X → Bytes) (H : Digest) (size middle : ℕ) (xs : List X) (i : ℕ) (x : X) (before between now : List Bytes)
     → i < length xs → x ≡ get_or xs i x → middle ≡ size + i
     → AddsEntries H size (map f (take i xs)) before between → AddsEntries H middle (f x ∷ []) between now
@@ -89,40 +66,61 @@ adds-next f H size middle xs i x before between now low x_is middle_is done next
     subst (λ (list : List Bytes). AddsEntries H size list before now) (sym (one_more f xs i (i + 1) x (omega arith) low x_is))
     (adds-then H size middle (map f (take i xs)) (f x ∷ []) before between now done (omega (arith, middle_is, taken f xs i (omega (arith, low)))) next)
 
--- the next four
-pub adds-group : {X : Type 0} (f : X → Bytes) (H : Digest) (size middle : ℕ) (xs : List X) (i after : ℕ) (a b c d : X) (before between now : List Bytes)
-    → after ≡ i + 4 → after ≤ length xs
-    → a ≡ get_or xs i a → b ≡ get_or xs (i + 1) b → c ≡ get_or xs (i + 2) c → d ≡ get_or xs (i + 3) d → middle ≡ size + i
-    → AddsEntries H size (map f (take i xs)) before between → AddsEntries H middle (f a ∷ f b ∷ f c ∷ f d ∷ []) between now
-    → AddsEntries H size (map f (take after xs)) before now
-adds-group f H size middle xs i after a b c d before between now after_is low a_is b_is c_is d_is middle_is done next =
-    subst (λ (list : List Bytes). AddsEntries H size list before now) (sym (four_more f xs i after a b c d after_is low a_is b_is c_is d_is))
-    (adds-then H size middle (map f (take i xs)) (f a ∷ f b ∷ f c ∷ f d ∷ []) before between now done
-    (omega (arith, middle_is, taken f xs i (omega (arith, after_is, low)))) next)
+-- ---- the first entries of a list, where others are left
 
--- how many hashes there are so far
-pub counted_so_far : {X : Type 0} (f : X → Bytes) (H : Digest) (size middle : ℕ) (xs : List X) (i : ℕ) (before now : List Bytes)
-    → i ≤ length xs → middle ≡ size + i → AddsEntries H size (map f (take i xs)) before now → length before ≡ stored_count size
-    → length now ≡ stored_count middle
-counted_so_far f H size middle xs i before now low middle_is done counted =
-    let sum : size + length (map f (take i xs)) ≡ middle = omega (arith, middle_is, taken f xs i low) in
-    done.counted counted ∙ ap stored_count sum
+pub record AddsFirst {X : Type 0} (f : X → Bytes) (H : Digest) (size : ℕ) (xs left : List X) (before now : List Bytes) : Type 0 where
+  pub done : List Bytes
+  pub parts : done ++ map f left ≡ map f xs
+  pub added : AddsEntries H size done before now
 
--- all of them
-pub adds-all : {X : Type 0} (f : X → Bytes) (H : Digest) (size : ℕ) (xs : List X) (i : ℕ) (before now : List Bytes)
-    → length xs ≤ i → AddsEntries H size (map f (take i xs)) before now → AddsEntries H size (map f xs) before now
-adds-all {X = X} f H size xs i before now high done =
-    subst (λ (list : List X). AddsEntries H size (map f list) before now) (take_all i xs high) done
+pub first-none : {X : Type 0} (f : X → Bytes) (H : Digest) (size : ℕ) (xs : List X) (hashes : List Bytes) → AddsFirst f H size xs xs hashes hashes
+first-none f H size xs hashes = record { done = []; parts = refl; added = adds-none H size hashes }
 
--- in two parts
-pub adds-parts : {X : Type 0} (f : X → Bytes) (H : Digest) (size middle : ℕ) (xs first rest : List X) (before between now : List Bytes)
-    → xs ≡ first ++ rest → middle ≡ size + length first
-    → AddsEntries H size (map f first) before between → AddsEntries H middle (map f rest) between now
+done_count : {X : Type 0} (f : X → Bytes) (size count : ℕ) (xs left : List X) (done : List Bytes)
+    → done ++ map f left ≡ map f xs → count + length left ≡ size + length xs → count ≡ size + length done
+done_count f size count xs left done parts counted =
+    omega (arith, counted, ap length parts, length-append done (map f left), length-map left f, length-map xs f)
+
+-- how many hashes there are then
+pub first-counted : {X : Type 0} (f : X → Bytes) (H : Digest) (size count : ℕ) (xs left : List X) (before now : List Bytes)
+    → AddsFirst f H size xs left before now → count + length left ≡ size + length xs → length before ≡ stored_count size → length now ≡ stored_count count
+first-counted f H size count xs left before now first count_is counted =
+    first.added.counted counted ∙ ap stored_count (sym (done_count f size count xs left first.done first.parts count_is))
+
+four_items : {X : Type 0} (xs rest : List X) (a b c d : X) → 4 ≤ length xs
+    → a ≡ get_or xs 0 a → b ≡ get_or xs 1 b → c ≡ get_or xs 2 c → d ≡ get_or xs 3 d → rest ≡ drop 4 xs
+    → xs ≡ a ∷ b ∷ c ∷ d ∷ rest
+four_items [] rest a b c d low a_is b_is c_is d_is rest_is = absurd (omega (arith, low))
+four_items (x ∷ []) rest a b c d low a_is b_is c_is d_is rest_is = absurd (omega (arith, low))
+four_items (x ∷ y ∷ []) rest a b c d low a_is b_is c_is d_is rest_is = absurd (omega (arith, low))
+four_items (x ∷ y ∷ z ∷ []) rest a b c d low a_is b_is c_is d_is rest_is = absurd (omega (arith, low))
+four_items (x ∷ y ∷ z ∷ w ∷ xs) rest a b c d low a_is b_is c_is d_is rest_is =
+    λ i. sym a_is i ∷ sym b_is i ∷ sym c_is i ∷ sym d_is i ∷ sym rest_is i
+
+-- four more of them
+pub first-four : {X : Type 0} (f : X → Bytes) (H : Digest) (size count : ℕ) (xs left rest : List X) (a b c d : X) (before between now : List Bytes)
+    → AddsFirst f H size xs left before between → count + length left ≡ size + length xs → 4 ≤ length left
+    → a ≡ get_or left 0 a → b ≡ get_or left 1 b → c ≡ get_or left 2 c → d ≡ get_or left 3 d → rest ≡ drop 4 left
+    → AddsEntries H count (f a ∷ f b ∷ f c ∷ f d ∷ []) between now
+    → AddsFirst f H size xs rest before now
+first-four f H size count xs left rest a b c d before between now first count_is low a_is b_is c_is d_is rest_is next =
+    let four : List Bytes = f a ∷ f b ∷ f c ∷ f d ∷ [] in
+    record {
+      done = first.done ++ four;
+      parts =
+          append_assoc first.done four (map f rest)
+          ∙ ap (λ list. first.done ++ map f list) (sym (four_items left rest a b c d low a_is b_is c_is d_is rest_is))
+          ∙ first.parts;
+      added = adds-then H size count first.done four before between now first.added (done_count f size count xs left first.done first.parts count_is) next;
+    }
+
+-- and then what is left
+pub first-all : {X : Type 0} (f : X → Bytes) (H : Digest) (size count : ℕ) (xs left : List X) (before between now : List Bytes)
+    → AddsFirst f H size xs left before between → count + length left ≡ size + length xs → AddsEntries H count (map f left) between now
     → AddsEntries H size (map f xs) before now
-adds-parts f H size middle xs first rest before between now parts middle_is one two =
-    let whole : map f first ++ map f rest ≡ map f xs = sym (map-append f first rest) ∙ ap (map f) (sym parts) in
-    subst (λ (list : List Bytes). AddsEntries H size list before now) whole
-    (adds-then H size middle (map f first) (map f rest) before between now one (omega (arith, middle_is, length-map first f)) two)
+first-all f H size count xs left before between now first count_is next =
+    subst (λ (list : List Bytes). AddsEntries H size list before now) first.parts
+    (adds-then H size count first.done (map f left) before between now first.added (done_count f size count xs left first.done first.parts count_is) next)
 
 -- there is room for fewer
 pub room_for : (size all room : ℕ) → size ≤ all → stored_count all ≤ room → stored_count size ≤ room

@@ -87,34 +87,6 @@ fn push_four<T: TreeHash, A: Allocator>(
     push_subtrees(h, hashes, size + 4, leaves[3]);
 }
 
-// Adds entries after `size` of them, a multiple of four in number, in groups of four.
-fn push_groups<T: TreeHash, A: Allocator, B: Allocator>(
-    h: T,
-    hashes: &mut Vec<Hash, A>,
-    size: u64,
-    entries: &[Vec<u8, B>],
-)
-    requires whole { length entries.now % 4 ≡ 0 }
-    requires small { size + length entries.now < 2 ^ 32 }
-    requires counted { length hashes.old.items ≡ stored_count size }
-    requires room { stored_count (size + length entries.now) ≤ vec_capacity hashes.old }
-    ensures added { AddsEntries T.digest_of size (map vec_items entries.now) hashes.old.items hashes.new.items }
-    ensures capacity { vec_capacity hashes.new ≡ vec_capacity hashes.old }
-{
-    for group in 0..entries.len() / 4 {
-        let start = 4 * group;
-        push_four(
-            h,
-            hashes,
-            size + start as u64,
-            &entries[start],
-            &entries[start + 1],
-            &entries[start + 2],
-            &entries[start + 3],
-        );
-    }
-}
-
 // Adds entries after `size` of them, one by one.
 fn push_singly<T: TreeHash, A: Allocator, B: Allocator>(
     h: T,
@@ -146,7 +118,12 @@ pub(crate) fn push_entries<T: TreeHash, A: Allocator, B: Allocator>(
     ensures added { AddsEntries T.digest_of size (map vec_items entries.now) hashes.old.items hashes.new.items }
     ensures capacity { vec_capacity hashes.new ≡ vec_capacity hashes.old }
 {
-    let (groups, rest) = entries.split_at(entries.len() - entries.len() % 4);
-    push_groups(h, hashes, size, groups);
-    push_singly(h, hashes, size + groups.len() as u64, rest);
+    let mut count = size;
+    let mut left = entries;
+    while let [first, second, third, fourth, rest @ ..] = left {
+        push_four(h, hashes, count, first, second, third, fourth);
+        count += 4;
+        left = rest;
+    }
+    push_singly(h, hashes, count, left);
 }
