@@ -248,3 +248,10 @@ pub counted-all : (size level count : ℕ) → 0 < size → IsHighest level size
 counted-all size level count some is counted =
     let next : size ≡ suc (size - 1) = omega (arith, some) in
     omega (arith, counted, count_step (size - 1), ap stored_count next, ap (λ (x : ℕ). length (levels_ending x)) next, ap length (ending_is size level some is), length-range_with_len 0 (level + 1))
+
+-- the count after an entry's subtrees fits the room
+pub room_enough : (size count room : ℕ) → 0 < size → size < 2 ^ 32 → count ≡ stored_count (size - 1) → stored_count size ≤ room
+    → count + (trailing_zeros w64 size + 1) ≤ room
+room_enough size count room some small counted fits =
+    let all = counted-all size (trailing_zeros w64 size) (count + (trailing_zeros w64 size + 1)) some (highest-is size some small).1 (omega (arith, counted)) in
+    omega (arith, fits, all)

@@ -4,4 +4,5 @@ pub mod Readable
 pub mod Splits
 pub mod StoreLemmas
 pub mod Completed
+pub mod AddsLemmas
 pub mod Covering

@@ -12,6 +12,7 @@
 
 mod head;
 mod index;
+mod pushes;
 mod reader;
 mod segment;
 mod store;

@@ -1,16 +1,16 @@
 //! Stored hashes in memory.
 
-ghost use Rattle.std.specs.Prelude.{◌≡◌, ◌≤◌, ◌<◌, ◌+◌, ◌-◌, ◌^◌, [], ◌∷◌, ◌++◌, List, length, vec_capacity, All, Any, MatchBool, IfOk, OnOk, OnErr};
+ghost use Rattle.std.specs.Prelude.{◌≡◌, ◌≤◌, ◌<◌, ◌+◌, ◌-◌, ◌^◌, [], ◌∷◌, ◌++◌, List, length, map, vec_items, All, Any, MatchBool, IfOk, OnOk, OnErr};
 ghost use Rattle.tl_hash.specs.Bytes.{Bytes};
-ghost use Rattle.tl_hash.specs.Tree.{leaf_input};
-ghost use Rattle.tl_store.specs.Stored.{stored_count, stored_hashes};
+ghost use Rattle.tl_store.specs.Stored.{stored_count};
 ghost use Rattle.tl_store.specs.Store.{StandsFor};
 
-use crate::index::stored_index;
+use crate::index::stored_count;
+use crate::pushes::{push_entries, push_entry, reserve_up_to};
 use crate::reader::{HashReader, ReadFault};
 use std::alloc::{AllocError, Allocator};
 use std::marker::Model;
-use tl_hash::{Hash, TreeHash, leaf_hash, node_hash};
+use tl_hash::{Hash, TreeHash};
 
 /// The hashes stored for a list of entries, in one `Vec`. Contracts see the number of entries and the hashes.
 #[derive(Drop)]
@@ -58,14 +58,28 @@ impl<T: TreeHash, A: Allocator> HashStore<T, A> {
         ensures full { OnErr result (self.old.room < stored_count (self.old.size + 1)) }
     {
         let index = self.size;
-        push_subtrees(
-            self.digest,
-            &mut self.hashes,
-            index + 1,
-            leaf_hash(self.digest, entry),
-        )?;
+        reserve_up_to(&mut self.hashes, stored_count(index + 1) as usize)?;
+        push_entry(self.digest, &mut self.hashes, index, entry);
         self.size = index + 1;
         Ok(index)
+    }
+
+    /// Adds entries at the end, as so many calls of `append` do, and hashes them four at a time. The store takes up to
+    /// 2^32 - 1 entries in all. It fails only where it has no room for the hashes that come, and then stays as it was.
+    pub fn append_all<B: Allocator>(&mut self, entries: &[Vec<u8, B>]) -> Result<(), AllocError>
+        requires { self.old.size + length entries.now < 2 ^ 32 }
+        ensures entries { (before : List Bytes)
+            → StandsFor self.old T.digest_of before
+            → OnOk result (StandsFor self.new T.digest_of (before ++ map vec_items entries.now)) }
+        ensures size { OnOk result (self.new.size ≡ self.old.size + length entries.now) }
+        ensures unchanged { OnErr result (self.new ≡ self.old) }
+        ensures full { OnErr result (self.old.room < stored_count (self.old.size + length entries.now)) }
+    {
+        let count = self.size + entries.len() as u64;
+        reserve_up_to(&mut self.hashes, stored_count(count) as usize)?;
+        push_entries(self.digest, &mut self.hashes, self.size, entries);
+        self.size = count;
+        Ok(())
     }
 
     /// The number of entries.
@@ -74,39 +88,6 @@ impl<T: TreeHash, A: Allocator> HashStore<T, A> {
     {
         self.size
     }
-}
-
-// Adds the hashes of the complete subtrees that end with the last of `size` entries, from its leaf's up. All their room
-// is taken first, so that nothing is added where memory is refused.
-fn push_subtrees<T: TreeHash, A: Allocator>(
-    h: T,
-    hashes: &mut Vec<Hash, A>,
-    size: u64,
-    leaf: Hash,
-) -> Result<(), AllocError>
-    requires some { 0 < size }
-    requires small { size < 2 ^ 32 }
-    requires counted { length hashes.old.items ≡ stored_count (size - 1) }
-    ensures counted { OnOk result (length hashes.new.items ≡ stored_count size) }
-    ensures added { (entries : List Bytes) (entry : Bytes)
-        → length entries + 1 ≡ size
-        → hashes.old.items ≡ stored_hashes T.digest_of entries
-        → leaf ≡ T.digest_of (leaf_input entry)
-        → OnOk result (hashes.new.items ≡ stored_hashes T.digest_of (entries ++ entry ∷ [])) }
-    ensures unchanged { OnErr result (hashes.new.items ≡ hashes.old.items) }
-    ensures room { OnErr result (vec_capacity hashes.new ≡ vec_capacity hashes.old) }
-    ensures full { OnErr result (vec_capacity hashes.old < stored_count size) }
-{
-    let levels = size.trailing_zeros();
-    hashes.reserve(levels as usize + 1)?;
-    let mut hash = leaf;
-    hashes.push_reserved(hash);
-    for level in 0..levels {
-        let left = stored_index(level, size / 2u64.pow(level) - 2);
-        hash = node_hash(h, hashes[left as usize], hash);
-        hashes.push_reserved(hash);
-    }
-    Ok(())
 }
 
 // Whether each number is below the count.
