@@ -20,9 +20,7 @@ pub fn store_of<A: Allocator + Copy>(
     ensures { IfOk result (λ store. StandsFor store sha256 (map vec_items entries.now)) }
 {
     let mut store = HashStore::new(alloc, Sha256Tree);
-    for entry in entries {
-        store.append(entry)?;
-    }
+    store.append_all(entries)?;
     Ok(store)
 }
 

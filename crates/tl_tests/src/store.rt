@@ -1,6 +1,7 @@
 //! Stored hashes: the numbers, a store over the worked entries, heads, and refused growths.
 
 use crate::readers::{CountedReader, FailingReader, store_of};
+use std::alloc::{AllocError, Global};
 use std::test::Fail;
 use tl_hash::{Sha256Tree, empty_hash, entry_root};
 use tl_proof::{ProveFault, prove_record, prove_tree};
@@ -129,6 +130,63 @@ fn append_leaves_the_store_as_it_was(rt: HostRuntime) -> Result<(), Fail> {
         }
         assert!(rt;
             tree_hash(alloc, Sha256Tree, 8, &store)? == tree_hash(alloc, Sha256Tree, 8, &whole)?
+        );
+        if !heap.refused() {
+            assert!(rt; number > 1);
+            return Ok(());
+        }
+    }
+    assert!(rt; false, "each run was refused");
+    Ok(())
+}
+
+// Entries of four bytes, each another.
+fn many(alloc: Global, count: u32) -> Result<Vec<Vec<u8, Global>, Global>, AllocError> {
+    let mut entries = Vec::new(alloc);
+    for number in 0..count {
+        entries.push(Vec::from_slice(alloc, &number.to_be_bytes())?)?;
+    }
+    Ok(entries)
+}
+
+#[test]
+fn entries_together_are_entries_one_by_one(rt: HostRuntime) -> Result<(), Fail> {
+    let alloc = rt.alloc();
+    let mut together = HashStore::new(alloc, Sha256Tree);
+    let mut singly = HashStore::new(alloc, Sha256Tree);
+    for count in [0, 1, 3, 4, 5, 250, 257, 66_000] {
+        let entries = many(alloc, count)?;
+        assert!(rt; together.size() < 100_000 && entries.len() < 100_000);
+        together.append_all(entries.as_slice())?;
+        for entry in &entries {
+            assert!(rt; singly.size() < 100_000);
+            singly.append(entry)?;
+        }
+        let size = together.size();
+        assert_eq!(rt; size, singly.size());
+        assert!(rt; size < 200_000);
+        let root = tree_hash(alloc, Sha256Tree, size, &together)?;
+        assert!(rt; root == tree_hash(alloc, Sha256Tree, size, &singly)?, "{count}");
+    }
+    Ok(())
+}
+
+#[test]
+fn append_all_leaves_the_store_as_it_was(rt: HostRuntime) -> Result<(), Fail> {
+    let alloc = rt.alloc();
+    let entries = many(alloc, 6)?;
+    for number in 1..MOST {
+        let heap = Refusing::at(alloc, number);
+        let mut store = HashStore::new(&heap, Sha256Tree);
+        if store.append_all(entries.as_slice()).is_err() {
+            assert!(rt; heap.refused());
+            assert_eq!(rt; store.size(), 0);
+            assert!(rt; store.size() < 8);
+            store.append_all(entries.as_slice())?;
+        }
+        assert!(rt;
+            tree_hash(alloc, Sha256Tree, 6, &store)?
+                == entry_root(Sha256Tree, entries.as_slice())
         );
         if !heap.refused() {
             assert!(rt; number > 1);
