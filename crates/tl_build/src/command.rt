@@ -58,8 +58,8 @@ fn is_of_no_entry(count: usize, wanted: Option<Resource>) -> bool
     }
 }
 
-// The bytes of a resource that the log of these entries has. No more is made than it needs: a tile or a bundle signs
-// nothing, and a bundle hashes nothing.
+// The bytes of a resource that the log of these entries has. No more is made than it needs: a tile hashes the entries
+// under it and no others, a bundle hashes nothing, and neither signs.
 fn wanted_bytes<A: Allocator + Copy>(
     alloc: A,
     global: Global,
