@@ -27,9 +27,9 @@ short_fault A entries Truncated short given = absurd given
 short_fault A entries Trailing short given = absurd given
 short_fault A entries OutOfMemory short given = refl
 
-pub part_short : {X : Type 0} (f : X → List ℕ) (xs : List X) (start width : ℕ) → AreShortEntries (map f xs) → AreShortEntries (map f (take (start + width - start) (drop start xs)))
-part_short f xs start width short =
-    subst AreShortEntries (sym (part_seen f xs start width)) (All-take IsShortEntry width (drop start (map f xs)) (All-drop IsShortEntry start (map f xs) short))
+-- a part of entries that are not too long
+pub part_short : (part entries : List (List ℕ)) (start width : ℕ) → part ≡ take width (drop start entries) → AreShortEntries entries → AreShortEntries part
+part_short part entries start width same short = subst AreShortEntries (sym same) (All-take IsShortEntry width (drop start entries) (All-drop IsShortEntry start entries short))
 
 -- where no entry is the first that is too long, none is
 pub none_too_long : (entries : List (List ℕ)) → first_too_long entries ≡ None → AreShortEntries entries

@@ -1,4 +1,6 @@
 pub mod NeededParts
 pub mod Bundles
+pub mod Lengths
+pub mod TileHashes
 pub mod DemoNotes
 pub mod Wanted

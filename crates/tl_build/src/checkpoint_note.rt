@@ -1,20 +1,16 @@
 //! The checkpoint of a log as a note, signed by the demonstration key of its origin.
 
-ghost use Rattle.std.specs.Prelude.{◌≡◌, List, ◌<◌, ◌^◌, ◌∷◌, [], map, vec_items, string_bytes, IfOk, IfErr};
-ghost use Rattle.sha2.specs.Sha256.{sha256};
-ghost use Rattle.tl_hash.specs.Bytes.{Bytes};
+ghost use Rattle.std.specs.Prelude.{◌≡◌, ◌<◌, ◌^◌, ◌∷◌, [], length, map, vec_items, string_bytes, IfOk, IfErr};
 ghost use Rattle.tl_note.specs.Key.{IsKeyName};
 ghost use Rattle.tl_note.specs.Note.{IsNoteText, note_bytes};
-ghost use Rattle.tl_store.specs.Store.{StandsFor};
 ghost use Rattle.tl_key.specs.DemoKey.{demo_signing_key};
 ghost use Rattle.tl_build.specs.Mirror.{checkpoint_note, demo_signature};
 
 use std::alloc::{Allocator, Global};
-use tl_command::{RunFault, checkpoint_of, root_of};
-use tl_hash::Sha256Tree;
+use tl_command::{RunFault, checkpoint_of};
+use tl_hash::{Sha256Tree, entry_root};
 use tl_key::demo_key;
 use tl_note::{NoteFault, Signer, sign_note};
-use tl_store::HashStore;
 
 // The demonstration key refuses nothing, so its note fails for want of memory alone.
 fn only_memory(fault: NoteFault) -> RunFault
@@ -69,24 +65,21 @@ fn signed_note<A: Allocator + Copy>(
     note_by(alloc, global, name, secret, text, &[signer])
 }
 
-/// The note of the checkpoint of a log (C2SP tlog-checkpoint): its origin is a key's name, the store has the hashes
-/// of its entries, and the demonstration key of the origin with this secret signs. `global` is what the key takes its
-/// memory from.
+/// The note of the checkpoint of the log of these entries (C2SP tlog-checkpoint): its origin is a key's name, and the
+/// demonstration key of the origin with this secret signs. `global` is what the key takes its memory from.
 pub(crate) fn checkpoint_note_of<A: Allocator + Copy>(
     alloc: A,
     global: Global,
     origin: &str,
     secret: &[u8],
-    store: &HashStore<Sha256Tree, A>,
+    entries: &[Vec<u8, A>],
 ) -> Result<String<A>, RunFault>
     requires origin { IsKeyName origin.now }
-    requires few { store.now.size < 2 ^ 32 }
-    ensures note { (entries : List Bytes) → StandsFor store.now sha256 entries
-        → IfOk result (λ note. string_bytes note ≡ checkpoint_note origin.now secret.now entries) }
+    requires few { length entries.now < 2 ^ 32 }
+    ensures note { IfOk result (λ note. string_bytes note ≡ checkpoint_note origin.now secret.now (map vec_items entries.now)) }
     ensures fault { IfErr result (λ fault. fault ≡ RunFault.OutOfMemory) }
 {
-    let size = store.size();
-    let root = root_of(alloc, store, size)?;
-    let text = checkpoint_of(alloc, origin, size, root)?;
+    let root = entry_root(Sha256Tree, entries);
+    let text = checkpoint_of(alloc, origin, entries.len() as u64, root)?;
     signed_note(alloc, global, origin, secret, text.as_str())
 }

@@ -14,7 +14,7 @@ use crate::listing::{listing_of, mirrored_of};
 use crate::resource_bytes::{bundle_of, tile_of};
 use std::alloc::{Allocator, Global};
 use std::io::{Read, Write};
-use tl_command::{MOST_INPUT, RunFault, print_text, read_entries, store_of};
+use tl_command::{MOST_INPUT, RunFault, print_text, read_entries};
 use tl_device::Counted;
 use tl_note::is_key_name;
 use tl_tile::{Resource, parse_path};
@@ -58,8 +58,8 @@ fn is_of_no_entry(count: usize, wanted: Option<Resource>) -> bool
     }
 }
 
-// The bytes of a resource that the log of these entries has. No more is made than it needs: a tile or a bundle signs
-// nothing, and a bundle hashes nothing.
+// The bytes of a resource that the log of these entries has. No more is made than it needs: a tile hashes the entries
+// under it and no others, a bundle hashes nothing, and neither signs.
 fn wanted_bytes<A: Allocator + Copy>(
     alloc: A,
     global: Global,
@@ -76,14 +76,10 @@ fn wanted_bytes<A: Allocator + Copy>(
     ensures fault { IfErr result (λ fault. fault ≡ RunFault.OutOfMemory) }
 {
     match resource {
-        Resource::Tile(tile) => {
-            let store = store_of(alloc, entries)?;
-            tile_of(alloc, tile, &store)
-        }
+        Resource::Tile(tile) => Ok(tile_of(alloc, tile, entries)?),
         Resource::Entries { index, width } => bundle_of(alloc, index, width, entries),
         Resource::Checkpoint => {
-            let store = store_of(alloc, entries)?;
-            let note = checkpoint_note_of(alloc, global, origin, secret, &store)?;
+            let note = checkpoint_note_of(alloc, global, origin, secret, entries)?;
             Ok(note.into_bytes())
         }
     }
@@ -110,9 +106,8 @@ fn answer_of<A: Allocator + Copy>(
     if let Some(resource) = wanted {
         return wanted_bytes(alloc, global, origin, secret, resource, entries);
     }
-    let store = store_of(alloc, entries)?;
-    let note = checkpoint_note_of(alloc, global, origin, secret, &store)?;
-    let listing = listing_of(alloc, resources.as_slice(), entries, &store, note.as_str())?;
+    let note = checkpoint_note_of(alloc, global, origin, secret, entries)?;
+    let listing = listing_of(alloc, resources.as_slice(), entries, note.as_str())?;
     Ok(listing.into_bytes())
 }
 

@@ -1,19 +1,14 @@
-//! The listing of the resources of a log: the path and the length of each.
+//! The listing of the resources of a log: the path and the length of each, which takes none of their bytes.
 
-ghost use Rattle.std.specs.Prelude.{◌≡◌, ◌<◌, ◌^◌, ◌++◌, ◌∷◌, All, length, map, vec_items, string_bytes, Contains, IfOk, IfErr, OnOk};
-ghost use Rattle.sha2.specs.Sha256.{sha256};
-ghost use Rattle.tl_store.specs.Store.{StandsFor};
+ghost use Rattle.std.specs.Prelude.{◌≡◌, ◌<◌, ◌≤◌, ◌^◌, ◌++◌, ◌∷◌, All, length, map, vec_items, string_bytes, Contains, IfOk, OnOk};
 ghost use Rattle.tl_text.specs.Text.{line, number_text};
-ghost use Rattle.tl_tile.specs.Bundle.{AreShortEntries};
+ghost use Rattle.tl_tile.specs.Bundle.{bundle_text, AreShortEntries};
 ghost use Rattle.tl_tile.specs.Path.{IsResource, path_text};
-ghost use Rattle.tl_build.specs.Mirror.{mirrored, listing_text};
+ghost use Rattle.tl_build.specs.Mirror.{mirrored, resource_text, listing_text};
 
-use crate::resource_bytes::resource_bytes;
+use crate::resource_bytes::bundled;
 use itoa::Buffer;
 use std::alloc::{AllocError, Allocator};
-use tl_command::RunFault;
-use tl_hash::Sha256Tree;
-use tl_store::HashStore;
 use tl_tile::{Resource, needed, path_of};
 
 /// The resources of a log of so many entries: those that it needs, and then the checkpoint.
@@ -24,6 +19,33 @@ pub(crate) fn mirrored_of<A: Allocator>(alloc: A, size: u64) -> Result<Vec<Resou
     let mut resources = needed(alloc, size)?;
     resources.push(Resource::Checkpoint)?;
     Ok(resources)
+}
+
+// The number of bytes of the bundle of these entries: each has its length in front, two bytes.
+fn bundle_length<A: Allocator>(entries: &[Vec<u8, A>]) -> usize
+    requires few { length entries.now ≤ 256 }
+    requires short { AreShortEntries (map vec_items entries.now) }
+    ensures { result ≡ length (bundle_text (map vec_items entries.now)) }
+{
+    let mut count = 0;
+    for entry in entries {
+        count += 2 + entry.len();
+    }
+    count
+}
+
+// The number of bytes of a resource of the log of these entries, where this is the checkpoint's note.
+fn resource_length<A: Allocator>(resource: Resource, entries: &[Vec<u8, A>], note: &str) -> usize
+    requires served { Contains (mirrored (length entries.now)) resource }
+    requires few { length entries.now < 2 ^ 32 }
+    requires short { AreShortEntries (map vec_items entries.now) }
+    ensures { result ≡ length (resource_text note.now (map vec_items entries.now) resource) }
+{
+    match resource {
+        Resource::Tile(tile) => 32 * tile.width as usize,
+        Resource::Entries { index, width } => bundle_length(bundled(index, width, entries)),
+        Resource::Checkpoint => note.len(),
+    }
 }
 
 // Adds the line of a resource with so many bytes.
@@ -43,26 +65,22 @@ fn push_line<A: Allocator + Copy>(
     Ok(())
 }
 
-/// The line of each of these resources of the log of the entries, whose hashes the store has and whose checkpoint's
-/// note this is. It fails for want of memory alone.
+/// The line of each of these resources of the log of the entries, whose checkpoint's note this is.
 pub(crate) fn listing_of<A: Allocator + Copy>(
     alloc: A,
     resources: &[Resource],
     entries: &[Vec<u8, A>],
-    store: &HashStore<Sha256Tree, A>,
     note: &str,
-) -> Result<String<A>, RunFault>
+) -> Result<String<A>, AllocError>
     requires served { All (Contains (mirrored (length entries.now))) resources.now }
     requires few { length entries.now < 2 ^ 32 }
     requires short { AreShortEntries (map vec_items entries.now) }
-    requires stands { StandsFor store.now sha256 (map vec_items entries.now) }
-    ensures text { IfOk result (λ text. string_bytes text ≡ listing_text note.now (map vec_items entries.now) resources.now) }
-    ensures fault { IfErr result (λ fault. fault ≡ RunFault.OutOfMemory) }
+    ensures { IfOk result (λ text. string_bytes text ≡ listing_text note.now (map vec_items entries.now) resources.now) }
 {
     let mut out = String::new(alloc);
     for resource in resources {
-        let bytes = resource_bytes(alloc, *resource, entries, store, note)?;
-        push_line(alloc, &mut out, resource, bytes.len())?;
+        let count = resource_length(*resource, entries, note);
+        push_line(alloc, &mut out, resource, count)?;
     }
     Ok(out)
 }

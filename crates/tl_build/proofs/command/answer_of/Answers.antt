@@ -28,7 +28,7 @@ returns-in-Some g c =
 pub returns : goal.returns
 returns g c =
     let entries = map vec_items c.args.entries.now in
-    let note = c.as_str.ensures.value ∙ c.in_ok-note.ensures.note entries c.in_ok-store.ensures in
+    let note = c.as_str.ensures.value ∙ c.in_ok-note.ensures.note in
     let all = c.as_slice-2.ensures.value ∙ c.in_ok-resources.ensures in
     shows_all _ _ entries c.as_slice-2.result.now (length c.args.entries.now) c.args.wanted c.into_bytes.result.items c.in_default.is note (length-map c.args.entries.now vec_items) all
-    (ap vec_items c.into_bytes.ensures.value ∙ c.in_ok-listing.ensures.text)
+    (ap vec_items c.into_bytes.ensures.value ∙ c.in_ok-listing.ensures)

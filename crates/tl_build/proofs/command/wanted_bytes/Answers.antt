@@ -1,5 +1,4 @@
-use Rattle.std.proofs.Common.{subst, length, vec_items, arith}
-use Rattle.std.proofs.lemmas.List.{length-map}
+use Rattle.std.proofs.Common.{subst, length}
 use Rattle.tl_build.proofs.NeededParts.{LiesIn, lies}
 use Rattle.tl_build.proofs.command.wanted_bytes.Goals as goal
 
@@ -11,7 +10,7 @@ tile_of-requires-clause-lawful g c =
 pub tile_of-requires-clause-within : goal.tile_of-requires-clause-within
 tile_of-requires-clause-within g c =
     let parts = subst (LiesIn (length c.args.entries.now)) c.in-Tile.is (lies (length c.args.entries.now) c.args.resource c.requires.few c.requires.served) in
-    omega (arith, parts.1, c.in_ok-store-in-Tile.ensures.0, length-map c.args.entries.now vec_items)
+    parts.1
 
 pub bundle_of-requires-clause-some : goal.bundle_of-requires-clause-some
 bundle_of-requires-clause-some g c =

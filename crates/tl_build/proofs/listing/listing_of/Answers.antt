@@ -2,8 +2,8 @@ use Rattle.std.proofs.Common.{length}
 use Rattle.tl_build.proofs.NeededParts.{lies, lawful}
 use Rattle.tl_build.proofs.listing.listing_of.Goals as goal
 
-pub resource_bytes-requires-clause-served : goal.resource_bytes-requires-clause-served
-resource_bytes-requires-clause-served g c = c.requires.served c.loop-resource.resource-index _ c.loop-resource-test.true
+pub resource_length-count-requires-clause-served : goal.resource_length-count-requires-clause-served
+resource_length-count-requires-clause-served g c = c.requires.served c.loop-resource.resource-index _ c.loop-resource-test.true
 
 pub push_line-requires : goal.push_line-requires
 push_line-requires g c =

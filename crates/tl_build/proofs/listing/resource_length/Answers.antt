@@ -1,0 +1,31 @@
+use Rattle.std.proofs.Common.{◌*◌, ◌∙◌, sym, ap, subst, length, map, vec_items, arith}
+use Rattle.tl_tile.specs.Bundle.{bundle_text}
+use Rattle.tl_build.specs.Mirror.{resource_text}
+use Rattle.tl_build.proofs.Bundles.{part_short}
+use Rattle.tl_build.proofs.Lengths.{length-tile_text}
+use Rattle.tl_build.proofs.NeededParts.{LiesIn, lies}
+use Rattle.tl_build.proofs.listing.resource_length.Goals as goal
+
+pub bundled-requires-clause-within : goal.bundled-requires-clause-within
+bundled-requires-clause-within g c =
+    let parts = subst (LiesIn (length c.args.entries.now)) c.in-Entries.is (lies (length c.args.entries.now) c.args.resource c.requires.few c.requires.served) in
+    parts.3
+
+pub bundle_length-requires-clause-few : goal.bundle_length-requires-clause-few
+bundle_length-requires-clause-few g c =
+    let parts = subst (LiesIn (length c.args.entries.now)) c.in-Entries.is (lies (length c.args.entries.now) c.args.resource c.requires.few c.requires.served) in
+    omega (arith, parts.2, c.bundled.ensures.count)
+
+pub bundle_length-requires-clause-short : goal.bundle_length-requires-clause-short
+bundle_length-requires-clause-short g c =
+    part_short _ (map vec_items c.args.entries.now) (c.in-Entries.index * 256) c.in-Entries.width c.bundled.ensures.entries c.requires.short
+
+pub returns-in-Tile : goal.returns-in-Tile
+returns-in-Tile g c =
+    let entries = map vec_items c.args.entries.now in
+    sym (length-tile_text c.in-Tile.tile entries) ∙ ap (λ r. length (resource_text c.args.note.now entries r)) (sym c.in-Tile.is)
+
+pub returns-in-Entries : goal.returns-in-Entries
+returns-in-Entries g c =
+    let entries = map vec_items c.args.entries.now in
+    c.bundle_length.ensures ∙ ap (λ es. length (bundle_text es)) c.bundled.ensures.entries ∙ ap (λ r. length (resource_text c.args.note.now entries r)) (sym c.in-Entries.is)
