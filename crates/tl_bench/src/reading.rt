@@ -74,59 +74,33 @@ fn memory_of(alloc: Global, store: &Store) -> Option<Memory> {
     Some(Memory { levels })
 }
 
-// The numbers of the leaves of one tile.
-fn numbers_of(alloc: Global, read: u64) -> Option<Vec<u64>> {
-    let first = read.wrapping_mul(7) % 3_900;
+// The numbers of 256 leaves: those of one tile, or one of each of 256 tiles side by side.
+fn numbers_of(alloc: Global, read: u64, wide: bool) -> Option<Vec<u64>> {
+    let first = read.wrapping_mul(7) % 3_600;
     let mut numbers = Vec::new(alloc);
     for place in 0..WIDTH {
-        numbers.push(stored_index(0, first * WIDTH + place)).ok()?;
+        let tile = if wide { first + place } else { first };
+        numbers.push(stored_index(0, tile * WIDTH + place)).ok()?;
     }
     Some(numbers)
 }
 
-// The numbers of one leaf of each of 256 tiles, side by side.
-fn wide_numbers_of(alloc: Global, read: u64) -> Option<Vec<u64>> {
-    let first = read.wrapping_mul(WIDTH) % 3_600;
-    let mut numbers = Vec::new(alloc);
-    for place in 0..WIDTH {
-        numbers
-            .push(stored_index(0, (first + place) * WIDTH + place))
-            .ok()?;
-    }
-    Some(numbers)
-}
-
-// How many hashes a read of these numbers gives.
-fn read_of<T: TreeHash>(
+// How many hashes so many reads gave.
+fn read_all<T: TreeHash>(
     alloc: Global,
     h: T,
     memory: &Memory,
     root: Hash,
-    numbers: &[u64],
+    reads: u64,
+    wide: bool,
 ) -> Option<u64> {
-    let reader = TileHashReader::new(alloc, h, SIZE, root, memory);
-    let hashes = reader.read(alloc, numbers).ok()?;
-    Some(hashes.len() as u64)
-}
-
-// How many hashes the reads of one tile each gave.
-fn read_tiles<T: TreeHash>(alloc: Global, h: T, memory: &Memory, root: Hash) -> Option<u64> {
     let mut count = 0u64;
-    for read in 0..READS {
-        let numbers = numbers_of(alloc, read)?;
-        let read = read_of(alloc, h, memory, root, numbers.as_slice())?;
-        count = count.wrapping_add(read);
-    }
-    Some(count)
-}
-
-// How many hashes the reads of 256 tiles each gave.
-fn read_widely<T: TreeHash>(alloc: Global, h: T, memory: &Memory, root: Hash) -> Option<u64> {
-    let mut count = 0u64;
-    for read in 0..WIDE_READS {
-        let numbers = wide_numbers_of(alloc, read)?;
-        let read = read_of(alloc, h, memory, root, numbers.as_slice())?;
-        count = count.wrapping_add(read);
+    for read in 0..reads {
+        let reader = TileHashReader::new(alloc, h, SIZE, root, memory);
+        let hashes = reader
+            .read(alloc, numbers_of(alloc, read, wide)?.as_slice())
+            .ok()?;
+        count = count.wrapping_add(hashes.len() as u64);
     }
     Some(count)
 }
@@ -149,12 +123,12 @@ fn tell<R: Clock + Print, T: TreeHash>(
     root: Hash,
 ) -> io::Result<bool> {
     let start = Instant::now(rt)?;
-    let Some(count) = read_tiles(alloc, h, memory, root) else {
+    let Some(count) = read_all(alloc, h, memory, root, READS, false) else {
         return Ok(false);
     };
     let took = start.elapsed(rt)?;
     let start = Instant::now(rt)?;
-    let Some(wide) = read_widely(alloc, h, memory, root) else {
+    let Some(wide) = read_all(alloc, h, memory, root, WIDE_READS, true) else {
         return Ok(false);
     };
     let took_widely = start.elapsed(rt)?;

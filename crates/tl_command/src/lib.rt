@@ -26,6 +26,5 @@ pub use commands::head::{checkpoint_of, run_head};
 pub use commands::proving::{run_consistency, run_inclusion};
 pub use entries::read_entries;
 pub use fault::{RunFault, exit_of, fault_line};
-pub use stored::{root_of, store_of};
 pub use streams::{MOST_INPUT, print_text};
 pub use words::{Job, WordsFault, read_words};

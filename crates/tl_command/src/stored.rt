@@ -12,7 +12,7 @@ use tl_hash::{Hash, Sha256Tree};
 use tl_store::{HashStore, ReadFault, tree_hash};
 
 /// The store of the hashes of these entries, fewer than 2^32, under SHA-256. It fails for want of memory alone.
-pub fn store_of<A: Allocator + Copy>(
+pub(crate) fn store_of<A: Allocator + Copy>(
     alloc: A,
     entries: &[Vec<u8, A>],
 ) -> Result<HashStore<Sha256Tree, A>, AllocError>
@@ -37,7 +37,7 @@ fn only_memory(fault: ReadFault) -> RunFault
 
 /// The Merkle tree hash (RFC 6962, section 2.1) of the first `size` entries of this store, of which there are as
 /// many. It fails for want of memory alone.
-pub fn root_of<A: Allocator + Copy>(
+pub(crate) fn root_of<A: Allocator + Copy>(
     alloc: A,
     store: &HashStore<Sha256Tree, A>,
     size: u64,

@@ -1,5 +1,5 @@
 //! The eight entries of Google's Certificate Transparency test data, with their hashes under SHA-256
-//! (RFC 6962, section 2.1).
+//! (RFC 6962, section 2.1), and entries by number.
 
 use std::alloc::{AllocError, Global};
 use tl_hash::Hash;
@@ -69,6 +69,15 @@ pub fn entries(alloc: Global, count: usize) -> Result<Vec<Vec<u8>>, AllocError> 
     let mut list = Vec::new(alloc);
     for entry in ENTRIES.iter().take(count) {
         list.push(Vec::from_slice(alloc, entry)?)?;
+    }
+    Ok(list)
+}
+
+/// So many entries of four bytes: the numbers from 0 up, big-endian.
+pub fn numbered(alloc: Global, count: u32) -> Result<Vec<Vec<u8>>, AllocError> {
+    let mut list = Vec::new(alloc);
+    for number in 0..count {
+        list.push(Vec::from_slice(alloc, &number.to_be_bytes())?)?;
     }
     Ok(list)
 }

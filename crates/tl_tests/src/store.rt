@@ -1,7 +1,6 @@
 //! Stored hashes: the numbers, a store over the worked entries, heads, and refused growths.
 
 use crate::readers::{CountedReader, FailingReader, store_of};
-use std::alloc::{AllocError, Global};
 use std::test::Fail;
 use tl_hash::{Sha256Tree, empty_hash, entry_root};
 use tl_proof::{ProveFault, prove_record, prove_tree};
@@ -9,7 +8,7 @@ use tl_store::{
     HashReader, HashStore, ReadFault, split_index, stored_count, stored_index, tree_hash,
 };
 use tl_testing::Refusing;
-use tl_testing::vectors::{ENTRIES, LEAVES, ROOTS, in_hex};
+use tl_testing::vectors::{ENTRIES, LEAVES, ROOTS, in_hex, numbered};
 use tl_tile::{Tile, tile_bytes};
 
 // More requests than any of the calls makes.
@@ -140,22 +139,13 @@ fn append_leaves_the_store_as_it_was(rt: HostRuntime) -> Result<(), Fail> {
     Ok(())
 }
 
-// Entries of four bytes, each another.
-fn many(alloc: Global, count: u32) -> Result<Vec<Vec<u8, Global>, Global>, AllocError> {
-    let mut entries = Vec::new(alloc);
-    for number in 0..count {
-        entries.push(Vec::from_slice(alloc, &number.to_be_bytes())?)?;
-    }
-    Ok(entries)
-}
-
 #[test]
 fn entries_together_are_entries_one_by_one(rt: HostRuntime) -> Result<(), Fail> {
     let alloc = rt.alloc();
     let mut together = HashStore::new(alloc, Sha256Tree);
     let mut singly = HashStore::new(alloc, Sha256Tree);
     for count in [0, 1, 3, 4, 5, 250, 257, 66_000] {
-        let entries = many(alloc, count)?;
+        let entries = numbered(alloc, count)?;
         assert!(rt; together.size() < 100_000 && entries.len() < 100_000);
         together.append_all(entries.as_slice())?;
         for entry in &entries {
@@ -174,7 +164,7 @@ fn entries_together_are_entries_one_by_one(rt: HostRuntime) -> Result<(), Fail> 
 #[test]
 fn append_all_leaves_the_store_as_it_was(rt: HostRuntime) -> Result<(), Fail> {
     let alloc = rt.alloc();
-    let entries = many(alloc, 6)?;
+    let entries = numbered(alloc, 6)?;
     for number in 1..MOST {
         let heap = Refusing::at(alloc, number);
         let mut store = HashStore::new(&heap, Sha256Tree);

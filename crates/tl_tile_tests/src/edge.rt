@@ -6,7 +6,7 @@ use std::test::Fail;
 use tl_hash::{Sha256Tree, empty_hash, entry_root};
 use tl_store::{HashStore, ReadFault, tree_hash};
 use tl_testing::Refusing;
-use tl_testing::vectors::{ENTRIES, LEAVES, ROOTS};
+use tl_testing::vectors::{ENTRIES, LEAVES, ROOTS, numbered};
 use tl_tile::{Edge, Resource, Tile, needed};
 
 // More entries than any of the tests appends.
@@ -235,22 +235,13 @@ fn add_all<A: Allocator + Copy>(
     Err(AllocError)
 }
 
-// Entries of four bytes, each another.
-fn many(alloc: Global, count: u32) -> Result<Vec<Vec<u8, Global>, Global>, AllocError> {
-    let mut entries = Vec::new(alloc);
-    for number in 0..count {
-        entries.push(Vec::from_slice(alloc, &number.to_be_bytes())?)?;
-    }
-    Ok(entries)
-}
-
 #[test]
 fn entries_together_are_entries_one_by_one(rt: HostRuntime) -> Result<(), Fail> {
     let alloc = rt.alloc();
     let mut together = Edge::new(alloc, Sha256Tree);
     let mut singly = Edge::new(alloc, Sha256Tree);
     for count in [0, 1, 3, 4, 5, 250, 256, 257, 513, 66_000] {
-        let entries = many(alloc, count)?;
+        let entries = numbered(alloc, count)?;
         let tiles = add_all(&mut together, entries.as_slice())?;
         let mut want = Vec::new(alloc);
         for entry in &entries {
@@ -266,7 +257,7 @@ fn entries_together_are_entries_one_by_one(rt: HostRuntime) -> Result<(), Fail> 
 #[test]
 fn append_all_leaves_the_edge_as_it_was(rt: HostRuntime) -> Result<(), Fail> {
     let alloc = rt.alloc();
-    let entries = many(alloc, 600)?;
+    let entries = numbered(alloc, 600)?;
     let mut whole = Edge::new(alloc, Sha256Tree);
     let want = add_all(&mut whole, entries.as_slice())?;
     for number in 1..MOST {
