@@ -1,6 +1,7 @@
 //! Stored hashes: the numbers, a store over the worked entries, heads, and refused growths.
 
 use crate::readers::{CountedReader, FailingReader, store_of};
+use std::alloc::{AllocError, Allocator};
 use std::test::Fail;
 use tl_hash::{Sha256Tree, empty_hash, entry_root};
 use tl_proof::{ProveFault, prove_record, prove_tree};
@@ -139,6 +140,17 @@ fn append_leaves_the_store_as_it_was(rt: HostRuntime) -> Result<(), Fail> {
     Ok(())
 }
 
+// Adds entries together to a store that has few.
+fn add_all<A: Allocator>(
+    store: &mut HashStore<Sha256Tree, A>,
+    entries: &[Vec<u8>],
+) -> Result<(), AllocError> {
+    if store.size() < 100_000 && entries.len() < 100_000 {
+        return store.append_all(entries);
+    }
+    Err(AllocError)
+}
+
 #[test]
 fn entries_together_are_entries_one_by_one(rt: HostRuntime) -> Result<(), Fail> {
     let alloc = rt.alloc();
@@ -146,8 +158,7 @@ fn entries_together_are_entries_one_by_one(rt: HostRuntime) -> Result<(), Fail> 
     let mut singly = HashStore::new(alloc, Sha256Tree);
     for count in [0, 1, 3, 4, 5, 250, 257, 66_000] {
         let entries = numbered(alloc, count)?;
-        assert!(rt; together.size() < 100_000 && entries.len() < 100_000);
-        together.append_all(entries.as_slice())?;
+        add_all(&mut together, entries.as_slice())?;
         for entry in &entries {
             assert!(rt; singly.size() < 100_000);
             singly.append(entry)?;
@@ -168,12 +179,12 @@ fn append_all_leaves_the_store_as_it_was(rt: HostRuntime) -> Result<(), Fail> {
     for number in 1..MOST {
         let heap = Refusing::at(alloc, number);
         let mut store = HashStore::new(&heap, Sha256Tree);
-        if store.append_all(entries.as_slice()).is_err() {
+        if add_all(&mut store, entries.as_slice()).is_err() {
             assert!(rt; heap.refused());
             assert_eq!(rt; store.size(), 0);
-            assert!(rt; store.size() < 8);
-            store.append_all(entries.as_slice())?;
+            add_all(&mut store, entries.as_slice())?;
         }
+        assert_eq!(rt; store.size(), 6);
         assert!(rt;
             tree_hash(alloc, Sha256Tree, 6, &store)?
                 == entry_root(Sha256Tree, entries.as_slice())
