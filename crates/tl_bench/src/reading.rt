@@ -153,6 +153,8 @@ pub fn tiles<R: Clock + Print>(rt: &R, alloc: Global) -> io::Result<bool> {
     ) else {
         return Ok(false);
     };
-    Ok(tell(rt, alloc, PlainTree, "one by one", &memory, root)?
-        && tell(rt, alloc, Sha256Tree, "four at a time", &memory, root)?)
+    Ok(
+        tell(rt, alloc, PlainTree, "one by one", &memory, root)?
+            && tell(rt, alloc, Sha256Tree, "four at a time", &memory, root)?,
+    )
 }

@@ -167,7 +167,10 @@ fn entries_together_are_entries_one_by_one(rt: HostRuntime) -> Result<(), Fail> 
         assert_eq!(rt; size, singly.size());
         assert!(rt; size < 200_000);
         let root = tree_hash(alloc, Sha256Tree, size, &together)?;
-        assert!(rt; root == tree_hash(alloc, Sha256Tree, size, &singly)?, "{count}");
+        assert!(rt;
+            root == tree_hash(alloc, Sha256Tree, size, &singly)?,
+            "{count}"
+        );
     }
     Ok(())
 }
@@ -186,8 +189,7 @@ fn append_all_leaves_the_store_as_it_was(rt: HostRuntime) -> Result<(), Fail> {
         }
         assert_eq!(rt; store.size(), 6);
         assert!(rt;
-            tree_hash(alloc, Sha256Tree, 6, &store)?
-                == entry_root(Sha256Tree, entries.as_slice())
+            tree_hash(alloc, Sha256Tree, 6, &store)? == entry_root(Sha256Tree, entries.as_slice())
         );
         if !heap.refused() {
             assert!(rt; number > 1);
