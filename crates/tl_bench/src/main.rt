@@ -6,6 +6,7 @@ mod plain;
 mod proving;
 mod reading;
 mod rings;
+mod together;
 
 use chains::chains;
 use proving::proofs;

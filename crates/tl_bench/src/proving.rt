@@ -1,5 +1,6 @@
 //! Proofs made and checked a second, and the digests that a check takes.
 
+use crate::together::together;
 use std::alloc::Global;
 use std::cell::Cell;
 use std::io;
@@ -8,8 +9,8 @@ use tl_hash::{Hash, Sha256Tree, TreeHash, leaf_hash};
 use tl_proof::{check_record, check_tree, prove_record, prove_tree};
 use tl_store::{HashStore, tree_hash};
 
-// Proofs of each kind that are made and checked.
-const PROOFS: u64 = 20_000;
+/// Proofs of each kind that are made and checked.
+pub(crate) const PROOFS: u64 = 20_000;
 
 // Spreads the proofs over a log: it shares no factor with its sizes.
 const STRIDE: u64 = 7_919;
@@ -57,8 +58,8 @@ pub(crate) fn store_of(alloc: Global, size: u64) -> Option<Store> {
     Some(store)
 }
 
-// A place in a log of this size.
-fn place_of(number: u64, size: u64) -> u64 {
+/// A place in a log of this size.
+pub(crate) fn place_of(number: u64, size: u64) -> u64 {
     number.wrapping_mul(STRIDE) % size.max(1)
 }
 
@@ -135,8 +136,8 @@ fn hashes_of(made: &[Made]) -> u64 {
         .fold(0, |sum, count| sum.wrapping_add(count))
 }
 
-// Proofs a second, if the time is long enough to tell.
-fn rate(took: Duration) -> u128 {
+/// Proofs a second, if the time is long enough to tell.
+pub(crate) fn rate(took: Duration) -> u128 {
     match took.as_micros() {
         0 => 0,
         micros => PROOFS as u128 * 1_000_000 / micros,
@@ -241,5 +242,9 @@ pub fn proofs<R: Clock + Print>(rt: &R, alloc: Global, size: u64) -> io::Result<
     let Ok(root) = tree_hash(alloc, Sha256Tree, store.size(), &store) else {
         return Ok(false);
     };
-    Ok(inclusion(rt, alloc, &store, root)? && consistency(rt, alloc, &store, root)?)
+    Ok(
+        inclusion(rt, alloc, &store, root)?
+            && together(rt, alloc, &store, root)?
+            && consistency(rt, alloc, &store, root)?,
+    )
 }

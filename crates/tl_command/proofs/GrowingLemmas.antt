@@ -55,7 +55,7 @@ short_tells last kept is apart =
     ]
 
 -- where no line was too long, and one line more
-at_none : (place count : ℕ) → cond (nat_lt place count) (Some place) None ≡ None → place ≤ count → place ≡ count
+pub at_none : (place count : ℕ) → cond (nat_lt place count) (Some place) None ≡ None → place ≤ count → place ≡ count
 at_none place count e within =
     elim (cases_lt place count) as (λ _. place ≡ count) [
       | inl lt ↦ let bad : Some place ≡ None = ap (λ (b : Bool). cond b (Some place) None) (sym (lt-ltb place count lt)) ∙ e in absurd cc
@@ -72,7 +72,7 @@ at_some place count i e =
 abbrev place_in : List (List ℕ) → ℕ
 place_in lines = position_or_len is_too_long lines
 
-place_within : (lines : List (List ℕ)) → place_in lines ≤ length lines
+pub place_within : (lines : List (List ℕ)) → place_in lines ≤ length lines
 place_within lines = prefix_len-le-length (λ x. not (is_too_long x)) lines
 
 pub push_short : (lines : List (List ℕ)) (last : List ℕ) → first_too_long lines ≡ None → is_too_long last ≡ false → first_too_long (lines ++ last ∷ []) ≡ None

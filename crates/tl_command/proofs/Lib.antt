@@ -9,3 +9,4 @@ pub mod CountedLines
 pub mod GrowingLemmas
 pub mod WholeLines
 pub mod CheckpointTexts
+pub mod Filling

@@ -6,14 +6,15 @@ use Rattle.std.proofs.lemmas.Bool.{eqb-true, le-ltb}
 use Rattle.std.proofs.lemmas.Grind.{flat_map-append}
 use Rattle.std.proofs.lemmas.List.{length-append, length-take-le, take-append-drop, take_more, take_rest, get_or-take}
 use Rattle.std.proofs.lemmas.List.Concat.{flat_map-cons}
-use Rattle.std.proofs.lemmas.List.Elements.{All-append, All-head, All-nil, All-push, All-tail}
+use Rattle.std.proofs.lemmas.List.Elements.{All-append, All-from_get_or, All-head, All-nil, All-push, All-tail}
+use Rattle.std.proofs.lemmas.List.Sums.{fails_before_first}
 use Rattle.sha2.specs.Sha256.{sha256}
 use Rattle.tl_text.specs.Text.{line}
 use Rattle.tl_tile.specs.RightEdge.{IsEdgeOf}
-use Rattle.tl_command.specs.Inner.Growing.{BeginsWith, IsGrowing}
+use Rattle.tl_command.specs.Inner.Growing.{BeginsWith, FillsTiles, IsGrowing}
 use Rattle.tl_command.specs.declared.growing.Growing.{Growing}
 use Rattle.tl_command.specs.Lines.{first_too_long, is_too_long, lines_text, HasNoNewline}
-use Rattle.tl_command.proofs.GrowingLemmas.{none_found, nothing_kept, push_short, told_none, told_was, IsOther}
+use Rattle.tl_command.proofs.GrowingLemmas.{at_none, place_within, none_found, nothing_kept, push_short, told_none, told_was, IsOther}
 
 abbrev pub IsShort : List ℕ → Type 0
 IsShort text = is_too_long text ≡ false
@@ -115,3 +116,32 @@ pub part_more : (input piece : List ℕ) (at n : ℕ) → (input ++ take at piec
 part_more input piece at n =
     ap (λ (t : List ℕ). (input ++ take at piece) ++ take n t) (take_rest piece at) ∙ append_assoc input (take at piece) (take n (drop at piece))
     ∙ ap (λ (t : List ℕ). input ++ t) (sym (take-add at n piece))
+
+-- where no line is too long, each is short
+each_short : (lines : List (List ℕ)) → first_too_long lines ≡ None → All IsShort lines
+each_short lines none =
+    let whole = at_none _ (length lines) none (place_within lines) in
+    All-from_get_or IsShort lines [] (λ i lt. fails_before_first is_too_long lines i [] (omega (arith, whole, lt)))
+
+-- the whole lines of a piece, after the whole lines of what stands before it, where no line is begun and none too long
+pub grown_tiles : {A B : Type 0} (old new : Growing A) (next : Growing B) (input piece : List ℕ) → IsGrowing old input → IsGrowing next piece
+    → FillsTiles old → FillsTiles next → new.too_long ≡ None → vec_items new.line ≡ []
+    → ((lines added : List (List ℕ)) → IsEdgeOf old.edge sha256 lines → IsEdgeOf next.edge sha256 added → IsEdgeOf new.edge sha256 (lines ++ added))
+    → IsGrowing new (input ++ piece)
+grown_tiles old new next input piece was more fills next_fills none_now kept_now appended =
+    let last : was.last ≡ [] = nothing_kept was.last (sym was.kept ∙ fills.unbegun) in
+    let next_last : more.last ≡ [] = nothing_kept more.last (sym more.kept ∙ next_fills.unbegun) in
+    let told = told_was old was.lines fills.short was.told in
+    let next_told = told_was next more.lines next_fills.short more.told in
+    let added : piece ≡ lines_text more.lines = more.whole ∙ ap (λ (t : List ℕ). lines_text more.lines ++ t) next_last ∙ append-nil (lines_text more.lines) in
+    record {
+      lines = was.lines ++ more.lines;
+      last = [];
+      whole = ap (λ (t : List ℕ). input ++ t) added ∙ ap (λ (t : List ℕ). t ++ lines_text more.lines) was.whole
+          ∙ lines_after was.lines more.lines was.last last;
+      plain = All-append HasNoNewline was.lines more.lines was.plain more.plain;
+      last_plain = All-nil IsOther;
+      kept = kept_now;
+      told = told_none new.too_long _ _ none_now
+          (none_longer more.lines was.lines told.0 (each_short more.lines next_told.0), appended was.lines more.lines told.1 next_told.1);
+    }

@@ -1,20 +1,20 @@
 //! The right edge of the log of an input's lines, while the input is read.
 
-ghost use Rattle.std.specs.Prelude.{◌≡◌, ◌<◌, ◌≤◌, ◌+◌, ◌-◌, ◌^◌, ◌∷◌, [], ◌++◌, List, length, take, vec_items, None, IfOk, OnOk};
+ghost use Rattle.std.specs.Prelude.{◌≡◌, ◌<◌, ◌≤◌, ◌+◌, ◌-◌, ◌^◌, ◌∷◌, [], ◌++◌, List, length, take, vec_items, None, IfOk, IsTrue, OnOk};
 ghost use Rattle.tl_hash.specs.Bytes.{Bytes};
-ghost use Rattle.tl_command.specs.Inner.Growing.{IsGrowing, IsOutcome, IsTold, ReadsEdge};
+ghost use Rattle.tl_command.specs.Inner.Growing.{FillsTiles, IsGrowing, IsOutcome, IsTold};
 ghost use Rattle.tl_command.specs.Lines.{entries_of, HasNoNewline};
-ghost use Rattle.tl_device.specs.Device.{passage};
 
 use crate::fault::RunFault;
-use crate::streams::MOST_INPUT;
 use crate::whole_lines::cut_four;
 use memchr::memchr;
 use std::alloc::{AllocError, Allocator};
-use std::io::Read;
-use tl_device::Counted;
 use tl_hash::Sha256Tree;
 use tl_tile::Edge;
+
+mod cuts;
+pub(crate) mod reading;
+mod shares;
 
 // What is kept of an input so far: the right edge of the log of its whole lines, as much of the last, unended line as
 // tells whether it is too long, and the place of the first line that is too long, after which the edge stays as it is.
@@ -139,6 +139,13 @@ impl<A: Allocator + Copy> Growing<A> {
         Ok(())
     }
 
+    // Whether all that is kept are whole tiles of lines: none is begun, and none was too long.
+    fn fills_tiles(&self) -> bool
+        ensures { IsTrue result → FillsTiles self.now }
+    {
+        self.edge.size() % 256 == 0 && self.line.is_empty() && self.too_long.is_none()
+    }
+
     // What is told of the lines.
     fn outcome(self) -> Result<Edge<Sha256Tree, A>, RunFault>
         ensures { (lines : List Bytes) → IsTold self lines → IsOutcome lines result }
@@ -166,28 +173,4 @@ impl<A: Allocator + Copy> Growing<A> {
         self.end_line()?;
         self.outcome()
     }
-}
-
-/// The right edge of the log of the lines of all that the reader gives. An input of more than 64 MiB is `TooLarge`,
-/// and then one with a line of more than 65,535 bytes is `EntryTooLong` of the first such line.
-pub(crate) fn read_edge<A: Allocator + Copy, R: Read>(
-    alloc: A,
-    reader: &mut Counted<R>,
-) -> Result<Edge<Sha256Tree, A>, RunFault>
-    ensures { ReadsEdge (passage R.remaining reader.old reader.new) result }
-{
-    let mut growing = Growing::new(alloc);
-    let mut total = 0u64;
-    let mut buf = [0u8; 65536];
-    while total <= MOST_INPUT {
-        match reader.read_some(&mut buf) {
-            None => return Err(RunFault::Read),
-            Some(0) => return growing.finish(),
-            Some(n) => {
-                growing.take(&buf[..n])?;
-                total += n as u64;
-            }
-        }
-    }
-    Err(RunFault::TooLarge)
 }

@@ -3,7 +3,7 @@
 //! ```
 //! let mut reader = Counted::new(b"a cat\na dog\n".as_slice());
 //! let mut writer = Counted::new(Vec::new(alloc));
-//! run_head(alloc, "example.com/log", &mut reader, &mut writer)?;
+//! run_head(&rt, alloc, alloc, 4, "example.com/log", &mut reader, &mut writer)?;
 //! assert!(writer.into_inner().starts_with(b"example.com/log\n2\n"));
 //! ```
 #![tactic(auto)]

@@ -17,6 +17,8 @@ pub enum Job {
     Head {
         /// The name of the log.
         origin: String,
+        /// How many threads hash at once, 1 at least; without it, as many as the machine has.
+        threads: Option<u16>,
     },
     /// Print what a static mirror of the log of the lines of standard input serves.
     Build {
@@ -98,10 +100,14 @@ fn head<'a>(alloc: Global) -> Result<Command<'a>, AllocError> {
         "NAME",
         "The name of the log, one line that isn't empty",
     );
+    let threads = option(alloc, "threads", "N", "How many threads hash at once").value_parser(
+        value_parser!(u16).range(1..),
+    );
     Command::new(alloc, "head")
         .about("Prints the checkpoint of the log whose entries are the lines of standard input")
         .after_help(texts::HEAD)
-        .arg(origin)
+        .arg(origin)?
+        .arg(threads)
 }
 
 // The command `build`.
@@ -212,6 +218,7 @@ pub fn read_words(alloc: Global, words: &[String]) -> Result<Job, WordsFault> {
     match matches.subcommand() {
         Some(("head", options)) => Ok(Job::Head {
             origin: text_of(alloc, options, "origin")?,
+            threads: options.get_one::<u16>("threads"),
         }),
         Some(("build", options)) => Ok(Job::Build {
             origin: text_of(alloc, options, "origin")?,

@@ -83,7 +83,8 @@ fn the_checkpoint_opens_to_the_text_of_head(rt: HostRuntime) -> Result<(), Fail>
     let alloc = rt.alloc();
     let mut reader = Counted::new(INPUT);
     let mut writer = Counted::new(Vec::new(alloc));
-    assert_eq!(rt; run_head(alloc, ORIGIN, &mut reader, &mut writer), Ok(()));
+    let outcome = run_head(&rt, alloc, alloc, 2, ORIGIN, &mut reader, &mut writer);
+    assert_eq!(rt; outcome, Ok(()));
     let (bytes, outcome) = build(alloc, alloc, ORIGIN, Some("checkpoint"), INPUT);
     assert_eq!(rt; outcome, Ok(()));
     let note = str::from_utf8(bytes.as_slice())?;

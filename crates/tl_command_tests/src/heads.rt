@@ -1,17 +1,54 @@
 //! The command `head`: what it prints and what it refuses.
 
-use std::alloc::Global;
+use std::alloc::{AllocError, Global};
 use std::test::Fail;
+use std::thread::Threads;
 use tl_command::{RunFault, exit_of, fault_line, read_entries, run_head};
 use tl_device::Counted;
 use tl_testing::texts::{NO_ENTRY, ONE_ENTRY, TWO_ENTRIES};
 
 // What `head` writes for this input, and its fault.
-fn head(alloc: Global, origin: &str, input: &[u8]) -> (Vec<u8>, Result<(), RunFault>) {
+fn head<H: Threads + Sync>(
+    rt: &H,
+    alloc: Global,
+    threads: usize,
+    origin: &str,
+    input: &[u8],
+) -> (Vec<u8>, Result<(), RunFault>) {
     let mut reader = Counted::new(input);
     let mut writer = Counted::new(Vec::new(alloc));
-    let outcome = run_head(alloc, origin, &mut reader, &mut writer);
+    let outcome = run_head(rt, alloc, alloc, threads, origin, &mut reader, &mut writer);
     (writer.into_inner(), outcome)
+}
+
+// 70,000 lines of a few bytes, and 600 lines of 3,000 bytes.
+fn short_and_long_lines(alloc: Global) -> Result<Vec<u8>, AllocError> {
+    let mut input = Vec::new(alloc);
+    for number in 0..70_000u32 {
+        let line = format!(in alloc; "{number}\n")?;
+        input.extend_from_slice(line.as_bytes())?;
+    }
+    let mut long = vec![in alloc; b'x'; 3_000]?;
+    long.push(b'\n')?;
+    for _ in 0..600 {
+        input.extend_from_slice(long.as_slice())?;
+    }
+    Ok(input)
+}
+
+#[test]
+fn any_number_of_threads_gives_one_checkpoint(rt: HostRuntime) -> Result<(), Fail> {
+    let alloc = rt.alloc();
+    let input = short_and_long_lines(alloc)?;
+    let (want, outcome) = head(&rt, alloc, 0, "example.com/log", input.as_slice());
+    assert_eq!(rt; outcome, Ok(()));
+    assert!(rt; want.as_slice().starts_with(b"example.com/log\n70600\n"));
+    for threads in [2, 3] {
+        let (text, outcome) = head(&rt, alloc, threads, "example.com/log", input.as_slice());
+        assert_eq!(rt; outcome, Ok(()), "by {threads} threads");
+        assert_eq!(rt; text.as_slice(), want.as_slice(), "by {threads} threads");
+    }
+    Ok(())
 }
 
 #[test]
@@ -23,7 +60,7 @@ fn checkpoints_of_small_logs(rt: HostRuntime) {
         ("\n\0", TWO_ENTRIES),
     ];
     for (input, want) in cases {
-        let (text, outcome) = head(rt.alloc(), "example.com/log", input.as_bytes());
+        let (text, outcome) = head(&rt, rt.alloc(), 2, "example.com/log", input.as_bytes());
         assert_eq!(rt; outcome, Ok(()), "for {input:?}");
         assert_eq!(rt; text.as_slice(), want.as_bytes(), "for {input:?}");
     }
@@ -33,10 +70,10 @@ fn checkpoints_of_small_logs(rt: HostRuntime) {
 fn an_entry_of_65536_bytes_is_too_long(rt: HostRuntime) -> Result<(), Fail> {
     let mut long = vec![in rt.alloc(); 120u8; 65536]?;
     long.push(10)?;
-    let (text, outcome) = head(rt.alloc(), "example.com/log", long.as_slice());
+    let (text, outcome) = head(&rt, rt.alloc(), 2, "example.com/log", long.as_slice());
     assert_eq!(rt; outcome, Err(RunFault::EntryTooLong(0)));
     assert_eq!(rt; text.len(), 0);
-    let (text, outcome) = head(rt.alloc(), "example.com/log", &long.as_slice()[1..]);
+    let (text, outcome) = head(&rt, rt.alloc(), 2, "example.com/log", &long.as_slice()[1..]);
     assert_eq!(rt; outcome, Ok(()));
     assert!(rt; text.as_slice().starts_with(b"example.com/log\n1\n"));
     Ok(())
@@ -45,7 +82,7 @@ fn an_entry_of_65536_bytes_is_too_long(rt: HostRuntime) -> Result<(), Fail> {
 #[test]
 fn origins_that_are_not_one_line(rt: HostRuntime) {
     for origin in ["", "a\nb", "a\0", "\u{1f}"] {
-        let (text, outcome) = head(rt.alloc(), origin, b"\n");
+        let (text, outcome) = head(&rt, rt.alloc(), 2, origin, b"\n");
         assert_eq!(rt; outcome, Err(RunFault::BadOrigin), "for {origin:?}");
         assert_eq!(rt; text.len(), 0);
     }

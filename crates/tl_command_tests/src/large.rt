@@ -3,6 +3,7 @@
 use std::alloc::{AllocError, Global};
 use std::str;
 use std::test::Fail;
+use std::thread::Threads;
 use tl_build::run_build;
 use tl_command::{Job, MOST_INPUT, RunFault, run_check, run_consistency, run_head, run_inclusion};
 use tl_device::Counted;
@@ -11,10 +12,15 @@ use tl_job::run_job;
 use tl_store::{HashStore, tree_hash};
 
 // What a job writes for an input, and its fault.
-fn written(alloc: Global, job: Job, input: &[u8]) -> (Vec<u8>, Result<(), RunFault>) {
+fn written<H: Threads + Sync>(
+    rt: &H,
+    alloc: Global,
+    job: Job,
+    input: &[u8],
+) -> (Vec<u8>, Result<(), RunFault>) {
     let mut reader = Counted::new(input);
     let mut writer = Counted::new(Vec::new(alloc));
-    let outcome = run_job(alloc, job, &mut reader, &mut writer);
+    let outcome = run_job(rt, alloc, job, &mut reader, &mut writer);
     (writer.into_inner(), outcome)
 }
 
@@ -45,6 +51,7 @@ fn jobs(alloc: Global) -> Result<[Job; 4], AllocError> {
     Ok([
         Job::Head {
             origin: String::from_str(alloc, "example.com/log")?,
+            threads: None,
         },
         Job::Build {
             origin: String::from_str(alloc, "example.com/log")?,
@@ -61,9 +68,11 @@ fn inputs_of_64_mib_are_read_and_no_larger_ones(rt: HostRuntime) -> Result<(), F
     let alloc = rt.alloc();
     let input = lines_of_64_mib(alloc, 0)?;
     let (head, outcome) = written(
+        &rt,
         alloc,
         Job::Head {
             origin: String::from_str(alloc, "example.com/log")?,
+            threads: Some(4),
         },
         input.as_slice(),
     );
@@ -78,13 +87,13 @@ fn inputs_of_64_mib_are_read_and_no_larger_ones(rt: HostRuntime) -> Result<(), F
     assert!(rt; tree_hash(alloc, Sha256Tree, 1024, &store)? == root_of_64_mib(alloc)?);
     assert!(rt; head.as_slice().starts_with(b"example.com/log\n1024\n"));
     for job in jobs(alloc)? {
-        let (text, outcome) = written(alloc, job, input.as_slice());
+        let (text, outcome) = written(&rt, alloc, job, input.as_slice());
         assert_eq!(rt; outcome, Ok(()));
         assert!(rt; text.len() > 60);
     }
     let longer = lines_of_64_mib(alloc, 1)?;
     for job in jobs(alloc)? {
-        let (text, outcome) = written(alloc, job, longer.as_slice());
+        let (text, outcome) = written(&rt, alloc, job, longer.as_slice());
         assert_eq!(rt; outcome, Err(RunFault::TooLarge));
         assert!(rt; text.is_empty());
     }
@@ -136,7 +145,7 @@ fn a_hundred_thousand_lines(rt: HostRuntime) -> Result<(), Fail> {
         secret: String::from_str(alloc, "s")?,
         get: None,
     };
-    let (listing, outcome) = written(alloc, job, input.as_bytes());
+    let (listing, outcome) = written(&rt, alloc, job, input.as_bytes());
     assert_eq!(rt; outcome, Ok(()));
     let listing = str::from_utf8(listing.as_slice())?;
     assert_eq!(rt; listing.lines().count(), 391 + 2 + 1 + 391 + 1);
@@ -154,7 +163,15 @@ fn an_origin_of_1000_bytes_and_an_empty_secret(rt: HostRuntime) -> Result<(), Fa
     let origin = String::from_utf8(vec![in alloc; b'o'; 1000]?)?;
     let mut reader = Counted::new(b"a\n".as_slice());
     let mut writer = Counted::new(Vec::new(alloc));
-    let outcome = run_head(alloc, origin.as_str(), &mut reader, &mut writer);
+    let outcome = run_head(
+        &rt,
+        alloc,
+        alloc,
+        1,
+        origin.as_str(),
+        &mut reader,
+        &mut writer,
+    );
     assert_eq!(rt; outcome, Ok(()));
     assert_eq!(rt; writer.into_inner().len(), 1000 + 1 + 2 + 45);
     let mut reader = Counted::new(b"a\n".as_slice());

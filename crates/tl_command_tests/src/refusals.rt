@@ -4,6 +4,7 @@ use crate::builds::{BUNDLE, INPUT, LISTING, NOTE, ORIGIN, build, tile_of};
 use std::alloc::Global;
 use std::process::Abort;
 use std::test::Fail;
+use std::thread::Threads;
 use tl_command::{RunFault, fault_line, read_entries, run_head};
 use tl_device::Counted;
 use tl_hash::{Sha256Tree, entry_root};
@@ -40,10 +41,22 @@ fn read_entries_answers_out_of_memory(rt: HostRuntime) -> Result<(), Fail> {
 }
 
 // The outcome of `head` with this heap, and what it wrote.
-fn head_on(alloc: Global, heap: &Refusing<Global>) -> (Result<(), RunFault>, Vec<u8>) {
+fn head_on<H: Threads + Sync>(
+    rt: &H,
+    alloc: Global,
+    heap: &Refusing<Global>,
+) -> (Result<(), RunFault>, Vec<u8>) {
     let mut reader = Counted::new(b"\n\0".as_slice());
     let mut writer = Counted::new(Vec::new(alloc));
-    let outcome = run_head(heap, "example.com/log", &mut reader, &mut writer);
+    let outcome = run_head(
+        rt,
+        heap,
+        alloc,
+        2,
+        "example.com/log",
+        &mut reader,
+        &mut writer,
+    );
     (outcome, writer.into_inner())
 }
 
@@ -51,7 +64,7 @@ fn head_on(alloc: Global, heap: &Refusing<Global>) -> (Result<(), RunFault>, Vec
 fn head_answers_out_of_memory(rt: HostRuntime) -> Result<(), Fail> {
     for number in 1..MOST {
         let heap = Refusing::at(rt.alloc(), number);
-        let (outcome, text) = head_on(rt.alloc(), &heap);
+        let (outcome, text) = head_on(&rt, rt.alloc(), &heap);
         if !heap.refused() {
             assert!(rt; number > 5);
             assert_eq!(rt; outcome, Ok(()));
@@ -60,7 +73,7 @@ fn head_answers_out_of_memory(rt: HostRuntime) -> Result<(), Fail> {
         }
         assert_eq!(rt; outcome, Err(RunFault::OutOfMemory), "at request {number}");
         assert_eq!(rt; text.len(), 0);
-        let (outcome, text) = head_on(rt.alloc(), &heap);
+        let (outcome, text) = head_on(&rt, rt.alloc(), &heap);
         assert_eq!(rt; outcome, Ok(()));
         assert_eq!(rt; text.as_slice(), TWO_ENTRIES.as_bytes());
     }

@@ -5,6 +5,7 @@ use std::alloc::{AllocError, Global};
 use std::io::{ErrorKind, Read, Write};
 use std::process::Abort;
 use std::test::Fail;
+use std::thread::Threads;
 use tl_build::run_build;
 use tl_command::{RunFault, run_head};
 use tl_device::Counted;
@@ -30,12 +31,18 @@ fn words_of(alloc: Global, words: &[&str]) -> Result<Vec<String>, AllocError> {
 }
 
 // Runs the words over this reader.
-fn run_line<R: Read + Drop>(alloc: Global, words: &[&str], reader: R) -> Result<Ended, AllocError> {
+fn run_line<H: Threads + Sync, R: Read + Drop>(
+    rt: &H,
+    alloc: Global,
+    words: &[&str],
+    reader: R,
+) -> Result<Ended, AllocError> {
     let words = words_of(alloc, words)?;
     let mut reader = Counted::new(reader);
     let mut writer = Counted::new(Vec::new(alloc));
     let mut errors = Counted::new(Vec::new(alloc));
     let status = run_words(
+        rt,
         alloc,
         words.as_slice(),
         &mut reader,
@@ -74,7 +81,7 @@ fn faults_are_told_on_standard_error(rt: HostRuntime) -> Result<(), Fail> {
         (&["tlog", "check"], b"x\n", b"tlog: malformed input\n", 1),
     ];
     for (words, input, errors, status) in cases {
-        let ended = run_line(alloc, words, input)?;
+        let ended = run_line(&rt, alloc, words, input)?;
         assert_eq!(rt; ended.errors.as_slice(), errors);
         assert!(rt; ended.output.is_empty());
         assert_eq!(rt; ended.status, status);
@@ -90,7 +97,7 @@ fn words_that_name_no_job_are_explained(rt: HostRuntime) -> Result<(), Fail> {
         &["tlog", "head", "--size", "1"],
     ];
     for words in words {
-        let ended = run_line(rt.alloc(), words, b"a\n".as_slice())?;
+        let ended = run_line(&rt, rt.alloc(), words, b"a\n".as_slice())?;
         assert!(rt; ended.errors.len() > 10);
         assert!(rt; ended.output.is_empty());
         assert_eq!(rt; ended.status, 2);
@@ -102,7 +109,7 @@ fn words_that_name_no_job_are_explained(rt: HostRuntime) -> Result<(), Fail> {
 fn a_device_that_fails_ends_with_3(rt: HostRuntime) -> Result<(), Fail> {
     let alloc = rt.alloc();
     let reader = FailingReader::new(b"a\n", 1, 2, ErrorKind::Other);
-    let ended = run_line(alloc, &["tlog", "head", "--origin", "x"], reader)?;
+    let ended = run_line(&rt, alloc, &["tlog", "head", "--origin", "x"], reader)?;
     assert_eq!(rt; ended.errors.as_slice(), b"tlog: read failed\n".as_slice());
     assert_eq!(rt; ended.status, 3);
     let words = words_of(alloc, &["tlog", "head", "--origin", ""])?;
@@ -111,6 +118,7 @@ fn a_device_that_fails_ends_with_3(rt: HostRuntime) -> Result<(), Fail> {
     let mut held = [0u8; 64];
     let mut errors = Counted::new(FailingWriter::new(&mut held, 3, 3, false));
     let status = run_words(
+        &rt,
         alloc,
         words.as_slice(),
         &mut reader,
@@ -165,14 +173,15 @@ fn runs() -> [Run; 4] {
 }
 
 // Runs the command over these devices.
-fn outcome_of<R: Read, W: Write>(
+fn outcome_of<H: Threads + Sync, R: Read, W: Write>(
+    rt: &H,
     alloc: Global,
     asked: Asked,
     reader: &mut Counted<R>,
     writer: &mut Counted<W>,
 ) -> Result<(), RunFault> {
     match asked {
-        Asked::Head => run_head(alloc, builds::ORIGIN, reader, writer),
+        Asked::Head => run_head(rt, alloc, alloc, 2, builds::ORIGIN, reader, writer),
         Asked::Build(get) => run_build(
             alloc,
             alloc,
@@ -187,7 +196,8 @@ fn outcome_of<R: Read, W: Write>(
 
 // The outcome of a run over a reader that gives one byte a call and fails at a call, whether the reader had failed,
 // and how much was written.
-fn run_from(
+fn run_from<H: Threads + Sync>(
+    rt: &H,
     alloc: Global,
     run: Run,
     fails_at: u64,
@@ -195,18 +205,18 @@ fn run_from(
 ) -> (Result<(), RunFault>, bool, usize) {
     let mut reader = Counted::new(FailingReader::new(run.input, 1, fails_at, kind));
     let mut writer = Counted::new(Vec::new(alloc));
-    let outcome = outcome_of(alloc, run.asked, &mut reader, &mut writer);
+    let outcome = outcome_of(rt, alloc, run.asked, &mut reader, &mut writer);
     let failed = reader.failed();
     let text: Vec<u8> = writer.into_inner();
     (outcome, failed, text.len())
 }
 
 // Checks a run with each read failing in turn, the one that finds the end too, and with none that fails.
-fn tells_failed_reads(rt: &(impl Abort + AllocGlobal), run: Run, kind: ErrorKind) {
+fn tells_failed_reads(rt: &(impl Abort + AllocGlobal + Threads + Sync), run: Run, kind: ErrorKind) {
     let asked = run.asked;
     let after = run.input.len() as u64 + 2;
     for fails_at in 1..after {
-        let (outcome, failed, written) = run_from(rt.alloc(), run, fails_at, kind);
+        let (outcome, failed, written) = run_from(rt, rt.alloc(), run, fails_at, kind);
         assert_eq!(rt;
             outcome,
             Err(RunFault::Read),
@@ -215,7 +225,7 @@ fn tells_failed_reads(rt: &(impl Abort + AllocGlobal), run: Run, kind: ErrorKind
         assert!(rt; failed);
         assert_eq!(rt; written, 0);
     }
-    let (outcome, failed, written) = run_from(rt.alloc(), run, after, kind);
+    let (outcome, failed, written) = run_from(rt, rt.alloc(), run, after, kind);
     assert_eq!(rt; outcome, Ok(()), "{asked:?}");
     assert!(rt; !failed);
     assert_eq!(rt; written, run.want.len());
@@ -231,7 +241,8 @@ fn a_failed_read_is_told_and_nothing_is_written(rt: HostRuntime) {
 
 // The outcome of a run over a writer into these bytes, so many a call, that fails at a call, and whether the writer
 // had failed.
-fn run_into(
+fn run_into<H: Threads + Sync>(
+    rt: &H,
     alloc: Global,
     run: Run,
     bytes: &mut [u8],
@@ -241,17 +252,21 @@ fn run_into(
 ) -> (Result<(), RunFault>, bool) {
     let mut reader = Counted::new(run.input);
     let mut writer = Counted::new(FailingWriter::new(bytes, step, fails_at, takes_none));
-    let outcome = outcome_of(alloc, run.asked, &mut reader, &mut writer);
+    let outcome = outcome_of(rt, alloc, run.asked, &mut reader, &mut writer);
     (outcome, writer.failed())
 }
 
 // Checks a run over a writer that takes one byte a call, with each write failing in turn.
-fn tells_failed_writes(rt: &(impl Abort + AllocGlobal), run: Run, takes_none: bool) {
+fn tells_failed_writes(
+    rt: &(impl Abort + AllocGlobal + Threads + Sync),
+    run: Run,
+    takes_none: bool,
+) {
     let asked = run.asked;
     for number in 0..run.want.len() {
         let mut bytes = [0u8; 200];
         let fails_at = number as u64 + 1;
-        let (outcome, failed) = run_into(rt.alloc(), run, &mut bytes, 1, fails_at, takes_none);
+        let (outcome, failed) = run_into(rt, rt.alloc(), run, &mut bytes, 1, fails_at, takes_none);
         assert_eq!(rt;
             outcome,
             Err(RunFault::Write),
@@ -269,7 +284,7 @@ fn a_failed_write_leaves_the_front_of_the_text(rt: HostRuntime) -> Result<(), Fa
         tells_failed_writes(&rt, run, false);
         tells_failed_writes(&rt, run, true);
         let mut bytes = [0u8; 200];
-        let (outcome, failed) = run_into(rt.alloc(), run, &mut bytes, 7, 0, false);
+        let (outcome, failed) = run_into(&rt, rt.alloc(), run, &mut bytes, 7, 0, false);
         assert_eq!(rt; outcome, Ok(()));
         assert!(rt; !failed);
         assert!(rt; bytes.as_slice().starts_with(run.want));

@@ -21,7 +21,9 @@ fn job_of(alloc: Global, words: &[&str]) -> Result<Result<Job, bool>, AllocError
 fn each_command_with_its_options(rt: HostRuntime) -> Result<(), Fail> {
     for name in ["x", "example.com/log", "", "two words — and more"] {
         let job = job_of(rt.alloc(), &["tlog", "head", "--origin", name])?;
-        assert!(rt; matches!(&job, Ok(Job::Head { origin }) if origin.as_str() == name));
+        assert!(rt;
+            matches!(&job, Ok(Job::Head { origin, threads: None }) if origin.as_str() == name)
+        );
     }
     for (word, number) in [
         ("0", 0),
@@ -38,6 +40,23 @@ fn each_command_with_its_options(rt: HostRuntime) -> Result<(), Fail> {
     assert!(rt; matches!(&job, Ok(Job::Check)));
     let job = job_of(rt.alloc(), &["tlog", "audit"])?;
     assert!(rt; matches!(&job, Ok(Job::Audit)));
+    Ok(())
+}
+
+#[test]
+fn head_by_a_number_of_threads(rt: HostRuntime) -> Result<(), Fail> {
+    for (word, number) in [("1", 1), ("4", 4), ("65535", u16::MAX)] {
+        let words = ["tlog", "head", "--origin", "x", "--threads", word];
+        let job = job_of(rt.alloc(), &words)?;
+        assert!(rt;
+            matches!(&job, Ok(Job::Head { origin: _, threads: Some(threads) }) if *threads == number)
+        );
+    }
+    for word in ["0", "-1", "", "x", "1x", "65536"] {
+        let words = ["tlog", "head", "--origin", "x", "--threads", word];
+        let job = job_of(rt.alloc(), &words)?;
+        assert!(rt; matches!(&job, Err(true)), "for {word:?}");
+    }
     Ok(())
 }
 

@@ -14,7 +14,7 @@ use Rattle.tl_job.specs.Ending.{status_of, told_of, Told}
 
 -- a run of a job's command: i is its reader, o its writer
 abbrev pub RunsJob : Job → Passage → Passage → Result (Unit {0}) RunFault → Type 0
-RunsJob (Head origin) i o result = RunsHead (string_bytes origin) i o result
+RunsJob (Head origin threads) i o result = RunsHead (string_bytes origin) i o result
 RunsJob (Build origin secret get) i o result = RunsBuild (string_bytes origin) (string_bytes secret) (option_map string_bytes get) i o result
 RunsJob (Inclusion index) i o result = Runs (InclusionComes index) i o result
 RunsJob (Consistency old) i o result = Runs (ConsistencyComes old) i o result

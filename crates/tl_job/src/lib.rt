@@ -3,7 +3,7 @@
 //!
 //! ```
 //! // tlog inclusion --index 7, of an input of two lines
-//! let status = run_words(alloc, &words, &mut reader, &mut writer, &mut errors);
+//! let status = run_words(&rt, alloc, &words, &mut reader, &mut writer, &mut errors);
 //! assert_eq!(status, 1);
 //! ```
 #![tactic(auto)]

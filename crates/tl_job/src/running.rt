@@ -7,6 +7,7 @@ ghost use Rattle.tl_job.specs.Ending.{Told, status_of, told_of};
 
 use std::alloc::{Allocator, Global};
 use std::io::{Read, Write};
+use std::thread::{Threads, available_parallelism};
 use tl_build::run_build;
 use tl_command::{
     Job, RunFault, WordsFault, exit_of, fault_line, read_words, run_audit, run_check,
@@ -15,8 +16,20 @@ use tl_command::{
 use tl_device::{Counted, write_whole};
 use tl_hash::Sha256Tree;
 
+// How many threads hash at once: as many as are asked for, or else as the machine has.
+fn threads_of<H: Threads>(rt: &H, asked: Option<u16>) -> usize {
+    if let Some(count) = asked {
+        return usize::from(count);
+    }
+    match available_parallelism(rt) {
+        Ok(count) => count.get(),
+        Err(_) => 1,
+    }
+}
+
 /// Runs the command of a job with its options: each job its own command, which reads the reader and writes the writer.
-pub fn run_job<R: Read, W: Write>(
+pub fn run_job<H: Threads + Sync, R: Read, W: Write>(
+    rt: &H,
     alloc: Global,
     job: Job,
     reader: &mut Counted<R>,
@@ -25,7 +38,15 @@ pub fn run_job<R: Read, W: Write>(
     ensures { RunsJob job (passage R.remaining reader.old reader.new) (passage W.contents writer.old writer.new) result }
 {
     match job {
-        Job::Head { origin } => run_head(alloc, origin.as_str(), reader, writer),
+        Job::Head { origin, threads } => run_head(
+            rt,
+            alloc,
+            alloc,
+            threads_of(rt, threads),
+            origin.as_str(),
+            reader,
+            writer,
+        ),
         Job::Build {
             origin,
             secret,
@@ -49,7 +70,8 @@ pub fn run_job<R: Read, W: Write>(
 /// Runs the command that the words name, the program's own name first, and answers the exit status. Where they name
 /// none, the text on how to call the program is written to `errors`, the status is 2, and nothing is read or written
 /// else.
-pub fn run_words<R: Read, W: Write, E: Write>(
+pub fn run_words<H: Threads + Sync, R: Read, W: Write, E: Write>(
+    rt: &H,
     alloc: Global,
     words: &[String],
     reader: &mut Counted<R>,
@@ -60,7 +82,7 @@ pub fn run_words<R: Read, W: Write, E: Write>(
 {
     match read_words(alloc, words) {
         Ok(job) => {
-            let outcome = run_job(alloc, job, reader, writer);
+            let outcome = run_job(rt, alloc, job, reader, writer);
             end_run(alloc, outcome, errors)
         }
         Err(WordsFault::Usage(text)) => {

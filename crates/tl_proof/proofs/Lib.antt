@@ -1,5 +1,6 @@
 pub mod Equations
 pub mod Inclusion
+pub mod LaneSteps
 pub mod Consistency
 pub mod Folds
 pub mod Forks
@@ -12,5 +13,6 @@ pub mod Soundness
 pub mod Examples
 pub mod Checks
 pub mod Plans
+pub mod ManyPathLemmas
 pub mod SegmentReads
 pub mod ProveFaultLemmas

@@ -3,7 +3,7 @@ use Rattle.std.proofs.Common.{◌≡◌, ℕ, suc, get_or, ◌+◌, ◌-◌, ◌
 use Rattle.std.specs.Int.RustNames.{count_ones}
 use Rattle.std.proofs.Math.Seq.{take-append_seam, drop-append_seam}
 use Rattle.std.proofs.lemmas.Bool.{cases_lt}
-use Rattle.std.proofs.lemmas.List.{append-nil, length-append, drop_more, drop_all, drop-drop, take-append-le, drop-take, map-append, length-map}
+use Rattle.std.proofs.lemmas.List.{append-nil, length-append, drop_more, drop_all, drop-drop, take-append-le, drop-take, map-append, length-map, length_push}
 use Rattle.std.proofs.lemmas.List.Sums.{sum_by-cons}
 use Rattle.std.proofs.lemmas.List.Elements.{All-get_or, All-nil, All-cons, All-head, All-tail, All-append, All-take, All-drop, All-weaker}
 use Rattle.tl_hash.specs.Bytes.{Digest}
@@ -182,11 +182,13 @@ readable-all count entries segments stands within =
 -- the roots of the segments before place i were added, and `from` hashes used
 pub record RootsSoFar (H : Digest) (segments : List Segment) (hashes : List (List ℕ)) (i from : ℕ) (roots : List (List ℕ)) : Type 0 where
   pub count : from + subtree_count (drop i segments) ≡ length hashes
+  pub len : length roots ≡ i
   pub adds : (after : List (List ℕ)) → AddsHashes H (drop i segments) (drop from hashes) roots after → AddsHashes H segments hashes [] after
 
 pub roots-init : (H : Digest) (segments : List Segment) (hashes roots : List (List ℕ)) → length hashes ≡ subtree_count segments → roots ≡ [] → RootsSoFar H segments hashes 0 0 roots
 roots-init H segments hashes roots len is = record {
   count = omega (arith, len);
+  len = ap length is;
   adds = λ after adds. subst (λ (list : List (List ℕ)). AddsHashes H segments hashes list after) is adds;
 }
 
@@ -208,6 +210,7 @@ pub roots-more : (H : Digest) (segments : List Segment) (hashes : List (List ℕ
     → RootsSoFar H segments hashes i from roots → RootsSoFar H segments hashes (i + 1) (from + count) next
 roots-more H segments hashes i from count roots next d s root within is part count_is folds next_is so_far = record {
   count = omega (arith, count_at segments i d s within is, count_is, so_far.count);
+  len = ap length next_is ∙ length_push roots root ∙ ap (λ (x : ℕ). x + 1) so_far.len;
   adds = λ after adds.
       let width : from + count - from ≡ count = omega arith in
       let here : Folds H (take count (drop from hashes)) root = subst (λ (x : ℕ). Folds H (take x (drop from hashes)) root) width folds in

@@ -2,4 +2,8 @@
 pub
     mod Forks
 pub
+    mod Lanes
+pub
+    mod ManyPaths
+pub
     mod Segments

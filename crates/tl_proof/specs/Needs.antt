@@ -1,10 +1,15 @@
 -- How many of the first entries the hashes of a proof are over (RFC 6962, sections 2.1.1 and 2.1.2).
-use Rattle.std.specs.Prelude.{ℕ, ◌+◌, ◌==◌, ◌||◌, if◌then◌else◌}
+use Rattle.std.specs.Prelude.{ℕ, ◌+◌, ◌==◌, ◌||◌, max, List, [], ◌∷◌, if◌then◌else◌}
 
 -- the inclusion proof of the entry at this index is over all the others of the first `size`: so over no
 -- entry past that one, where it is the last
 abbrev pub inclusion_needs : ℕ → ℕ → ℕ
 inclusion_needs size index = if index + 1 == size then index else size
+
+-- the inclusion proofs of the entries at these indexes are over as many as the one that needs most
+abbrev pub records_need : ℕ → List ℕ → ℕ
+records_need size [] = 0
+records_need size (index ∷ indexes) = max (inclusion_needs size index) (records_need size indexes)
 
 -- the consistency proof for the first `old` entries ends with the last of the first `size`, where it has
 -- a hash: not from none, and not from all of them

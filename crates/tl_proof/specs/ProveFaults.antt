@@ -23,3 +23,11 @@ GivesProveFault in_range count may_fail needed BadRange = in_range → ⊥
 GivesProveFault in_range count may_fail needed (Read fault) =
     in_range × IsOfReading fault × GivesHeadFault count may_fail needed fault
 GivesProveFault in_range count may_fail needed OutOfMemory = in_range × (0 < needed)
+
+-- when a prover of the inclusion proofs of so many entries fails with this: as above, but that memory is asked for
+-- wherever there is an entry, since the list of an empty proof takes memory too
+abbrev pub GivesProofsFault : Type 0 → ℕ → ℕ → (ReadFault → Type 0) → ℕ → ProveFault → Type 0
+GivesProofsFault in_range proofs count may_fail needed BadRange = in_range → ⊥
+GivesProofsFault in_range proofs count may_fail needed (Read fault) =
+    in_range × IsOfReading fault × GivesHeadFault count may_fail needed fault
+GivesProofsFault in_range proofs count may_fail needed OutOfMemory = in_range × (0 < proofs)

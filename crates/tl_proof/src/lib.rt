@@ -4,6 +4,11 @@
 //! let proof = prove_tree(alloc, Sha256Tree, 2, 1, &store)?; // from one entry to two
 //! assert!(check_tree(Sha256Tree, &proof, 2, root, 1, old_root));
 //! assert!(!check_tree(Sha256Tree, &proof, 2, root, 1, root));
+//!
+//! let proofs = prove_records(alloc, Sha256Tree, 2, &[0, 1], &store)?; // of both entries, from one read
+//! let cat = Record { index: 0, leaf: cat_hash, proof: &proofs[0] };
+//! let dog = Record { index: 1, leaf: dog_hash, proof: &proofs[1] };
+//! assert!(check_records(Sha256Tree, 2, root, &[cat, dog])); // four proofs at a time
 //! ```
 #![tactic(auto)]
 
@@ -15,11 +20,13 @@ mod link;
 mod plan;
 mod prove;
 mod read;
+mod records;
 mod verdict;
 
 pub use audit::{audit_chain, audit_tree};
 pub use check::{check_record, check_tree};
 pub use fault::ProveFault;
 pub use link::{HashList, Link};
-pub use prove::{prove_record, prove_tree};
+pub use prove::{prove_record, prove_records, prove_tree};
+pub use records::{Record, check_records};
 pub use verdict::{AuditFault, Verdict};

@@ -1,7 +1,9 @@
 //! Which parts of the entries the hashes of a proof are over.
 
-ghost use Rattle.std.specs.Prelude.{◌<◌, ◌≤◌, ◌-◌, ◌^◌, Bool, true, IfOk, OnOk, OnErr};
+ghost use Rattle.std.specs.Prelude.{◌<◌, ◌≤◌, ◌-◌, ◌^◌, Bool, true, All, IfOk, OnOk, OnErr};
+ghost use Rattle.tl_proof.specs.ProveFaults.{IsIndex};
 ghost use Rattle.tl_proof.specs.Inner.Segments.{GrowsBy, IsPathPlan, IsProofPlan};
+ghost use Rattle.tl_proof.specs.Inner.ManyPaths.{IsPathsPlan};
 
 use std::alloc::{AllocError, Allocator};
 use tl_hash::split_point;
@@ -54,6 +56,32 @@ pub(crate) fn path_segments<A: Allocator>(
     let mut segments = Vec::new(alloc);
     push_path(&mut segments, index, 0, size)?;
     Ok(segments)
+}
+
+/// The segments of several proofs, one proof after another, and how many there are of each.
+#[derive(Drop)]
+pub(crate) struct PathsPlan<A: Allocator> {
+    pub(crate) segments: Vec<Segment, A>,
+    pub(crate) counts: Vec<usize, A>,
+}
+
+/// The segments of the inclusion proofs of the entries at these indexes among the first `size`.
+pub(crate) fn paths_segments<A: Allocator + Copy>(
+    alloc: A,
+    size: u64,
+    indexes: &[u64],
+) -> Result<PathsPlan<A>, AllocError>
+    requires { All (IsIndex size) indexes.now }
+    ensures { IfOk result (λ plan. IsPathsPlan size indexes.now plan.segments.items plan.counts.items) }
+{
+    let mut segments = Vec::new(alloc);
+    let mut counts = Vec::new(alloc);
+    for index in indexes {
+        let before = segments.len();
+        push_path(&mut segments, *index, 0, size)?;
+        counts.push(segments.len() - before)?;
+    }
+    Ok(PathsPlan { segments, counts })
 }
 
 // Adds the segments of the consistency proof for the entries before `old` in the tree over the entries from `start` up

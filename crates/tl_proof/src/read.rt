@@ -63,6 +63,7 @@ fn group_hashes<T: TreeHash, A: Allocator>(
         → All (λ s. s.end ≤ length entries) segments.now
         → hashes.now ≡ map (stored_hash T.digest_of entries) indexes
         → IfOk result (λ roots. roots.items ≡ map (segment_root T.digest_of (entries ++ more)) segments.now) }
+    ensures count { IfOk result (λ roots. length roots.items ≡ length segments.now) }
     ensures some { OnErr result (0 < length segments.now) }
 {
     let mut roots = Vec::new(alloc);
@@ -88,6 +89,7 @@ pub(crate) fn read_segments<T: TreeHash, R: HashReader, A: Allocator + Copy>(
     ensures hashes { (entries more : List Bytes)
         → R.stands_for reader.now T.digest_of entries
         → IfOk result (λ proof. proof.items ≡ map (segment_root T.digest_of (entries ++ more)) segments.now) }
+    ensures count { IfOk result (λ proof. length proof.items ≡ length segments.now) }
     ensures in_range { (needed : ℕ) → IsNeeded 0 needed segments.now
         → OnOk result (needed ≤ readable_size (R.size reader.now)) }
     ensures faults { (needed : ℕ) → IsNeeded 0 needed segments.now

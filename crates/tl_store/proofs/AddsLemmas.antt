@@ -1,10 +1,12 @@
 -- Entries added one after another.
 use Rattle.std.proofs.Common.{◌≡◌, ℕ, ◌+◌, ◌<◌, ◌≤◌, List, [], ◌∷◌, ◌++◌, length, take, drop, map, get_or, refl, sym, ap, subst, ◌∙◌, append_assoc, arith}
-use Rattle.std.proofs.lemmas.List.{length-append, append-nil, length-map, length-take-le, map_more}
+use Rattle.std.proofs.lemmas.List.{length-append, append-nil, length-map, length-take-le, map-append, map_more, take-append-drop}
 use Rattle.tl_hash.specs.Bytes.{Bytes, Digest}
 use Rattle.tl_hash.specs.Tree.{leaf_input}
 use Rattle.tl_store.specs.Stored.{stored_count, stored_hashes}
-use Rattle.tl_store.specs.Inner.Adds.{AddsEntries}
+use Rattle.tl_store.specs.Inner.Subtrees.{subtree_hash}
+use Rattle.tl_store.specs.Inner.Adds.{AddsEntries, IsBegun}
+use Rattle.tl_store.proofs.Completed.{first_subtree}
 use Rattle.tl_store.proofs.Readable.{stored_count-mono}
 
 -- no entry
@@ -28,30 +30,30 @@ adds-then H size middle first next before between now one middle_is two =
     }
 
 -- one, by the hash of its leaf
-pub adds-one : (H : Digest) (size after : ℕ) (entry leaf : Bytes) (before now : List Bytes)
-    → after ≡ size + 1 → leaf ≡ H (leaf_input entry) → length now ≡ stored_count after
-    → ((entries : List Bytes) (entry : Bytes) → length entries + 1 ≡ after → before ≡ stored_hashes H entries
-    → leaf ≡ H (leaf_input entry) → now ≡ stored_hashes H (entries ++ entry ∷ []))
+pub adds-leaf : (H : Digest) (size : ℕ) (entry leaf : Bytes) (before pushed now : List Bytes)
+    → leaf ≡ H (leaf_input entry) → pushed ≡ before ++ leaf ∷ [] → length now ≡ stored_count (size + 1)
+    → ((entries : List Bytes) (entry : Bytes) → length entries + 1 ≡ size + 1 → IsBegun H (size + 1) entries entry 0 pushed leaf → now ≡ stored_hashes H (entries ++ entry ∷ []))
     → AddsEntries H size (entry ∷ []) before now
-adds-one H size after entry leaf before now after_is leaf_is counted added = record {
-  counted = λ _. counted ∙ ap stored_count after_is;
-  hashes = λ entries len stored. added entries entry (omega (arith, len, after_is)) stored leaf_is;
+adds-leaf H size entry leaf before pushed now leaf_is pushed_is counted added = record {
+  counted = λ _. counted;
+  hashes = λ entries len stored.
+      let first : leaf ≡ subtree_hash H (entries ++ entry ∷ []) (size + 1) 0 = leaf_is ∙ sym (first_subtree H entries entry (size + 1) (omega (arith, len))) in
+      added entries entry (omega (arith, len)) (first, pushed_is ∙ (λ i. stored i ++ first i ∷ []));
 }
-
--- four, one after another
-pub adds-four : (H : Digest) (size : ℕ) (a b c d : Bytes) (before one two three now : List Bytes)
-    → AddsEntries H size (a ∷ []) before one → AddsEntries H (size + 1) (b ∷ []) one two
-    → AddsEntries H (size + 2) (c ∷ []) two three → AddsEntries H (size + 3) (d ∷ []) three now
-    → AddsEntries H size (a ∷ b ∷ c ∷ d ∷ []) before now
-adds-four H size a b c d before one two three now first second third fourth =
-    adds-then H size (size + 1) (a ∷ []) (b ∷ c ∷ d ∷ []) before one now first (omega arith)
-    (adds-then H (size + 1) (size + 2) (b ∷ []) (c ∷ d ∷ []) one two now second (omega arith)
-    (adds-then H (size + 2) (size + 3) (c ∷ []) (d ∷ []) two three now third (omega arith) fourth))
-
--- ---- the next of a list
 
 taken : {X : Type 0} (f : X → Bytes) (xs : List X) (i : ℕ) → i ≤ length xs → length (map f (take i xs)) ≡ i
 taken f xs i low = length-map (take i xs) f ∙ length-take-le i xs low
+
+-- the first of some, and then the rest
+pub adds-parts : {X : Type 0} (f : X → Bytes) (H : Digest) (size middle k : ℕ) (xs : List X) (before between now : List Bytes)
+    → k ≤ length xs → middle ≡ size + k → AddsEntries H size (map f (take k xs)) before between → AddsEntries H middle (map f (drop k xs)) between now
+    → AddsEntries H size (map f xs) before now
+adds-parts f H size middle k xs before between now low middle_is first rest =
+    let whole : map f (take k xs) ++ map f (drop k xs) ≡ map f xs = sym (map-append f (take k xs) (drop k xs)) ∙ ap (map f) (take-append-drop k xs) in
+    subst (λ (list : List Bytes). AddsEntries H size list before now) whole
+    (adds-then H size middle (map f (take k xs)) (map f (drop k xs)) before between now first (omega (arith, middle_is, taken f xs k low)) rest)
+
+-- ---- the next of a list
 
 one_more : {X : Type 0} (f : X → Bytes) (xs : List X) (i after : ℕ) (x : X) → after ≡ i + 1 → i < length xs → x ≡ get_or xs i x
     → map f (take after xs) ≡ map f (take i xs) ++ f x ∷ []
@@ -87,32 +89,18 @@ pub first-counted : {X : Type 0} (f : X → Bytes) (H : Digest) (size count : �
 first-counted f H size count xs left before now first count_is counted =
     first.added.counted counted ∙ ap stored_count (sym (done_count f size count xs left first.done first.parts count_is))
 
-four_items : {X : Type 0} (xs rest : List X) (a b c d : X) → 4 ≤ length xs
-    → a ≡ get_or xs 0 a → b ≡ get_or xs 1 b → c ≡ get_or xs 2 c → d ≡ get_or xs 3 d → rest ≡ drop 4 xs
-    → xs ≡ a ∷ b ∷ c ∷ d ∷ rest
-four_items [] rest a b c d low a_is b_is c_is d_is rest_is = absurd (omega (arith, low))
-four_items (x ∷ []) rest a b c d low a_is b_is c_is d_is rest_is = absurd (omega (arith, low))
-four_items (x ∷ y ∷ []) rest a b c d low a_is b_is c_is d_is rest_is = absurd (omega (arith, low))
-four_items (x ∷ y ∷ z ∷ []) rest a b c d low a_is b_is c_is d_is rest_is = absurd (omega (arith, low))
-four_items (x ∷ y ∷ z ∷ w ∷ xs) rest a b c d low a_is b_is c_is d_is rest_is =
-    λ i. sym a_is i ∷ sym b_is i ∷ sym c_is i ∷ sym d_is i ∷ sym rest_is i
-
--- four more of them
-pub first-four : {X : Type 0} (f : X → Bytes) (H : Digest) (size count : ℕ) (xs left rest : List X) (a b c d : X) (before between now : List Bytes)
-    → AddsFirst f H size xs left before between → count + length left ≡ size + length xs → 4 ≤ length left
-    → a ≡ get_or left 0 a → b ≡ get_or left 1 b → c ≡ get_or left 2 c → d ≡ get_or left 3 d → rest ≡ drop 4 left
-    → AddsEntries H count (f a ∷ f b ∷ f c ∷ f d ∷ []) between now
-    → AddsFirst f H size xs rest before now
-first-four f H size count xs left rest a b c d before between now first count_is low a_is b_is c_is d_is rest_is next =
-    let four : List Bytes = f a ∷ f b ∷ f c ∷ f d ∷ [] in
-    record {
-      done = first.done ++ four;
-      parts =
-          append_assoc first.done four (map f rest)
-          ∙ ap (λ list. first.done ++ map f list) (sym (four_items left rest a b c d low a_is b_is c_is d_is rest_is))
-          ∙ first.parts;
-      added = adds-then H size count first.done four before between now first.added (done_count f size count xs left first.done first.parts count_is) next;
-    }
+-- some more of them
+pub first-more : {X : Type 0} (f : X → Bytes) (H : Digest) (size count k : ℕ) (xs left : List X) (before between now : List Bytes)
+    → AddsFirst f H size xs left before between → count + length left ≡ size + length xs → AddsEntries H count (map f (take k left)) between now
+    → AddsFirst f H size xs (drop k left) before now
+first-more f H size count k xs left before between now first count_is next = record {
+  done = first.done ++ map f (take k left);
+  parts =
+      append_assoc first.done (map f (take k left)) (map f (drop k left))
+      ∙ ap (λ (list : List Bytes). first.done ++ list) (sym (map-append f (take k left) (drop k left)) ∙ ap (map f) (take-append-drop k left))
+      ∙ first.parts;
+  added = adds-then H size count first.done (map f (take k left)) before between now first.added (done_count f size count xs left first.done first.parts count_is) next;
+}
 
 -- and then what is left
 pub first-all : {X : Type 0} (f : X → Bytes) (H : Digest) (size count : ℕ) (xs left : List X) (before between now : List Bytes)

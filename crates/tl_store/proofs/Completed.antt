@@ -16,7 +16,8 @@ use Rattle.tl_hash.proofs.SplitLemmas.{below_pow}
 use Rattle.tl_hash.proofs.TreeLemmas.{tree_hash-one, tree_hash-split}
 use Rattle.tl_store.specs.Stored.{stored_count, stored_index, levels_ending, stored_hashes, stored_hash}
 use Rattle.tl_store.specs.Inner.Subtrees.{subtree_hash}
-use Rattle.tl_store.proofs.StoredLemmas.{count_step, divides_lower, index_is_place, entry_appends_its_subtrees, range-more}
+use Rattle.tl_store.specs.Inner.Adds.{IsBegun}
+use Rattle.tl_store.proofs.StoredLemmas.{count_step, count_is_length, divides_lower, index_is_place, entry_appends_its_subtrees, range-more}
 use Rattle.tl_store.proofs.Readable.{index-in_count}
 use Rattle.tl_store.proofs.Splits.{kept_below}
 
@@ -179,68 +180,64 @@ last_level size level some small low high =
 
 -- ---- the hashes that an entry adds, one after another
 
--- from the hashes before, those of the subtrees up to `level` were added, and `hash` is the last of them
-pub record ArePushed (H : Digest) (size : ℕ) (leaf_hash : List ℕ) (level : ℕ) (hash : List ℕ) (before now : List (List ℕ)) : Type 0 where
-  pub count : length now ≡ length before + (level + 1)
-  pub hashes : (entries : List (List ℕ)) (entry : List ℕ) → length entries + 1 ≡ size → before ≡ stored_hashes H entries → leaf_hash ≡ H (leaf_input entry)
-      → (hash ≡ subtree_hash H (entries ++ entry ∷ []) size level)
-      × (now ≡ before ++ map (subtree_hash H (entries ++ entry ∷ []) size) (range_with_len 0 (level + 1)))
+-- one level more
+levels_more : (f : ℕ → List ℕ) (level : ℕ) → map f (range_with_len 0 (level + 1 + 1)) ≡ map f (range_with_len 0 (level + 1)) ++ f (level + 1) ∷ []
+levels_more f level =
+    let one : level + 1 + 1 ≡ suc (level + 1) = omega arith in
+    let start : 0 + (level + 1) ≡ level + 1 = omega arith in
+    ap (λ (x : ℕ). map f (range_with_len 0 x)) one
+    ∙ ap (map f) (range-more 0 (level + 1) ∙ ap (λ (x : ℕ). range_with_len 0 (level + 1) ++ x ∷ []) start)
+    ∙ map-append f (range_with_len 0 (level + 1)) ((level + 1) ∷ [])
 
-pub pushed-first : (H : Digest) (size : ℕ) (leaf_hash : List ℕ) (before now : List (List ℕ)) → now ≡ before ++ leaf_hash ∷ [] → ArePushed H size leaf_hash 0 leaf_hash before now
-pushed-first H size leaf_hash before now is = record {
-  count = ap length is ∙ length-append before (leaf_hash ∷ []);
-  hashes = λ entries entry len stored leaf_is.
-      let first : leaf_hash ≡ subtree_hash H (entries ++ entry ∷ []) size 0 = leaf_is ∙ sym (first_subtree H entries entry size len) in
-      (first, is ∙ (λ i. before ++ first i ∷ []));
-}
+-- hashes were added one after another: from those of the subtrees up to the level `low`, of which `first` is the last, on
+-- to those up to `level`, of which `hash` is the last
+pub record ArePushed (H : Digest) (size low : ℕ) (first : List ℕ) (level : ℕ) (hash : List ℕ) (start now : List (List ℕ)) : Type 0 where
+  pub count : length now + low ≡ length start + level
+  pub hashes : (entries : List (List ℕ)) (entry : List ℕ) → length entries + 1 ≡ size → IsBegun H size entries entry low start first → IsBegun H size entries entry level now hash
 
-pub pushed-next : (H : Digest) (size : ℕ) (leaf_hash : List ℕ) (level : ℕ) (hash : List ℕ) (before now : List (List ℕ)) (power number : ℕ) (left next : List ℕ) (after : List (List ℕ))
-    → 0 < size → size < 2 ^ 32 → level < trailing_zeros w64 size → power ≡ 2 ^ level → length before ≡ stored_count (size - 1) → number ≡ stored_index level (size / power - 2) → ArePushed H size leaf_hash level hash before now
+pub pushed-none : (H : Digest) (size low : ℕ) (first : List ℕ) (start : List (List ℕ)) → ArePushed H size low first low first start start
+pushed-none H size low first start = record { count = refl; hashes = λ entries entry len begun. begun }
+
+pub pushed-next : (H : Digest) (size low : ℕ) (first : List ℕ) (level : ℕ) (hash : List ℕ) (start now : List (List ℕ)) (power number : ℕ) (left next : List ℕ) (after : List (List ℕ))
+    → 0 < size → size < 2 ^ 32 → level < trailing_zeros w64 size → power ≡ 2 ^ level → number ≡ stored_index level (size / power - 2) → ArePushed H size low first level hash start now
     → left ≡ get_or now number [] → next ≡ H (node_input left hash) → after ≡ now ++ next ∷ []
-    → ArePushed H size leaf_hash (level + 1) next before after
-pushed-next H size leaf_hash level hash before now power number left next after some small low power_is counted left_number pushed left_is next_is after_is =
-    let part : HasLeftPart size level = left_part_at size level some small low in
+    → ArePushed H size low first (level + 1) next start after
+pushed-next H size low first level hash start now power number left next after some small below_all power_is left_number pushed left_is next_is after_is =
+    let part : HasLeftPart size level = left_part_at size level some small below_all in
     let number_is : number ≡ stored_index level (size / 2 ^ level - 2) = left_at size level power number power_is left_number in
     record {
-      count = ap length after_is ∙ length-append now (next ∷ []) ∙ omega (arith, pushed.count);
-      hashes = λ entries entry len stored leaf_is.
+      count = omega (arith, ap length after_is, length-append now (next ∷ []), pushed.count);
+      hashes = λ entries entry len begun.
           let all : List (List ℕ) = entries ++ entry ∷ [] in
-          let so_far = pushed.hashes entries entry len stored leaf_is in
+          let before : List (List ℕ) = stored_hashes H entries in
+          let so_far = pushed.hashes entries entry len begun in
+          let counted : length before ≡ stored_count (size - 1) = (let fewer : length entries ≡ size - 1 = omega (arith, len) in count_is_length H entries ∙ ap stored_count fewer) in
           let below : number < length before = omega (arith, number_is, counted, index-in_count (size - 1) level (size / 2 ^ level - 2) (omega (arith, part.end, pow_pos level))) in
           let there : left ≡ stored_hash H entries (stored_index level (size / 2 ^ level - 2)) =
           left_is
           ∙ ap (λ (list : List (List ℕ)). get_or list number []) so_far.1
           ∙ get_or_append_left before (map (subtree_hash H all size) (range_with_len 0 (level + 1))) [] number below
-          ∙ (λ i. get_or (stored i) (number_is i) []) in
+          ∙ ap (λ (x : ℕ). get_or before x []) number_is in
           let is : next ≡ subtree_hash H all size (level + 1) = next_is ∙ (λ i. H (node_input (there i) (so_far.0 i))) ∙ next_subtree H entries entry size level len part in
-          let more : range_with_len 0 (level + 1 + 1) ≡ range_with_len 0 (level + 1) ++ (level + 1) ∷ [] =
-          (let one : level + 1 + 1 ≡ suc (level + 1) = omega arith in let start : 0 + (level + 1) ≡ level + 1 = omega arith in
-          ap (range_with_len 0) one ∙ range-more 0 (level + 1) ∙ ap (λ (x : ℕ). range_with_len 0 (level + 1) ++ x ∷ []) start) in (
-            is,
-            after_is
-                ∙ (λ i. so_far.1 i ++ is i ∷ [])
-                ∙ append_assoc before (map (subtree_hash H all size) (range_with_len 0 (level + 1))) (subtree_hash H all size (level + 1) ∷ [])
-                ∙ ap (λ (list : List (List ℕ)). before ++ list) (sym (map-append (subtree_hash H all size) (range_with_len 0 (level + 1)) ((level + 1) ∷ [])))
-                ∙ ap (λ (list : List ℕ). before ++ map (subtree_hash H all size) list) (sym more),
-          );
+          (is, after_is ∙ (λ i. so_far.1 i ++ is i ∷ []) ∙ append_assoc before _ _ ∙ ap (λ (list : List (List ℕ)). before ++ list) (sym (levels_more (subtree_hash H all size) level)));
     }
 
 -- the number of the left part is below the count of what was there
-pub left_there : (size level power number : ℕ) (before now : List (List ℕ)) (more : ℕ) → 0 < size → size < 2 ^ 32 → level < trailing_zeros w64 size → power ≡ 2 ^ level
-    → length before ≡ stored_count (size - 1) → number ≡ stored_index level (size / power - 2) → length now ≡ length before + more → number < length now
-left_there size level power number before now more some small low power_is counted left_number count =
+pub left_there : (size level power number count more : ℕ) → 0 < size → size < 2 ^ 32 → level < trailing_zeros w64 size → power ≡ 2 ^ level
+    → number ≡ stored_index level (size / power - 2) → count ≡ stored_count (size - 1) + more → number < count
+left_there size level power number count more some small low power_is left_number counted =
     let part : HasLeftPart size level = left_part_at size level some small low in
     let number_is : number ≡ stored_index level (size / 2 ^ level - 2) = left_at size level power number power_is left_number in
-    omega (arith, number_is, counted, count, index-in_count (size - 1) level (size / 2 ^ level - 2) (omega (arith, part.end, pow_pos level)))
+    omega (arith, number_is, counted, index-in_count (size - 1) level (size / 2 ^ level - 2) (omega (arith, part.end, pow_pos level)))
 
-pub pushed-all : (H : Digest) (size : ℕ) (leaf_hash : List ℕ) (level : ℕ) (hash : List ℕ) (before now : List (List ℕ)) → 0 < size → IsHighest level size → ArePushed H size leaf_hash level hash before now
-    → (entries : List (List ℕ)) (entry : List ℕ) → length entries + 1 ≡ size → before ≡ stored_hashes H entries → leaf_hash ≡ H (leaf_input entry)
+pub pushed-all : (H : Digest) (size low : ℕ) (first : List ℕ) (level : ℕ) (hash : List ℕ) (start now : List (List ℕ)) → 0 < size → IsHighest level size → ArePushed H size low first level hash start now
+    → (entries : List (List ℕ)) (entry : List ℕ) → length entries + 1 ≡ size → IsBegun H size entries entry low start first
     → now ≡ stored_hashes H (entries ++ entry ∷ [])
-pushed-all H size leaf_hash level hash before now some is pushed entries entry len stored leaf_is =
+pushed-all H size low first level hash start now some is pushed entries entry len begun =
     let all : List (List ℕ) = entries ++ entry ∷ [] in
     let next : size ≡ suc (length entries) = omega (arith, len) in
-    (pushed.hashes entries entry len stored leaf_is).1
-    ∙ (λ i. stored i ++ map (subtree_hash H all size) (sym (ending_is size level some is) i))
+    (pushed.hashes entries entry len begun).1
+    ∙ ap (λ list. stored_hashes H entries ++ map (subtree_hash H all size) list) (sym (ending_is size level some is))
     ∙ ap (λ (x : ℕ). stored_hashes H entries ++ map (subtree_hash H all x) (levels_ending x)) next
     ∙ sym (entry_appends_its_subtrees H entries entry)
 
@@ -249,9 +246,22 @@ counted-all size level count some is counted =
     let next : size ≡ suc (size - 1) = omega (arith, some) in
     omega (arith, counted, count_step (size - 1), ap stored_count next, ap (λ (x : ℕ). length (levels_ending x)) next, ap length (ending_is size level some is), length-range_with_len 0 (level + 1))
 
+-- a level whose width divides the number is one of those that end there
+pub low_enough : (size low : ℕ) → 0 < size → size < 2 ^ 32 → size % 2 ^ low ≡ 0 → low ≤ trailing_zeros w64 size
+low_enough size low some small whole =
+    let k : ℕ = trailing_zeros w64 size in
+    elim (cases_lt k low) as (λ _. low ≤ k) [
+      | inl above ↦ absurd ((highest-is size some small).1.highest (divides_lower size low (k + 1) (omega (arith, above)) whole))
+      | inr within ↦ within
+    ]
+
 -- the count after an entry's subtrees fits the room
-pub room_enough : (size count room : ℕ) → 0 < size → size < 2 ^ 32 → count ≡ stored_count (size - 1) → stored_count size ≤ room
-    → count + (trailing_zeros w64 size + 1) ≤ room
-room_enough size count room some small counted fits =
-    let all = counted-all size (trailing_zeros w64 size) (count + (trailing_zeros w64 size + 1)) some (highest-is size some small).1 (omega (arith, counted)) in
-    omega (arith, fits, all)
+pub room_enough : (size room : ℕ) → 0 < size → size < 2 ^ 32 → stored_count size ≤ room → stored_count (size - 1) + (trailing_zeros w64 size + 1) ≤ room
+room_enough size room some small fits =
+    omega (arith, fits, counted-all size (trailing_zeros w64 size) (stored_count (size - 1) + (trailing_zeros w64 size + 1)) some (highest-is size some small).1 refl)
+
+-- there is room for one more
+pub one_room : (size room : ℕ) → size + 1 < 2 ^ 32 → stored_count (size + 1) ≤ room → stored_count size < room
+one_room size room small fits =
+    let before : stored_count (size + 1 - 1) ≡ stored_count size = (let e : size + 1 - 1 ≡ size = omega arith in ap stored_count e) in
+    omega (arith, room_enough (size + 1) room (omega arith) small fits, before)

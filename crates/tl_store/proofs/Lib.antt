@@ -6,3 +6,4 @@ pub mod StoreLemmas
 pub mod Completed
 pub mod AddsLemmas
 pub mod Covering
+pub mod QuadLemmas

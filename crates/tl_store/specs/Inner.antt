@@ -3,3 +3,5 @@ pub
     mod Subtrees
 pub
     mod Adds
+pub
+    mod Quads

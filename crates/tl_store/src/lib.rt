@@ -13,6 +13,7 @@
 mod head;
 mod index;
 mod pushes;
+mod quads;
 mod reader;
 mod segment;
 mod store;

@@ -1,12 +1,12 @@
 //! Adding entries to the stored hashes in a `Vec`.
 
-ghost use Rattle.std.specs.Prelude.{◌≡◌, ◌≤◌, ◌<◌, ◌+◌, ◌-◌, ◌^◌, [], ◌∷◌, ◌++◌, List, length, map, vec_items, vec_capacity, OnOk, OnErr};
+ghost use Rattle.std.specs.Prelude.{◌≡◌, ◌≤◌, ◌<◌, ◌+◌, ◌-◌, ◌%◌, ◌^◌, [], ◌∷◌, ◌++◌, List, length, map, vec_items, vec_capacity, OnOk, OnErr};
 ghost use Rattle.tl_hash.specs.Bytes.{Bytes};
-ghost use Rattle.tl_hash.specs.Tree.{leaf_input};
 ghost use Rattle.tl_store.specs.Stored.{stored_count, stored_hashes};
-ghost use Rattle.tl_store.specs.Inner.Adds.{AddsEntries};
+ghost use Rattle.tl_store.specs.Inner.Adds.{AddsEntries, IsBegun};
 
 use crate::index::stored_index;
+use crate::quads::push_sixteen;
 use std::alloc::{AllocError, Allocator};
 use tl_hash::{Hash, TreeHash, leaf_hash, node_hash};
 
@@ -23,24 +23,30 @@ pub(crate) fn reserve_up_to<A: Allocator>(
     hashes.reserve(count.saturating_sub(hashes.len()))
 }
 
-// Adds the hashes of the complete subtrees that end with the last of `size` entries, from its leaf's up.
-fn push_subtrees<T: TreeHash, A: Allocator>(h: T, hashes: &mut Vec<Hash, A>, size: u64, leaf: Hash)
+/// Adds the hashes of the complete subtrees that end with the last of `size` entries and are above a level. Those up to
+/// this level are there, and `first` is the last of them.
+pub(crate) fn push_higher<T: TreeHash, A: Allocator>(
+    h: T,
+    hashes: &mut Vec<Hash, A>,
+    size: u64,
+    low: u32,
+    first: Hash,
+)
     requires some { 0 < size }
     requires small { size < 2 ^ 32 }
-    requires counted { length hashes.old.items ≡ stored_count (size - 1) }
+    requires whole { size % 2 ^ low ≡ 0 }
+    requires counted { length hashes.old.items ≡ stored_count (size - 1) + (low + 1) }
     requires room { stored_count size ≤ vec_capacity hashes.old }
     ensures counted { length hashes.new.items ≡ stored_count size }
     ensures added { (entries : List Bytes) (entry : Bytes)
         → length entries + 1 ≡ size
-        → hashes.old.items ≡ stored_hashes T.digest_of entries
-        → leaf ≡ T.digest_of (leaf_input entry)
+        → IsBegun T.digest_of size entries entry low hashes.old.items first
         → hashes.new.items ≡ stored_hashes T.digest_of (entries ++ entry ∷ []) }
     ensures capacity { vec_capacity hashes.new ≡ vec_capacity hashes.old }
 {
     let levels = size.trailing_zeros();
-    let mut hash = leaf;
-    hashes.push_reserved(hash);
-    for level in 0..levels {
+    let mut hash = first;
+    for level in low..levels {
         let left = stored_index(level, size / 2u64.pow(level) - 2);
         hash = node_hash(h, hashes[left as usize], hash);
         hashes.push_reserved(hash);
@@ -60,31 +66,9 @@ pub(crate) fn push_entry<T: TreeHash, A: Allocator>(
     ensures added { AddsEntries T.digest_of size (entry.now ∷ []) hashes.old.items hashes.new.items }
     ensures capacity { vec_capacity hashes.new ≡ vec_capacity hashes.old }
 {
-    push_subtrees(h, hashes, size + 1, leaf_hash(h, entry));
-}
-
-// Adds four entries after `size` of them, whose leaves are hashed side by side.
-fn push_four<T: TreeHash, A: Allocator>(
-    h: T,
-    hashes: &mut Vec<Hash, A>,
-    size: u64,
-    first: &[u8],
-    second: &[u8],
-    third: &[u8],
-    fourth: &[u8],
-)
-    requires small { size + 4 < 2 ^ 32 }
-    requires counted { length hashes.old.items ≡ stored_count size }
-    requires room { stored_count (size + 4) ≤ vec_capacity hashes.old }
-    ensures added { AddsEntries T.digest_of size (first.now ∷ second.now ∷ third.now ∷ fourth.now ∷ [])
-        hashes.old.items hashes.new.items }
-    ensures capacity { vec_capacity hashes.new ≡ vec_capacity hashes.old }
-{
-    let leaves = h.digest_four(0, first, second, third, fourth);
-    push_subtrees(h, hashes, size + 1, leaves[0]);
-    push_subtrees(h, hashes, size + 2, leaves[1]);
-    push_subtrees(h, hashes, size + 3, leaves[2]);
-    push_subtrees(h, hashes, size + 4, leaves[3]);
+    let leaf = leaf_hash(h, entry);
+    hashes.push_reserved(leaf);
+    push_higher(h, hashes, size + 1, 0, leaf);
 }
 
 // Adds entries after `size` of them, one by one.
@@ -105,8 +89,8 @@ fn push_singly<T: TreeHash, A: Allocator, B: Allocator>(
     }
 }
 
-// Adds entries after `size` of them, hashed four at a time, and the rest one by one.
-pub(crate) fn push_entries<T: TreeHash, A: Allocator, B: Allocator>(
+// Adds entries after `size` of them, sixteen at a time where 4 divides `size`, and the rest one by one.
+fn push_sixteens<T: TreeHash, A: Allocator, B: Allocator>(
     h: T,
     hashes: &mut Vec<Hash, A>,
     size: u64,
@@ -120,10 +104,30 @@ pub(crate) fn push_entries<T: TreeHash, A: Allocator, B: Allocator>(
 {
     let mut count = size;
     let mut left = entries;
-    while let [first, second, third, fourth, rest @ ..] = left {
-        push_four(h, hashes, count, first, second, third, fourth);
-        count += 4;
+    while count % 4 == 0 && left.len() >= 16 {
+        let (sixteen, rest) = left.split_at(16);
+        push_sixteen(h, hashes, count, sixteen);
+        count += 16;
         left = rest;
     }
     push_singly(h, hashes, count, left);
+}
+
+/// Adds entries after `size` of them: one by one up to a multiple of four, and then sixteen at a time.
+pub(crate) fn push_entries<T: TreeHash, A: Allocator, B: Allocator>(
+    h: T,
+    hashes: &mut Vec<Hash, A>,
+    size: u64,
+    entries: &[Vec<u8, B>],
+)
+    requires small { size + length entries.now < 2 ^ 32 }
+    requires counted { length hashes.old.items ≡ stored_count size }
+    requires room { stored_count (size + length entries.now) ≤ vec_capacity hashes.old }
+    ensures added { AddsEntries T.digest_of size (map vec_items entries.now) hashes.old.items hashes.new.items }
+    ensures capacity { vec_capacity hashes.new ≡ vec_capacity hashes.old }
+{
+    let before = entries.len().min((4 - size % 4) as usize % 4);
+    let (first, rest) = entries.split_at(before);
+    push_singly(h, hashes, size, first);
+    push_sixteens(h, hashes, size + before as u64, rest);
 }

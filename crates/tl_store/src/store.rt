@@ -64,8 +64,9 @@ impl<T: TreeHash, A: Allocator> HashStore<T, A> {
         Ok(index)
     }
 
-    /// Adds entries at the end, as so many calls of `append` do, and hashes them four at a time. The store takes up to
-    /// 2^32 - 1 entries in all. It fails only where it has no room for the hashes that come, and then stays as it was.
+    /// Adds entries at the end, as so many calls of `append` do. Of each sixteen it hashes the leaves and the nodes of
+    /// the two lowest levels four at a time. The store takes up to 2^32 - 1 entries in all. It fails only where it has
+    /// no room for the hashes that come, and then stays as it was.
     pub fn append_all<B: Allocator>(&mut self, entries: &[Vec<u8, B>]) -> Result<(), AllocError>
         requires { self.old.size + length entries.now < 2 ^ 32 }
         ensures entries { (before : List Bytes)

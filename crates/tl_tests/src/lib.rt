@@ -14,6 +14,8 @@ mod proofs;
 #[cfg(test)]
 mod readers;
 #[cfg(test)]
+mod records;
+#[cfg(test)]
 mod sequencer;
 #[cfg(test)]
 mod store;

@@ -58,6 +58,16 @@ since-then H entries a b =
     ∙ ap (λ n. flat_map (filled_at H all) (range_with_len start n)) count
     ∙ ap (shown_since H (length entries)) (append_assoc entries a b)
 
+-- the edge with more entries
+pub edge-more : (H : Digest) (entries added : List Bytes) (old new : EdgeContents)
+    → new.size ≡ old.size + length added
+    → old.size + length added < 2 ^ 32
+    → new.kept ≡ hashes_below H (entries ++ added) 8
+    → IsEdgeOf old H entries → IsEdgeOf new H (entries ++ added)
+edge-more H entries added old new size small kept is =
+    let more : length (entries ++ added) ≡ new.size = omega (arith, length-append entries added, is.0, size) in
+    (more, omega (arith, more, size, small), kept)
+
 -- one entry
 pub adds-one : (H : Digest) (entry : Bytes) (old new : EdgeContents) (before now filled : List (Tile × Bytes))
     → new.size ≡ old.size + 1
@@ -68,9 +78,7 @@ pub adds-one : (H : Digest) (entry : Bytes) (old new : EdgeContents) (before now
     → Adds H (entry ∷ []) old new before now
 adds-one H entry old new before now filled size small kept fills pushed = record {
   size = size;
-  edge = λ entries is.
-      let more : length (entries ++ entry ∷ []) ≡ new.size = omega (arith, length-append entries (entry ∷ []), is.0, size) in
-      (more, omega (arith, more, size, small), kept entries is);
+  edge = λ entries is. edge-more H entries (entry ∷ []) old new size small (kept entries is) is;
   tiles = λ entries is. pushed ∙ ap (λ tiles. before ++ tiles) (fills entries is ∙ sym (since-one H entries entry));
 }
 

@@ -1,4 +1,4 @@
--- What one entry more makes of the right edge.
+-- What one full place of a level more makes of the right edge.
 use Rattle.std.proofs.Common.{◌≡◌, ℕ, zero, suc, ◌+◌, ◌-◌, ◌*◌, ◌/◌, ◌%◌, ◌^◌, ◌<◌, ◌≤◌, inl, inr, Bool, true, false, cond, List, [], ◌∷◌, ◌++◌, length, map, take, drop, filter, ◌==◌, append_assoc, refl, sym, ap, subst, ◌∙◌, arith}
 use Rattle.std.specs.List.{flat_map, range_with_len}
 use Rattle.std.proofs.lemmas.Nat.{div-mul-add, mod-mul-add, div-add-mod'}
@@ -10,6 +10,7 @@ use Rattle.tl_hash.specs.Tree.{tree_hash}
 use Rattle.tl_tile.specs.TileText.{level_count, full_tile, tile_text}
 use Rattle.tl_tile.specs.RightEdge.{filled_levels, hashes_below, count_below}
 use Rattle.tl_tile.specs.Inner.PartialHashes.{hash_at, partial_hashes}
+use Rattle.tl_tile.proofs.NeededLemmas.{next_count}
 use Rattle.tl_tile.proofs.TileTexts.{scaled_le}
 use Rattle.tl_tile.proofs.Levels.{power_of_256, positive_256, next_power, base, wide_of, level_parts, rest_small, base_parts, above_rest, Folds}
 use Rattle.tl_tile.proofs.Runs.{run_of}
@@ -18,14 +19,14 @@ use Rattle.tl_tile.proofs.Below.{length-below, places_text}
 -- ---- places of one level, before and after
 
 -- the entries under a full place stay
-pub hash_stays : (H : Digest) (entries : List (List ℕ)) (entry : List ℕ) (level place : ℕ) → (place + 1) * 256 ^ level ≤ length entries
-    → hash_at H (entries ++ entry ∷ []) level place ≡ hash_at H entries level place
-hash_stays H entries entry level place within =
+pub hash_stays : (H : Digest) (entries added : List (List ℕ)) (level place : ℕ) → (place + 1) * 256 ^ level ≤ length entries
+    → hash_at H (entries ++ added) level place ≡ hash_at H entries level place
+hash_stays H entries added level place within =
     let u : ℕ = 256 ^ level in
     let sum : (place + 1) * u ≡ place * u + u = omega arith in
-    let rest : drop (place * u) (entries ++ entry ∷ []) ≡ drop (place * u) entries ++ entry ∷ [] = drop-append-le (place * u) entries (entry ∷ []) (omega (arith, within, sum)) in
-    let front : take u (drop (place * u) entries ++ entry ∷ []) ≡ take u (drop (place * u) entries) =
-    take-append-le u (drop (place * u) entries) (entry ∷ []) (omega (arith, within, sum, length-drop (place * u) entries)) in
+    let rest : drop (place * u) (entries ++ added) ≡ drop (place * u) entries ++ added = drop-append-le (place * u) entries added (omega (arith, within, sum)) in
+    let front : take u (drop (place * u) entries ++ added) ≡ take u (drop (place * u) entries) =
+    take-append-le u (drop (place * u) entries) added (omega (arith, within, sum, length-drop (place * u) entries)) in
     ap (λ (xs : List (List ℕ)). tree_hash H (take u xs)) rest ∙ ap (tree_hash H) front
 
 pub map_same : {X : Type 0} (f g : ℕ → X) (a n : ℕ) → ((i : ℕ) → a ≤ i → i < a + n → f i ≡ g i) → map f (range_with_len a n) ≡ map g (range_with_len a n)
@@ -35,17 +36,14 @@ map_same f g a (suc n) same =
     let rest = map_same f g (a + 1) n (λ i low high. same i (omega (arith, low)) (omega (arith, high))) in
     λ i. first i ∷ rest i
 
-places_stay : (H : Digest) (entries : List (List ℕ)) (entry : List ℕ) (level first n : ℕ) → first + n ≤ level_count (length entries) level
-    → map (hash_at H (entries ++ entry ∷ []) level) (range_with_len first n) ≡ map (hash_at H entries level) (range_with_len first n)
-places_stay H entries entry level first n within =
-    map_same (hash_at H (entries ++ entry ∷ []) level) (hash_at H entries level) first n
+places_stay : (H : Digest) (entries added : List (List ℕ)) (level first n : ℕ) → first + n ≤ level_count (length entries) level
+    → map (hash_at H (entries ++ added) level) (range_with_len first n) ≡ map (hash_at H entries level) (range_with_len first n)
+places_stay H entries added level first n within =
+    map_same (hash_at H (entries ++ added) level) (hash_at H entries level) first n
     (λ place low high.
     let u : ℕ = 256 ^ level in
     let fits : (place + 1) * u ≤ level_count (length entries) level * u = scaled_le (place + 1) (level_count (length entries) level) u (omega (arith, high, within)) in
-    hash_stays H entries entry level place (omega (arith, fits, level_parts (length entries) level)))
-
-pub length_more : (entries : List (List ℕ)) (entry : List ℕ) → length (entries ++ entry ∷ []) ≡ length entries + 1
-length_more entries entry = length-append entries (entry ∷ []) ∙ omega arith
+    hash_stays H entries added level place (omega (arith, fits, level_parts (length entries) level)))
 
 -- ---- the size, and how often 256 divides it
 
@@ -130,36 +128,59 @@ low_level size level count small filled =
           absurd (omega (arith, rest, none, own, one, filled.scaled, positive_256 level))
     ]
 
--- ---- the partial tiles after the entry
+-- one place of a level more, after entries that are full places of that level, counts as one entry does there and above
+counts_up : (was lowest size more : ℕ) → was % 256 ^ lowest ≡ 0 → was + 256 ^ lowest ≡ size → level_count was (lowest + more) ≡ level_count (size - 1) (lowest + more)
+counts_up was lowest size zero whole sum =
+    let u : ℕ = 256 ^ lowest in
+    let q : ℕ = level_count was lowest in
+    let last : size - 1 ≡ q * u + (u - 1) = omega (arith, level_parts was lowest, whole, sum, positive_256 lowest) in
+    let same : level_count was lowest ≡ level_count (size - 1) lowest = sym (ap (λ (x : ℕ). x / u) last ∙ div-mul-add q u (u - 1) (omega (arith, positive_256 lowest))) in
+    let here : lowest ≡ lowest + 0 = omega arith in
+    subst (λ (x : ℕ). level_count was x ≡ level_count (size - 1) x) here same
+counts_up was lowest size (suc more) whole sum =
+    let next : lowest + more + 1 ≡ lowest + suc more = omega arith in
+    let step : level_count was (lowest + more + 1) ≡ level_count (size - 1) (lowest + more + 1) =
+    sym (next_count was (lowest + more) _ refl)
+    ∙ ap (λ (x : ℕ). x / 256) (counts_up was lowest size more whole sum)
+    ∙ next_count (size - 1) (lowest + more) _ refl in
+    subst (λ (x : ℕ). level_count was x ≡ level_count (size - 1) x) next step
+
+pub counts_after : (was lowest size : ℕ) → was % 256 ^ lowest ≡ 0 → was + 256 ^ lowest ≡ size → (level : ℕ) → lowest ≤ level → level_count was level ≡ level_count (size - 1) level
+counts_after was lowest size whole sum level up =
+    let place : lowest + (level - lowest) ≡ level = omega (arith, up) in
+    subst (λ (x : ℕ). level_count was x ≡ level_count (size - 1) x) place (counts_up was lowest size (level - lowest) whole sum)
+
+-- ---- the partial tiles after the place
+
+-- entries after which others were added, up to this size: one full place of this level, and of no other from there up
+pub record AreFollowed (entries added : List (List ℕ)) (lowest size : ℕ) : Type 0 where
+  pub sized : length (entries ++ added) ≡ size
+  pub counts : (level : ℕ) → lowest ≤ level → level_count (length entries) level ≡ level_count (size - 1) level
 
 -- above the levels that were filled nothing changes
-partial_higher : (H : Digest) (entries : List (List ℕ)) (entry : List ℕ) (size level : ℕ) → length entries + 1 ≡ size → 0 < size % 256 ^ level
-    → partial_hashes H (entries ++ entry ∷ []) level ≡ partial_hashes H entries level
-partial_higher H entries entry size level sized some =
-    let after : List (List ℕ) = entries ++ entry ∷ [] in
-    let old : length entries ≡ size - 1 = omega (arith, sized) in
-    let new : length after ≡ size = length_more entries entry ∙ sized in
+partial_higher : (H : Digest) {lowest : ℕ} (entries added : List (List ℕ)) (size level : ℕ) → AreFollowed entries added lowest size → lowest ≤ level → 0 < size % 256 ^ level
+    → partial_hashes H (entries ++ added) level ≡ partial_hashes H entries level
+partial_higher H entries added size level grows up some =
+    let after : List (List ℕ) = entries ++ added in
     let count : level_count (length after) level ≡ level_count (length entries) level =
-    ap (λ (x : ℕ). level_count x level) new ∙ sym (same_count size level some) ∙ ap (λ (x : ℕ). level_count x level) (sym old) in
+    ap (λ (x : ℕ). level_count x level) grows.sized ∙ sym (same_count size level some) ∙ sym (grows.counts level up) in
     ap (λ (x : ℕ). map (hash_at H after level) (range_with_len (x / 256 * 256) (x % 256))) count
-    ∙ places_stay H entries entry level (base (length entries) level) (wide_of (length entries) level) (omega (arith, base_parts (length entries) level))
+    ∙ places_stay H entries added level (base (length entries) level) (wide_of (length entries) level) (omega (arith, base_parts (length entries) level))
 
 -- the level after those has one hash more
-partial_at : (H : Digest) (entries : List (List ℕ)) (entry : List ℕ) (size level count : ℕ) (hash : List ℕ) → length entries + 1 ≡ size → IsFilled size level count → (count % 256 ≡ 0 → ⊥)
-    → hash ≡ hash_at H (entries ++ entry ∷ []) level (count - 1) → partial_hashes H (entries ++ entry ∷ []) level ≡ partial_hashes H entries level ++ hash ∷ []
-partial_at H entries entry size level count hash sized filled partly hash_is =
-    let after : List (List ℕ) = entries ++ entry ∷ [] in
+partial_at : (H : Digest) {lowest : ℕ} (entries added : List (List ℕ)) (size level count : ℕ) (hash : List ℕ) → AreFollowed entries added lowest size → lowest ≤ level → IsFilled size level count → (count % 256 ≡ 0 → ⊥)
+    → hash ≡ hash_at H (entries ++ added) level (count - 1) → partial_hashes H (entries ++ added) level ≡ partial_hashes H entries level ++ hash ∷ []
+partial_at H entries added size level count hash grows up filled partly hash_is =
+    let after : List (List ℕ) = entries ++ added in
     let f : ℕ → List ℕ = hash_at H after level in
-    let old : length entries ≡ size - 1 = omega (arith, sized) in
-    let new : length after ≡ size = length_more entries entry ∙ sized in
     let b : ℕ = base (length entries) level in
     let w : ℕ = wide_of (length entries) level in
-    let count_after : level_count (length after) level ≡ count = ap (λ (x : ℕ). level_count x level) new ∙ count_is size level count filled in
-    let count_before : level_count (length entries) level ≡ count - 1 = ap (λ (x : ℕ). level_count x level) old ∙ before_count size level count filled in
+    let count_after : level_count (length after) level ≡ count = ap (λ (x : ℕ). level_count x level) grows.sized ∙ count_is size level count filled in
+    let count_before : level_count (length entries) level ≡ count - 1 = grows.counts level up ∙ before_count size level count filled in
     let first : count / 256 * 256 ≡ b = omega (arith, count_before, partly, filled.some) in
     let width : count % 256 ≡ w + 1 = omega (arith, count_before, partly, filled.some) in
     let last : b + w ≡ count - 1 = omega (arith, base_parts (length entries) level, count_before) in
-    let stay = places_stay H entries entry level b w (omega (arith, base_parts (length entries) level)) in
+    let stay = places_stay H entries added level b w (omega (arith, base_parts (length entries) level)) in
     ap (λ (x : ℕ). map f (range_with_len (x / 256 * 256) (x % 256))) count_after
     ∙ (λ i. map f (range_with_len (first i) (width i)))
     ∙ map-range_with_len_more f b w (count - 1) last
@@ -179,7 +200,7 @@ partial_lower H after level higher less none =
     ] in
     ap (λ (x : ℕ). map (hash_at H after level) (range_with_len (base size level) x)) width
 
-below_none : (H : Digest) (after : List (List ℕ)) (level higher : ℕ) → level ≤ higher → length after % 256 ^ higher ≡ 0 → hashes_below H after level ≡ []
+pub below_none : (H : Digest) (after : List (List ℕ)) (level higher : ℕ) → level ≤ higher → length after % 256 ^ higher ≡ 0 → hashes_below H after level ≡ []
 unfolding hashes_below
 below_none H after zero higher less none = refl
 below_none H after (suc level) higher less none =
@@ -188,23 +209,22 @@ below_none H after (suc level) higher less none =
     λ i. own i ++ rest i
 
 -- what stands before the hashes that the new one takes the place of
-grown : (H : Digest) (entries : List (List ℕ)) (entry : List ℕ) (size level count : ℕ) (hash : List ℕ) → length entries + 1 ≡ size → IsFilled size level count → (count % 256 ≡ 0 → ⊥)
-    → hash ≡ hash_at H (entries ++ entry ∷ []) level (count - 1) → (m : ℕ) → level < m
-    → (front : List (List ℕ)) × (hashes_below H entries m ≡ front ++ hashes_below H entries level) × (hashes_below H (entries ++ entry ∷ []) m ≡ front ++ hash ∷ [])
+grown : (H : Digest) {lowest : ℕ} (entries added : List (List ℕ)) (size level count : ℕ) (hash : List ℕ) → AreFollowed entries added lowest size → lowest ≤ level → IsFilled size level count → (count % 256 ≡ 0 → ⊥)
+    → hash ≡ hash_at H (entries ++ added) level (count - 1) → (m : ℕ) → level < m
+    → (front : List (List ℕ)) × (hashes_below H entries m ≡ front ++ hashes_below H entries level) × (hashes_below H (entries ++ added) m ≡ front ++ hash ∷ [])
 unfolding hashes_below
-grown H entries entry size level count hash sized filled partly hash_is zero less = absurd (omega (arith, less))
-grown H entries entry size level count hash sized filled partly hash_is (suc m) less =
-    let after : List (List ℕ) = entries ++ entry ∷ [] in
-    let new : length after ≡ size = length_more entries entry ∙ sized in
+grown H entries added size level count hash grows up filled partly hash_is zero less = absurd (omega (arith, less))
+grown H entries added size level count hash grows up filled partly hash_is (suc m) less =
+    let after : List (List ℕ) = entries ++ added in
     elim (cases_lt level m) as (λ _. (front : List (List ℕ)) × (hashes_below H entries (suc m) ≡ front ++ hashes_below H entries level) × (hashes_below H after (suc m) ≡ front ++ hash ∷ [])) [
       | inl below ↦
-          let rest = grown H entries entry size level count hash sized filled partly hash_is m below in
+          let rest = grown H entries added size level count hash grows up filled partly hash_is m below in
           let u : ℕ = 256 ^ level in
           let one : 1 * u ≤ count % 256 * u = scaled_le 1 (count % 256) u (omega (arith, partly)) in
           let wide : wide_of size level * u ≡ count % 256 * u = ap (λ (x : ℕ). x % 256 * u) (count_is size level count filled) in
-          let up : size % 256 ^ (level + 1) ≤ size % 256 ^ m = rest_up size (level + 1) m (omega (arith, below)) in
-          let some : 0 < size % 256 ^ m = omega (arith, up, above_rest size level, wide, one, positive_256 level) in
-          let same = partial_higher H entries entry size m sized some in
+          let rests : size % 256 ^ (level + 1) ≤ size % 256 ^ m = rest_up size (level + 1) m (omega (arith, below)) in
+          let some : 0 < size % 256 ^ m = omega (arith, rests, above_rest size level, wide, one, positive_256 level) in
+          let same = partial_higher H entries added size m grows (omega (arith, up, below)) some in
           let own : List (List ℕ) = partial_hashes H entries m in (
             own ++ rest.0,
             ap (λ (xs : List (List ℕ)). own ++ xs) rest.1 ∙ sym (append_assoc own rest.0 (hashes_below H entries level)),
@@ -212,8 +232,8 @@ grown H entries entry size level count hash sized filled partly hash_is (suc m) 
           )
       | inr above ↦
           let same : m ≡ level = omega (arith, less, above) in
-          let none : length after % 256 ^ level ≡ 0 = ap (λ (x : ℕ). x % 256 ^ level) new ∙ no_rest size level count filled in
-          let at = partial_at H entries entry size level count hash sized filled partly hash_is in
+          let none : length after % 256 ^ level ≡ 0 = ap (λ (x : ℕ). x % 256 ^ level) grows.sized ∙ no_rest size level count filled in
+          let at = partial_at H entries added size level count hash grows up filled partly hash_is in
           let empty = below_none H after level level (omega arith) none in (
             partial_hashes H entries level,
             ap (λ (x : ℕ). partial_hashes H entries x ++ hashes_below H entries x) same,
@@ -222,15 +242,14 @@ grown H entries entry size level count hash sized filled partly hash_is (suc m) 
           )
     ]
 
-pub fill_kept : (H : Digest) (entries : List (List ℕ)) (entry : List ℕ) (size level count left : ℕ) (hash : List ℕ) (kept : List (List ℕ)) → length entries + 1 ≡ size → IsFilled size level count → (count % 256 ≡ 0 → ⊥)
-    → level < 8 → hash ≡ hash_at H (entries ++ entry ∷ []) level (count - 1) → kept ≡ hashes_below H entries 8 → left + count_below (size - 1) level ≡ length kept
-    → take left kept ++ hash ∷ [] ≡ hashes_below H (entries ++ entry ∷ []) 8
-fill_kept H entries entry size level count left hash kept sized filled partly low hash_is kept_is place =
-    let found = grown H entries entry size level count hash sized filled partly hash_is 8 low in
+pub fill_kept : (H : Digest) {lowest : ℕ} (entries added : List (List ℕ)) (size level count left : ℕ) (hash : List ℕ) (kept : List (List ℕ)) → AreFollowed entries added lowest size → lowest ≤ level → IsFilled size level count → (count % 256 ≡ 0 → ⊥)
+    → level < 8 → hash ≡ hash_at H (entries ++ added) level (count - 1) → kept ≡ hashes_below H entries 8 → left + count_below (length entries) level ≡ length kept
+    → take left kept ++ hash ∷ [] ≡ hashes_below H (entries ++ added) 8
+fill_kept H entries added size level count left hash kept grows up filled partly low hash_is kept_is place =
+    let found = grown H entries added size level count hash grows up filled partly hash_is 8 low in
     let whole : kept ≡ found.0 ++ hashes_below H entries level = kept_is ∙ found.1 in
-    let old : length entries ≡ size - 1 = omega (arith, sized) in
     let front : length found.0 ≡ left =
-    omega (arith, place, ap length whole, length-append found.0 (hashes_below H entries level), length-below H entries level, ap (λ (x : ℕ). count_below x level) old) in
+    omega (arith, place, ap length whole, length-append found.0 (hashes_below H entries level), length-below H entries level) in
     ap (λ (xs : List (List ℕ)). take left xs ++ hash ∷ []) whole
     ∙ ap (λ (xs : List (List ℕ)). xs ++ hash ∷ []) (take_at found.0 (hashes_below H entries level) left front)
     ∙ sym found.2
@@ -238,27 +257,26 @@ fill_kept H entries entry size level count left hash kept sized filled partly lo
 -- ---- the step of one filled level
 
 -- the hashes before the new one, as they are after it
-before_run : (H : Digest) (entries : List (List ℕ)) (entry : List ℕ) (size level count : ℕ) (below : List (List ℕ)) → length entries + 1 ≡ size → IsFilled size level count → count % 256 ≡ 0
-    → below ≡ partial_hashes H entries level → below ≡ map (hash_at H (entries ++ entry ∷ []) level) (range_with_len ((count / 256 - 1) * 256) 255)
-before_run H entries entry size level count below sized filled whole below_is =
-    let old : length entries ≡ size - 1 = omega (arith, sized) in
+before_run : (H : Digest) {lowest : ℕ} (entries added : List (List ℕ)) (size level count : ℕ) (below : List (List ℕ)) → AreFollowed entries added lowest size → lowest ≤ level → IsFilled size level count → count % 256 ≡ 0
+    → below ≡ partial_hashes H entries level → below ≡ map (hash_at H (entries ++ added) level) (range_with_len ((count / 256 - 1) * 256) 255)
+before_run H entries added size level count below grows up filled whole below_is =
     let b : ℕ = base (length entries) level in
     let w : ℕ = wide_of (length entries) level in
-    let count_before : level_count (length entries) level ≡ count - 1 = ap (λ (x : ℕ). level_count x level) old ∙ before_count size level count filled in
-    let width : w ≡ 255 = ap (λ (x : ℕ). wide_of x level) old ∙ before_wide size level count filled whole in
+    let count_before : level_count (length entries) level ≡ count - 1 = grows.counts level up ∙ before_count size level count filled in
+    let width : w ≡ 255 = ap (λ (x : ℕ). x % 256) (grows.counts level up) ∙ before_wide size level count filled whole in
     let first : b ≡ (count / 256 - 1) * 256 = omega (arith, base_parts (length entries) level, count_before, width, div-add-mod' count 256, whole, filled.some) in
-    below_is ∙ sym (places_stay H entries entry level b w (omega (arith, base_parts (length entries) level)))
-    ∙ (λ i. map (hash_at H (entries ++ entry ∷ []) level) (range_with_len (first i) (width i)))
+    below_is ∙ sym (places_stay H entries added level b w (omega (arith, base_parts (length entries) level)))
+    ∙ (λ i. map (hash_at H (entries ++ added) level) (range_with_len (first i) (width i)))
 
-pub fold_step : (H : Digest) (entries : List (List ℕ)) (entry : List ℕ) (size level count : ℕ) (below : List (List ℕ)) (hash result : List ℕ) → length entries + 1 ≡ size → IsFilled size level count → count % 256 ≡ 0
-    → below ≡ partial_hashes H entries level → hash ≡ hash_at H (entries ++ entry ∷ []) level (count - 1) → Folds H below hash result
-    → result ≡ hash_at H (entries ++ entry ∷ []) (level + 1) (count / 256 - 1)
-fold_step H entries entry size level count below hash result sized filled whole below_is hash_is folds =
-    let after : List (List ℕ) = entries ++ entry ∷ [] in
+pub fold_step : (H : Digest) {lowest : ℕ} (entries added : List (List ℕ)) (size level count : ℕ) (below : List (List ℕ)) (hash result : List ℕ) → AreFollowed entries added lowest size → lowest ≤ level → IsFilled size level count → count % 256 ≡ 0
+    → below ≡ partial_hashes H entries level → hash ≡ hash_at H (entries ++ added) level (count - 1) → Folds H below hash result
+    → result ≡ hash_at H (entries ++ added) (level + 1) (count / 256 - 1)
+fold_step H entries added size level count below hash result grows up filled whole below_is hash_is folds =
+    let after : List (List ℕ) = entries ++ added in
     let u : ℕ = 256 ^ level in
     let positive = positive_256 level in
     let p : ℕ = (count / 256 - 1) * 256 in
-    let run = before_run H entries entry size level count below sized filled whole below_is in
+    let run = before_run H entries added size level count below grows up filled whole below_is in
     let wide : length below ≡ 255 = ap length run ∙ length-map-range_with_len (hash_at H after level) p 255 in
     let last : p + length below ≡ count - 1 = omega (arith, wide, div-add-mod' count 256, whole, filled.some) in
     let stop : p + length below + 1 ≡ count = omega (arith, wide, div-add-mod' count 256, whole, filled.some) in
@@ -268,7 +286,7 @@ fold_step H entries entry size level count below hash result sized filled whole 
     let width : u ≡ size - (p + length below) * u = omega (arith, stop_u, parts, filled.scaled) in
     let folded = folds after (run_of u p size) (record {
       power = power_of_256 level;
-      within = omega (arith, length_more entries entry, sized);
+      within = omega (arith, grows.sized);
       some = omega (arith, stop_u, parts, filled.scaled, positive);
       most = omega (arith, stop_u, filled.scaled);
       hashes_are = run ∙ ap (λ (x : ℕ). map (hash_at H after level) (range_with_len p x)) (sym wide);
@@ -280,14 +298,14 @@ fold_step H entries entry size level count below hash result sized filled whole 
     let count_u : size - p * u ≡ 256 ^ (level + 1) = omega (arith, spread, stop_u, filled.scaled, power) in
     folded ∙ (λ i. tree_hash H (take (count_u i) (drop (from i) after)))
 
-pub text_step : (H : Digest) (entries : List (List ℕ)) (entry : List ℕ) (size level count : ℕ) (below : List (List ℕ)) (hash bytes : List ℕ) → length entries + 1 ≡ size → IsFilled size level count → count % 256 ≡ 0
-    → below ≡ partial_hashes H entries level → hash ≡ hash_at H (entries ++ entry ∷ []) level (count - 1) → bytes ≡ flat_map (λ hash. hash) (below ++ hash ∷ [])
-    → bytes ≡ tile_text H (full_tile level (count / 256 - 1)) (entries ++ entry ∷ [])
-text_step H entries entry size level count below hash bytes sized filled whole below_is hash_is bytes_are =
-    let after : List (List ℕ) = entries ++ entry ∷ [] in
+pub text_step : (H : Digest) {lowest : ℕ} (entries added : List (List ℕ)) (size level count : ℕ) (below : List (List ℕ)) (hash bytes : List ℕ) → AreFollowed entries added lowest size → lowest ≤ level → IsFilled size level count → count % 256 ≡ 0
+    → below ≡ partial_hashes H entries level → hash ≡ hash_at H (entries ++ added) level (count - 1) → bytes ≡ flat_map (λ hash. hash) (below ++ hash ∷ [])
+    → bytes ≡ tile_text H (full_tile level (count / 256 - 1)) (entries ++ added)
+text_step H entries added size level count below hash bytes grows up filled whole below_is hash_is bytes_are =
+    let after : List (List ℕ) = entries ++ added in
     let f : ℕ → List ℕ = hash_at H after level in
     let p : ℕ = (count / 256 - 1) * 256 in
-    let run = before_run H entries entry size level count below sized filled whole below_is in
+    let run = before_run H entries added size level count below grows up filled whole below_is in
     let last : p + 255 ≡ count - 1 = omega (arith, div-add-mod' count 256, whole, filled.some) in
     bytes_are ∙ (λ i. flat_map (λ hash. hash) (run i ++ hash_is i ∷ []))
     ∙ ap (flat_map (λ hash. hash)) (sym (map-range_with_len_more f p 255 (count - 1) last))

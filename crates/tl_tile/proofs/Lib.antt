@@ -8,6 +8,7 @@ pub mod Runs
 pub mod Levels
 pub mod Below
 pub mod FillSteps
+pub mod JoinedEdges
 pub mod Fills
 pub mod FilledTiles
 pub mod Members

@@ -19,3 +19,5 @@ pub
     mod TreeKeys
 pub
     mod Adds
+pub
+    mod PlaceAfter

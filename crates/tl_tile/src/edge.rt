@@ -8,6 +8,8 @@ ghost use Rattle.tl_tile.specs.RightEdge.{shown_partial, shown_filled, shown_sin
 ghost use Rattle.tl_tile.specs.Inner.Adds.{Adds};
 ghost use Rattle.tl_tile.specs.Fetched.{texts_of};
 
+mod joined;
+
 use crate::fold::{fill, fold_level};
 use crate::resource::Tile;
 use crate::tile::join;
@@ -148,9 +150,9 @@ impl<T: TreeHash, A: Allocator + Copy> Edge<T, A> {
     {
         let alloc = *self.kept.allocator();
         let leaf = leaf_hash(self.digest, entry);
-        let filled = fill(alloc, self.digest, true, &self.kept, self.size + 1, leaf)?;
+        let filled = fill(alloc, self.digest, true, &self.kept, self.size, 0, leaf)?;
         self.kept.reserve(1)?;
-        self.keep(filled.left, filled.hash);
+        self.keep(filled.left, filled.hash, 1);
         Ok(filled.tiles)
     }
 
@@ -306,10 +308,10 @@ impl<T: TreeHash, A: Allocator + Copy> Edge<T, A> {
             → OnOk result (Adds T.digest_of (entry ∷ []) self.old self.new (texts_of tiles.old.items) (texts_of tiles.new.items)) }
     {
         let alloc = *self.kept.allocator();
-        let mut filled = fill(alloc, self.digest, true, &self.kept, self.size + 1, leaf)?;
+        let mut filled = fill(alloc, self.digest, true, &self.kept, self.size, 0, leaf)?;
         self.kept.reserve(1)?;
         tiles.append(&mut filled.tiles)?;
-        self.keep(filled.left, filled.hash);
+        self.keep(filled.left, filled.hash, 1);
         Ok(())
     }
 
@@ -326,24 +328,24 @@ impl<T: TreeHash, A: Allocator + Copy> Edge<T, A> {
         ensures room { self.new.room ≡ self.old.room }
     {
         let alloc = *self.kept.allocator();
-        let Ok(filled) = fill(alloc, self.digest, false, &self.kept, self.size + 1, leaf) else {
+        let Ok(filled) = fill(alloc, self.digest, false, &self.kept, self.size, 0, leaf) else {
             unreachable!();
         };
-        self.keep(filled.left, filled.hash);
+        self.keep(filled.left, filled.hash, 1);
     }
 
-    // Puts one hash in the place of all that are kept after so many, for one entry more.
-    fn keep(&mut self, left: usize, hash: Hash)
-        requires small { self.old.size < 2 ^ 32 - 1 }
+    // Puts one hash in the place of all that are kept after so many, for this many entries more.
+    fn keep(&mut self, left: usize, hash: Hash, more: u64)
+        requires small { self.old.size + more < 2 ^ 32 }
         requires within { left ≤ length self.old.kept }
-        requires counted { left + 1 ≡ count_below (self.old.size + 1) 8 }
+        requires counted { left + 1 ≡ count_below (self.old.size + more) 8 }
         requires room { left < self.old.room }
-        ensures size { self.new.size ≡ self.old.size + 1 }
+        ensures size { self.new.size ≡ self.old.size + more }
         ensures kept { self.new.kept ≡ take left self.old.kept ++ hash ∷ [] }
         ensures room { self.new.room ≡ self.old.room }
     {
         self.kept.truncate(left);
         self.kept.push_reserved(hash);
-        self.size += 1;
+        self.size += more;
     }
 }

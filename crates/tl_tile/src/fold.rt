@@ -2,10 +2,11 @@
 
 ghost use Rattle.std.specs.Prelude.{◌≡◌, ◌<◌, ◌+◌, ◌*◌, ℕ, List, ◌≤◌, ◌-◌, ◌%◌, ◌^◌, [], ◌∷◌, ◌++◌, length, take, IsTrue, IfOk, OnOk, OnErr};
 ghost use Rattle.tl_hash.specs.Bytes.{Bytes};
-ghost use Rattle.tl_hash.specs.Tree.{tree_hash, leaf_input};
+ghost use Rattle.tl_hash.specs.Tree.{tree_hash};
 ghost use Rattle.tl_tile.specs.Run.{part, Run, IsRun};
 ghost use Rattle.tl_tile.specs.Inner.Rest.{IsRest};
 ghost use Rattle.tl_tile.specs.Inner.PartialHashes.{partial_hashes};
+ghost use Rattle.tl_tile.specs.Inner.PlaceAfter.{IsPlaceAfter};
 ghost use Rattle.std.specs.List.{flat_map};
 ghost use Rattle.tl_tile.specs.Fetched.{texts_of};
 ghost use Rattle.tl_tile.specs.RightEdge.{shown_filled, hashes_below, count_below};
@@ -47,8 +48,8 @@ pub(crate) fn fold_level<T: TreeHash>(h: T, hashes: &[Hash], below: Option<Hash>
     }
 }
 
-// What an entry makes of the kept hashes: the tiles that it fills, with their bytes, and one hash that takes the place
-// of all kept hashes after so many.
+// What one full place more makes of the kept hashes: the tiles that are full with it, with their bytes, and one hash
+// that takes the place of all kept hashes after so many.
 #[derive(Drop)]
 pub(crate) struct Filled<A: Allocator> {
     pub(crate) tiles: Vec<(Tile, Vec<u8, A>), A>,
@@ -85,35 +86,36 @@ fn push_tile<A: Allocator + Copy>(
     Ok(())
 }
 
-// What the last of `size` entries, whose leaf hash this is, makes of the hashes kept for those before it. Its tiles are
-// made if they are wanted.
+// What one full place more of the level `lowest`, whose hash is `root`, makes of the hashes kept for the `size` entries
+// before it. An entry is a place of level 0. The tiles are made if they are wanted.
 pub(crate) fn fill<T: TreeHash, A: Allocator + Copy>(
     alloc: A,
     h: T,
     wanted: bool,
     kept: &[Hash],
     size: u64,
-    leaf: Hash,
+    lowest: u32,
+    root: Hash,
 ) -> Result<Filled<A>, AllocError>
-    requires some { 0 < size }
-    requires small { size < 2 ^ 32 }
-    requires counted { length kept.now ≡ count_below (size - 1) 8 }
-    ensures counted { IfOk result (λ filled. filled.left + 1 ≡ count_below size 8) }
+    requires low { lowest ≤ 3 }
+    requires whole { size % 256 ^ lowest ≡ 0 }
+    requires small { size + 256 ^ lowest < 2 ^ 32 }
+    requires counted { length kept.now ≡ count_below size 8 }
+    ensures counted { IfOk result (λ filled. filled.left + 1 ≡ count_below (size + 256 ^ lowest) 8) }
     ensures within { IfOk result (λ filled. filled.left ≤ length kept.now) }
-    ensures kept { (entries : List Bytes) (entry : Bytes) → length entries + 1 ≡ size
-        → kept.now ≡ hashes_below T.digest_of entries 8 → leaf ≡ T.digest_of (leaf_input entry)
+    ensures kept { (entries added : List Bytes) → IsPlaceAfter T.digest_of size lowest kept.now root entries added
         → IfOk result (λ filled. take filled.left kept.now ++ filled.hash ∷ []
-        ≡ hashes_below T.digest_of (entries ++ entry ∷ []) 8) }
-    ensures tiles { IsTrue wanted → (entries : List Bytes) (entry : Bytes) → length entries + 1 ≡ size
-        → kept.now ≡ hashes_below T.digest_of entries 8 → leaf ≡ T.digest_of (leaf_input entry)
-        → IfOk result (λ filled. texts_of filled.tiles.items ≡ shown_filled T.digest_of (entries ++ entry ∷ [])) }
-    ensures memory { OnErr result (IsTrue wanted × (size % 256 ≡ 0)) }
+        ≡ hashes_below T.digest_of (entries ++ added) 8) }
+    ensures tiles { IsTrue wanted → lowest ≡ 0
+        → (entries added : List Bytes) → IsPlaceAfter T.digest_of size lowest kept.now root entries added
+        → IfOk result (λ filled. texts_of filled.tiles.items ≡ shown_filled T.digest_of (entries ++ added)) }
+    ensures memory { OnErr result (IsTrue wanted × ((size + 256 ^ lowest) % 256 ≡ 0)) }
 {
     let mut tiles = Vec::new(alloc);
     let mut left = kept.len();
-    let mut hash = leaf;
-    let mut count = size;
-    let mut level = 0;
+    let mut hash = root;
+    let mut count = (size >> (8 * lowest)) + 1;
+    let mut level = lowest;
     while count % 256 == 0 {
         count /= 256;
         let tile = full_tile(level, count - 1);

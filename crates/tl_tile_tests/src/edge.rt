@@ -9,8 +9,8 @@ use tl_testing::Refusing;
 use tl_testing::vectors::{ENTRIES, LEAVES, ROOTS, numbered};
 use tl_tile::{Edge, Resource, Tile, needed};
 
-// More entries than any of the tests appends.
-const MOST: u64 = 100_000;
+/// More entries than any of the tests appends.
+pub(crate) const MOST: u64 = 100_000;
 
 // The full tiles that an entry fills, with their bytes.
 type Tiles<A> = Vec<(Tile, Vec<u8, A>), A>;

@@ -7,6 +7,8 @@ mod edge;
 #[cfg(test)]
 mod fetches;
 #[cfg(test)]
+mod joined;
+#[cfg(test)]
 mod reader;
 #[cfg(test)]
 mod tables;

@@ -6,6 +6,7 @@
 #![tactic(auto)]
 
 use std::alloc::{AllocError, Global};
+use std::thread::Threads;
 use std::{io, str};
 use tl_command::{MOST_INPUT, read_entries};
 use tl_device::Counted;
@@ -36,12 +37,13 @@ fn words_of(alloc: Global, line: &str) -> Result<Vec<String>, AllocError> {
 }
 
 // Runs one command line over its input, in memory.
-fn run_line(alloc: Global, run: &Run) -> Result<Ended, AllocError> {
+fn run_line<H: Threads + Sync>(rt: &H, alloc: Global, run: &Run) -> Result<Ended, AllocError> {
     let words = words_of(alloc, run.line)?;
     let mut reader = Counted::new(run.input.as_slice());
     let mut writer = Counted::new(Vec::new(alloc));
     let mut errors = Counted::new(Vec::new(alloc));
     let status = run_words(
+        rt,
         alloc,
         words.as_slice(),
         &mut reader,
@@ -94,7 +96,7 @@ fn main(rt: HostRuntime) -> Result<(), anyhow::Error> {
     let mut reader = Counted::new(rt.reader());
     let script = read_entries(alloc, &mut reader, MOST_INPUT)?;
     for next in &runs_of(alloc, script.as_slice())? {
-        let ended = run_line(alloc, next)?;
+        let ended = run_line(&rt, alloc, next)?;
         print_run(&rt, next.line, &ended)?;
     }
     Ok(())

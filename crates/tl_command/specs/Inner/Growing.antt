@@ -1,5 +1,5 @@
 -- The log of an input's lines while the input is read: words of the private clauses of the command `head`.
-use Rattle.std.specs.Prelude.{◌≡◌, List, ◌++◌, take, All, MatchOption, false, None, Some, Result, Ok, Err, vec_items}
+use Rattle.std.specs.Prelude.{◌≡◌, ◌%◌, List, [], ◌++◌, take, All, MatchOption, false, None, Some, Result, Ok, Err, vec_items}
 use Rattle.sha2.specs.Sha256.{sha256}
 use Rattle.tl_hash.specs.Bytes.{Bytes}
 use Rattle.tl_tile.specs.RightEdge.{EdgeContents, IsEdgeOf}
@@ -24,6 +24,12 @@ pub record IsGrowing {A : Type 0} (g : Growing A) (input : Bytes) : Type 0 where
   pub last_plain : HasNoNewline last
   pub kept : vec_items g.line ≡ take 65536 last
   pub told : IsTold g lines
+
+-- all that is kept are whole tiles of 256 lines: no line is begun, and none was too long
+pub record FillsTiles {A : Type 0} (g : Growing A) : Type 0 where
+  pub tiles : g.edge.size % 256 ≡ 0
+  pub unbegun : vec_items g.line ≡ []
+  pub short : g.too_long ≡ None
 
 -- the bytes are these whole lines, of which none is too long, and then the rest
 pub record BeginsWith (bytes : Bytes) (lines : List Bytes) (rest : Bytes) : Type 0 where

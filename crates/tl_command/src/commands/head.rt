@@ -8,10 +8,11 @@ ghost use Rattle.tl_note.specs.Note.{IsNoteText};
 ghost use Rattle.tl_checkpoint.specs.Checkpoint.{checkpoint_text};
 
 use crate::fault::RunFault;
-use crate::growing::read_edge;
+use crate::growing::reading::read_edge;
 use crate::streams::print_text;
 use std::alloc::Allocator;
 use std::io::{Read, Write};
+use std::thread::Threads;
 use tl_checkpoint::{Checkpoint, CheckpointFault, write};
 use tl_device::Counted;
 use tl_hash::Hash;
@@ -19,10 +20,20 @@ use tl_text::is_one_line;
 
 /// Reads the whole input and writes the text of the checkpoint (C2SP tlog-checkpoint) of the log of its lines: the
 /// origin, their number and their Merkle tree hash under SHA-256. An origin that isn't one line is `BadOrigin` before
-/// anything is read; nothing is written before the whole input was read. It keeps the right edge of the log and one
-/// line, and so takes some hundred kilobytes whatever the input.
-pub fn run_head<A: Allocator + Copy, R: Read, W: Write>(
+/// anything is read; nothing is written before the whole input was read. Up to `threads` threads hash at once and take
+/// memory from `workers`; 0 counts as 1. It keeps 1 MiB of the input, right edges and one line, and the threads'
+/// stacks, whatever the input.
+pub fn run_head<
+    H: Threads + Sync,
+    A: Allocator + Copy,
+    B: Allocator + Copy + Send,
+    R: Read,
+    W: Write,
+>(
+    rt: &H,
     alloc: A,
+    workers: B,
+    threads: usize,
     origin: &str,
     reader: &mut Counted<R>,
     writer: &mut Counted<W>,
@@ -32,7 +43,7 @@ pub fn run_head<A: Allocator + Copy, R: Read, W: Write>(
     if !is_one_line(origin) {
         return Err(RunFault::BadOrigin);
     }
-    let edge = read_edge(alloc, reader)?;
+    let edge = read_edge(rt, alloc, workers, threads, reader)?;
     let text = checkpoint_of(alloc, origin, edge.size(), edge.root())?;
     print_text(writer, text.as_bytes())?;
     Ok(())

@@ -9,6 +9,7 @@ pub(super) const HEAD: &str =
 a newline counts if it isn't empty.
 Output: the text of the checkpoint (C2SP tlog-checkpoint): the origin, the number of entries and their Merkle tree
 hash (RFC 6962) in base64, each on a line.
+--threads: how many threads hash at once; without it, as many as the machine has. The output is the same.
 Exit status: 0 done; 1 refused (input too large, an entry too long, a bad origin, out of memory); 2 wrong arguments
 or a call for help; 3 a read or a write failed. A refusal is one line 'tlog: ..' on standard error.";
 

@@ -1,10 +1,11 @@
 //! The hashes that the texts of tiles hold, and what they fold to.
 
-ghost use Rattle.std.specs.Prelude.{◌≡◌, ◌+◌, ◌*◌, ◌<◌, ◌≤◌, List, length};
-ghost use Rattle.tl_hash.specs.Bytes.{Bytes};
-ghost use Rattle.tl_tile.specs.Folds.{IsHashAt, IsPartHash};
+ghost use Rattle.std.specs.Prelude.{◌≡◌, ◌+◌, ◌*◌, ◌<◌, ◌≤◌, [], length, slice_index_or};
+ghost use Rattle.std.specs.Int.{IsPowerOfTwo};
+ghost use Rattle.tl_tile.specs.Folds.{IsHashAt};
+ghost use Rattle.tl_tile.specs.Inner.EdgeRoot.{Part};
 
-use tl_hash::{Hash, TreeHash, node_hash, split_point};
+use tl_hash::{Hash, TreeHash, node_hash, nodes_over, split_point};
 
 // The hash with this number in a tile's text.
 pub(crate) fn hash_in(text: &[u8], number: usize) -> Hash
@@ -16,16 +17,63 @@ pub(crate) fn hash_in(text: &[u8], number: usize) -> Hash
     Hash::from_bytes(bytes)
 }
 
-// What so many hashes of a tile fold to, from this one on.
+// What four parts of a tile's hashes fold to, each of so many hashes: the first part begins at this one, the next
+// parts each so far on. The recursion goes down the four parts in step.
+fn fold_four_parts<T: TreeHash>(
+    h: T,
+    text: &[u8],
+    start: usize,
+    apart: usize,
+    count: usize,
+) -> [Hash; 4]
+    requires some { 0 < count }
+    requires inside { 32 * (start + 3 * apart + count) ≤ length text.now }
+    ensures a { Part T.digest_of text.now start count (slice_index_or result 0 []) }
+    ensures b { Part T.digest_of text.now (start + apart) count (slice_index_or result 1 []) }
+    ensures c { Part T.digest_of text.now (start + 2 * apart) count (slice_index_or result 2 []) }
+    ensures d { Part T.digest_of text.now (start + 3 * apart) count (slice_index_or result 3 []) }
+{
+    if count == 1 {
+        return [
+            hash_in(text, start),
+            hash_in(text, start + apart),
+            hash_in(text, start + 2 * apart),
+            hash_in(text, start + 3 * apart),
+        ];
+    }
+    let k = split_point(count as u64) as usize;
+    let left = fold_four_parts(h, text, start, apart, k);
+    let right = fold_four_parts(h, text, start + k, apart, count - k);
+    nodes_over(h, &left, &right)
+}
+
+// What four times so many hashes of a tile fold to, from this one on, by their quarters side by side.
+fn fold_quarters<T: TreeHash>(h: T, text: &[u8], start: usize, quarter: usize) -> Hash
+    requires power { IsPowerOfTwo quarter }
+    requires some { 0 < quarter }
+    requires inside { 32 * (start + 4 * quarter) ≤ length text.now }
+    ensures { Part T.digest_of text.now start (4 * quarter) result }
+{
+    let four = fold_four_parts(h, text, start, quarter, quarter);
+    let left = node_hash(h, four[0], four[1]);
+    let right = node_hash(h, four[2], four[3]);
+    node_hash(h, left, right)
+}
+
+// What so many hashes of a tile fold to, from this one on. Where their number is a power of two, 4 or more, their
+// quarters are folded side by side.
 pub(crate) fn fold_part<T: TreeHash>(h: T, text: &[u8], start: usize, count: usize) -> Hash
     requires some { 0 < count }
     requires inside { 32 * (start + count) ≤ length text.now }
-    ensures { (strings : List Bytes) × IsPartHash T.digest_of text.now start count result strings }
+    ensures { Part T.digest_of text.now start count result }
 {
     if count == 1 {
         return hash_in(text, start);
     }
     let k = split_point(count as u64) as usize;
+    if k > 1 && count == 2 * k {
+        return fold_quarters(h, text, start, k / 2);
+    }
     let left = fold_part(h, text, start, k);
     let right = fold_part(h, text, start + k, count - k);
     node_hash(h, left, right)

@@ -1,8 +1,10 @@
 use Rattle.std.proofs.Common.{◌*◌, ◌∙◌, sym, ap, subst, length, map, vec_items, arith}
+use Rattle.sha2.specs.Sha256.{sha256}
+use Rattle.tl_hash.specs.Sha256Length.{length-sha256}
 use Rattle.tl_tile.specs.Bundle.{bundle_text}
+use Rattle.tl_tile.proofs.HonestSource.{length-tile_text}
 use Rattle.tl_build.specs.Mirror.{resource_text}
 use Rattle.tl_build.proofs.Bundles.{part_short}
-use Rattle.tl_build.proofs.Lengths.{length-tile_text}
 use Rattle.tl_build.proofs.NeededParts.{LiesIn, lies}
 use Rattle.tl_build.proofs.listing.resource_length.Goals as goal
 
@@ -23,7 +25,7 @@ bundle_length-requires-clause-short g c =
 pub returns-in-Tile : goal.returns-in-Tile
 returns-in-Tile g c =
     let entries = map vec_items c.args.entries.now in
-    sym (length-tile_text c.in-Tile.tile entries) ∙ ap (λ r. length (resource_text c.args.note.now entries r)) (sym c.in-Tile.is)
+    sym (length-tile_text sha256 length-sha256 c.in-Tile.tile entries) ∙ ap (λ r. length (resource_text c.args.note.now entries r)) (sym c.in-Tile.is)
 
 pub returns-in-Entries : goal.returns-in-Entries
 returns-in-Entries g c =

@@ -4,6 +4,7 @@ use Rattle.tl_hash.specs.Bytes.{Bytes}
 use Rattle.tl_tile.specs.RightEdge.{IsEdgeOf}
 use Rattle.tl_tile.specs.Fetched.{texts_of}
 use Rattle.tl_tile.proofs.Adding.{adds-one}
+use Rattle.tl_tile.proofs.FillSteps.{entry_after}
 use Rattle.tl_tile.proofs.edge.Edge.append_leaf.Goals as goal
 
 pub returns : goal.returns
@@ -11,13 +12,13 @@ returns g c entry leaf =
     let H = g.T.TreeHash.digest_of in
     let filled = c.in_ok-filled.filled in
     let before = c.args.tiles.now.items in
-    let sized = λ (entries : List Bytes) (is : IsEdgeOf c.args.self.now H entries). is.0 ∙ sym (ap (λ e. e.size) c.self.view_is) in
-    let kept = λ (entries : List Bytes) (is : IsEdgeOf c.args.self.now H entries). c.deref.ensures.value ∙ ap (λ e. e.kept) c.self.view_is ∙ is.2 in
+    let after = λ (entries : List Bytes) (is : IsEdgeOf c.args.self.now H entries).
+    entry_after H c.self.inside.size c.deref.result.now c.args.leaf entries entry (is.0 ∙ sym (ap (λ e. e.size) c.self.view_is)) (c.deref.ensures.value ∙ ap (λ e. e.kept) c.self.view_is ∙ is.2) leaf in
     adds-one H entry c.args.self.now c.keep.new.self (texts_of before) (texts_of c.append.new.self.items) (texts_of filled.tiles.items)
     (omega (arith, c.keep.ensures.size, ap (λ e. e.size) c.self.view_is))
     (omega (arith, c.requires))
     (λ entries is. c.keep.ensures.kept
     ∙ ap (λ (hashes : List Bytes). take filled.left hashes ++ filled.hash ∷ []) (c.in_ok-reserve.ensures.items ∙ sym c.deref.ensures.value)
-    ∙ c.in_ok-filled.ensures.kept entries entry (omega (arith, sized entries is)) (kept entries is) leaf)
-    (λ entries is. c.in_ok-filled.ensures.tiles refl entries entry (omega (arith, sized entries is)) (kept entries is) leaf)
+    ∙ c.in_ok-filled.ensures.kept entries (entry ∷ []) (after entries is))
+    (λ entries is. c.in_ok-filled.ensures.tiles refl refl entries (entry ∷ []) (after entries is))
     (ap texts_of c.in_ok-append.ensures.items ∙ map-append (λ t. (t.0, vec_items t.1)) before filled.tiles.items)

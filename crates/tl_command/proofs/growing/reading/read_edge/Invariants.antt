@@ -1,6 +1,7 @@
 use Rattle.std.proofs.Common.{◌≡◌, ◌+◌, ◌-◌, ◌≤◌}
+use Rattle.std.specs.Prelude.{vec_len}
 use Rattle.tl_command.proofs.GrowingLemmas.{HasRead}
-use Rattle.tl_command.proofs.growing.read_edge.Given as goal
+use Rattle.tl_command.proofs.growing.reading.read_edge.Given as goal
 
 -- the bytes so far were consumed and taken, and the device has not failed in this call
 abbrev pub invariant-loop-total : goal.invariant-loop-total
@@ -8,6 +9,7 @@ invariant-loop-total g l = record {
   so_far : HasRead (g.R.Read.remaining l.initial.reader.device) (g.R.Read.remaining l.reader.device) l.growing l.total;
   steady : l.reader.failed ≡ l.initial.reader.failed;
   size : l.growing.edge.size ≤ l.total;
+  room : vec_len l.block ≡ 1048576;
 }
 
 abbrev pub decreases-loop-total : goal.decreases-loop-total

@@ -1,0 +1,80 @@
+//! The right edge of the log of the lines of all that a reader gives.
+
+ghost use Rattle.std.specs.Prelude.{◌≡◌, ◌<◌, ◌≤◌, true, length, take, vec_len, IfNone, IfOk, IfSome, OnSome};
+ghost use Rattle.std.specs.Io.KnownBytes.{Consumes, IsAtEnd};
+ghost use Rattle.tl_command.specs.Inner.Growing.{ReadsEdge};
+ghost use Rattle.tl_device.specs.Device.{passage};
+
+use crate::fault::RunFault;
+use crate::growing::Growing;
+use crate::streams::MOST_INPUT;
+use std::alloc::{AllocError, Allocator};
+use std::io::Read;
+use std::thread::Threads;
+use tl_device::Counted;
+use tl_hash::Sha256Tree;
+use tl_tile::Edge;
+
+// How many bytes of the input are kept at once, 1 MiB.
+const BLOCK: usize = 1_048_576;
+
+// Reads until the buffer is full or the input ended. Gives the number of bytes read: fewer than the buffer has only
+// where the input ended, and none where a read failed.
+fn fill<R: Read>(reader: &mut Counted<R>, buf: &mut [u8]) -> Option<usize>
+    ensures length { length buf.new ≡ length buf.old }
+    ensures bound { IfSome result (λ n. n ≤ length buf.new) }
+    ensures consumed { IfSome result (λ n. Consumes (R.remaining reader.old.device) (R.remaining reader.new.device) (take n buf.new)) }
+    ensures ended { IfSome result (λ n. n < length buf.new → IsAtEnd (R.remaining reader.new.device)) }
+    ensures steady { OnSome result (reader.new.failed ≡ reader.old.failed) }
+    ensures failed { IfNone result (reader.new.failed ≡ true) }
+{
+    let mut at = 0;
+    while at < buf.len() {
+        match reader.read_some(&mut buf[at..]) {
+            None => return None,
+            Some(0) => return Some(at),
+            Some(n) => at += n,
+        }
+    }
+    Some(at)
+}
+
+// A block of the input with no bytes of it yet.
+fn empty_block<A: Allocator>(alloc: A) -> Result<Vec<u8, A>, AllocError>
+    ensures { IfOk result (λ block. vec_len block ≡ 1048576) }
+{
+    vec![in alloc; 0u8; BLOCK]
+}
+
+/// The right edge of the log of the lines of all that the reader gives, hashed by so many threads, which take memory
+/// from `workers`. An input of more than 64 MiB is `TooLarge`, and then one with a line of more than 65,535 bytes is
+/// `EntryTooLong` of the first such line. It keeps 1 MiB of the input at once.
+pub(crate) fn read_edge<
+    H: Threads + Sync,
+    A: Allocator + Copy,
+    B: Allocator + Copy + Send,
+    R: Read,
+>(
+    rt: &H,
+    alloc: A,
+    workers: B,
+    threads: usize,
+    reader: &mut Counted<R>,
+) -> Result<Edge<Sha256Tree, A>, RunFault>
+    ensures { ReadsEdge (passage R.remaining reader.old reader.new) result }
+{
+    let mut growing = Growing::new(alloc);
+    let mut block = empty_block(alloc)?;
+    let mut total = 0u64;
+    while total <= MOST_INPUT {
+        let Some(n) = fill(reader, &mut block) else {
+            return Err(RunFault::Read);
+        };
+        growing.take_block(rt, workers, threads, &block[..n])?;
+        total += n as u64;
+        if n < block.len() && total <= MOST_INPUT {
+            return growing.finish();
+        }
+    }
+    Err(RunFault::TooLarge)
+}

@@ -1,0 +1,259 @@
+//! Checks of many inclusion proofs, four side by side.
+
+ghost use Rattle.std.specs.Prelude.{◌≡◌, ◌<◌, ◌↔◌, IsTrue, IfSome, All, Some, reverse, length, option_map, slice_index_or, if◌then◌else◌, [], ◌∷◌, List};
+ghost use Rattle.tl_hash.specs.Bytes.{Bytes, Digest};
+ghost use Rattle.tl_proof.specs.Acceptance.{root_from_leaf, AcceptsInclusion};
+ghost use Rattle.tl_proof.specs.Inner.Lanes.{lane_root, node_with};
+
+use crate::check::{check_record, same};
+use tl_hash::{Hash, TreeHash, nodes_over, split_point};
+
+/// A claim of inclusion: the entry at `index`, counted from 0, has this leaf hash. Its inclusion proof goes with it
+/// (PATH of RFC 6962, section 2.1.1), the hash nearest to the leaf first.
+#[derive(Clone, Copy)]
+pub struct Record<'a> {
+    /// The place of the entry, counted from 0.
+    pub index: u64,
+    /// The hash of the entry's leaf.
+    pub leaf: Hash,
+    /// The inclusion proof of the entry.
+    pub proof: &'a [Hash],
+}
+
+// The place of a leaf in a tree of `size` leaves, and its hash: what one of four proofs is followed for.
+#[derive(Clone, Copy)]
+struct Lane {
+    index: u64,
+    size: u64,
+    leaf: Hash,
+}
+
+// What four proofs are followed for.
+#[derive(Clone, Copy)]
+struct Lanes {
+    a: Lane,
+    b: Lane,
+    c: Lane,
+    d: Lane,
+}
+
+// The step from a root down to the part of the tree where the leaf lies: the left part or the right one.
+#[derive(Clone, Copy)]
+struct Turn {
+    below: Lane,
+    on_left: bool,
+}
+
+// The leaves, where each is a whole tree.
+fn only_leaves(lanes: Lanes) -> Option<[Hash; 4]>
+    ensures a { IfSome result (λ roots. (H : Digest) → lane_root H lanes.a [] ≡ Some (slice_index_or roots 0 [])) }
+    ensures b { IfSome result (λ roots. (H : Digest) → lane_root H lanes.b [] ≡ Some (slice_index_or roots 1 [])) }
+    ensures c { IfSome result (λ roots. (H : Digest) → lane_root H lanes.c [] ≡ Some (slice_index_or roots 2 [])) }
+    ensures d { IfSome result (λ roots. (H : Digest) → lane_root H lanes.d [] ≡ Some (slice_index_or roots 3 [])) }
+{
+    if lanes.a.size == 1 && lanes.b.size == 1 && lanes.c.size == 1 && lanes.d.size == 1 {
+        Some([lanes.a.leaf, lanes.b.leaf, lanes.c.leaf, lanes.d.leaf])
+    } else {
+        None
+    }
+}
+
+// The step from the root of a tree that has parts.
+fn last_turn(lane: Lane) -> Option<Turn>
+    ensures { IfSome result (λ turn. (H : Digest) (last : Bytes) (others : List Bytes)
+        → lane_root H lane (last ∷ others) ≡ option_map (node_with H turn.on_left last) (lane_root H turn.below others)) }
+{
+    if lane.size <= 1 {
+        return None;
+    }
+    let k = split_point(lane.size);
+    if lane.index < k {
+        let below = Lane { size: k, ..lane };
+        Some(Turn {
+            below,
+            on_left: true,
+        })
+    } else {
+        let below = Lane {
+            index: lane.index - k,
+            size: lane.size - k,
+            ..lane
+        };
+        Some(Turn {
+            below,
+            on_left: false,
+        })
+    }
+}
+
+// The left and the right child of a node, where `root` is the one of them that the leaf lies below.
+fn children(on_left: bool, root: Hash, beside: Hash) -> (Hash, Hash)
+    ensures left { result.0 ≡ (if on_left then root else beside) }
+    ensures right { result.1 ≡ (if on_left then beside else root) }
+{
+    if on_left {
+        (root, beside)
+    } else {
+        (beside, root)
+    }
+}
+
+// The roots that four proofs of one length lead to, where all four lead to one. It goes down from the four roots in
+// step, as the check of one proof does.
+fn lead_four<T: TreeHash>(
+    h: T,
+    lanes: Lanes,
+    a: &[Hash],
+    b: &[Hash],
+    c: &[Hash],
+    d: &[Hash],
+) -> Option<[Hash; 4]>
+    requires b { length b.now ≡ length a.now }
+    requires c { length c.now ≡ length a.now }
+    requires d { length d.now ≡ length a.now }
+    ensures a { IfSome result (λ roots. lane_root T.digest_of lanes.a (reverse a.now) ≡ Some (slice_index_or roots 0 [])) }
+    ensures b { IfSome result (λ roots. lane_root T.digest_of lanes.b (reverse b.now) ≡ Some (slice_index_or roots 1 [])) }
+    ensures c { IfSome result (λ roots. lane_root T.digest_of lanes.c (reverse c.now) ≡ Some (slice_index_or roots 2 [])) }
+    ensures d { IfSome result (λ roots. lane_root T.digest_of lanes.d (reverse d.now) ≡ Some (slice_index_or roots 3 [])) }
+{
+    let n = a.len();
+    if n == 0 {
+        return only_leaves(lanes);
+    }
+    let first = last_turn(lanes.a)?;
+    let second = last_turn(lanes.b)?;
+    let third = last_turn(lanes.c)?;
+    let fourth = last_turn(lanes.d)?;
+    let below = Lanes {
+        a: first.below,
+        b: second.below,
+        c: third.below,
+        d: fourth.below,
+    };
+    let last = n - 1;
+    let roots = lead_four(h, below, &a[..last], &b[..last], &c[..last], &d[..last])?;
+    let a = children(first.on_left, roots[0], a[last]);
+    let b = children(second.on_left, roots[1], b[last]);
+    let c = children(third.on_left, roots[2], c[last]);
+    let d = children(fourth.on_left, roots[3], d[last]);
+    Some(nodes_over(h, &[a.0, b.0, c.0, d.0], &[a.1, b.1, c.1, d.1]))
+}
+
+// Whether the proof of one record is accepted.
+fn accepts_one<T: TreeHash>(h: T, size: u64, root: Hash, claim: &Record<'_>) -> bool
+    ensures { IsTrue result ↔ AcceptsInclusion T.digest_of claim.now.proof.now size root claim.now.index claim.now.leaf }
+{
+    check_record(h, claim.proof, size, root, claim.index, claim.leaf)
+}
+
+// Whether the proof of each record is accepted, one by one.
+fn accepts_each<T: TreeHash>(h: T, size: u64, root: Hash, records: &[Record<'_>]) -> bool
+    ensures { IsTrue result ↔ All (λ r. AcceptsInclusion T.digest_of r.proof.now size root r.index r.leaf) records.now }
+{
+    records
+        .iter()
+        .all(|claim| accepts_one(h, size, root, claim))
+}
+
+// What one record is followed for.
+fn lane_of(size: u64, claim: &Record<'_>) -> Lane
+    ensures index { result.index ≡ claim.now.index }
+    ensures size { result.size ≡ size }
+    ensures leaf { result.leaf ≡ claim.now.leaf }
+{
+    Lane {
+        index: claim.index,
+        size,
+        leaf: claim.leaf,
+    }
+}
+
+// The roots that the proofs of four records lead to, where they have one length and each leads to one.
+fn lead_records<T: TreeHash>(
+    h: T,
+    size: u64,
+    a: &Record<'_>,
+    b: &Record<'_>,
+    c: &Record<'_>,
+    d: &Record<'_>,
+) -> Option<[Hash; 4]>
+    ensures a { IfSome result (λ roots. root_from_leaf T.digest_of a.now.index size (reverse a.now.proof.now) a.now.leaf ≡ Some (slice_index_or roots 0 [])) }
+    ensures b { IfSome result (λ roots. root_from_leaf T.digest_of b.now.index size (reverse b.now.proof.now) b.now.leaf ≡ Some (slice_index_or roots 1 [])) }
+    ensures c { IfSome result (λ roots. root_from_leaf T.digest_of c.now.index size (reverse c.now.proof.now) c.now.leaf ≡ Some (slice_index_or roots 2 [])) }
+    ensures d { IfSome result (λ roots. root_from_leaf T.digest_of d.now.index size (reverse d.now.proof.now) d.now.leaf ≡ Some (slice_index_or roots 3 [])) }
+{
+    let n = a.proof.len();
+    if b.proof.len() != n || c.proof.len() != n || d.proof.len() != n {
+        return None;
+    }
+    let lanes = Lanes {
+        a: lane_of(size, a),
+        b: lane_of(size, b),
+        c: lane_of(size, c),
+        d: lane_of(size, d),
+    };
+    lead_four(h, lanes, a.proof, b.proof, c.proof, d.proof)
+}
+
+// Whether an index is among the first `size`, and its proof leads to the root.
+fn reaches(index: u64, size: u64, found: Hash, root: Hash) -> bool
+    ensures { IsTrue result ↔ ((index < size) × (found ≡ root)) }
+{
+    index < size && same(found, root)
+}
+
+// Whether all four are true.
+fn all_four(a: bool, b: bool, c: bool, d: bool) -> bool
+    ensures { IsTrue result ↔ (IsTrue a × IsTrue b × IsTrue c × IsTrue d) }
+{
+    a && b && c && d
+}
+
+// Whether the proof of each of four records is accepted.
+fn accepts_four<T: TreeHash>(
+    h: T,
+    size: u64,
+    root: Hash,
+    a: &Record<'_>,
+    b: &Record<'_>,
+    c: &Record<'_>,
+    d: &Record<'_>,
+) -> bool
+    ensures { IsTrue result ↔ (
+        AcceptsInclusion T.digest_of a.now.proof.now size root a.now.index a.now.leaf
+        × AcceptsInclusion T.digest_of b.now.proof.now size root b.now.index b.now.leaf
+        × AcceptsInclusion T.digest_of c.now.proof.now size root c.now.index c.now.leaf
+        × AcceptsInclusion T.digest_of d.now.proof.now size root d.now.index d.now.leaf) }
+{
+    match lead_records(h, size, a, b, c, d) {
+        Some(roots) => all_four(
+            reaches(a.index, size, roots[0], root),
+            reaches(b.index, size, roots[1], root),
+            reaches(c.index, size, roots[2], root),
+            reaches(d.index, size, roots[3], root),
+        ),
+        None => all_four(
+            accepts_one(h, size, root, a),
+            accepts_one(h, size, root, b),
+            accepts_one(h, size, root, c),
+            accepts_one(h, size, root, d),
+        ),
+    }
+}
+
+/// Whether each proof is accepted for its leaf hash at its index under the root of `size` entries (RFC 6962,
+/// section 2.1.1): what `check_record` says of each. Four proofs of equal length that stand side by side in the list
+/// are followed in step, and their digests taken four at a time. It takes no memory, and no more than 64 calls stand at
+/// once. Where there is no record it is true.
+pub fn check_records<T: TreeHash>(h: T, size: u64, root: Hash, records: &[Record<'_>]) -> bool
+    ensures { IsTrue result ↔ All (λ r. AcceptsInclusion T.digest_of r.proof.now size root r.index r.leaf) records.now }
+{
+    let mut left = records;
+    while let [first, second, third, fourth, rest @ ..] = left {
+        if !accepts_four(h, size, root, first, second, third, fourth) {
+            return false;
+        }
+        left = rest;
+    }
+    accepts_each(h, size, root, left)
+}

@@ -1,0 +1,137 @@
+//! Sixteen entries added together: the hashes of four quads of them, side by side.
+
+ghost use Rattle.std.specs.Prelude.{◌≡◌, ◌≤◌, ◌<◌, ◌+◌, ◌*◌, ◌%◌, ◌^◌, ◌++◌, List, length, map, vec_items, vec_capacity};
+ghost use Rattle.tl_hash.specs.Bytes.{Bytes};
+ghost use Rattle.tl_store.specs.Stored.{stored_count, stored_hashes};
+ghost use Rattle.tl_store.specs.Inner.Adds.{AddsEntries};
+ghost use Rattle.tl_store.specs.Inner.Quads.{quad_of};
+
+use crate::pushes::push_higher;
+use std::alloc::Allocator;
+use tl_hash::{Hash, TreeHash, nodes_over};
+
+// The hashes of the complete subtrees over four quads, each of four entries: their four leaves, the nodes over the
+// first two and the last two, and the top. Each has one hash for each quad.
+#[derive(Clone, Copy)]
+struct FourQuads {
+    first: [Hash; 4],
+    second: [Hash; 4],
+    left: [Hash; 4],
+    third: [Hash; 4],
+    fourth: [Hash; 4],
+    right: [Hash; 4],
+    top: [Hash; 4],
+}
+
+impl FourQuads {
+    // The hashes of one quad, in the order in which they are stored.
+    fn of(&self, lane: usize) -> [Hash; 7]
+        requires { lane < 4 }
+        ensures { result ≡ quad_of self.now lane }
+    {
+        [
+            self.first[lane],
+            self.second[lane],
+            self.left[lane],
+            self.third[lane],
+            self.fourth[lane],
+            self.right[lane],
+            self.top[lane],
+        ]
+    }
+}
+
+// The hashes over four quads of entries, hashed side by side.
+fn four_quads<T: TreeHash, A: Allocator>(
+    h: T,
+    a: &[Vec<u8, A>],
+    b: &[Vec<u8, A>],
+    c: &[Vec<u8, A>],
+    d: &[Vec<u8, A>],
+) -> FourQuads
+    requires a { length a.now ≡ 4 }
+    requires b { length b.now ≡ 4 }
+    requires c { length c.now ≡ 4 }
+    requires d { length d.now ≡ 4 }
+    ensures a { quad_of result 0 ≡ stored_hashes T.digest_of (map vec_items a.now) }
+    ensures b { quad_of result 1 ≡ stored_hashes T.digest_of (map vec_items b.now) }
+    ensures c { quad_of result 2 ≡ stored_hashes T.digest_of (map vec_items c.now) }
+    ensures d { quad_of result 3 ≡ stored_hashes T.digest_of (map vec_items d.now) }
+{
+    let first = h.digest_four(0, &a[0], &b[0], &c[0], &d[0]);
+    let second = h.digest_four(0, &a[1], &b[1], &c[1], &d[1]);
+    let third = h.digest_four(0, &a[2], &b[2], &c[2], &d[2]);
+    let fourth = h.digest_four(0, &a[3], &b[3], &c[3], &d[3]);
+    let left = nodes_over(h, &first, &second);
+    let right = nodes_over(h, &third, &fourth);
+    let top = nodes_over(h, &left, &right);
+    FourQuads {
+        first,
+        second,
+        left,
+        third,
+        fourth,
+        right,
+        top,
+    }
+}
+
+// Adds hashes that there is room for.
+fn push_known<A: Allocator>(hashes: &mut Vec<Hash, A>, known: &[Hash])
+    requires { length hashes.old.items + length known.now ≤ vec_capacity hashes.old }
+    ensures items { hashes.new.items ≡ hashes.old.items ++ known.now }
+    ensures capacity { vec_capacity hashes.new ≡ vec_capacity hashes.old }
+{
+    for hash in known {
+        hashes.push_reserved(*hash);
+    }
+}
+
+// Adds the entries of one of four quads after `size` entries.
+fn push_quad<T: TreeHash, A: Allocator>(
+    h: T,
+    hashes: &mut Vec<Hash, A>,
+    size: u64,
+    quads: &FourQuads,
+    lane: usize,
+)
+    requires lane { lane < 4 }
+    requires whole { size % 4 ≡ 0 }
+    requires small { size + 4 < 2 ^ 32 }
+    requires counted { length hashes.old.items ≡ stored_count size }
+    requires room { stored_count (size + 4) ≤ vec_capacity hashes.old }
+    ensures added { (entries : List Bytes)
+        → length entries ≡ 4
+        → quad_of quads.now lane ≡ stored_hashes T.digest_of entries
+        → AddsEntries T.digest_of size entries hashes.old.items hashes.new.items }
+    ensures capacity { vec_capacity hashes.new ≡ vec_capacity hashes.old }
+{
+    let quad = quads.of(lane);
+    push_known(hashes, &quad);
+    push_higher(h, hashes, size + 4, 2, quad[6]);
+}
+
+/// Adds sixteen entries after `size` of them, which 4 divides.
+pub(crate) fn push_sixteen<T: TreeHash, A: Allocator, B: Allocator>(
+    h: T,
+    hashes: &mut Vec<Hash, A>,
+    size: u64,
+    entries: &[Vec<u8, B>],
+)
+    requires many { length entries.now ≡ 16 }
+    requires whole { size % 4 ≡ 0 }
+    requires small { size + 16 < 2 ^ 32 }
+    requires counted { length hashes.old.items ≡ stored_count size }
+    requires room { stored_count (size + 16) ≤ vec_capacity hashes.old }
+    ensures added { AddsEntries T.digest_of size (map vec_items entries.now) hashes.old.items hashes.new.items }
+    ensures capacity { vec_capacity hashes.new ≡ vec_capacity hashes.old }
+{
+    let (left, right) = entries.split_at(8);
+    let (a, b) = left.split_at(4);
+    let (c, d) = right.split_at(4);
+    let quads = four_quads(h, a, b, c, d);
+    push_quad(h, hashes, size, &quads, 0);
+    push_quad(h, hashes, size + 4, &quads, 1);
+    push_quad(h, hashes, size + 8, &quads, 2);
+    push_quad(h, hashes, size + 12, &quads, 3);
+}
