@@ -22,4 +22,4 @@ pub use law::bytes_are_one_note;
 pub use line::{SigView, write_signature_line};
 pub use open::{OpenedNote, open_note, verify_note};
 pub use parse::{NoteView, parse_note};
-pub use sign::{sign_note, signature_of};
+pub use sign::{first_bad_name, sign_note, signature_of};

@@ -73,8 +73,9 @@ fn key_id_of(signer: &Box<dyn Signer>) -> u32
     signer.key_id()
 }
 
-// The first signer whose name is no key's name.
-fn first_bad_name(signers: &[Box<dyn Signer>]) -> Option<usize>
+/// The place of the first signer whose name is no key's name (C2SP signed-note, "Format"), and None where each name is
+/// one: whether a note can be signed by them, before there is a text.
+pub fn first_bad_name(signers: &[Box<dyn Signer>]) -> Option<usize>
     ensures { MatchOption result (All (λ k. IsKeyName k.name) (map (λ signer. signing_key signer) signers.now)) (IsFirstBadName (map (λ signer. signing_key signer) signers.now)) }
 {
     for place in 0..signers.len() {

@@ -1,6 +1,6 @@
 //! Entry bundles: entries one after the other, each with its length in front (C2SP tlog-tiles, "Log Entries").
 
-ghost use Rattle.std.specs.Prelude.{◌≡◌, ◌<◌, ◌≤◌, ◌^◌, ◌++◌, length, OnOk, IfOk, MatchOption, MatchBool, Any, map, vec_items};
+ghost use Rattle.std.specs.Prelude.{◌≡◌, ◌+◌, ◌<◌, ◌≤◌, ◌^◌, ◌++◌, length, OnOk, OnErr, IfOk, IsOk, MatchOption, MatchBool, Any, map, vec_items, vec_len, vec_capacity};
 ghost use Rattle.tl_tile.specs.Bundle.{most_entry, bundled_entry, bundle_text, IsShortEntry, AreShortEntries, AreEntries, IsBundle, IsPartialEntry};
 ghost use Rattle.tl_tile.specs.ReadBundle.{ReadsBundle, WritesBundle, ChecksBundle};
 ghost use Rattle.tl_tile.specs.declared.bundle.BundleFault.TheVariants.{OutOfMemory};
@@ -44,13 +44,20 @@ impl<X: Drop> From<AllocFailed<X>> for BundleFault {
     }
 }
 
-// Adds one entry with its length in front.
-fn push_entry<A: Allocator>(out: &mut Vec<u8, A>, entry: &[u8]) -> Result<(), AllocError>
+/// Puts an entry of at most 65,535 bytes behind a bundle: its length in 16 bits, big-endian, and its bytes (C2SP
+/// tlog-tiles, "Log Entries"). It is refused for want of memory alone, which leaves the bundle as it was, and not where
+/// the bundle has room for the entry and two bytes more.
+pub fn push_entry<A: Allocator>(bundle: &mut Vec<u8, A>, entry: &[u8]) -> Result<(), AllocError>
     requires { IsShortEntry entry.now }
-    ensures { OnOk result (out.new.items ≡ out.old.items ++ bundled_entry entry.now) }
+    ensures pushed { OnOk result (bundle.new.items ≡ bundle.old.items ++ bundled_entry entry.now) }
+    ensures unchanged { OnErr result (bundle.new.items ≡ bundle.old.items) }
+    ensures room { vec_len bundle.old + (2 + length entry.now) ≤ vec_capacity bundle.old → IsOk result }
 {
-    out.extend_from_slice(&(entry.len() as u16).to_be_bytes())?;
-    out.extend_from_slice(entry)?;
+    bundle.reserve(2 + entry.len())?;
+    let front = bundle.extend_from_slice(&(entry.len() as u16).to_be_bytes());
+    prove!(front.is_ok());
+    let rest = bundle.extend_from_slice(entry);
+    prove!(rest.is_ok());
     Ok(())
 }
 

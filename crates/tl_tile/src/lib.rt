@@ -22,7 +22,7 @@ mod source;
 mod tile;
 mod tile_reader;
 
-pub use bundle::{BundleFault, LONGEST_ENTRY, read_bundle, write_bundle};
+pub use bundle::{BundleFault, LONGEST_ENTRY, push_entry, read_bundle, write_bundle};
 pub use edge::Edge;
 pub use law::{
     bundle_has_one_reading, checked_tiles_law, filled_tiles_are_new, folded_hashes_law,

@@ -7,9 +7,12 @@ ghost use Rattle.tl_hash.specs.Bytes.{Bytes};
 ghost use Rattle.tl_command.specs.Inner.Growing.{IsGrowing};
 
 use crate::growing::Growing;
-use crate::growing::cuts::{lines_end, share_end, tiles_end};
+use crate::growing::cuts::{Tiles, first_tiles, lines_end};
 use std::alloc::{AllocError, Allocator};
 use std::thread::{Threads, join};
+
+// The most tiles of a share: its lines are fewer than an edge can be put after another with.
+const MOST_TILES: usize = 255;
 
 // A piece of fewer bytes is hashed by one thread.
 const LEAST_SHARED: usize = 16_384;
@@ -46,7 +49,10 @@ impl<A: Allocator + Copy> Growing<A> {
         if begun == 0 && self.line.is_empty() {
             return 0;
         }
-        lines_end(block, 256 - begun)
+        match lines_end(block, 256 - begun) {
+            Some(end) => end,
+            None => block.len(),
+        }
     }
 
     // The beginning of a block: what stands before its first tile, or else a share, hashed by so many threads, or all
@@ -69,13 +75,13 @@ impl<A: Allocator + Copy> Growing<A> {
             self.take(&block[..start])?;
             return Ok(start);
         }
-        let end = share_end(block);
+        let Tiles { end, count } = first_tiles(block, MOST_TILES);
         if end == 0 {
             self.take(block)?;
             return Ok(block.len());
         }
         let share = &block[..end];
-        let grown = grow(rt, workers, share, threads)?;
+        let grown = grow(rt, workers, share, count, threads)?;
         self.absorb(&grown, share)?;
         Ok(end)
     }
@@ -103,23 +109,26 @@ impl<A: Allocator + Copy> Growing<A> {
     }
 }
 
-// What is kept of a piece alone, by so many threads: each thread has a part of its tiles.
+// What is kept of a piece alone, that has so many tiles of lines, by so many threads: each has a part of the tiles.
 fn grow<H: Threads + Sync, B: Allocator + Copy + Send>(
     rt: &H,
     workers: B,
     piece: &[u8],
+    tiles: usize,
     threads: usize,
 ) -> Result<Growing<B>, AllocError>
     requires { length piece.now < 2 ^ 32 }
     ensures size { IfOk result (λ grown. grown.edge.size ≤ length piece.now) }
     ensures grows { IfOk result (λ grown. IsGrowing grown piece.now) }
 {
-    if threads <= 1 || piece.len() < LEAST_SHARED {
+    if threads <= 1 || tiles <= 1 || piece.len() < LEAST_SHARED {
         let mut growing = Growing::new(workers);
         growing.take(piece)?;
         return Ok(growing);
     }
-    let (front, back) = piece.split_at(tiles_end(&piece[..piece.len() / 2]));
+    let half = first_tiles(piece, tiles / 2);
+    let (front, back) = piece.split_at(half.end);
+    let left = tiles - half.count;
     let fewer = threads / 2;
     let others = threads - fewer;
     let (first, second) = join(
@@ -127,11 +136,11 @@ fn grow<H: Threads + Sync, B: Allocator + Copy + Send>(
         move || -> Result<Growing<B>, AllocError>
             requires { IsSync H.row × IsSend B.row × Frees B.Allocator B.dealloc_token × (length front.now < 2 ^ 32) }
             ensures { IfOk result (λ grown. (grown.edge.size ≤ length front.entry.now) × IsGrowing grown front.entry.now) }
-        { grow(rt, workers, front, fewer) },
+        { grow(rt, workers, front, half.count, fewer) },
         move || -> Result<Growing<B>, AllocError>
             requires { IsSync H.row × IsSend B.row × Frees B.Allocator B.dealloc_token × (length back.now < 2 ^ 32) }
             ensures { IfOk result (λ grown. (grown.edge.size ≤ length back.entry.now) × IsGrowing grown back.entry.now) }
-        { grow(rt, workers, back, others) },
+        { grow(rt, workers, back, left, others) },
     );
     let mut grown = first?;
     grown.absorb(&second?, back)?;
