@@ -35,7 +35,7 @@ pub fn prove_record<T: TreeHash, R: HashReader, A: Allocator + Copy>(
     ensures faults { IfErr result (GivesProveFault (IsIndex size index)
         (R.size reader.now) (R.may_fail reader.now) (inclusion_needs size index)) }
 {
-    if index >= size || size > 1 << 62 {
+    if !is_index(size, index) {
         return Err(ProveFault::BadRange);
     }
     let segments = path_segments(alloc, size, index)?;

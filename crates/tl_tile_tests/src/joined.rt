@@ -8,14 +8,20 @@ use tl_testing::Refusing;
 use tl_testing::vectors::numbered;
 use tl_tile::Edge;
 
-// The edge of the log of these entries.
-fn edge_of(alloc: Global, entries: &[Vec<u8>]) -> Result<Edge<Sha256Tree, Global>, AllocError> {
-    let mut edge = Edge::new(alloc, Sha256Tree);
+// Adds entries one by one.
+fn push_each(edge: &mut Edge<Sha256Tree, Global>, entries: &[Vec<u8>]) -> Result<(), AllocError> {
     for entry in entries {
-        if edge.size() < MOST {
+        if edge.size() < 4 * MOST {
             edge.push(entry)?;
         }
     }
+    Ok(())
+}
+
+// The edge of the log of these entries.
+fn edge_of(alloc: Global, entries: &[Vec<u8>]) -> Result<Edge<Sha256Tree, Global>, AllocError> {
+    let mut edge = Edge::new(alloc, Sha256Tree);
+    push_each(&mut edge, entries)?;
     Ok(edge)
 }
 
@@ -39,11 +45,7 @@ fn joined_edges_are_the_edge_of_all_entries(rt: HostRuntime) -> Result<(), Fail>
     for tiles in [0, 1, 0, 2, 3, 253, 255, 1, 254] {
         let entries = numbered(alloc, 256 * tiles)?;
         join(&mut joined, &edge_of(alloc, entries.as_slice())?)?;
-        for entry in &entries {
-            if whole.size() < 4 * MOST {
-                whole.push(entry)?;
-            }
-        }
+        push_each(&mut whole, entries.as_slice())?;
         assert_eq!(rt; joined.size(), whole.size());
         assert!(rt; joined.root() == whole.root(), "{tiles}");
         for level in 0..8 {

@@ -9,7 +9,7 @@ use Rattle.tl_proof.proofs.ProveFaultLemmas.{read_fault}
 use Rattle.tl_proof.proofs.prove.prove_record.Goals as goal
 
 pub read_segments-requires-clause-parts : goal.read_segments-requires-clause-parts
-read_segments-requires-clause-parts g c = subst (All IsSegment) (sym c.deref.ensures.value) (c.in_ok-segments.ensures.plan.parts (aligned-all c.args.size c.if-size.false))
+read_segments-requires-clause-parts g c = subst (All IsSegment) (sym c.deref.ensures.value) (c.in_ok-segments.ensures.plan.parts (aligned-all c.args.size (c.is_index.ensures.0 c.if-not-is_index.false).1))
 
 pub returns-in_err-read_segments-clause-faults : goal.returns-in_err-read_segments-clause-faults
 returns-in_err-read_segments-clause-faults g c =
@@ -18,7 +18,7 @@ returns-in_err-read_segments-clause-faults g c =
     subst (IsNeeded 0 (inclusion_needs c.args.size c.args.index)) (sym c.deref.ensures.value) c.in_ok-segments.ensures.plan.needed in
     rw (p.1, p.2)
     (read_fault (IsIndex c.args.size c.args.index) (g.R.HashReader.size c.args.reader.now) (g.R.HashReader.may_fail c.args.reader.now) (inclusion_needs c.args.size c.args.index) c.in_err-read_segments.field-0.0
-    (c.if-index-size.false, c.if-size.false) (c.in_err-read_segments.ensures.faults (inclusion_needs c.args.size c.args.index) need))
+    (c.is_index.ensures.0 c.if-not-is_index.false) (c.in_err-read_segments.ensures.faults (inclusion_needs c.args.size c.args.index) need))
 
 pub returns-clause-path : goal.returns-clause-path
 returns-clause-path g c entries more stands within =
@@ -30,4 +30,4 @@ pub returns-clause-in_range : goal.returns-clause-in_range
 returns-clause-in_range g c =
     let need : IsNeeded 0 (inclusion_needs c.args.size c.args.index) c.deref.result.now =
     subst (IsNeeded 0 (inclusion_needs c.args.size c.args.index)) (sym c.deref.ensures.value) c.in_ok-segments.ensures.plan.needed in
-    ((c.if-index-size.false, c.if-size.false), c.in_ok-read_segments.ensures.in_range (inclusion_needs c.args.size c.args.index) need)
+    ((c.is_index.ensures.0 c.if-not-is_index.false), c.in_ok-read_segments.ensures.in_range (inclusion_needs c.args.size c.args.index) need)
