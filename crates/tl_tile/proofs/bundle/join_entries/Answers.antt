@@ -7,5 +7,5 @@ pub push_entry-requires : goal.push_entry-requires
 push_entry-requires g c = subst IsShortEntry (sym c.deref.ensures.value) (short_at c.args.entries.now c.loop-entry.entry-index c.entry-item.result c.loop-entry-test.true c.entry-item.is c.requires)
 
 pub loop-entry-preserved : goal.loop-entry-preserved
-loop-entry-preserved g c = written_more c.args.entries.now c.loop-entry.entry-index c.entry-item.result c.loop-entry.out.items c.push_entry.new.out.items c.loop-entry-test.true c.entry-item.is
-    c.loop-entry.invariant (c.in_ok-push_entry.ensures ∙ ap (λ e. c.loop-entry.out.items ++ bundled_entry e) c.deref.ensures.value)
+loop-entry-preserved g c = written_more c.args.entries.now c.loop-entry.entry-index c.entry-item.result c.loop-entry.out.items c.push_entry.new.bundle.items c.loop-entry-test.true c.entry-item.is
+    c.loop-entry.invariant (c.in_ok-push_entry.ensures.pushed ∙ ap (λ e. c.loop-entry.out.items ++ bundled_entry e) c.deref.ensures.value)
