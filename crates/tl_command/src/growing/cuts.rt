@@ -11,8 +11,8 @@ const TILE: usize = 256;
 // So many tiles of lines at the beginning of a piece, and where the last of them ends.
 #[derive(Clone, Copy)]
 pub(super) struct Tiles {
-    end: usize,
-    count: usize,
+    pub(super) end: usize,
+    pub(super) count: usize,
 }
 
 // How many bytes the first `count` lines of a piece have: none are given where it has fewer lines.
