@@ -16,7 +16,7 @@ use std::alloc::{AllocError, Allocator};
 use std::marker::Model;
 use std::mem;
 use tl_hash::{Hash, Sha256Tree};
-use tl_tile::{Edge, Tile};
+use tl_tile::{Edge, Tile, push_entry};
 
 /// A full bundle, and the full tiles that its last entry completed.
 #[derive(Drop)]
@@ -49,17 +49,14 @@ impl<A: Allocator> Model for Growth<A> {
     ghost view = { λ g. record { edge = g.edge; bundle = g.bundle.items; waiting = g.waiting.items } };
 }
 
-// Adds an entry with its length in front. There is room for it.
-fn push_entry<A: Allocator>(bundle: &mut Vec<u8, A>, entry: &[u8])
+// Puts an entry behind a bundle that has room for it.
+fn push_reserved_entry<A: Allocator>(bundle: &mut Vec<u8, A>, entry: &[u8])
     requires room { vec_len bundle.old + (2 + length entry.now) ≤ vec_capacity bundle.old }
     requires short { IsShortEntry entry.now }
     ensures { bundle.new.items ≡ bundle.old.items ++ bundled_entry entry.now }
 {
-    let len = (entry.len() as u16).to_be_bytes();
-    let first = bundle.extend_from_slice(&len);
-    prove!(first.is_ok());
-    let second = bundle.extend_from_slice(entry);
-    prove!(second.is_ok());
+    let pushed = push_entry(bundle, entry);
+    prove!(pushed.is_ok());
 }
 
 impl<A: Allocator + Copy> Growth<A> {
@@ -99,7 +96,7 @@ impl<A: Allocator + Copy> Growth<A> {
         self.waiting.reserve(1)?;
         self.bundle.reserve(2 + entry.len())?;
         let tiles = self.edge.append(entry)?;
-        push_entry(&mut self.bundle, entry);
+        push_reserved_entry(&mut self.bundle, entry);
         if self.edge.size() % 256 == 0 {
             let alloc = *self.bundle.allocator();
             let bundle = mem::replace(&mut self.bundle, Vec::new(alloc));

@@ -3,7 +3,7 @@ ghost use Rattle.std.specs.Prelude.{◌≡◌, ℕ, ◌<◌, ◌≤◌, ◌↔�
 ghost use Rattle.sha2.specs.Sha256.{sha256};
 ghost use Rattle.tl_hash.specs.Tree.{tree_hash};
 ghost use Rattle.tl_note.specs.Key.{IsKeyName};
-ghost use Rattle.tl_note.specs.Text.{IsSize};
+ghost use Rattle.tl_text.specs.Text.{IsSize};
 ghost use Rattle.tl_note.specs.SignNote.{IsFirstBadName};
 ghost use Rattle.tl_checkpoint.specs.Checkpoint.{IsOneLine, checkpoint_text};
 ghost use Rattle.tl_sequencer.specs.Log.{entries_of, rings_of, IsEndOf};
@@ -24,7 +24,8 @@ use crate::run::Run;
 use std::alloc::{AllocError, Allocator, Global};
 use std::marker::Model;
 use std::sync::Wait;
-use tl_checkpoint::{Checkpoint, CheckpointFault, is_one_line, write};
+use tl_checkpoint::{Checkpoint, CheckpointFault, write};
+use tl_text::is_one_line;
 use tl_note::{NoteFault, Signer, is_key_name, sign_note};
 use tl_sequencer::{Complete, EndRefused, Ended, OpenFault, Submitter, TakeFault};
 use tl_tile::Resource;

@@ -19,25 +19,25 @@ impl Model for Publication {
     ghost view = { λ _. record { entries = []; note = [] } };
 }
 
-/// The rule of the book.
-pub struct Law;
+/// The rule of the book: its first word is the length of the history, and nobody else is told anything.
+pub struct HistoryRule;
 
-impl Rule<Publication, u64> for Law {
+impl Rule<Publication, u64> for HistoryRule {
     ghost use Rattle.std.specs.Prelude.{[]};
     ghost use base.Fml.{ftrue};
     ghost use Rattle.tl_publisher.specs.Pages.{IsKept};
 
-    ghost holds = { λ cells log. IsKept cells log };
-
     ghost first = { [] };
 
-    ghost hinted = { λ n log. Unit {0} };
+    ghost holds = { IsKept };
 
-    ghost shows = { λ log. [] };
+    ghost shows = { λ _. [] };
 
-    ghost keeps = { λ names log. ftrue };
+    ghost moves = { λ _ _ _ _. Unit {0} };
 
-    ghost moves = { λ ask before after answer. Unit {0} };
+    ghost keeps = { λ _ _. ftrue };
+
+    ghost hinted = { λ _ _. Unit {0} };
 }
 
 /// Callers trade nothing.
@@ -46,7 +46,7 @@ pub struct Nothing;
 impl Gain<Publication, u64> for Nothing {
     ghost use base.Fml.{ftrue};
 
-    ghost after = { λ names about answer. ftrue };
+    ghost after = { λ _ _ _. ftrue };
 }
 
 /// What is published next. Each call picks it.
@@ -81,7 +81,7 @@ impl<N: Next> Plain<(), Publication, u64> for Add<N> {
 #[derive(Drop)]
 pub struct Past {
     count: u64,
-    seen: Seen<Publication, u64, Law>,
+    seen: Seen<Publication, u64, HistoryRule>,
 }
 
 impl Model for Past {
@@ -139,7 +139,7 @@ impl Past {
 /// The book, as the one who publishes has it.
 #[derive(Drop)]
 pub struct HistoryWriter {
-    head: Word<Publication, u64, Law>,
+    head: Word<Publication, u64, HistoryRule>,
     past: Past,
     ghost head_is: { head ≡ head_of past.book },
 }
@@ -173,13 +173,13 @@ impl HistoryWriter {
 }
 
 impl Past {
-    fn add<N: Next>(&mut self, head: &Word<Publication, u64, Law>) -> bool
+    fn add<N: Next>(&mut self, head: &Word<Publication, u64, HistoryRule>) -> bool
         requires head { head.now ≡ head_of self.old.book }
         requires room { length self.old.log < 2 ^ 62 }
         ensures book { self.new.book ≡ self.old.book }
         ensures added { MatchBool result (self.new.log ≡ self.old.log ++ N.next ∷ []) (Unit {0}) }
     {
-        let mut offer: Offer<Publication, u64, Law, Nothing> = self
+        let mut offer: Offer<Publication, u64, HistoryRule, Nothing> = self
             .seen
             .plain::<Nothing, (), Add<N>>(&());
         let mut pen = self.seen.no_pen();
