@@ -2,9 +2,10 @@
 use Rattle.std.specs.Prelude.{◌≡◌, ℕ, List, [], length}
 use Rattle.std.specs.List.{All}
 use Rattle.tl_note.specs.Key.{SigningKey}
-use Rattle.tl_checkpoint.specs.Checkpoint.{IsOneLine}
-use Rattle.tl_sequencer.specs.Log.{Log, entries_of}
+use Rattle.tl_text.specs.Text.{IsOneLine}
+use Rattle.tl_sequencer.specs.Log.{Log, Sender, entries_of}
 use Rattle.tl_sequencer.specs.Merge.{IsMerge}
+use Rattle.tl_sequencer.specs.Opened.{IsOpened}
 use Rattle.tl_sequencer.specs.Steps.{IsComplete, sent_of}
 use Rattle.tl_publisher.specs.Histories.{Past, AreOf, IsGrowing}
 use Rattle.tl_publisher.specs.Signed.{AreSigners, AreSignedBy, no_quorum}
@@ -15,6 +16,13 @@ pub record Operated (A : Type 0) : Type 0 where
   pub signers : List SigningKey
   pub log : Log A
   pub past : Past
+
+-- what was opened: an empty log with its submitters, under this origin and these keys, of which nothing is published
+pub record IsNew {A : Type 0} (words : List ℕ) (keys : List SigningKey) (lanes capacity limit : ℕ) (o : Operated A) (submitters : List (Sender A)) : Type 0 where
+  pub origin : o.origin ≡ words
+  pub signers : o.signers ≡ keys
+  pub log : IsOpened [] lanes capacity limit o.log submitters
+  pub unpublished : o.past.log ≡ []
 
 -- its checkpoints can be signed, and each publication is of a beginning of the log, goes on from the one before, and has
 -- a note of its own checkpoint with one line by each signer, in order
