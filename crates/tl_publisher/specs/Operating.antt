@@ -45,11 +45,11 @@ pub record HaveSeen (past : Past) (count : ℕ) (readers : List Past) : Type 0 w
 
 -- A log that was closed as complete: it holds each lane's entries once, in sent order, after its base, and all that was
 -- published is of beginnings of it, each longer than the one before, under notes signed by this operator's keys.
-pub record IsClosed {A : Type 0} (o : Operated A) (complete : Log A) (past : Past) : Type 0 where
-  pub log : complete ≡ o.log
-  pub past : past ≡ o.past
-  pub complete : IsComplete complete
-  pub merge : IsMerge (entries_of complete) complete.base (sent_of complete)
-  pub beginnings : AreOf (entries_of complete) past.log
-  pub growing : IsGrowing past.log
-  pub signed : AreSignedBy o.origin o.signers no_quorum past.log
+pub record IsClosed {A : Type 0} (o : Operated A) (whole : Log A) (kept : Past) : Type 0 where
+  pub log : whole ≡ o.log
+  pub past : kept ≡ o.past
+  pub complete : IsComplete whole
+  pub merge : IsMerge (entries_of whole) whole.base (sent_of whole)
+  pub beginnings : AreOf (entries_of whole) kept.log
+  pub growing : IsGrowing kept.log
+  pub signed : AreSignedBy o.origin o.signers no_quorum kept.log
