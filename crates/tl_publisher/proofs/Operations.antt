@@ -1,9 +1,13 @@
 -- What is true of an operator stays true as calls move it.
-use Rattle.std.proofs.Common.{◌≡◌, ℕ, List, [], ◌∷◌, ◌++◌, refl, sym, ap, subst, ◌∙◌, append-nil, All}
+use Rattle.std.proofs.Common.{◌≡◌, ℕ, List, [], ◌∷◌, ◌++◌, length, take, refl, sym, ap, subst, ◌∙◌, append-nil, All, arith}
 use Rattle.std.specs.Prelude.{Result, Ok, Err, IfOk, IfErr}
+use Rattle.std.proofs.lemmas.List.{take_all}
 use Rattle.std.proofs.lemmas.List.Elements.{All-nil, All-push}
+use Rattle.sha2.specs.Sha256.{sha256}
+use Rattle.tl_hash.specs.Tree.{tree_hash}
 use Rattle.tl_note.specs.Key.{SigningKey}
 use Rattle.tl_text.specs.Text.{IsOneLine}
+use Rattle.tl_checkpoint.specs.Checkpoint.{checkpoint_text}
 use Rattle.tl_sequencer.specs.Log.{Log, End, Sender, entries_of}
 use Rattle.tl_sequencer.specs.Merge.{IsMerge}
 use Rattle.tl_sequencer.specs.Opened.{IsOpened}
@@ -17,7 +21,9 @@ use Rattle.tl_publisher.specs.Histories.{Prefix, Past, Begins, AreOf, IsGrowing}
 use Rattle.tl_publisher.specs.Signed.{AreSigners, IsSignedNote, AreSignedBy, no_quorum, text_of_log}
 use Rattle.tl_publisher.specs.Operating.{Operated, IsNew, IsOperating, IsOfSame, HaveSeen, IsClosed}
 use Rattle.tl_publisher.specs.Publishing.{Publishes, IsPublication, MayOpenAll, OpenRefusesOperator}
+use Rattle.tl_publisher.specs.Inner.Noting.{text_of_head}
 use Rattle.tl_publisher.specs.Inner.Opening.{IsWant}
+use Rattle.tl_publisher.specs.Inner.Running.{Running}
 use Rattle.tl_publisher.proofs.Runs.{begins_more, taken_entries}
 use Rattle.tl_publisher.proofs.Nexts.{follows_growing}
 use Rattle.tl_publisher.proofs.Notes.{next_of}
@@ -99,3 +105,26 @@ want_refuses origin signers lanes capacity limit readers operator.Origin all may
 want_refuses origin signers lanes capacity limit readers operator.Signers all may is = absurd is
 want_refuses origin signers lanes capacity limit readers operator.Readers all may is = absurd is
 want_refuses origin signers lanes capacity limit readers (operator.Lanes fault) all may is = absurd is
+
+-- a publication under a note of the log's checkpoint
+pub publication_of : {A : Type 0} (origin : List ℕ) (keys : List SigningKey) (old mid new : Running A) (size : ℕ) (root note : List ℕ) (p : Past)
+    → (mid.log ≡ old.log) × (mid.past ≡ old.past) → mid.grown ≡ length (entries_of old.log) → (size ≡ length (entries_of old.log)) × (root ≡ tree_hash sha256 (entries_of old.log))
+    → IsSignedNote keys no_quorum (text_of_head origin size root) note → (new.log ≡ mid.log) × (new.grown ≡ mid.grown) → new.past.book ≡ mid.past.book
+    → (new.past.log ≡ mid.past.log ++ record { entries = take mid.grown (entries_of mid.log); note = note } ∷ []) × (p ≡ new.past)
+    → IsPublication (record { origin = origin; signers = keys; log = old.log; past = old.past }) (record { origin = origin; signers = keys; log = new.log; past = new.past }) p
+publication_of origin keys old mid new size root note p same grown head signed log book shown =
+    let entries : take mid.grown (entries_of mid.log) ≡ entries_of old.log =
+    ap (λ (l : Log _). take mid.grown (entries_of l)) same.0 ∙ take_all mid.grown (entries_of old.log) (omega (arith, grown)) in
+    let past = same.1 in
+    let size_is = head.0 in
+    let root_is = head.1 in
+    let text : text_of_head origin size root ≡ text_of_log origin (entries_of old.log) =
+    λ i. checkpoint_text (record { origin = origin; size = size_is i; root = root_is i; extensions = [] }) in
+    record {
+      note = note;
+      signed = subst (λ (t : List ℕ). IsSignedNote keys no_quorum t note) text signed;
+      log = log.0 ∙ same.0;
+      book = book ∙ ap (λ (q : Past). q.book) past;
+      history = shown.0 ∙ (λ i. (past i).log ++ record { entries = entries i; note = note } ∷ []);
+      told = shown.1;
+    }
