@@ -1,6 +1,7 @@
 -- What is true of an operator stays true as calls move it.
 use Rattle.std.proofs.Common.{◌≡◌, ℕ, List, [], ◌∷◌, ◌++◌, length, take, refl, sym, ap, subst, ◌∙◌, append-nil, All, arith}
 use Rattle.std.specs.Prelude.{Result, Ok, Err, IfOk, IfErr}
+use Rattle.std.specs.Result.{IsErrAnd}
 use Rattle.std.proofs.lemmas.List.{take_all}
 use Rattle.std.proofs.lemmas.List.Elements.{All-nil, All-push}
 use Rattle.sha2.specs.Sha256.{sha256}
@@ -105,6 +106,12 @@ want_refuses origin signers lanes capacity limit readers operator.Origin all may
 want_refuses origin signers lanes capacity limit readers operator.Signers all may is = absurd is
 want_refuses origin signers lanes capacity limit readers operator.Readers all may is = absurd is
 want_refuses origin signers lanes capacity limit readers (operator.Lanes fault) all may is = absurd is
+
+-- the same where it is handed on
+pub want_passes : {T : Type 0} (origin : List ℕ) (signers : List SigningKey) (lanes capacity limit readers : ℕ) (given : OperatorFault) (r : Result T OperatorFault) → IsErrAnd r (λ fault. fault ≡ given) → IsWant given
+    → MayOpenAll origin signers readers → MayOpen lanes capacity limit → IfErr r (λ fault. OpenRefusesOperator origin signers lanes capacity limit readers fault)
+want_passes origin signers lanes capacity limit readers given (Ok x) same want all may = tt
+want_passes origin signers lanes capacity limit readers given (Err fault) same want all may = want_refuses origin signers lanes capacity limit readers fault all may (subst IsWant (sym same) want)
 
 -- a publication under a note of the log's checkpoint
 pub publication_of : {A : Type 0} (origin : List ℕ) (keys : List SigningKey) (old mid new : Running A) (size : ℕ) (root note : List ℕ) (p : Past)

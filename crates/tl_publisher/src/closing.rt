@@ -83,10 +83,8 @@ impl<R: Wait + Drop> Board<R> {
         ensures answer { IfOk result (λ r. option_map vec_items r ≡ boards.shown sha256 resource.now self.old.log) }
         ensures memory { IfErr result (λ fault. fault ≡ GetFault.OutOfMemory) }
     {
-        match self.writer.get(alloc, *resource) {
-            Ok(found) => Ok(found),
-            Err(_) => Err(GetFault::OutOfMemory),
-        }
+        let found = self.writer.get(alloc, *resource)?;
+        Ok(found)
     }
 
     /// Size and root of the last publication, None where nothing was published. It never fails.

@@ -33,11 +33,8 @@ fn text_of(alloc: Global, origin: &str, head: Head) -> Result<String, PublishFau
     ensures note { IfOk result (λ text. IsNoteText (string_bytes text)) }
     ensures memory { IfErr result (λ fault. fault ≡ OutOfMemory) }
 {
-    let Ok(origin) = String::from_str(alloc, origin) else {
-        return Err(PublishFault::OutOfMemory);
-    };
     let checkpoint = Checkpoint {
-        origin,
+        origin: String::from_str(alloc, origin)?,
         size: head.size,
         root: head.root,
         extensions: Vec::new(alloc),
@@ -61,10 +58,7 @@ pub(crate) fn note_of(
     requires size { IsSize head.size }
     ensures { NotesHead origin.now (map (λ s. signing_key s) signers.now) head.size head.root result }
 {
-    let text = match text_of(alloc, origin, head) {
-        Ok(text) => text,
-        Err(fault) => return Err(fault),
-    };
+    let text = text_of(alloc, origin, head)?;
     match sign_note(alloc, alloc, text.as_str(), signers) {
         Ok(note) => Ok(note.into_bytes()),
         Err(fault) => Err(refusal(fault)),

@@ -62,9 +62,7 @@ fn readers_of<R: Wait + Drop>(
     ensures readers { IfOk result (λ all. HaveSeen run.old.past count all.items) }
     ensures refused { IfErr result IsWant }
 {
-    let Ok(mut all) = Vec::with_capacity(alloc, count as usize) else {
-        return Err(OperatorFault::OutOfMemory);
-    };
+    let mut all = Vec::with_capacity(alloc, count as usize)?;
     for _reader in 0..count {
         let Ok(reader) = run.reader() else {
             return Err(OperatorFault::Place);
@@ -110,16 +108,9 @@ impl<R: Wait + Drop> Operator<R> {
             Err(OpenFault::OutOfMemory) => return Err(OperatorFault::OutOfMemory),
             Err(fault) => return Err(OperatorFault::Lanes(fault)),
         };
-        let Ok(origin) = String::from_str(alloc, origin) else {
-            return Err(OperatorFault::OutOfMemory);
-        };
-        let Ok(mut run) = Run::open(rt, alloc, log, readers as usize) else {
-            return Err(OperatorFault::OutOfMemory);
-        };
-        let all = match readers_of(alloc, &mut run, readers) {
-            Ok(all) => all,
-            Err(fault) => return Err(fault),
-        };
+        let origin = String::from_str(alloc, origin)?;
+        let mut run = Run::open(rt, alloc, log, readers as usize)?;
+        let all = readers_of(alloc, &mut run, readers)?;
         let operator = Operator {
             alloc,
             origin,

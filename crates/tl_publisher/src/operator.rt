@@ -90,22 +90,15 @@ impl<R: Wait + Drop> Operator<R> {
         if self.run.is_published() {
             return Err(PublishFault::NothingNew);
         }
-        let Ok(head) = self.run.grow() else {
-            return Err(PublishFault::OutOfMemory);
-        };
-        let note = match note_of(
+        let head = self.run.grow()?;
+        let note = note_of(
             self.alloc,
             self.origin.as_str(),
             self.signers.as_slice(),
             head,
-        ) {
-            Ok(note) => note,
-            Err(fault) => return Err(fault),
-        };
-        match self.run.show(note) {
-            Ok(published) => Ok(published),
-            Err(_) => Err(PublishFault::OutOfMemory),
-        }
+        )?;
+        let published = self.run.show(note)?;
+        Ok(published)
     }
 
     /// Publishes the whole log in one step: its tiles and bundles (C2SP tlog-tiles), and a checkpoint signed by each
