@@ -1,5 +1,5 @@
 -- What is true of an operator stays true as calls move it.
-use Rattle.std.proofs.Common.{◌≡◌, ℕ, List, [], ◌∷◌, ◌++◌, length, take, refl, sym, ap, subst, ◌∙◌, append-nil, All, arith}
+use Rattle.std.proofs.Common.{◌≡◌, ℕ, List, [], ◌∷◌, ◌++◌, length, take, sym, ap, subst, ◌∙◌, append-nil, arith}
 use Rattle.std.specs.Prelude.{Result, Ok, Err, IfOk, IfErr}
 use Rattle.std.specs.Result.{IsErrAnd}
 use Rattle.std.proofs.lemmas.List.{take_all}
@@ -9,9 +9,8 @@ use Rattle.tl_hash.specs.Tree.{tree_hash}
 use Rattle.tl_note.specs.Key.{SigningKey}
 use Rattle.tl_text.specs.Text.{IsOneLine}
 use Rattle.tl_checkpoint.specs.Checkpoint.{checkpoint_text}
-use Rattle.tl_sequencer.specs.Log.{Log, End, Sender, entries_of}
+use Rattle.tl_sequencer.specs.Log.{Log, End, entries_of}
 use Rattle.tl_sequencer.specs.Merge.{IsMerge}
-use Rattle.tl_sequencer.specs.Opened.{IsOpened}
 use Rattle.tl_sequencer.specs.Faults.{MayOpen}
 use Rattle.tl_sequencer.specs.Steps.{Takes, Closes, IsComplete, sent_of}
 use Rattle.tl_publisher.specs.declared.fault.PublishFault.{PublishFault}
@@ -20,7 +19,7 @@ use Rattle.tl_publisher.specs.declared.fault.OperatorFault.{OperatorFault}
 use Rattle.tl_publisher.specs.declared.fault.OperatorFault.TheVariants as operator
 use Rattle.tl_publisher.specs.Histories.{Prefix, Past, Begins, AreOf, IsGrowing}
 use Rattle.tl_publisher.specs.Signed.{AreSigners, IsSignedNote, AreSignedBy, no_quorum, text_of_log}
-use Rattle.tl_publisher.specs.Operating.{Operated, IsNew, IsOperating, IsOfSame, HaveSeen, IsClosed}
+use Rattle.tl_publisher.specs.Operating.{Operated, IsOperating, IsOfSame, IsClosed}
 use Rattle.tl_publisher.specs.Publishing.{Publishes, IsPublication, MayOpenAll, OpenRefusesOperator}
 use Rattle.tl_publisher.specs.Inner.Noting.{text_of_head}
 use Rattle.tl_publisher.specs.Inner.Opening.{IsWant}

@@ -12,7 +12,6 @@ use crate::reader::BoardReader;
 use crate::run::Run;
 use std::alloc::Global;
 use std::sync::Wait;
-
 use tl_note::{Signer, first_bad_name};
 use tl_sequencer::{OpenFault, Submitter};
 use tl_text::is_one_line;

@@ -38,10 +38,10 @@ impl<R: Wait + Drop> Shown for Operator<R> {
     ghost use Rattle.std.specs.Prelude.{map, string_bytes};
 
     ghost shown = { λ o. record {
-        origin = string_bytes o.origin;
-        signers = map (λ s. (Signer-box s).signing_key s.value) o.signers.items;
-        log = o.run.log;
-        past = o.run.past;
+      origin = string_bytes o.origin;
+      signers = map (λ s. (Signer-box s).signing_key s.value) o.signers.items;
+      log = o.run.log;
+      past = o.run.past;
     } };
 }
 

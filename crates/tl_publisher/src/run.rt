@@ -11,8 +11,8 @@ ghost use Rattle.tl_sequencer.specs.Faults.{MayTake, TakeRefuses, RestFits, EndR
 ghost use Rattle.tl_publisher.specs.Stages as stages;
 ghost use Rattle.tl_publisher.specs.Publishing.{EndsWith};
 
-use crate::growth::Growth;
 use crate::board_writer::BoardWriter;
+use crate::growth::Growth;
 use crate::published::Published;
 use crate::reader::{BoardReader, Head};
 use std::alloc::{AllocError, Global};
