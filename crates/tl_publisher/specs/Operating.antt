@@ -2,9 +2,10 @@
 use Rattle.std.specs.Prelude.{◌≡◌, ℕ, List, [], length}
 use Rattle.std.specs.List.{All}
 use Rattle.tl_note.specs.Key.{SigningKey}
-use Rattle.tl_checkpoint.specs.Checkpoint.{IsOneLine}
-use Rattle.tl_sequencer.specs.Log.{Log, entries_of}
+use Rattle.tl_text.specs.Text.{IsOneLine}
+use Rattle.tl_sequencer.specs.Log.{Log, Sender, entries_of}
 use Rattle.tl_sequencer.specs.Merge.{IsMerge}
+use Rattle.tl_sequencer.specs.Opened.{IsOpened}
 use Rattle.tl_sequencer.specs.Steps.{IsComplete, sent_of}
 use Rattle.tl_publisher.specs.Histories.{Past, AreOf, IsGrowing}
 use Rattle.tl_publisher.specs.Signed.{AreSigners, AreSignedBy, no_quorum}
@@ -15,6 +16,13 @@ pub record Operated (A : Type 0) : Type 0 where
   pub signers : List SigningKey
   pub log : Log A
   pub past : Past
+
+-- what was opened: an empty log with its submitters, under this origin and these keys, of which nothing is published
+pub record IsNew {A : Type 0} (words : List ℕ) (keys : List SigningKey) (lanes capacity limit : ℕ) (o : Operated A) (submitters : List (Sender A)) : Type 0 where
+  pub origin : o.origin ≡ words
+  pub signers : o.signers ≡ keys
+  pub log : IsOpened [] lanes capacity limit o.log submitters
+  pub unpublished : o.past.log ≡ []
 
 -- its checkpoints can be signed, and each publication is of a beginning of the log, goes on from the one before, and has
 -- a note of its own checkpoint with one line by each signer, in order
@@ -37,11 +45,11 @@ pub record HaveSeen (past : Past) (count : ℕ) (readers : List Past) : Type 0 w
 
 -- A log that was closed as complete: it holds each lane's entries once, in sent order, after its base, and all that was
 -- published is of beginnings of it, each longer than the one before, under notes signed by this operator's keys.
-pub record IsClosed {A : Type 0} (o : Operated A) (complete : Log A) (past : Past) : Type 0 where
-  pub log : complete ≡ o.log
-  pub past : past ≡ o.past
-  pub complete : IsComplete complete
-  pub merge : IsMerge (entries_of complete) complete.base (sent_of complete)
-  pub beginnings : AreOf (entries_of complete) past.log
-  pub growing : IsGrowing past.log
-  pub signed : AreSignedBy o.origin o.signers no_quorum past.log
+pub record IsClosed {A : Type 0} (o : Operated A) (whole : Log A) (kept : Past) : Type 0 where
+  pub log : whole ≡ o.log
+  pub past : kept ≡ o.past
+  pub complete : IsComplete whole
+  pub merge : IsMerge (entries_of whole) whole.base (sent_of whole)
+  pub beginnings : AreOf (entries_of whole) kept.log
+  pub growing : IsGrowing kept.log
+  pub signed : AreSignedBy o.origin o.signers no_quorum kept.log

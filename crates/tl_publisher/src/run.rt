@@ -1,17 +1,18 @@
 //! The log that runs, and what was published of it.
+
 ghost use Rattle.std.specs.Prelude.{◌≡◌, ℕ, ◌+◌, ◌<◌, ◌≤◌, ◌^◌, ◌↔◌, [], ◌∷◌, ◌++◌, List, length, take, vec_items, IsTrue, IfOk, IfErr, OnErr};
 ghost use Rattle.sha2.specs.Sha256.{sha256};
 ghost use Rattle.tl_hash.specs.Tree.{tree_hash};
 ghost use Rattle.tl_sequencer.specs.Log.{entries_of, rings_of, IsEndOf};
 ghost use Rattle.tl_sequencer.specs.Merge.{IsMerge};
 ghost use Rattle.tl_sequencer.specs.Steps.{Takes, Closes, IsComplete, IsFirstOpen, sent_of};
-ghost use Rattle.tl_publisher.specs.Histories.{AreOf};
+ghost use Rattle.tl_publisher.specs.Histories.{last_of};
 ghost use Rattle.tl_sequencer.specs.Faults.{MayTake, TakeRefuses, RestFits, EndRefuses};
 ghost use Rattle.tl_publisher.specs.Stages as stages;
-ghost use Rattle.tl_publisher.specs.Running as running;
+ghost use Rattle.tl_publisher.specs.Publishing.{EndsWith};
 
-use crate::growth::Growth;
 use crate::board_writer::BoardWriter;
+use crate::growth::Growth;
 use crate::published::Published;
 use crate::reader::{BoardReader, Head};
 use std::alloc::{AllocError, Global};
@@ -30,7 +31,7 @@ pub struct Run<R: Wait + Drop> {
 
 impl<R: Wait + Drop> Model for Run<R> {
     ghost use Rattle.std.specs.Global.{Global as GlobalValue};
-    ghost use Rattle.tl_publisher.specs.Running as running;
+    ghost use Rattle.tl_publisher.specs.Inner.Running as running;
 
     ghost Value = { running.Running GlobalValue };
 
@@ -72,8 +73,7 @@ impl<R: Wait + Drop> Run<R> {
 
     /// Whether the last publication is of the whole log.
     pub(crate) fn is_published(&self) -> bool
-        ensures published { IsTrue result ↔ running.EndsWith self.now.past.log (entries_of self.now.log) }
-        ensures of { AreOf (entries_of self.now.log) self.now.past.log }
+        ensures { IsTrue result ↔ EndsWith self.now.past.log (entries_of self.now.log) }
     {
         match self.board.head() {
             Some(head) => head.size == self.log.len(),
@@ -103,7 +103,7 @@ impl<R: Wait + Drop> Run<R> {
 
     /// Publishes what the growth has taken in, under this note.
     pub(crate) fn show(&mut self, note: Vec<u8>) -> Result<Published, AllocError>
-        requires { stages.IsNextOf (running.last self.old.past.log) (record { entries = take self.old.grown (entries_of self.old.log); note = note.items }) }
+        requires { stages.IsNextOf (last_of self.old.past.log) (record { entries = take self.old.grown (entries_of self.old.log); note = note.items }) }
         ensures log { (self.new.log ≡ self.old.log) × (self.new.grown ≡ self.old.grown) }
         ensures book { self.new.past.book ≡ self.old.past.book }
         ensures published { IfOk result (λ p. (self.new.past.log ≡ self.old.past.log ++ record { entries = take self.old.grown (entries_of self.old.log); note = note.items } ∷ []) × (p ≡ self.new.past)) }
@@ -151,7 +151,6 @@ impl<R: Wait + Drop> Run<R> {
         ensures complete { IfOk result (λ r. (r.0 ≡ self.log) × IsComplete r.0) }
         ensures merge { IfOk result (λ r. IsMerge (entries_of r.0) r.0.base (sent_of r.0)) }
         ensures board { IfOk result (λ r. r.1.past ≡ self.past) }
-        ensures of { IfOk result (λ r. AreOf (entries_of r.0) r.1.past.log) }
         ensures back { IfErr result (λ r. r.0 ≡ self) }
         ensures lane { IfErr result (λ r. IsFirstOpen self.log r.1) }
     {
