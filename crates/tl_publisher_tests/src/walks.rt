@@ -54,6 +54,7 @@ fn send_each(alloc: Global, submitter: Sender) -> Result<bool, AllocError> {
 }
 
 // A size that was published, and its checkpoint.
+#[derive(Drop)]
 struct Publication {
     size: u64,
     note: Vec<u8>,
@@ -92,6 +93,7 @@ fn publish_each<R: Wait + Drop>(
 }
 
 // An answer of the reader, and the sizes that it saw before and after.
+#[derive(Drop)]
 struct Look {
     before: Option<u64>,
     resource: Resource,
@@ -260,7 +262,7 @@ fn is_right(
 fn each_answer_is_of_what_was_published(rt: HostRuntime) -> Result<(), Fail> {
     let alloc = rt.alloc();
     let (mut operator, mut submitters, mut readers) =
-        Operator::open(&rt, alloc, ORIGIN, signers(alloc)?, 1, 64, ENTRIES, 2)?;
+        Operator::open(&rt, alloc, ORIGIN, signers(alloc)?, 1, 64, 2 * ENTRIES, 2)?;
     let submitter = submitters.pop().ok_or("no submitter")?;
     let reader = readers.pop().ok_or("no reader")?;
     let mut own = readers.pop().ok_or("no second reader")?;

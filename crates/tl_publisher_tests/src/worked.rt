@@ -65,7 +65,7 @@ fn keeps_three<R: Wait + Drop>(alloc: Global, board: &mut Board<R>) -> bool {
     ) else {
         return false;
     };
-    head.size == 3 && two.as_slice() == &TWO && three.as_slice() == &THREE
+    head.size == 3 && two.as_slice() == TWO.as_slice() && three.as_slice() == THREE.as_slice()
 }
 
 #[test]
