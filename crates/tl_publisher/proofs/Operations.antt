@@ -27,6 +27,7 @@ use Rattle.tl_publisher.specs.Inner.Running.{Running}
 use Rattle.tl_publisher.proofs.Runs.{begins_more, taken_entries}
 use Rattle.tl_publisher.proofs.Nexts.{follows_growing}
 use Rattle.tl_publisher.proofs.Notes.{next_of}
+use Rattle.tl_publisher.proofs.Encoded.{all_encoded}
 
 module _ {A : Type 0} where
   signed_same : (a b : Operated A) (history : List Prefix) → b.origin ≡ a.origin → b.signers ≡ a.signers → AreSignedBy a.origin a.signers no_quorum history → AreSignedBy b.origin b.signers no_quorum history
@@ -86,14 +87,17 @@ module _ {A : Type 0} where
   pub closed_of : (o : Operated A) (complete : Log A) (past : Past) → complete ≡ o.log → past ≡ o.past → IsComplete complete → IsMerge (entries_of complete) complete.base (sent_of complete) → IsOperating o → IsClosed o complete past
   closed_of o complete past log kept whole merge is =
       let history : past.log ≡ o.past.log = ap (λ (p : Past). p.log) kept in
+      let beginnings : AreOf (entries_of complete) past.log = subst (AreOf (entries_of complete)) (sym history) (subst (λ (l : Log A). AreOf (entries_of l) o.past.log) (sym log) is.beginnings) in
+      let signed : AreSignedBy o.origin o.signers no_quorum past.log = subst (AreSignedBy o.origin o.signers no_quorum) (sym history) is.signed in
       record {
         log = log;
         past = kept;
         complete = whole;
         merge = merge;
-        beginnings = subst (AreOf (entries_of complete)) (sym history) (subst (λ (l : Log A). AreOf (entries_of l) o.past.log) (sym log) is.beginnings);
+        beginnings = beginnings;
         growing = subst IsGrowing (sym history) is.growing;
-        signed = subst (AreSignedBy o.origin o.signers no_quorum) (sym history) is.signed;
+        signed = signed;
+        encoded = all_encoded o.origin o.signers (entries_of complete) past.log beginnings signed;
       }
 
 -- want of a place or of memory, where nothing else is wrong

@@ -9,6 +9,7 @@ use Rattle.tl_sequencer.specs.Opened.{IsOpened}
 use Rattle.tl_sequencer.specs.Steps.{IsComplete, sent_of}
 use Rattle.tl_publisher.specs.Histories.{Past, AreOf, IsGrowing}
 use Rattle.tl_publisher.specs.Signed.{AreSigners, AreSignedBy, no_quorum}
+use Rattle.tl_publisher.specs.Encoded.{AreEncoded}
 
 -- its origin, the keys that sign, its log, and the history of its publications
 pub record Operated (A : Type 0) : Type 0 where
@@ -44,7 +45,8 @@ pub record HaveSeen (past : Past) (count : ℕ) (readers : List Past) : Type 0 w
   pub each : All (λ seen. seen ≡ past) readers
 
 -- A log that was closed as complete: it holds each lane's entries once, in sent order, after its base, and all that was
--- published is of beginnings of it, each longer than the one before, under notes signed by this operator's keys.
+-- published is the specifications' encoding of beginnings of it, each longer than the one before, under notes signed by
+-- this operator's keys.
 pub record IsClosed {A : Type 0} (o : Operated A) (whole : Log A) (kept : Past) : Type 0 where
   pub log : whole ≡ o.log
   pub past : kept ≡ o.past
@@ -53,3 +55,4 @@ pub record IsClosed {A : Type 0} (o : Operated A) (whole : Log A) (kept : Past) 
   pub beginnings : AreOf (entries_of whole) kept.log
   pub growing : IsGrowing kept.log
   pub signed : AreSignedBy o.origin o.signers no_quorum kept.log
+  pub encoded : AreEncoded o.origin o.signers (entries_of whole) kept.log
