@@ -4,7 +4,7 @@ ghost use Rattle.std.specs.Prelude.{◌≡◌};
 ghost use Rattle.tl_publisher.specs.Operating.{IsOperating};
 
 use crate::rings::send_each;
-use std::alloc::{AllocError, Global};
+use std::alloc::Global;
 use std::sync::Wait;
 use std::thread::Threads;
 use std::time::{Clock, Duration, Instant};
@@ -12,7 +12,6 @@ use std::{io, thread};
 use tl_key::demo_key;
 use tl_note::Signer;
 use tl_publisher::{BoardReader, Operator, Shown};
-use tl_sequencer::Submitter;
 use tl_tile::{Resource, Tile};
 
 const ORIGIN: &str = "example.com/log";
@@ -28,14 +27,6 @@ const ENTRIES: u64 = 1_000_000;
 const CAPACITY: usize = 1024;
 
 const READERS: u32 = 2;
-
-// The one signer.
-fn signers(alloc: Global) -> Option<Vec<Box<dyn Signer>>> {
-    let key = demo_key(alloc, ORIGIN, b"secret").ok()?;
-    let mut all: Vec<Box<dyn Signer>> = Vec::new(alloc);
-    all.push(Box::new(alloc, key).ok()?).ok()?;
-    Some(all)
-}
 
 // Takes from the lanes in turn, up to so many entries in all: how many. None where a call is refused.
 fn take_some<R: Wait + Drop>(operator: &mut Operator<R>, most: u64) -> Option<u64>
@@ -139,10 +130,15 @@ pub fn publish<R: Threads + Wait + Clock + Print + Copy + Drop>(
     alloc: Global,
     batch: u64,
 ) -> io::Result<Option<()>> {
-    let Some(signers) = signers(alloc) else {
+    let Ok(key) = demo_key(alloc, ORIGIN, b"secret") else {
         return Ok(None);
     };
-    let opened = Operator::open(rt, alloc, ORIGIN, signers, LANES, CAPACITY, ENTRIES, READERS);
+    let signer: Box<dyn Signer> = Box::new(alloc, key)?;
+    let mut signers = Vec::new(alloc);
+    signers.push(signer)?;
+    let opened = Operator::open(
+        rt, alloc, ORIGIN, signers, LANES, CAPACITY, ENTRIES, READERS,
+    );
     let Ok((mut operator, submitters, readers)) = opened else {
         return Ok(None);
     };
@@ -168,7 +164,9 @@ pub fn publish<R: Threads + Wait + Clock + Print + Copy + Drop>(
     }
     println!(rt;
         "publish: each {batch}: {} entries a second, longest publication {} microseconds, {} tiles a second read",
-        rate(ENTRIES, took), longest.as_micros(), rate(tiles, took)
+        rate(ENTRIES, took),
+        longest.as_micros(),
+        rate(tiles, took)
     )?;
     Ok(Some(()))
 }

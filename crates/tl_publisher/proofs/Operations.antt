@@ -23,7 +23,7 @@ use Rattle.tl_publisher.specs.Operating.{Operated, IsOperating, IsOfSame, IsClos
 use Rattle.tl_publisher.specs.Publishing.{Publishes, IsPublication, MayOpenAll, OpenRefusesOperator}
 use Rattle.tl_publisher.specs.Inner.Noting.{text_of_head}
 use Rattle.tl_publisher.specs.Inner.Opening.{IsWant}
-use Rattle.tl_publisher.specs.Inner.Running.{Running}
+use Rattle.tl_publisher.specs.Running.{Running}
 use Rattle.tl_publisher.proofs.Runs.{begins_more, taken_entries}
 use Rattle.tl_publisher.proofs.Nexts.{follows_growing}
 use Rattle.tl_publisher.proofs.Notes.{next_of}

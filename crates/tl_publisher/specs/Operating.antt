@@ -25,8 +25,8 @@ pub record IsNew {A : Type 0} (words : List ℕ) (keys : List SigningKey) (lanes
   pub log : IsOpened [] lanes capacity limit o.log submitters
   pub unpublished : o.past.log ≡ []
 
--- its checkpoints can be signed, and each publication is of a beginning of the log, goes on from the one before, and has
--- a note of its own checkpoint with one line by each signer, in order
+-- its checkpoints can be signed, and each publication is of a beginning of the log, goes on from the one before, and
+-- has a note of its own checkpoint with one line by each signer, in order
 pub record IsOperating {A : Type 0} (o : Operated A) : Type 0 where
   pub origin : IsOneLine o.origin
   pub signers : AreSigners o.signers

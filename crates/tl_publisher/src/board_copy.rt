@@ -3,7 +3,7 @@ ghost use Rattle.std.specs.Prelude.{◌≡◌, ℕ, [], None, Some, take, IfOk, 
 ghost use Rattle.tl_tile.specs.declared.resource.Resource.TheVariants as resource;
 ghost use Rattle.tl_publisher.specs.Boards as boards;
 ghost use Rattle.tl_publisher.specs.Stages as stages;
-ghost use Rattle.tl_publisher.specs.Needs.{IsRising};
+ghost use Rattle.tl_publisher.specs.Inner.Needs.{IsRising};
 
 use crate::face::{Face, Sheet};
 use crate::lookup::{bundle_of, front, front_len, had_bundle, had_tile, tile_of};
@@ -15,7 +15,8 @@ use std::alloc::{AllocError, Allocator};
 use std::marker::Model;
 use tl_tile::{Resource, Tile};
 
-/// The first `count` texts and the first `turns` sizes are shown, with the face. What a change has laid beside them isn't.
+/// One of the two versions of a board. The first `count` texts and the first `turns` sizes are shown, with the face;
+/// what a change has laid beside them isn't.
 #[derive(Drop)]
 pub struct BoardCopy<A: Allocator> {
     items: Vec<Text<A>, A>,

@@ -8,10 +8,10 @@ ghost use Rattle.tl_publisher.specs.Histories as histories;
 ghost use Rattle.tl_publisher.specs.Stages as stages;
 ghost use Rattle.tl_publisher.specs.Rules.{knows};
 
+use crate::board_copy::{BoardCopy, Change, Step};
 use crate::past::{HistoryWriter, Next, Past};
 use crate::reader::{BoardReader, Head, bytes_of};
-use crate::rule::{Name, Note, CopyWriter, Show};
-use crate::board_copy::{Change, BoardCopy, Step};
+use crate::rule::{CopyWriter, Name, Note, Show};
 use core::mem::replace_with;
 use std::alloc::{AllocError, Allocator, Global};
 use std::marker::{Brand, Model};

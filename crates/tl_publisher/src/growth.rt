@@ -9,8 +9,8 @@ ghost use Rattle.tl_publisher.specs.Filled.{filled_from};
 ghost use Rattle.tl_publisher.specs.Boards.{IsFaceOf};
 ghost use Rattle.tl_publisher.specs.Grown.{IsGrown, texts_of};
 
-use crate::face::{Face, Sheet};
 use crate::board_copy::Change;
+use crate::face::{Face, Sheet};
 use crate::text::Text;
 use std::alloc::{AllocError, Allocator};
 use std::marker::Model;

@@ -97,7 +97,7 @@ impl Model for Past {
 
 impl Past {
     /// A copy.
-    pub fn again(&self) -> Past
+    pub(crate) fn again(&self) -> Past
         ensures { result ≡ self.now }
     {
         Past {
@@ -107,7 +107,7 @@ impl Past {
     }
 
     /// Afterwards it has seen what both had.
-    pub fn learn(&mut self, other: &Past)
+    pub(crate) fn learn(&mut self, other: &Past)
         requires { other.now.book ≡ self.old.book }
         ensures this { Grew self.old self.new }
         ensures that { StartsWith self.new.log other.now.log }
@@ -121,7 +121,7 @@ impl Past {
     }
 
     /// Goes on to what another has seen, unless that is less.
-    pub fn follow(&mut self, other: &Past) -> bool
+    pub(crate) fn follow(&mut self, other: &Past) -> bool
         requires { other.now.book ≡ self.old.book }
         ensures { MatchBool result ((self.new ≡ other.now) × Grew self.old self.new) (self.new ≡ self.old) }
     {
@@ -146,7 +146,7 @@ pub struct HistoryWriter {
 
 impl HistoryWriter {
     /// An empty history.
-    pub fn open() -> HistoryWriter
+    pub(crate) fn open() -> HistoryWriter
         ensures { result.past.log ≡ [] }
     {
         let (seen, mut first, _second) = Seen::open(Start::alone(), 0, 0);
@@ -156,14 +156,15 @@ impl HistoryWriter {
         }
     }
 
-    pub fn past(&self) -> &Past
+    /// What was published.
+    pub(crate) fn past(&self) -> &Past
         ensures { result.now ≡ self.now.past }
     {
         &self.past
     }
 
     /// Adds a publication. It does not where the history has one that was not seen.
-    pub fn add<N: Next>(&mut self) -> bool
+    pub(crate) fn add<N: Next>(&mut self) -> bool
         requires room { length self.old.past.log < 2 ^ 62 }
         ensures book { self.new.past.book ≡ self.old.past.book }
         ensures added { MatchBool result (self.new.past.log ≡ self.old.past.log ++ N.next ∷ []) (Unit {0}) }

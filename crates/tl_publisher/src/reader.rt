@@ -8,11 +8,11 @@ ghost use Rattle.tl_publisher.specs.Rules.{knows};
 ghost use Rattle.tl_publisher.specs.Stages as stages;
 ghost use Rattle.tl_publisher.specs.Answers.{AnswersBytes, AnswersHead};
 
+use crate::board_copy::BoardCopy;
 use crate::fault::GetFault;
 use crate::past::Past;
 use crate::published::Published;
-use crate::rule::{Look, CopyReader};
-use crate::board_copy::BoardCopy;
+use crate::rule::{CopyReader, Look};
 use core::mem::replace_with;
 use std::alloc::{AllocError, Allocator};
 use std::marker::Model;

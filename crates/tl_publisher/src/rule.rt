@@ -20,6 +20,7 @@ impl Model for Known {
     ghost view = { λ _. rules.newcomer };
 }
 
+/// The rule of the board: it shows its own history, and each that was told of its book was told of the board's own.
 pub struct BoardRule;
 
 impl<A: Allocator> Protocol<BoardCopy<A>, Known> for BoardRule {

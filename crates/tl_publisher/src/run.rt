@@ -20,8 +20,8 @@ use std::marker::Model;
 use std::sync::Wait;
 use tl_sequencer::{Complete, EndRefused, Ended, Incomplete, Sequencer, TakeFault};
 
-/// A log, the growth of its tiles, and the board that shows it. Contracts see the log, how many of its entries the growth
-/// has taken in, and the history of publications.
+/// A log, the growth of its tiles, and the board that shows it. Contracts see the log, how many of its entries the
+/// growth has taken in, and the history of publications.
 #[derive(Drop)]
 pub(crate) struct Run<R: Wait + Drop> {
     log: Sequencer<Global, Global>,
@@ -31,7 +31,7 @@ pub(crate) struct Run<R: Wait + Drop> {
 
 impl<R: Wait + Drop> Model for Run<R> {
     ghost use Rattle.std.specs.Global.{Global as GlobalValue};
-    ghost use Rattle.tl_publisher.specs.Inner.Running as running;
+    ghost use Rattle.tl_publisher.specs.Running as running;
 
     ghost Value = { running.Running GlobalValue };
 

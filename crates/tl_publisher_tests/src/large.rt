@@ -36,7 +36,10 @@ fn publish_step<R: Wait + Drop>(
     requires { IsOperating (⟦<Operator<R> as Shown>⟧.shown operator.old) }
     ensures { IfOk result (λ _. IsOperating (⟦<Operator<R> as Shown>⟧.shown operator.new)) }
 {
-    if !send_many(alloc, submitter, count)? || operator.take(0, count).is_err() {
+    if !send_many(alloc, submitter, count)? {
+        return Ok(None);
+    }
+    if operator.take(0, count).is_err() {
         return Ok(None);
     }
     match operator.publish() {
@@ -58,9 +61,10 @@ fn publish_steps<R: Wait + Drop>(
     let mut size = 0u64;
     for step in STEPS {
         size = size.saturating_add(step);
-        if publish_step(alloc, operator, submitter, step)? != Some(size)
-            || size_of(reader) != Some(size)
-        {
+        if publish_step(alloc, operator, submitter, step)? != Some(size) {
+            return Ok(false);
+        }
+        if size_of(reader) != Some(size) {
             return Ok(false);
         }
     }
@@ -68,12 +72,7 @@ fn publish_steps<R: Wait + Drop>(
 }
 
 // Whether the reader finds so many bytes.
-fn has(
-    alloc: Global,
-    reader: &mut BoardReader<Global>,
-    resource: Resource,
-    length: u64,
-) -> bool {
+fn has(alloc: Global, reader: &mut BoardReader<Global>, resource: Resource, length: u64) -> bool {
     found(alloc, reader, resource).map(|bytes| bytes.len() as u64) == Some(length)
 }
 
@@ -85,8 +84,12 @@ fn has_pair(alloc: Global, reader: &mut BoardReader<Global>, index: u64, width: 
         index,
         width,
     };
-    has(alloc, reader, Resource::Entries { index, width }, 4 * width as u64)
-        && has(alloc, reader, Resource::Tile(tile), 32 * width as u64)
+    has(
+        alloc,
+        reader,
+        Resource::Entries { index, width },
+        4 * width as u64,
+    ) && has(alloc, reader, Resource::Tile(tile), 32 * width as u64)
 }
 
 // A tile that isn't there.
@@ -108,15 +111,24 @@ fn has_no(
 #[test]
 fn all_that_was_published_stays(rt: HostRuntime) -> Result<(), Fail> {
     let alloc = rt.alloc();
-    let (mut operator, mut submitters, mut reader) =
-        opened(&rt, alloc, signers(alloc)?, 1, 4096, 100_000)?;
+    let (mut operator, mut submitters, mut reader) = opened(
+        &rt,
+        alloc,
+        signers(alloc)?,
+        1,
+        4096,
+        100_000,
+    )?;
     let mut submitter = submitters.pop().unwrap();
     assert!(rt; publish_steps(alloc, &mut operator, &mut submitter, &mut reader)?);
     let mut size = 0u64;
     for step in STEPS {
         size = size.saturating_add(step);
         let width = (size % 256) as u32;
-        assert!(rt; width == 0 || has_pair(alloc, &mut reader, size / 256, width), "{size}");
+        assert!(rt;
+            width == 0 || has_pair(alloc, &mut reader, size / 256, width),
+            "{size}"
+        );
     }
     for index in 0..size / 256 {
         assert!(rt; has_pair(alloc, &mut reader, index, 256), "{index}");

@@ -40,11 +40,12 @@ pub fn opened<R: Wait + Drop>(
     ensures own { IfOk result (λ r. All (λ s. IsSenderOf s (⟦<Operator<R> as Shown>⟧.shown r.0).log) r.1.items) }
     ensures many { IfOk result (λ r. vec_len r.1 ≡ lanes) }
 {
-    let (operator, submitters, mut readers) =
-        match Operator::open(rt, alloc, ORIGIN, signers, lanes, capacity, limit, 1) {
-            Ok(opened) => opened,
-            Err(fault) => return Err(fault),
-        };
+    let (operator, submitters, mut readers) = match Operator::open(
+        rt, alloc, ORIGIN, signers, lanes, capacity, limit, 1,
+    ) {
+        Ok(opened) => opened,
+        Err(fault) => return Err(fault),
+    };
     let reader = readers.pop().unwrap();
     Ok((operator, submitters, reader))
 }
@@ -61,8 +62,14 @@ pub fn opened_pair<R: Wait + Drop>(
     ensures zero { IfOk result (λ r. IsSenderOf r.1 (⟦<Operator<R> as Shown>⟧.shown r.0).log) }
     ensures one { IfOk result (λ r. IsSenderOf r.2 (⟦<Operator<R> as Shown>⟧.shown r.0).log) }
 {
-    let (operator, mut submitters, reader) =
-        opened(rt, alloc, signers(alloc)?, 2, capacity, limit)?;
+    let (operator, mut submitters, reader) = opened(
+        rt,
+        alloc,
+        signers(alloc)?,
+        2,
+        capacity,
+        limit,
+    )?;
     let one = submitters.pop().unwrap();
     let zero = submitters.pop().unwrap();
     Ok((operator, zero, one, reader))
@@ -136,11 +143,7 @@ pub fn end_lane<R: Wait + Drop>(operator: &mut Operator<R>, submitter: Sender) -
 }
 
 /// What the reader finds under a resource, and nothing where it got no answer.
-pub fn found(
-    alloc: Global,
-    reader: &mut BoardReader<Global>,
-    resource: Resource,
-) -> Option<Vec<u8>>
+pub fn found(alloc: Global, reader: &mut BoardReader<Global>, resource: Resource) -> Option<Vec<u8>>
     ensures { reader.new.book ≡ reader.old.book }
 {
     match reader.get(alloc, &resource) {

@@ -10,11 +10,7 @@ use tl_sequencer::OpenFault;
 use tl_testing::LengthKey;
 
 // So many signers by length keys of this name.
-fn signers_of(
-    alloc: Global,
-    name: &str,
-    count: u32,
-) -> Result<Vec<Box<dyn Signer>>, AllocError> {
+fn signers_of(alloc: Global, name: &str, count: u32) -> Result<Vec<Box<dyn Signer>>, AllocError> {
     let mut all: Vec<Box<dyn Signer>> = Vec::new(alloc);
     for id in 0..count {
         all.push(Box::new(alloc, LengthKey::new(alloc, name, id)?)?)?;
@@ -69,7 +65,10 @@ fn capacity_and_limit_are_the_sequencers(rt: HostRuntime) -> Result<(), Fail> {
         ((0, 0), Some(OperatorFault::Lanes(OpenFault::Capacity))),
         ((65_537, 9), Some(OperatorFault::Lanes(OpenFault::Capacity))),
         ((4, 0), Some(OperatorFault::Lanes(OpenFault::Limit))),
-        ((4, 4_294_967_296), Some(OperatorFault::Lanes(OpenFault::Limit))),
+        (
+            (4, 4_294_967_296),
+            Some(OperatorFault::Lanes(OpenFault::Limit)),
+        ),
         ((65_536, 4_294_967_295), None),
     ];
     for ((capacity, limit), want) in wanted {

@@ -61,24 +61,39 @@ fn full_tile(level: u32) -> Resource {
 #[test]
 fn what_was_filled_is_shown_after_a_signer_refused(rt: HostRuntime) -> Result<(), Fail> {
     let alloc = rt.alloc();
-    let (mut operator, mut submitters, mut reader) =
-        opened(&rt, alloc, reluctant_signers(alloc)?, 1, 512, 1000)?;
+    let (mut operator, mut submitters, mut reader) = opened(
+        &rt,
+        alloc,
+        reluctant_signers(alloc)?,
+        1,
+        512,
+        1000,
+    )?;
     let mut submitter = submitters.pop().unwrap();
     for _ in 0..300 {
         assert!(rt; send(alloc, &mut submitter, b"xy")?);
     }
     assert_eq!(rt; operator.take(0, 1000), Ok(300));
-    assert_eq!(rt; publish(&mut operator, &mut reader), Err(PublishFault::Sign(1)));
+    assert_eq!(rt;
+        publish(&mut operator, &mut reader),
+        Err(PublishFault::Sign(1))
+    );
     assert_eq!(rt; size_of(&mut reader), None);
     assert!(rt; found(alloc, &mut reader, Resource::Checkpoint).is_none());
     assert_eq!(rt; publish(&mut operator, &mut reader), Ok(300));
     assert_eq!(rt; size_of(&mut reader), Some(300));
     let tile = found(alloc, &mut reader, full_tile(0)).ok_or("no tile")?;
     assert_eq!(rt; tile.len(), 8192);
-    let bundle = Resource::Entries { index: 1, width: 44 };
+    let bundle = Resource::Entries {
+        index: 1,
+        width: 44,
+    };
     let bundle = found(alloc, &mut reader, bundle).ok_or("no bundle")?;
     assert_eq!(rt; bundle.len(), 176);
-    assert_eq!(rt; publish(&mut operator, &mut reader), Err(PublishFault::NothingNew));
+    assert_eq!(rt;
+        publish(&mut operator, &mut reader),
+        Err(PublishFault::NothingNew)
+    );
     Ok(())
 }
 
@@ -91,10 +106,12 @@ fn board_of_a_dropped_operator_is_gone(rt: HostRuntime) -> Result<(), Fail> {
     assert_eq!(rt; size_of(&mut reader), Some(0));
     drop(operator);
     assert_eq!(rt; reader.head(), Err(GetFault::Gone));
-    assert!(rt; matches!(
-        reader.get(alloc, &Resource::Checkpoint),
-        Err(GetFault::Gone)
-    ));
+    assert!(rt;
+        matches!(
+            reader.get(alloc, &Resource::Checkpoint),
+            Err(GetFault::Gone)
+        )
+    );
     Ok(())
 }
 

@@ -79,8 +79,7 @@ fn show_next<R: Wait + Drop>(operator: &mut Operator<R>, flag: &AtomicU64, size:
 fn reader_sees_each_size_in_turn(rt: HostRuntime) -> Result<(), Fail> {
     let alloc = rt.alloc();
     for _ in 0..100 {
-        let (mut operator, mut submitters, reader) =
-            opened(&rt, alloc, signers(alloc)?, 1, 4, 9)?;
+        let (mut operator, mut submitters, reader) = opened(&rt, alloc, signers(alloc)?, 1, 4, 9)?;
         let mut submitter = submitters.pop().unwrap();
         assert!(rt; send(alloc, &mut submitter, b"x")?);
         assert!(rt; send(alloc, &mut submitter, b"y")?);

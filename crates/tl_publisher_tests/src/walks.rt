@@ -17,12 +17,16 @@ use tl_tile::{Resource, Tile};
 
 // How many entries are sent, how often the reader looks, and how often a thread tries before it gives up.
 const ENTRIES: u64 = 1500;
+
 const LOOKS: u64 = 4000;
+
 const TRIES: u64 = 10_000_000;
 
 // The next number of a walk (a linear congruential generator).
 fn next(number: u64) -> u64 {
-    number.wrapping_mul(6_364_136_223_846_793_005).wrapping_add(1_442_695_040_888_963_407)
+    number
+        .wrapping_mul(6_364_136_223_846_793_005)
+        .wrapping_add(1_442_695_040_888_963_407)
 }
 
 // The entry with this number: up to 70 bytes.
@@ -102,39 +106,37 @@ struct Look {
 }
 
 // A tile of this level.
-fn tile(level: u32, index: u64, width: u64) -> Resource {
+fn tile(level: u32, index: u64, width: u32) -> Resource {
     Resource::Tile(Tile {
         level,
         index,
-        width: width as u32,
+        width,
     })
 }
 
 // A bundle.
-fn bundle(index: u64, width: u64) -> Resource {
-    Resource::Entries {
-        index,
-        width: width as u32,
-    }
+fn bundle(index: u64, width: u32) -> Resource {
+    Resource::Entries { index, width }
 }
 
 // A resource that a log of this size may have.
 fn pick(random: u64, size: u64) -> Resource {
     let full = size / 256;
+    let last = (size % 256) as u32;
     let some = (random >> 40) % (full + 1);
     match (random >> 33) % 7 {
         0 => Resource::Checkpoint,
-        1 => bundle(full, size % 256),
-        2 => tile(0, full, size % 256),
+        1 => bundle(full, last),
+        2 => tile(0, full, last),
         3 => bundle(some, 256),
         4 => tile(0, some, 256),
-        5 => tile(1, 0, full),
-        _ => bundle(some, (random >> 50) % 257),
+        5 => tile(1, 0, (full % 257) as u32),
+        _ => bundle(some, ((random >> 50) % 257) as u32),
     }
 }
 
 // One look.
-fn look(alloc: Global, reader: &mut BoardReader<Global>, random: u64) -> Option<Look> {
+fn look_once(alloc: Global, reader: &mut BoardReader<Global>, random: u64) -> Option<Look> {
     let before = size_of(reader);
     let resource = pick(random, before.unwrap_or(0) % 65_536);
     let Ok(bytes) = reader.get(alloc, &resource) else {
@@ -156,7 +158,7 @@ fn wander(alloc: Global, reader: BoardReader<Global>) -> Result<Vec<Look>, Alloc
     let mut random = 11;
     for _ in 0..LOOKS {
         random = next(random);
-        if let Some(one) = look(alloc, &mut reader, random) {
+        if let Some(one) = look_once(alloc, &mut reader, random) {
             looks.push(one)?;
         }
         thread::yield_now();
@@ -180,37 +182,69 @@ fn needs(size: u64, resource: &Resource) -> bool {
     }
 }
 
-// The bytes of a tile or bundle over these entries.
+// The entries from a place on, each with its length in front.
+fn bundle_bytes(
+    alloc: Global,
+    entries: &[Vec<u8>],
+    start: usize,
+    width: usize,
+) -> Result<Vec<u8>, AllocError> {
+    let mut bytes = Vec::new(alloc);
+    for entry in entries.iter().skip(start).take(width) {
+        bytes.extend_from_slice(&((entry.len() % 65_536) as u16).to_be_bytes())?;
+        bytes.extend_from_slice(entry)?;
+    }
+    Ok(bytes)
+}
+
+// The leaf hashes of entries from a place on.
+fn leaves(
+    alloc: Global,
+    entries: &[Vec<u8>],
+    start: usize,
+    width: usize,
+) -> Result<Vec<u8>, AllocError> {
+    let mut bytes = Vec::new(alloc);
+    for entry in entries.iter().skip(start).take(width) {
+        bytes.extend_from_slice(leaf_hash(Sha256Tree, entry).as_bytes())?;
+    }
+    Ok(bytes)
+}
+
+// The roots of runs of 256 entries, from a run on.
+fn roots(
+    alloc: Global,
+    entries: &[Vec<u8>],
+    start: usize,
+    width: usize,
+) -> Result<Vec<u8>, AllocError> {
+    let mut bytes = Vec::new(alloc);
+    for run in entries.chunks(256).skip(start).take(width) {
+        bytes.extend_from_slice(entry_root(Sha256Tree, run).as_bytes())?;
+    }
+    Ok(bytes)
+}
+
+// The bytes of a tile of the two lowest levels, or of a bundle, over these entries.
 fn bytes_of(
     alloc: Global,
     entries: &[Vec<u8>],
     resource: &Resource,
 ) -> Result<Vec<u8>, AllocError> {
-    let mut bytes = Vec::new(alloc);
     match resource {
-        Resource::Checkpoint => {}
+        Resource::Checkpoint => Ok(Vec::new(alloc)),
         Resource::Entries { index, width } => {
             let start = index.saturating_mul(256) as usize;
-            for entry in entries.iter().skip(start).take(*width as usize) {
-                bytes.extend_from_slice(&(entry.len() as u16).to_be_bytes())?;
-                bytes.extend_from_slice(entry)?;
-            }
+            bundle_bytes(alloc, entries, start, *width as usize)
         }
         Resource::Tile(tile) => {
             let start = tile.index.saturating_mul(256) as usize;
-            let width = tile.width as usize;
-            if tile.level == 0 {
-                for entry in entries.iter().skip(start).take(width) {
-                    bytes.extend_from_slice(leaf_hash(Sha256Tree, entry).as_bytes())?;
-                }
-            } else {
-                for part in entries.chunks(256).skip(start).take(width) {
-                    bytes.extend_from_slice(entry_root(Sha256Tree, part).as_bytes())?;
-                }
+            match tile.level {
+                0 => leaves(alloc, entries, start, tile.width as usize),
+                _ => roots(alloc, entries, start, tile.width as usize),
             }
         }
     }
-    Ok(bytes)
 }
 
 // The checkpoint of a size, signed.
@@ -244,25 +278,31 @@ fn is_right(
     look: &Look,
 ) -> Result<bool, AllocError> {
     let Some(bytes) = &look.bytes else {
-        let missed = all
-            .iter()
-            .any(|one| Some(one.size) <= look.before && needs(one.size, &look.resource));
+        let missed = all.iter().any(|one| Some(one.size) <= look.before
+            && needs(one.size, &look.resource));
         return Ok(!missed);
     };
     if let Resource::Checkpoint = look.resource {
         return Ok(is_any(all, look));
     }
-    let needed = all
-        .iter()
-        .any(|one| Some(one.size) <= look.after && needs(one.size, &look.resource));
+    let needed = all.iter().any(|one| Some(one.size) <= look.after
+        && needs(one.size, &look.resource));
     Ok(needed && *bytes == bytes_of(alloc, entries, &look.resource)?)
 }
 
 #[test]
 fn each_answer_is_of_what_was_published(rt: HostRuntime) -> Result<(), Fail> {
     let alloc = rt.alloc();
-    let (mut operator, mut submitters, mut readers) =
-        Operator::open(&rt, alloc, ORIGIN, signers(alloc)?, 1, 64, 2 * ENTRIES, 2)?;
+    let (mut operator, mut submitters, mut readers) = Operator::open(
+        &rt,
+        alloc,
+        ORIGIN,
+        signers(alloc)?,
+        1,
+        64,
+        2 * ENTRIES,
+        2,
+    )?;
     let submitter = submitters.pop().ok_or("no submitter")?;
     let reader = readers.pop().ok_or("no reader")?;
     let mut own = readers.pop().ok_or("no second reader")?;
@@ -278,10 +318,18 @@ fn each_answer_is_of_what_was_published(rt: HostRuntime) -> Result<(), Fail> {
         entries.push(entry_of(alloc, number)?)?;
     }
     for one in all.iter() {
-        assert!(rt; one.note == note_of(alloc, entries.as_slice(), one.size)?, "{}", one.size);
+        assert!(rt;
+            one.note == note_of(alloc, entries.as_slice(), one.size)?,
+            "{}",
+            one.size
+        );
     }
     for look in looks.iter() {
-        assert!(rt; is_right(alloc, entries.as_slice(), all.as_slice(), look)?, "{:?}", look.resource);
+        assert!(rt;
+            is_right(alloc, entries.as_slice(), all.as_slice(), look)?,
+            "{:?}",
+            look.resource
+        );
     }
     Ok(())
 }

@@ -10,7 +10,8 @@ use tl_publisher::{Board, BoardReader, PublishFault};
 use tl_tile::{Resource, Tile};
 
 // The checkpoint of the empty log, signed by the length key.
-const EMPTY_NOTE: &str = "example.com/log\n0\n47DEQpj8HBSa+/TImW+5JCeuQeRkm5NMpJWZG3hSuFU=\n\n— example.com/log AQIDBAAAAAAAAAA/\n";
+const EMPTY_NOTE: &str =
+    "example.com/log\n0\n47DEQpj8HBSa+/TImW+5JCeuQeRkm5NMpJWZG3hSuFU=\n\n— example.com/log AQIDBAAAAAAAAAA/\n";
 
 #[test]
 fn empty_log_is_published_once(rt: HostRuntime) -> Result<(), Fail> {
@@ -20,16 +21,35 @@ fn empty_log_is_published_once(rt: HostRuntime) -> Result<(), Fail> {
     assert!(rt; found(alloc, &mut reader, Resource::Checkpoint).is_none());
     assert_eq!(rt; size_of(&mut reader), None);
     assert_eq!(rt; publish(&mut operator, &mut reader), Ok(0));
-    assert!(rt; shows(alloc, &mut reader, Resource::Checkpoint, EMPTY_NOTE.as_bytes()));
+    assert!(rt;
+        shows(
+            alloc,
+            &mut reader,
+            Resource::Checkpoint,
+            EMPTY_NOTE.as_bytes()
+        )
+    );
     assert_eq!(rt; size_of(&mut reader), Some(0));
-    assert_eq!(rt; publish(&mut operator, &mut reader), Err(PublishFault::NothingNew));
-    assert!(rt; shows(alloc, &mut reader, Resource::Checkpoint, EMPTY_NOTE.as_bytes()));
+    assert_eq!(rt;
+        publish(&mut operator, &mut reader),
+        Err(PublishFault::NothingNew)
+    );
+    assert!(rt;
+        shows(
+            alloc,
+            &mut reader,
+            Resource::Checkpoint,
+            EMPTY_NOTE.as_bytes()
+        )
+    );
     Ok(())
 }
 
 // Bundles of a1, of a1 and b1, and of a1, b1 and a2.
 const ONE: [u8; 4] = [0, 2, 0x61, 0x31];
+
 const TWO: [u8; 8] = [0, 2, 0x61, 0x31, 0, 2, 0x62, 0x31];
+
 const THREE: [u8; 12] = [0, 2, 0x61, 0x31, 0, 2, 0x62, 0x31, 0, 2, 0x61, 0x32];
 
 // The first bundle, of this width.
@@ -74,11 +94,20 @@ fn two_lanes_from_open_to_close(rt: HostRuntime) -> Result<(), Fail> {
     let (mut operator, mut zero, mut one, mut reader) = opened_pair(&rt, alloc, 4, 9)?;
     assert!(rt; send(alloc, &mut zero, b"a1")? && send(alloc, &mut zero, b"a2")?);
     assert!(rt; send(alloc, &mut one, b"b1")?);
-    assert_eq!(rt; take_and_publish(&mut operator, &mut reader, 0, 1), Some((1, 1)));
+    assert_eq!(rt;
+        take_and_publish(&mut operator, &mut reader, 0, 1),
+        Some((1, 1))
+    );
     assert_eq!(rt; size_of(&mut reader), Some(1));
-    assert_eq!(rt; take_and_publish(&mut operator, &mut reader, 1, 1), Some((1, 2)));
+    assert_eq!(rt;
+        take_and_publish(&mut operator, &mut reader, 1, 1),
+        Some((1, 2))
+    );
     assert_eq!(rt; size_of(&mut reader), Some(2));
-    assert_eq!(rt; take_and_publish(&mut operator, &mut reader, 0, 1), Some((1, 3)));
+    assert_eq!(rt;
+        take_and_publish(&mut operator, &mut reader, 0, 1),
+        Some((1, 3))
+    );
     assert!(rt; sees_three(alloc, &mut reader));
     assert_eq!(rt; end_lane(&mut operator, zero), Some(0));
     let Err(back) = operator.close() else {
@@ -103,7 +132,10 @@ fn log_is_in_the_order_of_takes(rt: HostRuntime) -> Result<(), Fail> {
     assert!(rt; send(alloc, &mut zero, b"a1")? && send(alloc, &mut zero, b"a2")?);
     assert!(rt; send(alloc, &mut one, b"b1")?);
     assert_eq!(rt; operator.take(1, 1), Ok(1));
-    assert_eq!(rt; take_and_publish(&mut operator, &mut reader, 0, 2), Some((2, 3)));
+    assert_eq!(rt;
+        take_and_publish(&mut operator, &mut reader, 0, 2),
+        Some((2, 3))
+    );
     let bytes = [0, 2, 0x62, 0x31, 0, 2, 0x61, 0x31, 0, 2, 0x61, 0x32];
     assert!(rt; shows(alloc, &mut reader, bundle(3), &bytes));
     assert!(rt; found(alloc, &mut reader, bundle(1)).is_none());

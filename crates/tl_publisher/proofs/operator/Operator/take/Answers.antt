@@ -1,6 +1,6 @@
 use Rattle.std.proofs.Common.{refl, ap}
 use Rattle.std.proofs.lemmas.Result.{IfErr-weaker}
-use Rattle.tl_publisher.specs.Inner.Running.{Running}
+use Rattle.tl_publisher.specs.Running.{Running}
 use Rattle.tl_publisher.proofs.Operations.{operating_takes}
 use Rattle.tl_publisher.proofs.operator.Operator.take.Goals as goal
 

@@ -1,7 +1,7 @@
 use Rattle.std.proofs.Common.{◌≡◌, ◌-◌, length}
 use Rattle.tl_sequencer.specs.Log.{entries_of}
 use Rattle.tl_sequencer.specs.Steps.{IsLog}
-use Rattle.tl_publisher.specs.Inner.Running.{IsRunning}
+use Rattle.tl_publisher.specs.Running.{IsRunning}
 use Rattle.tl_publisher.proofs.run.Run.grow.Given as goal
 
 abbrev pub invariant-loop-self : goal.invariant-loop-self

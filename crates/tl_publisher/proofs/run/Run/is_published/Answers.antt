@@ -2,7 +2,7 @@ use Rattle.std.proofs.Common.{subst, nat_eq}
 use Rattle.std.specs.Prelude.{IsTrue}
 use Rattle.tl_sequencer.specs.Log.{entries_of}
 use Rattle.tl_publisher.specs.Publishing.{EndsWith}
-use Rattle.tl_publisher.specs.Inner.Running.{Running}
+use Rattle.tl_publisher.specs.Running.{Running}
 use Rattle.tl_publisher.proofs.Runs.{published_test}
 use Rattle.tl_publisher.proofs.run.Run.is_published.Goals as goal
 

@@ -1,8 +1,5 @@
 use Rattle.std.proofs.Common.{◌+◌, ◌*◌}
-use Rattle.tl_command.proofs.growing.shares.+fn-grow-join+arg2+fn-grow-join+arg3+grow.Given as goal
-
-abbrev pub decreases-join+arg2 : goal.decreases-join+arg2
-decreases-join+arg2 g l = 2 * l.fewer + 1
+use Rattle.tl_command.proofs.growing.shares.+fn-grow-join+arg3+grow.Given as goal
 
 abbrev pub decreases-join+arg3 : goal.decreases-join+arg3
 decreases-join+arg3 g l = 2 * l.others + 1
