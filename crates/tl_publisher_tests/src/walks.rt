@@ -64,6 +64,29 @@ struct Publication {
     note: Vec<u8>,
 }
 
+// Publishes now and then: what was, with the checkpoint that the reader then finds.
+fn publish_sometimes<R: Wait + Drop>(
+    alloc: Global,
+    operator: &mut Operator<R>,
+    reader: &mut BoardReader<Global>,
+    random: u64,
+) -> Option<Publication>
+    requires { IsOperating (⟦<Operator<R> as Shown>⟧.shown operator.old) }
+    ensures { IsOperating (⟦<Operator<R> as Shown>⟧.shown operator.new) }
+{
+    if (random >> 60) % 3 != 0 {
+        return None;
+    }
+    let Ok(published) = operator.publish() else {
+        return None;
+    };
+    let Some(note) = found(alloc, reader, Resource::Checkpoint) else {
+        return None;
+    };
+    let size = published.size();
+    Some(Publication { size, note })
+}
+
 // Takes and publishes at random until all entries are published: what was.
 fn publish_each<R: Wait + Drop>(
     alloc: Global,
@@ -79,16 +102,11 @@ fn publish_each<R: Wait + Drop>(
         if operator.take(0, (random >> 33) % 40).is_err() {
             return Ok(all);
         }
-        if (random >> 60) % 3 == 0 {
-            if let Ok(published) = operator.publish() {
-                let size = published.size();
-                let Some(note) = found(alloc, reader, Resource::Checkpoint) else {
-                    return Ok(all);
-                };
-                all.push(Publication { size, note })?;
-                if size == ENTRIES {
-                    return Ok(all);
-                }
+        if let Some(one) = publish_sometimes(alloc, operator, reader, random) {
+            let size = one.size;
+            all.push(one)?;
+            if size == ENTRIES {
+                return Ok(all);
             }
         }
         thread::yield_now();
