@@ -30,7 +30,8 @@ const READERS: u32 = 2;
 
 // Takes from the lanes in turn, up to so many entries in all: how many. None where a call is refused.
 fn take_some<R: Wait + Drop>(operator: &mut Operator<R>, most: u64) -> Option<u64>
-    ensures { IsOperating (⟦<Operator<R> as Shown>⟧.shown operator.old) → IsOperating (⟦<Operator<R> as Shown>⟧.shown operator.new) }
+    requires { IsOperating (⟦<Operator<R> as Shown>⟧.shown operator.old) }
+    ensures { IsOperating (⟦<Operator<R> as Shown>⟧.shown operator.new) }
 {
     let mut count = 0u64;
     for lane in 0..LANES {
@@ -42,7 +43,8 @@ fn take_some<R: Wait + Drop>(operator: &mut Operator<R>, most: u64) -> Option<u6
 
 // Takes so many entries, waiting for them.
 fn take_batch<R: Wait + Drop>(operator: &mut Operator<R>, batch: u64) -> bool
-    ensures { IsOperating (⟦<Operator<R> as Shown>⟧.shown operator.old) → IsOperating (⟦<Operator<R> as Shown>⟧.shown operator.new) }
+    requires { IsOperating (⟦<Operator<R> as Shown>⟧.shown operator.old) }
+    ensures { IsOperating (⟦<Operator<R> as Shown>⟧.shown operator.new) }
 {
     let mut count = 0u64;
     for _ in 0..u64::MAX {
@@ -70,9 +72,12 @@ fn publish_each<C: Clock, R: Wait + Drop>(
 {
     let mut longest = Duration::ZERO;
     let mut size = 0u64;
-    while size < ENTRIES {
+    for _ in 0..ENTRIES {
+        if size >= ENTRIES {
+            return Ok(Some(longest));
+        }
         let next = size.saturating_add(batch.max(1)).min(ENTRIES);
-        if !take_batch(operator, next - size) {
+        if !take_batch(operator, next.saturating_sub(size)) {
             return Ok(None);
         }
         let start = Instant::now(rt)?;
