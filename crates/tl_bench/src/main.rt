@@ -4,17 +4,21 @@
 mod chains;
 mod plain;
 mod proving;
+mod publishing;
 mod reading;
 mod rings;
 mod together;
 
 use chains::chains;
 use proving::proofs;
+use publishing::publish;
 use reading::tiles;
 use rings::sequencer;
 use sha2::{Digest, Sha256};
 use std::alloc::Global;
 use std::process::ExitCode;
+use std::sync::Wait;
+use std::thread::Threads;
 use std::time::Clock;
 use std::{env, io};
 
@@ -64,6 +68,18 @@ fn both_sizes<R: Clock + Print>(rt: &R, alloc: Global) -> io::Result<bool> {
     Ok(proofs(rt, alloc, 1_000)? && proofs(rt, alloc, 1_000_000)?)
 }
 
+// A log that is published each time it has so many entries more.
+fn published<R: Threads + Wait + Clock + Print + Copy + Drop>(
+    rt: &R,
+    alloc: Global,
+    batch: &String,
+) -> io::Result<bool> {
+    let Ok(batch) = batch.parse::<u64>() else {
+        return Ok(false);
+    };
+    Ok(publish(rt, alloc, batch)?.is_some())
+}
+
 fn main(rt: HostRuntime) -> ExitCode {
     let Ok(args) = env::args(&rt) else {
         return ExitCode::from(2);
@@ -76,6 +92,7 @@ fn main(rt: HostRuntime) -> ExitCode {
         [_, word] if word.as_str() == "sequencer" => measured(sequencer(&rt, rt.alloc())),
         [_, word] if word.as_str() == "proofs" => both_sizes(&rt, rt.alloc()),
         [_, word] if word.as_str() == "tiles" => tiles(&rt, rt.alloc()),
+        [_, word, batch] if word.as_str() == "publish" => published(&rt, rt.alloc(), batch),
         [_, word] if word.as_str() == "chains" => chains(&rt, rt.alloc()),
         _ => Ok(false),
     };
@@ -83,7 +100,7 @@ fn main(rt: HostRuntime) -> ExitCode {
         Ok(true) => ExitCode::SUCCESS,
         Ok(false) => {
             let _ = rt.eprintln(
-                "usage: tl_bench sha256 COUNT LENGTH .. | sequencer | proofs | tiles | chains",
+                "usage: tl_bench sha256 COUNT LENGTH .. | sequencer | proofs | tiles | publish COUNT | chains",
             );
             ExitCode::from(2)
         }

@@ -36,10 +36,14 @@ fn send_when_free(submitter: &mut Submitter<Global, Global>, entry: Vec<u8>) {
     }
 }
 
-// What the thread of a lane does.
-fn send_each(alloc: Global, submitter: Submitter<Global, Global>) -> Result<(), AllocError> {
+/// What the thread of a lane does: it sends so many entries.
+pub fn send_each(
+    alloc: Global,
+    submitter: Submitter<Global, Global>,
+    count: u64,
+) -> Result<(), AllocError> {
     let mut submitter = submitter;
-    for _ in 0..EACH {
+    for _ in 0..count {
         let entry = vec![in alloc; 7; BYTES]?;
         send_when_free(&mut submitter, entry);
     }
@@ -73,7 +77,7 @@ fn through_rings<R: Threads + Clock>(rt: &R, alloc: Global) -> io::Result<Option
     let start = Instant::now(rt)?;
     let mut threads = Vec::new(alloc);
     for submitter in submitters {
-        threads.push(thread::spawn(rt, move || send_each(alloc, submitter))?)?;
+        threads.push(thread::spawn(rt, move || send_each(alloc, submitter, EACH))?)?;
     }
     let whole = take_each(&mut log);
     let took = start.elapsed(rt)?;

@@ -3,3 +3,4 @@ pub mod ExtensionLemmas
 pub mod CosignatureLemmas
 pub mod OneText
 pub mod ParseLemmas
+pub mod NoteTexts

@@ -1,7 +1,12 @@
 -- What holds of the definitions of checkpoints alone (C2SP tlog-checkpoint, "Note text").
-use Rattle.std.specs.Prelude.{◌≡◌}
+use Rattle.std.specs.Prelude.{◌≡◌, IsUtf8}
+use Rattle.tl_note.specs.Note.{IsNoteText}
 use Rattle.tl_checkpoint.specs.Checkpoint.{Head, IsHead, checkpoint_text}
 
 -- two checkpoints with one text are one
 abbrev pub CheckpointIsOne : Type 0
 CheckpointIsOne = (c d : Head) → IsHead c → IsHead d → checkpoint_text c ≡ checkpoint_text d → c ≡ d
+
+-- the text of a checkpoint, in UTF-8, can be signed
+abbrev pub CheckpointIsNoteText : Type 0
+CheckpointIsNoteText = (c : Head) → IsHead c → IsUtf8 (checkpoint_text c) → IsNoteText (checkpoint_text c)

@@ -1,8 +1,13 @@
-//! The law of checkpoints: it holds of the definitions alone.
+//! Laws of checkpoints: they hold of the definitions alone.
 
-ghost use Rattle.tl_checkpoint.specs.Law.{CheckpointIsOne};
+ghost use Rattle.tl_checkpoint.specs.Law.{CheckpointIsNoteText, CheckpointIsOne};
 
 /// No text is that of two checkpoints, so `parse` gives the one that `write` was given.
 pub fn text_is_one_checkpoint()
     ensures { CheckpointIsOne }
+{}
+
+/// The text of a checkpoint is the text of a note, so it can be signed (C2SP signed-note, "Format").
+pub fn checkpoint_can_be_signed()
+    ensures { CheckpointIsNoteText }
 {}

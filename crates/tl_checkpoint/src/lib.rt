@@ -18,6 +18,6 @@ pub use checkpoint::{Checkpoint, CheckpointFault};
 pub use cosignature::{
     check_cosignature, cosign_line, cosign_line_as, cosign_message, cosignature_bytes,
 };
-pub use law::text_is_one_checkpoint;
+pub use law::{checkpoint_can_be_signed, text_is_one_checkpoint};
 pub use parsing::parse;
 pub use writing::write;

@@ -8,5 +8,4 @@ pub mod ProofTexts
 pub mod CountedLines
 pub mod GrowingLemmas
 pub mod WholeLines
-pub mod CheckpointTexts
 pub mod Filling

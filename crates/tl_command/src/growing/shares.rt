@@ -109,7 +109,19 @@ impl<A: Allocator + Copy> Growing<A> {
     }
 }
 
-// What is kept of a piece alone, that has so many tiles of lines, by so many threads: each has a part of the tiles.
+// What is kept of a piece alone, hashed by one thread.
+fn alone<B: Allocator + Copy>(workers: B, piece: &[u8]) -> Result<Growing<B>, AllocError>
+    requires { length piece.now < 2 ^ 32 }
+    ensures size { IfOk result (λ grown. grown.edge.size ≤ length piece.now) }
+    ensures grows { IfOk result (λ grown. IsGrowing grown piece.now) }
+{
+    let mut growing = Growing::new(workers);
+    growing.take(piece)?;
+    Ok(growing)
+}
+
+// What is kept of a piece alone, that has so many tiles of lines, by so many threads: each has a part of the tiles. This
+// thread starts the others one after another: where two threads start one each at a time, both may come on one processor.
 fn grow<H: Threads + Sync, B: Allocator + Copy + Send>(
     rt: &H,
     workers: B,
@@ -122,21 +134,18 @@ fn grow<H: Threads + Sync, B: Allocator + Copy + Send>(
     ensures grows { IfOk result (λ grown. IsGrowing grown piece.now) }
 {
     if threads <= 1 || tiles <= 1 || piece.len() < LEAST_SHARED {
-        let mut growing = Growing::new(workers);
-        growing.take(piece)?;
-        return Ok(growing);
+        return alone(workers, piece);
     }
-    let half = first_tiles(piece, tiles / 2);
-    let (front, back) = piece.split_at(half.end);
-    let left = tiles - half.count;
-    let fewer = threads / 2;
-    let others = threads - fewer;
+    let part = first_tiles(piece, (tiles / threads).max(1));
+    let (front, back) = piece.split_at(part.end);
+    let left = tiles.saturating_sub(part.count);
+    let others = threads - 1;
     let (first, second) = join(
         rt,
         move || -> Result<Growing<B>, AllocError>
-            requires { IsSync H.row × IsSend B.row × Frees B.Allocator B.dealloc_token × (length front.now < 2 ^ 32) }
+            requires { IsSend B.row × Frees B.Allocator B.dealloc_token × (length front.now < 2 ^ 32) }
             ensures { IfOk result (λ grown. (grown.edge.size ≤ length front.entry.now) × IsGrowing grown front.entry.now) }
-        { grow(rt, workers, front, half.count, fewer) },
+        { alone(workers, front) },
         move || -> Result<Growing<B>, AllocError>
             requires { IsSync H.row × IsSend B.row × Frees B.Allocator B.dealloc_token × (length back.now < 2 ^ 32) }
             ensures { IfOk result (λ grown. (grown.edge.size ≤ length back.entry.now) × IsGrowing grown back.entry.now) }

@@ -1,0 +1,58 @@
+-- An operator as its contracts see it, and what is true of each one that was opened, whatever calls moved it since.
+use Rattle.std.specs.Prelude.{◌≡◌, ℕ, List, [], length}
+use Rattle.std.specs.List.{All}
+use Rattle.tl_note.specs.Key.{SigningKey}
+use Rattle.tl_text.specs.Text.{IsOneLine}
+use Rattle.tl_sequencer.specs.Log.{Log, Sender, entries_of}
+use Rattle.tl_sequencer.specs.Merge.{IsMerge}
+use Rattle.tl_sequencer.specs.Opened.{IsOpened}
+use Rattle.tl_sequencer.specs.Steps.{IsComplete, sent_of}
+use Rattle.tl_publisher.specs.Histories.{Past, AreOf, IsGrowing}
+use Rattle.tl_publisher.specs.Signed.{AreSigners, AreSignedBy, no_quorum}
+use Rattle.tl_publisher.specs.Encoded.{AreEncoded}
+
+-- its origin, the keys that sign, its log, and the history of its publications
+pub record Operated (A : Type 0) : Type 0 where
+  pub origin : List ℕ
+  pub signers : List SigningKey
+  pub log : Log A
+  pub past : Past
+
+-- what was opened: an empty log with its submitters, under this origin and these keys, of which nothing is published
+pub record IsNew {A : Type 0} (words : List ℕ) (keys : List SigningKey) (lanes capacity limit : ℕ) (o : Operated A) (submitters : List (Sender A)) : Type 0 where
+  pub origin : o.origin ≡ words
+  pub signers : o.signers ≡ keys
+  pub log : IsOpened [] lanes capacity limit o.log submitters
+  pub unpublished : o.past.log ≡ []
+
+-- its checkpoints can be signed, and each publication is of a beginning of the log, goes on from the one before, and
+-- has a note of its own checkpoint with one line by each signer, in order
+pub record IsOperating {A : Type 0} (o : Operated A) : Type 0 where
+  pub origin : IsOneLine o.origin
+  pub signers : AreSigners o.signers
+  pub beginnings : AreOf (entries_of o.log) o.past.log
+  pub growing : IsGrowing o.past.log
+  pub signed : AreSignedBy o.origin o.signers no_quorum o.past.log
+
+-- origin and signers stay
+pub record IsOfSame {A : Type 0} (a b : Operated A) : Type 0 where
+  pub origin : b.origin ≡ a.origin
+  pub signers : b.signers ≡ a.signers
+
+-- each reader has seen this history, and there are so many
+pub record HaveSeen (past : Past) (count : ℕ) (readers : List Past) : Type 0 where
+  pub all : length readers ≡ count
+  pub each : All (λ seen. seen ≡ past) readers
+
+-- A log that was closed as complete: it holds each lane's entries once, in sent order, after its base, and all that was
+-- published is the specifications' encoding of beginnings of it, each longer than the one before, under notes signed by
+-- this operator's keys.
+pub record IsClosed {A : Type 0} (o : Operated A) (whole : Log A) (kept : Past) : Type 0 where
+  pub log : whole ≡ o.log
+  pub past : kept ≡ o.past
+  pub complete : IsComplete whole
+  pub merge : IsMerge (entries_of whole) whole.base (sent_of whole)
+  pub beginnings : AreOf (entries_of whole) kept.log
+  pub growing : IsGrowing kept.log
+  pub signed : AreSignedBy o.origin o.signers no_quorum kept.log
+  pub encoded : AreEncoded o.origin o.signers (entries_of whole) kept.log

@@ -1,0 +1,211 @@
+//! What the next publication will show.
+ghost use Rattle.std.specs.Prelude.{◌≡◌, ◌+◌, ◌-◌, ◌<◌, ◌≤◌, ◌^◌, ℕ, List, [], ◌∷◌, ◌++◌, vec_len, vec_capacity, length, take, drop, map, vec_items, slice_index_or, IfOk, OnOk, OnErr};
+ghost use Rattle.sha2.specs.Sha256.{sha256};
+ghost use Rattle.tl_hash.specs.Tree.{tree_hash};
+ghost use Rattle.tl_tile.specs.Bundle.{bundled_entry, IsShortEntry};
+ghost use Rattle.tl_tile.specs.TileText.{tile_text, partial_tile};
+ghost use Rattle.tl_tile.specs.RightEdge.{IsEdgeOf};
+ghost use Rattle.tl_publisher.specs.Filled.{filled_from};
+ghost use Rattle.tl_publisher.specs.Boards.{IsFaceOf};
+ghost use Rattle.tl_publisher.specs.Grown.{IsGrown, texts_of};
+
+use crate::board_copy::Change;
+use crate::face::{Face, Sheet};
+use crate::text::Text;
+use std::alloc::{AllocError, Allocator};
+use std::marker::Model;
+use std::mem;
+use tl_hash::{Hash, Sha256Tree};
+use tl_tile::{Edge, Tile, push_entry};
+
+/// A full bundle, and the full tiles that its last entry completed.
+#[derive(Drop)]
+pub struct Batch<A: Allocator> {
+    bundle: Vec<u8, A>,
+    tiles: Vec<(Tile, Vec<u8, A>), A>,
+}
+
+impl<A: Allocator> Model for Batch<A> {
+    ghost use Rattle.std.specs.Prelude.{List, ℕ, ◌∷◌, map, vec_items};
+
+    ghost Value = { List (List ℕ) };
+
+    ghost view = { λ b. b.bundle.items ∷ map (λ t. vec_items t.1) b.tiles.items };
+}
+
+/// The right edge of the log, its partial bundle, and the full bundles and tiles that are not yet published.
+#[derive(Drop)]
+pub struct Growth<A: Allocator> {
+    edge: Edge<Sha256Tree, A>,
+    bundle: Vec<u8, A>,
+    waiting: Vec<Batch<A>, A>,
+}
+
+impl<A: Allocator> Model for Growth<A> {
+    ghost use Rattle.tl_publisher.specs.Grown.{Grown};
+
+    ghost Value = { Grown };
+
+    ghost view = { λ g. record { edge = g.edge; bundle = g.bundle.items; waiting = g.waiting.items } };
+}
+
+// Puts an entry behind a bundle that has room for it.
+fn push_reserved_entry<A: Allocator>(bundle: &mut Vec<u8, A>, entry: &[u8])
+    requires room { vec_len bundle.old + (2 + length entry.now) ≤ vec_capacity bundle.old }
+    requires short { IsShortEntry entry.now }
+    ensures { bundle.new.items ≡ bundle.old.items ++ bundled_entry entry.now }
+{
+    let pushed = push_entry(bundle, entry);
+    prove!(pushed.is_ok());
+}
+
+impl<A: Allocator + Copy> Growth<A> {
+    /// Of a log with no entries.
+    pub(crate) fn new(alloc: A) -> Growth<A>
+        ensures { IsGrown sha256 0 [] result }
+    {
+        Growth {
+            edge: Edge::new(alloc, Sha256Tree),
+            bundle: Vec::new(alloc),
+            waiting: Vec::new(alloc),
+        }
+    }
+
+    /// The number of entries.
+    pub(crate) fn size(&self) -> u64
+        ensures { result ≡ self.now.edge.size }
+    {
+        self.edge.size()
+    }
+
+    /// The tree hash of the entries.
+    pub(crate) fn root(&self) -> Hash
+        ensures { (start : ℕ) (entries : List (List ℕ)) → IsGrown sha256 start entries self.now → result ≡ tree_hash sha256 entries }
+    {
+        self.edge.root()
+    }
+
+    /// Takes in one entry more. Where memory is refused nothing changes.
+    pub(crate) fn append(&mut self, entry: &[u8]) -> Result<(), AllocError>
+        requires room { self.old.edge.size < 2 ^ 32 - 1 }
+        requires short { IsShortEntry entry.now }
+        ensures grown { (start : ℕ) (entries : List (List ℕ)) → IsGrown sha256 start entries self.old → OnOk result (IsGrown sha256 start (entries ++ entry.now ∷ []) self.new) }
+        ensures size { OnOk result (self.new.edge.size ≡ self.old.edge.size + 1) }
+        ensures unchanged { OnErr result (self.new ≡ self.old) }
+    {
+        self.waiting.reserve(1)?;
+        self.bundle.reserve(2 + entry.len())?;
+        let tiles = self.edge.append(entry)?;
+        push_reserved_entry(&mut self.bundle, entry);
+        if self.edge.size() % 256 == 0 {
+            let alloc = *self.bundle.allocator();
+            let bundle = mem::replace(&mut self.bundle, Vec::new(alloc));
+            self.waiting.push_reserved(Batch { bundle, tiles });
+        }
+        Ok(())
+    }
+
+    /// What waits was published.
+    pub(crate) fn settle(&mut self)
+        ensures settled { (start : ℕ) (entries : List (List ℕ)) → IsGrown sha256 start entries self.old → IsGrown sha256 (length entries) entries self.new }
+        ensures size { self.new.edge.size ≡ self.old.edge.size }
+    {
+        self.waiting.clear();
+    }
+}
+
+// The bytes, to be shared.
+fn shared<A: Allocator + Copy>(alloc: A, bytes: &Vec<u8, A>) -> Result<Text<A>, AllocError>
+    ensures { IfOk result (λ text. text ≡ bytes.now.items) }
+{
+    let bytes = bytes.clone()?;
+    Text::new(alloc, bytes)
+}
+
+// Puts the bytes of tiles behind the others, to be shared.
+fn put_tiles<A: Allocator + Copy>(
+    alloc: A,
+    tiles: &Vec<(Tile, Vec<u8, A>), A>,
+    out: &mut Vec<Text<A>, A>,
+) -> Result<(), AllocError>
+    ensures { OnOk result (out.new.items ≡ out.old.items ++ map (λ t. vec_items t.1) tiles.now.items) }
+{
+    for tile in tiles {
+        out.push(shared(alloc, &tile.1)?)?;
+    }
+    Ok(())
+}
+
+impl<A: Allocator + Copy> Batch<A> {
+    // Puts its texts behind the others, to be shared.
+    fn put(&self, alloc: A, out: &mut Vec<Text<A>, A>) -> Result<(), AllocError>
+        ensures { OnOk result (out.new.items ≡ out.old.items ++ self.now) }
+    {
+        out.push(shared(alloc, &self.bundle)?)?;
+        put_tiles(alloc, &self.tiles, out)?;
+        Ok(())
+    }
+}
+
+// The texts that wait, to be shared.
+fn texts_in<A: Allocator + Copy>(
+    alloc: A,
+    waiting: &Vec<Batch<A>, A>,
+) -> Result<Vec<Text<A>, A>, AllocError>
+    ensures { IfOk result (λ texts. texts.items ≡ texts_of waiting.now.items) }
+{
+    let mut texts = Vec::new(alloc);
+    for batch in waiting {
+        batch.put(alloc, &mut texts)?;
+    }
+    Ok(texts)
+}
+
+// The bytes of the partial tile of a level, none where there is none.
+fn partial_bytes<A: Allocator + Copy>(
+    alloc: A,
+    edge: &Edge<Sha256Tree, A>,
+    level: u32,
+) -> Result<Vec<u8, A>, AllocError>
+    requires { level < 8 }
+    ensures { (entries : List (List ℕ)) → IsEdgeOf edge.now sha256 entries → IfOk result (λ bytes. bytes.items ≡ tile_text sha256 (partial_tile (length entries) level) entries) }
+{
+    match edge.partial(level)? {
+        Some((_tile, bytes)) => Ok(bytes),
+        None => Ok(Vec::new(alloc)),
+    }
+}
+
+// The bytes of the partial tiles, by level.
+fn partial_tiles<A: Allocator + Copy>(
+    alloc: A,
+    edge: &Edge<Sha256Tree, A>,
+) -> Result<Vec<Vec<u8, A>, A>, AllocError>
+    ensures { (entries : List (List ℕ)) → IsEdgeOf edge.now sha256 entries
+        → IfOk result (λ tiles. (level : ℕ) → level < 8 → slice_index_or (map vec_items tiles.items) level [] ≡ tile_text sha256 (partial_tile (length entries) level) entries) }
+{
+    let mut tiles = Vec::new(alloc);
+    for level in 0..8u32 {
+        tiles.push(partial_bytes(alloc, edge, level)?)?;
+    }
+    Ok(tiles)
+}
+
+impl<A: Allocator + Copy> Growth<A> {
+    /// What a publication of its entries adds, with this note.
+    pub(crate) fn change(&self, note: Vec<u8, A>) -> Result<Change<A>, AllocError>
+        ensures { (start : ℕ) (entries : List (List ℕ)) → IsGrown sha256 start entries self.now → IfOk result (λ c. (c.added ≡ filled_from sha256 entries start (length entries - start)) × IsFaceOf sha256 (record { entries = entries; note = note.items }) c.face) }
+    {
+        let alloc = *self.bundle.allocator();
+        let added = texts_in(alloc, &self.waiting)?;
+        let sheet = Sheet {
+            size: self.edge.size(),
+            root: self.edge.root(),
+            tiles: partial_tiles(alloc, &self.edge)?,
+            bundle: self.bundle.clone()?,
+            note,
+        };
+        let face = Face::new(alloc, sheet)?;
+        Ok(Change { added, face })
+    }
+}

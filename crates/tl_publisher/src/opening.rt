@@ -1,0 +1,121 @@
+//! How an operator is opened.
+
+ghost use Rattle.std.specs.Prelude.{◌≡◌, ◌≤◌, ◌<◌, ◌↔◌, ℕ, IfErr, IfOk, IsTrue, MatchOption, map};
+ghost use Rattle.tl_publisher.specs.Inner.Opening.{IsWant};
+ghost use Rattle.tl_publisher.specs.Operating.{HaveSeen, IsNew, IsOperating};
+ghost use Rattle.tl_publisher.specs.Publishing.{MayOpenAll, OpenRefusesOperator};
+ghost use Rattle.tl_publisher.specs.Signed.{AreSigners};
+
+use crate::fault::OperatorFault;
+use crate::operator::{Operator, Shown};
+use crate::reader::BoardReader;
+use crate::run::Run;
+use std::alloc::Global;
+use std::sync::Wait;
+use tl_note::{Signer, first_bad_name};
+use tl_sequencer::{OpenFault, Submitter};
+use tl_text::is_one_line;
+
+const MOST_SIGNERS: usize = 100;
+
+const MOST_READERS: u32 = 64;
+
+// Whether there are 1 to 100 signers, and each has a key's name.
+fn are_signers(signers: &[Box<dyn Signer>]) -> bool
+    ensures { IsTrue result ↔ AreSigners (map (λ s. signing_key s) signers.now) }
+{
+    let count = signers.len();
+    if count < 1 || count > MOST_SIGNERS {
+        return false;
+    }
+    match first_bad_name(signers) {
+        Some(_place) => false,
+        None => true,
+    }
+}
+
+// What is wrong with the origin, the signers or the number of readers.
+fn first_wrong(origin: &str, signers: &[Box<dyn Signer>], readers: u32) -> Option<OperatorFault>
+    ensures { MatchOption result (MayOpenAll origin.now (map (λ s. signing_key s) signers.now) readers)
+        (λ fault. (lanes capacity limit : ℕ) → OpenRefusesOperator origin.now (map (λ s. signing_key s) signers.now) lanes capacity limit readers fault) }
+{
+    if !is_one_line(origin) {
+        return Some(OperatorFault::Origin);
+    }
+    if !are_signers(signers) {
+        return Some(OperatorFault::Signers);
+    }
+    if readers < 1 || readers > MOST_READERS {
+        return Some(OperatorFault::Readers);
+    }
+    None
+}
+
+// So many readers, which have seen what was published so far.
+fn readers_of<R: Wait + Drop>(
+    alloc: Global,
+    run: &mut Run<R>,
+    count: u32,
+) -> Result<Vec<BoardReader<Global>>, OperatorFault>
+    ensures same { run.new ≡ run.old }
+    ensures readers { IfOk result (λ all. HaveSeen run.old.past count all.items) }
+    ensures refused { IfErr result IsWant }
+{
+    let mut all = Vec::with_capacity(alloc, count as usize)?;
+    for _reader in 0..count {
+        let Ok(reader) = run.reader() else {
+            return Err(OperatorFault::Place);
+        };
+        all.push_reserved(reader);
+    }
+    Ok(all)
+}
+
+impl<R: Wait + Drop> Operator<R> {
+    /// Opens an empty log of at most `limit` entries, with `lanes` lanes (1 to 64) whose rings have room for `capacity`
+    /// entries. The origin is one line, and there are 1 to 100 signers (C2SP tlog-checkpoint, signed-note). It gives a
+    /// submitter for each lane, in the order of the lanes, and `readers` readers (1 to 64). Nothing is published yet.
+    ///
+    /// Of the faults that apply, the first is answered; `Place` and `OutOfMemory` come only where no other does.
+    pub fn open(
+        rt: R,
+        alloc: Global,
+        origin: &str,
+        signers: Vec<Box<dyn Signer>>,
+        lanes: u32,
+        capacity: usize,
+        limit: u64,
+        readers: u32,
+    ) -> Result<
+        (
+            Operator<R>,
+            Vec<Submitter<Global, Global>>,
+            Vec<BoardReader<Global>>,
+        ),
+        OperatorFault,
+    >
+        ensures opened { IfOk result (λ r. IsNew origin.now (map (λ s. signing_key s) signers.items) lanes capacity limit (⟦<Operator<R> as Shown>⟧.shown r.0) r.1.items) }
+        ensures operating { IfOk result (λ r. IsOperating (⟦<Operator<R> as Shown>⟧.shown r.0)) }
+        ensures readers { IfOk result (λ r. HaveSeen (⟦<Operator<R> as Shown>⟧.shown r.0).past readers r.2.items) }
+        ensures refused { IfErr result (λ fault. OpenRefusesOperator origin.now (map (λ s. signing_key s) signers.items) lanes capacity limit readers fault) }
+    {
+        if let Some(fault) = first_wrong(origin, signers.as_slice(), readers) {
+            return Err(fault);
+        }
+        let (log, submitters) = match tl_sequencer::open(alloc, lanes, capacity, limit) {
+            Ok(opened) => opened,
+            Err(OpenFault::OutOfMemory) => return Err(OperatorFault::OutOfMemory),
+            Err(fault) => return Err(OperatorFault::Lanes(fault)),
+        };
+        let origin = String::from_str(alloc, origin)?;
+        let mut run = Run::open(rt, alloc, log, readers as usize)?;
+        let all = readers_of(alloc, &mut run, readers)?;
+        let operator = Operator {
+            alloc,
+            origin,
+            signers,
+            run,
+        };
+        Ok((operator, submitters, all))
+    }
+}

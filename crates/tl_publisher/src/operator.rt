@@ -1,0 +1,116 @@
+//! The operator of a log.
+
+ghost use Rattle.std.specs.Prelude.{◌≡◌, ◌≤◌, IfErr, IfOk};
+ghost use Rattle.tl_publisher.specs.Operating.{IsOfSame, IsOperating};
+ghost use Rattle.tl_publisher.specs.Publishing.{Publishes};
+ghost use Rattle.tl_sequencer.specs.Faults.{EndRefuses, MayTake, RestFits, TakeRefuses};
+ghost use Rattle.tl_sequencer.specs.Log.{IsEndOf, rings_of};
+ghost use Rattle.tl_sequencer.specs.Steps.{Closes, Takes};
+
+use crate::fault::PublishFault;
+use crate::noting::note_of;
+use crate::published::Published;
+use crate::run::Run;
+use std::alloc::Global;
+use std::sync::Wait;
+use tl_note::Signer;
+use tl_sequencer::{EndRefused, Ended, TakeFault};
+
+/// Runs a log: it takes what is submitted into the log, signs checkpoints and publishes. It keeps the handle `R`, since
+/// its drop waits for the readers.
+#[derive(Drop)]
+pub struct Operator<R: Wait + Drop> {
+    pub(crate) alloc: Global,
+    pub(crate) origin: String,
+    pub(crate) signers: Vec<Box<dyn Signer>>,
+    pub(crate) run: Run<R>,
+}
+
+/// What contracts see of an operator: its origin, the keys that sign, its log, and the history of its publications.
+pub trait Shown {
+    ghost use Rattle.std.specs.Global.{Global as GlobalValue};
+    ghost use Rattle.tl_publisher.specs.Operating.{Operated};
+
+    ghost shown: { Self → Operated GlobalValue };
+}
+
+impl<R: Wait + Drop> Shown for Operator<R> {
+    ghost use Rattle.std.specs.Prelude.{map, string_bytes};
+
+    ghost shown = { λ o. record {
+      origin = string_bytes o.origin;
+      signers = map (λ s. (Signer-box s).signing_key s.value) o.signers.items;
+      log = o.run.log;
+      past = o.run.past;
+    } };
+}
+
+impl<R: Wait + Drop> Operator<R> {
+    /// Takes up to `max` entries of a lane, in the order in which they were submitted, to the end of the log, and
+    /// answers how many. It doesn't wait. `NoLane`: there is no such lane. `LogFull`: the log has as many entries as it
+    /// may have. A call that is refused changes nothing.
+    pub fn take(&mut self, lane: u32, max: u64) -> Result<u64, TakeFault>
+        ensures operating { IsOperating (⟦<Operator<R> as Shown>⟧.shown self.old) → IsOperating (⟦<Operator<R> as Shown>⟧.shown self.new) }
+        ensures keys { IsOfSame (⟦<Operator<R> as Shown>⟧.shown self.old) (⟦<Operator<R> as Shown>⟧.shown self.new) }
+        ensures past { (⟦<Operator<R> as Shown>⟧.shown self.new).past ≡ (⟦<Operator<R> as Shown>⟧.shown self.old).past }
+        ensures rings { rings_of (⟦<Operator<R> as Shown>⟧.shown self.new).log ≡ rings_of (⟦<Operator<R> as Shown>⟧.shown self.old).log }
+        ensures most { IfOk result (λ n. n ≤ max) }
+        ensures may { IfOk result (λ _. MayTake (⟦<Operator<R> as Shown>⟧.shown self.old).log lane max) }
+        ensures taken { IfOk result (λ n. Takes lane n (⟦<Operator<R> as Shown>⟧.shown self.old).log (⟦<Operator<R> as Shown>⟧.shown self.new).log) }
+        ensures same { IfErr result (λ _. ⟦<Operator<R> as Shown>⟧.shown self.new ≡ ⟦<Operator<R> as Shown>⟧.shown self.old) }
+        ensures why { IfErr result (λ why. TakeRefuses (⟦<Operator<R> as Shown>⟧.shown self.old).log lane max why) }
+    {
+        self.run.take(lane, max)
+    }
+
+    /// Takes all that is left of the lane of an end, which is of a submitter of this operator, and answers how many
+    /// entries. It doesn't wait. `LogFull`: they are more than the log may have. A call that is refused changes nothing
+    /// and gives the end back.
+    pub fn end(&mut self, ended: Ended<Global, Global>) -> Result<u64, EndRefused<Global, Global>>
+        requires { IsEndOf ended (⟦<Operator<R> as Shown>⟧.shown self.old).log }
+        ensures operating { IsOperating (⟦<Operator<R> as Shown>⟧.shown self.old) → IsOperating (⟦<Operator<R> as Shown>⟧.shown self.new) }
+        ensures keys { IsOfSame (⟦<Operator<R> as Shown>⟧.shown self.old) (⟦<Operator<R> as Shown>⟧.shown self.new) }
+        ensures past { (⟦<Operator<R> as Shown>⟧.shown self.new).past ≡ (⟦<Operator<R> as Shown>⟧.shown self.old).past }
+        ensures rings { rings_of (⟦<Operator<R> as Shown>⟧.shown self.new).log ≡ rings_of (⟦<Operator<R> as Shown>⟧.shown self.old).log }
+        ensures may { IfOk result (λ _. RestFits (⟦<Operator<R> as Shown>⟧.shown self.old).log ended) }
+        ensures taken { IfOk result (λ n. Closes ended n (⟦<Operator<R> as Shown>⟧.shown self.old).log (⟦<Operator<R> as Shown>⟧.shown self.new).log) }
+        ensures same { IfErr result (λ _. ⟦<Operator<R> as Shown>⟧.shown self.new ≡ ⟦<Operator<R> as Shown>⟧.shown self.old) }
+        ensures back { IfErr result (λ refused. refused.ended ≡ ended) }
+        ensures why { IfErr result (λ refused. EndRefuses (⟦<Operator<R> as Shown>⟧.shown self.old).log ended refused.why) }
+    {
+        self.run.end(ended)
+    }
+
+    // Publishes the log, unless it is published.
+    fn publish_log(&mut self) -> Result<Published, PublishFault>
+        requires { IsOperating (⟦<Operator<R> as Shown>⟧.shown self.old) }
+        ensures keys { IsOfSame (⟦<Operator<R> as Shown>⟧.shown self.old) (⟦<Operator<R> as Shown>⟧.shown self.new) }
+        ensures published { Publishes (⟦<Operator<R> as Shown>⟧.shown self.old) (⟦<Operator<R> as Shown>⟧.shown self.new) result }
+    {
+        if self.run.is_published() {
+            return Err(PublishFault::NothingNew);
+        }
+        let head = self.run.grow()?;
+        let note = note_of(
+            self.alloc,
+            self.origin.as_str(),
+            self.signers.as_slice(),
+            head,
+        )?;
+        let published = self.run.show(note)?;
+        Ok(published)
+    }
+
+    /// Publishes the whole log in one step: its tiles and bundles (C2SP tlog-tiles), and a checkpoint signed by each
+    /// signer in order (C2SP tlog-checkpoint, signed-note). `NothingNew`: the last publication is of the whole log.
+    /// `Sign`: a signer gave no signature. It waits until no reader looks at what is replaced. A call that is refused
+    /// changes neither the log nor what is published.
+    pub fn publish(&mut self) -> Result<Published, PublishFault>
+        requires { IsOperating (⟦<Operator<R> as Shown>⟧.shown self.old) }
+        ensures operating { IsOperating (⟦<Operator<R> as Shown>⟧.shown self.new) }
+        ensures keys { IsOfSame (⟦<Operator<R> as Shown>⟧.shown self.old) (⟦<Operator<R> as Shown>⟧.shown self.new) }
+        ensures published { Publishes (⟦<Operator<R> as Shown>⟧.shown self.old) (⟦<Operator<R> as Shown>⟧.shown self.new) result }
+    {
+        self.publish_log()
+    }
+}

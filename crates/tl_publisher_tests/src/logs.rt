@@ -1,0 +1,179 @@
+//! Logs for tests, and one step each of what is done with them.
+ghost use Rattle.std.specs.Prelude.{◌≡◌, IfOk, IfSome, vec_len};
+ghost use Rattle.std.specs.List.{All};
+ghost use Rattle.tl_publisher.specs.Operating.{IsOperating};
+ghost use Rattle.tl_sequencer.specs.Log.{IsSenderOf, rings_of};
+
+use std::alloc::{AllocError, Global};
+use std::sync::Wait;
+use std::test::Fail;
+use tl_note::Signer;
+use tl_publisher::{BoardReader, Operator, OperatorFault, PublishFault, Shown};
+use tl_sequencer::Submitter;
+use tl_testing::LengthKey;
+use tl_tile::Resource;
+
+/// The origin of each log.
+pub const ORIGIN: &str = "example.com/log";
+
+/// What sends to a lane.
+pub type Sender = Submitter<Global, Global>;
+
+/// The one signer of each log, the length key of its origin.
+pub fn signers(alloc: Global) -> Result<Vec<Box<dyn Signer>>, AllocError> {
+    let mut all: Vec<Box<dyn Signer>> = Vec::new(alloc);
+    all.push(Box::new(alloc, LengthKey::new(alloc, ORIGIN, 0x01020304)?)?)?;
+    Ok(all)
+}
+
+/// A log with so many lanes and one reader, under these signers.
+pub fn opened<R: Wait + Drop>(
+    rt: R,
+    alloc: Global,
+    signers: Vec<Box<dyn Signer>>,
+    lanes: u32,
+    capacity: usize,
+    limit: u64,
+) -> Result<(Operator<R>, Vec<Sender>, BoardReader<Global>), OperatorFault>
+    ensures operating { IfOk result (λ r. IsOperating (⟦<Operator<R> as Shown>⟧.shown r.0)) }
+    ensures follows { IfOk result (λ r. r.2.book ≡ (⟦<Operator<R> as Shown>⟧.shown r.0).past.book) }
+    ensures own { IfOk result (λ r. All (λ s. IsSenderOf s (⟦<Operator<R> as Shown>⟧.shown r.0).log) r.1.items) }
+    ensures many { IfOk result (λ r. vec_len r.1 ≡ lanes) }
+{
+    let (operator, submitters, mut readers) = match Operator::open(
+        rt, alloc, ORIGIN, signers, lanes, capacity, limit, 1,
+    ) {
+        Ok(opened) => opened,
+        Err(fault) => return Err(fault),
+    };
+    let reader = readers.pop().unwrap();
+    Ok((operator, submitters, reader))
+}
+
+/// A log with two lanes, and what sends to lane 0 and to lane 1.
+pub fn opened_pair<R: Wait + Drop>(
+    rt: R,
+    alloc: Global,
+    capacity: usize,
+    limit: u64,
+) -> Result<(Operator<R>, Sender, Sender, BoardReader<Global>), Fail>
+    ensures operating { IfOk result (λ r. IsOperating (⟦<Operator<R> as Shown>⟧.shown r.0)) }
+    ensures follows { IfOk result (λ r. r.3.book ≡ (⟦<Operator<R> as Shown>⟧.shown r.0).past.book) }
+    ensures zero { IfOk result (λ r. IsSenderOf r.1 (⟦<Operator<R> as Shown>⟧.shown r.0).log) }
+    ensures one { IfOk result (λ r. IsSenderOf r.2 (⟦<Operator<R> as Shown>⟧.shown r.0).log) }
+{
+    let (operator, mut submitters, reader) = opened(
+        rt,
+        alloc,
+        signers(alloc)?,
+        2,
+        capacity,
+        limit,
+    )?;
+    let one = submitters.pop().unwrap();
+    let zero = submitters.pop().unwrap();
+    Ok((operator, zero, one, reader))
+}
+
+/// Sends an entry. It tells whether it was taken.
+pub fn send(alloc: Global, submitter: &mut Sender, entry: &[u8]) -> Result<bool, AllocError>
+    ensures { IfOk result (λ _. (submitter.new.ring ≡ submitter.old.ring) × (submitter.new.lane ≡ submitter.old.lane)) }
+{
+    let entry = Vec::from_slice(alloc, entry)?;
+    Ok(submitter.submit(entry).is_ok())
+}
+
+/// Publishes the log, which the reader learns: the size.
+pub fn publish<R: Wait + Drop>(
+    operator: &mut Operator<R>,
+    reader: &mut BoardReader<Global>,
+) -> Result<u64, PublishFault>
+    requires operating { IsOperating (⟦<Operator<R> as Shown>⟧.shown operator.old) }
+    requires follows { reader.old.book ≡ (⟦<Operator<R> as Shown>⟧.shown operator.old).past.book }
+    ensures operating { IsOperating (⟦<Operator<R> as Shown>⟧.shown operator.new) }
+    ensures follows { reader.new.book ≡ (⟦<Operator<R> as Shown>⟧.shown operator.new).past.book }
+    ensures rings { rings_of (⟦<Operator<R> as Shown>⟧.shown operator.new).log ≡ rings_of (⟦<Operator<R> as Shown>⟧.shown operator.old).log }
+{
+    match operator.publish() {
+        Ok(published) => {
+            reader.learn(&published);
+            Ok(published.size())
+        }
+        Err(fault) => Err(fault),
+    }
+}
+
+/// Takes up to `most` entries of a lane and publishes the log, which the reader learns: how many, and the size.
+pub fn take_and_publish<R: Wait + Drop>(
+    operator: &mut Operator<R>,
+    reader: &mut BoardReader<Global>,
+    lane: u32,
+    most: u64,
+) -> Option<(u64, u64)>
+    requires operating { IsOperating (⟦<Operator<R> as Shown>⟧.shown operator.old) }
+    requires follows { reader.old.book ≡ (⟦<Operator<R> as Shown>⟧.shown operator.old).past.book }
+    ensures operating { IsOperating (⟦<Operator<R> as Shown>⟧.shown operator.new) }
+    ensures follows { reader.new.book ≡ (⟦<Operator<R> as Shown>⟧.shown operator.new).past.book }
+    ensures rings { rings_of (⟦<Operator<R> as Shown>⟧.shown operator.new).log ≡ rings_of (⟦<Operator<R> as Shown>⟧.shown operator.old).log }
+{
+    let Ok(count) = operator.take(lane, most) else {
+        return None;
+    };
+    match publish(operator, reader) {
+        Ok(size) => Some((count, size)),
+        Err(_) => None,
+    }
+}
+
+/// Ends a lane: how many of its entries came into the log with that.
+pub fn end_lane<R: Wait + Drop>(operator: &mut Operator<R>, submitter: Sender) -> Option<u64>
+    requires own { IsSenderOf submitter (⟦<Operator<R> as Shown>⟧.shown operator.old).log }
+    requires operating { IsOperating (⟦<Operator<R> as Shown>⟧.shown operator.old) }
+    ensures operating { IsOperating (⟦<Operator<R> as Shown>⟧.shown operator.new) }
+    ensures past { (⟦<Operator<R> as Shown>⟧.shown operator.new).past ≡ (⟦<Operator<R> as Shown>⟧.shown operator.old).past }
+    ensures rings { rings_of (⟦<Operator<R> as Shown>⟧.shown operator.new).log ≡ rings_of (⟦<Operator<R> as Shown>⟧.shown operator.old).log }
+{
+    let Some(ended) = submitter.close() else {
+        return None;
+    };
+    match operator.end(ended) {
+        Ok(count) => Some(count),
+        Err(_) => None,
+    }
+}
+
+/// What the reader finds under a resource, and nothing where it got no answer.
+pub fn found(alloc: Global, reader: &mut BoardReader<Global>, resource: Resource) -> Option<Vec<u8>>
+    ensures { reader.new.book ≡ reader.old.book }
+{
+    match reader.get(alloc, &resource) {
+        Ok(found) => found,
+        Err(_) => None,
+    }
+}
+
+/// Whether the reader finds these bytes.
+pub fn shows(
+    alloc: Global,
+    reader: &mut BoardReader<Global>,
+    resource: Resource,
+    bytes: &[u8],
+) -> bool
+    ensures { reader.new.book ≡ reader.old.book }
+{
+    match found(alloc, reader, resource) {
+        Some(found) => found.as_slice() == bytes,
+        None => false,
+    }
+}
+
+/// The size that the reader sees, and nothing where it got no answer or nothing is published.
+pub fn size_of(reader: &mut BoardReader<Global>) -> Option<u64>
+    ensures { reader.new.book ≡ reader.old.book }
+{
+    match reader.head() {
+        Ok(Some(head)) => Some(head.size),
+        Ok(None) => None,
+        Err(_) => None,
+    }
+}

@@ -1,0 +1,97 @@
+//! Two threads: one publishes, and one reads without waiting.
+
+ghost use Rattle.std.specs.Prelude.{◌≡◌};
+ghost use Rattle.tl_publisher.specs.Operating.{IsOperating};
+
+use crate::logs::{found, opened, send, signers, size_of};
+use std::alloc::Global;
+use std::sync::atomic::{AtomicU64, Ordering};
+use std::sync::{Arc, Wait};
+use std::test::Fail;
+use std::thread;
+use tl_publisher::{BoardReader, Operator, Shown};
+use tl_tile::Resource;
+
+// How often a thread tries before it gives up.
+const TRIES: u64 = 10_000_000;
+
+// Whether the reader finds the checkpoint, and the first bundle of each width up to this one.
+fn has_all(alloc: Global, reader: &mut BoardReader<Global>, size: u32) -> bool {
+    for before in 0..size {
+        let width = before + 1;
+        let bundle = Resource::Entries { index: 0, width };
+        if found(alloc, reader, bundle).map(|bytes| bytes.len()) != Some(3 * width as usize) {
+            return false;
+        }
+    }
+    found(alloc, reader, Resource::Checkpoint).is_some()
+}
+
+// Reads until the log has this size, and then whether all is there.
+fn sees(alloc: Global, reader: &mut BoardReader<Global>, size: u32) -> bool {
+    for _ in 0..TRIES {
+        if size_of(reader) == Some(size as u64) {
+            return has_all(alloc, reader, size);
+        }
+        thread::yield_now();
+    }
+    false
+}
+
+// Reads the sizes 1, 2 and 3, and raises the flag after each.
+fn watch(alloc: Global, reader: BoardReader<Global>, flag: Arc<AtomicU64>) -> bool {
+    let mut reader = reader;
+    for size in [1u32, 2, 3] {
+        if !sees(alloc, &mut reader, size) {
+            return false;
+        }
+        flag.store(size as u64, Ordering::SeqCst);
+    }
+    true
+}
+
+// Waits until the flag has this number.
+fn is_raised(flag: &AtomicU64, number: u64) -> bool {
+    for _ in 0..TRIES {
+        if flag.load(Ordering::SeqCst) == number {
+            return true;
+        }
+        thread::yield_now();
+    }
+    false
+}
+
+// Publishes one entry more, and then waits until the reader saw it.
+fn show_next<R: Wait + Drop>(operator: &mut Operator<R>, flag: &AtomicU64, size: u64) -> bool
+    requires { IsOperating (⟦<Operator<R> as Shown>⟧.shown operator.old) }
+    ensures { IsOperating (⟦<Operator<R> as Shown>⟧.shown operator.new) }
+{
+    if operator.take(0, 1).is_err() {
+        return false;
+    }
+    match operator.publish() {
+        Ok(published) => published.size() == size && is_raised(flag, size),
+        Err(_) => false,
+    }
+}
+
+#[test]
+fn reader_sees_each_size_in_turn(rt: HostRuntime) -> Result<(), Fail> {
+    let alloc = rt.alloc();
+    for _ in 0..100 {
+        let (mut operator, mut submitters, reader) = opened(&rt, alloc, signers(alloc)?, 1, 4, 9)?;
+        let mut submitter = submitters.pop().unwrap();
+        assert!(rt; send(alloc, &mut submitter, b"x")?);
+        assert!(rt; send(alloc, &mut submitter, b"y")?);
+        assert!(rt; send(alloc, &mut submitter, b"z")?);
+        let flag = Arc::new(alloc, AtomicU64::new(0))?;
+        let theirs = Arc::try_clone(&flag)?;
+        let watcher = thread::spawn(&rt, move || watch(alloc, reader, theirs))?;
+        let one = show_next(&mut operator, &flag, 1);
+        let two = show_next(&mut operator, &flag, 2);
+        let three = show_next(&mut operator, &flag, 3);
+        assert!(rt; watcher.join(&rt));
+        assert!(rt; one && two && three);
+    }
+    Ok(())
+}
