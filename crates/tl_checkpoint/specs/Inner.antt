@@ -3,3 +3,5 @@ pub
     mod Cosigning
 pub
     mod CutLines
+pub
+    mod Keeping

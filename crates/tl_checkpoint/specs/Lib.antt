@@ -3,5 +3,6 @@ pub mod Checkpoint
 pub mod WriteCheckpoint
 pub mod ParseCheckpoint
 pub mod Cosignature
+pub mod Quorum
 pub mod Law
 pub mod Inner

@@ -12,6 +12,7 @@ mod checkpoint;
 mod cosignature;
 mod law;
 mod parsing;
+mod quorum;
 mod writing;
 
 pub use checkpoint::{Checkpoint, CheckpointFault};
@@ -20,4 +21,5 @@ pub use cosignature::{
 };
 pub use law::{checkpoint_can_be_signed, text_is_one_checkpoint};
 pub use parsing::parse;
+pub use quorum::{Cosigned, first_cosignatures};
 pub use writing::write;

@@ -1,0 +1,12 @@
+-- A step of finding the first cosignature by each witness.
+use Rattle.std.specs.Prelude.{◌≡◌, ◌⊎◌, List, [], ◌∷◌, ◌++◌, Option, Some, None}
+use Rattle.std.specs.List.{Any}
+use Rattle.tl_checkpoint.specs.declared.quorum.Cosigned.{Cosigned}
+
+-- the list has a cosignature by this witness and stays, or it gets this one
+abbrev pub Keeps : Cosigned → List Cosigned → List Cosigned → Type 0
+Keeps c old new = (Any (λ d. d.witness ≡ c.witness) old × (new ≡ old)) ⊎ ((Any (λ d. d.witness ≡ c.witness) old → ⊥) × (new ≡ old ++ c ∷ []))
+
+abbrev pub KeepsNew : Option Cosigned → List Cosigned → List Cosigned → Type 0
+KeepsNew None old new = new ≡ old
+KeepsNew (Some c) old new = Keeps c old new
