@@ -21,5 +21,5 @@ pub use cosignature::{
 };
 pub use law::{checkpoint_can_be_signed, text_is_one_checkpoint};
 pub use parsing::parse;
-pub use quorum::{Cosigned, first_cosignatures};
+pub use quorum::{Cosigned, are_apart, first_cosignatures};
 pub use writing::write;

@@ -28,6 +28,36 @@ fn name_of(witness: &Box<dyn Verifier>) -> &str
     witness.name()
 }
 
+// Whether a witness has this name.
+fn is_named(witnesses: &[Box<dyn Verifier>], name: &str) -> bool
+    ensures { IsTrue result ↔ Any (λ k. k.name ≡ name.now) (map (λ witness. key witness) witnesses.now) }
+{
+    match witnesses {
+        [] => false,
+        [first, rest @ ..] => {
+            if name_of(first) == name {
+                return true;
+            }
+            is_named(rest, name)
+        }
+    }
+}
+
+/// Whether each witness has another name.
+pub fn are_apart(witnesses: &[Box<dyn Verifier>]) -> bool
+    ensures { IsTrue result ↔ AreApart (map (λ witness. key witness) witnesses.now) }
+{
+    match witnesses {
+        [] => true,
+        [first, rest @ ..] => {
+            if is_named(rest, name_of(first)) {
+                return false;
+            }
+            are_apart(rest)
+        }
+    }
+}
+
 // The time of the line, where it is a cosignature by the witness.
 fn time_by<A: Allocator + Copy>(
     alloc: A,

@@ -11,6 +11,7 @@ ghost use Rattle.tl_publisher.specs.Grown.{IsGrown, texts_of};
 
 use crate::board_copy::Change;
 use crate::face::{Face, Sheet};
+use crate::reader::Head;
 use crate::text::Text;
 use std::alloc::{AllocError, Allocator};
 use std::marker::Model;
@@ -102,6 +103,46 @@ impl<A: Allocator + Copy> Growth<A> {
             let bundle = mem::replace(&mut self.bundle, Vec::new(alloc));
             self.waiting.push_reserved(Batch { bundle, tiles });
         }
+        Ok(())
+    }
+
+    /// Size and tree hash of the entries.
+    pub(crate) fn head(&self) -> Head
+        ensures size { result.size ≡ self.now.edge.size }
+        ensures root { (start : ℕ) (entries : List (List ℕ)) → IsGrown sha256 start entries self.now → result.root ≡ tree_hash sha256 entries }
+    {
+        Head {
+            size: self.edge.size(),
+            root: self.edge.root(),
+        }
+    }
+
+    /// A growth that goes on from these entries, which has filled nothing yet.
+    pub(crate) fn fork(&self) -> Result<Growth<A>, AllocError>
+        ensures grown { (start : ℕ) (entries : List (List ℕ)) → IsGrown sha256 start entries self.now → IfOk result (IsGrown sha256 (length entries) entries) }
+        ensures size { IfOk result (λ g. g.edge.size ≡ self.now.edge.size) }
+    {
+        Ok(Growth {
+            edge: self.edge.copy()?,
+            bundle: self.bundle.clone()?,
+            waiting: Vec::new(*self.bundle.allocator()),
+        })
+    }
+
+    /// Takes in what a growth that went on from here has taken in. Where memory is refused nothing changes.
+    pub(crate) fn join(&mut self, next: Growth<A>) -> Result<(), AllocError>
+        ensures grown { (start : ℕ) (entries more : List (List ℕ)) → IsGrown sha256 start entries self.old → IsGrown sha256 (length entries) (entries ++ more) next → OnOk result (IsGrown sha256 start (entries ++ more) self.new) }
+        ensures size { OnOk result (self.new.edge.size ≡ next.edge.size) }
+        ensures unchanged { OnErr result (self.new ≡ self.old) }
+    {
+        let Growth {
+            edge,
+            bundle,
+            mut waiting,
+        } = next;
+        self.waiting.append(&mut waiting)?;
+        self.edge = edge;
+        self.bundle = bundle;
         Ok(())
     }
 

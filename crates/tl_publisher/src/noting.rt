@@ -26,7 +26,7 @@ fn refusal(fault: NoteFault) -> PublishFault
 }
 
 // The text of the checkpoint of this size and root (C2SP tlog-checkpoint, "Note text").
-fn text_of(alloc: Global, origin: &str, head: Head) -> Result<String, PublishFault>
+pub(crate) fn text_of(alloc: Global, origin: &str, head: Head) -> Result<String, PublishFault>
     requires origin { IsOneLine origin.now }
     requires size { IsSize head.size }
     ensures text { IfOk result (λ text. string_bytes text ≡ text_of_head origin.now head.size head.root) }
@@ -52,7 +52,7 @@ pub(crate) fn note_of(
     origin: &str,
     signers: &[Box<dyn Signer>],
     head: Head,
-) -> Result<Vec<u8>, PublishFault>
+) -> Result<String, PublishFault>
     requires origin { IsOneLine origin.now }
     requires signers { AreSigners (map (λ s. signing_key s) signers.now) }
     requires size { IsSize head.size }
@@ -60,7 +60,7 @@ pub(crate) fn note_of(
 {
     let text = text_of(alloc, origin, head)?;
     match sign_note(alloc, alloc, text.as_str(), signers) {
-        Ok(note) => Ok(note.into_bytes()),
+        Ok(note) => Ok(note),
         Err(fault) => Err(refusal(fault)),
     }
 }

@@ -114,6 +114,9 @@ impl<R: Wait + Drop> Operator<R> {
             alloc,
             origin,
             signers,
+            witnesses: Vec::new(alloc),
+            need: 0,
+            proposal: None,
             run,
         };
         Ok((operator, submitters, all))

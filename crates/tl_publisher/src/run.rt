@@ -40,6 +40,24 @@ impl<R: Wait + Drop> Model for Run<R> {
     ghost invariant = { λ r. running.IsRunning r.log r.growth r.board };
 }
 
+// Takes in the entries of the log that the growth doesn't have yet.
+fn take_in(
+    growth: &mut Growth<Global>,
+    log: &Sequencer<Global, Global>,
+) -> Result<(), AllocError>
+    requires few { log.now.limit < 2 ^ 32 }
+    ensures { (start : ℕ) → IsGrown sha256 start (take growth.old.edge.size (entries_of log.now)) growth.old → OnOk result (IsGrown sha256 start (entries_of log.now) growth.new) }
+{
+    let len = log.len();
+    while growth.size() < len {
+        let Some(entry) = log.entry(growth.size()) else {
+            unreachable!()
+        };
+        growth.append(entry)?;
+    }
+    Ok(())
+}
+
 impl<R: Wait + Drop> Run<R> {
     /// Takes up to `max` entries of a lane, as `Sequencer::take` does.
     pub(crate) fn take(&mut self, lane: u32, max: u64) -> Result<u64, TakeFault>
@@ -99,6 +117,41 @@ impl<R: Wait + Drop> Run<R> {
             size: len,
             root: self.growth.root(),
         })
+    }
+
+    /// Whether nothing was published.
+    pub(crate) fn is_unpublished(&self) -> bool
+        ensures { IsTrue result ↔ (self.now.past.log ≡ []) }
+    {
+        self.board.head().is_none()
+    }
+
+    /// Size and root of what the growth has taken in.
+    pub(crate) fn grown(&self) -> Head
+        ensures size { result.size ≡ self.now.grown }
+        ensures small { result.size < 2 ^ 32 }
+        ensures root { result.root ≡ tree_hash sha256 (take self.now.grown (entries_of self.now.log)) }
+    {
+        self.growth.head()
+    }
+
+    /// A growth of the whole log, which goes on from the run's own.
+    pub(crate) fn next(&self) -> Result<Growth<Global>, AllocError>
+        ensures { IfOk result (IsGrown sha256 self.now.grown (entries_of self.now.log)) }
+    {
+        let mut next = self.growth.fork()?;
+        take_in(&mut next, &self.log)?;
+        Ok(next)
+    }
+
+    /// Takes in a growth of the whole log.
+    pub(crate) fn adopt(&mut self, next: Growth<Global>) -> Result<(), AllocError>
+        requires { IsGrown sha256 self.old.grown (entries_of self.old.log) next }
+        ensures same { (self.new.log ≡ self.old.log) × (self.new.past ≡ self.old.past) }
+        ensures grown { OnOk result (self.new.grown ≡ length (entries_of self.old.log)) }
+        ensures refused { OnErr result (self.new ≡ self.old) }
+    {
+        self.growth.join(next)
     }
 
     /// Publishes what the growth has taken in, under this note.
