@@ -66,7 +66,7 @@ fn has_small_order(point: Point) -> bool
 
 /// Whether 32 bytes are a public key fit for use.
 ///
-/// They are where they are the one canonical spelling of a point (RFC 8032, section 5.1.3) and 8, the curve's
+/// It is true where they are the one canonical spelling of a point (RFC 8032, section 5.1.3), and 8, the curve's
 /// cofactor (section 5.1), times that point isn't the neutral point. Under a key of small order anyone can make
 /// signatures that stand.
 pub fn is_sound(key: &[u8; 32]) -> bool

@@ -1,13 +1,11 @@
-use Rattle.std.proofs.Common.{◌++◌}
 use Rattle.tl_ed25519.proofs.Signatures.{at_signature, hash_below}
 use Rattle.tl_ed25519.proofs.key.SecretKey.sign.Goals as goal
 
 pub multiply_add-s-requires-clause-first : goal.multiply_add-s-requires-clause-first
-multiply_add-s-requires-clause-first c = hash_below c.number_of_two-r.result (c.self.inside.prefix ++ c.args.message.now) c.number_of_two-r.ensures
+multiply_add-s-requires-clause-first c = hash_below c.number_of_two-r.result _ c.number_of_two-r.ensures
 
 pub multiply_add-s-requires-clause-second : goal.multiply_add-s-requires-clause-second
-multiply_add-s-requires-clause-second c =
-    hash_below c.number_of_three-k.result (c.multiple_of_base-point.result ++ c.self.inside.public ++ c.args.message.now) c.number_of_three-k.ensures
+multiply_add-s-requires-clause-second c = hash_below c.number_of_three-k.result _ c.number_of_three-k.ensures
 
 pub returns : goal.returns
 returns c =
