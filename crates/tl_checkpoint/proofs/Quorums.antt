@@ -11,7 +11,7 @@ use Rattle.tl_note.specs.Key.{Key}
 use Rattle.tl_note.specs.Note.{Signature}
 use Rattle.tl_checkpoint.specs.declared.quorum.Cosigned.{Cosigned}
 use Rattle.tl_checkpoint.specs.Cosignature.{IsCosignature}
-use Rattle.tl_checkpoint.specs.Inner.Keeping.{Keeps, KeepsNew}
+use Rattle.tl_checkpoint.specs.Inner.Keeping.{IsRepeated, Keeps, KeepsNew}
 use Rattle.tl_checkpoint.specs.Quorum.{AreApart, AreFirst, IsBy, IsOfSome, IsOfNone}
 
 -- ---- a list with one element more
@@ -28,6 +28,11 @@ get_new (x ∷ xs) y = get_new xs y
 same_some : {X : Type 0} (x y : X) → Some x ≡ Some y → x ≡ y
 same_some x y e = cc
 
+-- an element of a list that has one
+first_or : {X : Type 0} (xs : List X) (n : ℕ) → n < length xs → X
+first_or [] n less = absurd (omega (arith, less))
+first_or (x ∷ xs) n less = x
+
 any_still : {X : Type 0} (P : X → Type 0) (xs : List X) (y : X) → Any P xs → Any P (xs ++ y ∷ [])
 any_still P xs y (k, x, less, at, is) = (k, x, omega (arith, less, length_push xs y), get_or_append_left xs (y ∷ []) x k less ∙ at, is)
 
@@ -37,6 +42,51 @@ any_still P xs y (k, x, less, at, is) = (k, x, omega (arith, less, length_push x
 module _ {B : Type 0} (view : B → Key) (xs : List B) where
   pub key_at : (i : ℕ) (x : B) → i < length xs → x ≡ get_or xs i x → slice_get (map view xs) i ≡ Some (view x)
   key_at i x lt is = slice_get-get_or (map view xs) i (view x) (omega (arith, lt, length-map xs view)) ∙ ap (λ (k : Key). Some k) (get_or-map view xs i x (view x) lt ∙ ap view (sym is))
+
+-- the names of the witnesses before a place
+module _ {B : Type 0} (view : B → Key) (xs : List B) where
+  name_at : (i : ℕ) (x : B) (d : Key) → i < length xs → x ≡ get_or xs i x → get_or (map view xs) i d ≡ view x
+  name_at i x d lt is = get_or_from_slice_get (map view xs) i (view x) d (key_at view xs i x lt is)
+
+  -- none of those before `n` is that of the one at a place
+  abbrev pub IsNewBefore : ℕ → ℕ → Type 0
+  IsNewBefore place n = (i : ℕ) (d : Key) → i < n → (get_or (map view xs) i d).name ≡ (get_or (map view xs) place d).name → ⊥
+
+  pub new_more : (place n : ℕ) (x y : B) → place < length xs → n < length xs → x ≡ get_or xs place x → y ≡ get_or xs n y → ((view y).name ≡ (view x).name → ⊥) → IsNewBefore place n → IsNewBefore place (n + 1)
+  new_more place n x y inside less at_x at_y differ before i d sooner same =
+      elim (cases_lt i n) as (λ _. ⊥) [
+        inl earlier ↦ before i d earlier same
+      | inr later ↦
+          let here : i ≡ n = omega (arith, sooner, later) in
+          differ (ap (λ (k : Key). k.name) (sym (name_at n y d less at_y)) ∙ ap (λ (m : ℕ). (get_or (map view xs) m d).name) (sym here) ∙ same ∙ ap (λ (k : Key). k.name) (name_at place x d inside at_x))
+      ]
+
+  pub repeated_at : (place n : ℕ) (x y : B) → place < length xs → n < place → x ≡ get_or xs place x → y ≡ get_or xs n y → (view y).name ≡ (view x).name → IsRepeated (map view xs) place
+  repeated_at place n x y inside less at_x at_y same =
+      (n, less, λ d. ap (λ (k : Key). k.name) (name_at n y d (omega (arith, inside, less)) at_y) ∙ same ∙ ap (λ (k : Key). k.name) (sym (name_at place x d inside at_x)))
+
+  pub new_all : (place n : ℕ) (x : B) → place ≤ n → IsNewBefore place n → IsRepeated (map view xs) place → ⊥
+  new_all place n x le before is = before is.0 (view x) (omega (arith, le, is.1)) (is.2 (view x))
+
+-- no two of the witnesses before a place have one name
+abbrev pub AreApartBefore : List Key → ℕ → Type 0
+AreApartBefore keys n = (i j : ℕ) (d : Key) → i < j → j < n → (get_or keys i d).name ≡ (get_or keys j d).name → ⊥
+
+pub apart_more : (keys : List Key) (n : ℕ) → n < length keys → (IsRepeated keys n → ⊥) → AreApartBefore keys n → AreApartBefore keys (n + 1)
+apart_more keys n inside fresh before i j d less sooner same =
+    elim (cases_lt j n) as (λ _. ⊥) [
+      inl earlier ↦ before i j d less earlier same
+    | inr later ↦
+        let here : j ≡ n = omega (arith, sooner, later) in
+        let at_n : (get_or keys i d).name ≡ (get_or keys n d).name = same ∙ ap (λ (m : ℕ). (get_or keys m d).name) here in
+        fresh (i, omega (arith, less, here), λ e. ap (λ (k : Key). k.name) (get_or_default keys i e d (omega (arith, less, here, inside))) ∙ at_n ∙ ap (λ (k : Key). k.name) (get_or_default keys n d e inside))
+    ]
+
+pub apart_all : (keys : List Key) (n : ℕ) → length keys ≤ n → AreApartBefore keys n → AreApart keys
+apart_all keys n le before i j d less inside same = before i j d less (omega (arith, le, inside)) same
+
+pub not_apart : (keys : List Key) (n : ℕ) → n < length keys → IsRepeated keys n → AreApart keys → ⊥
+not_apart keys n inside is apart = apart is.0 n (first_or keys n inside) is.1 inside (is.2 (first_or keys n inside))
 
 module _ (text : List ℕ) (keys : List Key) (line : Signature) where
   -- it is a cosignature by none of the witnesses before this place

@@ -6,7 +6,7 @@ ghost use Rattle.tl_note.specs.Note.{Signature};
 ghost use Rattle.tl_checkpoint.specs.Cosignature.{ChecksCosignature};
 ghost use Rattle.tl_checkpoint.specs.Quorum.{AreApart, AreFirst, IsOfNone, IsOfSome};
 
-ghost use Rattle.tl_checkpoint.specs.Inner.Keeping.{KeepsNew};
+ghost use Rattle.tl_checkpoint.specs.Inner.Keeping.{IsRepeated, KeepsNew};
 
 use crate::cosignature::check_cosignature;
 use std::alloc::{AllocError, Allocator};
@@ -28,34 +28,30 @@ fn name_of(witness: &Box<dyn Verifier>) -> &str
     witness.name()
 }
 
-// Whether a witness has this name.
-fn is_named(witnesses: &[Box<dyn Verifier>], name: &str) -> bool
-    ensures { IsTrue result ↔ Any (λ k. k.name ≡ name.now) (map (λ witness. key witness) witnesses.now) }
+// Whether an earlier witness has the name of the one at this place.
+fn is_repeated(witnesses: &[Box<dyn Verifier>], place: usize) -> bool
+    requires { place < length witnesses.now }
+    ensures { IsTrue result ↔ IsRepeated (map (λ witness. key witness) witnesses.now) place }
 {
-    match witnesses {
-        [] => false,
-        [first, rest @ ..] => {
-            if name_of(first) == name {
-                return true;
-            }
-            is_named(rest, name)
+    let name = name_of(&witnesses[place]);
+    for earlier in 0..place {
+        if name_of(&witnesses[earlier]) == name {
+            return true;
         }
     }
+    false
 }
 
-/// Whether each witness has another name.
+/// Whether each witness has another name. It takes no memory.
 pub fn are_apart(witnesses: &[Box<dyn Verifier>]) -> bool
     ensures { IsTrue result ↔ AreApart (map (λ witness. key witness) witnesses.now) }
 {
-    match witnesses {
-        [] => true,
-        [first, rest @ ..] => {
-            if is_named(rest, name_of(first)) {
-                return false;
-            }
-            are_apart(rest)
+    for place in 0..witnesses.len() {
+        if is_repeated(witnesses, place) {
+            return false;
         }
     }
+    true
 }
 
 // The time of the line, where it is a cosignature by the witness.

@@ -1,6 +1,7 @@
--- A step of finding the first cosignature by each witness.
-use Rattle.std.specs.Prelude.{◌≡◌, ◌⊎◌, List, [], ◌∷◌, ◌++◌, Option, Some, None}
+-- Steps of finding the first cosignature by each witness.
+use Rattle.std.specs.Prelude.{◌≡◌, ℕ, ◌<◌, slice_index_or, ◌⊎◌, List, [], ◌∷◌, ◌++◌, Option, Some, None}
 use Rattle.std.specs.List.{Any}
+use Rattle.tl_note.specs.Key.{Key}
 use Rattle.tl_checkpoint.specs.declared.quorum.Cosigned.{Cosigned}
 
 -- the list has a cosignature by this witness and stays, or it gets this one
@@ -10,3 +11,8 @@ Keeps c old new = (Any (λ d. d.witness ≡ c.witness) old × (new ≡ old)) ⊎
 abbrev pub KeepsNew : Option Cosigned → List Cosigned → List Cosigned → Type 0
 KeepsNew None old new = new ≡ old
 KeepsNew (Some c) old new = Keeps c old new
+
+-- an earlier witness has the name of the one at this place
+abbrev pub IsRepeated : List Key → ℕ → Type 0
+IsRepeated witnesses place =
+    (i : ℕ) × (i < place) × ((d : Key) → (slice_index_or witnesses i d).name ≡ (slice_index_or witnesses place d).name)
