@@ -5,3 +5,5 @@ pub
     mod CutLines
 pub
     mod Keeping
+pub
+    mod Opening
