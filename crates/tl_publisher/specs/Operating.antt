@@ -23,12 +23,13 @@ pub record Operated (A : Type 0) : Type 0 where
   pub proposal : Option Prefix
   pub past : Past
 
--- what was opened: an empty log with its submitters, under this origin and these keys, of which nothing is published
-pub record IsNew {A : Type 0} (words : List ℕ) (keys : List SigningKey) (lanes capacity limit : ℕ) (o : Operated A) (submitters : List (Sender A)) : Type 0 where
+-- what was opened: a log of these entries with its submitters, under this origin and these keys, of which nothing is
+-- published
+pub record IsNew {A : Type 0} (words : List ℕ) (keys : List SigningKey) (base : List (List ℕ)) (lanes capacity limit : ℕ) (o : Operated A) (submitters : List (Sender A)) : Type 0 where
   pub origin : o.origin ≡ words
   pub signers : o.signers ≡ keys
   pub free : o.quorum ≡ no_quorum
-  pub log : IsOpened [] lanes capacity limit o.log submitters
+  pub log : IsOpened base lanes capacity limit o.log submitters
   pub unproposed : o.proposal ≡ None
   pub unpublished : o.past.log ≡ []
 

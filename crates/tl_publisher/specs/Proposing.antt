@@ -4,7 +4,7 @@ use Rattle.std.specs.Prelude.{◌≡◌, ℕ, ◌+◌, ◌≤◌, ◌<◌, ◌�
 use Rattle.std.specs.List.{AllZip}
 use Rattle.tl_note.specs.Key.{Key}
 use Rattle.tl_note.specs.Note.{Signature, Note}
-use Rattle.tl_note.specs.SignNote.{MayFail}
+use Rattle.tl_note.specs.SignNote.{AreSigned, MayFail}
 use Rattle.tl_note.specs.View.{AreLines}
 use Rattle.tl_checkpoint.specs.declared.quorum.Cosigned.{Cosigned}
 use Rattle.tl_checkpoint.specs.Quorum.{AreApart, AreFirst}
@@ -51,10 +51,12 @@ pub record IsRequired {A : Type 0} (a b : Operated A) (q : Quorum) : Type 0 wher
 
 -- ---- what is proposed
 
--- the whole log is proposed under a signed note of its checkpoint, in place of what was proposed before, and nothing is
--- shown
+-- the whole log, which isn't what was published last, is proposed under a signed note of its checkpoint, in place of what
+-- was proposed before, and nothing is shown
 pub record IsProposed {A : Type 0} (a b : Operated A) (size : ℕ) (note : List ℕ) : Type 0 where
-  pub size : size ≡ length (entries_of a.log)
+  pub needed : IsFree a → ⊥
+  pub fresh : EndsWith a.past.log (entries_of a.log) → ⊥
+  pub counted : size ≡ length (entries_of a.log)
   pub signed : IsSignedNote a.signers no_quorum (text_of_log a.origin (entries_of a.log)) note
   pub proposal : b.proposal ≡ Some (record { entries = entries_of a.log; note = note })
   pub log : b.log ≡ a.log
@@ -71,18 +73,23 @@ ProposeRefuses a publish.OutOfMemory = (IsFree a → ⊥) × (EndsWith a.past.lo
 
 -- ---- what is attached
 
--- what was proposed is published in one step: its note's own lines, and then, in the order of the lines that are
--- attached, the first cosignature by each witness, of which there are enough
-pub record IsAttached {A : Type 0} (a b : Operated A) (q : Prefix) (lines : List Signature) (p : Past) : Type 0 where
+-- the note of what was proposed with lines of enough witnesses: its own lines, one by each signer, and then, in the order
+-- of the lines that are attached, the first cosignature by each witness
+pub record IsCosigned {A : Type 0} (a : Operated A) (q : Prefix) (lines : List Signature) (note : List ℕ) : Type 0 where
   pub own : List Signature
   pub found : List Cosigned
   pub kept : List Signature
-  pub note : List ℕ
   pub proposed : Note q.note (text_of_log a.origin q.entries) own
+  pub signed : AreSigned (text_of_log a.origin q.entries) a.signers own
   pub first : AreFirst (text_of_log a.origin q.entries) a.quorum.witnesses lines found
   pub enough : a.quorum.need ≤ length found
   pub each : AllZip (λ c line. slice_get lines c.line ≡ Some line) found kept
   pub noted : Note note (text_of_log a.origin q.entries) (own ++ kept)
+
+-- what was proposed is published in one step, under this note
+pub record IsAttached {A : Type 0} (a b : Operated A) (q : Prefix) (lines : List Signature) (p : Past) : Type 0 where
+  pub note : List ℕ
+  pub cosigned : IsCosigned a q lines note
   pub history : b.past.log ≡ a.past.log ++ record { entries = q.entries; note = note } ∷ []
   pub book : b.past.book ≡ a.past.book
   pub log : b.log ≡ a.log

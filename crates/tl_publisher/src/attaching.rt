@@ -1,6 +1,9 @@
 //! How the lines of witnesses make a proposal a publication.
 
-ghost use Rattle.std.specs.Prelude.{◌≡◌};
+ghost use Rattle.std.specs.Prelude.{◌≡◌, ◌<◌, IfOk, Some, length, string_bytes};
+ghost use Rattle.std.specs.List.{All};
+ghost use Rattle.tl_publisher.specs.Histories.{Prefix};
+ghost use Rattle.tl_publisher.specs.Inner.Attaching.{CosignsNote, CutsLines, HasBehind};
 ghost use Rattle.tl_publisher.specs.Operating.{IsOfSame, IsOperating};
 ghost use Rattle.tl_publisher.specs.Proposing.{Attaches};
 
@@ -18,7 +21,10 @@ fn with_lines(
     note: &String,
     lines: &[SigView<'_>],
     found: &[Cosigned],
-) -> Result<String, AllocError> {
+) -> Result<String, AllocError>
+    requires { All (λ c. c.line < length lines.now) found.now }
+    ensures { IfOk result (λ whole. HasBehind (string_bytes note.now) lines.now found.now (string_bytes whole)) }
+{
     let mut whole = note.clone()?;
     for cosigned in found {
         lines[cosigned.line].push_to(&mut whole)?;
@@ -27,7 +33,9 @@ fn with_lines(
 }
 
 // The lines of a text.
-fn lines_of(alloc: Global, text: &str) -> Result<Vec<SigView<'_>>, AttachFault> {
+fn lines_of(alloc: Global, text: &str) -> Result<Vec<SigView<'_>>, AttachFault>
+    ensures { CutsLines text.now result }
+{
     match parse_signatures(alloc, text) {
         Ok(lines) => Ok(lines),
         Err(NoteFault::OutOfMemory) => Err(AttachFault::OutOfMemory),
@@ -37,7 +45,10 @@ fn lines_of(alloc: Global, text: &str) -> Result<Vec<SigView<'_>>, AttachFault> 
 
 impl<R: Wait + Drop> Operator<R> {
     // The note of what is proposed with the lines of enough witnesses behind its own.
-    fn cosigned(&self, note: &String, lines: &str) -> Result<Vec<u8>, AttachFault> {
+    fn cosigned(&self, note: &String, lines: &str) -> Result<Vec<u8>, AttachFault>
+        requires { IsOperating (⟦<Operator<R> as Shown>⟧.shown self.now) }
+        ensures { (q : Prefix) → (⟦<Operator<R> as Shown>⟧.shown self.now).proposal ≡ Some q → q.note ≡ string_bytes note.now → CosignsNote lines.now (⟦<Operator<R> as Shown>⟧.shown self.now) q result }
+    {
         let lines = lines_of(self.alloc, lines)?;
         let text = text_of(self.alloc, self.origin.as_str(), self.run.grown())?;
         let found = first_cosignatures(

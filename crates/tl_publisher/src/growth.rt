@@ -2,7 +2,7 @@
 ghost use Rattle.std.specs.Prelude.{◌≡◌, ◌+◌, ◌-◌, ◌<◌, ◌≤◌, ◌^◌, ℕ, List, [], ◌∷◌, ◌++◌, vec_len, vec_capacity, length, take, drop, map, vec_items, slice_index_or, IfOk, OnOk, OnErr};
 ghost use Rattle.sha2.specs.Sha256.{sha256};
 ghost use Rattle.tl_hash.specs.Tree.{tree_hash};
-ghost use Rattle.tl_tile.specs.Bundle.{bundled_entry, IsShortEntry};
+ghost use Rattle.tl_tile.specs.Bundle.{bundled_entry, AreShortEntries, IsShortEntry};
 ghost use Rattle.tl_tile.specs.TileText.{tile_text, partial_tile};
 ghost use Rattle.tl_tile.specs.RightEdge.{IsEdgeOf};
 ghost use Rattle.tl_publisher.specs.Filled.{filled_from};
@@ -70,6 +70,19 @@ impl<A: Allocator + Copy> Growth<A> {
             bundle: Vec::new(alloc),
             waiting: Vec::new(alloc),
         }
+    }
+
+    /// Of a log with these entries.
+    pub(crate) fn of(alloc: A, entries: &[Vec<u8, A>]) -> Result<Growth<A>, AllocError>
+        requires few { length entries.now < 2 ^ 32 }
+        requires short { AreShortEntries (map vec_items entries.now) }
+        ensures { IfOk result (IsGrown sha256 0 (map vec_items entries.now)) }
+    {
+        let mut growth = Growth::new(alloc);
+        for entry in entries {
+            growth.append(entry)?;
+        }
+        Ok(growth)
     }
 
     /// The number of entries.

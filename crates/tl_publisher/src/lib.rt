@@ -27,12 +27,13 @@ mod past;
 mod proposing;
 mod published;
 mod reader;
+mod resuming;
 mod rule;
 mod run;
 mod text;
 
 pub use closing::{Board, OperatorBack};
-pub use fault::{AttachFault, GetFault, OperatorFault, PublishFault, RequireFault};
+pub use fault::{AttachFault, GetFault, OperatorFault, PublishFault, RequireFault, ResumeFault};
 pub use law::{change_makes_next, stored_is_lawful};
 pub use operator::{Operator, Shown};
 pub use proposing::{Proposal, RequireBack};

@@ -1,9 +1,9 @@
 //! Who must cosign a checkpoint before it is shown, and what is proposed to them.
 
-ghost use Rattle.std.specs.Prelude.{◌≡◌, ◌↔◌, IfErr, IfOk, IsTrue, map, string_bytes};
+ghost use Rattle.std.specs.Prelude.{◌≡◌, ◌↔◌, IfErr, IfOk, IsTrue, MatchOption, map, string_bytes};
 ghost use Rattle.tl_checkpoint.specs.Quorum.{AreApart};
 ghost use Rattle.tl_publisher.specs.Operating.{IsOfSame, IsOperating};
-ghost use Rattle.tl_publisher.specs.Proposing.{IsProposed, IsRequired, MayNeed, ProposeRefuses, RequireRefuses};
+ghost use Rattle.tl_publisher.specs.Proposing.{IsEarly, IsProposed, IsRequired, MayNeed, ProposeRefuses, RequireRefuses};
 ghost use Rattle.tl_publisher.specs.Publishing.{IsSame};
 
 use crate::fault::{PublishFault, RequireFault};
@@ -43,7 +43,11 @@ impl<R: Wait + Drop> Operator<R> {
     }
 
     // Why these witnesses can't be required.
-    fn refusal(&self, witnesses: &[Box<dyn Verifier>], need: u32) -> Option<RequireFault> {
+    fn refusal(&self, witnesses: &[Box<dyn Verifier>], need: u32) -> Option<RequireFault>
+        ensures { MatchOption result
+            (IsEarly (⟦<Operator<R> as Shown>⟧.shown self.now) × MayNeed (⟦<Operator<R> as Shown>⟧.shown self.now) (record { witnesses = map (λ w. key w) witnesses.now; need = need }) × AreApart (map (λ w. key w) witnesses.now))
+            (RequireRefuses (⟦<Operator<R> as Shown>⟧.shown self.now) (record { witnesses = map (λ w. key w) witnesses.now; need = need })) }
+    {
         if self.need > 0 || !self.run.is_unpublished() {
             return Some(RequireFault::Late);
         }

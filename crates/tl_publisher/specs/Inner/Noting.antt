@@ -1,6 +1,6 @@
 -- Signing the checkpoint of a size and a root.
-use Rattle.std.specs.Prelude.{◌≡◌, ℕ, List, [], Result, Ok, Err, string_bytes, ⊤}
-use Rattle.std.specs.Global.{String}
+use Rattle.std.specs.Prelude.{◌≡◌, ℕ, List, [], Result, Ok, Err, String, string_bytes, ⊤}
+use Rattle.std.specs.Global.{Global}
 use Rattle.tl_note.specs.Key.{SigningKey}
 use Rattle.tl_note.specs.SignNote.{MayFail}
 use Rattle.tl_note.specs.declared.fault.NoteFault.{NoteFault}
@@ -15,7 +15,7 @@ abbrev pub text_of_head : List ℕ → ℕ → List ℕ → List ℕ
 text_of_head origin size root = checkpoint_text (record { origin = origin; size = size; root = root; extensions = [] })
 
 -- the note of a checkpoint, or the signer that gave no signature
-abbrev pub NotesHead : List ℕ → List SigningKey → ℕ → List ℕ → Result String PublishFault → Type 0
+abbrev pub NotesHead : List ℕ → List SigningKey → ℕ → List ℕ → Result (String Global) PublishFault → Type 0
 NotesHead origin signers size root (Ok note) = IsSignedNote signers no_quorum (text_of_head origin size root) (string_bytes note)
 NotesHead origin signers size root (Err NothingNew) = ⊥
 NotesHead origin signers size root (Err (Sign place)) = MayFail (text_of_head origin size root) signers place

@@ -1,0 +1,67 @@
+-- Who must cosign, and what is proposed to them.
+use Rattle.std.proofs.Common.{◌≡◌, ℕ, ◌+◌, ◌≤◌, List, [], ◌∷◌, ◌++◌, length, Option, Some, None, refl, sym, ap, subst, ◌∙◌, append-nil, arith}
+use Rattle.std.proofs.lemmas.List.Elements.{All-nil}
+use Rattle.sha2.specs.Sha256.{sha256}
+use Rattle.tl_text.specs.Text.{IsOneLine}
+use Rattle.tl_note.specs.Key.{SigningKey}
+use Rattle.tl_checkpoint.specs.Quorum.{AreApart}
+use Rattle.tl_sequencer.specs.Log.{Log, entries_of}
+use Rattle.tl_publisher.specs.Histories.{Prefix, Past, AreOf, Begins, IsGrowing, last_of}
+use Rattle.tl_publisher.specs.Boards.{Board, head_if}
+use Rattle.tl_publisher.specs.Signed.{AreSigners, IsSignedNote, AreSignedBy, Quorum, no_quorum, text_of_log}
+use Rattle.tl_publisher.specs.Operating.{Operated, IsOperating, IsOfSame, IsProposal}
+use Rattle.tl_publisher.specs.Publishing.{IsSame}
+use Rattle.tl_publisher.specs.Proposing.{IsRequired, IsProposed}
+use Rattle.tl_publisher.specs.Stages.{IsNextOf, IsShown}
+use Rattle.tl_publisher.proofs.Notes.{next_of}
+use Rattle.tl_publisher.proofs.Operations.{operating_with}
+use Rattle.tl_publisher.proofs.Shows.{head_is}
+
+-- ---- whether something was published
+
+pub last_none : (history : List Prefix) → head_if sha256 (last_of history) ≡ None → history ≡ []
+last_none [] is = refl
+last_none (p ∷ []) is = absurd (cc)
+last_none (p ∷ r ∷ history) is = absurd (nothing (p ∷ r ∷ history) p (r ∷ history) refl is)
+  where
+    nothing : (history : List Prefix) (p : Prefix) (rest : List Prefix) → history ≡ p ∷ rest → head_if sha256 (last_of history) ≡ None → ⊥
+    nothing [] p rest same is = absurd (cc)
+    nothing (q ∷ []) p rest same is = absurd (cc)
+    nothing (q ∷ r ∷ history) p rest same is = nothing (r ∷ history) r history refl is
+
+module _ {A : Type 0} where
+  -- witnesses are required of an operator that has published nothing
+  pub operating_requires : (a b : Operated A) (q : Quorum) → IsRequired a b q → IsOperating a → IsOperating b
+  operating_requires a b q is before =
+      let history : b.past.log ≡ [] = ap (λ (p : Past). p.log) is.same.past ∙ is.early.0 in
+      let none : b.proposal ≡ None = is.same.proposal ∙ before.free is.early.1 in
+      record {
+        origin = subst IsOneLine (sym is.origin) before.origin;
+        signers = subst AreSigners (sym is.signers) before.signers;
+        apart = subst (λ (k : Quorum). AreApart k.witnesses) (sym is.quorum) is.apart;
+        few = omega (arith, ap (λ (k : List SigningKey). length k) is.signers, ap (λ (k : Quorum). length k.witnesses) is.quorum, is.may.room);
+        free = λ _. none;
+        proposed = λ p at. absurd (let no_more : None ≡ Some p = sym none ∙ at in cc);
+        beginnings = subst (AreOf (entries_of b.log)) (sym history) (All-nil (λ (x : Prefix). Begins x.entries (entries_of b.log)));
+        growing = subst IsGrowing (sym history) tt;
+        signed = subst (AreSignedBy b.origin b.signers b.quorum) (sym history) (All-nil (λ (x : Prefix). IsSignedNote b.signers b.quorum (text_of_log b.origin x.entries) x.note));
+      }
+
+  -- what is proposed is a proposal
+  proposal_is : (a b : Operated A) (size : ℕ) (note : List ℕ) → IsOfSame a b → IsProposed a b size note → IsOperating a → (p : Prefix) → b.proposal ≡ Some p → IsProposal b p
+  proposal_is a b size note same is before p at =
+      let q : Prefix = record { entries = entries_of a.log; note = note } in
+      let here : q ≡ p = one q p (sym is.proposal ∙ at) in
+      let next : IsNextOf (last_of b.past.log) q = subst (λ (h : Past). IsNextOf (last_of h.log) q) (sym is.past) (next_of a.past.log (entries_of a.log) note before.beginnings is.fresh) in
+      let signed : IsSignedNote b.signers no_quorum (text_of_log b.origin q.entries) note =
+      subst (λ (o : List ℕ). IsSignedNote b.signers no_quorum (text_of_log o q.entries) note) (sym same.origin) (subst (λ (k : List SigningKey). IsSignedNote k no_quorum (text_of_log a.origin q.entries) note) (sym same.signers) is.signed) in
+      subst (IsProposal b) here (record { beginning = ([], append-nil q.entries ∙ ap entries_of (sym is.log)); next = next; signed = signed })
+    where
+      one : (x y : Prefix) → Some x ≡ Some y → x ≡ y
+      one x y e = cc
+
+  pub operating_proposes : (a b : Operated A) (size : ℕ) (note : List ℕ) → IsOfSame a b → IsProposed a b size note → IsOperating a → IsOperating b
+  operating_proposes a b size note same is before =
+      operating_with a b [] same is.past (ap entries_of is.log ∙ sym (append-nil (entries_of a.log))) before
+      (λ none. absurd (is.needed (sym (ap (λ (q : Quorum). q.need) same.quorum) ∙ none)))
+      (proposal_is a b size note same is before)
