@@ -89,7 +89,7 @@ cosigned_of text keys lines kept found first at = record {
     one x y e = cc
 
     by_one : (c : Cosigned) (l : Signature) → IsBy text keys lines c → slice_get lines c.line ≡ Some l → IsByWitness text keys c.witness l
-    by_one c l (line, at, key, has, cosigned) here = subst (IsByWitness text keys c.witness) (one line l (sym at ∙ here)) (key, c.time, has, cosigned)
+    by_one c l (line, at, of) here = subst (IsByWitness text keys c.witness) (one line l (sym at ∙ here)) (of.0, c.time, of.1, of.2)
 
     by_each : (found : List Cosigned) (kept : List Signature) → All (IsBy text keys lines) found → AllZip (IsAt lines) found kept → AllZip (IsByWitness text keys) (map (λ c. c.witness) found) kept
     by_each [] [] each at = tt
@@ -111,7 +111,7 @@ found_few text keys lines found first =
     within n found c false at less rest any = rest any
 
     inside : (c : Cosigned) → IsBy text keys lines c → c.witness < length keys
-    inside c (line, at, key, has, cosigned) = slice_get_within keys c.witness key has
+    inside c (line, at, of) = slice_get_within keys c.witness of.0 of.1
 
     below : (found : List Cosigned) → All (IsBy text keys lines) found → (n : ℕ) → list_any (eqb n) (map (λ (c : Cosigned). c.witness) found) ≡ true → n < length keys
     below [] each n any = absurd (cc)

@@ -1,5 +1,6 @@
 -- A growth that goes on from another.
 use Rattle.std.proofs.Common.{◌≡◌, ℕ, ◌+◌, ◌-◌, ◌≤◌, List, [], ◌++◌, length, take, drop, refl, sym, ap, subst, ◌∙◌, arith}
+use Rattle.std.specs.Prelude.{Result, Ok, Err, OnOk, OnErr}
 use Rattle.std.proofs.lemmas.List.{length-append, take_all, take-append-drop, length-take-le}
 use Rattle.std.proofs.lemmas.Grind.{flat_map-append}
 use Rattle.sha2.specs.Sha256.{sha256}
@@ -65,3 +66,10 @@ joined_running log g h k p is next size join =
       published = is.published;
       growth = subst (λ (es : List (List ℕ)). IsGrown sha256 (last_size p.past.log) es k) (seam ∙ sym (take_all k.edge.size E (omega (arith, whole)))) made;
     }
+
+-- the same where memory may be refused
+pub joins_running : {X E A : Type 0} (r : Result X E) (log : Log A) (g h k : Grown) (p : Board) → IsRunning log g p → IsGrown sha256 g.edge.size (entries_of log) h → OnOk r (k.edge.size ≡ h.edge.size)
+    → ((start : ℕ) (entries more : List (List ℕ)) → IsGrown sha256 start entries g → IsGrown sha256 (length entries) (entries ++ more) h → OnOk r (IsGrown sha256 start (entries ++ more) k))
+    → OnErr r (k ≡ g) → IsRunning log k p
+joins_running (Ok x) log g h k p is next size join same = joined_running log g h k p is next size join
+joins_running (Err e) log g h k p is next size join same = subst (λ (x : Grown). IsRunning log x p) (sym same) is

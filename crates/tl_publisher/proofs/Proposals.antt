@@ -7,7 +7,7 @@ use Rattle.tl_note.specs.Key.{SigningKey}
 use Rattle.tl_checkpoint.specs.Quorum.{AreApart}
 use Rattle.tl_sequencer.specs.Log.{Log, entries_of}
 use Rattle.tl_publisher.specs.Histories.{Prefix, Past, AreOf, Begins, IsGrowing, last_of}
-use Rattle.tl_publisher.specs.Boards.{Board, head_if}
+use Rattle.tl_publisher.specs.Boards.{Board, face_head, head_if}
 use Rattle.tl_publisher.specs.Signed.{AreSigners, IsSignedNote, AreSignedBy, Quorum, no_quorum, text_of_log}
 use Rattle.tl_publisher.specs.Operating.{Operated, IsOperating, IsOfSame, IsProposal}
 use Rattle.tl_publisher.specs.Publishing.{IsSame}
@@ -28,6 +28,12 @@ last_none (p ∷ r ∷ history) is = absurd (nothing (p ∷ r ∷ history) p (r 
     nothing [] p rest same is = absurd (cc)
     nothing (q ∷ []) p rest same is = absurd (cc)
     nothing (q ∷ r ∷ history) p rest same is = nothing (r ∷ history) r history refl is
+
+pub none_published : (board : Board) → IsShown sha256 board → None ≡ face_head board.face → board.past.log ≡ []
+none_published board shown is = last_none board.past.log (sym (is ∙ head_is board shown))
+
+pub some_published : (board : Board) (x : ℕ × List ℕ) → IsShown sha256 board → Some x ≡ face_head board.face → board.past.log ≡ [] → ⊥
+some_published board x shown is none = (let no_more : Some x ≡ None = is ∙ head_is board shown ∙ ap (λ (h : List Prefix). head_if sha256 (last_of h)) none in cc)
 
 module _ {A : Type 0} where
   -- witnesses are required of an operator that has published nothing

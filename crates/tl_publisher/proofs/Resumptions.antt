@@ -1,6 +1,7 @@
 -- A log that goes on from the bundles of a checkpoint.
-use Rattle.std.proofs.Common.{◌≡◌, ◌≢◌, ℕ, zero, suc, ◌+◌, ◌-◌, ◌*◌, ◌/◌, ◌%◌, ◌<◌, ◌≤◌, Bool, true, false, cond, inl, inr, List, [], ◌∷◌, ◌++◌, length, map, take, drop, get_or, vec_items, refl, sym, ap, subst, ◌∙◌, arith}
-use Rattle.std.specs.Prelude.{Err, slice_index_or, nat_lt, ◌==◌, if◌then◌else◌}
+use Rattle.std.proofs.Common.{◌≡◌, ◌≢◌, ℕ, zero, suc, ◌+◌, ◌-◌, ◌*◌, ◌/◌, ◌%◌, ◌<◌, ◌≤◌, Bool, true, false, not, cond, inl, inr, List, [], ◌∷◌, ◌++◌, length, map, take, drop, get_or, vec_items, refl, sym, ap, subst, ◌∙◌, arith}
+use Rattle.std.specs.Result.{IsErrAnd}
+use Rattle.std.specs.Prelude.{Result, Ok, Err, IfErr, slice_index_or, nat_lt, ◌==◌, if◌then◌else◌}
 use Rattle.std.specs.List.{range_with_len}
 use Rattle.std.specs.declared.vec.Vec.{Vec}
 use Rattle.std.proofs.lemmas.Bool.{cases_lt, eqb-true, ltb-true, lt-ltb, false_from_ne_true}
@@ -181,6 +182,15 @@ missed r c (resume.Bundle place) of sized is signers lanes capacity readers = (c
 missed r c resume.Root of sized is signers lanes capacity readers = absurd is
 missed r c (resume.Open fault) of sized is signers lanes capacity readers = absurd is
 missed r c resume.OutOfMemory of sized is signers lanes capacity readers = is_note r c of
+
+pub true_of_not : (b : Bool) → false ≡ not b → b ≡ true
+true_of_not true is = refl
+true_of_not false is = absurd (cc)
+
+-- a fault that is handed on
+pub err_passes : {T : Type 0} (P : ResumeFault → Type 0) (given : ResumeFault) (r : Result T ResumeFault) → IsErrAnd r (λ fault. fault ≡ given) → P given → IfErr r P
+err_passes P given (Ok x) same is = tt
+err_passes P given (Err fault) same is = subst P (sym same) is
 
 -- a sequencer that isn't opened could not be
 may_not : (lanes capacity limit : ℕ) (why : OpenFault) → OpenRefuses lanes capacity limit why → (why ≡ sequencer.OutOfMemory → ⊥) → MayOpen lanes capacity limit → ⊥

@@ -135,10 +135,11 @@ impl<A: Allocator + Copy> Growth<A> {
         ensures grown { (start : ℕ) (entries : List (List ℕ)) → IsGrown sha256 start entries self.now → IfOk result (IsGrown sha256 (length entries) entries) }
         ensures size { IfOk result (λ g. g.edge.size ≡ self.now.edge.size) }
     {
+        let alloc = *self.bundle.allocator();
         Ok(Growth {
             edge: self.edge.copy()?,
-            bundle: self.bundle.clone()?,
-            waiting: Vec::new(*self.bundle.allocator()),
+            bundle: Vec::from_slice(alloc, &self.bundle)?,
+            waiting: Vec::new(alloc),
         })
     }
 

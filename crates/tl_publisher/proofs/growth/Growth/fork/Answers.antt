@@ -1,4 +1,4 @@
-use Rattle.std.proofs.Common.{sym, ap, ◌∙◌, subst}
+use Rattle.std.proofs.Common.{ℕ, sym, ap, ◌∙◌, subst}
 use Rattle.sha2.specs.Sha256.{sha256}
 use Rattle.tl_publisher.specs.Grown.{Grown, IsGrown, texts_of}
 use Rattle.tl_publisher.proofs.Joined.{grown_forked}
@@ -8,4 +8,4 @@ pub returns-clause-grown : goal.returns-clause-grown
 returns-clause-grown g c start entries is =
     let before : Grown = record { edge = c.self.inside.edge; bundle = c.self.inside.bundle.items; waiting = c.self.inside.waiting.items } in
     let own : IsGrown sha256 start entries before = subst (IsGrown sha256 start entries) (sym c.self.view_is) is in
-    grown_forked sha256 start entries before c.in_ok-copy.edge c.in_ok-clone.bundle.items c.new.result.items own c.in_ok-copy.ensures.size c.in_ok-copy.ensures.kept ?same c.new.ensures.items
+    grown_forked sha256 start entries before c.in_ok-copy.field-0 c.in_ok-from_slice.field-0.items c.new.result.items own c.in_ok-copy.ensures.size c.in_ok-copy.ensures.kept (c.in_ok-from_slice.ensures.items ∙ c.deref.ensures.value) c.new.ensures.items
