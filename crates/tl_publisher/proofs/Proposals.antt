@@ -1,8 +1,13 @@
 -- Who must cosign, and what is proposed to them.
-use Rattle.std.proofs.Common.{◌≡◌, ℕ, ◌+◌, ◌≤◌, List, [], ◌∷◌, ◌++◌, length, Option, Some, None, refl, sym, ap, subst, ◌∙◌, append-nil, arith}
+use Rattle.std.proofs.Common.{◌≡◌, ℕ, ◌+◌, ◌≤◌, List, [], ◌∷◌, ◌++◌, length, take, Option, Some, None, refl, sym, ap, subst, ◌∙◌, append-nil, arith}
+use Rattle.std.specs.Prelude.{Err}
+use Rattle.std.proofs.lemmas.List.{take_all}
 use Rattle.std.proofs.lemmas.List.Elements.{All-nil}
 use Rattle.sha2.specs.Sha256.{sha256}
+use Rattle.tl_hash.specs.Tree.{tree_hash}
 use Rattle.tl_text.specs.Text.{IsOneLine}
+use Rattle.tl_note.specs.SignNote.{MayFail}
+use Rattle.tl_checkpoint.specs.Checkpoint.{checkpoint_text}
 use Rattle.tl_note.specs.Key.{SigningKey}
 use Rattle.tl_checkpoint.specs.Quorum.{AreApart}
 use Rattle.tl_sequencer.specs.Log.{Log, entries_of}
@@ -10,9 +15,14 @@ use Rattle.tl_publisher.specs.Histories.{Prefix, Past, AreOf, Begins, IsGrowing,
 use Rattle.tl_publisher.specs.Boards.{Board, face_head, head_if}
 use Rattle.tl_publisher.specs.Signed.{AreSigners, IsSignedNote, AreSignedBy, Quorum, no_quorum, text_of_log}
 use Rattle.tl_publisher.specs.Operating.{Operated, IsOperating, IsOfSame, IsProposal}
-use Rattle.tl_publisher.specs.Publishing.{IsSame}
-use Rattle.tl_publisher.specs.Proposing.{IsRequired, IsProposed}
+use Rattle.tl_publisher.specs.Publishing.{EndsWith, IsFree, IsSame}
+use Rattle.tl_publisher.specs.Proposing.{IsRequired, IsProposed, ProposeRefuses}
 use Rattle.tl_publisher.specs.Stages.{IsNextOf, IsShown}
+use Rattle.tl_publisher.specs.Grown.{Grown, IsGrown}
+use Rattle.tl_publisher.specs.Running.{Running}
+use Rattle.tl_publisher.specs.Inner.Noting.{NotesHead, text_of_head}
+use Rattle.tl_publisher.specs.declared.fault.PublishFault.{PublishFault}
+use Rattle.tl_publisher.specs.declared.fault.PublishFault.TheVariants as publish
 use Rattle.tl_publisher.proofs.Notes.{next_of}
 use Rattle.tl_publisher.proofs.Operations.{operating_with}
 use Rattle.tl_publisher.proofs.Shows.{head_is}
@@ -71,3 +81,40 @@ module _ {A : Type 0} where
       operating_with a b [] same is.past (ap entries_of is.log ∙ sym (append-nil (entries_of a.log))) before
       (λ none. absurd (is.needed (sym (ap (λ (q : Quorum). q.need) same.quorum) ∙ none)))
       (proposal_is a b size note same is before)
+
+-- the text of a growth's checkpoint is that of the log
+grown_text : {A : Type 0} (a : Operated A) (log : Log A) (start : ℕ) (g : Grown) (size : ℕ) (root : List ℕ) → a.log ≡ log → IsGrown sha256 start (entries_of log) g → size ≡ g.edge.size → root ≡ tree_hash sha256 (entries_of log)
+    → text_of_head a.origin size root ≡ text_of_log a.origin (entries_of a.log)
+grown_text a log start g size root same is size_is root_is =
+    let count : size ≡ length (entries_of a.log) = size_is ∙ sym is.edge.0 ∙ ap (λ (l : Log _). length (entries_of l)) (sym same) in
+    let hash : root ≡ tree_hash sha256 (entries_of a.log) = root_is ∙ ap (λ (l : Log _). tree_hash sha256 (entries_of l)) (sym same) in
+    λ i. checkpoint_text (record { origin = a.origin; size = count i; root = hash i; extensions = [] })
+
+-- signing refuses
+pub sign_refuses : {A : Type 0} (a : Operated A) (log : Log A) (start : ℕ) (g : Grown) (size : ℕ) (root : List ℕ) (fault : PublishFault) → a.log ≡ log → (IsFree a → ⊥) → (EndsWith a.past.log (entries_of a.log) → ⊥)
+    → IsGrown sha256 start (entries_of log) g → size ≡ g.edge.size → root ≡ tree_hash sha256 (entries_of log) → NotesHead a.origin a.signers size root (Err fault) → ProposeRefuses a fault
+sign_refuses a log start g size root publish.NothingNew same needed fresh is size_is root_is told = absurd told
+sign_refuses a log start g size root (publish.Sign place) same needed fresh is size_is root_is told =
+    (needed, fresh, subst (λ (t : List ℕ). MayFail t a.signers place) (grown_text a log start g size root same is size_is root_is) told)
+sign_refuses a log start g size root publish.Quorum same needed fresh is size_is root_is told = absurd told
+sign_refuses a log start g size root publish.OutOfMemory same needed fresh is size_is root_is told = (needed, fresh)
+
+-- what is kept of a growth of the whole log is what is proposed
+pub proposed_of : {A : Type 0} (a b : Operated A) (old new : Running A) (g : Grown) (head_size size : ℕ) (root note copy : List ℕ)
+    → a.log ≡ old.log → a.past ≡ old.past → b.log ≡ new.log → b.past ≡ new.past → b.proposal ≡ Some (record { entries = take new.grown (entries_of new.log); note = note })
+    → (new.log ≡ old.log) × (new.past ≡ old.past) → new.grown ≡ length (entries_of old.log) → (IsFree a → ⊥) → (EndsWith a.past.log (entries_of a.log) → ⊥)
+    → IsGrown sha256 old.grown (entries_of old.log) g → head_size ≡ g.edge.size → root ≡ tree_hash sha256 (entries_of old.log) → size ≡ g.edge.size
+    → IsSignedNote a.signers no_quorum (text_of_head a.origin head_size root) note → copy ≡ note → IsProposed a b size copy
+proposed_of a b old new g head_size size root note copy a_log a_past b_log b_past proposal same grown needed fresh is size_is root_is own_size signed copied =
+    let entries : take new.grown (entries_of new.log) ≡ entries_of a.log =
+    ap (λ (l : Log _). take new.grown (entries_of l)) same.0 ∙ take_all new.grown (entries_of old.log) (omega (arith, grown)) ∙ ap entries_of (sym a_log) in
+    record {
+      needed = needed;
+      fresh = fresh;
+      counted = own_size ∙ sym is.edge.0 ∙ ap (λ (l : Log _). length (entries_of l)) (sym a_log);
+      signed = subst (IsSignedNote a.signers no_quorum (text_of_log a.origin (entries_of a.log))) (sym copied)
+          (subst (λ (t : List ℕ). IsSignedNote a.signers no_quorum t note) (grown_text a old.log old.grown g head_size root a_log is size_is root_is) signed);
+      proposal = proposal ∙ (let back = sym copied in λ i. Some (record { entries = entries i; note = back i }));
+      log = b_log ∙ same.0 ∙ sym a_log;
+      past = b_past ∙ same.1 ∙ sym a_past;
+    }

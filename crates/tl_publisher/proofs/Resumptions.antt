@@ -27,7 +27,7 @@ use Rattle.tl_publisher.specs.declared.fault.OperatorFault.{OperatorFault}
 use Rattle.tl_publisher.specs.declared.fault.OperatorFault.TheVariants as operator
 use Rattle.tl_publisher.specs.declared.fault.ResumeFault.{ResumeFault}
 use Rattle.tl_publisher.specs.declared.fault.ResumeFault.TheVariants as resume
-use Rattle.tl_publisher.specs.Publishing.{MayOpenAll}
+use Rattle.tl_publisher.specs.Publishing.{MayOpenAll, OpenRefusesOperator}
 use Rattle.tl_publisher.specs.Resuming.{bundle_count, bundle_width, Resumption, AreBundlesOf, IsSized, IsBundleAt, IsFirstBad, IsOfOrigin, AreStated, IsBase, ResumeRefuses}
 use Rattle.tl_publisher.specs.Inner.Opening.{IsWant}
 use Rattle.tl_publisher.specs.Inner.Resuming.{Refuses, MissesBundle, after_bundle, after_operator, after_sequencer}
@@ -188,9 +188,14 @@ true_of_not true is = refl
 true_of_not false is = absurd (cc)
 
 -- a fault that is handed on
-pub err_passes : {T : Type 0} (P : ResumeFault → Type 0) (given : ResumeFault) (r : Result T ResumeFault) → IsErrAnd r (λ fault. fault ≡ given) → P given → IfErr r P
+pub err_passes : {T F : Type 0} (P : F → Type 0) (given : F) (r : Result T F) → IsErrAnd r (λ fault. fault ≡ given) → P given → IfErr r P
 err_passes P given (Ok x) same is = tt
 err_passes P given (Err fault) same is = subst P (sym same) is
+
+-- what is wrong however the log is opened isn't want of memory
+pub not_memory : (origin : List ℕ) (signers : List SigningKey) (readers : ℕ) (fault : OperatorFault) → ((lanes capacity limit : ℕ) → OpenRefusesOperator origin signers lanes capacity limit readers fault) → fault ≡ operator.OutOfMemory → ⊥
+not_memory origin signers readers fault wrong same =
+    (let is = subst (OpenRefusesOperator origin signers 0 0 0 readers) same (wrong 0 0 0) in omega (arith, is.1.0))
 
 -- a sequencer that isn't opened could not be
 may_not : (lanes capacity limit : ℕ) (why : OpenFault) → OpenRefuses lanes capacity limit why → (why ≡ sequencer.OutOfMemory → ⊥) → MayOpen lanes capacity limit → ⊥

@@ -104,7 +104,7 @@ impl<R: Wait + Drop> Operator<R> {
             self.signers.as_slice(),
             next.head(),
         )?;
-        let copy = note.clone()?;
+        let copy = String::from_str(self.alloc, note.as_str())?;
         let size = next.size();
         self.run.adopt(next)?;
         self.proposal = Some(note);
