@@ -1,6 +1,6 @@
 -- The note of a proposal with the lines of witnesses.
 use Rattle.std.proofs.Common.{◌≡◌, ◌≢◌, ℕ, zero, suc, ◌+◌, ◌<◌, ◌≤◌, Bool, true, false, List, [], ◌∷◌, ◌++◌, length, map, take, get_or, Option, Some, None, All, refl, sym, ap, subst, ◌∙◌, append-nil, append_assoc, arith}
-use Rattle.std.specs.Prelude.{slice_get, ◌||◌}
+use Rattle.std.specs.Prelude.{slice_get, ◌||◌, option_map, Result, Ok, Err}
 use Rattle.std.specs.List.{AllZip, AllPairs, flat_map, list_any}
 use Rattle.std.proofs.Math.Dec.{eqb}
 use Rattle.std.proofs.lemmas.Bool.{eqb-true, eq-eqb}
@@ -17,7 +17,9 @@ use Rattle.tl_note.specs.SignNote.{AreSigned, IsSignedBy}
 use Rattle.tl_note.specs.View.{AreLines}
 use Rattle.tl_checkpoint.specs.declared.quorum.Cosigned.{Cosigned}
 use Rattle.tl_checkpoint.specs.Quorum.{AreApart, AreFirst, IsBy}
-use Rattle.tl_publisher.specs.Histories.{Prefix, last_of}
+use Rattle.tl_publisher.specs.declared.fault.AttachFault.{AttachFault}
+use Rattle.tl_publisher.specs.declared.fault.AttachFault.TheVariants as attach
+use Rattle.tl_publisher.specs.Histories.{Prefix, Past, last_of}
 use Rattle.tl_publisher.specs.Signed.{IsSignedNote, IsByWitness, AreCosigned, Quorum, no_quorum, text_of_log}
 use Rattle.tl_publisher.specs.Stages.{IsNextOf}
 use Rattle.tl_publisher.specs.Operating.{Operated, IsOperating, IsOfSame, IsProposal}
@@ -151,3 +153,56 @@ behind_more note lines found index c line before after less at has (kept, each, 
     zip_push [] (l ∷ ls) zip = absurd zip
     zip_push (d ∷ cs) [] zip = absurd zip
     zip_push (d ∷ cs) (l ∷ ls) zip = (zip.0, zip_push cs ls zip.1)
+
+-- each line that was found is there
+pub lines_within : (text : List ℕ) (keys : List Key) (lines : List Signature) (found : List Cosigned) → AreFirst text keys lines found → All (λ c. c.line < length lines) found
+lines_within text keys lines found first k d less = at (get_or found k d) (first.each k d less)
+  where
+    at : (c : Cosigned) → IsBy text keys lines c → c.line < length lines
+    at c (line, is, of) = slice_get_within lines c.line line is
+
+-- the entries of what is proposed
+pub proposed_entries : {X : Type 0} (o : Option X) (entries : List (List ℕ)) (bytes : X → List ℕ) (q : Prefix) → option_map (λ x. record { entries = entries; note = bytes x }) o ≡ Some q → entries ≡ q.entries
+proposed_entries None entries bytes q is = absurd (cc)
+proposed_entries (Some x) entries bytes q is = ap (λ (p : Prefix). p.entries) (one (record { entries = entries; note = bytes x }) q is)
+  where
+    one : (x y : Prefix) → Some x ≡ Some y → x ≡ y
+    one x y e = cc
+
+-- the lines of enough witnesses behind the note of what is proposed
+pub cosigns_note : {A : Type 0} (a : Operated A) (q : Prefix) (words : List ℕ) (lines : List Signature) (found : List Cosigned) (text whole : List ℕ) → IsOperating a → a.proposal ≡ Some q → AreLines words lines → text ≡ text_of_log a.origin q.entries
+    → AreFirst text a.quorum.witnesses lines found → a.quorum.need ≤ length found → HasBehind q.note lines found whole → IsCosigned a q lines whole
+cosigns_note a q words lines found text whole is at are same first enough (kept, each, spelled) =
+    let T : List ℕ = text_of_log a.origin q.entries in
+    let signed : IsSignedNote a.signers no_quorum T q.note = (is.proposed q at).signed in
+    let none : signed.others ≡ [] = no_others T signed.others signed.cosigned.places signed.cosigned.each in
+    let noted : Note q.note T signed.own = subst (Note q.note T) (ap (λ (ls : List Signature). signed.own ++ ls) none ∙ append-nil signed.own) signed.noted in
+    let their : AreFirst T a.quorum.witnesses lines found = subst (λ (t : List ℕ). AreFirst t a.quorum.witnesses lines found) same first in
+    let many = AllZip-long (IsSignedBy T) a.signers signed.own signed.signed in
+    let kept_many = AllZip-long (IsAt lines) found kept each in
+    let most = found_few T a.quorum.witnesses lines found their in
+    record {
+      own = signed.own;
+      found = found;
+      kept = kept;
+      proposed = noted;
+      signed = signed.signed;
+      first = their;
+      enough = enough;
+      each = each;
+      noted = noted_more whole T signed.own kept lines found q.note noted are.each each (omega (arith, many, kept_many, most, is.few)) spelled;
+    }
+
+-- what is attached keeps an operator one
+pub operating_attaches : {A : Type 0} (a b : Operated A) (q : Prefix) (lines : List Signature) (p : Past) → IsOfSame a b → a.proposal ≡ Some q → IsAttached a b q lines p → IsOperating a → IsOperating b
+operating_attaches a b q lines p same at is before =
+    let proposal : IsProposal a q = before.proposed q at in
+    operating_next a b (record { entries = q.entries; note = is.note }) same is.log is.proposal is.history proposal.beginning
+    (follows_under (last_of a.past.log) q is.note proposal.next) (note_cosigned a q lines is.note is.cosigned) before
+
+pub operating_answers : {A : Type 0} (r : Result Past AttachFault) (text : List ℕ) (a b : Operated A) → IsOfSame a b → Attaches text a b r → IsOperating a → IsOperating b
+operating_answers (Ok p) text a b same (q, lines, at, are, is) before = operating_attaches a b q lines p same at is before
+operating_answers (Err attach.NoProposal) text a b same is before = operating_still a b same is.1 before
+operating_answers (Err attach.Malformed) text a b same (q, at, wrong, still) before = operating_still a b same still before
+operating_answers (Err (attach.TooFew k)) text a b same (q, lines, at, are, few, still) before = operating_still a b same still before
+operating_answers (Err attach.OutOfMemory) text a b same (q, lines, at, are, still) before = operating_still a b same still before

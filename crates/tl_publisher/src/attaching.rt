@@ -64,13 +64,9 @@ impl<R: Wait + Drop> Operator<R> {
         Ok(whole.into_bytes())
     }
 
-    /// Publishes what was proposed in one step, once enough witnesses have cosigned it: its checkpoint has the signers'
-    /// lines and then the first valid line of each witness, in the order of these lines, which are what witnesses answer
-    /// (C2SP tlog-witness). All other lines are left out. Entries taken since then wait. `TooFew`: so many witnesses
-    /// have a valid line. A call that is refused keeps the proposal. It waits until no reader looks at what is replaced.
-    pub fn attach(&mut self, lines: &str) -> Result<Published, AttachFault>
+    // Publishes what was proposed, where these are the lines of enough witnesses.
+    fn attach_lines(&mut self, lines: &str) -> Result<Published, AttachFault>
         requires { IsOperating (⟦<Operator<R> as Shown>⟧.shown self.old) }
-        ensures operating { IsOperating (⟦<Operator<R> as Shown>⟧.shown self.new) }
         ensures keys { IsOfSame (⟦<Operator<R> as Shown>⟧.shown self.old) (⟦<Operator<R> as Shown>⟧.shown self.new) }
         ensures attached { Attaches lines.now (⟦<Operator<R> as Shown>⟧.shown self.old) (⟦<Operator<R> as Shown>⟧.shown self.new) result }
     {
@@ -81,5 +77,17 @@ impl<R: Wait + Drop> Operator<R> {
         let published = self.run.show(whole)?;
         self.proposal = None;
         Ok(published)
+    }
+    /// Publishes what was proposed in one step, once enough witnesses have cosigned it: its checkpoint has the signers'
+    /// lines and then the first valid line of each witness, in the order of these lines, which are what witnesses answer
+    /// (C2SP tlog-witness). All other lines are left out. Entries taken since then wait. `TooFew`: so many witnesses
+    /// have a valid line. A call that is refused keeps the proposal. It waits until no reader looks at what is replaced.
+    pub fn attach(&mut self, lines: &str) -> Result<Published, AttachFault>
+        requires { IsOperating (⟦<Operator<R> as Shown>⟧.shown self.old) }
+        ensures operating { IsOperating (⟦<Operator<R> as Shown>⟧.shown self.new) }
+        ensures keys { IsOfSame (⟦<Operator<R> as Shown>⟧.shown self.old) (⟦<Operator<R> as Shown>⟧.shown self.new) }
+        ensures attached { Attaches lines.now (⟦<Operator<R> as Shown>⟧.shown self.old) (⟦<Operator<R> as Shown>⟧.shown self.new) result }
+    {
+        self.attach_lines(lines)
     }
 }

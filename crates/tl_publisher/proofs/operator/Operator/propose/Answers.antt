@@ -1,5 +1,7 @@
-use Rattle.std.proofs.Common.{refl, sym, subst, ◌∙◌, map, string_bytes, true≢false}
-use Rattle.std.specs.Prelude.{Err}
+use Rattle.std.proofs.Common.{refl, sym, subst, ◌∙◌, map, take, string_bytes, true≢false}
+use Rattle.std.specs.Prelude.{Err, option_map}
+use Rattle.std.specs.Global.{Global}
+use Rattle.tl_publisher.specs.Operating.{Operated}
 use Rattle.tl_sequencer.specs.Log.{entries_of}
 use Rattle.tl_publisher.specs.Publishing.{EndsWith}
 use Rattle.tl_publisher.specs.Inner.Noting.{NotesHead}
@@ -17,8 +19,16 @@ returns-in_err-note-clause-why g c =
     let root = c.head.ensures.root c.args.self.now.run.grown (entries_of c.args.self.now.run.log) c.in_ok-next.ensures in
     let told = subst (λ o. NotesHead o (map (λ b. (goal.Signer-dyn g (b.vtable, b.value)).signing_key b.value) c.args.self.now.signers.items) c.head.result.size c.head.result.root (Err c.in_err-note.field-0.0)) c.as_str.ensures.value
         (subst (λ keys. NotesHead c.as_str.result.now (map (λ b. (goal.Signer-dyn g (b.vtable, b.value)).signing_key b.value) keys) c.head.result.size c.head.result.root (Err c.in_err-note.field-0.0)) c.as_slice.ensures.value c.in_err-note.ensures) in
-    err_passes (ProposeRefuses _) c.in_err-note.field-0.0 c.from_residual-in_err-note.result c.from_residual-in_err-note.ensures.1
-    (sign_refuses _ c.args.self.now.run.log c.args.self.now.run.grown c.in_ok-next.next c.head.result.size c.head.result.root c.in_err-note.field-0.0 refl c.if-self-eq0.false fresh c.in_ok-next.ensures c.head.ensures.size root told)
+    let a : Operated Global = record {
+      origin = string_bytes c.args.self.now.origin;
+      signers = map (λ b. (goal.Signer-dyn g (b.vtable, b.value)).signing_key b.value) c.args.self.now.signers.items;
+      quorum = record { witnesses = map (λ b. (goal.Verifier-dyn g (b.vtable, b.value)).key b.value) c.args.self.now.witnesses.items; need = c.args.self.now.need };
+      log = c.args.self.now.run.log;
+      proposal = option_map (λ note. record { entries = take c.args.self.now.run.grown (entries_of c.args.self.now.run.log); note = string_bytes note }) c.args.self.now.proposal;
+      past = c.args.self.now.run.past;
+    } in
+    err_passes (ProposeRefuses a) c.in_err-note.field-0.0 c.from_residual-in_err-note.result c.from_residual-in_err-note.ensures.1
+    (sign_refuses a c.args.self.now.run.log c.args.self.now.run.grown c.in_ok-next.next c.head.result.size c.head.result.root c.in_err-note.field-0.0 refl c.if-self-eq0.false fresh c.in_ok-next.ensures c.head.ensures.size root told)
 
 pub returns-clause-proposed : goal.returns-clause-proposed
 returns-clause-proposed g c =
