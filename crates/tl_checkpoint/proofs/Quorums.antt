@@ -55,10 +55,10 @@ module _ {B : Type 0} (view : B → Key) (xs : List B) where
   pub new_more : (place n : ℕ) (x y : B) → place < length xs → n < length xs → x ≡ get_or xs place x → y ≡ get_or xs n y → ((view y).name ≡ (view x).name → ⊥) → IsNewBefore place n → IsNewBefore place (n + 1)
   new_more place n x y inside less at_x at_y differ before i d sooner same =
       elim (cases_lt i n) as (λ _. ⊥) [
-        inl earlier ↦ before i d earlier same
-      | inr later ↦
-          let here : i ≡ n = omega (arith, sooner, later) in
-          differ (ap (λ (k : Key). k.name) (sym (name_at n y d less at_y)) ∙ ap (λ (m : ℕ). (get_or (map view xs) m d).name) (sym here) ∙ same ∙ ap (λ (k : Key). k.name) (name_at place x d inside at_x))
+        | inl earlier ↦ before i d earlier same
+        | inr later ↦
+            let here : i ≡ n = omega (arith, sooner, later) in
+            differ (ap (λ (k : Key). k.name) (sym (name_at n y d less at_y)) ∙ ap (λ (m : ℕ). (get_or (map view xs) m d).name) (sym here) ∙ same ∙ ap (λ (k : Key). k.name) (name_at place x d inside at_x))
       ]
 
   pub repeated_at : (place n : ℕ) (x y : B) → place < length xs → n < place → x ≡ get_or xs place x → y ≡ get_or xs n y → (view y).name ≡ (view x).name → IsRepeated (map view xs) place
@@ -75,11 +75,11 @@ AreApartBefore keys n = (i j : ℕ) (d : Key) → i < j → j < n → (get_or ke
 pub apart_more : (keys : List Key) (n : ℕ) → n < length keys → (IsRepeated keys n → ⊥) → AreApartBefore keys n → AreApartBefore keys (n + 1)
 apart_more keys n inside fresh before i j d less sooner same =
     elim (cases_lt j n) as (λ _. ⊥) [
-      inl earlier ↦ before i j d less earlier same
-    | inr later ↦
-        let here : j ≡ n = omega (arith, sooner, later) in
-        let at_n : (get_or keys i d).name ≡ (get_or keys n d).name = same ∙ ap (λ (m : ℕ). (get_or keys m d).name) here in
-        fresh (i, omega (arith, less, here), λ e. ap (λ (k : Key). k.name) (get_or_default keys i e d (omega (arith, less, here, inside))) ∙ at_n ∙ ap (λ (k : Key). k.name) (get_or_default keys n d e inside))
+      | inl earlier ↦ before i j d less earlier same
+      | inr later ↦
+          let here : j ≡ n = omega (arith, sooner, later) in
+          let at_n : (get_or keys i d).name ≡ (get_or keys n d).name = same ∙ ap (λ (m : ℕ). (get_or keys m d).name) here in
+          fresh (i, omega (arith, less, here), λ e. ap (λ (k : Key). k.name) (get_or_default keys i e d (omega (arith, less, here, inside))) ∙ at_n ∙ ap (λ (k : Key). k.name) (get_or_default keys n d e inside))
     ]
 
 pub apart_all : (keys : List Key) (n : ℕ) → length keys ≤ n → AreApartBefore keys n → AreApart keys
@@ -96,11 +96,11 @@ module _ (text : List ℕ) (keys : List Key) (line : Signature) where
   pub none_more : (n : ℕ) (key : Key) → slice_get keys n ≡ Some key → ((time : ℕ) → IsCosignature text key line time → ⊥) → IsOfNoneBefore n → IsOfNoneBefore (n + 1)
   none_more n key at never before place time less is =
       elim (cases_lt place n) as (λ _. ⊥) [
-        inl sooner ↦ before place time sooner is
-      | inr later ↦
-          let here : place ≡ n = omega (arith, less, later) in
-          let key_is : is.0 ≡ key = same_some is.0 key (sym is.1 ∙ ap (slice_get keys) here ∙ at) in
-          never time (subst (λ (k : Key). IsCosignature text k line time) key_is is.2)
+        | inl sooner ↦ before place time sooner is
+        | inr later ↦
+            let here : place ≡ n = omega (arith, less, later) in
+            let key_is : is.0 ≡ key = same_some is.0 key (sym is.1 ∙ ap (slice_get keys) here ∙ at) in
+            never time (subst (λ (k : Key). IsCosignature text k line time) key_is is.2)
       ]
 
   pub none_all : (n : ℕ) → length keys ≤ n → IsOfNoneBefore n → IsOfNone text keys line
@@ -115,12 +115,12 @@ one_witness text keys line apart p q t u a b =
     let at_p : get_or keys p a.0 ≡ a.0 = get_or_from_slice_get keys p a.0 a.0 a.1 in
     let at_q : get_or keys q a.0 ≡ b.0 = get_or_from_slice_get keys q b.0 a.0 b.1 in
     elim (cases_lt p q) as (λ _. p ≡ q) [
-      inl less ↦ absurd (apart p q a.0 less (slice_get_within keys q b.0 b.1) (ap (λ (k : Key). k.name) at_p ∙ name ∙ sym (ap (λ (k : Key). k.name) at_q)))
-    | inr le ↦
-        elim (cases_lt q p) as (λ _. p ≡ q) [
-          inl less ↦ absurd (apart q p a.0 less (slice_get_within keys p a.0 a.1) (ap (λ (k : Key). k.name) at_q ∙ sym name ∙ sym (ap (λ (k : Key). k.name) at_p)))
-        | inr ge ↦ omega (arith, le, ge)
-        ]
+      | inl less ↦ absurd (apart p q a.0 less (slice_get_within keys q b.0 b.1) (ap (λ (k : Key). k.name) at_p ∙ name ∙ sym (ap (λ (k : Key). k.name) at_q)))
+      | inr le ↦
+          elim (cases_lt q p) as (λ _. p ≡ q) [
+            | inl less ↦ absurd (apart q p a.0 less (slice_get_within keys p a.0 a.1) (ap (λ (k : Key). k.name) at_q ∙ sym name ∙ sym (ap (λ (k : Key). k.name) at_p)))
+            | inr ge ↦ omega (arith, le, ge)
+          ]
     ]
 
 module _ (text : List ℕ) (keys : List Key) (done : List Signature) (line : Signature) where
@@ -132,11 +132,11 @@ module _ (text : List ℕ) (keys : List Key) (done : List Signature) (line : Sig
   split c is =
       let within = slice_get_within (done ++ line ∷ []) c.line is.0 is.1 in
       elim (cases_lt c.line (length done)) as (λ _. IsBy text keys done c ⊎ ((c.line ≡ length done) × IsOfSome text keys line c.witness c.time)) [
-        inl less ↦ inl (is.0, sym (get_old done line c.line less) ∙ is.1, is.2)
-      | inr le ↦
-          let here : c.line ≡ length done = omega (arith, le, within, length_push done line) in
-          let line_is : is.0 ≡ line = same_some is.0 line (sym is.1 ∙ ap (slice_get (done ++ line ∷ [])) here ∙ get_new done line) in
-          inr (here, subst (λ (l : Signature). IsOfSome text keys l c.witness c.time) line_is is.2)
+        | inl less ↦ inl (is.0, sym (get_old done line c.line less) ∙ is.1, is.2)
+        | inr le ↦
+            let here : c.line ≡ length done = omega (arith, le, within, length_push done line) in
+            let line_is : is.0 ≡ line = same_some is.0 line (sym is.1 ∙ ap (slice_get (done ++ line ∷ [])) here ∙ get_new done line) in
+            inr (here, subst (λ (l : Signature). IsOfSome text keys l c.witness c.time) line_is is.2)
       ]
 
   within_done : (c : Cosigned) → IsBy text keys done c → c.line < length done
@@ -147,8 +147,8 @@ module _ (text : List ℕ) (keys : List Key) (done : List Signature) (line : Sig
   first_still found are k x less d is same =
       let c = get_or found k x in
       elim (split d is) as (λ _. c.line ≤ d.line) [
-        inl old ↦ are.first k x less d old same
-      | inr new ↦ omega (arith, new.0, within_done c (are.each k x less))
+        | inl old ↦ are.first k x less d old same
+        | inr new ↦ omega (arith, new.0, within_done c (are.each k x less))
       ]
 
   -- the line is by no witness
@@ -170,10 +170,10 @@ module _ (text : List ℕ) (keys : List Key) (done : List Signature) (line : Sig
     apart = are.apart;
     first = first_still found are;
     all = λ c is. elim (split c is) as (λ _. Any (λ d. d.witness ≡ c.witness) found) [
-      inl old ↦ are.all c old
-    | inr new ↦
-        let same : witness ≡ c.witness = one_witness text keys line apart witness c.witness time c.time of new.1 in
-        subst (λ (w : ℕ). Any (λ d. d.witness ≡ w) found) same was
+      | inl old ↦ are.all c old
+      | inr new ↦
+          let same : witness ≡ c.witness = one_witness text keys line apart witness c.witness time c.time of new.1 in
+          subst (λ (w : ℕ). Any (λ d. d.witness ≡ w) found) same was
     ];
   }
 
@@ -188,14 +188,14 @@ module _ (text : List ℕ) (keys : List Key) (done : List Signature) (line : Sig
         apart = all_pairs_push (λ (a b : Cosigned). a.witness ≢ b.witness) found c are.apart (λ k x less same. none (k, get_or found k x, less, get_or_default found k (get_or found k x) x less, same));
         first = All-push (λ (a : Cosigned). (d : Cosigned) → IsBy text keys (done ++ line ∷ []) d → d.witness ≡ a.witness → a.line ≤ d.line) found c (first_still found are)
             (λ d is same. elim (split d is) as (λ _. c.line ≤ d.line) [
-              inl old ↦ absurd (none (subst (λ (w : ℕ). Any (λ e. e.witness ≡ w) found) same (are.all d old)))
-            | inr new ↦ omega (arith, here, new.0)
+              | inl old ↦ absurd (none (subst (λ (w : ℕ). Any (λ e. e.witness ≡ w) found) same (are.all d old)))
+              | inr new ↦ omega (arith, here, new.0)
             ]);
         all = λ d is. elim (split d is) as (λ _. Any (λ e. e.witness ≡ d.witness) (found ++ c ∷ [])) [
-          inl old ↦ any_still (λ e. e.witness ≡ d.witness) found c (are.all d old)
-        | inr new ↦
-            let same : c.witness ≡ d.witness = one_witness text keys line apart c.witness d.witness c.time d.time of new.1 in
-            Any-push (λ (e : Cosigned). e.witness ≡ d.witness) found c same
+          | inl old ↦ any_still (λ e. e.witness ≡ d.witness) found c (are.all d old)
+          | inr new ↦
+              let same : c.witness ≡ d.witness = one_witness text keys line apart c.witness d.witness c.time d.time of new.1 in
+              Any-push (λ (e : Cosigned). e.witness ≡ d.witness) found c same
         ];
       }
 

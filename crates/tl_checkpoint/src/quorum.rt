@@ -5,7 +5,6 @@ ghost use Rattle.std.specs.List.{Any};
 ghost use Rattle.tl_note.specs.Note.{Signature};
 ghost use Rattle.tl_checkpoint.specs.Cosignature.{ChecksCosignature};
 ghost use Rattle.tl_checkpoint.specs.Quorum.{AreApart, AreFirst, IsOfNone, IsOfSome};
-
 ghost use Rattle.tl_checkpoint.specs.Inner.Keeping.{IsRepeated, KeepsNew};
 
 use crate::cosignature::check_cosignature;

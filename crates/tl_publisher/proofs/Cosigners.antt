@@ -6,25 +6,23 @@ use Rattle.std.proofs.Math.Dec.{eqb}
 use Rattle.std.proofs.lemmas.Bool.{eqb-true, eq-eqb}
 use Rattle.std.proofs.lemmas.Map.Steps.{length-le_from_distinct_below}
 use Rattle.std.proofs.lemmas.Map.Made.{IsDistinct-from_AllPairs}
-use Rattle.std.proofs.lemmas.List.{length-append, length-map, get_or-map, get_or_default, take_more}
-use Rattle.std.proofs.lemmas.List.Elements.{length_all_zip}
+use Rattle.std.proofs.lemmas.List.{length-append, length-map, get_or-map, take_more}
 use Rattle.std.proofs.lemmas.Slice.Zip.{AllZip-long}
 use Rattle.std.proofs.lemmas.Option.{slice_get_within}
 use Rattle.std.proofs.lemmas.Grind.{flat_map-append}
-use Rattle.tl_note.specs.Key.{Key, SigningKey}
-use Rattle.tl_note.specs.Note.{Signature, Note, IsSignature, signature_line, note_bytes}
-use Rattle.tl_note.specs.SignNote.{AreSigned, IsSignedBy}
+use Rattle.tl_note.specs.Key.{Key}
+use Rattle.tl_note.specs.Note.{Signature, Note, IsSignature, signature_line}
+use Rattle.tl_note.specs.SignNote.{IsSignedBy}
 use Rattle.tl_note.specs.View.{AreLines}
 use Rattle.tl_checkpoint.specs.declared.quorum.Cosigned.{Cosigned}
-use Rattle.tl_checkpoint.specs.Quorum.{AreApart, AreFirst, IsBy}
+use Rattle.tl_checkpoint.specs.Quorum.{AreFirst, IsBy}
 use Rattle.tl_publisher.specs.declared.fault.AttachFault.{AttachFault}
 use Rattle.tl_publisher.specs.declared.fault.AttachFault.TheVariants as attach
 use Rattle.tl_publisher.specs.Histories.{Prefix, Past, last_of}
-use Rattle.tl_publisher.specs.Signed.{IsSignedNote, IsByWitness, AreCosigned, Quorum, no_quorum, text_of_log}
+use Rattle.tl_publisher.specs.Signed.{IsSignedNote, IsByWitness, AreCosigned, no_quorum, text_of_log}
 use Rattle.tl_publisher.specs.Stages.{IsNextOf}
 use Rattle.tl_publisher.specs.Operating.{Operated, IsOperating, IsOfSame, IsProposal}
-use Rattle.tl_publisher.specs.Publishing.{IsSame}
-use Rattle.tl_publisher.specs.Proposing.{IsCosigned, IsAttached, AreTooFew, Attaches}
+use Rattle.tl_publisher.specs.Proposing.{IsCosigned, IsAttached, Attaches}
 use Rattle.tl_publisher.specs.Inner.Attaching.{HasBehind}
 use Rattle.tl_publisher.proofs.Operations.{operating_next, operating_still}
 
@@ -104,7 +102,7 @@ pub found_few : (text : List ℕ) (keys : List Key) (lines : List Signature) (fo
 found_few text keys lines found first =
     let many = length-map found (λ (c : Cosigned). c.witness) in
     let most = length-le_from_distinct_below (map (λ (c : Cosigned). c.witness) found) (length keys)
-        (IsDistinct-from_AllPairs {eq = eqb} (λ a b. (eqb-true a b, eq-eqb a b)) (map (λ (c : Cosigned). c.witness) found) (cosigned_places found first.apart)) (below found first.each) in
+    (IsDistinct-from_AllPairs {eq = eqb} (λ a b. (eqb-true a b, eq-eqb a b)) (map (λ (c : Cosigned). c.witness) found) (cosigned_places found first.apart)) (below found first.each) in
     omega (arith, many, most)
   where
     within : (n : ℕ) (found : List Cosigned) (c : Cosigned) (b : Bool) → eqb n c.witness ≡ b → c.witness < length keys → (list_any (eqb n) (map (λ (c : Cosigned). c.witness) found) ≡ true → n < length keys)

@@ -1,12 +1,12 @@
 -- What a history shows encodes beginnings of its log.
-use Rattle.std.proofs.Common.{◌≡◌, ℕ, ◌*◌, Bool, true, false, List, [], ◌∷◌, ◌++◌, length, take, drop, All, Option, Some, None, get_or, refl, sym, ap, subst, ◌∙◌, arith}
+use Rattle.std.proofs.Common.{◌≡◌, ℕ, Bool, true, false, List, ◌++◌, All, Option, Some, None, refl, sym, subst, ◌∙◌, arith}
 use Rattle.std.specs.Prelude.{if◌then◌else◌}
 use Rattle.std.proofs.lemmas.List.{length-append, get_or_append_left}
 use Rattle.sha2.specs.Sha256.{sha256}
 use Rattle.tl_note.specs.Key.{SigningKey}
 use Rattle.tl_tile.specs.declared.resource.Resource.{Resource}
 use Rattle.tl_tile.specs.declared.resource.Resource.TheVariants as resource
-use Rattle.tl_publisher.specs.Histories.{Prefix, Begins, StartsWith, AreOf, last_of, note_if, sizes_of}
+use Rattle.tl_publisher.specs.Histories.{Prefix, Begins, AreOf, last_of, note_if, sizes_of}
 use Rattle.tl_publisher.specs.Signed.{IsSignedNote, AreSignedBy, Quorum, text_of_log}
 use Rattle.tl_publisher.specs.Boards.{shown, was_needed, tile_if, bundle_if}
 use Rattle.tl_publisher.specs.Encoded.{Encodes, AreEncoded}

@@ -1,5 +1,5 @@
 -- Who must cosign, and what is proposed to them.
-use Rattle.std.proofs.Common.{◌≡◌, ℕ, ◌+◌, ◌≤◌, List, [], ◌∷◌, ◌++◌, length, take, Option, Some, None, refl, sym, ap, subst, ◌∙◌, append-nil, arith}
+use Rattle.std.proofs.Common.{◌≡◌, ℕ, List, [], ◌∷◌, length, take, Some, None, refl, sym, ap, subst, ◌∙◌, append-nil, arith}
 use Rattle.std.specs.Prelude.{Err}
 use Rattle.std.proofs.lemmas.List.{take_all}
 use Rattle.std.proofs.lemmas.List.Elements.{All-nil}
@@ -15,7 +15,7 @@ use Rattle.tl_publisher.specs.Histories.{Prefix, Past, AreOf, Begins, IsGrowing,
 use Rattle.tl_publisher.specs.Boards.{Board, face_head, head_if}
 use Rattle.tl_publisher.specs.Signed.{AreSigners, IsSignedNote, AreSignedBy, Quorum, no_quorum, text_of_log}
 use Rattle.tl_publisher.specs.Operating.{Operated, IsOperating, IsOfSame, IsProposal}
-use Rattle.tl_publisher.specs.Publishing.{EndsWith, IsFree, IsSame}
+use Rattle.tl_publisher.specs.Publishing.{EndsWith, IsFree}
 use Rattle.tl_publisher.specs.Proposing.{IsRequired, IsProposed, ProposeRefuses}
 use Rattle.tl_publisher.specs.Stages.{IsNextOf, IsShown}
 use Rattle.tl_publisher.specs.Grown.{Grown, IsGrown}

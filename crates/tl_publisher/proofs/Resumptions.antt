@@ -1,5 +1,5 @@
 -- A log that goes on from the bundles of a checkpoint.
-use Rattle.std.proofs.Common.{◌≡◌, ◌≢◌, ℕ, zero, suc, ◌+◌, ◌-◌, ◌*◌, ◌/◌, ◌%◌, ◌<◌, ◌≤◌, Bool, true, false, not, cond, inl, inr, List, [], ◌∷◌, ◌++◌, length, map, take, drop, get_or, vec_items, refl, sym, ap, subst, ◌∙◌, arith}
+use Rattle.std.proofs.Common.{◌≡◌, ℕ, zero, suc, ◌+◌, ◌*◌, ◌/◌, ◌%◌, ◌<◌, ◌≤◌, Bool, true, false, not, cond, inl, inr, List, [], ◌∷◌, ◌++◌, length, map, take, drop, get_or, vec_items, refl, sym, ap, subst, ◌∙◌, arith}
 use Rattle.std.specs.Result.{IsErrAnd}
 use Rattle.std.specs.Prelude.{Result, Ok, Err, IfErr, slice_index_or, nat_lt, ◌==◌, if◌then◌else◌}
 use Rattle.std.specs.List.{range_with_len}
@@ -8,8 +8,6 @@ use Rattle.std.proofs.lemmas.Bool.{cases_lt, eqb-true, ltb-true, lt-ltb, false_f
 use Rattle.std.proofs.lemmas.List.{length-append, length-map, get_or-map, map-append, length-drop, take_all, take_more, take-append-le, drop-append-le}
 use Rattle.std.proofs.lemmas.List.FromFn.{length-range_with_len}
 use Rattle.std.proofs.Math.Seq.{drop-append_seam}
-use Rattle.sha2.specs.Sha256.{sha256}
-use Rattle.tl_hash.specs.Tree.{tree_hash}
 use Rattle.tl_note.specs.Key.{SigningKey}
 use Rattle.tl_note.specs.Note.{IsNote}
 use Rattle.tl_tile.specs.Bundle.{bundle_text, AreEntries, AreShortEntries, IsBundle, IsShortEntry}
@@ -28,7 +26,7 @@ use Rattle.tl_publisher.specs.declared.fault.OperatorFault.TheVariants as operat
 use Rattle.tl_publisher.specs.declared.fault.ResumeFault.{ResumeFault}
 use Rattle.tl_publisher.specs.declared.fault.ResumeFault.TheVariants as resume
 use Rattle.tl_publisher.specs.Publishing.{MayOpenAll, OpenRefusesOperator}
-use Rattle.tl_publisher.specs.Resuming.{bundle_count, bundle_width, Resumption, AreBundlesOf, IsSized, IsBundleAt, IsFirstBad, IsOfOrigin, AreStated, IsBase, ResumeRefuses}
+use Rattle.tl_publisher.specs.Resuming.{bundle_count, bundle_width, Resumption, AreBundlesOf, IsSized, IsBundleAt, IsOfOrigin, IsBase, ResumeRefuses}
 use Rattle.tl_publisher.specs.Inner.Opening.{IsWant}
 use Rattle.tl_publisher.specs.Inner.Resuming.{Refuses, MissesBundle, after_bundle, after_operator, after_sequencer}
 
@@ -104,9 +102,9 @@ module _ (bundles : List (List ℕ)) (size place : ℕ) (base entries : List (Li
 
   most : length entries ≤ 256
   most = elim (cases_lt place (size / 256)) as (λ _. length entries ≤ 256) [
-        inl full ↦ (let wide = full_width size place full in omega (arith, are.count, wide))
-      | inr last ↦ (let wide = last_width size place (omega (arith, last)) in omega (arith, are.count, wide))
-      ]
+    | inl full ↦ (let wide = full_width size place full in omega (arith, are.count, wide))
+    | inr last ↦ (let wide = last_width size place (omega (arith, last)) in omega (arith, are.count, wide))
+  ]
 
   own_part : take 256 (drop (place * 256) (base ++ entries)) ≡ entries
   own_part =
@@ -120,23 +118,23 @@ module _ (bundles : List (List ℕ)) (size place : ℕ) (base entries : List (Li
         short = subst AreShortEntries (sym made) (both_short base entries is.short are.short);
         part = λ le. (let wide = full_width size place (omega (arith, le)) in omega (arith, len, before, are.count, wide));
         whole = λ le. elim (cases_lt place (size / 256)) as (λ _. length new ≡ size) [
-          inl full ↦ (let wide = full_width size place full in omega (arith, len, before, are.count, wide, le, full))
-        | inr last ↦ (let wide = last_width size place (omega (arith, last)) in omega (arith, len, before, are.count, wide, inside, many, last))
+          | inl full ↦ (let wide = full_width size place full in omega (arith, len, before, are.count, wide, le, full))
+          | inr last ↦ (let wide = last_width size place (omega (arith, last)) in omega (arith, len, before, are.count, wide, inside, many, last))
         ];
         each = λ i less. subst (λ (es : List (List ℕ)). slice_index_or bundles i [] ≡ bundle_text (take 256 (drop (i * 256) es))) (sym made) (at i less);
         good = λ i less. elim (cases_lt i place) as (λ _. IsBundleAt bundles size i) [
-          inl earlier ↦ is.good i earlier
-        | inr here ↦ (let same : place ≡ i = omega (arith, less, here) in subst (IsBundleAt bundles size) same (entries, are, text))
+          | inl earlier ↦ is.good i earlier
+          | inr here ↦ (let same : place ≡ i = omega (arith, less, here) in subst (IsBundleAt bundles size) same (entries, are, text))
         ];
       }
     where
       at : (i : ℕ) → i < place + 1 → slice_index_or bundles i [] ≡ bundle_text (take 256 (drop (i * 256) (base ++ entries)))
       at i less = elim (cases_lt i place) as (λ _. slice_index_or bundles i [] ≡ bundle_text (take 256 (drop (i * 256) (base ++ entries)))) [
-            inl earlier ↦ is.each i earlier ∙ ap bundle_text (sym (part_stays base entries i (omega (arith, earlier, before))))
-          | inr here ↦
-              let same : place ≡ i = omega (arith, less, here) in
-              subst (λ (n : ℕ). slice_index_or bundles n [] ≡ bundle_text (take 256 (drop (n * 256) (base ++ entries)))) same (text ∙ ap bundle_text (sym own_part))
-          ]
+        | inl earlier ↦ is.each i earlier ∙ ap bundle_text (sym (part_stays base entries i (omega (arith, earlier, before))))
+        | inr here ↦
+            let same : place ≡ i = omega (arith, less, here) in
+            subst (λ (n : ℕ). slice_index_or bundles n [] ≡ bundle_text (take 256 (drop (n * 256) (base ++ entries)))) same (text ∙ ap bundle_text (sym own_part))
+      ]
 
 -- one bundle more is read
 pub read_next : {A : Type 0} (bundles : List (List ℕ)) (size place : ℕ) (base entries new : List (Vec ℕ A)) → place < bundle_count size → IsReadTo bundles size place (map vec_items base) → AreEntries (bundle_width size place) (map vec_items entries)

@@ -1,8 +1,7 @@
 -- A checkpoint that is shown only once enough witnesses have cosigned it: who must, what is proposed to them, and what
 -- their lines make of it (C2SP tlog-cosignature, tlog-witness).
-use Rattle.std.specs.Prelude.{◌≡◌, ℕ, ◌+◌, ◌≤◌, ◌<◌, ◌⊎◌, List, [], ◌∷◌, ◌++◌, length, Result, Ok, Err, Option, Some, None, slice_get, ⊤}
+use Rattle.std.specs.Prelude.{◌≡◌, ℕ, ◌+◌, ◌≤◌, ◌<◌, List, [], ◌∷◌, ◌++◌, length, Result, Ok, Err, Some, None, slice_get}
 use Rattle.std.specs.List.{AllZip}
-use Rattle.tl_note.specs.Key.{Key}
 use Rattle.tl_note.specs.Note.{Signature, Note}
 use Rattle.tl_note.specs.SignNote.{AreSigned, MayFail}
 use Rattle.tl_note.specs.View.{AreLines}

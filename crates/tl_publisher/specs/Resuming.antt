@@ -1,6 +1,6 @@
 -- A log that goes on from a checkpoint that was published, with the bundles of its entries (C2SP tlog-checkpoint,
 -- tlog-tiles).
-use Rattle.std.specs.Prelude.{◌≡◌, ◌≢◌, ℕ, ◌*◌, ◌/◌, ◌%◌, ◌<◌, ◌≤◌, ◌^◌, List, [], length, take, drop, map, nat_lt, if◌then◌else◌, slice_index_or, Result, Err}
+use Rattle.std.specs.Prelude.{◌≡◌, ◌≢◌, ℕ, ◌*◌, ◌/◌, ◌%◌, ◌<◌, ◌≤◌, ◌^◌, List, [], length, take, drop, nat_lt, if◌then◌else◌, slice_index_or, Err}
 use Rattle.std.specs.Global.{Global}
 use Rattle.sha2.specs.Sha256.{sha256}
 use Rattle.tl_hash.specs.Tree.{tree_hash}
@@ -13,7 +13,6 @@ use Rattle.tl_checkpoint.specs.Checkpoint.{Head}
 use Rattle.tl_checkpoint.specs.OpenCheckpoint.{IsSignedCheckpoint, OpensCheckpoint}
 use Rattle.tl_checkpoint.specs.declared.opening.OpenCheckpointFault.{OpenCheckpointFault}
 use Rattle.tl_checkpoint.specs.declared.opening.OpenCheckpointFault.TheVariants as checkpoint
-use Rattle.tl_publisher.specs.declared.fault.OperatorFault.{OperatorFault}
 use Rattle.tl_publisher.specs.declared.fault.OperatorFault.TheVariants as operator
 use Rattle.tl_publisher.specs.declared.fault.ResumeFault.{ResumeFault}
 use Rattle.tl_publisher.specs.declared.fault.ResumeFault.TheVariants as resume

@@ -40,7 +40,11 @@ fn are_signers(signers: &[Box<dyn Signer>]) -> bool
 }
 
 // What is wrong with the origin, the signers or the number of readers.
-pub(crate) fn first_wrong(origin: &str, signers: &[Box<dyn Signer>], readers: u32) -> Option<OperatorFault>
+pub(crate) fn first_wrong(
+    origin: &str,
+    signers: &[Box<dyn Signer>],
+    readers: u32,
+) -> Option<OperatorFault>
     ensures { MatchOption result (MayOpenAll origin.now (map (λ s. signing_key s) signers.now) readers)
         (λ fault. (lanes capacity limit : ℕ) → OpenRefusesOperator origin.now (map (λ s. signing_key s) signers.now) lanes capacity limit readers fault) }
 {

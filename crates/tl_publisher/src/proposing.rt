@@ -63,7 +63,11 @@ impl<R: Wait + Drop> Operator<R> {
     /// Requires that so many of these witnesses cosign each checkpoint before it is shown (C2SP tlog-cosignature). From
     /// then on `propose` and `attach` stand in the place of `publish`. Of the faults that apply the first is answered;
     /// the witnesses then come back and nothing has changed. It takes no memory and doesn't wait.
-    pub fn require(&mut self, witnesses: Vec<Box<dyn Verifier>>, need: u32) -> Result<(), RequireBack>
+    pub fn require(
+        &mut self,
+        witnesses: Vec<Box<dyn Verifier>>,
+        need: u32,
+    ) -> Result<(), RequireBack>
         requires { IsOperating (⟦<Operator<R> as Shown>⟧.shown self.old) }
         ensures operating { IsOperating (⟦<Operator<R> as Shown>⟧.shown self.new) }
         ensures required { IfOk result (λ _. IsRequired (⟦<Operator<R> as Shown>⟧.shown self.old) (⟦<Operator<R> as Shown>⟧.shown self.new) (record { witnesses = map (λ w. key w) witnesses.items; need = need })) }

@@ -100,11 +100,7 @@ fn read_at(
 }
 
 // The entries of the bundles of a log of this size.
-fn read_all(
-    alloc: Global,
-    bundles: &[Vec<u8>],
-    size: u64,
-) -> Result<Vec<Vec<u8>>, ResumeFault>
+fn read_all(alloc: Global, bundles: &[Vec<u8>], size: u64) -> Result<Vec<Vec<u8>>, ResumeFault>
     requires { length bundles.now ≡ bundle_count size }
     ensures length { IfOk result (λ base. length base.items ≡ size) }
     ensures entries { IfOk result (λ base. AreBundlesOf (map vec_items base.items) (map vec_items bundles.now)) }

@@ -42,10 +42,7 @@ impl<R: Wait + Drop> Model for Run<R> {
 }
 
 // Takes in the entries of the log that the growth doesn't have yet. Where memory is refused it has some of them.
-fn take_in(
-    growth: &mut Growth<Global>,
-    log: &Sequencer<Global, Global>,
-) -> Result<(), AllocError>
+fn take_in(growth: &mut Growth<Global>, log: &Sequencer<Global, Global>) -> Result<(), AllocError>
     requires few { log.now.limit < 2 ^ 32 }
     requires within { growth.old.edge.size ≤ length (entries_of log.now) }
     ensures grown { (start : ℕ) → IsGrown sha256 start (take growth.old.edge.size (entries_of log.now)) growth.old → IsGrown sha256 start (take growth.new.edge.size (entries_of log.now)) growth.new }

@@ -7,7 +7,7 @@ pub returns-then-eq : goal.returns-then-eq
 returns-then-eq g c =
     let same = sym c.name_of.ensures ∙ (bytes_eq-Decides c.name_of.result.now c.name_of-name.result.now).0 (sym c.eq.ensures ∙ c.if-eq.true) ∙ c.name_of-name.ensures in (
       (λ _. repeated_at (λ b. (goal.Verifier-dyn g (b.vtable, b.value)).key b.value) c.args.witnesses.now c.args.place c.loop-earlier.earlier
-        c.index-witnesses-place.result c.index-witnesses-earlier.result c.requires (omega arith) c.index-witnesses-place.is c.index-witnesses-earlier.is same),
+          c.index-witnesses-place.result c.index-witnesses-earlier.result c.requires (omega arith) c.index-witnesses-place.is c.index-witnesses-earlier.is same),
       (λ _. refl),
     )
 

@@ -1,7 +1,7 @@
-use Rattle.std.proofs.Common.{not, map, vec_items, length, sym, ap, ◌∙◌, true≢false}
+use Rattle.std.proofs.Common.{not, map, vec_items, sym, ap, ◌∙◌, true≢false}
 use Rattle.std.proofs.lemmas.List.{length-map}
 use Rattle.std.proofs.lemmas.Slice.Eq.{bytes_eq-Decides}
-use Rattle.tl_publisher.specs.Resuming.{Resumption, IsSized, AreStated}
+use Rattle.tl_publisher.specs.Resuming.{Resumption}
 use Rattle.tl_publisher.specs.Inner.Resuming.{Refuses}
 use Rattle.tl_publisher.specs.declared.fault.ResumeFault.TheVariants.{OutOfMemory}
 use Rattle.tl_checkpoint.specs.Checkpoint.{head_of}
@@ -28,7 +28,7 @@ returns-in_err-base-clause-refused g c =
     let may = c.is_sized.ensures.0 c.if-not-is_sized.false in
     err_passes (Refuses r) c.in_err-base.field-0.0 c.from_residual-in_err-base.result c.from_residual-in_err-base.ensures.1
     (missed r (head_of c.in_ok-checkpoint.checkpoint) c.in_err-base.field-0.0 (c.in_ok-checkpoint.ensures.checkpoint r.bundles r.limit)
-      (record { within = may.0; small = may.1; bundled = many ∙ may.2 }) c.in_err-base.ensures.refused)
+    (record { within = may.0; small = may.1; bundled = many ∙ may.2 }) c.in_err-base.ensures.refused)
 
 pub returns-in_err-growth-clause-refused : goal.returns-in_err-growth-clause-refused
 returns-in_err-growth-clause-refused g c =

@@ -1,4 +1,4 @@
-use Rattle.std.proofs.Common.{map, vec_items, length, sym, ◌∙◌, arith}
+use Rattle.std.proofs.Common.{map, vec_items, sym, ◌∙◌, arith}
 use Rattle.std.proofs.lemmas.List.{length-map}
 use Rattle.tl_publisher.proofs.Resumptions.{read_next, read_whole}
 use Rattle.tl_publisher.proofs.resuming.read_all.Goals as goal

@@ -1,6 +1,6 @@
-use Rattle.std.proofs.Common.{ℕ, sym, ap, ◌∙◌, subst}
+use Rattle.std.proofs.Common.{sym, ◌∙◌, subst}
 use Rattle.sha2.specs.Sha256.{sha256}
-use Rattle.tl_publisher.specs.Grown.{Grown, IsGrown, texts_of}
+use Rattle.tl_publisher.specs.Grown.{Grown, IsGrown}
 use Rattle.tl_publisher.proofs.Joined.{grown_forked}
 use Rattle.tl_publisher.proofs.growth.Growth.fork.Goals as goal
 

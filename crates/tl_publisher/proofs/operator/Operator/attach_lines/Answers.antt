@@ -1,4 +1,4 @@
-use Rattle.std.proofs.Common.{◌≡◌, map, take, string_bytes, refl, ap}
+use Rattle.std.proofs.Common.{◌≡◌, map, take, string_bytes, ap}
 use Rattle.std.specs.Prelude.{Some, option_map}
 use Rattle.std.specs.Global.{Global}
 use Rattle.tl_sequencer.specs.Log.{entries_of}

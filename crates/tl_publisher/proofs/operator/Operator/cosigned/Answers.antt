@@ -1,4 +1,4 @@
-use Rattle.std.proofs.Common.{◌≡◌, ℕ, ◌<◌, List, [], All, length, map, take, string_bytes, vec_items, sym, ap, subst, ◌∙◌, arith}
+use Rattle.std.proofs.Common.{◌≡◌, ◌<◌, [], All, length, map, take, string_bytes, vec_items, sym, ap, subst, ◌∙◌, arith}
 use Rattle.std.specs.Prelude.{option_map}
 use Rattle.std.specs.Global.{Global}
 use Rattle.sha2.specs.Sha256.{sha256}
@@ -36,8 +36,10 @@ returns g c q at same =
     let text : c.as_str-2.result.now ≡ text_of_log a.origin q.entries =
     c.as_str-2.ensures.value ∙ c.in_ok-text.ensures.text ∙ (let words = c.as_str.ensures.value in λ i. checkpoint_text (record { origin = words i; size = size i; root = root i; extensions = [] })) in
     let first = rw (c.as_slice.ensures.value, c.deref.ensures.value) at c.in_ok-found.ensures in
-    let behind = rw (c.deref-2.ensures.value, c.deref-3.ensures.value) at c.in_ok-whole.ensures in
-    (c.in_ok-lines.lines.items, c.in_ok-lines.ensures,
+    let behind = rw (c.deref-2.ensures.value, c.deref-3.ensures.value) at c.in_ok-whole.ensures in (
+      c.in_ok-lines.lines.items,
+      c.in_ok-lines.ensures,
       subst (IsCosigned a q c.in_ok-lines.lines.items) (sym (ap vec_items c.into_bytes.ensures.value))
-      (cosigns_note a q c.args.lines.now c.in_ok-lines.lines.items c.in_ok-found.found.items c.as_str-2.result.now (string_bytes c.in_ok-whole.whole) c.requires at c.in_ok-lines.ensures text first (omega (arith, c.len.ensures, c.if-len-self.false))
-        (subst (λ n. HasBehind n c.in_ok-lines.lines.items c.in_ok-found.found.items (string_bytes c.in_ok-whole.whole)) (sym same) behind)))
+          (cosigns_note a q c.args.lines.now c.in_ok-lines.lines.items c.in_ok-found.found.items c.as_str-2.result.now (string_bytes c.in_ok-whole.whole) c.requires at c.in_ok-lines.ensures text first (omega (arith, c.len.ensures, c.if-len-self.false))
+          (subst (λ n. HasBehind n c.in_ok-lines.lines.items c.in_ok-found.found.items (string_bytes c.in_ok-whole.whole)) (sym same) behind)),
+    )

@@ -18,7 +18,7 @@ returns-in_err-note-clause-why g c =
     let fresh : EndsWith c.args.self.now.run.past.log (entries_of c.args.self.now.run.log) → ⊥ = λ ends. true≢false (sym (c.is_published.ensures.1 ends) ∙ c.if-is_published.false) in
     let root = c.head.ensures.root c.args.self.now.run.grown (entries_of c.args.self.now.run.log) c.in_ok-next.ensures in
     let told = subst (λ o. NotesHead o (map (λ b. (goal.Signer-dyn g (b.vtable, b.value)).signing_key b.value) c.args.self.now.signers.items) c.head.result.size c.head.result.root (Err c.in_err-note.field-0.0)) c.as_str.ensures.value
-        (subst (λ keys. NotesHead c.as_str.result.now (map (λ b. (goal.Signer-dyn g (b.vtable, b.value)).signing_key b.value) keys) c.head.result.size c.head.result.root (Err c.in_err-note.field-0.0)) c.as_slice.ensures.value c.in_err-note.ensures) in
+    (subst (λ keys. NotesHead c.as_str.result.now (map (λ b. (goal.Signer-dyn g (b.vtable, b.value)).signing_key b.value) keys) c.head.result.size c.head.result.root (Err c.in_err-note.field-0.0)) c.as_slice.ensures.value c.in_err-note.ensures) in
     let a : Operated Global = record {
       origin = string_bytes c.args.self.now.origin;
       signers = map (λ b. (goal.Signer-dyn g (b.vtable, b.value)).signing_key b.value) c.args.self.now.signers.items;
@@ -45,5 +45,5 @@ returns-clause-operating g c =
     let signed = rw (c.as_str.ensures.value, c.as_slice.ensures.value) at c.in_ok-note.ensures in
     operating_proposes _ _ c.size-size.result (string_bytes c.in_ok-note.note) (record { origin = refl; signers = refl; quorum = refl })
     (proposed_of _ _ c.args.self.now.run c.adopt.new.self c.in_ok-next.next c.head.result.size c.size-size.result c.head.result.root (string_bytes c.in_ok-note.note) (string_bytes c.in_ok-note.note)
-      refl refl refl refl refl c.in_ok-adopt.ensures.same c.in_ok-adopt.ensures.grown c.if-self-eq0.false fresh c.in_ok-next.ensures c.head.ensures.size root c.size-size.ensures signed refl)
+    refl refl refl refl refl c.in_ok-adopt.ensures.same c.in_ok-adopt.ensures.grown c.if-self-eq0.false fresh c.in_ok-next.ensures c.head.ensures.size root c.size-size.ensures signed refl)
     c.requires

@@ -1,4 +1,4 @@
-use Rattle.std.proofs.Common.{◌≡◌, [], refl, ap, sym, ◌∙◌, true≢false}
+use Rattle.std.proofs.Common.{refl, ap, sym, ◌∙◌, true≢false}
 use Rattle.tl_publisher.specs.Running.{Running}
 use Rattle.tl_publisher.proofs.Proposals.{none_published, some_published}
 use Rattle.tl_publisher.proofs.run.Run.is_unpublished.Goals as goal
