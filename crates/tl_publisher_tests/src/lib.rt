@@ -6,9 +6,13 @@ mod large;
 #[cfg(test)]
 mod logs;
 #[cfg(test)]
+mod looks;
+#[cfg(test)]
 mod openings;
 #[cfg(test)]
 mod refusals;
+#[cfg(test)]
+mod scripts;
 #[cfg(test)]
 mod threads;
 #[cfg(test)]

@@ -1,5 +1,5 @@
 //! Logs for tests, and one step each of what is done with them.
-ghost use Rattle.std.specs.Prelude.{◌≡◌, IfOk, IfSome, vec_len};
+ghost use Rattle.std.specs.Prelude.{◌≡◌, IfOk, vec_len};
 ghost use Rattle.std.specs.List.{All};
 ghost use Rattle.tl_publisher.specs.Operating.{IsOperating};
 ghost use Rattle.tl_sequencer.specs.Log.{IsSenderOf, rings_of};
@@ -58,7 +58,6 @@ pub fn opened_pair<R: Wait + Drop>(
     limit: u64,
 ) -> Result<(Operator<R>, Sender, Sender, BoardReader<Global>), Fail>
     ensures operating { IfOk result (λ r. IsOperating (⟦<Operator<R> as Shown>⟧.shown r.0)) }
-    ensures follows { IfOk result (λ r. r.3.book ≡ (⟦<Operator<R> as Shown>⟧.shown r.0).past.book) }
     ensures zero { IfOk result (λ r. IsSenderOf r.1 (⟦<Operator<R> as Shown>⟧.shown r.0).log) }
     ensures one { IfOk result (λ r. IsSenderOf r.2 (⟦<Operator<R> as Shown>⟧.shown r.0).log) }
 {
@@ -83,45 +82,40 @@ pub fn send(alloc: Global, submitter: &mut Sender, entry: &[u8]) -> Result<bool,
     Ok(submitter.submit(entry).is_ok())
 }
 
-/// Publishes the log, which the reader learns: the size.
-pub fn publish<R: Wait + Drop>(
-    operator: &mut Operator<R>,
-    reader: &mut BoardReader<Global>,
-) -> Result<u64, PublishFault>
-    requires operating { IsOperating (⟦<Operator<R> as Shown>⟧.shown operator.old) }
-    requires follows { reader.old.book ≡ (⟦<Operator<R> as Shown>⟧.shown operator.old).past.book }
+/// Takes up to `most` entries of a lane: how many, and nothing where it is refused.
+pub fn taken<R: Wait + Drop>(operator: &mut Operator<R>, lane: u32, most: u64) -> Option<u64>
+    requires { IsOperating (⟦<Operator<R> as Shown>⟧.shown operator.old) }
     ensures operating { IsOperating (⟦<Operator<R> as Shown>⟧.shown operator.new) }
-    ensures follows { reader.new.book ≡ (⟦<Operator<R> as Shown>⟧.shown operator.new).past.book }
+    ensures rings { rings_of (⟦<Operator<R> as Shown>⟧.shown operator.new).log ≡ rings_of (⟦<Operator<R> as Shown>⟧.shown operator.old).log }
+{
+    match operator.take(lane, most) {
+        Ok(count) => Some(count),
+        Err(_) => None,
+    }
+}
+
+/// Publishes the log: its size.
+pub fn published<R: Wait + Drop>(operator: &mut Operator<R>) -> Result<u64, PublishFault>
+    requires { IsOperating (⟦<Operator<R> as Shown>⟧.shown operator.old) }
+    ensures operating { IsOperating (⟦<Operator<R> as Shown>⟧.shown operator.new) }
     ensures rings { rings_of (⟦<Operator<R> as Shown>⟧.shown operator.new).log ≡ rings_of (⟦<Operator<R> as Shown>⟧.shown operator.old).log }
 {
     match operator.publish() {
-        Ok(published) => {
-            reader.learn(&published);
-            Ok(published.size())
-        }
+        Ok(published) => Ok(published.size()),
         Err(fault) => Err(fault),
     }
 }
 
-/// Takes up to `most` entries of a lane and publishes the log, which the reader learns: how many, and the size.
-pub fn take_and_publish<R: Wait + Drop>(
-    operator: &mut Operator<R>,
-    reader: &mut BoardReader<Global>,
-    lane: u32,
-    most: u64,
-) -> Option<(u64, u64)>
-    requires operating { IsOperating (⟦<Operator<R> as Shown>⟧.shown operator.old) }
-    requires follows { reader.old.book ≡ (⟦<Operator<R> as Shown>⟧.shown operator.old).past.book }
+/// Takes one entry of a lane and publishes the log: its size.
+pub fn grown<R: Wait + Drop>(operator: &mut Operator<R>, lane: u32) -> Option<u64>
+    requires { IsOperating (⟦<Operator<R> as Shown>⟧.shown operator.old) }
     ensures operating { IsOperating (⟦<Operator<R> as Shown>⟧.shown operator.new) }
-    ensures follows { reader.new.book ≡ (⟦<Operator<R> as Shown>⟧.shown operator.new).past.book }
     ensures rings { rings_of (⟦<Operator<R> as Shown>⟧.shown operator.new).log ≡ rings_of (⟦<Operator<R> as Shown>⟧.shown operator.old).log }
 {
-    let Ok(count) = operator.take(lane, most) else {
-        return None;
-    };
-    match publish(operator, reader) {
-        Ok(size) => Some((count, size)),
-        Err(_) => None,
+    let count = taken(operator, lane, 1);
+    match published(operator) {
+        Ok(size) if count == Some(1) => Some(size),
+        _ => None,
     }
 }
 
@@ -130,7 +124,6 @@ pub fn end_lane<R: Wait + Drop>(operator: &mut Operator<R>, submitter: Sender) -
     requires own { IsSenderOf submitter (⟦<Operator<R> as Shown>⟧.shown operator.old).log }
     requires operating { IsOperating (⟦<Operator<R> as Shown>⟧.shown operator.old) }
     ensures operating { IsOperating (⟦<Operator<R> as Shown>⟧.shown operator.new) }
-    ensures past { (⟦<Operator<R> as Shown>⟧.shown operator.new).past ≡ (⟦<Operator<R> as Shown>⟧.shown operator.old).past }
     ensures rings { rings_of (⟦<Operator<R> as Shown>⟧.shown operator.new).log ≡ rings_of (⟦<Operator<R> as Shown>⟧.shown operator.old).log }
 {
     let Some(ended) = submitter.close() else {
@@ -143,34 +136,19 @@ pub fn end_lane<R: Wait + Drop>(operator: &mut Operator<R>, submitter: Sender) -
 }
 
 /// What the reader finds under a resource, and nothing where it got no answer.
-pub fn found(alloc: Global, reader: &mut BoardReader<Global>, resource: Resource) -> Option<Vec<u8>>
-    ensures { reader.new.book ≡ reader.old.book }
-{
+pub fn found(
+    alloc: Global,
+    reader: &mut BoardReader<Global>,
+    resource: Resource,
+) -> Option<Vec<u8>> {
     match reader.get(alloc, &resource) {
         Ok(found) => found,
         Err(_) => None,
     }
 }
 
-/// Whether the reader finds these bytes.
-pub fn shows(
-    alloc: Global,
-    reader: &mut BoardReader<Global>,
-    resource: Resource,
-    bytes: &[u8],
-) -> bool
-    ensures { reader.new.book ≡ reader.old.book }
-{
-    match found(alloc, reader, resource) {
-        Some(found) => found.as_slice() == bytes,
-        None => false,
-    }
-}
-
 /// The size that the reader sees, and nothing where it got no answer or nothing is published.
-pub fn size_of(reader: &mut BoardReader<Global>) -> Option<u64>
-    ensures { reader.new.book ≡ reader.old.book }
-{
+pub fn size_of(reader: &mut BoardReader<Global>) -> Option<u64> {
     match reader.head() {
         Ok(Some(head)) => Some(head.size),
         Ok(None) => None,

@@ -1,6 +1,6 @@
 use Rattle.std.proofs.Common.{map, string_bytes}
 use Rattle.tl_publisher.specs.Operating.{IsOperating}
-use Rattle.tl_publisher_tests.proofs.large.publish_steps.Given as goal
+use Rattle.tl_publisher_tests.proofs.scripts.wrong_step.Given as goal
 
 abbrev pub invariant-loop-step : goal.invariant-loop-step
 invariant-loop-step g l = IsOperating (record {
