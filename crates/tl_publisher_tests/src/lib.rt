@@ -10,7 +10,11 @@ mod looks;
 #[cfg(test)]
 mod openings;
 #[cfg(test)]
+mod quorums;
+#[cfg(test)]
 mod refusals;
+#[cfg(test)]
+mod resumed;
 #[cfg(test)]
 mod scripts;
 #[cfg(test)]

@@ -7,7 +7,7 @@ ghost use Rattle.tl_sequencer.specs.Log.{IsSenderOf, rings_of};
 use std::alloc::{AllocError, Global};
 use std::sync::Wait;
 use std::test::Fail;
-use tl_note::Signer;
+use tl_note::{Signer, Verifier};
 use tl_publisher::{BoardReader, Operator, OperatorFault, PublishFault, Shown};
 use tl_sequencer::Submitter;
 use tl_testing::LengthKey;
@@ -23,6 +23,17 @@ pub type Sender = Submitter<Global, Global>;
 pub fn signers(alloc: Global) -> Result<Vec<Box<dyn Signer>>, AllocError> {
     let mut all: Vec<Box<dyn Signer>> = Vec::new(alloc);
     all.push(Box::new(alloc, LengthKey::new(alloc, ORIGIN, 0x01020304)?)?)?;
+    Ok(all)
+}
+
+/// The one verifier, the length key of this name.
+pub fn verifiers(
+    alloc: Global,
+    name: &str,
+    id: u32,
+) -> Result<Vec<Box<dyn Verifier>>, AllocError> {
+    let mut all: Vec<Box<dyn Verifier>> = Vec::new(alloc);
+    all.push(Box::new(alloc, LengthKey::new(alloc, name, id)?)?)?;
     Ok(all)
 }
 

@@ -5,7 +5,7 @@ ghost use Rattle.tl_publisher.specs.Operating.{IsOperating};
 use crate::logs::{Sender, found, opened, published, send, signers, size_of, taken};
 use std::alloc::Global;
 use std::sync::Wait;
-use tl_publisher::{BoardReader, Operator, OperatorFault, PublishFault, Shown};
+use tl_publisher::{AttachFault, BoardReader, Operator, OperatorFault, PublishFault, Shown};
 use tl_tile::{Resource, Tile};
 
 /// What a reader is asked, and what it is to answer.
@@ -28,6 +28,10 @@ pub enum Step {
     Take(u32, u64, u64),
     /// The log is published: the size, or why not.
     Publish(Result<u64, PublishFault>),
+    /// The log is proposed to the witnesses: its size and note, or why not.
+    Propose(Result<(u64, &'static str), PublishFault>),
+    /// Lines of witnesses are attached: the size that is published, or why none is.
+    Attach(&'static str, Result<u64, AttachFault>),
     /// The reader looks.
     Look(Sight),
 }
@@ -95,6 +99,34 @@ fn is_sent_to(
     }
 }
 
+// Whether the log is proposed as it is to be.
+fn is_proposed<R: Wait + Drop>(
+    operator: &mut Operator<R>,
+    want: Result<(u64, &str), PublishFault>,
+) -> bool
+    requires { IsOperating (⟦<Operator<R> as Shown>⟧.shown operator.old) }
+    ensures { IsOperating (⟦<Operator<R> as Shown>⟧.shown operator.new) }
+{
+    match (operator.propose(), want) {
+        (Ok(proposal), Ok((size, note))) => {
+            proposal.size == size && proposal.note.as_str() == note
+        }
+        (Err(fault), Err(wanted)) => fault == wanted,
+        _ => false,
+    }
+}
+
+// Attaches lines of witnesses: the size that is published.
+fn attached<R: Wait + Drop>(operator: &mut Operator<R>, lines: &str) -> Result<u64, AttachFault>
+    requires { IsOperating (⟦<Operator<R> as Shown>⟧.shown operator.old) }
+    ensures { IsOperating (⟦<Operator<R> as Shown>⟧.shown operator.new) }
+{
+    match operator.attach(lines) {
+        Ok(published) => Ok(published.size()),
+        Err(fault) => Err(fault),
+    }
+}
+
 // Does a step. Whether it came as it is to.
 fn is_done<R: Wait + Drop>(
     alloc: Global,
@@ -110,6 +142,8 @@ fn is_done<R: Wait + Drop>(
         Step::Send(lane, entry, count) => is_sent_to(alloc, submitters, lane, entry, count),
         Step::Take(lane, most, count) => taken(operator, lane, most) == Some(count),
         Step::Publish(want) => published(operator) == want,
+        Step::Propose(want) => is_proposed(operator, want),
+        Step::Attach(lines, want) => attached(operator, lines) == want,
         Step::Look(sight) => is_seen(alloc, reader, sight),
     }
 }
