@@ -11,8 +11,8 @@ use Rattle.tl_note.specs.Key.{Key}
 use Rattle.tl_note.specs.Note.{Signature}
 use Rattle.tl_checkpoint.specs.declared.quorum.Cosigned.{Cosigned}
 use Rattle.tl_checkpoint.specs.Cosignature.{IsCosignature}
-use Rattle.tl_checkpoint.specs.Inner.Keeping.{IsRepeated, Keeps, KeepsNew}
-use Rattle.tl_checkpoint.specs.Quorum.{AreApart, AreFirst, IsBy, IsOfSome, IsOfNone}
+use Rattle.tl_checkpoint.specs.Inner.Keeping.{IsOfNone, IsRepeated, Keeps, KeepsNew}
+use Rattle.tl_checkpoint.specs.Quorum.{AreApart, AreFirst, IsBy, IsOfSome}
 
 -- ---- a list with one element more
 

@@ -15,10 +15,6 @@ AreApart witnesses = AllPairs (λ a b. a.name ≢ b.name) witnesses
 abbrev pub IsOfSome : Bytes → List Key → Signature → ℕ → ℕ → Type 0
 IsOfSome text witnesses line place time = (key : Key) × (slice_get witnesses place ≡ Some key) × IsCosignature text key line time
 
--- it is one by no witness
-abbrev pub IsOfNone : Bytes → List Key → Signature → Type 0
-IsOfNone text witnesses line = (place time : ℕ) → IsOfSome text witnesses line place time → ⊥
-
 -- the line at the one place is a cosignature by the witness at the other
 abbrev pub IsBy : Bytes → List Key → List Signature → Cosigned → Type 0
 IsBy text witnesses lines c = (line : Signature) × (slice_get lines c.line ≡ Some line) × IsOfSome text witnesses line c.witness c.time

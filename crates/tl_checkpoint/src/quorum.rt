@@ -4,8 +4,8 @@ ghost use Rattle.std.specs.Prelude.{◌≡◌, ◌↔◌, ◌<◌, length, map, 
 ghost use Rattle.std.specs.List.{Any};
 ghost use Rattle.tl_note.specs.Note.{Signature};
 ghost use Rattle.tl_checkpoint.specs.Cosignature.{ChecksCosignature};
-ghost use Rattle.tl_checkpoint.specs.Quorum.{AreApart, AreFirst, IsOfNone, IsOfSome};
-ghost use Rattle.tl_checkpoint.specs.Inner.Keeping.{IsRepeated, KeepsNew};
+ghost use Rattle.tl_checkpoint.specs.Quorum.{AreApart, AreFirst, IsOfSome};
+ghost use Rattle.tl_checkpoint.specs.Inner.Keeping.{IsOfNone, IsRepeated, KeepsNew};
 
 use crate::cosignature::check_cosignature;
 use std::alloc::{AllocError, Allocator};

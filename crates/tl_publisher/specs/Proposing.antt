@@ -50,8 +50,8 @@ pub record IsRequired {A : Type 0} (a b : Operated A) (q : Quorum) : Type 0 wher
 
 -- ---- what is proposed
 
--- the whole log, which isn't what was published last, is proposed under a signed note of its checkpoint, in place of what
--- was proposed before, and nothing is shown
+-- the whole log, which isn't what was published last, is proposed under a signed note of its checkpoint, in place of
+-- what was proposed before, and nothing is shown
 pub record IsProposed {A : Type 0} (a b : Operated A) (size : ℕ) (note : List ℕ) : Type 0 where
   pub needed : IsFree a → ⊥
   pub fresh : EndsWith a.past.log (entries_of a.log) → ⊥
@@ -61,8 +61,8 @@ pub record IsProposed {A : Type 0} (a b : Operated A) (size : ℕ) (note : List 
   pub log : b.log ≡ a.log
   pub past : b.past ≡ a.past
 
--- `Quorum` exactly where no witness must cosign, and else `NothingNew` exactly where the last publication is of the whole
--- log; where it is refused, what was proposed before stays
+-- `Quorum` exactly where no witness must cosign, and else `NothingNew` exactly where the last publication is of the
+-- whole log; where it is refused, what was proposed before stays
 abbrev pub ProposeRefuses : {A : Type 0} → Operated A → PublishFault → Type 0
 ProposeRefuses a publish.Quorum = IsFree a
 ProposeRefuses a publish.NothingNew = (IsFree a → ⊥) × EndsWith a.past.log (entries_of a.log)
@@ -72,8 +72,8 @@ ProposeRefuses a publish.OutOfMemory = (IsFree a → ⊥) × (EndsWith a.past.lo
 
 -- ---- what is attached
 
--- the note of what was proposed with lines of enough witnesses: its own lines, one by each signer, and then, in the order
--- of the lines that are attached, the first cosignature by each witness
+-- the note of what was proposed with lines of enough witnesses: its own lines, one by each signer, and then, in the
+-- order of the lines that are attached, the first cosignature by each witness
 pub record IsCosigned {A : Type 0} (a : Operated A) (q : Prefix) (lines : List Signature) (note : List ℕ) : Type 0 where
   pub own : List Signature
   pub found : List Cosigned

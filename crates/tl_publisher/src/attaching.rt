@@ -78,10 +78,12 @@ impl<R: Wait + Drop> Operator<R> {
         self.proposal = None;
         Ok(published)
     }
+
     /// Publishes what was proposed in one step, once enough witnesses have cosigned it: its checkpoint has the signers'
-    /// lines and then the first valid line of each witness, in the order of these lines, which are what witnesses answer
-    /// (C2SP tlog-witness). All other lines are left out. Entries taken since then wait. `TooFew`: so many witnesses
-    /// have a valid line. A call that is refused keeps the proposal. It waits until no reader looks at what is replaced.
+    /// lines and then the first valid line of each witness, in the order of these lines, which are what witnesses
+    /// answer (C2SP tlog-witness). All other lines are left out. Entries taken since then wait. `TooFew`: so many
+    /// witnesses have a valid line. A call that is refused keeps the proposal. It waits until no reader looks at what
+    /// is replaced.
     pub fn attach(&mut self, lines: &str) -> Result<Published, AttachFault>
         requires { IsOperating (⟦<Operator<R> as Shown>⟧.shown self.old) }
         ensures operating { IsOperating (⟦<Operator<R> as Shown>⟧.shown self.new) }

@@ -1,8 +1,15 @@
 -- Steps of finding the first cosignature by each witness.
 use Rattle.std.specs.Prelude.{◌≡◌, ℕ, ◌<◌, slice_index_or, ◌⊎◌, List, [], ◌∷◌, ◌++◌, Option, Some, None}
 use Rattle.std.specs.List.{Any}
+use Rattle.tl_hash.specs.Bytes.{Bytes}
 use Rattle.tl_note.specs.Key.{Key}
+use Rattle.tl_note.specs.Note.{Signature}
+use Rattle.tl_checkpoint.specs.Quorum.{IsOfSome}
 use Rattle.tl_checkpoint.specs.declared.quorum.Cosigned.{Cosigned}
+
+-- it is one by no witness
+abbrev pub IsOfNone : Bytes → List Key → Signature → Type 0
+IsOfNone text witnesses line = (place time : ℕ) → IsOfSome text witnesses line place time → ⊥
 
 -- the list has a cosignature by this witness and stays, or it gets this one
 abbrev pub Keeps : Cosigned → List Cosigned → List Cosigned → Type 0
