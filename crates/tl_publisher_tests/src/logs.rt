@@ -27,11 +27,7 @@ pub fn signers(alloc: Global) -> Result<Vec<Box<dyn Signer>>, AllocError> {
 }
 
 /// The one verifier, the length key of this name.
-pub fn verifiers(
-    alloc: Global,
-    name: &str,
-    id: u32,
-) -> Result<Vec<Box<dyn Verifier>>, AllocError> {
+pub fn verifiers(alloc: Global, name: &str, id: u32) -> Result<Vec<Box<dyn Verifier>>, AllocError> {
     let mut all: Vec<Box<dyn Verifier>> = Vec::new(alloc);
     all.push(Box::new(alloc, LengthKey::new(alloc, name, id)?)?)?;
     Ok(all)

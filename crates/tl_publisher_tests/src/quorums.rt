@@ -135,7 +135,10 @@ fn two_lines_of_one_witness_count_once(rt: HostRuntime) -> Result<(), Fail> {
     let alloc = rt.alloc();
     let names = [WITNESS, "w2.example"];
     assert_eq!(rt; run_required(&rt, alloc, &names, 2, &one_of_two())?, None);
-    let free = [Step::Propose(Err(PublishFault::Quorum)), Step::Publish(Ok(0))];
+    let free = [
+        Step::Propose(Err(PublishFault::Quorum)),
+        Step::Publish(Ok(0)),
+    ];
     assert_eq!(rt; run(&rt, alloc, 1, 4, 9, &free)?, None);
     Ok(())
 }
@@ -165,26 +168,14 @@ const REFUSED: [(&[&str], u32, Option<(RequireFault, usize)>); 6] = [
     (&["a", "b", WITNESS], 3, None),
 ];
 
-// The place of the first row that comes otherwise.
-fn wrong_row<R: Wait + Drop>(alloc: Global, operator: &mut Operator<R>) -> Result<Option<u64>, AllocError>
-    requires { IsOperating (⟦<Operator<R> as Shown>⟧.shown operator.old) }
-    ensures { IsOperating (⟦<Operator<R> as Shown>⟧.shown operator.new) }
-{
-    let mut place = 0u64;
-    for (names, need, want) in REFUSED {
-        if refused(operator, witnesses(alloc, names)?, need) != want {
-            return Ok(Some(place));
-        }
-        place = place.saturating_add(1);
-    }
-    Ok(None)
-}
-
 #[test]
 fn witnesses_that_are_not_required_come_back(rt: HostRuntime) -> Result<(), Fail> {
     let alloc = rt.alloc();
     let (mut operator, _submitters, _reader) = opened(&rt, alloc, signers(alloc)?, 1, 4, 9)?;
-    assert_eq!(rt; wrong_row(alloc, &mut operator)?, None);
+    for (names, need, want) in REFUSED {
+        let found = refused(&mut operator, witnesses(alloc, names)?, need);
+        assert_eq!(rt; found, want);
+    }
     let again = verifiers(alloc, "d", 4)?;
     let late = Some((RequireFault::Late, 1));
     assert_eq!(rt; refused(&mut operator, again, 1), late);
@@ -220,7 +211,12 @@ fn up_to_a_hundred_lines_are_read(rt: HostRuntime) -> Result<(), Fail> {
         assert_eq!(rt; found.len() as u32, count);
     }
     let text = lines(alloc, 101)?;
-    for wrong in [text.as_str(), "\n", "x", "— witness.example CgsMDQAAAABlU/EAAAAAAAAAAF8="] {
+    for wrong in [
+        text.as_str(),
+        "\n",
+        "x",
+        "— witness.example CgsMDQAAAABlU/EAAAAAAAAAAF8=",
+    ] {
         let found = parse_signatures(alloc, wrong);
         assert_eq!(rt; found.err(), Some(NoteFault::Malformed));
     }

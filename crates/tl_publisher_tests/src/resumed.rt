@@ -108,10 +108,7 @@ fn grows() -> [Step; 9] {
         Step::Look(Sight::Length(Resource::Checkpoint, None)),
         Step::Publish(Ok(2)),
         Step::Look(Sight::Bytes(Resource::Checkpoint, TWO_NOTE.as_bytes())),
-        Step::Look(Sight::Bytes(
-            Resource::Entries { index: 0, width: 2 },
-            TWO,
-        )),
+        Step::Look(Sight::Bytes(Resource::Entries { index: 0, width: 2 }, TWO)),
         Step::Send(0, &[0x10], 1),
         Step::Take(0, 1, 1),
         Step::Publish(Ok(3)),
@@ -166,16 +163,83 @@ fn log_goes_on_from_two_entries(rt: HostRuntime) -> Result<(), Fail> {
 fn refusals() -> [(Asked, ResumeFault); 11] {
     let lanes = OperatorFault::Lanes(OpenFault::LaneCount);
     [
-        (Asked { known: false, origin: "x", limit: 1, ..ASKED }, ResumeFault::Note),
-        (Asked { note: "example.com/log\n", ..ASKED }, ResumeFault::Note),
-        (Asked { origin: "example.com/x", limit: 1, ..ASKED }, ResumeFault::Origin),
-        (Asked { bundles: &[], ..ASKED }, ResumeFault::Size),
-        (Asked { bundles: &[TWO, TWO], ..ASKED }, ResumeFault::Size),
-        (Asked { limit: 1, lanes: 0, ..ASKED }, ResumeFault::Size),
-        (Asked { bundles: &[&[0, 0, 0, 1]], lanes: 0, ..ASKED }, ResumeFault::Bundle(0)),
-        (Asked { bundles: &[&[0, 0, 0, 1, 0, 0]], ..ASKED }, ResumeFault::Bundle(0)),
-        (Asked { bundles: &[&[0, 0, 0, 1, 1]], signed: false, ..ASKED }, ResumeFault::Root),
-        (Asked { signed: false, lanes: 0, ..ASKED }, ResumeFault::Open(OperatorFault::Signers)),
+        (
+            Asked {
+                known: false,
+                origin: "x",
+                limit: 1,
+                ..ASKED
+            },
+            ResumeFault::Note,
+        ),
+        (
+            Asked {
+                note: "example.com/log\n",
+                ..ASKED
+            },
+            ResumeFault::Note,
+        ),
+        (
+            Asked {
+                origin: "example.com/x",
+                limit: 1,
+                ..ASKED
+            },
+            ResumeFault::Origin,
+        ),
+        (
+            Asked {
+                bundles: &[],
+                ..ASKED
+            },
+            ResumeFault::Size,
+        ),
+        (
+            Asked {
+                bundles: &[TWO, TWO],
+                ..ASKED
+            },
+            ResumeFault::Size,
+        ),
+        (
+            Asked {
+                limit: 1,
+                lanes: 0,
+                ..ASKED
+            },
+            ResumeFault::Size,
+        ),
+        (
+            Asked {
+                bundles: &[&[0, 0, 0, 1]],
+                lanes: 0,
+                ..ASKED
+            },
+            ResumeFault::Bundle(0),
+        ),
+        (
+            Asked {
+                bundles: &[&[0, 0, 0, 1, 0, 0]],
+                ..ASKED
+            },
+            ResumeFault::Bundle(0),
+        ),
+        (
+            Asked {
+                bundles: &[&[0, 0, 0, 1, 1]],
+                signed: false,
+                ..ASKED
+            },
+            ResumeFault::Root,
+        ),
+        (
+            Asked {
+                signed: false,
+                lanes: 0,
+                ..ASKED
+            },
+            ResumeFault::Open(OperatorFault::Signers),
+        ),
         (Asked { lanes: 0, ..ASKED }, ResumeFault::Open(lanes)),
     ]
 }
@@ -198,7 +262,10 @@ fn first_fault_is_answered(rt: HostRuntime) -> Result<(), Fail> {
 }
 
 // The places and lanes of a log that went on and was closed: those of its one further entry, and of the first.
-fn closed<R: Wait + Drop>(rt: R, alloc: Global) -> Result<Option<(u64, Option<u64>, Option<u32>, Option<u32>)>, ResumeFault> {
+fn closed<R: Wait + Drop>(
+    rt: R,
+    alloc: Global,
+) -> Result<Option<(u64, Option<u64>, Option<u32>, Option<u32>)>, ResumeFault> {
     let (mut operator, mut submitters, _reader) = resumed(rt, alloc, ASKED)?;
     let mut submitter = submitters.pop().unwrap();
     if !send(alloc, &mut submitter, &[0x10])? || end_lane(&mut operator, submitter) != Some(1) {
