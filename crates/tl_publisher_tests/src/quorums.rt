@@ -168,15 +168,33 @@ const REFUSED: [(&[&str], u32, Option<(RequireFault, usize)>); 6] = [
     (&["a", "b", WITNESS], 3, None),
 ];
 
+// The same of a new operator.
+fn refused_first<R: Wait + Drop>(
+    rt: R,
+    alloc: Global,
+    names: &[&str],
+    need: u32,
+) -> Result<Option<(RequireFault, usize)>, OperatorFault> {
+    let (mut operator, _submitters, _reader) = opened(rt, alloc, signers(alloc)?, 1, 4, 9)?;
+    Ok(refused(&mut operator, witnesses(alloc, names)?, need))
+}
+
 #[test]
 fn witnesses_that_are_not_required_come_back(rt: HostRuntime) -> Result<(), Fail> {
     let alloc = rt.alloc();
-    let (mut operator, _submitters, _reader) = opened(&rt, alloc, signers(alloc)?, 1, 4, 9)?;
     for (names, need, want) in REFUSED {
-        let found = refused(&mut operator, witnesses(alloc, names)?, need);
-        assert_eq!(rt; found, want);
+        assert_eq!(rt; refused_first(&rt, alloc, names, need)?, want);
     }
-    let again = verifiers(alloc, "d", 4)?;
+    Ok(())
+}
+
+#[test]
+fn requirement_is_too_late_after_another(rt: HostRuntime) -> Result<(), Fail> {
+    let alloc = rt.alloc();
+    let (mut operator, _submitters, _reader) = opened(&rt, alloc, signers(alloc)?, 1, 4, 9)?;
+    let witness = verifiers(alloc, WITNESS, WITNESS_ID)?;
+    assert_eq!(rt; refused(&mut operator, witness, 1), None);
+    let again = verifiers(alloc, "a", 1)?;
     let late = Some((RequireFault::Late, 1));
     assert_eq!(rt; refused(&mut operator, again, 1), late);
     Ok(())

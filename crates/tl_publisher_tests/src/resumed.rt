@@ -373,7 +373,7 @@ fn log_goes_on_from_many_entries(rt: HostRuntime) -> Result<(), Fail> {
     let (again, bytes) = shown_again(&rt, alloc, text, bundles.as_slice())?;
     assert!(rt; again.map(|shown| shown.as_slice() == note.as_slice()) == Some(true));
     assert_eq!(rt; bytes, Some(8192));
-    let mut last = bundles.pop().unwrap();
+    let mut last = bundles.pop().ok_or("no bundle")?;
     last.truncate(300);
     bundles.push(last)?;
     let refused = shown_again(&rt, alloc, text, bundles.as_slice());
