@@ -71,6 +71,13 @@ impl SecretKey {
         }
     }
 
+    /// The seed that it was made of.
+    pub fn seed(&self) -> &[u8; 32]
+        ensures { result.now ≡ self.now }
+    {
+        &self.seed
+    }
+
     /// The public key: the 32 bytes of a point (RFC 8032, section 5.1.5).
     pub fn public_key(&self) -> &[u8; 32]
         ensures { result.now ≡ public_key self.now }
