@@ -1,1 +1,3 @@
 pub mod KeyLemmas
+pub mod PartsLemmas
+pub mod KeyTexts
