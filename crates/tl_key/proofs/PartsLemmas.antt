@@ -1,5 +1,5 @@
 -- The parts of a key's text: where they end, and that a text has them once.
-use Rattle.std.proofs.Common.{◌≡◌, ℕ, ◌-◌, ◌<◌, List, [], ◌∷◌, ◌++◌, length, take, drop, get_or, refl, sym, ap, subst, ◌∙◌, arith, All, Option, Some, Bor}
+use Rattle.std.proofs.Common.{◌≡◌, ℕ, ◌-◌, List, [], ◌∷◌, ◌++◌, length, take, drop, refl, sym, ap, subst, ◌∙◌, arith, All, Option, Bor}
 use Rattle.std.specs.Prelude.{◌≢◌, MatchOption, chars, encode_utf8, encode_utf8_all}
 use Rattle.std.specs.Int.{w32, to_be_bytes}
 use Rattle.std.proofs.lemmas.List.{append-nil, take_all, take_at, take_rest, drop_at, drop-drop}
@@ -14,8 +14,8 @@ use Rattle.tl_text.specs.Base64.{IsRead}
 use Rattle.tl_text.proofs.Base64Lemmas.{spelled_once}
 use Rattle.tl_text.proofs.PlainText.{base64_once}
 use Rattle.tl_note.specs.Key.{IsNameChar, IsKeyName}
-use Rattle.tl_key.specs.KeyText.{hex8, key_text}
-use Rattle.tl_key.specs.Inner.Parts.{Are33Bytes, IsField, IsNoField, IsTail, IsNoTail, HasParts, HasNoParts}
+use Rattle.tl_key.specs.KeyText.{hex8}
+use Rattle.tl_key.specs.Inner.Parts.{Are33Bytes, IsField, IsNoField, IsTail, HasParts}
 
 -- ---- a name has no plus sign
 

@@ -1,3 +1,5 @@
--- Private words: the steps of reading a key's text.
+-- Private words: what keys keep, and the steps of reading a key's text.
+pub
+    mod Kept
 pub
     mod Parts

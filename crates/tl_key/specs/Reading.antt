@@ -1,5 +1,5 @@
 -- What making a key and reading its text answer.
-use Rattle.std.specs.Prelude.{◌≡◌, ℕ, Bool, true, false, Result, Ok, Err}
+use Rattle.std.specs.Prelude.{◌≡◌, ℕ, true, false, Result, Ok, Err}
 use Rattle.tl_hash.specs.Bytes.{Bytes}
 use Rattle.tl_ed25519.specs.Eddsa.{is_sound}
 use Rattle.tl_note.specs.Key.{IsKeyName}

@@ -3,7 +3,7 @@
 ghost use Rattle.std.specs.Prelude.{◌≡◌, ◌++◌, ◌∷◌, MatchOption, OnOk, drop, length, string_bytes};
 ghost use Rattle.tl_text.specs.Text.{base64_text};
 ghost use Rattle.tl_key.specs.KeyText.{hex8};
-ghost use Rattle.tl_key.specs.Inner.Parts.{IsField, IsNoField, IsTail, IsNoTail, HasParts, HasNoParts};
+ghost use Rattle.tl_key.specs.Inner.Parts.{Are33Bytes, IsField, IsNoField, IsTail, IsNoTail, HasParts, HasNoParts};
 
 use base64::engine::general_purpose::STANDARD;
 use std::alloc::{AllocError, Allocator};
@@ -94,7 +94,8 @@ pub(crate) fn after_kind(bytes: &[u8; 33]) -> [u8; 32]
 
 // The type and the 32 bytes after it.
 fn with_kind(kind: u8, rest: &[u8; 32]) -> [u8; 33]
-    ensures { result ≡ kind ∷ rest.now }
+    ensures bytes { result ≡ kind ∷ rest.now }
+    ensures fit { Are33Bytes result }
 {
     let mut bytes = [kind; 33];
     bytes[1..].copy_from_slice(rest);
@@ -109,7 +110,8 @@ pub(crate) fn push_tail<A: Allocator + Copy>(
     kind: u8,
     rest: &[u8; 32],
 ) -> Result<(), AllocError>
-    ensures { OnOk result (string_bytes text.new ≡ string_bytes text.old ++ 0x2B ∷ (hex8 id ++ 0x2B ∷ base64_text (kind ∷ rest.now))) }
+    ensures text { OnOk result (string_bytes text.new ≡ string_bytes text.old ++ 0x2B ∷ (hex8 id ++ 0x2B ∷ base64_text (kind ∷ rest.now))) }
+    ensures fit { Are33Bytes (kind ∷ rest.now) }
 {
     let bytes = with_kind(kind, rest);
     text.push_str("+")?;

@@ -4,6 +4,7 @@ ghost use Rattle.std.specs.Prelude.{◌≡◌, IfOk, MatchOption, string_bytes};
 ghost use Rattle.tl_ed25519.specs.Eddsa.{public_key};
 ghost use Rattle.tl_key.specs.KeyText.{IsSignerText, private_text};
 ghost use Rattle.tl_key.specs.NoteKey.{key_id, public_of};
+ghost use Rattle.tl_key.specs.Inner.Kept.{IsKept};
 ghost use Rattle.tl_key.specs.Reading.{IsNoSignerText, MakesSigner, ReadsSigner};
 
 use crate::fault::KeyFault;
@@ -33,15 +34,16 @@ pub type NoteSigner<A> = SignerKey<Note, A>;
 pub type CosignerSigner<A> = SignerKey<Cosignature, A>;
 
 impl<K: KeyKind, A: Allocator> Model for SignerKey<K, A> {
-    ghost use Rattle.std.specs.Prelude.{◌≡◌, string_bytes};
+    ghost use Rattle.std.specs.Prelude.{string_bytes};
     ghost use Rattle.tl_ed25519.specs.Eddsa.{public_key};
-    ghost use Rattle.tl_key.specs.NoteKey.{SeedKey, key_id};
+    ghost use Rattle.tl_key.specs.NoteKey.{SeedKey};
+    ghost use Rattle.tl_key.specs.Inner.Kept.{IsKept};
 
     ghost Value = { SeedKey };
 
     ghost view = { λ k. record { name = string_bytes k.name; kind = K.KIND; seed = k.secret } };
 
-    ghost invariant = { λ k. k.id ≡ key_id (string_bytes k.name) K.KIND (public_key k.secret) };
+    ghost invariant = { λ k. IsKept (string_bytes k.name) K.KIND (public_key k.secret) k.id };
 }
 
 impl<K: KeyKind, A: Allocator> SignerKey<K, A> {
@@ -68,7 +70,7 @@ impl<K: KeyKind, A: Allocator> SignerKey<K, A> {
 
     // The key whose identifier is known.
     fn made(alloc: A, name: &str, secret: SecretKey, id: u32) -> Result<SignerKey<K, A>, AllocError>
-        requires { id ≡ key_id name.now K.KIND (public_key secret) }
+        requires { IsKept name.now K.KIND (public_key secret) id }
         ensures { IfOk result (λ k. k ≡ record { name = name.now; kind = K.KIND; seed = secret }) }
     {
         Ok(SignerKey {
@@ -155,7 +157,8 @@ pub fn write_signer_key<K: KeyKind, B: Allocator, A: Allocator + Copy>(
     alloc: A,
     key: &SignerKey<K, B>,
 ) -> Result<String<A>, AllocError>
-    ensures { IfOk result (λ text. string_bytes text ≡ private_text key.now) }
+    ensures text { IfOk result (λ text. string_bytes text ≡ private_text key.now) }
+    ensures lawful { IfOk result (λ text. IsSignerText K.KIND (string_bytes text) key.now) }
 {
     let mut text = String::from_str(alloc, "PRIVATE+KEY+")?;
     text.push_str(key.name.as_str())?;

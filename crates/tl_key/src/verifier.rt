@@ -1,8 +1,10 @@
 //! Verifiers of notes by Ed25519: public keys and their texts.
 
-ghost use Rattle.std.specs.Prelude.{◌≡◌, IfOk, MatchOption, string_bytes};
+ghost use Rattle.std.specs.Prelude.{◌≡◌, IfOk, IsTrue, MatchOption, string_bytes};
+ghost use Rattle.tl_ed25519.specs.Eddsa.{is_sound};
 ghost use Rattle.tl_key.specs.KeyText.{IsVerifierText, verifier_text};
 ghost use Rattle.tl_key.specs.NoteKey.{is_valid, key_id};
+ghost use Rattle.tl_key.specs.Inner.Kept.{IsKept};
 ghost use Rattle.tl_key.specs.Reading.{IsNoVerifierText, MakesVerifier, ReadsVerifier};
 
 use crate::fault::KeyFault;
@@ -30,14 +32,15 @@ pub type NoteVerifier<A> = VerifierKey<Note, A>;
 pub type CosignerVerifier<A> = VerifierKey<Cosignature, A>;
 
 impl<K: KeyKind, A: Allocator> Model for VerifierKey<K, A> {
-    ghost use Rattle.std.specs.Prelude.{◌≡◌, string_bytes};
-    ghost use Rattle.tl_key.specs.NoteKey.{PublicKey, key_id};
+    ghost use Rattle.std.specs.Prelude.{string_bytes};
+    ghost use Rattle.tl_key.specs.NoteKey.{PublicKey};
+    ghost use Rattle.tl_key.specs.Inner.Kept.{IsKept};
 
     ghost Value = { PublicKey };
 
     ghost view = { λ k. record { name = string_bytes k.name; kind = K.KIND; key = k.key } };
 
-    ghost invariant = { λ k. k.id ≡ key_id (string_bytes k.name) K.KIND k.key };
+    ghost invariant = { λ k. IsKept (string_bytes k.name) K.KIND k.key k.id };
 }
 
 impl<K: KeyKind, A: Allocator> VerifierKey<K, A> {
@@ -70,7 +73,7 @@ impl<K: KeyKind, A: Allocator> VerifierKey<K, A> {
         key: [u8; 32],
         id: u32,
     ) -> Result<VerifierKey<K, A>, AllocError>
-        requires { id ≡ key_id name.now K.KIND key }
+        requires { IsKept name.now K.KIND key id }
         ensures { IfOk result (λ k. k ≡ record { name = name.now; kind = K.KIND; key = key }) }
     {
         Ok(VerifierKey {
@@ -166,7 +169,8 @@ pub fn write_verifier_key<K: KeyKind, B: Allocator, A: Allocator + Copy>(
     alloc: A,
     key: &VerifierKey<K, B>,
 ) -> Result<String<A>, AllocError>
-    ensures { IfOk result (λ text. string_bytes text ≡ verifier_text key.now) }
+    ensures text { IfOk result (λ text. string_bytes text ≡ verifier_text key.now) }
+    ensures lawful { IfOk result (λ text. IsTrue (is_sound key.now.key) → IsVerifierText K.KIND (string_bytes text) key.now) }
 {
     let mut text = String::from_str(alloc, key.name.as_str())?;
     push_tail(alloc, &mut text, key.id, K::KIND, &key.key)?;

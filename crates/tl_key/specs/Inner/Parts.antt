@@ -1,5 +1,5 @@
 -- The parts of a key's text.
-use Rattle.std.specs.Prelude.{◌≡◌, ℕ, ◌∷◌, ◌++◌, length}
+use Rattle.std.specs.Prelude.{◌≡◌, ◌∷◌, ◌++◌, length}
 use Rattle.base64.specs.GeneralPurpose.{IsBytes}
 use Rattle.tl_hash.specs.Bytes.{Bytes}
 use Rattle.tl_text.specs.Text.{base64_text}
