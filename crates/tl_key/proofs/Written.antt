@@ -3,9 +3,8 @@ use Rattle.std.proofs.Common.{◌≡◌, ℕ, suc, ◌<◌, List, ◌∷◌, ◌
 use Rattle.std.specs.Prelude.{codes, IsTrue}
 use Rattle.tl_text.specs.Text.{base64_text}
 use Rattle.tl_ed25519.specs.Eddsa.{is_sound, public_key}
-use Rattle.tl_key.specs.NoteKey.{PublicKey, SeedKey, key_id}
+use Rattle.tl_key.specs.NoteKey.{IsKept, PublicKey, SeedKey, key_id}
 use Rattle.tl_key.specs.KeyText.{hex8, key_text, Are32Bytes, IsVerifierText, IsSignerText}
-use Rattle.tl_key.specs.Inner.Kept.{IsKept}
 use Rattle.tl_key.specs.Inner.Parts.{Are33Bytes}
 
 after_first : (kind : ℕ) (bytes : List ℕ) → Are33Bytes (kind ∷ bytes) → Are32Bytes bytes

@@ -1,5 +1,3 @@
--- Private words: what keys keep, and the steps of reading a key's text.
-pub
-    mod Kept
+-- Private words: the steps of reading a key's text.
 pub
     mod Parts

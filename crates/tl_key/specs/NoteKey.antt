@@ -1,10 +1,10 @@
 -- Ed25519 keys of notes (C2SP signed-note, "Signature types").
-use Rattle.std.specs.Prelude.{ℕ, Bool, false, ◌==◌, ◌&&◌, ◌∷◌, ◌++◌, length, take, bytes_eq}
+use Rattle.std.specs.Prelude.{◌≡◌, ℕ, Bool, false, ◌==◌, ◌&&◌, ◌∷◌, ◌++◌, length, take, bytes_eq}
 use Rattle.std.specs.Int.{w32, from_be_bytes}
 use Rattle.sha2.specs.Sha256.{sha256}
 use Rattle.tl_hash.specs.Bytes.{Bytes}
 use Rattle.tl_ed25519.specs.Eddsa.{accepts, public_key, sign}
-use Rattle.tl_note.specs.Key.{Key, SigningKey}
+use Rattle.tl_note.specs.Key.{Key, SigningKey, IsKeyName}
 
 -- the type of Ed25519 keys that sign notes, and of those that cosign checkpoints
 abbrev pub note_kind : ℕ
@@ -28,6 +28,11 @@ pub record SeedKey : Type 0 where
 -- the first four bytes, big-endian, of the digest of the name, a newline, the type and the public key
 abbrev pub key_id : Bytes → ℕ → Bytes → ℕ
 key_id name kind key = from_be_bytes w32 (take 4 (sha256 (name ++ (0x0A ∷ kind ∷ key))))
+
+-- what an object keeps of its key: the name is a key's name, and the identifier is the key's
+pub record IsKept (name : Bytes) (kind : ℕ) (key : Bytes) (id : ℕ) : Type 0 where
+  pub lawful : IsKeyName name
+  pub id_is : id ≡ key_id name kind key
 
 -- 64 bytes that stand as a signature of the message (RFC 8032, section 5.1.7)
 abbrev pub is_valid : Bytes → Bytes → Bytes → Bool

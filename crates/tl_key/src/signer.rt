@@ -3,8 +3,7 @@
 ghost use Rattle.std.specs.Prelude.{◌≡◌, IfOk, MatchOption, string_bytes};
 ghost use Rattle.tl_ed25519.specs.Eddsa.{public_key};
 ghost use Rattle.tl_key.specs.KeyText.{IsSignerText, private_text};
-ghost use Rattle.tl_key.specs.NoteKey.{key_id, public_of};
-ghost use Rattle.tl_key.specs.Inner.Kept.{IsKept};
+ghost use Rattle.tl_key.specs.NoteKey.{IsKept, key_id, public_of};
 ghost use Rattle.tl_key.specs.Reading.{IsNoSignerText, MakesSigner, ReadsSigner};
 
 use crate::fault::KeyFault;
@@ -17,8 +16,8 @@ use std::marker::{Model, PhantomData};
 use tl_ed25519::SecretKey;
 use tl_note::{SignFault, Signer, is_key_name};
 
-/// A signer's key of a type: a name and an Ed25519 seed. A contract sees it as a `SeedKey`. Its memory isn't erased when
-/// it is dropped.
+/// A signer's key of a type: a name and an Ed25519 seed. A contract sees it as a `SeedKey`. Its memory isn't erased
+/// when it is dropped.
 #[derive(Drop)]
 pub struct SignerKey<K: KeyKind, A: Allocator> {
     name: String<A>,
@@ -36,8 +35,7 @@ pub type CosignerSigner<A> = SignerKey<Cosignature, A>;
 impl<K: KeyKind, A: Allocator> Model for SignerKey<K, A> {
     ghost use Rattle.std.specs.Prelude.{string_bytes};
     ghost use Rattle.tl_ed25519.specs.Eddsa.{public_key};
-    ghost use Rattle.tl_key.specs.NoteKey.{SeedKey};
-    ghost use Rattle.tl_key.specs.Inner.Kept.{IsKept};
+    ghost use Rattle.tl_key.specs.NoteKey.{IsKept, SeedKey};
 
     ghost Value = { SeedKey };
 
@@ -47,8 +45,8 @@ impl<K: KeyKind, A: Allocator> Model for SignerKey<K, A> {
 }
 
 impl<K: KeyKind, A: Allocator> SignerKey<K, A> {
-    /// The key of this name and seed, 32 bytes that are to be random and known to no one else. It is `BadName` where the
-    /// name is no key's name.
+    /// The key of this name and seed, 32 bytes that are to be random and known to no one else. It is `BadName` where
+    /// the name is no key's name.
     pub fn new(alloc: A, name: &str, seed: &[u8; 32]) -> Result<SignerKey<K, A>, KeyFault>
         ensures { MakesSigner (record { name = name.now; kind = K.KIND; seed = seed.now }) result }
     {
@@ -151,8 +149,8 @@ pub fn read_signer_key<K: KeyKind, A: Allocator>(
     Ok(SignerKey::made(alloc, found.name, found.secret, found.id)?)
 }
 
-/// The text of a signer's key: `PRIVATE+KEY+<name>+<identifier>+<base64 of the type and the seed>`. Who has it can sign.
-/// It fails only where a request for memory is refused.
+/// The text of a signer's key: `PRIVATE+KEY+<name>+<identifier>+<base64 of the type and the seed>`. It is read again,
+/// and who has it can sign. It fails only where a request for memory is refused.
 pub fn write_signer_key<K: KeyKind, B: Allocator, A: Allocator + Copy>(
     alloc: A,
     key: &SignerKey<K, B>,

@@ -3,8 +3,7 @@
 ghost use Rattle.std.specs.Prelude.{◌≡◌, IfOk, IsTrue, MatchOption, string_bytes};
 ghost use Rattle.tl_ed25519.specs.Eddsa.{is_sound};
 ghost use Rattle.tl_key.specs.KeyText.{IsVerifierText, verifier_text};
-ghost use Rattle.tl_key.specs.NoteKey.{is_valid, key_id};
-ghost use Rattle.tl_key.specs.Inner.Kept.{IsKept};
+ghost use Rattle.tl_key.specs.NoteKey.{IsKept, is_valid, key_id};
 ghost use Rattle.tl_key.specs.Reading.{IsNoVerifierText, MakesVerifier, ReadsVerifier};
 
 use crate::fault::KeyFault;
@@ -33,8 +32,7 @@ pub type CosignerVerifier<A> = VerifierKey<Cosignature, A>;
 
 impl<K: KeyKind, A: Allocator> Model for VerifierKey<K, A> {
     ghost use Rattle.std.specs.Prelude.{string_bytes};
-    ghost use Rattle.tl_key.specs.NoteKey.{PublicKey};
-    ghost use Rattle.tl_key.specs.Inner.Kept.{IsKept};
+    ghost use Rattle.tl_key.specs.NoteKey.{IsKept, PublicKey};
 
     ghost Value = { PublicKey };
 
@@ -148,9 +146,9 @@ fn find(kind: u8, text: &str) -> Option<Found<'_>>
     })
 }
 
-/// The verifier's key that a text is of, as `write_verifier_key` writes it, with no newline (C2SP signed-note, "Verifier
-/// keys"). Only a key of the type asked for is read, and only one fit for use. No memory is asked for before the text
-/// is known to be right.
+/// The verifier's key that a text is of, as `write_verifier_key` writes it, with no newline (C2SP signed-note,
+/// "Verifier keys"). Only a key of the type asked for is read, and only one fit for use. No memory is asked for before
+/// the text is known to be right.
 pub fn read_verifier_key<K: KeyKind, A: Allocator>(
     alloc: A,
     text: &str,
