@@ -70,17 +70,19 @@ fn refuses_other_lengths_at(
     Ok(())
 }
 
-#[test]
-fn texts_with_one_character_changed(rt: HostRuntime) -> Result<(), Fail> {
-    for place in 0..PUBLIC.len() {
-        refuses_others_at(&rt, PUBLIC, place)?;
-        refuses_other_lengths_at(&rt, PUBLIC, place)?;
-    }
-    for place in 0..PRIVATE.len() {
-        refuses_others_at(&rt, PRIVATE, place)?;
-        refuses_other_lengths_at(&rt, PRIVATE, place)?;
+// Checks that no character of a text may be changed.
+fn refuses_changes(rt: &(impl Abort + AllocGlobal), text: &str) -> Result<(), Fail> {
+    for place in 0..text.len() {
+        refuses_others_at(rt, text, place)?;
+        refuses_other_lengths_at(rt, text, place)?;
     }
     Ok(())
+}
+
+#[test]
+fn texts_with_one_character_changed(rt: HostRuntime) -> Result<(), Fail> {
+    refuses_changes(&rt, PUBLIC)?;
+    refuses_changes(&rt, PRIVATE)
 }
 
 #[test]
