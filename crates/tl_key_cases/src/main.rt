@@ -1,4 +1,5 @@
-//! Compares `tl_ed25519` with OpenSSL: reads `data/cases` and prints how many of its lines agree, and each that doesn't.
+//! Compares `tl_ed25519` with OpenSSL: reads `data/cases` and prints how many of its lines agree, and each that
+//! doesn't.
 //!
 //! The file has 2,484 lines, made by `scripts/key_cases`: OpenSSL 4.0.0 gave each answer, through Python's package
 //! `cryptography` 48.0.0, and the Python of RFC 8032, section 6, gave the same. For 428 random seeds there are a public

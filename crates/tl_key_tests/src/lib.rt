@@ -5,7 +5,11 @@
 #[cfg(test)]
 mod bytes;
 #[cfg(test)]
+mod documented;
+#[cfg(test)]
 mod edges;
+#[cfg(test)]
+mod refused;
 #[cfg(test)]
 mod speccheck;
 #[cfg(test)]

@@ -5,7 +5,7 @@ use crate::bytes::{Row, check_rows, key_of};
 use std::test::Fail;
 use tl_ed25519::is_sound;
 
-// The vectors 0 to 11 of the paper.
+// The vectors 0 to 11.
 const SPECCHECK: [Row; 12] = [
     // 0: A and R of small order, S = 0
     Row {
@@ -106,7 +106,7 @@ const SPECCHECK: [Row; 12] = [
 ];
 
 #[test]
-fn vectors_of_the_paper(rt: HostRuntime) -> Result<(), Fail> {
+fn vectors_of_the_eddsas(rt: HostRuntime) -> Result<(), Fail> {
     check_rows(&rt, &SPECCHECK)?;
     for (number, row) in SPECCHECK.iter().enumerate() {
         let has_small_order = matches!(number, 0 | 1 | 10 | 11);
