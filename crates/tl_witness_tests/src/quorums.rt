@@ -37,7 +37,7 @@ struct Member {
 }
 
 // The witness of this key, which trusts the log's.
-fn member(alloc: Global, cosigner: (&str, u32)) -> Result<Member, Fail> {
+fn opened_member(alloc: Global, cosigner: (&str, u32)) -> Result<Member, Fail> {
     let mut trusts = Vec::new(alloc);
     trusts.push(trust_in(alloc, alloc, ORIGIN, (ORIGIN, LOG_ID), cosigner)?)?;
     let book = Book::open(alloc, alloc, Sha256Tree, trusts, Vec::new(alloc))?;
@@ -54,7 +54,7 @@ fn member(alloc: Global, cosigner: (&str, u32)) -> Result<Member, Fail> {
 fn members(alloc: Global) -> Result<Vec<Member>, Fail> {
     let mut all = Vec::new(alloc);
     for cosigner in COSIGNERS {
-        all.push(member(alloc, cosigner)?)?;
+        all.push(opened_member(alloc, cosigner)?)?;
     }
     Ok(all)
 }
@@ -121,7 +121,9 @@ fn line_of<R: Wait>(
     if !body.as_str().ends_with(proposal.note.as_str()) {
         return Err(Fail::from("the proposal is of another log"));
     }
-    let reply = member.witness.add(rt, body.as_bytes(), TIME, &mut member.saver);
+    let reply = member
+        .witness
+        .add(rt, body.as_bytes(), TIME, &mut member.saver);
     if reply.status != 200 {
         return Ok(String::new(alloc));
     }
@@ -172,15 +174,15 @@ fn lines_of<R: Wait>(
 }
 
 // Publishes the log in turns. The first proposal has too few lines until the second witness can save.
-fn are_published<R: Wait + Drop>(
+fn are_published<R: Wait, O: Wait + Drop>(
     rt: &R,
     alloc: Global,
     log: &Log,
-    operator: &mut Operator<R>,
+    operator: &mut Operator<O>,
     submitter: &mut Submitter<Global, Global>,
     members: &mut [Member],
 ) -> Result<bool, Fail>
-    requires { IsOperating (⟦<Operator<R> as Shown>⟧.shown operator.old) }
+    requires { IsOperating (⟦<Operator<O> as Shown>⟧.shown operator.old) }
 {
     for turn in 1..=TURNS {
         let size = turn.saturating_mul(GROWTH);
@@ -213,7 +215,10 @@ fn counts(alloc: Global, note: &str) -> Result<(usize, usize), Fail> {
         opened.note.signatures.as_slice(),
         witnesses.as_slice(),
     )?;
-    let timely = found.iter().filter(|cosigned| cosigned.time == TIME).count();
+    let timely = found
+        .iter()
+        .filter(|cosigned| cosigned.time == TIME)
+        .count();
     Ok((opened.verified.len(), timely))
 }
 
@@ -233,7 +238,9 @@ fn two_of_three_witnesses_cosign_twenty_publications(rt: HostRuntime) -> Result<
             members.as_mut_slice()
         )?
     );
-    let note = reader.get(alloc, &Resource::Checkpoint)?.ok_or("no checkpoint")?;
+    let note = reader
+        .get(alloc, &Resource::Checkpoint)?
+        .ok_or("no checkpoint")?;
     let text = str::from_utf8(note.as_slice()).map_err(|_| "no text")?;
     assert_eq!(rt; counts(alloc, text)?, (1, 3));
     Ok(())
