@@ -16,7 +16,7 @@ use crate::text::Text;
 use std::alloc::{AllocError, Allocator};
 use std::marker::Model;
 use std::mem;
-use tl_hash::{Hash, Sha256Tree};
+use tl_hash::Sha256Tree;
 use tl_tile::{Edge, Tile, push_entry};
 
 /// A full bundle, and the full tiles that its last entry completed.
@@ -90,13 +90,6 @@ impl<A: Allocator + Copy> Growth<A> {
         ensures { result ≡ self.now.edge.size }
     {
         self.edge.size()
-    }
-
-    /// The tree hash of the entries.
-    pub(crate) fn root(&self) -> Hash
-        ensures { (start : ℕ) (entries : List (List ℕ)) → IsGrown sha256 start entries self.now → result ≡ tree_hash sha256 entries }
-    {
-        self.edge.root()
     }
 
     /// Takes in one entry more. Where memory is refused nothing changes.

@@ -117,8 +117,8 @@ impl<R: Wait + Drop> Operator<R> {
     /// Publishes the whole log in one step: its tiles and bundles (C2SP tlog-tiles), and a checkpoint signed by each
     /// signer in order (C2SP tlog-checkpoint, signed-note). `Quorum`: witnesses are required, so that `propose` and
     /// `attach` stand in its place. `NothingNew`: the last publication is of the whole log. `Sign`: a signer gave no
-    /// signature. It waits until no reader looks at what is replaced. A call that is refused changes neither the log nor
-    /// what is published.
+    /// signature. It waits until no reader looks at what is replaced. A call that is refused changes neither the log
+    /// nor what is published.
     pub fn publish(&mut self) -> Result<Published, PublishFault>
         requires { IsOperating (⟦<Operator<R> as Shown>⟧.shown self.old) }
         ensures operating { IsOperating (⟦<Operator<R> as Shown>⟧.shown self.new) }

@@ -133,7 +133,7 @@ fn base_of(
     }
     let base = read_all(alloc, bundles, checkpoint.size)?;
     let growth = Growth::of(alloc, &base)?;
-    if growth.root() != checkpoint.root {
+    if growth.head().root != checkpoint.root {
         return Err(ResumeFault::Root);
     }
     Ok((base, growth))
@@ -165,7 +165,8 @@ impl<R: Wait + Drop> Operator<R> {
     /// Its extension lines don't count. Nothing is published yet, and the first publication may be of these entries
     /// alone.
     ///
-    /// Of the faults that apply, the first is answered; `OutOfMemory` may come in place of any but `Note`'s.
+    /// Of the faults that apply, the first is answered. `OutOfMemory` comes of a note alone, and may stand in place
+    /// of any but `Note`.
     pub fn resume(
         rt: R,
         alloc: Global,

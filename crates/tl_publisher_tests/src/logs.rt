@@ -16,13 +16,28 @@ use tl_tile::Resource;
 /// The origin of each log.
 pub const ORIGIN: &str = "example.com/log";
 
+/// The identifier of its key.
+pub const LOG_ID: u32 = 0x01020304;
+
+/// The checkpoint of no entries, signed by that key.
+pub const EMPTY_NOTE: &str =
+    "example.com/log\n0\n47DEQpj8HBSa+/TImW+5JCeuQeRkm5NMpJWZG3hSuFU=\n\n— example.com/log AQIDBAAAAAAAAAA/\n";
+
+/// The one of an empty entry.
+pub const ONE_NOTE: &str =
+    "example.com/log\n1\nbjQLnP+zepicpUTmu3gKLHiQHT+zNzh2hRGjBhevoB0=\n\n— example.com/log AQIDBAAAAAAAAAA/\n";
+
+/// The one of an empty entry and the byte 0.
+pub const TWO_NOTE: &str =
+    "example.com/log\n2\n+sVCA+fMaWzw38tCySodnbr3CtnmIfS9jZhmLwDjwSU=\n\n— example.com/log AQIDBAAAAAAAAAA/\n";
+
 /// What sends to a lane.
 pub type Sender = Submitter<Global, Global>;
 
 /// The one signer of each log, the length key of its origin.
 pub fn signers(alloc: Global) -> Result<Vec<Box<dyn Signer>>, AllocError> {
     let mut all: Vec<Box<dyn Signer>> = Vec::new(alloc);
-    all.push(Box::new(alloc, LengthKey::new(alloc, ORIGIN, 0x01020304)?)?)?;
+    all.push(Box::new(alloc, LengthKey::new(alloc, ORIGIN, LOG_ID)?)?)?;
     Ok(all)
 }
 

@@ -2,8 +2,8 @@
 
 ghost use Rattle.tl_publisher.specs.Operating.{IsOperating};
 
-use crate::logs::{opened, signers, verifiers};
-use crate::scripts::{Sight, Step, run, wrong_step};
+use crate::logs::{ONE_NOTE, TWO_NOTE, opened, signers, verifiers};
+use crate::scripts::{Sight, Step, run, run_opened};
 use std::alloc::{AllocError, Global};
 use std::sync::Wait;
 use std::test::Fail;
@@ -18,14 +18,7 @@ const WITNESS: &str = "witness.example";
 
 const WITNESS_ID: u32 = 0x0A0B0C0D;
 
-// The checkpoints of one empty entry, and of it and the byte 0, signed by the length key.
-const ONE_NOTE: &str =
-    "example.com/log\n1\nbjQLnP+zepicpUTmu3gKLHiQHT+zNzh2hRGjBhevoB0=\n\n— example.com/log AQIDBAAAAAAAAAA/\n";
-
-const TWO_NOTE: &str =
-    "example.com/log\n2\n+sVCA+fMaWzw38tCySodnbr3CtnmIfS9jZhmLwDjwSU=\n\n— example.com/log AQIDBAAAAAAAAAA/\n";
-
-// The first of them as it is shown: with the witness's line behind the log's.
+// The checkpoint of one empty entry as it is shown: with the witness's line behind the log's.
 const COSIGNED_NOTE: &str =
     "example.com/log\n1\nbjQLnP+zepicpUTmu3gKLHiQHT+zNzh2hRGjBhevoB0=\n\n— example.com/log AQIDBAAAAAAAAAA/\n— witness.example CgsMDQAAAABlU/EAAAAAAAAAAF4=\n";
 
@@ -56,18 +49,12 @@ fn run_required<R: Wait + Drop>(
     need: u32,
     steps: &[Step],
 ) -> Result<Option<u64>, OperatorFault> {
-    let (mut operator, mut submitters, mut reader) = opened(rt, alloc, signers(alloc)?, 1, 4, 9)?;
+    let (mut operator, submitters, reader) = opened(rt, alloc, signers(alloc)?, 1, 4, 9)?;
     let witnesses = witnesses(alloc, names)?;
     if operator.require(witnesses, need).is_err() {
         return Ok(Some(u64::MAX));
     }
-    Ok(wrong_step(
-        alloc,
-        &mut operator,
-        submitters.as_mut_slice(),
-        &mut reader,
-        steps,
-    ))
+    Ok(run_opened(alloc, (operator, submitters, reader), steps))
 }
 
 // The first publication under a witness: refused, proposed, refused again, and shown with the witness's line.

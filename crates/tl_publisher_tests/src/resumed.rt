@@ -5,8 +5,11 @@ ghost use Rattle.std.specs.List.{All};
 ghost use Rattle.tl_publisher.specs.Operating.{IsOperating};
 ghost use Rattle.tl_sequencer.specs.Log.{IsSenderOf};
 
-use crate::logs::{ORIGIN, Sender, end_lane, found, opened, published, send, signers, verifiers};
-use crate::scripts::{Sight, Step, tile, wrong_step};
+use crate::logs::{
+    EMPTY_NOTE, LOG_ID, ORIGIN, Sender, TWO_NOTE, end_lane, found, opened, published, send,
+    signers, verifiers,
+};
+use crate::scripts::{Sight, Step, run_opened, tile, wrong_step};
 use std::alloc::{AllocError, Global};
 use std::str;
 use std::sync::Wait;
@@ -16,18 +19,9 @@ use tl_publisher::{BoardReader, Operator, OperatorFault, ResumeFault, Shown};
 use tl_sequencer::OpenFault;
 use tl_tile::Resource;
 
-// The checkpoints of no entries, and of an empty one and the byte 0.
-const EMPTY_NOTE: &str =
-    "example.com/log\n0\n47DEQpj8HBSa+/TImW+5JCeuQeRkm5NMpJWZG3hSuFU=\n\n— example.com/log AQIDBAAAAAAAAAA/\n";
-
-const TWO_NOTE: &str =
-    "example.com/log\n2\n+sVCA+fMaWzw38tCySodnbr3CtnmIfS9jZhmLwDjwSU=\n\n— example.com/log AQIDBAAAAAAAAAA/\n";
-
-// The same with an extension line.
+// The checkpoint of two entries with an extension line.
 const EXTENDED_NOTE: &str =
     "example.com/log\n2\n+sVCA+fMaWzw38tCySodnbr3CtnmIfS9jZhmLwDjwSU=\nmore\n\n— example.com/log AQIDBAAAAAAAAABE\n";
-
-const LOG_ID: u32 = 0x01020304;
 
 // The bundle of the two entries.
 const TWO: &[u8] = &[0, 0, 0, 1, 0];
@@ -127,14 +121,7 @@ fn run_resumed<R: Wait + Drop>(
     asked: Asked,
     steps: &[Step],
 ) -> Result<Option<u64>, ResumeFault> {
-    let (mut operator, mut submitters, mut reader) = resumed(rt, alloc, asked)?;
-    Ok(wrong_step(
-        alloc,
-        &mut operator,
-        submitters.as_mut_slice(),
-        &mut reader,
-        steps,
-    ))
+    Ok(run_opened(alloc, resumed(rt, alloc, asked)?, steps))
 }
 
 #[test]
@@ -160,89 +147,89 @@ fn log_goes_on_from_two_entries(rt: HostRuntime) -> Result<(), Fail> {
 }
 
 // The rows of what is refused, each with but one thing wrong or more that come after it.
-fn refusals() -> [(Asked, ResumeFault); 11] {
-    let lanes = OperatorFault::Lanes(OpenFault::LaneCount);
-    [
-        (
-            Asked {
-                known: false,
-                origin: "x",
-                limit: 1,
-                ..ASKED
-            },
-            ResumeFault::Note,
-        ),
-        (
-            Asked {
-                note: "example.com/log\n",
-                ..ASKED
-            },
-            ResumeFault::Note,
-        ),
-        (
-            Asked {
-                origin: "example.com/x",
-                limit: 1,
-                ..ASKED
-            },
-            ResumeFault::Origin,
-        ),
-        (
-            Asked {
-                bundles: &[],
-                ..ASKED
-            },
-            ResumeFault::Size,
-        ),
-        (
-            Asked {
-                bundles: &[TWO, TWO],
-                ..ASKED
-            },
-            ResumeFault::Size,
-        ),
-        (
-            Asked {
-                limit: 1,
-                lanes: 0,
-                ..ASKED
-            },
-            ResumeFault::Size,
-        ),
-        (
-            Asked {
-                bundles: &[&[0, 0, 0, 1]],
-                lanes: 0,
-                ..ASKED
-            },
-            ResumeFault::Bundle(0),
-        ),
-        (
-            Asked {
-                bundles: &[&[0, 0, 0, 1, 0, 0]],
-                ..ASKED
-            },
-            ResumeFault::Bundle(0),
-        ),
-        (
-            Asked {
-                bundles: &[&[0, 0, 0, 1, 1]],
-                signed: false,
-                ..ASKED
-            },
-            ResumeFault::Root,
-        ),
-        (
-            Asked {
-                signed: false,
-                lanes: 0,
-                ..ASKED
-            },
-            ResumeFault::Open(OperatorFault::Signers),
-        ),
-        (Asked { lanes: 0, ..ASKED }, ResumeFault::Open(lanes)),
-    ]
-}
+const REFUSED: [(Asked, ResumeFault); 11] = [
+    (
+        Asked {
+            known: false,
+            origin: "x",
+            limit: 1,
+            ..ASKED
+        },
+        ResumeFault::Note,
+    ),
+    (
+        Asked {
+            note: "example.com/log\n",
+            ..ASKED
+        },
+        ResumeFault::Note,
+    ),
+    (
+        Asked {
+            origin: "example.com/x",
+            limit: 1,
+            ..ASKED
+        },
+        ResumeFault::Origin,
+    ),
+    (
+        Asked {
+            bundles: &[],
+            ..ASKED
+        },
+        ResumeFault::Size,
+    ),
+    (
+        Asked {
+            bundles: &[TWO, TWO],
+            ..ASKED
+        },
+        ResumeFault::Size,
+    ),
+    (
+        Asked {
+            limit: 1,
+            lanes: 0,
+            ..ASKED
+        },
+        ResumeFault::Size,
+    ),
+    (
+        Asked {
+            bundles: &[&[0, 0, 0, 1]],
+            lanes: 0,
+            ..ASKED
+        },
+        ResumeFault::Bundle(0),
+    ),
+    (
+        Asked {
+            bundles: &[&[0, 0, 0, 1, 0, 0]],
+            ..ASKED
+        },
+        ResumeFault::Bundle(0),
+    ),
+    (
+        Asked {
+            bundles: &[&[0, 0, 0, 1, 1]],
+            signed: false,
+            ..ASKED
+        },
+        ResumeFault::Root,
+    ),
+    (
+        Asked {
+            signed: false,
+            lanes: 0,
+            ..ASKED
+        },
+        ResumeFault::Open(OperatorFault::Signers),
+    ),
+    (
+        Asked { lanes: 0, ..ASKED },
+        ResumeFault::Open(OperatorFault::Lanes(OpenFault::LaneCount)),
+    ),
+];
 
 // Why a log doesn't go on.
 fn fault_of<R: Wait + Drop>(rt: R, alloc: Global, asked: Asked) -> Option<ResumeFault> {
@@ -255,7 +242,7 @@ fn fault_of<R: Wait + Drop>(rt: R, alloc: Global, asked: Asked) -> Option<Resume
 #[test]
 fn first_fault_is_answered(rt: HostRuntime) -> Result<(), Fail> {
     let alloc = rt.alloc();
-    for (asked, want) in refusals() {
+    for (asked, want) in REFUSED {
         assert_eq!(rt; fault_of(&rt, alloc, asked), Some(want));
     }
     Ok(())

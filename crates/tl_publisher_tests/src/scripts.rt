@@ -168,6 +168,24 @@ pub fn wrong_step<R: Wait + Drop>(
     None
 }
 
+/// The same with a log, what sends to its lanes, and a reader of it.
+pub fn run_opened<R: Wait + Drop>(
+    alloc: Global,
+    log: (Operator<R>, Vec<Sender>, BoardReader<Global>),
+    steps: &[Step],
+) -> Option<u64>
+    requires { IsOperating (⟦<Operator<R> as Shown>⟧.shown log.0) }
+{
+    let (mut operator, mut submitters, mut reader) = log;
+    wrong_step(
+        alloc,
+        &mut operator,
+        submitters.as_mut_slice(),
+        &mut reader,
+        steps,
+    )
+}
+
 /// Opens a log of so many lanes, does the steps, and tells the place of the first wrong one.
 pub fn run<R: Wait + Drop>(
     rt: R,
@@ -177,15 +195,6 @@ pub fn run<R: Wait + Drop>(
     limit: u64,
     steps: &[Step],
 ) -> Result<Option<u64>, OperatorFault> {
-    let keys = signers(alloc)?;
-    let (mut operator, mut submitters, mut reader) = opened(
-        rt, alloc, keys, lanes, capacity, limit,
-    )?;
-    Ok(wrong_step(
-        alloc,
-        &mut operator,
-        submitters.as_mut_slice(),
-        &mut reader,
-        steps,
-    ))
+    let log = opened(rt, alloc, signers(alloc)?, lanes, capacity, limit)?;
+    Ok(run_opened(alloc, log, steps))
 }

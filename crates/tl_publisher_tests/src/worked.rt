@@ -4,7 +4,9 @@ ghost use Rattle.std.specs.Prelude.{◌≡◌, IfOk};
 ghost use Rattle.tl_publisher.specs.Operating.{IsOperating};
 ghost use Rattle.tl_sequencer.specs.Log.{IsSenderOf, rings_of};
 
-use crate::logs::{Sender, end_lane, grown, opened, opened_pair, send, signers, size_of};
+use crate::logs::{
+    EMPTY_NOTE, Sender, end_lane, grown, opened, opened_pair, send, signers, size_of,
+};
 use crate::scripts::{Sight, Step, are_seen, bundle, run};
 use std::alloc::{AllocError, Global};
 use std::sync::Wait;
@@ -12,10 +14,6 @@ use std::test::Fail;
 use tl_publisher::{Board, BoardReader, Operator, PublishFault, Shown};
 use tl_sequencer::Complete;
 use tl_tile::{Resource, Tile};
-
-// The checkpoint of the empty log, signed by the length key.
-const EMPTY_NOTE: &str =
-    "example.com/log\n0\n47DEQpj8HBSa+/TImW+5JCeuQeRkm5NMpJWZG3hSuFU=\n\n— example.com/log AQIDBAAAAAAAAAA/\n";
 
 #[test]
 fn empty_log_is_published_once(rt: HostRuntime) -> Result<(), Fail> {

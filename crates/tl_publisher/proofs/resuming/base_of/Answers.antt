@@ -42,7 +42,7 @@ returns-then-ne-clause-refused g c signers lanes capacity readers =
     let many = length-map c.args.bundles.now vec_items in
     let may = c.is_sized.ensures.0 c.if-not-is_sized.false in
     let grown = rw c.deref.ensures.value at c.in_ok-growth.ensures in
-    let root = c.root.ensures 0 (map vec_items c.in_ok-base.base.items) grown in (
+    let root = c.head.ensures.root 0 (map vec_items c.in_ok-base.base.items) grown in (
       head_of c.in_ok-checkpoint.checkpoint,
       map vec_items c.in_ok-base.base.items,
       record {
@@ -51,7 +51,7 @@ returns-then-ne-clause-refused g c signers lanes capacity readers =
         length = length-map c.in_ok-base.base.items vec_items ∙ c.in_ok-base.ensures.length;
         bundled = c.in_ok-base.ensures.entries;
       },
-      (λ same. true≢false (c.if-ne.ensures ∙ ap not ((bytes_eq-Decides c.root.result c.in_ok-checkpoint.checkpoint.root).1 (root ∙ same)))),
+      (λ same. true≢false (c.if-ne.ensures ∙ ap not ((bytes_eq-Decides c.head.result.root c.in_ok-checkpoint.checkpoint.root).1 (root ∙ same)))),
     )
 
 pub returns-clause-base : goal.returns-clause-base
@@ -60,7 +60,7 @@ returns-clause-base g c =
     let many = length-map c.args.bundles.now vec_items in
     let may = c.is_sized.ensures.0 c.if-not-is_sized.false in
     let grown = rw c.deref.ensures.value at c.in_ok-growth.ensures in
-    let root = c.root.ensures 0 (map vec_items c.in_ok-base.base.items) grown in
+    let root = c.head.ensures.root 0 (map vec_items c.in_ok-base.base.items) grown in
     record {
       checkpoint = head_of c.in_ok-checkpoint.checkpoint;
       stated = record {
@@ -69,5 +69,5 @@ returns-clause-base g c =
         length = length-map c.in_ok-base.base.items vec_items ∙ c.in_ok-base.ensures.length;
         bundled = c.in_ok-base.ensures.entries;
       };
-      root = sym root ∙ (bytes_eq-Decides c.root.result c.in_ok-checkpoint.checkpoint.root).0 (true_of_not _ c.if-ne.ensures);
+      root = sym root ∙ (bytes_eq-Decides c.head.result.root c.in_ok-checkpoint.checkpoint.root).0 (true_of_not _ c.if-ne.ensures);
     }
