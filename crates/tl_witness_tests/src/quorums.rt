@@ -173,7 +173,34 @@ fn lines_of<R: Wait>(
     Ok(lines)
 }
 
-// Publishes the log in turns. The first proposal has too few lines until the second witness can save.
+// Publishes the log once more. At the first turn too few witnesses can save until they are asked again.
+fn is_published<R: Wait, O: Wait + Drop>(
+    rt: &R,
+    alloc: Global,
+    log: &Log,
+    operator: &mut Operator<O>,
+    submitter: &mut Submitter<Global, Global>,
+    members: &mut [Member],
+    turn: u64,
+) -> Result<bool, Fail>
+    requires { IsOperating (⟦<Operator<O> as Shown>⟧.shown operator.old) }
+    ensures { IsOperating (⟦<Operator<O> as Shown>⟧.shown operator.new) }
+{
+    let size = turn.saturating_mul(GROWTH);
+    let proposal = proposed(alloc, operator, submitter, size)?;
+    let lines = lines_of(rt, alloc, log, members, &proposal, turn, false)?;
+    let shown = attached(operator, lines.as_str());
+    if turn > 1 {
+        return Ok(shown == Ok(size));
+    }
+    if shown != Err(AttachFault::TooFew(1)) {
+        return Ok(false);
+    }
+    let again = lines_of(rt, alloc, log, members, &proposal, turn, true)?;
+    Ok(attached(operator, again.as_str()) == Ok(size))
+}
+
+// Publishes the log in turns.
 fn are_published<R: Wait, O: Wait + Drop>(
     rt: &R,
     alloc: Global,
@@ -185,15 +212,7 @@ fn are_published<R: Wait, O: Wait + Drop>(
     requires { IsOperating (⟦<Operator<O> as Shown>⟧.shown operator.old) }
 {
     for turn in 1..=TURNS {
-        let size = turn.saturating_mul(GROWTH);
-        let proposal = proposed(alloc, operator, submitter, size)?;
-        let lines = lines_of(rt, alloc, log, members, &proposal, turn, false)?;
-        let mut shown = attached(operator, lines.as_str());
-        if turn == 1 && shown == Err(AttachFault::TooFew(1)) {
-            let again = lines_of(rt, alloc, log, members, &proposal, turn, true)?;
-            shown = attached(operator, again.as_str());
-        }
-        if shown != Ok(size) {
+        if !is_published(rt, alloc, log, operator, submitter, members, turn)? {
             return Ok(false);
         }
     }
