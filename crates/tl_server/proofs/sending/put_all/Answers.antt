@@ -1,0 +1,18 @@
+use Rattle.std.proofs.Common.{Bor, List, ℕ, arith}
+use Rattle.tl_server.proofs.SendingLemmas.{part_of_pieces, more_pieces, part_of_kept}
+use Rattle.tl_server.proofs.OutcomeLemmas.{on_err}
+use Rattle.tl_server.proofs.sending.put_all.Goals as goal
+
+pub returns-in_err-put-clause-part : goal.returns-in_err-put-clause-part
+returns-in_err-put-clause-part g c = ?
+
+pub loop-i-preserved : goal.loop-i-preserved
+loop-i-preserved g c =
+    (omega (arith, c.loop-i-test.true),
+    more_pieces (λ (p : Bor (List ℕ)). p.now) c.args.pieces.now c.loop-i.i _ _ _ _ _ _ _ _ _ c.loop-i-test.true c.loop-i.invariant.1 c.in_ok-put.ensures.some)
+
+pub returns-clause-part : goal.returns-clause-part
+returns-clause-part g c =
+    let part = rw c.as_slice.ensures.value at c.write_whole.ensures.part in
+    on_err c.write_whole.result
+    (λ part. part_of_kept (λ (p : Bor (List ℕ)). p.now) c.args.pieces.now c.loop-i.i _ _ _ _ _ _ _ c.loop-i-test.false c.loop-i.invariant.1 part) part
