@@ -1,10 +1,12 @@
 use Rattle.std.proofs.Common.{Bor, List, ℕ, arith}
 use Rattle.tl_server.proofs.SendingLemmas.{part_of_pieces, more_pieces, part_of_kept}
-use Rattle.tl_server.proofs.OutcomeLemmas.{on_err}
+use Rattle.tl_server.proofs.OutcomeLemmas.{on_err, always_err}
 use Rattle.tl_server.proofs.sending.put_all.Goals as goal
 
 pub returns-in_err-put-clause-part : goal.returns-in_err-put-clause-part
-returns-in_err-put-clause-part g c = ?
+returns-in_err-put-clause-part g c =
+    always_err c.from_residual.result
+    (part_of_pieces (λ (p : Bor (List ℕ)). p.now) c.args.pieces.now c.loop-i.i _ _ _ _ _ _ _ _ c.loop-i-test.true c.loop-i.invariant.1 c.in_err-put.ensures.part)
 
 pub loop-i-preserved : goal.loop-i-preserved
 loop-i-preserved g c =
