@@ -1,9 +1,9 @@
 -- The bytes of a body, from those that came with the head on.
-use Rattle.std.proofs.Common.{◌≡◌, ◌+◌, ◌-◌, ◌≤◌, ◌<◌, ℕ, List, [], ◌∷◌, ◌++◌, append-nil, ap, arith, drop, length, length-append, min, refl, subst, sym, take, ◌∙◌}
+use Rattle.std.proofs.Common.{◌≡◌, ◌+◌, ◌≤◌, ℕ, List, [], ◌∷◌, ◌++◌, append-nil, ap, arith, drop, length, length-append, min, subst, sym, take, ◌∙◌}
 use Rattle.std.proofs.lemmas.List.{drop_all, length-drop, length-take-le, take-append-drop, take-append-le, take_all}
 use Rattle.tl_device.specs.Device.{Passage}
 use Rattle.tl_server.specs.Head.{HasBody}
-use Rattle.tl_server.specs.Inner.Bodies.{Grown, ReadBody, ReadCut}
+use Rattle.tl_server.specs.Inner.Bodies.{GrownBody, ReadBody, ReadCut}
 
 -- a body of no bytes
 pub no_bytes : (begun body : List ℕ) (n : ℕ) → n ≡ 0 → body ≡ [] → HasBody (begun ++ []) n body
@@ -43,7 +43,7 @@ has_body begun bytes body n len least joined whole =
 
 -- the buffer is the body
 pub whole_body : (p : Passage) (begun start buf rest : List ℕ) (n len m : ℕ) → len ≡ min (length begun) n → start ≡ take len begun
-    → Grown p start buf → length buf ≡ n → m ≡ n → ReadBody p begun n (take m (buf ++ rest))
+    → GrownBody p start buf → length buf ≡ n → m ≡ n → ReadBody p begun n (take m (buf ++ rest))
 whole_body p begun start buf rest n len m least same grown whole all =
     let is_buf : take m (buf ++ rest) ≡ buf = take-append-le m buf rest (omega (arith, whole, all)) ∙ take_all m buf (omega (arith, whole, all)) in
     let joined : take len begun ++ grown.bytes ≡ buf = ap (λ (l : List ℕ). l ++ grown.bytes) (sym same) ∙ grown.joined in

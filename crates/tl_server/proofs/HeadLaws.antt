@@ -1,11 +1,9 @@
 -- What the parser's refusals say of an input, of which a part was read.
-use Rattle.std.proofs.Common.{◌≡◌, ◌≢◌, ℕ, ◌≤◌, ◌<◌, ◌+◌, ◌-◌, List, [], ◌∷◌, ◌++◌, length, length-append, take, drop, map, arith, sym, ◌∙◌, ap, subst, append-nil, append_assoc, true, Bool, refl, inl, inr}
+use Rattle.std.proofs.Common.{◌≡◌, ◌≢◌, ℕ, ◌≤◌, ◌<◌, ◌+◌, ◌-◌, List, [], ◌++◌, length, length-append, take, drop, arith, sym, ◌∙◌, ap, subst, append-nil, append_assoc, true, Bool, refl, inl, inr}
 use Rattle.std.proofs.lemmas.List.{take-append-le, take-append-drop}
 use Rattle.std.proofs.Math.Seq.{take-append_seam, take-append-add}
-use Rattle.httparse.specs.Grammar.{HasNoRequest, MayBecomeRequest, IsRequestHead, RequestHead, ReadsRequest, print_request}
+use Rattle.httparse.specs.Grammar.{HasNoRequest, MayBecomeRequest, ReadsRequest, print_request}
 use Rattle.httparse.specs.Spans.{RequestOverflows}
-use Rattle.tl_server.specs.Exchange.{IsHeadless}
-use Rattle.tl_server.specs.Head.{HasHead}
 use Rattle.tl_server.specs.Inner.Deciding.{HasNoHead, IsWithoutHead}
 use Rattle.tl_server.specs.Serve.{MayBe}
 
@@ -64,8 +62,11 @@ refused_input buf was some short over input may =
     subst (λ (l : List ℕ). IsWithoutHead l 400) (sym may.joined) (record {
       some = not_empty buf may.more some;
       none = refused buf may.more over;
-      status_is = inl (refl, inr (subst (λ (l : List ℕ). RequestOverflows 64 l) (sym (first_bytes buf may.more short))
-          (over_more buf (take (8192 - length buf) may.more) over)));
+      status_is = inl (
+        refl,
+        inr (subst (λ (l : List ℕ). RequestOverflows 64 l) (sym (first_bytes buf may.more short))
+            (over_more buf (take (8192 - length buf) may.more) over)),
+      );
     })
 
 pub ended_input : (buf : List ℕ) → 0 < length buf → length buf < 8192 → HasNoRequest buf

@@ -7,7 +7,7 @@ use Rattle.std.specs.Io.KnownBytes.{Consumes, IsAtEnd}
 use borrow.Rule.Slice.PartMut.{put_mid, post_of}
 use Rattle.tl_device.specs.Device.{Passage}
 use Rattle.tl_server.specs.Serve.{Gave}
-use Rattle.tl_server.specs.Inner.Bodies.{Grown}
+use Rattle.tl_server.specs.Inner.Bodies.{GrownBody}
 use Rattle.tl_server.proofs.SendingLemmas.{over}
 
 -- the first bytes of a buffer, after some more were put behind them
@@ -49,12 +49,12 @@ pub gave_none : (a : Option (List ℕ)) (f : Bool) → Gave (over a a f f) [] fa
 gave_none a f = record { consumed = Consumes-nil a; at_end = λ e. never e; steady = refl }
 
 -- nothing was read of a body but its beginning
-pub grown_none : (a : Option (List ℕ)) (f : Bool) (begun body : List ℕ) → body ≡ begun → Grown (over a a f f) begun body
+pub grown_none : (a : Option (List ℕ)) (f : Bool) (begun body : List ℕ) → body ≡ begun → GrownBody (over a a f f) begun body
 grown_none a f begun body same = record { bytes = []; gave = gave_none a f; joined = append-nil begun ∙ sym same }
 
 -- more of a body was read
 pub grown_more : (a b c : Option (List ℕ)) (f g h : Bool) (begun body more now : List ℕ)
-    → Grown (over a b f g) begun body → Consumes b c more → h ≡ g → now ≡ body ++ more → Grown (over a c f h) begun now
+    → GrownBody (over a b f g) begun body → Consumes b c more → h ≡ g → now ≡ body ++ more → GrownBody (over a c f h) begun now
 grown_more a b c f g h begun body more now first then same joined = record {
   bytes = first.bytes ++ more;
   gave = record { consumed = Consumes-trans a b c first.bytes more first.gave.consumed then; at_end = λ e. never e; steady = same ∙ first.gave.steady };
@@ -70,5 +70,5 @@ grown_short len n begun bytes buf joined short same =
     omega (arith, whole, taken, short, same)
 
 -- what was read fills a buffer
-pub grown_whole : (p : Passage) (begun buf : List ℕ) (len : ℕ) → length buf ≤ len → Grown p begun (take len buf) → Grown p begun buf
-grown_whole p begun buf len full grown = subst (λ (l : List ℕ). Grown p begun l) (take_all len buf full) grown
+pub grown_whole : (p : Passage) (begun buf : List ℕ) (len : ℕ) → length buf ≤ len → GrownBody p begun (take len buf) → GrownBody p begun buf
+grown_whole p begun buf len full grown = subst (λ (l : List ℕ). GrownBody p begun l) (take_all len buf full) grown

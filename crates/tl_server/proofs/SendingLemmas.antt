@@ -5,8 +5,8 @@ use Rattle.std.specs.List.{flat_map}
 use Rattle.std.specs.Io.KnownBytes.{Appends}
 use Rattle.std.proofs.lemmas.List.{take-append-le, take_all}
 use Rattle.std.proofs.Math.Seq.{take-append-add}
-use Rattle.std.proofs.KnownBytes.{Appends-nil, Appends-trans}
-use Rattle.tl_device.specs.Device.{Passage, IsSteady, HasFailed, WroteWhole, WrotePart}
+use Rattle.std.proofs.KnownBytes.{Appends-trans}
+use Rattle.tl_device.specs.Device.{Passage, WroteWhole, WrotePart}
 use Rattle.tl_server.specs.Inner.Sending.{PutSome, pieces_text}
 
 -- a device before and after

@@ -1,19 +1,19 @@
 -- From the steps of a request to the whole.
-use Rattle.std.proofs.Common.{◌≡◌, ◌≢◌, ◌⊎◌, ℕ, ◌+◌, ◌≤◌, List, [], ◌++◌, Option, Some, None, Result, Ok, Err, Bool, true, false, length, length-take, length-take-le, take, drop, map, ap, subst, sym, ◌∙◌, refl, inl, inr, arith}
+use Rattle.std.proofs.Common.{◌≡◌, ◌≢◌, ℕ, List, [], ◌++◌, Option, Some, None, Result, Ok, Err, false, length, length-take, take, drop, ap, subst, sym, ◌∙◌, refl, inl, inr, arith}
 use Rattle.std.proofs.lemmas.List.{length-map}
 use Rattle.std.specs.Prelude.{min}
 use Rattle.httparse.specs.declared.spans.HeaderSpan.{HeaderSpan}
 use Rattle.httparse.specs.declared.spans.RequestSpans.{RequestSpans}
-use Rattle.httparse.specs.Grammar.{RequestHead, print_request, ReadsRequest}
+use Rattle.httparse.specs.Grammar.{RequestHead, ReadsRequest}
 use Rattle.httparse.specs.Spans.{span_bytes, header_bytes, name_and_value}
 use Rattle.httparse.proofs.GrammarLemmas.{ReadsRequest-append}
 use Rattle.tl_device.specs.Device.{Passage}
 use Rattle.tl_publisher.specs.Histories.{Past}
 use Rattle.tl_server.specs.Answer.{Answer, bare}
 use Rattle.tl_server.specs.Head.{HasHead}
-use Rattle.tl_server.specs.Exchange.{Begun, Begins, Exchange}
+use Rattle.tl_server.specs.Exchange.{Begun, Exchange}
 use Rattle.tl_server.specs.Log.{LogAnswers, LogDecides}
-use Rattle.tl_server.specs.Serve.{Gave, MayBe, Came, Sends, Sent, Serves}
+use Rattle.tl_server.specs.Serve.{Sends, Sent, Serves}
 use Rattle.tl_server.specs.Inner.Deciding.{Answered, ReadNoHead, IsHeaded}
 use Rattle.tl_server.specs.declared.fault.ServeFault.{ServeFault}
 use Rattle.tl_server.specs.declared.fault.ServeFault.TheVariants.{Read, Write}
@@ -63,8 +63,7 @@ whole_begins i buf headers len spans is more input same =
     let fields : length (take spans.headers headers) ≡ length head.fields =
     sym (length-map (take spans.headers headers) (header_bytes (take len buf))) ∙ (ap (λ (l : List (List ℕ × List ℕ)). length l) at.fields ∙ length-map head.fields name_and_value) in
     let taken : length (take spans.headers headers) ≡ min spans.headers (length headers) = length-take spans.headers headers in
-    let room = is.room in
-    (
+    let room = is.room in (
       (λ none. no_request head (drop spans.len (take len buf) ++ more) (subst (λ (l : List ℕ). ReadsRequest l head (drop spans.len (take len buf) ++ more)) none whole)),
       record {
         reads = whole;

@@ -19,7 +19,7 @@ Begins input b = HasHead input b.head b.rest
 -- 64 fields, whatever follows; 431 where it goes on and its first 8,192 bytes may still become a head
 abbrev pub IsHeadless : Bytes → ℕ → Type 0
 IsHeadless input status =
-      ((status ≡ 400) × ((length input < 8192) ⊎ RequestOverflows 64 (take 8192 input)))
+    ((status ≡ 400) × ((length input < 8192) ⊎ RequestOverflows 64 (take 8192 input)))
     ⊎ ((status ≡ 431) × (8192 ≤ length input) × MayBecomeRequest (take 8192 input))
 
 -- nothing is answered to no byte; an input without a head has its status; else the head and what follows it decide.

@@ -1,4 +1,4 @@
--- The head of a request, of at most 8,192 bytes and 64 fields, and the body that follows it (RFC 9112, sections 2 to 6).
+-- The head of a request, of at most 8,192 bytes and 64 fields, and the body that follows (RFC 9112, sections 2 to 6).
 use Rattle.std.specs.Prelude.{◌≡◌, ℕ, ◌<◌, ◌≤◌, List, [], ◌∷◌, ◌++◌, length, map, filter, codes}
 use Rattle.std.specs.Char.{is_ascii_digit}
 use Rattle.std.specs.Str.{str_eq_ignore_ascii_case}

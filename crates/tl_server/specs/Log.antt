@@ -42,11 +42,16 @@ pub record LooksUp (A : Type 0) (old new : Past) (r : Resource) (a : Answer) : T
   pub right : AnswersBytes (shown sha256 r new.log) old new look
   pub answer : a ≡ look_answer r look
 
--- the table of a log's answers, of which the first row that applies decides
+-- the table of a log's answers, of which the first row that applies decides:
+--     404  the target is no slash and path of a resource
+--     405  the method isn't GET
+--     404  the board has no such resource, or is gone
+--     500  a growth was refused
+--     200  else, with the resource's bytes
 abbrev pub LogAnswers : Type 0 → Past → Past → Bytes → Bytes → Answer → Type 0
 LogAnswers A old new method target a =
-    UnlessSome (AsksFor target)     ((new ≡ old) × (a ≡ bare 404)) (λ r.
-    Unless (method ≡ codes "GET")   ((new ≡ old) × (a ≡ not_allowed (codes "GET")))
+    UnlessSome (AsksFor target) ((new ≡ old) × (a ≡ bare 404)) (λ r.
+    Unless (method ≡ codes "GET") ((new ≡ old) × (a ≡ not_allowed (codes "GET")))
     (LooksUp A old new r a))
 
 -- the same of a request's head; its body isn't read

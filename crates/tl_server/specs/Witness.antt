@@ -24,22 +24,28 @@ Replies H book time saved saved_after body a =
     (status : ℕ) × (text : Bytes) × (a ≡ reply_answer status text)
     × AnswersShared H book body time (record { status = status; body = text; saved = saved; saved_after = saved_after })
 
--- the rows on a body of n bytes: 500 where there is one and memory for it was refused; 400 where the input ends before
--- it; else the reply
+-- the last rows of the table, for a body of n bytes
 abbrev pub BodyAnswers : Type 0 → (Bytes → Answer → Type 0) → ℕ → Bytes → Answer → Type 0
 BodyAnswers Idle ReplyIs n rest a =
-      ((0 < n) × Idle × (a ≡ bare 500))
-    ⊎ UnlessSome (HasBody rest n)                 (Idle × (a ≡ bare 400)) (λ body.
-      ReplyIs body a)
+    ((0 < n) × Idle × (a ≡ bare 500))
+    ⊎ UnlessSome (HasBody rest n) (Idle × (a ≡ bare 400)) (λ body.
+    ReplyIs body a)
 
--- the table of a witness's answers, of which the first row that applies decides. Idle says that nothing was saved
+-- the table of a witness's answers, of which the first row that applies decides; Idle says that nothing was saved:
+--     404  the target isn't /add-checkpoint
+--     405  the method isn't POST
+--     400  the fields don't say how long the body is
+--     413  it has more than 1,048,576 bytes
+--     500  it has some, and memory for them was refused
+--     400  the input ends before it
+--     200, 400, 403, 404, 409, 422, 500  else, as the witness replies to it
 abbrev pub WitnessAnswers
     : Type 0 → (Bytes → Answer → Type 0) → Bytes → Bytes → List (Bytes × Bytes) → Bytes → Answer → Type 0
 WitnessAnswers Idle ReplyIs method target fields rest a =
-    Unless (target ≡ codes "/add-checkpoint")     (Idle × (a ≡ bare 404))
-    (Unless (method ≡ codes "POST")               (Idle × (a ≡ not_allowed (codes "POST")))
-    (UnlessSome (IsSized fields)                  (Idle × (a ≡ bare 400)) (λ n.
-    Unless (n ≤ 1048576)                          (Idle × (a ≡ bare 413))
+    Unless (target ≡ codes "/add-checkpoint") (Idle × (a ≡ bare 404))
+    (Unless (method ≡ codes "POST") (Idle × (a ≡ not_allowed (codes "POST")))
+    (UnlessSome (IsSized fields) (Idle × (a ≡ bare 400)) (λ n.
+    Unless (n ≤ 1048576) (Idle × (a ≡ bare 413))
     (BodyAnswers Idle ReplyIs n rest a))))
 
 -- the same of a request's head and what follows it

@@ -1,12 +1,12 @@
 //! What a request asks of a witness.
 
-ghost use Rattle.std.specs.Prelude.{◌≡◌, ◌≤◌, All, length, map};
-ghost use Rattle.httparse.specs.Spans.{IsHeaderWithin, header_bytes};
+ghost use Rattle.std.specs.Prelude.{◌≡◌, map, take};
+ghost use Rattle.httparse.specs.Spans.{IsRequestWithin, header_bytes, span_bytes};
 ghost use Rattle.tl_server.specs.Inner.AskedOf.{AsksWitness};
 
 use crate::fields::{Length, length_in};
 use crate::method::is_text;
-use httparse::spans::HeaderSpan;
+use httparse::spans::{HeaderSpan, RequestSpans};
 
 /// What the head of a request asks of a witness.
 #[derive(Clone, Copy)]
@@ -23,18 +23,19 @@ pub(crate) enum Asked {
     Decision(u64),
 }
 
-/// What a head with this method, target and fields asks.
-pub(crate) fn asked_of(buf: &[u8], headers: &[HeaderSpan], method: &[u8], target: &[u8]) -> Asked
-    requires { All (IsHeaderWithin (length buf.now)) headers.now }
-    ensures { AsksWitness method.now target.now (map (header_bytes buf.now) headers.now) result }
+/// What the head at the front of these bytes asks, whose parts are there.
+pub(crate) fn asked_of(bytes: &[u8], headers: &[HeaderSpan], spans: RequestSpans) -> Asked
+    requires { IsRequestWithin bytes.now headers.now spans }
+    ensures { AsksWitness (span_bytes bytes.now spans.method) (span_bytes bytes.now spans.path)
+        (map (header_bytes bytes.now) (take spans.headers headers.now)) result }
 {
-    if !is_text(target, b"/add-checkpoint") {
+    if !is_text(spans.path.of(bytes), b"/add-checkpoint") {
         return Asked::NotFound;
     }
-    if !is_text(method, b"POST") {
+    if !is_text(spans.method.of(bytes), b"POST") {
         return Asked::OtherMethod;
     }
-    match length_in(buf, headers) {
+    match length_in(bytes, &headers[..spans.headers]) {
         Length::Unknown => Asked::Unsized,
         Length::TooLarge => Asked::TooLarge,
         Length::Is(n) => Asked::Decision(n),

@@ -10,7 +10,7 @@ use Rattle.tl_server.specs.declared.body.Filled.{Filled}
 use Rattle.tl_server.specs.declared.body.Filled.TheVariants as filled
 
 -- what was read goes on from the beginning of a body and no further
-pub record Grown (i : Passage) (begun body : Bytes) : Type 0 where
+pub record GrownBody (i : Passage) (begun body : Bytes) : Type 0 where
   pub bytes : Bytes
   pub gave : Gave i bytes false
   pub joined : begun ++ bytes ≡ body
@@ -31,7 +31,7 @@ pub record ReadCut (i : Passage) (begun : Bytes) (n : ℕ) : Type 0 where
 abbrev pub Fills : Passage → ℕ → Bytes → Bytes → Filled → Type 0
 Fills i from old new filled.Failed = HasFailed i
 Fills i from old new filled.Cut = ReadCut i (take from old) (length old)
-Fills i from old new filled.Whole = Grown i (take from old) new
+Fills i from old new filled.Whole = GrownBody i (take from old) new
 
 -- reading a body of n bytes that begins so; where memory is refused, nothing was read
 abbrev pub ReadsBody : {A : Type 0} → Passage → Bytes → ℕ → Body A → Type 0

@@ -1,5 +1,5 @@
 -- The steps of one request.
-use Rattle.std.specs.Prelude.{◌≡◌, ◌≢◌, ℕ, ◌≤◌, List, [], true, false, Bool, Option, Result, length, take}
+use Rattle.std.specs.Prelude.{◌≡◌, ◌≢◌, ℕ, ◌≤◌, List, [], true, false, Bool, Option, Some, None, Result, length, take}
 use Rattle.httparse.specs.declared.spans.HeaderSpan.{HeaderSpan}
 use Rattle.httparse.specs.declared.spans.RequestSpans.{RequestSpans}
 use Rattle.httparse.specs.Spans.{IsRequestWithin, IsRequestOf, RequestOverflows}
@@ -27,6 +27,11 @@ pub record Answered (Answers : Answer → Type 0) (o : Passage) (result : Result
   pub answer : Answer
   pub decided : Answers answer
   pub sends : Sends answer o result
+
+-- an answer to what follows a head: there is one
+abbrev pub Rest : (Bytes → Answer → Type 0) → Bytes → Option Answer → Type 0
+Rest Answers rest None = ⊥
+Rest Answers rest (Some a) = Answers rest a
 
 -- the input begins with no head within the limits
 abbrev pub HasNoHead : Bytes → Type 0

@@ -1,6 +1,4 @@
-use Rattle.std.proofs.Common.{◌≤◌, ◌-◌, length, refl, subst, take, arith}
-use Rattle.std.proofs.lemmas.List.{take_all}
-use Rattle.tl_server.specs.Inner.Bodies.{Grown}
+use Rattle.std.proofs.Common.{◌≤◌, ◌-◌, length, refl, take, arith}
 use Rattle.tl_server.proofs.ReadLemmas.{grown_none, grown_more, grown_short, grown_whole, gave_end, take_read}
 use Rattle.tl_server.proofs.body.fill.Goals as goal
 

@@ -17,7 +17,7 @@ returns-in-Whole g c =
     let long = c.in-Ok.ensures.len in
     let fits : c.min-len.result ≤ length c.as_mut_slice-buf.result.now = omega (arith, c.min-len.ensures, slice, long) in
     whole_body _ _ _ _ _ _ c.min-len.result _ c.min-len.ensures (copied _ _ _ _ within c.copy_from_slice.ensures.after) c.in-Whole.ensures
-        (c.fill.auto.buf ∙ copied_length _ _ _ _ _ within fits c.copy_from_slice.ensures.after (slice ∙ long)) long
+    (c.fill.auto.buf ∙ copied_length _ _ _ _ _ within fits c.copy_from_slice.ensures.after (slice ∙ long)) long
 
 pub returns-in-Cut : goal.returns-in-Cut
 returns-in-Cut g c =
@@ -26,4 +26,4 @@ returns-in-Cut g c =
     let long = c.in-Ok.ensures.len in
     let fits : c.min-len.result ≤ length c.as_mut_slice-buf.result.now = omega (arith, c.min-len.ensures, slice, long) in
     cut_body _ _ _ _ c.min-len.result _ c.min-len.ensures (copied _ _ _ _ within c.copy_from_slice.ensures.after) c.in-Cut.ensures
-        (copied_length _ _ _ _ _ within fits c.copy_from_slice.ensures.after (slice ∙ long))
+    (copied_length _ _ _ _ _ within fits c.copy_from_slice.ensures.after (slice ∙ long))

@@ -1,4 +1,4 @@
-use Rattle.std.proofs.Common.{◌≡◌, ◌<◌, ◌≤◌, ◌-◌, length, take, false}
+use Rattle.std.proofs.Common.{◌<◌, ◌≤◌, ◌-◌, take, false}
 use Rattle.httparse.specs.Grammar.{HasNoRequest, MayBecomeRequest}
 use Rattle.tl_device.specs.Device.{passage}
 use Rattle.tl_server.specs.Serve.{Gave}

@@ -21,7 +21,13 @@ returns-then-not-is_text g c = record {
 pub returns : goal.returns
 returns g c = record {
   answer = look_answer c.in-Some.resource c.get-look.result;
-  decided = inr (c.in-Some.resource, c.in-Some.ensures, inr (search rules,
-      record { look = c.get-look.result; right = c.get-look.ensures; answer = refl }));
+  decided = inr (
+    c.in-Some.resource,
+    c.in-Some.ensures,
+    inr (
+      search rules,
+      record { look = c.get-look.result; right = c.get-look.ensures; answer = refl },
+    ),
+  );
   sends = c.answer_look.ensures;
 }

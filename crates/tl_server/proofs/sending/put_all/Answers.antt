@@ -9,9 +9,10 @@ returns-in_err-put-clause-part g c =
     (part_of_pieces (λ (p : Bor (List ℕ)). p.now) c.args.pieces.now c.loop-i.i _ _ _ _ _ _ _ _ c.loop-i-test.true c.loop-i.invariant.1 c.in_err-put.ensures.part)
 
 pub loop-i-preserved : goal.loop-i-preserved
-loop-i-preserved g c =
-    (omega (arith, c.loop-i-test.true),
-    more_pieces (λ (p : Bor (List ℕ)). p.now) c.args.pieces.now c.loop-i.i _ _ _ _ _ _ _ _ _ c.loop-i-test.true c.loop-i.invariant.1 c.in_ok-put.ensures.some)
+loop-i-preserved g c = (
+  omega (arith, c.loop-i-test.true),
+  more_pieces (λ (p : Bor (List ℕ)). p.now) c.args.pieces.now c.loop-i.i _ _ _ _ _ _ _ _ _ c.loop-i-test.true c.loop-i.invariant.1 c.in_ok-put.ensures.some,
+)
 
 pub returns-clause-part : goal.returns-clause-part
 returns-clause-part g c =

@@ -1,4 +1,4 @@
-use Rattle.std.proofs.Common.{◌≡◌, ◌≤◌, ◌-◌, length, take, []}
+use Rattle.std.proofs.Common.{◌≤◌, ◌-◌, length, take, []}
 use Rattle.tl_device.specs.Device.{passage}
 use Rattle.tl_server.specs.Inner.Sending.{PutSome, pieces_text}
 use Rattle.tl_server.proofs.sending.put_all.Given as goal
