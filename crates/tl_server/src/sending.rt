@@ -59,10 +59,8 @@ fn put_all<W: Write>(writer: &mut Counted<W>, pieces: &[&[u8]]) -> Result<(), Wr
     ensures part { OnErr result (WrotePart (passage W.contents writer.old writer.new) (pieces_text (λ p. p.now) pieces.now)) }
 {
     let mut kept = ArrayVec::new();
-    let mut i = 0;
-    while i < pieces.len() {
-        put(writer, &mut kept, pieces[i])?;
-        i += 1;
+    for piece in pieces {
+        put(writer, &mut kept, piece)?;
     }
     write_whole(writer, kept.as_slice())
 }
