@@ -1,4 +1,4 @@
-//! Requests to the log of an empty entry and the byte 0, each with the answer that is due to it (C2SP tlog-tiles; RFC 9112).
+//! Requests to the log of an empty entry and the byte 0, each with its answer (C2SP tlog-tiles; RFC 9112).
 
 /// Those for the checkpoint.
 pub const NOTE: [&[u8]; 18] = [
