@@ -1,6 +1,7 @@
 //! The worked requests over a socket, both ends in one process.
 
 use crate::boards::empty_board;
+use crate::witness_rows::COSIGNED;
 use crate::witnesses::{KeepingSaver, TIME, Witness, witness_of_one};
 use crate::worked::{LOG, WITNESS};
 use std::alloc::Global;
@@ -53,20 +54,31 @@ fn serve_board(alloc: Global, listener: &TcpListener, board: &mut BoardReader<Gl
     serve_log(alloc, &mut reader, &mut writer, board).is_ok()
 }
 
-// Answers one connection with a witness.
+// Answers one connection with a witness: how often it saved. None where the answer was not sent.
 fn serve_post<R: Wait>(
     rt: &R,
     alloc: Global,
     listener: &TcpListener,
     witness: &Witness<Global>,
-    saver: &mut KeepingSaver,
-) -> bool {
+) -> Option<u64> {
     let Ok((stream, _peer)) = listener.accept() else {
-        return false;
+        return None;
     };
     let mut reader = Counted::new(&stream);
     let mut writer = Counted::new(&stream);
-    serve_witness(rt, alloc, &mut reader, &mut writer, witness, TIME, saver).is_ok()
+    let mut saver = KeepingSaver::new(alloc);
+    match serve_witness(
+        rt,
+        alloc,
+        &mut reader,
+        &mut writer,
+        witness,
+        TIME,
+        &mut saver,
+    ) {
+        Ok(_) => Some(saver.calls),
+        Err(_) => None,
+    }
 }
 
 #[test]
@@ -93,21 +105,19 @@ fn log_answers_over_sockets(rt: HostRuntime) -> Result<(), Fail> {
 fn witness_answers_over_sockets(rt: HostRuntime) -> Result<(), Fail> {
     let alloc = rt.alloc();
     let witness = witness_of_one(alloc)?;
-    let mut saver = KeepingSaver::new(alloc);
     let listener = TcpListener::bind(&rt, "127.0.0.1:0")?;
     let address = listener.local_addr()?;
     let there = &rt;
     let here = &listener;
     let asked = &witness;
     for (input, due) in WITNESS {
-        let kept = &mut saver;
-        let (is_served, is_right) = thread::join(
+        let saves = if due == COSIGNED { 1 } else { 0 };
+        let (calls, is_right) = thread::join(
             &rt,
-            move || serve_post(there, alloc, here, asked, kept),
+            move || serve_post(there, alloc, here, asked),
             move || is_answered(there, alloc, address, input, due),
         );
-        assert!(rt; is_served && is_right);
+        assert!(rt; is_right && calls == Some(saves));
     }
-    assert_eq!(rt; saver.calls, 1);
     Ok(())
 }
