@@ -91,6 +91,11 @@ wanted_comes origin secret get wanted input (Fails fault.Sign) fits asked comes 
 wanted_comes origin secret get wanted input (Fails fault.Operator) fits asked comes = absurd comes
 wanted_comes origin secret get wanted input (Fails fault.Listen) fits asked comes = absurd comes
 wanted_comes origin secret get wanted input (Fails fault.Accept) fits asked comes = absurd comes
+wanted_comes origin secret get wanted input (Fails fault.BadName) fits asked comes = absurd comes
+wanted_comes origin secret get wanted input (Fails fault.BadKey) fits asked comes = absurd comes
+wanted_comes origin secret get wanted input (Fails fault.BadCheckpoint) fits asked comes = absurd comes
+wanted_comes origin secret get wanted input (Fails (fault.WrongSignature place)) fits asked comes = absurd comes
+wanted_comes origin secret get wanted input (Fails fault.Unverified) fits asked comes = absurd comes
 wanted_comes origin secret get wanted input (Fails fault.OutOfMemory) fits asked comes = absurd comes
 
 came : (origin secret : List ℕ) (get : Option (List ℕ)) (wanted : Option Resource) (i : Passage) (outcome : Output) → IsAsked get wanted
@@ -165,6 +170,11 @@ runs_build origin secret get wanted i o (Err fault.Sign) named asked runs = (nam
 runs_build origin secret get wanted i o (Err fault.Operator) named asked runs = (named, asked_lawful get wanted asked, never origin secret get wanted i o (Fails fault.Operator) asked runs)
 runs_build origin secret get wanted i o (Err fault.Listen) named asked runs = (named, asked_lawful get wanted asked, never origin secret get wanted i o (Fails fault.Listen) asked runs)
 runs_build origin secret get wanted i o (Err fault.Accept) named asked runs = (named, asked_lawful get wanted asked, never origin secret get wanted i o (Fails fault.Accept) asked runs)
+runs_build origin secret get wanted i o (Err fault.BadName) named asked runs = (named, asked_lawful get wanted asked, never origin secret get wanted i o (Fails fault.BadName) asked runs)
+runs_build origin secret get wanted i o (Err fault.BadKey) named asked runs = (named, asked_lawful get wanted asked, never origin secret get wanted i o (Fails fault.BadKey) asked runs)
+runs_build origin secret get wanted i o (Err fault.BadCheckpoint) named asked runs = (named, asked_lawful get wanted asked, never origin secret get wanted i o (Fails fault.BadCheckpoint) asked runs)
+runs_build origin secret get wanted i o (Err (fault.WrongSignature place)) named asked runs = (named, asked_lawful get wanted asked, never origin secret get wanted i o (Fails (fault.WrongSignature place)) asked runs)
+runs_build origin secret get wanted i o (Err fault.Unverified) named asked runs = (named, asked_lawful get wanted asked, never origin secret get wanted i o (Fails fault.Unverified) asked runs)
 
 -- the bytes of the resource that is wanted are the answer
 pub answers_some : (A : Type 0) (note n : List ℕ) (entries : List (List ℕ)) (size : ℕ) (wanted : Option Resource) (r : Resource) (result : Result (Vec ℕ A) RunFault) → wanted ≡ Some r
@@ -208,3 +218,8 @@ answer_fails A origin secret wanted i o fault.Sign entries read none asks given 
 answer_fails A origin secret wanted i o fault.Operator entries read none asks given = absurd given
 answer_fails A origin secret wanted i o fault.Listen entries read none asks given = absurd given
 answer_fails A origin secret wanted i o fault.Accept entries read none asks given = absurd given
+answer_fails A origin secret wanted i o fault.BadName entries read none asks given = absurd given
+answer_fails A origin secret wanted i o fault.BadKey entries read none asks given = absurd given
+answer_fails A origin secret wanted i o fault.BadCheckpoint entries read none asks given = absurd given
+answer_fails A origin secret wanted i o (fault.WrongSignature place) entries read none asks given = absurd given
+answer_fails A origin secret wanted i o fault.Unverified entries read none asks given = absurd given

@@ -2,6 +2,8 @@
 pub
     mod Answers
 pub
+    mod Checks
+pub
     mod Shown
 pub
     mod Growing
