@@ -6,13 +6,17 @@ use Rattle.tl_device.specs.Device.{Passage, ReadWhole}
 use Rattle.tl_command.specs.Lines.{lines_text}
 use Rattle.tl_command.specs.ProofText.{Proof, Accepts, proof_size, proof_root, proof_leaf}
 use Rattle.tl_command.specs.ProofCommands.{ChecksBy, Subject, Shows, IsAbout}
-use Rattle.tl_command.specs.Run.{most_input, CameOf}
-use Rattle.tl_command.specs.Inner.Checks.{FindsInText, IsFinding, IsFindingAbout, answer_output}
+use Rattle.tl_command.specs.Run.{Output, Prints, PrintsRefusal, most_input, CameOf}
+use Rattle.tl_command.specs.Inner.Checks.{FindsInText, IsFinding, IsFindingAbout, answer_line}
 use Rattle.tl_command.specs.declared.commands.check.Finding.{Finding}
 
--- what is printed of a text that was read, where what was found tells whether its proof is good
-pub good_comes : (IsGood : Proof → Type 0) (i : Passage) (input text : List ℕ) (c : Finding) (is_good : Bool) → ReadWhole i most_input input → text ≡ input
-    → FindsInText text (Ok c) → ((p : Proof) → IsFinding p c → IsTrue is_good ↔ IsGood p) → CameOf (ChecksBy IsGood) i (answer_output is_good)
+-- what is to come of a text that was read, where what was found tells whether its proof is good
+good_output : Bool → Output
+good_output true = Prints (answer_line true)
+good_output false = PrintsRefusal (answer_line false)
+
+good_comes : (IsGood : Proof → Type 0) (i : Passage) (input text : List ℕ) (c : Finding) (is_good : Bool) → ReadWhole i most_input input → text ≡ input
+    → FindsInText text (Ok c) → ((p : Proof) → IsFinding p c → IsTrue is_good ↔ IsGood p) → CameOf (ChecksBy IsGood) i (good_output is_good)
 good_comes IsGood i input text c true whole same said means =
     let has = said.0 in
     record {

@@ -51,7 +51,7 @@ fn check_under<R: Read, W: Write>(
     reader: &mut Counted<R>,
     writer: &mut Counted<W>,
 ) -> Result<(), RunFault>
-    ensures { RunsUnder bytes.now (map (λ verifier. key verifier) verifiers.now) (option_map (λ e. e.now) entry) (passage R.remaining reader.old reader.new) (passage W.contents writer.old writer.new) result }
+    ensures { RunsUnder bytes.now (map (λ verifier. key verifier) verifiers.now) (option_map (λ e. e.now) entry.entry) (passage R.remaining reader.old reader.new) (passage W.contents writer.old writer.new) result }
 {
     let checkpoint = checkpoint_of(alloc, bytes, verifiers)?;
     run_check_about(
@@ -77,7 +77,7 @@ pub fn run_check_opened<R: Read, W: Write>(
     reader: &mut Counted<R>,
     writer: &mut Counted<W>,
 ) -> Result<(), RunFault>
-    ensures { RunsCheckOpened text.now bytes.now (option_map (λ e. e.now) entry) (passage R.remaining reader.old reader.new) (passage W.contents writer.old writer.new) result }
+    ensures { RunsCheckOpened text.now bytes.now (option_map (λ e. e.now) entry.entry) (passage R.remaining reader.old reader.new) (passage W.contents writer.old writer.new) result }
 {
     let key = key_of(alloc, text)?;
     let verifier: Box<dyn Verifier> = Box::new(alloc, key)?;

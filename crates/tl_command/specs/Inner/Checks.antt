@@ -3,14 +3,13 @@ use Rattle.std.specs.Prelude.{◌≡◌, ◌≢◌, ◌<◌, ◌↔◌, List, le
 use Rattle.sha2.specs.Sha256.{sha256}
 use Rattle.tl_hash.specs.Bytes.{Bytes}
 use Rattle.tl_text.specs.Text.{line}
-use Rattle.tl_device.specs.Device.{Passage}
+use Rattle.tl_device.specs.Device.{Passage, WroteWhole, WrotePart}
 use Rattle.tl_command.specs.Lines.{entries_of, lines_text}
 use Rattle.tl_command.specs.ProofText.{Proof, IsProof, proof_lines, proof_text, proof_size, proof_root, proof_leaf, Accepts}
 use Rattle.tl_command.specs.ProofCommands.{Subject, AreOf}
-use Rattle.tl_command.specs.Run.{Output, Prints, PrintsRefusal, CameOf, Runs}
 use Rattle.tl_command.specs.declared.commands.check.Finding.{Finding}
 use Rattle.tl_command.specs.declared.fault.RunFault.{RunFault}
-use Rattle.tl_command.specs.declared.fault.RunFault.TheVariants.{Malformed, OutOfMemory}
+use Rattle.tl_command.specs.declared.fault.RunFault.TheVariants.{Refused, Write, Malformed, OutOfMemory}
 
 -- what is found says whether the proof is accepted, and what it is about
 pub record IsFinding (p : Proof) (c : Finding) : Type 0 where
@@ -37,11 +36,14 @@ FindsInText text (Err fault) = ⊥
 abbrev pub IsFindingAbout : Subject → Finding → Type 0
 IsFindingAbout s c = IsTrue c.accepted × AreOf s c.size c.root c.leaf
 
--- what says whether a proof is good
-abbrev pub answer_output : Bool → Output
-answer_output true = Prints (line (codes "accepted"))
-answer_output false = PrintsRefusal (line (codes "refused"))
+-- the line that says whether a proof is good
+abbrev pub answer_line : Bool → Bytes
+answer_line true = line (codes "accepted")
+answer_line false = line (codes "refused")
 
--- printing that: whatever was read, and whatever is to come of it
+-- printing it
 abbrev pub PrintsAnswer : Bool → Passage → Result (Unit {0}) RunFault → Type 0
-PrintsAnswer is_good o result = (Comes : Bytes → Output → Type 0) (i : Passage) → CameOf Comes i (answer_output is_good) → Runs Comes i o result
+PrintsAnswer is_good o (Ok done) = (is_good ≡ true) × WroteWhole o (answer_line is_good)
+PrintsAnswer is_good o (Err Refused) = (is_good ≡ false) × WroteWhole o (answer_line is_good)
+PrintsAnswer is_good o (Err Write) = WrotePart o (answer_line is_good)
+PrintsAnswer is_good o (Err fault) = ⊥
