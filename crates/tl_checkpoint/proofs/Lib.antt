@@ -4,3 +4,4 @@ pub mod CosignatureLemmas
 pub mod OneText
 pub mod ParseLemmas
 pub mod NoteTexts
+pub mod Quorums

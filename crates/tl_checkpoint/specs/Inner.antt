@@ -3,3 +3,7 @@ pub
     mod Cosigning
 pub
     mod CutLines
+pub
+    mod Keeping
+pub
+    mod Opening

@@ -11,7 +11,9 @@
 mod checkpoint;
 mod cosignature;
 mod law;
+mod opening;
 mod parsing;
+mod quorum;
 mod writing;
 
 pub use checkpoint::{Checkpoint, CheckpointFault};
@@ -19,5 +21,7 @@ pub use cosignature::{
     check_cosignature, cosign_line, cosign_line_as, cosign_message, cosignature_bytes,
 };
 pub use law::{checkpoint_can_be_signed, text_is_one_checkpoint};
+pub use opening::{OpenCheckpointFault, open_checkpoint};
 pub use parsing::parse;
+pub use quorum::{Cosigned, are_apart, first_cosignatures};
 pub use writing::write;

@@ -1,1 +1,4 @@
 pub mod KeyLemmas
+pub mod PartsLemmas
+pub mod KeyTexts
+pub mod Written

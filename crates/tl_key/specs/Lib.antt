@@ -1,2 +1,7 @@
 pub mod Hmac
 pub mod DemoKey
+pub mod NoteKey
+pub mod KeyText
+pub mod Reading
+pub mod Law
+pub mod Inner

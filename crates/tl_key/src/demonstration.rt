@@ -1,11 +1,11 @@
 //! A key for demonstrations, as signer and verifier: HMAC with SHA-256. Its verifier holds the secret.
 
-ghost use Rattle.std.specs.Prelude.{◌≡◌, ◌⊎◌, ◌++◌, ◌∷◌, IfOk, IfErr, codes, take};
-ghost use Rattle.std.specs.Int.{w32, from_be_bytes};
+ghost use Rattle.std.specs.Prelude.{◌≡◌, ◌⊎◌, ◌++◌, ◌∷◌, IfOk, IfErr, codes};
 ghost use Rattle.sha2.specs.Sha256.{sha256};
 ghost use Rattle.tl_note.specs.Key.{IsKeyName};
 ghost use Rattle.tl_key.specs.DemoKey as spec;
 
+use crate::identifier::first_four;
 use crate::keyed_hash::hmac;
 use std::alloc::{Allocator, Global};
 use std::marker::Model;
@@ -21,14 +21,6 @@ fn key_digest(name: &str, secret_digest: Hash) -> Hash
         b"\n\xfftlog-demo-hmac-sha256",
         secret_digest.as_bytes(),
     )
-}
-
-// The first four bytes of a hash, big-endian.
-fn first_four(hash: Hash) -> u32
-    ensures { result ≡ from_be_bytes w32 (take 4 hash) }
-{
-    let [a, b, c, d, ..] = hash.as_bytes();
-    u32::from_be_bytes([*a, *b, *c, *d])
 }
 
 // The identifier of the key with this name and secret.

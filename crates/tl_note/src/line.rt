@@ -1,6 +1,6 @@
 //! One signature line of a note: a view that borrows it, and its exact reader.
 
-ghost use Rattle.std.specs.Prelude.{◌≡◌, MatchOption, IfOk, ◌<◌, length, string_bytes};
+ghost use Rattle.std.specs.Prelude.{◌≡◌, ◌++◌, MatchOption, IfOk, OnOk, ◌<◌, length, string_bytes};
 ghost use Rattle.tl_note.specs.Key.{IsKeyName};
 ghost use Rattle.tl_note.specs.Note.{IsSignature, signature_field, signature_line, signature_words};
 ghost use Rattle.tl_note.specs.Line.{IsNoLine};
@@ -69,6 +69,18 @@ impl<'m> SigView<'m> {
         bytes.rotate_left(KEY_ID_LEN);
         bytes.truncate(rest);
         Ok(bytes)
+    }
+
+    /// Puts the line, with the newline that ends it, behind a text (C2SP signed-note, "Format"). It fails only where a
+    /// request for memory is refused.
+    pub fn push_to<A: Allocator>(&self, text: &mut String<A>) -> Result<(), AllocError>
+        ensures { OnOk result (string_bytes text.new ≡ string_bytes text.old ++ signature_line self.now) }
+    {
+        text.push_str("— ")?;
+        text.push_str(self.name)?;
+        text.push_str(" ")?;
+        text.push_str(self.field)?;
+        text.push_str("\n")
     }
 
     /// Reads a signature line, without its newline.

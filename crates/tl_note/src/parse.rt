@@ -3,7 +3,7 @@
 ghost use Rattle.std.specs.Prelude.{◌≡◌, ◌↔◌, IsTrue, IfOk, IsUtf8, MatchOption};
 ghost use Rattle.tl_note.specs.Note.{IsNoteByte, IsNoteText, HasNoNote};
 ghost use Rattle.tl_note.specs.Inner.Reading.{AreSignatureLines, CutsLine, CutsText, HasSignatureLines, HasNoSignatureLines, IsNoFirstLine};
-ghost use Rattle.tl_note.specs.View.{ParsesNote};
+ghost use Rattle.tl_note.specs.View.{ParsesNote, ParsesSignatures};
 
 use crate::fault::NoteFault;
 use crate::line::SigView;
@@ -40,6 +40,25 @@ pub fn parse_note<A: Allocator + Copy>(
     };
     let signatures = read_lines(alloc, lines, count)?;
     Ok(NoteView { text, signatures })
+}
+
+/// Reads signature lines alone: at most 100 of them and nothing else, as a witness answers them (C2SP signed-note,
+/// "Format"; C2SP tlog-witness, "add-checkpoint"). It is `Malformed` exactly where the text is something else, and no
+/// memory is asked for where it is empty. The views borrow the text.
+pub fn parse_signatures<A: Allocator>(
+    alloc: A,
+    text: &str,
+) -> Result<Vec<SigView<'_>, A>, NoteFault>
+    ensures { ParsesSignatures text.now result }
+{
+    if text.is_empty() {
+        return Ok(Vec::new(alloc));
+    }
+    let Some(count) = count_lines(text) else {
+        return Err(NoteFault::Malformed);
+    };
+    let lines = read_lines(alloc, text, count)?;
+    Ok(lines)
 }
 
 // Whether a note may have this byte: it is a newline, or of no character below 0x20.

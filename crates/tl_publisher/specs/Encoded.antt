@@ -7,17 +7,17 @@ use Rattle.tl_tile.specs.declared.resource.Resource.TheVariants as resource
 use Rattle.tl_tile.specs.TileText.{tile_text}
 use Rattle.tl_tile.specs.Bundle.{bundle_text}
 use Rattle.tl_publisher.specs.Histories.{Prefix, Begins, StartsWith}
-use Rattle.tl_publisher.specs.Signed.{IsSignedNote, no_quorum, text_of_log}
+use Rattle.tl_publisher.specs.Signed.{IsSignedNote, Quorum, text_of_log}
 use Rattle.tl_publisher.specs.Boards.{shown}
 
 -- the bytes under a resource of a log with these entries: the tile, the bundle, or a signed note of the checkpoint
-abbrev pub Encodes : List ℕ → List SigningKey → List (List ℕ) → Resource → List ℕ → Type 0
-Encodes origin signers entries (resource.Tile t) bytes = bytes ≡ tile_text sha256 t entries
-Encodes origin signers entries (resource.Entries index width) bytes = bytes ≡ bundle_text (take width (drop (index * 256) entries))
-Encodes origin signers entries resource.Checkpoint bytes = IsSignedNote signers no_quorum (text_of_log origin entries) bytes
+abbrev pub Encodes : List ℕ → List SigningKey → Quorum → List (List ℕ) → Resource → List ℕ → Type 0
+Encodes origin signers quorum entries (resource.Tile t) bytes = bytes ≡ tile_text sha256 t entries
+Encodes origin signers quorum entries (resource.Entries index width) bytes = bytes ≡ bundle_text (take width (drop (index * 256) entries))
+Encodes origin signers quorum entries resource.Checkpoint bytes = IsSignedNote signers quorum (text_of_log origin entries) bytes
 
 -- all that the history ever showed, when it was as long as it is and before, encodes some beginning of the log
-abbrev pub AreEncoded : List ℕ → List SigningKey → List (List ℕ) → List Prefix → Type 0
-AreEncoded origin signers log history =
+abbrev pub AreEncoded : List ℕ → List SigningKey → Quorum → List (List ℕ) → List Prefix → Type 0
+AreEncoded origin signers quorum log history =
     (seen : List Prefix) → StartsWith history seen → (r : Resource) (bytes : List ℕ) → shown sha256 r seen ≡ Some bytes
-    → (front : List (List ℕ)) × Begins front log × Encodes origin signers front r bytes
+    → (front : List (List ℕ)) × Begins front log × Encodes origin signers quorum front r bytes

@@ -5,3 +5,7 @@ pub
     mod Noting
 pub
     mod Opening
+pub
+    mod Resuming
+pub
+    mod Attaching

@@ -28,7 +28,7 @@ pub struct OperatorBack<R: Wait + Drop> {
 
 impl<R: Wait + Drop> Operator<R> {
     /// Closes the log. Where the end of each lane was taken in it is complete: it has all that was submitted, and the
-    /// board keeps what was published last. Else the operator comes back as it was.
+    /// board keeps what was published last; a proposal is dropped. Else the operator comes back as it was.
     pub fn close(self) -> Result<(Complete<Global, Global>, Board<R>), OperatorBack<R>>
         requires { IsOperating (⟦<Operator<R> as Shown>⟧.shown self) }
         ensures closed { IfOk result (λ r. IsClosed (⟦<Operator<R> as Shown>⟧.shown self) r.0 r.1) }
@@ -39,6 +39,9 @@ impl<R: Wait + Drop> Operator<R> {
             alloc,
             origin,
             signers,
+            witnesses,
+            need,
+            proposal,
             run,
         } = self;
         match run.close() {
@@ -48,6 +51,9 @@ impl<R: Wait + Drop> Operator<R> {
                     alloc,
                     origin,
                     signers,
+                    witnesses,
+                    need,
+                    proposal,
                     run,
                 },
                 lane,

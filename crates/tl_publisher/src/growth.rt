@@ -2,7 +2,7 @@
 ghost use Rattle.std.specs.Prelude.{◌≡◌, ◌+◌, ◌-◌, ◌<◌, ◌≤◌, ◌^◌, ℕ, List, [], ◌∷◌, ◌++◌, vec_len, vec_capacity, length, take, drop, map, vec_items, slice_index_or, IfOk, OnOk, OnErr};
 ghost use Rattle.sha2.specs.Sha256.{sha256};
 ghost use Rattle.tl_hash.specs.Tree.{tree_hash};
-ghost use Rattle.tl_tile.specs.Bundle.{bundled_entry, IsShortEntry};
+ghost use Rattle.tl_tile.specs.Bundle.{bundled_entry, AreShortEntries, IsShortEntry};
 ghost use Rattle.tl_tile.specs.TileText.{tile_text, partial_tile};
 ghost use Rattle.tl_tile.specs.RightEdge.{IsEdgeOf};
 ghost use Rattle.tl_publisher.specs.Filled.{filled_from};
@@ -11,11 +11,12 @@ ghost use Rattle.tl_publisher.specs.Grown.{IsGrown, texts_of};
 
 use crate::board_copy::Change;
 use crate::face::{Face, Sheet};
+use crate::reader::Head;
 use crate::text::Text;
 use std::alloc::{AllocError, Allocator};
 use std::marker::Model;
 use std::mem;
-use tl_hash::{Hash, Sha256Tree};
+use tl_hash::Sha256Tree;
 use tl_tile::{Edge, Tile, push_entry};
 
 /// A full bundle, and the full tiles that its last entry completed.
@@ -71,18 +72,24 @@ impl<A: Allocator + Copy> Growth<A> {
         }
     }
 
+    /// Of a log with these entries.
+    pub(crate) fn of(alloc: A, entries: &[Vec<u8, A>]) -> Result<Growth<A>, AllocError>
+        requires few { length entries.now < 2 ^ 32 }
+        requires short { AreShortEntries (map vec_items entries.now) }
+        ensures { IfOk result (IsGrown sha256 0 (map vec_items entries.now)) }
+    {
+        let mut growth = Growth::new(alloc);
+        for entry in entries {
+            growth.append(entry)?;
+        }
+        Ok(growth)
+    }
+
     /// The number of entries.
     pub(crate) fn size(&self) -> u64
         ensures { result ≡ self.now.edge.size }
     {
         self.edge.size()
-    }
-
-    /// The tree hash of the entries.
-    pub(crate) fn root(&self) -> Hash
-        ensures { (start : ℕ) (entries : List (List ℕ)) → IsGrown sha256 start entries self.now → result ≡ tree_hash sha256 entries }
-    {
-        self.edge.root()
     }
 
     /// Takes in one entry more. Where memory is refused nothing changes.
@@ -102,6 +109,47 @@ impl<A: Allocator + Copy> Growth<A> {
             let bundle = mem::replace(&mut self.bundle, Vec::new(alloc));
             self.waiting.push_reserved(Batch { bundle, tiles });
         }
+        Ok(())
+    }
+
+    /// Size and tree hash of the entries.
+    pub(crate) fn head(&self) -> Head
+        ensures size { result.size ≡ self.now.edge.size }
+        ensures root { (start : ℕ) (entries : List (List ℕ)) → IsGrown sha256 start entries self.now → result.root ≡ tree_hash sha256 entries }
+    {
+        Head {
+            size: self.edge.size(),
+            root: self.edge.root(),
+        }
+    }
+
+    /// A growth that goes on from these entries, which has filled nothing yet.
+    pub(crate) fn fork(&self) -> Result<Growth<A>, AllocError>
+        ensures grown { (start : ℕ) (entries : List (List ℕ)) → IsGrown sha256 start entries self.now → IfOk result (IsGrown sha256 (length entries) entries) }
+        ensures size { IfOk result (λ g. g.edge.size ≡ self.now.edge.size) }
+    {
+        let alloc = *self.bundle.allocator();
+        Ok(Growth {
+            edge: self.edge.copy()?,
+            bundle: Vec::from_slice(alloc, &self.bundle)?,
+            waiting: Vec::new(alloc),
+        })
+    }
+
+    /// Takes in what a growth that went on from here has taken in. Where memory is refused nothing changes.
+    pub(crate) fn join(&mut self, next: Growth<A>) -> Result<(), AllocError>
+        ensures grown { (start : ℕ) (entries more : List (List ℕ)) → IsGrown sha256 start entries self.old → IsGrown sha256 (length entries) (entries ++ more) next → OnOk result (IsGrown sha256 start (entries ++ more) self.new) }
+        ensures size { OnOk result (self.new.edge.size ≡ next.edge.size) }
+        ensures unchanged { OnErr result (self.new ≡ self.old) }
+    {
+        let Growth {
+            edge,
+            bundle,
+            mut waiting,
+        } = next;
+        self.waiting.append(&mut waiting)?;
+        self.edge = edge;
+        self.bundle = bundle;
         Ok(())
     }
 

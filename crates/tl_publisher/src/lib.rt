@@ -11,6 +11,7 @@
 //! ```
 #![tactic(auto)]
 
+mod attaching;
 mod board_copy;
 mod board_writer;
 mod closing;
@@ -23,15 +24,18 @@ mod noting;
 mod opening;
 mod operator;
 mod past;
+mod proposing;
 mod published;
 mod reader;
+mod resuming;
 mod rule;
 mod run;
 mod text;
 
 pub use closing::{Board, OperatorBack};
-pub use fault::{GetFault, OperatorFault, PublishFault};
+pub use fault::{AttachFault, GetFault, OperatorFault, PublishFault, RequireFault, ResumeFault};
 pub use law::{change_makes_next, stored_is_lawful};
 pub use operator::{Operator, Shown};
+pub use proposing::{Proposal, RequireBack};
 pub use published::Published;
 pub use reader::{BoardReader, Head};

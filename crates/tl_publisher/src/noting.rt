@@ -1,15 +1,14 @@
 //! The signed note of a log's checkpoint.
 
-ghost use Rattle.std.specs.Prelude.{◌≡◌, IfErr, IfOk, map, string_bytes};
+ghost use Rattle.std.specs.Prelude.{◌≡◌, IfOk, map, string_bytes};
 ghost use Rattle.tl_text.specs.Text.{IsOneLine, IsSize};
 ghost use Rattle.tl_note.specs.Note.{IsNoteText};
 ghost use Rattle.tl_publisher.specs.Inner.Noting.{AsPublishFault, IsSignFault, NotesHead, text_of_head};
 ghost use Rattle.tl_publisher.specs.Signed.{AreSigners};
-ghost use Rattle.tl_publisher.specs.declared.fault.PublishFault.TheVariants.{OutOfMemory};
 
 use crate::fault::PublishFault;
 use crate::reader::Head;
-use std::alloc::Global;
+use std::alloc::{AllocError, Global};
 use tl_checkpoint::{Checkpoint, CheckpointFault, write};
 use tl_note::{NoteFault, Signer, sign_note};
 
@@ -26,12 +25,11 @@ fn refusal(fault: NoteFault) -> PublishFault
 }
 
 // The text of the checkpoint of this size and root (C2SP tlog-checkpoint, "Note text").
-fn text_of(alloc: Global, origin: &str, head: Head) -> Result<String, PublishFault>
+pub(crate) fn text_of(alloc: Global, origin: &str, head: Head) -> Result<String, AllocError>
     requires origin { IsOneLine origin.now }
     requires size { IsSize head.size }
     ensures text { IfOk result (λ text. string_bytes text ≡ text_of_head origin.now head.size head.root) }
     ensures note { IfOk result (λ text. IsNoteText (string_bytes text)) }
-    ensures memory { IfErr result (λ fault. fault ≡ OutOfMemory) }
 {
     let checkpoint = Checkpoint {
         origin: String::from_str(alloc, origin)?,
@@ -41,7 +39,7 @@ fn text_of(alloc: Global, origin: &str, head: Head) -> Result<String, PublishFau
     };
     match write(alloc, &checkpoint) {
         Ok(text) => Ok(text),
-        Err(CheckpointFault::OutOfMemory) => Err(PublishFault::OutOfMemory),
+        Err(CheckpointFault::OutOfMemory) => Err(AllocError),
         Err(_) => unreachable!(),
     }
 }
@@ -52,7 +50,7 @@ pub(crate) fn note_of(
     origin: &str,
     signers: &[Box<dyn Signer>],
     head: Head,
-) -> Result<Vec<u8>, PublishFault>
+) -> Result<String, PublishFault>
     requires origin { IsOneLine origin.now }
     requires signers { AreSigners (map (λ s. signing_key s) signers.now) }
     requires size { IsSize head.size }
@@ -60,7 +58,7 @@ pub(crate) fn note_of(
 {
     let text = text_of(alloc, origin, head)?;
     match sign_note(alloc, alloc, text.as_str(), signers) {
-        Ok(note) => Ok(note.into_bytes()),
+        Ok(note) => Ok(note),
         Err(fault) => Err(refusal(fault)),
     }
 }

@@ -1,19 +1,24 @@
 //! How an operator is opened.
 
-ghost use Rattle.std.specs.Prelude.{◌≡◌, ◌≤◌, ◌<◌, ◌↔◌, ℕ, IfErr, IfOk, IsTrue, MatchOption, map};
-ghost use Rattle.tl_publisher.specs.Inner.Opening.{IsWant};
+ghost use Rattle.std.specs.Prelude.{◌≡◌, ◌≤◌, ◌<◌, ◌^◌, ◌↔◌, ℕ, [], IfErr, IfOk, IsTrue, MatchOption, map};
+ghost use Rattle.sha2.specs.Sha256.{sha256};
+ghost use Rattle.tl_publisher.specs.Grown.{IsGrown};
+ghost use Rattle.tl_publisher.specs.Inner.Opening.{IsBegun, IsWant};
 ghost use Rattle.tl_publisher.specs.Operating.{HaveSeen, IsNew, IsOperating};
 ghost use Rattle.tl_publisher.specs.Publishing.{MayOpenAll, OpenRefusesOperator};
 ghost use Rattle.tl_publisher.specs.Signed.{AreSigners};
+ghost use Rattle.tl_sequencer.specs.Log.{entries_of};
+ghost use Rattle.tl_text.specs.Text.{IsOneLine};
 
 use crate::fault::OperatorFault;
+use crate::growth::Growth;
 use crate::operator::{Operator, Shown};
 use crate::reader::BoardReader;
 use crate::run::Run;
 use std::alloc::Global;
 use std::sync::Wait;
 use tl_note::{Signer, first_bad_name};
-use tl_sequencer::{OpenFault, Submitter};
+use tl_sequencer::{OpenFault, Sequencer, Submitter};
 use tl_text::is_one_line;
 
 const MOST_SIGNERS: usize = 100;
@@ -35,7 +40,11 @@ fn are_signers(signers: &[Box<dyn Signer>]) -> bool
 }
 
 // What is wrong with the origin, the signers or the number of readers.
-fn first_wrong(origin: &str, signers: &[Box<dyn Signer>], readers: u32) -> Option<OperatorFault>
+pub(crate) fn first_wrong(
+    origin: &str,
+    signers: &[Box<dyn Signer>],
+    readers: u32,
+) -> Option<OperatorFault>
     ensures { MatchOption result (MayOpenAll origin.now (map (λ s. signing_key s) signers.now) readers)
         (λ fault. (lanes capacity limit : ℕ) → OpenRefusesOperator origin.now (map (λ s. signing_key s) signers.now) lanes capacity limit readers fault) }
 {
@@ -71,6 +80,42 @@ fn readers_of<R: Wait + Drop>(
     Ok(all)
 }
 
+// An operator of this log, of which nothing is published, and its readers.
+pub(crate) fn begin<R: Wait + Drop>(
+    rt: R,
+    alloc: Global,
+    origin: &str,
+    signers: Vec<Box<dyn Signer>>,
+    log: Sequencer<Global, Global>,
+    growth: Growth<Global>,
+    readers: u32,
+) -> Result<(Operator<R>, Vec<BoardReader<Global>>), OperatorFault>
+    requires origin { IsOneLine origin.now }
+    requires signers { AreSigners (map (λ s. signing_key s) signers.items) }
+    requires grown { IsGrown sha256 0 (entries_of log) growth }
+    requires few { log.limit < 2 ^ 32 }
+    requires readers { (1 ≤ readers) × (readers ≤ 64) }
+    ensures log { IfOk result (λ r. (⟦<Operator<R> as Shown>⟧.shown r.0).log ≡ log) }
+    ensures begun { IfOk result (λ r. IsBegun origin.now (map (λ s. signing_key s) signers.items) (⟦<Operator<R> as Shown>⟧.shown r.0)) }
+    ensures operating { IfOk result (λ r. IsOperating (⟦<Operator<R> as Shown>⟧.shown r.0)) }
+    ensures readers { IfOk result (λ r. HaveSeen (⟦<Operator<R> as Shown>⟧.shown r.0).past readers r.1.items) }
+    ensures refused { IfErr result IsWant }
+{
+    let origin = String::from_str(alloc, origin)?;
+    let mut run = Run::open(rt, alloc, log, growth, readers as usize)?;
+    let all = readers_of(alloc, &mut run, readers)?;
+    let operator = Operator {
+        alloc,
+        origin,
+        signers,
+        witnesses: Vec::new(alloc),
+        need: 0,
+        proposal: None,
+        run,
+    };
+    Ok((operator, all))
+}
+
 impl<R: Wait + Drop> Operator<R> {
     /// Opens an empty log of at most `limit` entries, with `lanes` lanes (1 to 64) whose rings have room for `capacity`
     /// entries. The origin is one line, and there are 1 to 100 signers (C2SP tlog-checkpoint, signed-note). It gives a
@@ -94,7 +139,7 @@ impl<R: Wait + Drop> Operator<R> {
         ),
         OperatorFault,
     >
-        ensures opened { IfOk result (λ r. IsNew origin.now (map (λ s. signing_key s) signers.items) lanes capacity limit (⟦<Operator<R> as Shown>⟧.shown r.0) r.1.items) }
+        ensures opened { IfOk result (λ r. IsNew origin.now (map (λ s. signing_key s) signers.items) [] lanes capacity limit (⟦<Operator<R> as Shown>⟧.shown r.0) r.1.items) }
         ensures operating { IfOk result (λ r. IsOperating (⟦<Operator<R> as Shown>⟧.shown r.0)) }
         ensures readers { IfOk result (λ r. HaveSeen (⟦<Operator<R> as Shown>⟧.shown r.0).past readers r.2.items) }
         ensures refused { IfErr result (λ fault. OpenRefusesOperator origin.now (map (λ s. signing_key s) signers.items) lanes capacity limit readers fault) }
@@ -107,15 +152,8 @@ impl<R: Wait + Drop> Operator<R> {
             Err(OpenFault::OutOfMemory) => return Err(OperatorFault::OutOfMemory),
             Err(fault) => return Err(OperatorFault::Lanes(fault)),
         };
-        let origin = String::from_str(alloc, origin)?;
-        let mut run = Run::open(rt, alloc, log, readers as usize)?;
-        let all = readers_of(alloc, &mut run, readers)?;
-        let operator = Operator {
-            alloc,
-            origin,
-            signers,
-            run,
-        };
+        let growth = Growth::new(alloc);
+        let (operator, all) = begin(rt, alloc, origin, signers, log, growth, readers)?;
         Ok((operator, submitters, all))
     }
 }

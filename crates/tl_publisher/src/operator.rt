@@ -13,7 +13,7 @@ use crate::published::Published;
 use crate::run::Run;
 use std::alloc::Global;
 use std::sync::Wait;
-use tl_note::Signer;
+use tl_note::{Signer, Verifier};
 use tl_sequencer::{EndRefused, Ended, TakeFault};
 
 /// Runs a log: it takes what is submitted into the log, signs checkpoints and publishes. It keeps the handle `R`, since
@@ -23,6 +23,11 @@ pub struct Operator<R: Wait + Drop> {
     pub(crate) alloc: Global,
     pub(crate) origin: String,
     pub(crate) signers: Vec<Box<dyn Signer>>,
+    // So many of these witnesses must cosign; 0 where none must.
+    pub(crate) witnesses: Vec<Box<dyn Verifier>>,
+    pub(crate) need: u32,
+    // The note of what the growth of the log has taken in, where it is proposed to the witnesses.
+    pub(crate) proposal: Option<String>,
     pub(crate) run: Run<R>,
 }
 
@@ -35,12 +40,15 @@ pub trait Shown {
 }
 
 impl<R: Wait + Drop> Shown for Operator<R> {
-    ghost use Rattle.std.specs.Prelude.{map, string_bytes};
+    ghost use Rattle.std.specs.Prelude.{map, option_map, string_bytes, take};
+    ghost use Rattle.tl_sequencer.specs.Log.{entries_of};
 
     ghost shown = { λ o. record {
       origin = string_bytes o.origin;
       signers = map (λ s. (Signer-box s).signing_key s.value) o.signers.items;
+      quorum = record { witnesses = map (λ w. (Verifier-box w).key w.value) o.witnesses.items; need = o.need };
       log = o.run.log;
+      proposal = option_map (λ note. record { entries = take o.run.grown (entries_of o.run.log); note = string_bytes note }) o.proposal;
       past = o.run.past;
     } };
 }
@@ -53,6 +61,7 @@ impl<R: Wait + Drop> Operator<R> {
         ensures operating { IsOperating (⟦<Operator<R> as Shown>⟧.shown self.old) → IsOperating (⟦<Operator<R> as Shown>⟧.shown self.new) }
         ensures keys { IsOfSame (⟦<Operator<R> as Shown>⟧.shown self.old) (⟦<Operator<R> as Shown>⟧.shown self.new) }
         ensures past { (⟦<Operator<R> as Shown>⟧.shown self.new).past ≡ (⟦<Operator<R> as Shown>⟧.shown self.old).past }
+        ensures proposal { (⟦<Operator<R> as Shown>⟧.shown self.new).proposal ≡ (⟦<Operator<R> as Shown>⟧.shown self.old).proposal }
         ensures rings { rings_of (⟦<Operator<R> as Shown>⟧.shown self.new).log ≡ rings_of (⟦<Operator<R> as Shown>⟧.shown self.old).log }
         ensures most { IfOk result (λ n. n ≤ max) }
         ensures may { IfOk result (λ _. MayTake (⟦<Operator<R> as Shown>⟧.shown self.old).log lane max) }
@@ -71,6 +80,7 @@ impl<R: Wait + Drop> Operator<R> {
         ensures operating { IsOperating (⟦<Operator<R> as Shown>⟧.shown self.old) → IsOperating (⟦<Operator<R> as Shown>⟧.shown self.new) }
         ensures keys { IsOfSame (⟦<Operator<R> as Shown>⟧.shown self.old) (⟦<Operator<R> as Shown>⟧.shown self.new) }
         ensures past { (⟦<Operator<R> as Shown>⟧.shown self.new).past ≡ (⟦<Operator<R> as Shown>⟧.shown self.old).past }
+        ensures proposal { (⟦<Operator<R> as Shown>⟧.shown self.new).proposal ≡ (⟦<Operator<R> as Shown>⟧.shown self.old).proposal }
         ensures rings { rings_of (⟦<Operator<R> as Shown>⟧.shown self.new).log ≡ rings_of (⟦<Operator<R> as Shown>⟧.shown self.old).log }
         ensures may { IfOk result (λ _. RestFits (⟦<Operator<R> as Shown>⟧.shown self.old).log ended) }
         ensures taken { IfOk result (λ n. Closes ended n (⟦<Operator<R> as Shown>⟧.shown self.old).log (⟦<Operator<R> as Shown>⟧.shown self.new).log) }
@@ -81,12 +91,15 @@ impl<R: Wait + Drop> Operator<R> {
         self.run.end(ended)
     }
 
-    // Publishes the log, unless it is published.
+    // Publishes the log, unless it is published or witnesses must cosign.
     fn publish_log(&mut self) -> Result<Published, PublishFault>
         requires { IsOperating (⟦<Operator<R> as Shown>⟧.shown self.old) }
         ensures keys { IsOfSame (⟦<Operator<R> as Shown>⟧.shown self.old) (⟦<Operator<R> as Shown>⟧.shown self.new) }
         ensures published { Publishes (⟦<Operator<R> as Shown>⟧.shown self.old) (⟦<Operator<R> as Shown>⟧.shown self.new) result }
     {
+        if self.need > 0 {
+            return Err(PublishFault::Quorum);
+        }
         if self.run.is_published() {
             return Err(PublishFault::NothingNew);
         }
@@ -97,14 +110,15 @@ impl<R: Wait + Drop> Operator<R> {
             self.signers.as_slice(),
             head,
         )?;
-        let published = self.run.show(note)?;
+        let published = self.run.show(note.into_bytes())?;
         Ok(published)
     }
 
     /// Publishes the whole log in one step: its tiles and bundles (C2SP tlog-tiles), and a checkpoint signed by each
-    /// signer in order (C2SP tlog-checkpoint, signed-note). `NothingNew`: the last publication is of the whole log.
-    /// `Sign`: a signer gave no signature. It waits until no reader looks at what is replaced. A call that is refused
-    /// changes neither the log nor what is published.
+    /// signer in order (C2SP tlog-checkpoint, signed-note). `Quorum`: witnesses are required, so that `propose` and
+    /// `attach` stand in its place. `NothingNew`: the last publication is of the whole log. `Sign`: a signer gave no
+    /// signature. It waits until no reader looks at what is replaced. A call that is refused changes neither the log
+    /// nor what is published.
     pub fn publish(&mut self) -> Result<Published, PublishFault>
         requires { IsOperating (⟦<Operator<R> as Shown>⟧.shown self.old) }
         ensures operating { IsOperating (⟦<Operator<R> as Shown>⟧.shown self.new) }

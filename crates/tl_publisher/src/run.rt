@@ -1,6 +1,6 @@
 //! The log that runs, and what was published of it.
 
-ghost use Rattle.std.specs.Prelude.{◌≡◌, ℕ, ◌+◌, ◌<◌, ◌≤◌, ◌^◌, ◌↔◌, [], ◌∷◌, ◌++◌, List, length, take, vec_items, IsTrue, IfOk, IfErr, OnErr};
+ghost use Rattle.std.specs.Prelude.{◌≡◌, ℕ, ◌+◌, ◌<◌, ◌≤◌, ◌^◌, ◌↔◌, [], ◌∷◌, ◌++◌, List, length, take, vec_items, IsTrue, IfOk, IfErr, OnOk, OnErr};
 ghost use Rattle.sha2.specs.Sha256.{sha256};
 ghost use Rattle.tl_hash.specs.Tree.{tree_hash};
 ghost use Rattle.tl_sequencer.specs.Log.{entries_of, rings_of, IsEndOf};
@@ -8,6 +8,7 @@ ghost use Rattle.tl_sequencer.specs.Merge.{IsMerge};
 ghost use Rattle.tl_sequencer.specs.Steps.{Takes, Closes, IsComplete, IsFirstOpen, sent_of};
 ghost use Rattle.tl_publisher.specs.Histories.{last_of};
 ghost use Rattle.tl_sequencer.specs.Faults.{MayTake, TakeRefuses, RestFits, EndRefuses};
+ghost use Rattle.tl_publisher.specs.Grown.{IsGrown};
 ghost use Rattle.tl_publisher.specs.Stages as stages;
 ghost use Rattle.tl_publisher.specs.Publishing.{EndsWith};
 
@@ -40,10 +41,28 @@ impl<R: Wait + Drop> Model for Run<R> {
     ghost invariant = { λ r. running.IsRunning r.log r.growth r.board };
 }
 
+// Takes in the entries of the log that the growth doesn't have yet. Where memory is refused it has some of them.
+fn take_in(growth: &mut Growth<Global>, log: &Sequencer<Global, Global>) -> Result<(), AllocError>
+    requires few { log.now.limit < 2 ^ 32 }
+    requires within { growth.old.edge.size ≤ length (entries_of log.now) }
+    ensures grown { (start : ℕ) → IsGrown sha256 start (take growth.old.edge.size (entries_of log.now)) growth.old → IsGrown sha256 start (take growth.new.edge.size (entries_of log.now)) growth.new }
+    ensures within { growth.new.edge.size ≤ length (entries_of log.now) }
+    ensures all { OnOk result (growth.new.edge.size ≡ length (entries_of log.now)) }
+{
+    for place in growth.size()..log.len() {
+        let Some(entry) = log.entry(place) else {
+            unreachable!()
+        };
+        growth.append(entry)?;
+    }
+    Ok(())
+}
+
 impl<R: Wait + Drop> Run<R> {
     /// Takes up to `max` entries of a lane, as `Sequencer::take` does.
     pub(crate) fn take(&mut self, lane: u32, max: u64) -> Result<u64, TakeFault>
         ensures past { self.new.past ≡ self.old.past }
+        ensures grown { take self.new.grown (entries_of self.new.log) ≡ take self.old.grown (entries_of self.old.log) }
         ensures rings { rings_of self.new.log ≡ rings_of self.old.log }
         ensures most { IfOk result (λ n. n ≤ max) }
         ensures may { IfOk result (λ _. MayTake self.old.log lane max) }
@@ -61,6 +80,7 @@ impl<R: Wait + Drop> Run<R> {
     ) -> Result<u64, EndRefused<Global, Global>>
         requires { IsEndOf ended self.old.log }
         ensures past { self.new.past ≡ self.old.past }
+        ensures grown { take self.new.grown (entries_of self.new.log) ≡ take self.old.grown (entries_of self.old.log) }
         ensures rings { rings_of self.new.log ≡ rings_of self.old.log }
         ensures may { IfOk result (λ _. RestFits self.old.log ended) }
         ensures taken { IfOk result (λ n. Closes ended n self.old.log self.new.log) }
@@ -88,17 +108,46 @@ impl<R: Wait + Drop> Run<R> {
         ensures small { IfOk result (λ h. h.size < 2 ^ 32) }
         ensures head { IfOk result (λ h. (h.size ≡ length (entries_of self.old.log)) × (h.root ≡ tree_hash sha256 (entries_of self.old.log))) }
     {
-        let len = self.log.len();
-        while self.growth.size() < len {
-            let Some(entry) = self.log.entry(self.growth.size()) else {
-                unreachable!()
-            };
-            self.growth.append(entry)?;
+        take_in(&mut self.growth, &self.log)?;
+        Ok(self.growth.head())
+    }
+
+    /// Whether nothing was published.
+    pub(crate) fn is_unpublished(&self) -> bool
+        ensures { IsTrue result ↔ (self.now.past.log ≡ []) }
+    {
+        match self.board.head() {
+            Some(_head) => false,
+            None => true,
         }
-        Ok(Head {
-            size: len,
-            root: self.growth.root(),
-        })
+    }
+
+    /// Size and root of what the growth has taken in.
+    pub(crate) fn grown(&self) -> Head
+        ensures size { result.size ≡ length (take self.now.grown (entries_of self.now.log)) }
+        ensures small { result.size < 2 ^ 32 }
+        ensures root { result.root ≡ tree_hash sha256 (take self.now.grown (entries_of self.now.log)) }
+    {
+        self.growth.head()
+    }
+
+    /// A growth of the whole log, which goes on from the run's own.
+    pub(crate) fn next(&self) -> Result<Growth<Global>, AllocError>
+        ensures { IfOk result (IsGrown sha256 self.now.grown (entries_of self.now.log)) }
+    {
+        let mut next = self.growth.fork()?;
+        take_in(&mut next, &self.log)?;
+        Ok(next)
+    }
+
+    /// Takes in a growth of the whole log.
+    pub(crate) fn adopt(&mut self, next: Growth<Global>) -> Result<(), AllocError>
+        requires { IsGrown sha256 self.old.grown (entries_of self.old.log) next }
+        ensures same { (self.new.log ≡ self.old.log) × (self.new.past ≡ self.old.past) }
+        ensures grown { OnOk result (self.new.grown ≡ length (entries_of self.old.log)) }
+        ensures refused { OnErr result (self.new ≡ self.old) }
+    {
+        self.growth.join(next)
     }
 
     /// Publishes what the growth has taken in, under this note.
@@ -118,24 +167,21 @@ impl<R: Wait + Drop> Run<R> {
         Ok(Published::new(past, size))
     }
 
-    /// An empty log, not yet published, with room for so many readers.
+    /// A log, not yet published, with the growth of its entries and room for so many readers.
     pub(crate) fn open(
         rt: R,
         alloc: Global,
         log: Sequencer<Global, Global>,
+        growth: Growth<Global>,
         readers: usize,
     ) -> Result<Run<R>, AllocError>
-        requires empty { entries_of log ≡ [] }
+        requires grown { IsGrown sha256 0 (entries_of log) growth }
         requires few { log.limit < 2 ^ 32 }
         requires readers { (0 < readers) × (readers < 2 ^ 32) }
-        ensures { IfOk result (λ r. (r.log ≡ log) × (r.grown ≡ 0) × (r.past.log ≡ [])) }
+        ensures { IfOk result (λ r. (r.log ≡ log) × (r.past.log ≡ [])) }
     {
         let board = BoardWriter::open(rt, alloc, readers)?;
-        Ok(Run {
-            log,
-            growth: Growth::new(alloc),
-            board,
-        })
+        Ok(Run { log, growth, board })
     }
 
     /// A reader of the board, which has seen what was published so far.

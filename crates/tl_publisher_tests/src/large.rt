@@ -1,13 +1,8 @@
 //! A log of full tiles of two levels, published in uneven steps.
 
-ghost use Rattle.std.specs.Prelude.{◌≡◌, IfOk};
-ghost use Rattle.tl_publisher.specs.Operating.{IsOperating};
-
-use crate::logs::{Sender, found, opened, send, signers, size_of};
+use crate::scripts::{Sight, Step, bundle, run, tile};
 use std::alloc::{AllocError, Global};
-use std::sync::Wait;
 use std::test::Fail;
-use tl_publisher::{BoardReader, Operator, Shown};
 use tl_tile::{Resource, Tile};
 
 // How many entries come before each publication: partial tiles and full ones, some at a tile's end, 72,100 in all.
@@ -16,133 +11,115 @@ const STEPS: [u64; 25] = [
     4000, 4000, 4000, 4000, 4000, 4000, 4000, 500,
 ];
 
-// Sends so many entries of two bytes.
-fn send_many(alloc: Global, submitter: &mut Sender, count: u64) -> Result<bool, AllocError> {
-    for _ in 0..count {
-        if !send(alloc, submitter, b"xy")? {
-            return Ok(false);
-        }
-    }
-    Ok(true)
+// Sends so many entries of two bytes and publishes them. The reader sees the size.
+fn add_publication(script: &mut Vec<Step>, count: u64, size: u64) -> Result<(), AllocError> {
+    script.push(Step::Send(0, b"xy", count))?;
+    script.push(Step::Take(0, count, count))?;
+    script.push(Step::Publish(Ok(size)))?;
+    script.push(Step::Look(Sight::Size(Some(size))))?;
+    Ok(())
 }
 
-// Sends so many entries and publishes them: the size.
-fn publish_step<R: Wait + Drop>(
-    alloc: Global,
-    operator: &mut Operator<R>,
-    submitter: &mut Sender,
-    count: u64,
-) -> Result<Option<u64>, AllocError>
-    requires { IsOperating (⟦<Operator<R> as Shown>⟧.shown operator.old) }
-    ensures { IfOk result (λ _. IsOperating (⟦<Operator<R> as Shown>⟧.shown operator.new)) }
-{
-    if !send_many(alloc, submitter, count)? {
-        return Ok(None);
-    }
-    if operator.take(0, count).is_err() {
-        return Ok(None);
-    }
-    match operator.publish() {
-        Ok(published) => Ok(Some(published.size())),
-        Err(_) => Ok(None),
-    }
+// The reader finds a bundle and the tile under it, of this width.
+fn add_pair(script: &mut Vec<Step>, index: u64, width: u32) -> Result<(), AllocError> {
+    let entries = Sight::Length(bundle(index, width), Some(4 * width as usize));
+    script.push(Step::Look(entries))?;
+    let hashes = Sight::Length(tile(0, index, width), Some(32 * width as usize));
+    script.push(Step::Look(hashes))?;
+    Ok(())
 }
 
-// Publishes the log in these steps, each of which the reader sees.
-fn publish_steps<R: Wait + Drop>(
-    alloc: Global,
-    operator: &mut Operator<R>,
-    submitter: &mut Sender,
-    reader: &mut BoardReader<Global>,
-) -> Result<bool, AllocError>
-    requires { IsOperating (⟦<Operator<R> as Shown>⟧.shown operator.old) }
-    ensures { IfOk result (λ _. IsOperating (⟦<Operator<R> as Shown>⟧.shown operator.new)) }
-{
+// The publications: the size of the log after them.
+fn add_publications(script: &mut Vec<Step>) -> Result<u64, AllocError> {
     let mut size = 0u64;
     for step in STEPS {
         size = size.saturating_add(step);
-        if publish_step(alloc, operator, submitter, step)? != Some(size) {
-            return Ok(false);
-        }
-        if size_of(reader) != Some(size) {
-            return Ok(false);
+        add_publication(script, step, size)?;
+    }
+    Ok(size)
+}
+
+// The partial bundle and tile of each publication that had one.
+fn add_partial(script: &mut Vec<Step>) -> Result<(), AllocError> {
+    let mut size = 0u64;
+    for step in STEPS {
+        size = size.saturating_add(step);
+        if size % 256 > 0 {
+            add_pair(script, size / 256, (size % 256) as u32)?;
         }
     }
-    Ok(true)
+    Ok(())
 }
 
-// Whether the reader finds so many bytes.
-fn has(alloc: Global, reader: &mut BoardReader<Global>, resource: Resource, length: u64) -> bool {
-    found(alloc, reader, resource).map(|bytes| bytes.len() as u64) == Some(length)
-}
+// The upper tile, and tiles that aren't there.
+const OTHERS: [Step; 6] = [
+    Step::Look(Sight::Length(
+        Resource::Tile(Tile {
+            level: 1,
+            index: 0,
+            width: 256,
+        }),
+        Some(8192),
+    )),
+    Step::Look(Sight::Length(
+        Resource::Tile(Tile {
+            level: 0,
+            index: 281,
+            width: 256,
+        }),
+        None,
+    )),
+    Step::Look(Sight::Length(
+        Resource::Tile(Tile {
+            level: 0,
+            index: 0,
+            width: 99,
+        }),
+        None,
+    )),
+    Step::Look(Sight::Length(
+        Resource::Tile(Tile {
+            level: 1,
+            index: 1,
+            width: 256,
+        }),
+        None,
+    )),
+    Step::Look(Sight::Length(
+        Resource::Tile(Tile {
+            level: 7,
+            index: 5,
+            width: 256,
+        }),
+        None,
+    )),
+    Step::Look(Sight::Length(
+        Resource::Tile(Tile {
+            level: 9,
+            index: u64::MAX,
+            width: 256,
+        }),
+        None,
+    )),
+];
 
-// Whether the reader finds a bundle and the tile under it, of this width.
-fn has_pair(alloc: Global, reader: &mut BoardReader<Global>, index: u64, width: u32) -> bool {
-    let level = 0;
-    let tile = Tile {
-        level,
-        index,
-        width,
-    };
-    has(
-        alloc,
-        reader,
-        Resource::Entries { index, width },
-        4 * width as u64,
-    ) && has(alloc, reader, Resource::Tile(tile), 32 * width as u64)
-}
-
-// A tile that isn't there.
-fn has_no(
-    alloc: Global,
-    reader: &mut BoardReader<Global>,
-    level: u32,
-    index: u64,
-    width: u32,
-) -> bool {
-    let tile = Tile {
-        level,
-        index,
-        width,
-    };
-    found(alloc, reader, Resource::Tile(tile)).is_none()
+// All publications, and then what is there of each of them.
+fn script(alloc: Global) -> Result<Vec<Step>, AllocError> {
+    let mut script = Vec::new(alloc);
+    let size = add_publications(&mut script)?;
+    add_partial(&mut script)?;
+    for index in 0..size / 256 {
+        add_pair(&mut script, index, 256)?;
+    }
+    script.extend_from_slice(&OTHERS)?;
+    Ok(script)
 }
 
 #[test]
 fn all_that_was_published_stays(rt: HostRuntime) -> Result<(), Fail> {
     let alloc = rt.alloc();
-    let (mut operator, mut submitters, mut reader) = opened(
-        &rt,
-        alloc,
-        signers(alloc)?,
-        1,
-        4096,
-        100_000,
-    )?;
-    let mut submitter = submitters.pop().unwrap();
-    assert!(rt; publish_steps(alloc, &mut operator, &mut submitter, &mut reader)?);
-    let mut size = 0u64;
-    for step in STEPS {
-        size = size.saturating_add(step);
-        let width = (size % 256) as u32;
-        assert!(rt;
-            width == 0 || has_pair(alloc, &mut reader, size / 256, width),
-            "{size}"
-        );
-    }
-    for index in 0..size / 256 {
-        assert!(rt; has_pair(alloc, &mut reader, index, 256), "{index}");
-    }
-    let upper = Tile {
-        level: 1,
-        index: 0,
-        width: 256,
-    };
-    assert!(rt; has(alloc, &mut reader, Resource::Tile(upper), 8192));
-    assert!(rt; has_no(alloc, &mut reader, 0, size / 256, 256));
-    assert!(rt; has_no(alloc, &mut reader, 0, 0, 99));
-    assert!(rt; has_no(alloc, &mut reader, 1, 1, 256));
-    assert!(rt; has_no(alloc, &mut reader, 7, 5, 256));
-    assert!(rt; has_no(alloc, &mut reader, 9, u64::MAX, 256));
+    let script = script(alloc)?;
+    let wrong = run(&rt, alloc, 1, 4096, 100_000, script.as_slice())?;
+    assert_eq!(rt; wrong, None);
     Ok(())
 }

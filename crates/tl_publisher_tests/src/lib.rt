@@ -6,9 +6,17 @@ mod large;
 #[cfg(test)]
 mod logs;
 #[cfg(test)]
+mod looks;
+#[cfg(test)]
 mod openings;
 #[cfg(test)]
+mod quorums;
+#[cfg(test)]
 mod refusals;
+#[cfg(test)]
+mod resumed;
+#[cfg(test)]
+mod scripts;
 #[cfg(test)]
 mod threads;
 #[cfg(test)]

@@ -1,5 +1,5 @@
 //! Logs for tests, and one step each of what is done with them.
-ghost use Rattle.std.specs.Prelude.{◌≡◌, IfOk, IfSome, vec_len};
+ghost use Rattle.std.specs.Prelude.{◌≡◌, IfOk, vec_len};
 ghost use Rattle.std.specs.List.{All};
 ghost use Rattle.tl_publisher.specs.Operating.{IsOperating};
 ghost use Rattle.tl_sequencer.specs.Log.{IsSenderOf, rings_of};
@@ -7,7 +7,7 @@ ghost use Rattle.tl_sequencer.specs.Log.{IsSenderOf, rings_of};
 use std::alloc::{AllocError, Global};
 use std::sync::Wait;
 use std::test::Fail;
-use tl_note::Signer;
+use tl_note::{Signer, Verifier};
 use tl_publisher::{BoardReader, Operator, OperatorFault, PublishFault, Shown};
 use tl_sequencer::Submitter;
 use tl_testing::LengthKey;
@@ -16,13 +16,35 @@ use tl_tile::Resource;
 /// The origin of each log.
 pub const ORIGIN: &str = "example.com/log";
 
+/// The identifier of its key.
+pub const LOG_ID: u32 = 0x01020304;
+
+/// The checkpoint of no entries, signed by that key.
+pub const EMPTY_NOTE: &str =
+    "example.com/log\n0\n47DEQpj8HBSa+/TImW+5JCeuQeRkm5NMpJWZG3hSuFU=\n\n— example.com/log AQIDBAAAAAAAAAA/\n";
+
+/// The one of an empty entry.
+pub const ONE_NOTE: &str =
+    "example.com/log\n1\nbjQLnP+zepicpUTmu3gKLHiQHT+zNzh2hRGjBhevoB0=\n\n— example.com/log AQIDBAAAAAAAAAA/\n";
+
+/// The one of an empty entry and the byte 0.
+pub const TWO_NOTE: &str =
+    "example.com/log\n2\n+sVCA+fMaWzw38tCySodnbr3CtnmIfS9jZhmLwDjwSU=\n\n— example.com/log AQIDBAAAAAAAAAA/\n";
+
 /// What sends to a lane.
 pub type Sender = Submitter<Global, Global>;
 
 /// The one signer of each log, the length key of its origin.
 pub fn signers(alloc: Global) -> Result<Vec<Box<dyn Signer>>, AllocError> {
     let mut all: Vec<Box<dyn Signer>> = Vec::new(alloc);
-    all.push(Box::new(alloc, LengthKey::new(alloc, ORIGIN, 0x01020304)?)?)?;
+    all.push(Box::new(alloc, LengthKey::new(alloc, ORIGIN, LOG_ID)?)?)?;
+    Ok(all)
+}
+
+/// The one verifier, the length key of this name.
+pub fn verifiers(alloc: Global, name: &str, id: u32) -> Result<Vec<Box<dyn Verifier>>, AllocError> {
+    let mut all: Vec<Box<dyn Verifier>> = Vec::new(alloc);
+    all.push(Box::new(alloc, LengthKey::new(alloc, name, id)?)?)?;
     Ok(all)
 }
 
@@ -58,7 +80,6 @@ pub fn opened_pair<R: Wait + Drop>(
     limit: u64,
 ) -> Result<(Operator<R>, Sender, Sender, BoardReader<Global>), Fail>
     ensures operating { IfOk result (λ r. IsOperating (⟦<Operator<R> as Shown>⟧.shown r.0)) }
-    ensures follows { IfOk result (λ r. r.3.book ≡ (⟦<Operator<R> as Shown>⟧.shown r.0).past.book) }
     ensures zero { IfOk result (λ r. IsSenderOf r.1 (⟦<Operator<R> as Shown>⟧.shown r.0).log) }
     ensures one { IfOk result (λ r. IsSenderOf r.2 (⟦<Operator<R> as Shown>⟧.shown r.0).log) }
 {
@@ -83,45 +104,40 @@ pub fn send(alloc: Global, submitter: &mut Sender, entry: &[u8]) -> Result<bool,
     Ok(submitter.submit(entry).is_ok())
 }
 
-/// Publishes the log, which the reader learns: the size.
-pub fn publish<R: Wait + Drop>(
-    operator: &mut Operator<R>,
-    reader: &mut BoardReader<Global>,
-) -> Result<u64, PublishFault>
-    requires operating { IsOperating (⟦<Operator<R> as Shown>⟧.shown operator.old) }
-    requires follows { reader.old.book ≡ (⟦<Operator<R> as Shown>⟧.shown operator.old).past.book }
+/// Takes up to `most` entries of a lane: how many, and nothing where it is refused.
+pub fn taken<R: Wait + Drop>(operator: &mut Operator<R>, lane: u32, most: u64) -> Option<u64>
+    requires { IsOperating (⟦<Operator<R> as Shown>⟧.shown operator.old) }
     ensures operating { IsOperating (⟦<Operator<R> as Shown>⟧.shown operator.new) }
-    ensures follows { reader.new.book ≡ (⟦<Operator<R> as Shown>⟧.shown operator.new).past.book }
+    ensures rings { rings_of (⟦<Operator<R> as Shown>⟧.shown operator.new).log ≡ rings_of (⟦<Operator<R> as Shown>⟧.shown operator.old).log }
+{
+    match operator.take(lane, most) {
+        Ok(count) => Some(count),
+        Err(_) => None,
+    }
+}
+
+/// Publishes the log: its size.
+pub fn published<R: Wait + Drop>(operator: &mut Operator<R>) -> Result<u64, PublishFault>
+    requires { IsOperating (⟦<Operator<R> as Shown>⟧.shown operator.old) }
+    ensures operating { IsOperating (⟦<Operator<R> as Shown>⟧.shown operator.new) }
     ensures rings { rings_of (⟦<Operator<R> as Shown>⟧.shown operator.new).log ≡ rings_of (⟦<Operator<R> as Shown>⟧.shown operator.old).log }
 {
     match operator.publish() {
-        Ok(published) => {
-            reader.learn(&published);
-            Ok(published.size())
-        }
+        Ok(published) => Ok(published.size()),
         Err(fault) => Err(fault),
     }
 }
 
-/// Takes up to `most` entries of a lane and publishes the log, which the reader learns: how many, and the size.
-pub fn take_and_publish<R: Wait + Drop>(
-    operator: &mut Operator<R>,
-    reader: &mut BoardReader<Global>,
-    lane: u32,
-    most: u64,
-) -> Option<(u64, u64)>
-    requires operating { IsOperating (⟦<Operator<R> as Shown>⟧.shown operator.old) }
-    requires follows { reader.old.book ≡ (⟦<Operator<R> as Shown>⟧.shown operator.old).past.book }
+/// Takes one entry of a lane and publishes the log: its size.
+pub fn grown<R: Wait + Drop>(operator: &mut Operator<R>, lane: u32) -> Option<u64>
+    requires { IsOperating (⟦<Operator<R> as Shown>⟧.shown operator.old) }
     ensures operating { IsOperating (⟦<Operator<R> as Shown>⟧.shown operator.new) }
-    ensures follows { reader.new.book ≡ (⟦<Operator<R> as Shown>⟧.shown operator.new).past.book }
     ensures rings { rings_of (⟦<Operator<R> as Shown>⟧.shown operator.new).log ≡ rings_of (⟦<Operator<R> as Shown>⟧.shown operator.old).log }
 {
-    let Ok(count) = operator.take(lane, most) else {
-        return None;
-    };
-    match publish(operator, reader) {
-        Ok(size) => Some((count, size)),
-        Err(_) => None,
+    let count = taken(operator, lane, 1);
+    match published(operator) {
+        Ok(size) if count == Some(1) => Some(size),
+        _ => None,
     }
 }
 
@@ -130,7 +146,6 @@ pub fn end_lane<R: Wait + Drop>(operator: &mut Operator<R>, submitter: Sender) -
     requires own { IsSenderOf submitter (⟦<Operator<R> as Shown>⟧.shown operator.old).log }
     requires operating { IsOperating (⟦<Operator<R> as Shown>⟧.shown operator.old) }
     ensures operating { IsOperating (⟦<Operator<R> as Shown>⟧.shown operator.new) }
-    ensures past { (⟦<Operator<R> as Shown>⟧.shown operator.new).past ≡ (⟦<Operator<R> as Shown>⟧.shown operator.old).past }
     ensures rings { rings_of (⟦<Operator<R> as Shown>⟧.shown operator.new).log ≡ rings_of (⟦<Operator<R> as Shown>⟧.shown operator.old).log }
 {
     let Some(ended) = submitter.close() else {
@@ -143,34 +158,19 @@ pub fn end_lane<R: Wait + Drop>(operator: &mut Operator<R>, submitter: Sender) -
 }
 
 /// What the reader finds under a resource, and nothing where it got no answer.
-pub fn found(alloc: Global, reader: &mut BoardReader<Global>, resource: Resource) -> Option<Vec<u8>>
-    ensures { reader.new.book ≡ reader.old.book }
-{
+pub fn found(
+    alloc: Global,
+    reader: &mut BoardReader<Global>,
+    resource: Resource,
+) -> Option<Vec<u8>> {
     match reader.get(alloc, &resource) {
         Ok(found) => found,
         Err(_) => None,
     }
 }
 
-/// Whether the reader finds these bytes.
-pub fn shows(
-    alloc: Global,
-    reader: &mut BoardReader<Global>,
-    resource: Resource,
-    bytes: &[u8],
-) -> bool
-    ensures { reader.new.book ≡ reader.old.book }
-{
-    match found(alloc, reader, resource) {
-        Some(found) => found.as_slice() == bytes,
-        None => false,
-    }
-}
-
 /// The size that the reader sees, and nothing where it got no answer or nothing is published.
-pub fn size_of(reader: &mut BoardReader<Global>) -> Option<u64>
-    ensures { reader.new.book ≡ reader.old.book }
-{
+pub fn size_of(reader: &mut BoardReader<Global>) -> Option<u64> {
     match reader.head() {
         Ok(Some(head)) => Some(head.size),
         Ok(None) => None,

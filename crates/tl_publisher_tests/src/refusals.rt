@@ -1,11 +1,13 @@
 //! What is refused, and that nothing changes with that.
 
-use crate::logs::{ORIGIN, found, opened, publish, send, signers, size_of};
+use crate::logs::{ORIGIN, opened, published, signers, size_of};
+use crate::scripts::{Sight, Step, wrong_step};
 use std::alloc::{AllocError, Global};
+use std::sync::Wait;
 use std::sync::atomic::{AtomicU64, Ordering};
 use std::test::Fail;
 use tl_note::{SignFault, Signer};
-use tl_publisher::{GetFault, PublishFault};
+use tl_publisher::{BoardReader, GetFault, Operator, OperatorFault, PublishFault};
 use tl_testing::Refusing;
 use tl_tile::{Resource, Tile};
 
@@ -49,91 +51,107 @@ fn reluctant_signers(alloc: Global) -> Result<Vec<Box<dyn Signer>>, AllocError> 
     Ok(all)
 }
 
-// The first tile of a level, full.
-fn full_tile(level: u32) -> Resource {
-    Resource::Tile(Tile {
-        level,
-        index: 0,
-        width: 256,
-    })
+// What is published once the key no longer refuses.
+const AFTER_REFUSAL: [Step; 10] = [
+    Step::Send(0, b"xy", 300),
+    Step::Take(0, 1000, 300),
+    Step::Publish(Err(PublishFault::Sign(1))),
+    Step::Look(Sight::Size(None)),
+    Step::Look(Sight::Length(Resource::Checkpoint, None)),
+    Step::Publish(Ok(300)),
+    Step::Look(Sight::Size(Some(300))),
+    Step::Look(Sight::Length(
+        Resource::Tile(Tile {
+            level: 0,
+            index: 0,
+            width: 256,
+        }),
+        Some(8192),
+    )),
+    Step::Look(Sight::Length(
+        Resource::Entries {
+            index: 1,
+            width: 44,
+        },
+        Some(176),
+    )),
+    Step::Publish(Err(PublishFault::NothingNew)),
+];
+
+// The place of the first wrong step, if there is one, on a log whose second key refuses once.
+fn wrong_after_refusal<R: Wait + Drop>(rt: R, alloc: Global) -> Result<Option<u64>, OperatorFault> {
+    let keys = reluctant_signers(alloc)?;
+    let (mut operator, mut submitters, mut reader) = opened(rt, alloc, keys, 1, 512, 1000)?;
+    Ok(wrong_step(
+        alloc,
+        &mut operator,
+        submitters.as_mut_slice(),
+        &mut reader,
+        &AFTER_REFUSAL,
+    ))
 }
 
 #[test]
 fn what_was_filled_is_shown_after_a_signer_refused(rt: HostRuntime) -> Result<(), Fail> {
-    let alloc = rt.alloc();
-    let (mut operator, mut submitters, mut reader) = opened(
-        &rt,
-        alloc,
-        reluctant_signers(alloc)?,
-        1,
-        512,
-        1000,
-    )?;
-    let mut submitter = submitters.pop().unwrap();
-    for _ in 0..300 {
-        assert!(rt; send(alloc, &mut submitter, b"xy")?);
-    }
-    assert_eq!(rt; operator.take(0, 1000), Ok(300));
-    assert_eq!(rt;
-        publish(&mut operator, &mut reader),
-        Err(PublishFault::Sign(1))
-    );
-    assert_eq!(rt; size_of(&mut reader), None);
-    assert!(rt; found(alloc, &mut reader, Resource::Checkpoint).is_none());
-    assert_eq!(rt; publish(&mut operator, &mut reader), Ok(300));
-    assert_eq!(rt; size_of(&mut reader), Some(300));
-    let tile = found(alloc, &mut reader, full_tile(0)).ok_or("no tile")?;
-    assert_eq!(rt; tile.len(), 8192);
-    let bundle = Resource::Entries {
-        index: 1,
-        width: 44,
-    };
-    let bundle = found(alloc, &mut reader, bundle).ok_or("no bundle")?;
-    assert_eq!(rt; bundle.len(), 176);
-    assert_eq!(rt;
-        publish(&mut operator, &mut reader),
-        Err(PublishFault::NothingNew)
-    );
+    assert_eq!(rt; wrong_after_refusal(&rt, rt.alloc())?, None);
     Ok(())
+}
+
+// The empty log, published, and its reader.
+fn published_empty<R: Wait + Drop>(
+    rt: R,
+    alloc: Global,
+) -> Result<(Operator<R>, BoardReader<Global>), Fail> {
+    let keys = signers(alloc)?;
+    let (mut operator, _submitters, mut reader) = opened(rt, alloc, keys, 1, 4, 9)?;
+    if published(&mut operator) != Ok(0) || size_of(&mut reader) != Some(0) {
+        return Err(Fail::new("the empty log is not published"));
+    }
+    Ok((operator, reader))
+}
+
+// Whether a reader tells that the board is gone.
+fn is_gone(alloc: Global, reader: &mut BoardReader<Global>) -> bool {
+    reader.head() == Err(GetFault::Gone)
+        && matches!(
+            reader.get(alloc, &Resource::Checkpoint),
+            Err(GetFault::Gone)
+        )
 }
 
 #[test]
 fn board_of_a_dropped_operator_is_gone(rt: HostRuntime) -> Result<(), Fail> {
     let alloc = rt.alloc();
-    let (mut operator, submitters, mut reader) = opened(&rt, alloc, signers(alloc)?, 1, 4, 9)?;
-    assert_eq!(rt; submitters.len(), 1);
-    assert_eq!(rt; publish(&mut operator, &mut reader), Ok(0));
-    assert_eq!(rt; size_of(&mut reader), Some(0));
+    let (operator, mut reader) = published_empty(&rt, alloc)?;
     drop(operator);
-    assert_eq!(rt; reader.head(), Err(GetFault::Gone));
-    assert!(rt;
-        matches!(
-            reader.get(alloc, &Resource::Checkpoint),
-            Err(GetFault::Gone)
-        )
-    );
+    assert!(rt; is_gone(alloc, &mut reader));
     Ok(())
+}
+
+// The length of the checkpoint, read on this heap.
+fn length_on(
+    reader: &mut BoardReader<Global>,
+    heap: &Refusing<Global>,
+) -> Result<Option<usize>, GetFault> {
+    match reader.get(heap, &Resource::Checkpoint) {
+        Ok(note) => Ok(note.map(|bytes| bytes.len())),
+        Err(fault) => Err(fault),
+    }
 }
 
 #[test]
 fn each_growth_of_a_read_is_refused_once(rt: HostRuntime) -> Result<(), Fail> {
-    let alloc = rt.alloc();
-    let (mut operator, submitters, mut reader) = opened(&rt, alloc, signers(alloc)?, 1, 4, 9)?;
-    assert_eq!(rt; (submitters.len(), ORIGIN.len()), (1, 15));
-    assert_eq!(rt; publish(&mut operator, &mut reader), Ok(0));
+    let (_operator, mut reader) = published_empty(&rt, rt.alloc())?;
+    assert_eq!(rt; ORIGIN.len(), 15);
     for number in 1..MOST {
-        let heap = Refusing::at(alloc, number);
-        match reader.get(&heap, &Resource::Checkpoint) {
-            Ok(note) => {
-                assert!(rt; !heap.refused() && number > 1);
-                assert_eq!(rt; note.map(|bytes| bytes.len()), Some(101));
-                return Ok(());
-            }
-            Err(fault) => {
-                assert!(rt; heap.refused());
-                assert_eq!(rt; fault, GetFault::OutOfMemory);
-            }
+        let heap = Refusing::at(rt.alloc(), number);
+        let length = length_on(&mut reader, &heap);
+        if !heap.refused() {
+            assert!(rt; number > 1);
+            assert_eq!(rt; length, Ok(Some(101)));
+            return Ok(());
         }
+        assert_eq!(rt; length, Err(GetFault::OutOfMemory));
     }
     assert!(rt; false, "each read was refused");
     Ok(())

@@ -1,14 +1,15 @@
 //! Two threads: one publishes, and one reads without waiting.
 
-ghost use Rattle.std.specs.Prelude.{◌≡◌};
+ghost use Rattle.std.specs.Prelude.{◌≡◌, IfOk};
 ghost use Rattle.tl_publisher.specs.Operating.{IsOperating};
 
-use crate::logs::{found, opened, send, signers, size_of};
-use std::alloc::Global;
+use crate::logs::{Sender, found, grown, opened, send, signers, size_of};
+use std::alloc::{AllocError, Global};
 use std::sync::atomic::{AtomicU64, Ordering};
 use std::sync::{Arc, Wait};
 use std::test::Fail;
 use std::thread;
+use std::thread::Threads;
 use tl_publisher::{BoardReader, Operator, Shown};
 use tl_tile::Resource;
 
@@ -66,32 +67,52 @@ fn show_next<R: Wait + Drop>(operator: &mut Operator<R>, flag: &AtomicU64, size:
     requires { IsOperating (⟦<Operator<R> as Shown>⟧.shown operator.old) }
     ensures { IsOperating (⟦<Operator<R> as Shown>⟧.shown operator.new) }
 {
-    if operator.take(0, 1).is_err() {
-        return false;
+    grown(operator, 0) == Some(size) && is_raised(flag, size)
+}
+
+// The same three times.
+fn show_three<R: Wait + Drop>(operator: &mut Operator<R>, flag: &AtomicU64) -> bool
+    requires { IsOperating (⟦<Operator<R> as Shown>⟧.shown operator.old) }
+{
+    show_next(operator, flag, 1) && show_next(operator, flag, 2) && show_next(operator, flag, 3)
+}
+
+// Sends three entries of a byte each. Whether each was taken.
+fn are_sent(alloc: Global, submitter: &mut Sender) -> Result<bool, AllocError> {
+    Ok(
+        send(alloc, submitter, b"x")?
+            && send(alloc, submitter, b"y")?
+            && send(alloc, submitter, b"z")?,
+    )
+}
+
+// A log with three entries to take, and its reader.
+fn filled<R: Wait + Drop>(rt: R, alloc: Global) -> Result<(Operator<R>, BoardReader<Global>), Fail>
+    ensures { IfOk result (λ r. IsOperating (⟦<Operator<R> as Shown>⟧.shown r.0)) }
+{
+    let keys = signers(alloc)?;
+    let (operator, mut submitters, reader) = opened(rt, alloc, keys, 1, 4, 9)?;
+    let mut submitter = submitters.pop().unwrap();
+    if !are_sent(alloc, &mut submitter)? {
+        return Err(Fail::new("an entry was not taken"));
     }
-    match operator.publish() {
-        Ok(published) => published.size() == size && is_raised(flag, size),
-        Err(_) => false,
-    }
+    Ok((operator, reader))
+}
+
+// Publishes three entries one by one, each when the reader saw the one before. Whether both saw that.
+fn are_shown<R: Threads + Wait>(rt: &R, alloc: Global) -> Result<bool, Fail> {
+    let (mut operator, reader) = filled(rt, alloc)?;
+    let flag = Arc::new(alloc, AtomicU64::new(0))?;
+    let theirs = Arc::try_clone(&flag)?;
+    let watcher = thread::spawn(rt, move || watch(alloc, reader, theirs))?;
+    let are_shown = show_three(&mut operator, &flag);
+    Ok(watcher.join(rt) && are_shown)
 }
 
 #[test]
 fn reader_sees_each_size_in_turn(rt: HostRuntime) -> Result<(), Fail> {
-    let alloc = rt.alloc();
     for _ in 0..100 {
-        let (mut operator, mut submitters, reader) = opened(&rt, alloc, signers(alloc)?, 1, 4, 9)?;
-        let mut submitter = submitters.pop().unwrap();
-        assert!(rt; send(alloc, &mut submitter, b"x")?);
-        assert!(rt; send(alloc, &mut submitter, b"y")?);
-        assert!(rt; send(alloc, &mut submitter, b"z")?);
-        let flag = Arc::new(alloc, AtomicU64::new(0))?;
-        let theirs = Arc::try_clone(&flag)?;
-        let watcher = thread::spawn(&rt, move || watch(alloc, reader, theirs))?;
-        let one = show_next(&mut operator, &flag, 1);
-        let two = show_next(&mut operator, &flag, 2);
-        let three = show_next(&mut operator, &flag, 3);
-        assert!(rt; watcher.join(&rt));
-        assert!(rt; one && two && three);
+        assert!(rt; are_shown(&rt, rt.alloc())?);
     }
     Ok(())
 }

@@ -5,18 +5,17 @@ ghost use Rattle.std.specs.Prelude.{◌≡◌, IfOk};
 ghost use Rattle.tl_publisher.specs.Operating.{IsOperating};
 
 use crate::logs::{ORIGIN, Sender, found, send, signers, size_of};
+use crate::looks::{Look, Publication, content_of, wrong_look, wrong_note};
 use std::alloc::{AllocError, Global};
 use std::sync::Wait;
 use std::test::Fail;
 use std::thread;
-use tl_checkpoint::{Checkpoint, write};
-use tl_hash::{Sha256Tree, entry_root, leaf_hash};
-use tl_note::sign_note;
+use std::thread::Threads;
 use tl_publisher::{BoardReader, Operator, Shown};
 use tl_tile::{Resource, Tile};
 
 // How many entries are sent, how often the reader looks, and how often a thread tries before it gives up.
-const ENTRIES: u64 = 1500;
+const ENTRIES: u64 = 600;
 
 const LOOKS: u64 = 4000;
 
@@ -55,13 +54,6 @@ fn send_each(alloc: Global, submitter: Sender) -> Result<bool, AllocError> {
         }
     }
     Ok(true)
-}
-
-// A size that was published, and its checkpoint.
-#[derive(Drop)]
-struct Publication {
-    size: u64,
-    note: Vec<u8>,
 }
 
 // Publishes now and then: what was, with the checkpoint that the reader then finds.
@@ -112,15 +104,6 @@ fn publish_each<R: Wait + Drop>(
         thread::yield_now();
     }
     Ok(all)
-}
-
-// An answer of the reader, and the sizes that it saw before and after.
-#[derive(Drop)]
-struct Look {
-    before: Option<u64>,
-    resource: Resource,
-    bytes: Option<Vec<u8>>,
-    after: Option<u64>,
 }
 
 // A tile of this level.
@@ -184,170 +167,81 @@ fn wander(alloc: Global, reader: BoardReader<Global>) -> Result<Vec<Look>, Alloc
     Ok(looks)
 }
 
-// Whether a row of this length has a piece, full or at its end.
-fn has_piece(count: u64, index: u64, width: u64) -> bool {
-    let end = index.saturating_mul(256).saturating_add(width);
-    width > 0 && ((width == 256 && end <= count) || (width < 256 && end == count))
-}
+// A log of one lane, what sends to it, and two readers.
+type Parts<R> = (
+    Operator<R>,
+    Sender,
+    BoardReader<Global>,
+    BoardReader<Global>,
+);
 
-// Whether a log of this size needs the resource.
-fn needs(size: u64, resource: &Resource) -> bool {
-    match resource {
-        Resource::Checkpoint => true,
-        Resource::Entries { index, width } => has_piece(size, *index, *width as u64),
-        Resource::Tile(tile) if tile.level == 0 => has_piece(size, tile.index, tile.width as u64),
-        Resource::Tile(tile) => has_piece(size / 256, tile.index, tile.width as u64),
-    }
-}
-
-// The entries from a place on, each with its length in front.
-fn bundle_bytes(
-    alloc: Global,
-    entries: &[Vec<u8>],
-    start: usize,
-    width: usize,
-) -> Result<Vec<u8>, AllocError> {
-    let mut bytes = Vec::new(alloc);
-    for entry in entries.iter().skip(start).take(width) {
-        bytes.extend_from_slice(&((entry.len() % 65_536) as u16).to_be_bytes())?;
-        bytes.extend_from_slice(entry)?;
-    }
-    Ok(bytes)
-}
-
-// The leaf hashes of entries from a place on.
-fn leaves(
-    alloc: Global,
-    entries: &[Vec<u8>],
-    start: usize,
-    width: usize,
-) -> Result<Vec<u8>, AllocError> {
-    let mut bytes = Vec::new(alloc);
-    for entry in entries.iter().skip(start).take(width) {
-        bytes.extend_from_slice(leaf_hash(Sha256Tree, entry).as_bytes())?;
-    }
-    Ok(bytes)
-}
-
-// The roots of runs of 256 entries, from a run on.
-fn roots(
-    alloc: Global,
-    entries: &[Vec<u8>],
-    start: usize,
-    width: usize,
-) -> Result<Vec<u8>, AllocError> {
-    let mut bytes = Vec::new(alloc);
-    for run in entries.chunks(256).skip(start).take(width) {
-        bytes.extend_from_slice(entry_root(Sha256Tree, run).as_bytes())?;
-    }
-    Ok(bytes)
-}
-
-// The bytes of a tile of the two lowest levels, or of a bundle, over these entries.
-fn bytes_of(
-    alloc: Global,
-    entries: &[Vec<u8>],
-    resource: &Resource,
-) -> Result<Vec<u8>, AllocError> {
-    match resource {
-        Resource::Checkpoint => Ok(Vec::new(alloc)),
-        Resource::Entries { index, width } => {
-            let start = index.saturating_mul(256) as usize;
-            bundle_bytes(alloc, entries, start, *width as usize)
-        }
-        Resource::Tile(tile) => {
-            let start = tile.index.saturating_mul(256) as usize;
-            match tile.level {
-                0 => leaves(alloc, entries, start, tile.width as usize),
-                _ => roots(alloc, entries, start, tile.width as usize),
-            }
-        }
-    }
-}
-
-// The checkpoint of a size, signed.
-fn note_of(alloc: Global, entries: &[Vec<u8>], size: u64) -> Result<Vec<u8>, Fail> {
-    let part = entries.get(..size as usize).ok_or("no such size")?;
-    let checkpoint = Checkpoint {
-        origin: String::from_str(alloc, ORIGIN)?,
-        size,
-        root: entry_root(Sha256Tree, part),
-        extensions: Vec::new(alloc),
-    };
-    let text = write(alloc, &checkpoint)?;
-    let note = sign_note(alloc, alloc, text.as_str(), signers(alloc)?.as_slice())?;
-    Ok(note.into_bytes())
-}
-
-// Whether a size was published that the reader may have seen in this look, and is good.
-fn is_any(all: &[Publication], look: &Look) -> bool {
-    all.iter().any(|one| {
-        Some(one.size) >= look.before
-            && Some(one.size) <= look.after
-            && look.bytes.as_ref().map(|bytes| bytes.as_slice()) == Some(one.note.as_slice())
-    })
-}
-
-// Whether a look is right.
-fn is_right(
-    alloc: Global,
-    entries: &[Vec<u8>],
-    all: &[Publication],
-    look: &Look,
-) -> Result<bool, AllocError> {
-    let Some(bytes) = &look.bytes else {
-        let missed = all.iter().any(|one| Some(one.size) <= look.before
-            && needs(one.size, &look.resource));
-        return Ok(!missed);
-    };
-    if let Resource::Checkpoint = look.resource {
-        return Ok(is_any(all, look));
-    }
-    let needed = all.iter().any(|one| Some(one.size) <= look.after
-        && needs(one.size, &look.resource));
-    Ok(needed && *bytes == bytes_of(alloc, entries, &look.resource)?)
-}
-
-#[test]
-fn each_answer_is_of_what_was_published(rt: HostRuntime) -> Result<(), Fail> {
-    let alloc = rt.alloc();
-    let (mut operator, mut submitters, mut readers) = Operator::open(
-        &rt,
+// Opens the log.
+fn opened<R: Wait + Drop>(rt: R, alloc: Global) -> Result<Parts<R>, Fail>
+    ensures { IfOk result (λ r. IsOperating (⟦<Operator<R> as Shown>⟧.shown r.0)) }
+{
+    let keys = signers(alloc)?;
+    let (operator, mut submitters, mut readers) = Operator::open(
+        rt,
         alloc,
         ORIGIN,
-        signers(alloc)?,
+        keys,
         1,
         64,
         2 * ENTRIES,
         2,
     )?;
-    let submitter = submitters.pop().ok_or("no submitter")?;
-    let reader = readers.pop().ok_or("no reader")?;
-    let mut own = readers.pop().ok_or("no second reader")?;
-    let sends = thread::spawn(&rt, move || send_each(alloc, submitter))?;
-    let reads = thread::spawn(&rt, move || wander(alloc, reader))?;
-    let all = publish_each(alloc, &mut operator, &mut own)?;
-    assert!(rt; sends.join(&rt)?);
-    let looks = reads.join(&rt)?;
-    assert_eq!(rt; looks.len() as u64, LOOKS);
-    assert_eq!(rt; all.last().map(|one| one.size), Some(ENTRIES));
+    let (Some(submitter), Some(one), Some(other)) = (submitters.pop(), readers.pop(), readers.pop())
+    else {
+        return Err(Fail::new("no submitter or no readers"));
+    };
+    Ok((operator, submitter, one, other))
+}
+
+// What three threads did.
+#[derive(Drop)]
+struct Walk {
+    were_sent: bool,
+    published: Vec<Publication>,
+    looks: Vec<Look>,
+}
+
+// Sends, publishes and looks, each on a thread of its own.
+fn walked<R: Threads + Wait>(rt: &R, alloc: Global) -> Result<Walk, Fail> {
+    let (mut operator, submitter, reader, mut own) = opened(rt, alloc)?;
+    let sends = thread::spawn(rt, move || send_each(alloc, submitter))?;
+    let reads = thread::spawn(rt, move || wander(alloc, reader))?;
+    let published = publish_each(alloc, &mut operator, &mut own);
+    let were_sent = sends.join(rt);
+    let looks = reads.join(rt);
+    Ok(Walk {
+        were_sent: were_sent?,
+        published: published?,
+        looks: looks?,
+    })
+}
+
+// The entries.
+fn all_entries(alloc: Global) -> Result<Vec<Vec<u8>>, AllocError> {
     let mut entries = Vec::new(alloc);
     for number in 0..ENTRIES {
         entries.push(entry_of(alloc, number)?)?;
     }
-    for one in all.iter() {
-        assert!(rt;
-            one.note == note_of(alloc, entries.as_slice(), one.size)?,
-            "{}",
-            one.size
-        );
-    }
-    for look in looks.iter() {
-        assert!(rt;
-            is_right(alloc, entries.as_slice(), all.as_slice(), look)?,
-            "{:?}",
-            look.resource
-        );
-    }
+    Ok(entries)
+}
+
+#[test]
+fn each_answer_is_of_what_was_published(rt: HostRuntime) -> Result<(), Fail> {
+    let alloc = rt.alloc();
+    let walk = walked(&rt, alloc)?;
+    assert!(rt; walk.were_sent);
+    assert_eq!(rt; walk.looks.len() as u64, LOOKS);
+    let all = walk.published.as_slice();
+    assert_eq!(rt; all.last().map(|one| one.size), Some(ENTRIES));
+    let content = content_of(alloc, all_entries(alloc)?)?;
+    assert_eq!(rt; wrong_note(alloc, &content, all)?, None);
+    assert_eq!(rt;
+        wrong_look(alloc, &content, all, walk.looks.as_slice())?,
+        None
+    );
     Ok(())
 }

@@ -1,47 +1,34 @@
 //! Examples of a log from its opening to its close.
 
+ghost use Rattle.std.specs.Prelude.{◌≡◌, IfOk};
+ghost use Rattle.tl_publisher.specs.Operating.{IsOperating};
+ghost use Rattle.tl_sequencer.specs.Log.{IsSenderOf, rings_of};
+
 use crate::logs::{
-    end_lane, found, opened, opened_pair, publish, send, shows, signers, size_of, take_and_publish,
+    EMPTY_NOTE, Sender, end_lane, grown, opened, opened_pair, send, signers, size_of,
 };
-use std::alloc::Global;
+use crate::scripts::{Sight, Step, are_seen, bundle, run};
+use std::alloc::{AllocError, Global};
 use std::sync::Wait;
 use std::test::Fail;
-use tl_publisher::{Board, BoardReader, PublishFault};
+use tl_publisher::{Board, BoardReader, Operator, PublishFault, Shown};
+use tl_sequencer::Complete;
 use tl_tile::{Resource, Tile};
-
-// The checkpoint of the empty log, signed by the length key.
-const EMPTY_NOTE: &str =
-    "example.com/log\n0\n47DEQpj8HBSa+/TImW+5JCeuQeRkm5NMpJWZG3hSuFU=\n\n— example.com/log AQIDBAAAAAAAAAA/\n";
 
 #[test]
 fn empty_log_is_published_once(rt: HostRuntime) -> Result<(), Fail> {
     let alloc = rt.alloc();
-    let (mut operator, submitters, mut reader) = opened(&rt, alloc, signers(alloc)?, 1, 4, 9)?;
-    assert_eq!(rt; submitters.len(), 1);
-    assert!(rt; found(alloc, &mut reader, Resource::Checkpoint).is_none());
-    assert_eq!(rt; size_of(&mut reader), None);
-    assert_eq!(rt; publish(&mut operator, &mut reader), Ok(0));
-    assert!(rt;
-        shows(
-            alloc,
-            &mut reader,
-            Resource::Checkpoint,
-            EMPTY_NOTE.as_bytes()
-        )
-    );
-    assert_eq!(rt; size_of(&mut reader), Some(0));
-    assert_eq!(rt;
-        publish(&mut operator, &mut reader),
-        Err(PublishFault::NothingNew)
-    );
-    assert!(rt;
-        shows(
-            alloc,
-            &mut reader,
-            Resource::Checkpoint,
-            EMPTY_NOTE.as_bytes()
-        )
-    );
+    let note = Step::Look(Sight::Bytes(Resource::Checkpoint, EMPTY_NOTE.as_bytes()));
+    let steps = [
+        Step::Look(Sight::Length(Resource::Checkpoint, None)),
+        Step::Look(Sight::Size(None)),
+        Step::Publish(Ok(0)),
+        note,
+        Step::Look(Sight::Size(Some(0))),
+        Step::Publish(Err(PublishFault::NothingNew)),
+        note,
+    ];
+    assert_eq!(rt; run(&rt, alloc, 1, 4, 9, &steps)?, None);
     Ok(())
 }
 
@@ -52,92 +39,200 @@ const TWO: [u8; 8] = [0, 2, 0x61, 0x31, 0, 2, 0x62, 0x31];
 
 const THREE: [u8; 12] = [0, 2, 0x61, 0x31, 0, 2, 0x62, 0x31, 0, 2, 0x61, 0x32];
 
-// The first bundle, of this width.
-fn bundle(width: u32) -> Resource {
-    Resource::Entries { index: 0, width }
+// What a reader sees of three entries: each bundle and tile that a publication needed and no other.
+const THREE_SEEN: [Sight; 7] = [
+    Sight::Size(Some(3)),
+    Sight::Bytes(Resource::Entries { index: 0, width: 1 }, &ONE),
+    Sight::Bytes(Resource::Entries { index: 0, width: 2 }, &TWO),
+    Sight::Bytes(Resource::Entries { index: 0, width: 3 }, &THREE),
+    Sight::Length(Resource::Entries { index: 0, width: 4 }, None),
+    Sight::Length(
+        Resource::Entries {
+            index: 0,
+            width: 256,
+        },
+        None,
+    ),
+    Sight::Length(
+        Resource::Tile(Tile {
+            level: 0,
+            index: 0,
+            width: 3,
+        }),
+        Some(96),
+    ),
+];
+
+// The first bundle of this width on a board, and nothing where there is none or no answer.
+fn kept<R: Wait + Drop>(alloc: Global, board: &mut Board<R>, width: u32) -> Option<Vec<u8>> {
+    match board.get(alloc, &bundle(0, width)) {
+        Ok(found) => found,
+        Err(_) => None,
+    }
 }
 
-// Whether the reader sees three entries, with each bundle and tile that a publication needed and no other.
-fn sees_three(alloc: Global, reader: &mut BoardReader<Global>) -> bool {
-    let tile = Resource::Tile(Tile {
-        level: 0,
-        index: 0,
-        width: 3,
-    });
-    size_of(reader) == Some(3)
-        && shows(alloc, reader, bundle(1), &ONE)
-        && shows(alloc, reader, bundle(2), &TWO)
-        && shows(alloc, reader, bundle(3), &THREE)
-        && found(alloc, reader, bundle(4)).is_none()
-        && found(alloc, reader, bundle(256)).is_none()
-        && found(alloc, reader, tile).map(|bytes| bytes.len()) == Some(96)
+// The size of the log on a board.
+fn kept_size<R: Wait + Drop>(board: &mut Board<R>) -> Option<u64> {
+    match board.head() {
+        Ok(Some(head)) => Some(head.size),
+        _ => None,
+    }
 }
 
 // Whether the board has three entries, with the bundles before.
 fn keeps_three<R: Wait + Drop>(alloc: Global, board: &mut Board<R>) -> bool {
-    let Ok(Some(head)) = board.head() else {
-        return false;
-    };
-    let (Ok(Some(two)), Ok(Some(three)), Ok(None)) = (
-        board.get(alloc, &bundle(2)),
-        board.get(alloc, &bundle(3)),
-        board.get(alloc, &bundle(4)),
+    let (Some(two), Some(three), None) = (
+        kept(alloc, board, 2),
+        kept(alloc, board, 3),
+        kept(alloc, board, 4),
     ) else {
         return false;
     };
-    head.size == 3 && two.as_slice() == TWO.as_slice() && three.as_slice() == THREE.as_slice()
+    two.as_slice() == TWO.as_slice()
+        && three.as_slice() == THREE.as_slice()
+        && kept_size(board) == Some(3)
+}
+
+// Sends a1 and a2 to lane 0 and b1 to lane 1. Whether each was taken.
+fn are_sent(alloc: Global, zero: &mut Sender, one: &mut Sender) -> Result<bool, AllocError>
+    ensures zero { IfOk result (λ _. (zero.new.ring ≡ zero.old.ring) × (zero.new.lane ≡ zero.old.lane)) }
+    ensures one { IfOk result (λ _. (one.new.ring ≡ one.old.ring) × (one.new.lane ≡ one.old.lane)) }
+{
+    let is_first = send(alloc, zero, b"a1")?;
+    let is_second = send(alloc, zero, b"a2")?;
+    let is_third = send(alloc, one, b"b1")?;
+    Ok(is_first && is_second && is_third)
+}
+
+// Takes one entry of a lane and publishes it. Whether the reader then sees this size.
+fn is_grown<R: Wait + Drop>(
+    operator: &mut Operator<R>,
+    reader: &mut BoardReader<Global>,
+    lane: u32,
+    size: u64,
+) -> bool
+    requires { IsOperating (⟦<Operator<R> as Shown>⟧.shown operator.old) }
+    ensures operating { IsOperating (⟦<Operator<R> as Shown>⟧.shown operator.new) }
+    ensures rings { rings_of (⟦<Operator<R> as Shown>⟧.shown operator.new).log ≡ rings_of (⟦<Operator<R> as Shown>⟧.shown operator.old).log }
+{
+    grown(operator, lane) == Some(size) && size_of(reader) == Some(size)
+}
+
+// The same for a1 and b1.
+fn are_two_grown<R: Wait + Drop>(
+    operator: &mut Operator<R>,
+    reader: &mut BoardReader<Global>,
+) -> bool
+    requires { IsOperating (⟦<Operator<R> as Shown>⟧.shown operator.old) }
+    ensures operating { IsOperating (⟦<Operator<R> as Shown>⟧.shown operator.new) }
+    ensures rings { rings_of (⟦<Operator<R> as Shown>⟧.shown operator.new).log ≡ rings_of (⟦<Operator<R> as Shown>⟧.shown operator.old).log }
+{
+    if !is_grown(operator, reader, 0, 1) {
+        return false;
+    }
+    is_grown(operator, reader, 1, 2)
+}
+
+// The same for all three entries.
+fn are_grown<R: Wait + Drop>(operator: &mut Operator<R>, reader: &mut BoardReader<Global>) -> bool
+    requires { IsOperating (⟦<Operator<R> as Shown>⟧.shown operator.old) }
+    ensures operating { IsOperating (⟦<Operator<R> as Shown>⟧.shown operator.new) }
+    ensures rings { rings_of (⟦<Operator<R> as Shown>⟧.shown operator.new).log ≡ rings_of (⟦<Operator<R> as Shown>⟧.shown operator.old).log }
+{
+    if !are_two_grown(operator, reader) {
+        return false;
+    }
+    is_grown(operator, reader, 0, 3)
+}
+
+// Ends both lanes and closes the log, which is refused before lane 1 has ended.
+fn closed<R: Wait + Drop>(
+    operator: Operator<R>,
+    zero: Sender,
+    one: Sender,
+) -> Option<(Complete<Global, Global>, Board<R>)>
+    requires operating { IsOperating (⟦<Operator<R> as Shown>⟧.shown operator) }
+    requires zero { IsSenderOf zero (⟦<Operator<R> as Shown>⟧.shown operator).log }
+    requires one { IsSenderOf one (⟦<Operator<R> as Shown>⟧.shown operator).log }
+{
+    let mut operator = operator;
+    if end_lane(&mut operator, zero) != Some(0) {
+        return None;
+    }
+    let Err(back) = operator.close() else {
+        return None;
+    };
+    let mut operator = back.operator;
+    if back.lane != 1 || end_lane(&mut operator, one) != Some(0) {
+        return None;
+    }
+    match operator.close() {
+        Ok(closed) => Some(closed),
+        Err(_) => None,
+    }
+}
+
+// Three entries of two lanes, published one by one, seen and closed: the log, its board and its reader.
+fn three_closed<R: Wait + Drop>(
+    rt: R,
+    alloc: Global,
+) -> Result<(Complete<Global, Global>, Board<R>, BoardReader<Global>), Fail> {
+    let (mut operator, mut zero, mut one, mut reader) = opened_pair(rt, alloc, 4, 9)?;
+    if !are_sent(alloc, &mut zero, &mut one)? || !are_grown(&mut operator, &mut reader) {
+        return Err(Fail::new("an entry was not taken or not published"));
+    }
+    if !are_seen(alloc, &mut reader, &THREE_SEEN) {
+        return Err(Fail::new("the three entries are not seen"));
+    }
+    match closed(operator, zero, one) {
+        Some((complete, board)) => Ok((complete, board, reader)),
+        None => Err(Fail::new("the log was not closed as it is to be")),
+    }
 }
 
 #[test]
 fn two_lanes_from_open_to_close(rt: HostRuntime) -> Result<(), Fail> {
     let alloc = rt.alloc();
-    let (mut operator, mut zero, mut one, mut reader) = opened_pair(&rt, alloc, 4, 9)?;
-    assert!(rt; send(alloc, &mut zero, b"a1")? && send(alloc, &mut zero, b"a2")?);
-    assert!(rt; send(alloc, &mut one, b"b1")?);
-    assert_eq!(rt;
-        take_and_publish(&mut operator, &mut reader, 0, 1),
-        Some((1, 1))
-    );
-    assert_eq!(rt; size_of(&mut reader), Some(1));
-    assert_eq!(rt;
-        take_and_publish(&mut operator, &mut reader, 1, 1),
-        Some((1, 2))
-    );
-    assert_eq!(rt; size_of(&mut reader), Some(2));
-    assert_eq!(rt;
-        take_and_publish(&mut operator, &mut reader, 0, 1),
-        Some((1, 3))
-    );
-    assert!(rt; sees_three(alloc, &mut reader));
-    assert_eq!(rt; end_lane(&mut operator, zero), Some(0));
-    let Err(back) = operator.close() else {
-        return Err(Fail::new("lane 1 has not ended"));
-    };
-    assert_eq!(rt; back.lane, 1);
-    let mut operator = back.operator;
-    assert_eq!(rt; end_lane(&mut operator, one), Some(0));
-    let Ok((complete, mut board)) = operator.close() else {
-        return Err(Fail::new("a lane has not ended"));
-    };
+    let (complete, mut board, mut reader) = three_closed(&rt, alloc)?;
     assert_eq!(rt; (complete.len(), complete.place_of(0, 1)), (3, Some(2)));
     assert!(rt; keeps_three(alloc, &mut board));
-    assert!(rt; sees_three(alloc, &mut reader));
+    assert!(rt; are_seen(alloc, &mut reader, &THREE_SEEN));
     Ok(())
 }
+
+// The bundle of b1, a1 and a2.
+const OTHER_THREE: [u8; 12] = [0, 2, 0x62, 0x31, 0, 2, 0x61, 0x31, 0, 2, 0x61, 0x32];
+
+// Lane 1 is taken before lane 0.
+const IN_ORDER: [Step; 8] = [
+    Step::Send(0, b"a1", 1),
+    Step::Send(0, b"a2", 1),
+    Step::Send(1, b"b1", 1),
+    Step::Take(1, 1, 1),
+    Step::Take(0, 2, 2),
+    Step::Publish(Ok(3)),
+    Step::Look(Sight::Bytes(Resource::Entries { index: 0, width: 3 }, &OTHER_THREE)),
+    Step::Look(Sight::Length(Resource::Entries { index: 0, width: 1 }, None)),
+];
 
 #[test]
 fn log_is_in_the_order_of_takes(rt: HostRuntime) -> Result<(), Fail> {
     let alloc = rt.alloc();
-    let (mut operator, mut zero, mut one, mut reader) = opened_pair(&rt, alloc, 4, 9)?;
-    assert!(rt; send(alloc, &mut zero, b"a1")? && send(alloc, &mut zero, b"a2")?);
-    assert!(rt; send(alloc, &mut one, b"b1")?);
-    assert_eq!(rt; operator.take(1, 1), Ok(1));
-    assert_eq!(rt;
-        take_and_publish(&mut operator, &mut reader, 0, 2),
-        Some((2, 3))
-    );
-    let bytes = [0, 2, 0x62, 0x31, 0, 2, 0x61, 0x31, 0, 2, 0x61, 0x32];
-    assert!(rt; shows(alloc, &mut reader, bundle(3), &bytes));
-    assert!(rt; found(alloc, &mut reader, bundle(1)).is_none());
+    assert_eq!(rt; run(&rt, alloc, 2, 4, 9, &IN_ORDER)?, None);
+    Ok(())
+}
+
+// Publishes the empty log, which the reader learns. Whether it then sees it.
+fn is_learned<R: Wait + Drop>(rt: R, alloc: Global) -> Result<bool, Fail> {
+    let keys = signers(alloc)?;
+    let (mut operator, _submitters, mut reader) = opened(rt, alloc, keys, 1, 4, 9)?;
+    let published = operator.publish()?;
+    reader.learn(&published);
+    Ok(published.size() == 0 && size_of(&mut reader) == Some(0))
+}
+
+#[test]
+fn reader_learns_a_publication(rt: HostRuntime) -> Result<(), Fail> {
+    assert!(rt; is_learned(&rt, rt.alloc())?);
     Ok(())
 }

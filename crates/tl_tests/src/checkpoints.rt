@@ -3,10 +3,11 @@
 use std::alloc::{AllocError, Allocator, Global};
 use std::test::Fail;
 use tl_checkpoint::{
-    Checkpoint, CheckpointFault, check_cosignature, cosign_line, cosign_message, parse, write,
+    Checkpoint, CheckpointFault, are_apart, check_cosignature, cosign_line, cosign_message,
+    first_cosignatures, parse, write,
 };
 use tl_hash::Hash;
-use tl_note::{NoteFault, Signer, Verifier, parse_note};
+use tl_note::{NoteFault, Signer, Verifier, parse_note, parse_signatures};
 use tl_testing::texts::{NO_ENTRY, TWO_ENTRIES};
 use tl_testing::{LengthKey, Refusing};
 
@@ -215,6 +216,37 @@ fn cosignatures_answer_out_of_memory(rt: HostRuntime) -> Result<(), Fail> {
             }
             Err(fault) => assert_eq!(rt; fault, NoteFault::OutOfMemory),
         }
+    }
+    assert!(rt; false, "each run was refused");
+    Ok(())
+}
+
+// How many witnesses cosigned the empty log among these signature lines, with this heap.
+fn cosigned_on(alloc: Global, heap: &Refusing<Global>, lines: &str) -> Result<usize, NoteFault> {
+    let mut witnesses: Vec<Box<dyn Verifier>> = Vec::new(alloc);
+    let key = witness(alloc, "witness.example")?;
+    witnesses.push(Box::new(alloc, key)?)?;
+    if !are_apart(witnesses.as_slice()) {
+        return Err(NoteFault::Unverified);
+    }
+    let lines = parse_signatures(heap, lines)?;
+    let found = first_cosignatures(heap, NO_ENTRY, lines.as_slice(), witnesses.as_slice())?;
+    Ok(found.len())
+}
+
+#[test]
+fn first_cosignatures_answers_out_of_memory(rt: HostRuntime) -> Result<(), Fail> {
+    let alloc = rt.alloc();
+    let lines = format!(in alloc; "{COSIGNATURE}{COSIGNATURE}")?;
+    for number in 1..MOST {
+        let heap = Refusing::at(alloc, number);
+        let answer = cosigned_on(alloc, &heap, lines.as_str());
+        if !heap.refused() {
+            assert!(rt; number > 3);
+            assert_eq!(rt; answer, Ok(1));
+            return Ok(());
+        }
+        assert_eq!(rt; answer, Err(NoteFault::OutOfMemory));
     }
     assert!(rt; false, "each run was refused");
     Ok(())

@@ -228,8 +228,8 @@ impl<T: TreeHash, A: Allocator + Copy> Edge<T, A> {
         Ok(())
     }
 
-    // The same edge once more.
-    fn copy(&self) -> Result<Edge<T, A>, AllocError>
+    /// The same edge once more: its size, its hashes and their digest. It fails only where memory is refused.
+    pub fn copy(&self) -> Result<Edge<T, A>, AllocError>
         ensures size { IfOk result (λ edge. edge.size ≡ self.now.size) }
         ensures kept { IfOk result (λ edge. edge.kept ≡ self.now.kept) }
     {

@@ -12,6 +12,8 @@ mod logs;
 #[cfg(test)]
 mod posts;
 #[cfg(test)]
+mod quorums;
+#[cfg(test)]
 mod races;
 #[cfg(test)]
 mod reading;

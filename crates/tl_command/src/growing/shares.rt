@@ -120,8 +120,9 @@ fn alone<B: Allocator + Copy>(workers: B, piece: &[u8]) -> Result<Growing<B>, Al
     Ok(growing)
 }
 
-// What is kept of a piece alone, that has so many tiles of lines, by so many threads: each has a part of the tiles. This
-// thread starts the others one after another: where two threads start one each at a time, both may come on one processor.
+// What is kept of a piece alone, that has so many tiles of lines, by so many threads: each has a part of the tiles.
+// This thread starts the others one after another: where two threads start one each at a time, both may come on one
+// processor.
 fn grow<H: Threads + Sync, B: Allocator + Copy + Send>(
     rt: &H,
     workers: B,

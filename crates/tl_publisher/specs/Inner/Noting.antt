@@ -1,13 +1,13 @@
 -- Signing the checkpoint of a size and a root.
-use Rattle.std.specs.Prelude.{◌≡◌, ℕ, List, [], Result, Ok, Err, ⊤}
-use Rattle.std.specs.Global.{Vec}
+use Rattle.std.specs.Prelude.{◌≡◌, ℕ, List, [], Result, Ok, Err, String, string_bytes, ⊤}
+use Rattle.std.specs.Global.{Global}
 use Rattle.tl_note.specs.Key.{SigningKey}
 use Rattle.tl_note.specs.SignNote.{MayFail}
 use Rattle.tl_note.specs.declared.fault.NoteFault.{NoteFault}
 use Rattle.tl_note.specs.declared.fault.NoteFault.TheVariants as note
 use Rattle.tl_checkpoint.specs.Checkpoint.{checkpoint_text}
 use Rattle.tl_publisher.specs.declared.fault.PublishFault.{PublishFault}
-use Rattle.tl_publisher.specs.declared.fault.PublishFault.TheVariants.{NothingNew, Sign, OutOfMemory}
+use Rattle.tl_publisher.specs.declared.fault.PublishFault.TheVariants.{NothingNew, Sign, Quorum, OutOfMemory}
 use Rattle.tl_publisher.specs.Signed.{IsSignedNote, no_quorum}
 
 -- the text of the checkpoint with this size and root
@@ -15,10 +15,11 @@ abbrev pub text_of_head : List ℕ → ℕ → List ℕ → List ℕ
 text_of_head origin size root = checkpoint_text (record { origin = origin; size = size; root = root; extensions = [] })
 
 -- the note of a checkpoint, or the signer that gave no signature
-abbrev pub NotesHead : List ℕ → List SigningKey → ℕ → List ℕ → Result (Vec ℕ) PublishFault → Type 0
-NotesHead origin signers size root (Ok note) = IsSignedNote signers no_quorum (text_of_head origin size root) note.items
+abbrev pub NotesHead : List ℕ → List SigningKey → ℕ → List ℕ → Result (String Global) PublishFault → Type 0
+NotesHead origin signers size root (Ok note) = IsSignedNote signers no_quorum (text_of_head origin size root) (string_bytes note)
 NotesHead origin signers size root (Err NothingNew) = ⊥
 NotesHead origin signers size root (Err (Sign place)) = MayFail (text_of_head origin size root) signers place
+NotesHead origin signers size root (Err Quorum) = ⊥
 NotesHead origin signers size root (Err OutOfMemory) = ⊤
 
 -- a fault of signing that lawful signers of a lawful text can give

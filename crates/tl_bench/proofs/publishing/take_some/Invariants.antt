@@ -1,4 +1,6 @@
-use Rattle.std.proofs.Common.{map, string_bytes}
+use Rattle.std.proofs.Common.{map, take, string_bytes}
+use Rattle.std.specs.Prelude.{option_map}
+use Rattle.tl_sequencer.specs.Log.{entries_of}
 use Rattle.tl_publisher.specs.Operating.{IsOperating}
 use Rattle.tl_bench.proofs.publishing.take_some.Given as goal
 
@@ -6,6 +8,8 @@ abbrev pub invariant-loop-lane : goal.invariant-loop-lane
 invariant-loop-lane g l = IsOperating (record {
   origin = string_bytes l.operator.origin;
   signers = map (λ b. (goal.Signer-dyn g (b.vtable, b.value)).signing_key b.value) l.operator.signers.items;
+  quorum = record { witnesses = map (λ b. (goal.Verifier-dyn g (b.vtable, b.value)).key b.value) l.operator.witnesses.items; need = l.operator.need };
   log = l.operator.run.log;
+  proposal = option_map (λ note. record { entries = take l.operator.run.grown (entries_of l.operator.run.log); note = string_bytes note }) l.operator.proposal;
   past = l.operator.run.past;
 })

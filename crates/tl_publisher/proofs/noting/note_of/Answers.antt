@@ -1,4 +1,4 @@
-use Rattle.std.proofs.Common.{map, vec_items, sym, ap, subst, ◌∙◌}
+use Rattle.std.proofs.Common.{map, string_bytes, sym, subst, ◌∙◌}
 use Rattle.std.specs.Global.{Global}
 use Rattle.tl_note.specs.Note.{IsNoteText}
 use Rattle.tl_publisher.specs.Signed.{IsSignedNote, no_quorum}
@@ -8,8 +8,7 @@ use Rattle.tl_publisher.proofs.noting.note_of.Goals as goal
 pub returns-in-Ok : goal.returns-in-Ok
 returns-in-Ok g c =
     let keys = map (λ b. (goal.Signer-dyn g (b.vtable, b.value)).signing_key b.value) c.args.signers.now in
-    subst (λ t. IsSignedNote keys no_quorum t c.into_bytes.result.items) (c.as_str.ensures.value ∙ c.in_ok-text.ensures.text)
-    (subst (IsSignedNote keys no_quorum c.as_str.result.now) (sym (ap vec_items c.into_bytes.ensures.value)) (signed_plain keys _ _ c.in-Ok.ensures))
+    subst (λ t. IsSignedNote keys no_quorum t (string_bytes c.in-Ok.note)) (c.as_str.ensures.value ∙ c.in_ok-text.ensures.text) (signed_plain keys _ _ c.in-Ok.ensures)
 
 pub refusal-requires : goal.refusal-requires
 refusal-requires g c =

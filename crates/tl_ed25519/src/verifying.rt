@@ -1,0 +1,79 @@
+//! Checks of signatures and of public keys (RFC 8032, sections 5.1.3 and 5.1.7).
+
+ghost use Rattle.std.specs.Prelude.{◌≡◌, Option};
+ghost use Rattle.std.specs.Str.{bytes_eq};
+ghost use Rattle.tl_ed25519.specs.Curve as curve;
+ghost use Rattle.tl_ed25519.specs.Eddsa.{accepts, expected, has_small_order, is_sound};
+
+use crate::halves::{first_half, second_half};
+use crate::hashing::number_of_three;
+use crate::point::Point;
+use crate::words::Words;
+
+// The bytes that R must have, where the key is a point.
+fn expected_point(key: &[u8; 32], s: Words, k: Words) -> Option<[u8; 32]>
+    ensures { result ≡ expected (curve.decode key.now) s k }
+{
+    let Some(point) = Point::decode(key) else {
+        return None;
+    };
+    let base = Point::base();
+    let first = base.multiply(s);
+    let negated = point.negate();
+    let second = negated.multiply(k);
+    let sum = first.add(&second);
+    Some(sum.encode())
+}
+
+// Whether two runs of bytes are equal.
+fn equal_bytes(first: &[u8], second: &[u8]) -> bool
+    ensures { result ≡ bytes_eq first.now second.now }
+{
+    first == second
+}
+
+/// Whether a signature of a message stands under a public key (RFC 8032, section 5.1.7, with no cofactor).
+///
+/// It is false where the key is no point's canonical spelling, where S isn't below L, and where the bytes of R
+/// aren't those of S * B - k * A. It takes keys of small order: `is_sound` tells them.
+/// Its time depends on what it is given, and all of that is public.
+pub fn verify(key: &[u8; 32], message: &[u8], signature: &[u8; 64]) -> bool
+    ensures { result ≡ accepts key.now message.now signature.now }
+{
+    let point = first_half(signature);
+    let rest = second_half(signature);
+    let s = Words::from_bytes(rest);
+    if s.is_below(&Words::order()) {
+        let k = number_of_three(point, key, message);
+        let Some(wanted) = expected_point(key, s.again(), k) else {
+            return false;
+        };
+        return equal_bytes(&wanted, point);
+    }
+    false
+}
+
+// Whether 8 times a point is the neutral one.
+fn has_small_order(point: Point) -> bool
+    ensures { result ≡ has_small_order point }
+{
+    let multiple = point.multiply(Words(8, 0, 0, 0));
+    let bytes = multiple.encode();
+    let neutral = Point::neutral();
+    let neutral_bytes = neutral.encode();
+    equal_bytes(&bytes, &neutral_bytes)
+}
+
+/// Whether 32 bytes are a public key fit for use.
+///
+/// It is true where they are the one canonical spelling of a point (RFC 8032, section 5.1.3), and 8, the curve's
+/// cofactor (section 5.1), times that point isn't the neutral point. Under a key of small order anyone can make
+/// signatures that stand.
+pub fn is_sound(key: &[u8; 32]) -> bool
+    ensures { result ≡ is_sound key.now }
+{
+    let Some(point) = Point::decode(key) else {
+        return false;
+    };
+    !has_small_order(point)
+}

@@ -1,0 +1,8 @@
+use Rattle.std.specs.Prelude.{string_bytes}
+use Rattle.tl_key.proofs.Written.{verifier_written}
+use Rattle.tl_key.proofs.verifier.write_verifier_key.Goals as goal
+
+pub returns-clause-lawful : goal.returns-clause-lawful
+returns-clause-lawful g c =
+    verifier_written g.K.KeyKind.KIND c.KIND.result c.key.inside.id (string_bytes c.key.inside.name) c.as_str.result.now (string_bytes c.in_ok-text.text) c.key.inside.key (string_bytes c.push_tail.new.text) c.args.key.now
+    c.key.view_is c.key.invariant c.KIND.ensures c.push_tail.ensures.fit c.as_str.ensures.value c.in_ok-text.ensures.ok c.in_ok-push_tail.ensures.text

@@ -1,0 +1,3 @@
+-- Private words: the steps of reading a key's text.
+pub
+    mod Parts

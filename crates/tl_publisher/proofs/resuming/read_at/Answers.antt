@@ -1,0 +1,20 @@
+use Rattle.std.proofs.Common.{map, vec_items, sym, subst, ◌∙◌, arith}
+use Rattle.std.specs.Prelude.{Err}
+use Rattle.std.specs.Global.{Global}
+use Rattle.std.proofs.lemmas.List.{length-map}
+use Rattle.tl_tile.specs.ReadBundle.{ReadsBundle}
+use Rattle.tl_publisher.specs.Inner.Resuming.{MissesBundle}
+use Rattle.tl_publisher.proofs.Resumptions.{item_at, bundle_refused}
+use Rattle.tl_publisher.proofs.resuming.read_at.Goals as goal
+
+pub returns-in-Err : goal.returns-in-Err
+returns-in-Err c = record {
+  entries = tt;
+  text = tt;
+  refused = λ before.
+      let many = length-map c.args.bundles.now vec_items in
+      let bytes = item_at c.args.bundles.now c.args.place c.index-bundles-place.result c.requires.within c.index-bundles-place.is ∙ sym c.deref.ensures.value in
+      subst (MissesBundle (map vec_items c.args.bundles.now) c.args.size) (sym c.bundle_refusal.ensures)
+      (bundle_refused Global (map vec_items c.args.bundles.now) c.args.size c.args.place c.deref.result.now c.in-Err.fault (omega (arith, many, c.requires.within)) bytes
+      (subst (λ w. ReadsBundle {A = Global} c.deref.result.now w (Err c.in-Err.fault)) c.width_at-width.ensures.value c.in-Err.ensures) before);
+}

@@ -1,0 +1,95 @@
+//! How the lines of witnesses make a proposal a publication.
+
+ghost use Rattle.std.specs.Prelude.{◌≡◌, ◌<◌, IfOk, Some, length, string_bytes};
+ghost use Rattle.std.specs.List.{All};
+ghost use Rattle.tl_publisher.specs.Histories.{Prefix};
+ghost use Rattle.tl_publisher.specs.Inner.Attaching.{CosignsNote, CutsLines, HasBehind};
+ghost use Rattle.tl_publisher.specs.Operating.{IsOfSame, IsOperating};
+ghost use Rattle.tl_publisher.specs.Proposing.{Attaches};
+
+use crate::fault::AttachFault;
+use crate::noting::text_of;
+use crate::operator::{Operator, Shown};
+use crate::published::Published;
+use std::alloc::{AllocError, Global};
+use std::sync::Wait;
+use tl_checkpoint::{Cosigned, first_cosignatures};
+use tl_note::{NoteFault, SigView, parse_signatures};
+
+// The note, and the lines that were found behind its own.
+fn with_lines(
+    note: &String,
+    lines: &[SigView<'_>],
+    found: &[Cosigned],
+) -> Result<String, AllocError>
+    requires { All (λ c. c.line < length lines.now) found.now }
+    ensures { IfOk result (λ whole. HasBehind (string_bytes note.now) lines.now found.now (string_bytes whole)) }
+{
+    let mut whole = note.clone()?;
+    for cosigned in found {
+        lines[cosigned.line].push_to(&mut whole)?;
+    }
+    Ok(whole)
+}
+
+// The lines of a text.
+fn lines_of(alloc: Global, text: &str) -> Result<Vec<SigView<'_>>, AttachFault>
+    ensures { CutsLines text.now result }
+{
+    match parse_signatures(alloc, text) {
+        Ok(lines) => Ok(lines),
+        Err(NoteFault::OutOfMemory) => Err(AttachFault::OutOfMemory),
+        Err(_) => Err(AttachFault::Malformed),
+    }
+}
+
+impl<R: Wait + Drop> Operator<R> {
+    // The note of what is proposed with the lines of enough witnesses behind its own.
+    fn cosigned(&self, note: &String, lines: &str) -> Result<Vec<u8>, AttachFault>
+        requires { IsOperating (⟦<Operator<R> as Shown>⟧.shown self.now) }
+        ensures { (q : Prefix) → (⟦<Operator<R> as Shown>⟧.shown self.now).proposal ≡ Some q → q.note ≡ string_bytes note.now → CosignsNote lines.now (⟦<Operator<R> as Shown>⟧.shown self.now) q result }
+    {
+        let lines = lines_of(self.alloc, lines)?;
+        let text = text_of(self.alloc, self.origin.as_str(), self.run.grown())?;
+        let found = first_cosignatures(
+            self.alloc,
+            text.as_str(),
+            &lines,
+            self.witnesses.as_slice(),
+        )?;
+        if found.len() < self.need as usize {
+            return Err(AttachFault::TooFew(found.len() as u32));
+        }
+        let whole = with_lines(note, &lines, &found)?;
+        Ok(whole.into_bytes())
+    }
+
+    // Publishes what was proposed, where these are the lines of enough witnesses.
+    fn attach_lines(&mut self, lines: &str) -> Result<Published, AttachFault>
+        requires { IsOperating (⟦<Operator<R> as Shown>⟧.shown self.old) }
+        ensures keys { IsOfSame (⟦<Operator<R> as Shown>⟧.shown self.old) (⟦<Operator<R> as Shown>⟧.shown self.new) }
+        ensures attached { Attaches lines.now (⟦<Operator<R> as Shown>⟧.shown self.old) (⟦<Operator<R> as Shown>⟧.shown self.new) result }
+    {
+        let Some(note) = &self.proposal else {
+            return Err(AttachFault::NoProposal);
+        };
+        let whole = self.cosigned(note, lines)?;
+        let published = self.run.show(whole)?;
+        self.proposal = None;
+        Ok(published)
+    }
+
+    /// Publishes what was proposed in one step, once enough witnesses have cosigned it: its checkpoint has the signers'
+    /// lines and then the first valid line of each witness, in the order of these lines, which are what witnesses
+    /// answer (C2SP tlog-witness). All other lines are left out. Entries taken since then wait. `TooFew`: so many
+    /// witnesses have a valid line. A call that is refused keeps the proposal. It waits until no reader looks at what
+    /// is replaced.
+    pub fn attach(&mut self, lines: &str) -> Result<Published, AttachFault>
+        requires { IsOperating (⟦<Operator<R> as Shown>⟧.shown self.old) }
+        ensures operating { IsOperating (⟦<Operator<R> as Shown>⟧.shown self.new) }
+        ensures keys { IsOfSame (⟦<Operator<R> as Shown>⟧.shown self.old) (⟦<Operator<R> as Shown>⟧.shown self.new) }
+        ensures attached { Attaches lines.now (⟦<Operator<R> as Shown>⟧.shown self.old) (⟦<Operator<R> as Shown>⟧.shown self.new) result }
+    {
+        self.attach_lines(lines)
+    }
+}

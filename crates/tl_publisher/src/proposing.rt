@@ -1,0 +1,117 @@
+//! Who must cosign a checkpoint before it is shown, and what is proposed to them.
+
+ghost use Rattle.std.specs.Prelude.{◌≡◌, ◌↔◌, IfErr, IfOk, IsTrue, MatchOption, map, string_bytes};
+ghost use Rattle.tl_checkpoint.specs.Quorum.{AreApart};
+ghost use Rattle.tl_publisher.specs.Operating.{IsOfSame, IsOperating};
+ghost use Rattle.tl_publisher.specs.Proposing.{IsEarly, IsProposed, IsRequired, MayNeed, ProposeRefuses, RequireRefuses};
+ghost use Rattle.tl_publisher.specs.Publishing.{IsSame};
+
+use crate::fault::{PublishFault, RequireFault};
+use crate::noting::note_of;
+use crate::operator::{Operator, Shown};
+use std::sync::Wait;
+use tl_checkpoint::are_apart;
+use tl_note::Verifier;
+
+const MOST_LINES: usize = 100;
+
+/// A checkpoint that the signers signed, for the witnesses: the number of its entries, and its note (C2SP signed-note),
+/// which an add-checkpoint request sends (C2SP tlog-witness).
+#[derive(Debug, Drop)]
+pub struct Proposal {
+    pub size: u64,
+    pub note: String,
+}
+
+/// Witnesses that were not required, as they were handed in, and why.
+#[derive(Drop)]
+pub struct RequireBack {
+    pub witnesses: Vec<Box<dyn Verifier>>,
+    /// The first reason that applies.
+    pub why: RequireFault,
+}
+
+impl<R: Wait + Drop> Operator<R> {
+    // Whether so many of these witnesses can be required.
+    fn may_need(&self, witnesses: &[Box<dyn Verifier>], need: u32) -> bool
+        ensures { IsTrue result ↔ MayNeed (⟦<Operator<R> as Shown>⟧.shown self.now) (record { witnesses = map (λ w. key w) witnesses.now; need = need }) }
+    {
+        if need < 1 || need as usize > witnesses.len() {
+            return false;
+        }
+        witnesses.len() <= MOST_LINES && self.signers.len() <= MOST_LINES - witnesses.len()
+    }
+
+    // Why these witnesses can't be required.
+    fn refusal(&self, witnesses: &[Box<dyn Verifier>], need: u32) -> Option<RequireFault>
+        ensures { MatchOption result
+            (IsEarly (⟦<Operator<R> as Shown>⟧.shown self.now) × MayNeed (⟦<Operator<R> as Shown>⟧.shown self.now) (record { witnesses = map (λ w. key w) witnesses.now; need = need }) × AreApart (map (λ w. key w) witnesses.now))
+            (RequireRefuses (⟦<Operator<R> as Shown>⟧.shown self.now) (record { witnesses = map (λ w. key w) witnesses.now; need = need })) }
+    {
+        if self.need > 0 || !self.run.is_unpublished() {
+            return Some(RequireFault::Late);
+        }
+        if !self.may_need(witnesses, need) {
+            return Some(RequireFault::Need);
+        }
+        if !are_apart(witnesses) {
+            return Some(RequireFault::Twice);
+        }
+        None
+    }
+
+    /// Requires that so many of these witnesses cosign each checkpoint before it is shown (C2SP tlog-cosignature). From
+    /// then on `propose` and `attach` stand in the place of `publish`. Of the faults that apply the first is answered;
+    /// the witnesses then come back and nothing has changed. It takes no memory and doesn't wait.
+    pub fn require(
+        &mut self,
+        witnesses: Vec<Box<dyn Verifier>>,
+        need: u32,
+    ) -> Result<(), RequireBack>
+        requires { IsOperating (⟦<Operator<R> as Shown>⟧.shown self.old) }
+        ensures operating { IsOperating (⟦<Operator<R> as Shown>⟧.shown self.new) }
+        ensures required { IfOk result (λ _. IsRequired (⟦<Operator<R> as Shown>⟧.shown self.old) (⟦<Operator<R> as Shown>⟧.shown self.new) (record { witnesses = map (λ w. key w) witnesses.items; need = need })) }
+        ensures same { IfErr result (λ _. ⟦<Operator<R> as Shown>⟧.shown self.new ≡ ⟦<Operator<R> as Shown>⟧.shown self.old) }
+        ensures back { IfErr result (λ back. back.witnesses ≡ witnesses) }
+        ensures why { IfErr result (λ back. RequireRefuses (⟦<Operator<R> as Shown>⟧.shown self.old) (record { witnesses = map (λ w. key w) witnesses.items; need = need }) back.why) }
+    {
+        if let Some(why) = self.refusal(witnesses.as_slice(), need) {
+            return Err(RequireBack { witnesses, why });
+        }
+        self.witnesses = witnesses;
+        self.need = need;
+        Ok(())
+    }
+
+    /// Signs the checkpoint of the log as it is, for the witnesses, and keeps it as what is proposed, in place of what
+    /// was before. Nothing is shown yet. `Quorum`: no witness is required. `NothingNew`: the last publication is of the
+    /// whole log. `Sign`: a signer gave no signature. A call that is refused changes nothing, and what was proposed
+    /// before stays. It doesn't wait.
+    pub fn propose(&mut self) -> Result<Proposal, PublishFault>
+        requires { IsOperating (⟦<Operator<R> as Shown>⟧.shown self.old) }
+        ensures operating { IsOperating (⟦<Operator<R> as Shown>⟧.shown self.new) }
+        ensures keys { IsOfSame (⟦<Operator<R> as Shown>⟧.shown self.old) (⟦<Operator<R> as Shown>⟧.shown self.new) }
+        ensures proposed { IfOk result (λ p. IsProposed (⟦<Operator<R> as Shown>⟧.shown self.old) (⟦<Operator<R> as Shown>⟧.shown self.new) p.size (string_bytes p.note)) }
+        ensures same { IfErr result (λ _. IsSame (⟦<Operator<R> as Shown>⟧.shown self.old) (⟦<Operator<R> as Shown>⟧.shown self.new)) }
+        ensures why { IfErr result (λ fault. ProposeRefuses (⟦<Operator<R> as Shown>⟧.shown self.old) fault) }
+    {
+        if self.need == 0 {
+            return Err(PublishFault::Quorum);
+        }
+        if self.run.is_published() {
+            return Err(PublishFault::NothingNew);
+        }
+        let next = self.run.next()?;
+        let note = note_of(
+            self.alloc,
+            self.origin.as_str(),
+            self.signers.as_slice(),
+            next.head(),
+        )?;
+        let copy = String::from_str(self.alloc, note.as_str())?;
+        let size = next.size();
+        self.run.adopt(next)?;
+        self.proposal = Some(note);
+        Ok(Proposal { size, note: copy })
+    }
+}
