@@ -1,0 +1,5 @@
+pub mod NoteBytes
+pub mod OtherTexts
+pub mod NoCheckpoints
+pub mod Runs
+pub mod KeyRuns
