@@ -15,7 +15,7 @@ use Rattle.tl_checkpoint.specs.declared.opening.OpenCheckpointFault.TheVariants.
 use Rattle.tl_command.specs.declared.fault.RunFault.{RunFault}
 use Rattle.tl_open.specs.CheckOpened.{IsNoCheckpoint}
 use Rattle.tl_open.specs.Inner.Notes.{OpensBytes, after_opening}
-use Rattle.tl_open.proofs.OtherTexts.{no_text}
+use Rattle.tl_checkpoint.proofs.OtherTexts.{no_text}
 
 -- a note of another text is none of a checkpoint
 other_text : (A : Type 0) (bytes : List ℕ) (keys : List Key) (fault : CheckpointFault) → HasOtherText A bytes keys fault → fault ≢ checkpoint.OutOfMemory → IsNoCheckpoint bytes

@@ -13,7 +13,7 @@ use Rattle.tl_checkpoint.specs.declared.checkpoint.CheckpointFault.{CheckpointFa
 use Rattle.tl_checkpoint.specs.declared.checkpoint.CheckpointFault.TheVariants.{Lines, Origin, Size, Root, OutOfMemory}
 
 -- the lines of a checkpoint
-abbrev pub lines_of : Head → List (List ℕ)
+abbrev lines_of : Head → List (List ℕ)
 lines_of h = h.origin ∷ number_text h.size ∷ base64_text h.root ∷ h.extensions
 
 joined : (h : Head) → checkpoint_text h ≡ flat_map line (lines_of h)
@@ -27,7 +27,7 @@ joined h =
 plain_ones : (texts : List (List ℕ)) → All IsOneLine texts → All HasNoControl texts
 plain_ones texts each = λ k d lt. (each k d lt).plain
 
-pub in_lines : (text : List ℕ) (h : Head) → IsHead h → text ≡ checkpoint_text h → IsInLines text (lines_of h)
+in_lines : (text : List ℕ) (h : Head) → IsHead h → text ≡ checkpoint_text h → IsInLines text (lines_of h)
 in_lines text h is e = record {
   joined = e ∙ joined h;
   plain =
