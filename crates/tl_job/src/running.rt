@@ -75,7 +75,7 @@ fn check_under<H: Files, R: Read, W: Write>(
     alloc: Global,
     checkpoint: &str,
     key: &str,
-    entry: Option<&[u8]>,
+    entry: Option<&str>,
     reader: &mut Counted<R>,
     writer: &mut Counted<W>,
 ) -> Result<(), RunFault>
@@ -85,6 +85,7 @@ fn check_under<H: Files, R: Read, W: Write>(
         Ok(bytes) => bytes,
         Err(fault) => return Err(fault),
     };
+    let entry = entry.map(|entry| entry.as_bytes());
     run_check_opened(alloc, key, bytes.as_slice(), entry, reader, writer)
 }
 
@@ -101,32 +102,21 @@ pub fn run_job<H: Threads + Sync + Files + RandomSource, R: Read, W: Write, E: W
     ensures { RunsJob job (passage R.remaining reader.old reader.new) (passage W.contents writer.old writer.new) (passage E.contents errors.old errors.new) result }
 {
     match job {
-        Job::Head { origin, threads } => run_head(
-            rt,
-            alloc,
-            alloc,
-            threads_of(rt, threads),
-            origin.as_str(),
-            reader,
-            writer,
-        ),
+        Job::Head { origin, threads } => {
+            let threads = threads_of(rt, threads);
+            run_head(rt, alloc, alloc, threads, &origin, reader, writer)
+        }
         Job::Build {
             origin,
             secret,
             get,
         } => {
-            let key = Demonstration::new(origin.as_str(), secret.as_bytes());
+            let key = Demonstration::new(&origin, secret.as_bytes());
             run_build(alloc, alloc, &key, get.as_deref(), reader, writer)
         }
-        Job::BuildSigned { origin, key, get } => build_signed(
-            rt,
-            alloc,
-            origin.as_str(),
-            key.as_str(),
-            get.as_deref(),
-            reader,
-            writer,
-        ),
+        Job::BuildSigned { origin, key, get } => {
+            build_signed(rt, alloc, &origin, &key, get.as_deref(), reader, writer)
+        }
         Job::Inclusion { index } => run_inclusion(alloc, index, reader, writer),
         Job::Consistency { old } => run_consistency(alloc, old, reader, writer),
         Job::Check => run_check(alloc, reader, writer),
@@ -134,19 +124,21 @@ pub fn run_job<H: Threads + Sync + Files + RandomSource, R: Read, W: Write, E: W
             checkpoint,
             key,
             entry,
-        } => check_under(
-            rt,
-            alloc,
-            checkpoint.as_str(),
-            key.as_str(),
-            entry.as_ref().map(|entry| entry.as_bytes()),
-            reader,
-            writer,
-        ),
-        Job::Keygen { name, is_cosigner } => {
-            make_key(rt, alloc, name.as_str(), is_cosigner, writer, errors)
+        } => {
+            check_under(
+                rt,
+                alloc,
+                &checkpoint,
+                &key,
+                entry.as_deref(),
+                reader,
+                writer,
+            )
         }
-        Job::Open { key } => run_open(alloc, key.as_str(), reader, writer),
+        Job::Keygen { name, is_cosigner } => {
+            make_key(rt, alloc, &name, is_cosigner, writer, errors)
+        }
+        Job::Open { key } => run_open(alloc, &key, reader, writer),
         Job::Audit => run_audit(alloc, Sha256Tree, reader, writer),
     }
 }
