@@ -7,6 +7,7 @@ mod proving;
 mod publishing;
 mod reading;
 mod rings;
+mod signing;
 mod together;
 
 use chains::chains;
@@ -15,6 +16,7 @@ use publishing::publish;
 use reading::tiles;
 use rings::sequencer;
 use sha2::{Digest, Sha256};
+use signing::keys;
 use std::alloc::Global;
 use std::process::ExitCode;
 use std::sync::Wait;
@@ -94,13 +96,14 @@ fn main(rt: HostRuntime) -> ExitCode {
         [_, word] if word.as_str() == "tiles" => tiles(&rt, rt.alloc()),
         [_, word, batch] if word.as_str() == "publish" => published(&rt, rt.alloc(), batch),
         [_, word] if word.as_str() == "chains" => chains(&rt, rt.alloc()),
+        [_, word] if word.as_str() == "keys" => keys(&rt),
         _ => Ok(false),
     };
     match outcome {
         Ok(true) => ExitCode::SUCCESS,
         Ok(false) => {
             let _ = rt.eprintln(
-                "usage: tl_bench sha256 COUNT LENGTH .. | sequencer | proofs | tiles | publish COUNT | chains",
+                "usage: tl_bench sha256 COUNT LENGTH .. | sequencer | proofs | tiles | publish COUNT | chains | keys",
             );
             ExitCode::from(2)
         }

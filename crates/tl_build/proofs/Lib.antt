@@ -2,5 +2,6 @@ pub mod NeededParts
 pub mod Bundles
 pub mod Lengths
 pub mod TileHashes
-pub mod DemoNotes
+pub mod Names
 pub mod Wanted
+pub mod SignedRuns

@@ -20,7 +20,7 @@ use Rattle.tl_command.specs.declared.fault.RunFault.{RunFault}
 use Rattle.tl_command.specs.declared.fault.RunFault.TheVariants as fault
 use Rattle.tl_command.proofs.Asking.{gave_entry, none_too_long}
 use Rattle.tl_command.proofs.LinesLemmas.{length-entries_of, entries_of_nothing}
-use Rattle.tl_build.specs.Mirror.{checkpoint_note, mirrored, resource_text, listing_text}
+use Rattle.tl_build.specs.Mirror.{LogKey, checkpoint_note, mirrored, resource_text, listing_text}
 use Rattle.tl_build.specs.Build.{IsPrinted, IsMissing, BuildComes, IsLawfulPath, RunsBuild}
 use Rattle.tl_build.specs.Inner.Steps.{IsAsked, IsServed, IsShown, AnswersWanted, WantedComes}
 use Rattle.tl_build.proofs.NeededParts.{LiesIn, lies, lawful}
@@ -69,44 +69,49 @@ asked_lawful (Some path) None asked = absurd asked
 asked_lawful (Some path) (Some r) asked = (r, asked.0, asked.1)
 
 -- what comes of an input where a resource is wanted is what comes where its path is asked for
-wanted_comes : (origin secret : List ℕ) (get : Option (List ℕ)) (wanted : Option Resource) (input : List ℕ) (outcome : Output) → length input ≤ most_input
-    → IsAsked get wanted → WantedComes origin secret wanted input outcome → BuildComes origin secret get input outcome
-wanted_comes origin secret get wanted input (Prints text) fits asked comes =
-    (comes.0, asked_shown (checkpoint_note origin secret (entries_of input)) (entries_of input) get wanted text asked comes.1)
-wanted_comes origin secret get wanted input (PrintsRefusal text) fits asked comes = absurd comes
-wanted_comes origin secret get wanted input (Fails fault.NotThere) fits asked comes =
+wanted_comes : (key : LogKey) (get : Option (List ℕ)) (wanted : Option Resource) (input : List ℕ) (outcome : Output) → length input ≤ most_input
+    → IsAsked get wanted → WantedComes key wanted input outcome → BuildComes key get input outcome
+wanted_comes key get wanted input (Prints text) fits asked comes =
+    (comes.0, asked_shown (checkpoint_note key (entries_of input)) (entries_of input) get wanted text asked comes.1)
+wanted_comes key get wanted input (PrintsRefusal text) fits asked comes = absurd comes
+wanted_comes key get wanted input (Fails fault.NotThere) fits asked comes =
     (comes.0, asked_missing (length (entries_of input)) get wanted (omega (arith, fits, length-entries_of input)) asked comes.1)
-wanted_comes origin secret get wanted input (Fails (fault.EntryTooLong place)) fits asked comes = comes
-wanted_comes origin secret get wanted input (Fails fault.Refused) fits asked comes = absurd comes
-wanted_comes origin secret get wanted input (Fails fault.Read) fits asked comes = absurd comes
-wanted_comes origin secret get wanted input (Fails fault.Write) fits asked comes = absurd comes
-wanted_comes origin secret get wanted input (Fails fault.TooLarge) fits asked comes = absurd comes
-wanted_comes origin secret get wanted input (Fails fault.BadOrigin) fits asked comes = absurd comes
-wanted_comes origin secret get wanted input (Fails fault.BadIndex) fits asked comes = absurd comes
-wanted_comes origin secret get wanted input (Fails fault.BadOld) fits asked comes = absurd comes
-wanted_comes origin secret get wanted input (Fails fault.BadPath) fits asked comes = absurd comes
-wanted_comes origin secret get wanted input (Fails fault.Malformed) fits asked comes = absurd comes
-wanted_comes origin secret get wanted input (Fails (fault.Chain place)) fits asked comes = absurd comes
-wanted_comes origin secret get wanted input (Fails fault.Sign) fits asked comes = absurd comes
-wanted_comes origin secret get wanted input (Fails fault.Operator) fits asked comes = absurd comes
-wanted_comes origin secret get wanted input (Fails fault.Listen) fits asked comes = absurd comes
-wanted_comes origin secret get wanted input (Fails fault.Accept) fits asked comes = absurd comes
-wanted_comes origin secret get wanted input (Fails fault.OutOfMemory) fits asked comes = absurd comes
+wanted_comes key get wanted input (Fails (fault.EntryTooLong place)) fits asked comes = comes
+wanted_comes key get wanted input (Fails fault.Refused) fits asked comes = absurd comes
+wanted_comes key get wanted input (Fails fault.Read) fits asked comes = absurd comes
+wanted_comes key get wanted input (Fails fault.Write) fits asked comes = absurd comes
+wanted_comes key get wanted input (Fails fault.TooLarge) fits asked comes = absurd comes
+wanted_comes key get wanted input (Fails fault.BadOrigin) fits asked comes = absurd comes
+wanted_comes key get wanted input (Fails fault.BadIndex) fits asked comes = absurd comes
+wanted_comes key get wanted input (Fails fault.BadOld) fits asked comes = absurd comes
+wanted_comes key get wanted input (Fails fault.BadPath) fits asked comes = absurd comes
+wanted_comes key get wanted input (Fails fault.Malformed) fits asked comes = absurd comes
+wanted_comes key get wanted input (Fails (fault.Chain place)) fits asked comes = absurd comes
+wanted_comes key get wanted input (Fails fault.Sign) fits asked comes = absurd comes
+wanted_comes key get wanted input (Fails fault.Operator) fits asked comes = absurd comes
+wanted_comes key get wanted input (Fails fault.Listen) fits asked comes = absurd comes
+wanted_comes key get wanted input (Fails fault.Accept) fits asked comes = absurd comes
+wanted_comes key get wanted input (Fails fault.BadName) fits asked comes = absurd comes
+wanted_comes key get wanted input (Fails fault.BadKey) fits asked comes = absurd comes
+wanted_comes key get wanted input (Fails fault.BadCheckpoint) fits asked comes = absurd comes
+wanted_comes key get wanted input (Fails (fault.WrongSignature place)) fits asked comes = absurd comes
+wanted_comes key get wanted input (Fails fault.Unverified) fits asked comes = absurd comes
+wanted_comes key get wanted input (Fails fault.OutOfMemory) fits asked comes = absurd comes
 
-came : (origin secret : List ℕ) (get : Option (List ℕ)) (wanted : Option Resource) (i : Passage) (outcome : Output) → IsAsked get wanted
-    → CameOf (WantedComes origin secret wanted) i outcome → CameOf (BuildComes origin secret get) i outcome
-came origin secret get wanted i outcome asked is =
-    record { input = is.input; whole = is.whole; so = wanted_comes origin secret get wanted is.input outcome is.whole.fits asked is.so }
+came : (key : LogKey) (get : Option (List ℕ)) (wanted : Option Resource) (i : Passage) (outcome : Output) → IsAsked get wanted
+    → CameOf (WantedComes key wanted) i outcome → CameOf (BuildComes key get) i outcome
+came key get wanted i outcome asked is =
+    record { input = is.input; whole = is.whole; so = wanted_comes key get wanted is.input outcome is.whole.fits asked is.so }
 
-never : (origin secret : List ℕ) (get : Option (List ℕ)) (wanted : Option Resource) (i o : Passage) (outcome : Output) → IsAsked get wanted
-    → CameOf (WantedComes origin secret wanted) i outcome × IsUnwritten o → CameOf (BuildComes origin secret get) i outcome × IsUnwritten o
-never origin secret get wanted i o outcome asked is = (came origin secret get wanted i outcome asked is.0, is.1)
+never : (key : LogKey) (get : Option (List ℕ)) (wanted : Option Resource) (i o : Passage) (outcome : Output) → IsAsked get wanted
+    → CameOf (WantedComes key wanted) i outcome × IsUnwritten o → CameOf (BuildComes key get) i outcome × IsUnwritten o
+never key get wanted i o outcome asked is = (came key get wanted i outcome asked is.0, is.1)
 
-asking : (origin secret : List ℕ) (get : Option (List ℕ)) (wanted : Option Resource) (i : Passage) → IsAsked get wanted → IsAsking (WantedComes origin secret wanted) i → IsAsking (BuildComes origin secret get) i
-asking origin secret get wanted i asked asks =
-    elim asks as (λ _. IsAsking (BuildComes origin secret get) i) [
+asking : (key : LogKey) (get : Option (List ℕ)) (wanted : Option Resource) (i : Passage) → IsAsked get wanted → IsAsking (WantedComes key wanted) i → IsAsking (BuildComes key get) i
+asking key get wanted i asked asks =
+    elim asks as (λ _. IsAsking (BuildComes key get) i) [
       | inl gave ↦ inl gave
-      | inr (text, comes) ↦ inr (text, wanted_comes origin secret get wanted [] (Prints text) (omega arith) asked comes)
+      | inr (text, comes) ↦ inr (text, wanted_comes key get wanted [] (Prints text) (omega arith) asked comes)
     ]
 
 -- a log of no entries has no tile and no bundle
@@ -129,42 +134,47 @@ shown_of_none : (note : List ℕ) (entries : List (List ℕ)) (wanted : Option R
 shown_of_none note entries None none served = (listing_text note entries (mirrored (length entries)), refl)
 shown_of_none note entries (Some r) none served = (resource_text note entries r, (subst (λ (es : List (List ℕ)). Contains (mirrored (length es)) r) (sym none) served, refl))
 
-pub asks_for : (origin secret : List ℕ) (wanted : Option Resource) (i : Passage) (entries : List (List ℕ)) → ReadEntries i most_input entries → (0 < length entries) ⊎ IsServed (mirrored 0) wanted
-    → IsAsking (WantedComes origin secret wanted) i
-asks_for origin secret wanted i entries read either =
-    elim either as (λ _. IsAsking (WantedComes origin secret wanted) i) [
+pub asks_for : (key : LogKey) (wanted : Option Resource) (i : Passage) (entries : List (List ℕ)) → ReadEntries i most_input entries → (0 < length entries) ⊎ IsServed (mirrored 0) wanted
+    → IsAsking (WantedComes key wanted) i
+asks_for key wanted i entries read either =
+    elim either as (λ _. IsAsking (WantedComes key wanted) i) [
       | inl some ↦ inl (gave_entry i most_input entries read some)
       | inr served ↦
-          let shown = shown_of_none (checkpoint_note origin secret (entries_of [])) (entries_of []) wanted (entries_of_nothing [] refl) served in
+          let shown = shown_of_none (checkpoint_note key (entries_of [])) (entries_of []) wanted (entries_of_nothing [] refl) served in
           inr (shown.0, (none_too_long, shown.1))
     ]
 
 -- a run for a resource that is wanted is a run for the path that was asked for
-pub runs_build : (origin secret : List ℕ) (get : Option (List ℕ)) (wanted : Option Resource) (i o : Passage) (r : Result (Unit {0}) RunFault) → IsKeyName origin → IsAsked get wanted
-    → Runs (WantedComes origin secret wanted) i o r → RunsBuild origin secret get i o r
-runs_build origin secret get wanted i o (Ok done) named asked runs = (named, asked_lawful get wanted asked, record { text = runs.text; came = came origin secret get wanted i (Prints runs.text) asked runs.came; written = runs.written })
-runs_build origin secret get wanted i o (Err fault.Refused) named asked runs = (named, asked_lawful get wanted asked, record { text = runs.text; came = came origin secret get wanted i (PrintsRefusal runs.text) asked runs.came; written = runs.written })
-runs_build origin secret get wanted i o (Err fault.Read) named asked runs = (named, asked_lawful get wanted asked, runs)
-runs_build origin secret get wanted i o (Err fault.Write) named asked runs =
-    let either = elim runs.came as (λ _. CameOf (BuildComes origin secret get) i (Prints runs.text) ⊎ CameOf (BuildComes origin secret get) i (PrintsRefusal runs.text)) [
-      | inl printed ↦ inl (came origin secret get wanted i (Prints runs.text) asked printed)
-      | inr refused ↦ inr (came origin secret get wanted i (PrintsRefusal runs.text) asked refused)
+pub runs_build : (key : LogKey) (get : Option (List ℕ)) (wanted : Option Resource) (i o : Passage) (r : Result (Unit {0}) RunFault) → IsKeyName key.name → IsAsked get wanted
+    → Runs (WantedComes key wanted) i o r → RunsBuild key get i o r
+runs_build key get wanted i o (Ok done) named asked runs = (named, asked_lawful get wanted asked, record { text = runs.text; came = came key get wanted i (Prints runs.text) asked runs.came; written = runs.written })
+runs_build key get wanted i o (Err fault.Refused) named asked runs = (named, asked_lawful get wanted asked, record { text = runs.text; came = came key get wanted i (PrintsRefusal runs.text) asked runs.came; written = runs.written })
+runs_build key get wanted i o (Err fault.Read) named asked runs = (named, asked_lawful get wanted asked, runs)
+runs_build key get wanted i o (Err fault.Write) named asked runs =
+    let either = elim runs.came as (λ _. CameOf (BuildComes key get) i (Prints runs.text) ⊎ CameOf (BuildComes key get) i (PrintsRefusal runs.text)) [
+      | inl printed ↦ inl (came key get wanted i (Prints runs.text) asked printed)
+      | inr refused ↦ inr (came key get wanted i (PrintsRefusal runs.text) asked refused)
     ] in
     (named, asked_lawful get wanted asked, record { text = runs.text; came = either; part = runs.part })
-runs_build origin secret get wanted i o (Err fault.TooLarge) named asked runs = (named, asked_lawful get wanted asked, runs)
-runs_build origin secret get wanted i o (Err fault.OutOfMemory) named asked runs = (named, asked_lawful get wanted asked, (runs.0, runs.1, asking origin secret get wanted i asked runs.2))
-runs_build origin secret get wanted i o (Err fault.BadOrigin) named asked runs = absurd runs.0.so
-runs_build origin secret get wanted i o (Err fault.BadPath) named asked runs = absurd runs.0.so
-runs_build origin secret get wanted i o (Err (fault.EntryTooLong place)) named asked runs = (named, asked_lawful get wanted asked, never origin secret get wanted i o (Fails (fault.EntryTooLong place)) asked runs)
-runs_build origin secret get wanted i o (Err fault.BadIndex) named asked runs = (named, asked_lawful get wanted asked, never origin secret get wanted i o (Fails fault.BadIndex) asked runs)
-runs_build origin secret get wanted i o (Err fault.BadOld) named asked runs = (named, asked_lawful get wanted asked, never origin secret get wanted i o (Fails fault.BadOld) asked runs)
-runs_build origin secret get wanted i o (Err fault.NotThere) named asked runs = (named, asked_lawful get wanted asked, never origin secret get wanted i o (Fails fault.NotThere) asked runs)
-runs_build origin secret get wanted i o (Err fault.Malformed) named asked runs = (named, asked_lawful get wanted asked, never origin secret get wanted i o (Fails fault.Malformed) asked runs)
-runs_build origin secret get wanted i o (Err (fault.Chain place)) named asked runs = (named, asked_lawful get wanted asked, never origin secret get wanted i o (Fails (fault.Chain place)) asked runs)
-runs_build origin secret get wanted i o (Err fault.Sign) named asked runs = (named, asked_lawful get wanted asked, never origin secret get wanted i o (Fails fault.Sign) asked runs)
-runs_build origin secret get wanted i o (Err fault.Operator) named asked runs = (named, asked_lawful get wanted asked, never origin secret get wanted i o (Fails fault.Operator) asked runs)
-runs_build origin secret get wanted i o (Err fault.Listen) named asked runs = (named, asked_lawful get wanted asked, never origin secret get wanted i o (Fails fault.Listen) asked runs)
-runs_build origin secret get wanted i o (Err fault.Accept) named asked runs = (named, asked_lawful get wanted asked, never origin secret get wanted i o (Fails fault.Accept) asked runs)
+runs_build key get wanted i o (Err fault.TooLarge) named asked runs = (named, asked_lawful get wanted asked, runs)
+runs_build key get wanted i o (Err fault.OutOfMemory) named asked runs = (named, asked_lawful get wanted asked, (runs.0, runs.1, asking key get wanted i asked runs.2))
+runs_build key get wanted i o (Err fault.BadOrigin) named asked runs = absurd runs.0.so
+runs_build key get wanted i o (Err fault.BadPath) named asked runs = absurd runs.0.so
+runs_build key get wanted i o (Err (fault.EntryTooLong place)) named asked runs = (named, asked_lawful get wanted asked, never key get wanted i o (Fails (fault.EntryTooLong place)) asked runs)
+runs_build key get wanted i o (Err fault.BadIndex) named asked runs = (named, asked_lawful get wanted asked, never key get wanted i o (Fails fault.BadIndex) asked runs)
+runs_build key get wanted i o (Err fault.BadOld) named asked runs = (named, asked_lawful get wanted asked, never key get wanted i o (Fails fault.BadOld) asked runs)
+runs_build key get wanted i o (Err fault.NotThere) named asked runs = (named, asked_lawful get wanted asked, never key get wanted i o (Fails fault.NotThere) asked runs)
+runs_build key get wanted i o (Err fault.Malformed) named asked runs = (named, asked_lawful get wanted asked, never key get wanted i o (Fails fault.Malformed) asked runs)
+runs_build key get wanted i o (Err (fault.Chain place)) named asked runs = (named, asked_lawful get wanted asked, never key get wanted i o (Fails (fault.Chain place)) asked runs)
+runs_build key get wanted i o (Err fault.Sign) named asked runs = (named, asked_lawful get wanted asked, never key get wanted i o (Fails fault.Sign) asked runs)
+runs_build key get wanted i o (Err fault.Operator) named asked runs = (named, asked_lawful get wanted asked, never key get wanted i o (Fails fault.Operator) asked runs)
+runs_build key get wanted i o (Err fault.Listen) named asked runs = (named, asked_lawful get wanted asked, never key get wanted i o (Fails fault.Listen) asked runs)
+runs_build key get wanted i o (Err fault.Accept) named asked runs = (named, asked_lawful get wanted asked, never key get wanted i o (Fails fault.Accept) asked runs)
+runs_build key get wanted i o (Err fault.BadName) named asked runs = (named, asked_lawful get wanted asked, never key get wanted i o (Fails fault.BadName) asked runs)
+runs_build key get wanted i o (Err fault.BadKey) named asked runs = (named, asked_lawful get wanted asked, never key get wanted i o (Fails fault.BadKey) asked runs)
+runs_build key get wanted i o (Err fault.BadCheckpoint) named asked runs = (named, asked_lawful get wanted asked, never key get wanted i o (Fails fault.BadCheckpoint) asked runs)
+runs_build key get wanted i o (Err (fault.WrongSignature place)) named asked runs = (named, asked_lawful get wanted asked, never key get wanted i o (Fails (fault.WrongSignature place)) asked runs)
+runs_build key get wanted i o (Err fault.Unverified) named asked runs = (named, asked_lawful get wanted asked, never key get wanted i o (Fails fault.Unverified) asked runs)
 
 -- the bytes of the resource that is wanted are the answer
 pub answers_some : (A : Type 0) (note n : List ℕ) (entries : List (List ℕ)) (size : ℕ) (wanted : Option Resource) (r : Resource) (result : Result (Vec ℕ A) RunFault) → wanted ≡ Some r
@@ -185,26 +195,31 @@ shows_all note n entries resources size wanted text is same count all spelled =
     subst (λ (w : Option Resource). IsShown note entries w text) (sym is) whole
 
 -- where there is no answer, the run has failed
-pub answer_fails : (A : Type 0) (origin secret : List ℕ) (wanted : Option Resource) (i o : Passage) (f : RunFault) (entries : List (List ℕ)) → ReadEntries i most_input entries → IsUnwritten o
-    → IsAsking (WantedComes origin secret wanted) i
-    → AnswersWanted {A = A} (checkpoint_note origin secret entries) entries wanted (Err f) → Runs (WantedComes origin secret wanted) i o (Err f)
-answer_fails A origin secret wanted i o fault.NotThere entries read none asks given =
+pub answer_fails : (A : Type 0) (key : LogKey) (wanted : Option Resource) (i o : Passage) (f : RunFault) (entries : List (List ℕ)) → ReadEntries i most_input entries → IsUnwritten o
+    → IsAsking (WantedComes key wanted) i
+    → AnswersWanted {A = A} (checkpoint_note key entries) entries wanted (Err f) → Runs (WantedComes key wanted) i o (Err f)
+answer_fails A key wanted i o fault.NotThere entries read none asks given =
     let short : first_too_long (entries_of read.input) ≡ None = sym (ap first_too_long read.lines) ∙ read.short in
     let absent : ¬ (IsServed (mirrored (length (entries_of read.input))) wanted) = subst (λ (es : List (List ℕ)). ¬ (IsServed (mirrored (length es)) wanted)) read.lines given in
     (record { input = read.input; whole = read.whole; so = (short, absent) }, none)
-answer_fails A origin secret wanted i o fault.OutOfMemory entries read none asks given = (read.whole.steady, none, asks)
-answer_fails A origin secret wanted i o fault.Refused entries read none asks given = absurd given
-answer_fails A origin secret wanted i o fault.Read entries read none asks given = absurd given
-answer_fails A origin secret wanted i o fault.Write entries read none asks given = absurd given
-answer_fails A origin secret wanted i o fault.TooLarge entries read none asks given = absurd given
-answer_fails A origin secret wanted i o (fault.EntryTooLong place) entries read none asks given = absurd given
-answer_fails A origin secret wanted i o fault.BadOrigin entries read none asks given = absurd given
-answer_fails A origin secret wanted i o fault.BadIndex entries read none asks given = absurd given
-answer_fails A origin secret wanted i o fault.BadOld entries read none asks given = absurd given
-answer_fails A origin secret wanted i o fault.BadPath entries read none asks given = absurd given
-answer_fails A origin secret wanted i o fault.Malformed entries read none asks given = absurd given
-answer_fails A origin secret wanted i o (fault.Chain place) entries read none asks given = absurd given
-answer_fails A origin secret wanted i o fault.Sign entries read none asks given = absurd given
-answer_fails A origin secret wanted i o fault.Operator entries read none asks given = absurd given
-answer_fails A origin secret wanted i o fault.Listen entries read none asks given = absurd given
-answer_fails A origin secret wanted i o fault.Accept entries read none asks given = absurd given
+answer_fails A key wanted i o fault.OutOfMemory entries read none asks given = (read.whole.steady, none, asks)
+answer_fails A key wanted i o fault.Refused entries read none asks given = absurd given
+answer_fails A key wanted i o fault.Read entries read none asks given = absurd given
+answer_fails A key wanted i o fault.Write entries read none asks given = absurd given
+answer_fails A key wanted i o fault.TooLarge entries read none asks given = absurd given
+answer_fails A key wanted i o (fault.EntryTooLong place) entries read none asks given = absurd given
+answer_fails A key wanted i o fault.BadOrigin entries read none asks given = absurd given
+answer_fails A key wanted i o fault.BadIndex entries read none asks given = absurd given
+answer_fails A key wanted i o fault.BadOld entries read none asks given = absurd given
+answer_fails A key wanted i o fault.BadPath entries read none asks given = absurd given
+answer_fails A key wanted i o fault.Malformed entries read none asks given = absurd given
+answer_fails A key wanted i o (fault.Chain place) entries read none asks given = absurd given
+answer_fails A key wanted i o fault.Sign entries read none asks given = absurd given
+answer_fails A key wanted i o fault.Operator entries read none asks given = absurd given
+answer_fails A key wanted i o fault.Listen entries read none asks given = absurd given
+answer_fails A key wanted i o fault.Accept entries read none asks given = absurd given
+answer_fails A key wanted i o fault.BadName entries read none asks given = absurd given
+answer_fails A key wanted i o fault.BadKey entries read none asks given = absurd given
+answer_fails A key wanted i o fault.BadCheckpoint entries read none asks given = absurd given
+answer_fails A key wanted i o (fault.WrongSignature place) entries read none asks given = absurd given
+answer_fails A key wanted i o fault.Unverified entries read none asks given = absurd given

@@ -9,7 +9,7 @@ use Rattle.tl_command.specs.Lines.{entries_of, first_too_long}
 use Rattle.tl_command.specs.Run.{Output, Prints, PrintsRefusal, Fails, Runs, IsEntryFault}
 use Rattle.tl_command.specs.declared.fault.RunFault.{RunFault}
 use Rattle.tl_command.specs.declared.fault.RunFault.TheVariants.{BadOrigin, BadPath, NotThere}
-use Rattle.tl_build.specs.Mirror.{checkpoint_note, mirrored, resource_text, listing_text}
+use Rattle.tl_build.specs.Mirror.{LogKey, checkpoint_note, mirrored, resource_text, listing_text}
 
 -- a resource of the log of these entries has this path, and this is its text
 pub record IsTextAt (note : Bytes) (entries : List Bytes) (path text : Bytes) : Type 0 where
@@ -30,12 +30,12 @@ IsMissing size None = ⊥
 IsMissing size (Some path) = (r : Resource) → Contains (mirrored size) r → path_text r ≢ path
 
 -- what comes of an input: what is printed of the log of its lines, no such resource, or a line that is too long
-abbrev pub BuildComes : Bytes → Bytes → Option Bytes → Bytes → Output → Type 0
-BuildComes origin secret get input (Prints text) =
-    (first_too_long (entries_of input) ≡ None) × IsPrinted (checkpoint_note origin secret (entries_of input)) (entries_of input) get text
-BuildComes origin secret get input (PrintsRefusal text) = ⊥
-BuildComes origin secret get input (Fails NotThere) = (first_too_long (entries_of input) ≡ None) × IsMissing (length (entries_of input)) get
-BuildComes origin secret get input (Fails fault) = IsEntryFault (entries_of input) fault
+abbrev pub BuildComes : LogKey → Option Bytes → Bytes → Output → Type 0
+BuildComes key get input (Prints text) =
+    (first_too_long (entries_of input) ≡ None) × IsPrinted (checkpoint_note key (entries_of input)) (entries_of input) get text
+BuildComes key get input (PrintsRefusal text) = ⊥
+BuildComes key get input (Fails NotThere) = (first_too_long (entries_of input) ≡ None) × IsMissing (length (entries_of input)) get
+BuildComes key get input (Fails fault) = IsEntryFault (entries_of input) fault
 
 -- the path that was asked for is that of a resource of some log
 abbrev pub IsLawfulPath : Option Bytes → Type 0
@@ -44,7 +44,7 @@ IsLawfulPath (Some path) = (r : Resource) × IsResource r × (path_text r ≡ pa
 
 -- a run: an origin that is no key's name, and then a path that no resource can have, are refused before anything is
 -- read
-abbrev pub RunsBuild : Bytes → Bytes → Option Bytes → Passage → Passage → Result (Unit {0}) RunFault → Type 0
-RunsBuild origin secret get i o (Err BadOrigin) = ¬ (IsKeyName origin) × IsUnread i × IsUnwritten o
-RunsBuild origin secret get i o (Err BadPath) = IsKeyName origin × ¬ (IsLawfulPath get) × IsUnread i × IsUnwritten o
-RunsBuild origin secret get i o result = IsKeyName origin × IsLawfulPath get × Runs (BuildComes origin secret get) i o result
+abbrev pub RunsBuild : LogKey → Option Bytes → Passage → Passage → Result (Unit {0}) RunFault → Type 0
+RunsBuild key get i o (Err BadOrigin) = ¬ (IsKeyName key.name) × IsUnread i × IsUnwritten o
+RunsBuild key get i o (Err BadPath) = IsKeyName key.name × ¬ (IsLawfulPath get) × IsUnread i × IsUnwritten o
+RunsBuild key get i o result = IsKeyName key.name × IsLawfulPath get × Runs (BuildComes key get) i o result

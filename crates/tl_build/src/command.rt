@@ -11,6 +11,7 @@ ghost use Rattle.tl_build.specs.Inner.Steps.{ReadsPath, IsServed, AnswersWanted,
 
 use crate::checkpoint_note::checkpoint_note_of;
 use crate::listing::{listing_of, mirrored_of};
+use crate::mirror_key::MirrorKey;
 use crate::resource_bytes::{bundle_of, tile_of};
 use std::alloc::{Allocator, Global};
 use std::io::{Read, Write};
@@ -60,75 +61,72 @@ fn is_of_no_entry(count: usize, wanted: Option<Resource>) -> bool
 
 // The bytes of a resource that the log of these entries has. No more is made than it needs: a tile hashes the entries
 // under it and no others, a bundle hashes nothing, and neither signs.
-fn wanted_bytes<A: Allocator + Copy>(
+fn wanted_bytes<K: MirrorKey, A: Allocator + Copy>(
     alloc: A,
     global: Global,
-    origin: &str,
-    secret: &[u8],
+    key: &K,
     resource: Resource,
     entries: &[Vec<u8, A>],
 ) -> Result<Vec<u8, A>, RunFault>
-    requires origin { IsKeyName origin.now }
+    requires origin { IsKeyName (K.log_key key.now).name }
     requires served { Contains (mirrored (length entries.now)) resource }
     requires few { length entries.now < 2 ^ 32 }
     requires short { AreShortEntries (map vec_items entries.now) }
-    ensures text { IfOk result (λ bytes. bytes.items ≡ resource_text (checkpoint_note origin.now secret.now (map vec_items entries.now)) (map vec_items entries.now) resource) }
+    ensures text { IfOk result (λ bytes. bytes.items ≡ resource_text (checkpoint_note (K.log_key key.now) (map vec_items entries.now)) (map vec_items entries.now) resource) }
     ensures fault { IfErr result (λ fault. fault ≡ RunFault.OutOfMemory) }
 {
     match resource {
         Resource::Tile(tile) => Ok(tile_of(alloc, tile, entries)?),
         Resource::Entries { index, width } => bundle_of(alloc, index, width, entries),
         Resource::Checkpoint => {
-            let note = checkpoint_note_of(alloc, global, origin, secret, entries)?;
+            let note = checkpoint_note_of(alloc, global, key, entries)?;
             Ok(note.into_bytes())
         }
     }
 }
 
 // The listing of the log of these entries, or the bytes of the resource that is wanted.
-fn answer_of<A: Allocator + Copy>(
+fn answer_of<K: MirrorKey, A: Allocator + Copy>(
     alloc: A,
     global: Global,
-    origin: &str,
-    secret: &[u8],
+    key: &K,
     wanted: Option<Resource>,
     entries: &[Vec<u8, A>],
 ) -> Result<Vec<u8, A>, RunFault>
-    requires origin { IsKeyName origin.now }
+    requires origin { IsKeyName (K.log_key key.now).name }
     requires few { length entries.now < 2 ^ 32 }
     requires short { AreShortEntries (map vec_items entries.now) }
-    ensures { AnswersWanted (checkpoint_note origin.now secret.now (map vec_items entries.now)) (map vec_items entries.now) wanted result }
+    ensures { AnswersWanted (checkpoint_note (K.log_key key.now) (map vec_items entries.now)) (map vec_items entries.now) wanted result }
 {
     let resources = mirrored_of(alloc, entries.len() as u64)?;
     if !is_served(resources.as_slice(), wanted) {
         return Err(RunFault::NotThere);
     }
     if let Some(resource) = wanted {
-        return wanted_bytes(alloc, global, origin, secret, resource, entries);
+        return wanted_bytes(alloc, global, key, resource, entries);
     }
-    let note = checkpoint_note_of(alloc, global, origin, secret, entries)?;
+    let note = checkpoint_note_of(alloc, global, key, entries)?;
     let listing = listing_of(alloc, resources.as_slice(), entries, note.as_str())?;
     Ok(listing.into_bytes())
 }
 
 // Reads the whole input and writes what is wanted of the log of its lines.
-fn build<A: Allocator + Copy, R: Read, W: Write>(
+fn build<K: MirrorKey, A: Allocator + Copy, R: Read, W: Write>(
     alloc: A,
     global: Global,
-    origin: &str,
-    secret: &[u8],
+    key: &K,
     wanted: Option<Resource>,
     reader: &mut Counted<R>,
     writer: &mut Counted<W>,
 ) -> Result<(), RunFault>
-    requires { IsKeyName origin.now }
-    ensures { Runs (WantedComes origin.now secret.now wanted) (passage R.remaining reader.old reader.new) (passage W.contents writer.old writer.new) result }
+    requires { IsKeyName (K.log_key key.now).name }
+    ensures { Runs (WantedComes (K.log_key key.now) wanted) (passage R.remaining reader.old reader.new) (passage W.contents writer.old writer.new) result }
 {
     let entries = read_entries(alloc, reader, MOST_INPUT)?;
     if is_of_no_entry(entries.len(), wanted) {
         return Err(RunFault::NotThere);
     }
-    let answer = match answer_of(alloc, global, origin, secret, wanted, entries.as_slice()) {
+    let answer = match answer_of(alloc, global, key, wanted, entries.as_slice()) {
         Ok(answer) => answer,
         Err(fault) => return Err(fault),
     };
@@ -138,23 +136,22 @@ fn build<A: Allocator + Copy, R: Read, W: Write>(
 
 /// Reads the whole input and writes what a static mirror of the log of its lines serves (C2SP tlog-tiles): with no path
 /// a line `path length` for each resource, tiles by level and index, then bundles, then the checkpoint; with a path the
-/// bytes of that resource. The checkpoint is a note, signed by the demonstration key of origin and secret. An origin
-/// that is no key's name is `BadOrigin`, a path of no resource `BadPath`, both before anything is read; what the log
-/// hasn't got is `NotThere`.
-pub fn run_build<A: Allocator + Copy, R: Read, W: Write>(
+/// bytes of that resource. The checkpoint is a note, signed by the log's key, whose name is the log's. A name that is no
+/// key's is `BadOrigin`, a path of no resource `BadPath`, both before anything is read; what the log hasn't got is
+/// `NotThere`. `global` is what the key takes its memory from.
+pub fn run_build<K: MirrorKey, A: Allocator + Copy, R: Read, W: Write>(
     alloc: A,
     global: Global,
-    origin: &str,
-    secret: &[u8],
+    key: &K,
     get: Option<&str>,
     reader: &mut Counted<R>,
     writer: &mut Counted<W>,
 ) -> Result<(), RunFault>
-    ensures { RunsBuild origin.now secret.now (option_map (λ path. path.now) get.entry) (passage R.remaining reader.old reader.new) (passage W.contents writer.old writer.new) result }
+    ensures { RunsBuild (K.log_key key.now) (option_map (λ path. path.now) get.entry) (passage R.remaining reader.old reader.new) (passage W.contents writer.old writer.new) result }
 {
-    if !is_key_name(origin) {
+    if !is_key_name(key.origin()) {
         return Err(RunFault::BadOrigin);
     }
     let wanted = wanted_of(get)?;
-    build(alloc, global, origin, secret, wanted, reader, writer)
+    build(alloc, global, key, wanted, reader, writer)
 }

@@ -3,7 +3,8 @@
 //!
 //! ```
 //! let path = Some("tile/entries/000.p/2");
-//! run_build(alloc, alloc, "example.com/log", b"a secret", path, &mut reader, &mut writer)?;
+//! let key = Demonstration::new("example.com/log", b"a secret");
+//! run_build(alloc, alloc, &key, path, &mut reader, &mut writer)?;
 //! assert_eq!(writer.into_inner().as_slice(), b"\0\x05a cat\0\x05a dog");
 //! ```
 #![tactic(auto)]
@@ -11,6 +12,10 @@
 mod checkpoint_note;
 mod command;
 mod listing;
+mod mirror_key;
 mod resource_bytes;
+mod signed;
 
 pub use command::run_build;
+pub use mirror_key::{Demonstration, MirrorKey};
+pub use signed::run_build_signed;

@@ -5,3 +5,4 @@ pub mod OneText
 pub mod ParseLemmas
 pub mod NoteTexts
 pub mod Quorums
+pub mod OtherTexts

@@ -5,6 +5,7 @@ pub mod LineTexts
 pub mod LineFields
 pub mod HashLines
 pub mod ProofTexts
+pub mod Checking
 pub mod CountedLines
 pub mod GrowingLemmas
 pub mod WholeLines

@@ -14,9 +14,7 @@ use Rattle.tl_text.proofs.PlainText.{number_plain, base64_plain}
 use Rattle.tl_proof.specs.Proofs.{inclusion_proof, consistency_proof}
 use Rattle.tl_command.specs.Lines.{entries_of, lines_text, HasNoNewline}
 use Rattle.tl_command.specs.ProofText.{Inclusion, Consistency, Proof, Included, Consistent, IsProof, proof_lines, proof_text}
-use Rattle.tl_command.specs.ProofCommands.{inclusion_of, consistency_of, CheckComes}
-use Rattle.tl_command.specs.Inner.Answers.{AnswersText}
-use Rattle.tl_command.specs.Run.{PrintsRefusal}
+use Rattle.tl_command.specs.ProofCommands.{inclusion_of, consistency_of}
 use Rattle.tl_command.proofs.LineTexts.{entries_of_lines}
 
 abbrev IsPlain : ℕ → Type 0
@@ -97,16 +95,3 @@ consistency_is entries old old_root size root proof count is_old is_root is_proo
     ∙ ap (λ (h : List ℕ). consistency old (tree_hash sha256 (take old entries)) (length entries) h proof) (is_root ∙ ap (tree_hash sha256) (whole entries size count))
     ∙ ap (λ (hs : List (List ℕ)). consistency old (tree_hash sha256 (take old entries)) (length entries) (tree_hash sha256 entries) hs)
     (is_proof ∙ ap (consistency_proof sha256 old) (whole_more entries size count))
-
--- a text of which the answer is no
-pub refusal_comes : (input text : List ℕ) (accepted : Bool) → accepted ≡ false → text ≡ input → AnswersText text (Ok accepted) → CheckComes input (PrintsRefusal (line (codes "refused")))
-refusal_comes input text accepted is same said =
-    let answer = said.0 in (
-      record {
-        proof = answer.proof;
-        lawful = answer.lawful;
-        spelled = sym same ∙ said.1 ∙ ap lines_text answer.spelled;
-        fact = λ accepts. let t : accepted ≡ true = answer.says.1 accepts in cc;
-      },
-      refl,
-    )

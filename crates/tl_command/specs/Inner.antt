@@ -2,8 +2,8 @@
 pub
     mod Answers
 pub
+    mod Checks
+pub
     mod Shown
 pub
     mod Growing
-pub
-    mod Input

@@ -1,12 +1,12 @@
 -- The commands `inclusion`, `consistency` and `check`.
-use Rattle.std.specs.Prelude.{◌≡◌, ◌≢◌, ℕ, ◌<◌, ◌≤◌, List, [], length, take, slice_index_or, codes, None}
+use Rattle.std.specs.Prelude.{◌≡◌, ◌≢◌, ℕ, ◌<◌, ◌≤◌, List, [], length, take, slice_index_or, codes, Option, Some, None}
 use Rattle.sha2.specs.Sha256.{sha256}
 use Rattle.tl_hash.specs.Bytes.{Bytes}
 use Rattle.tl_hash.specs.Tree.{leaf_input, tree_hash}
 use Rattle.tl_text.specs.Text.{line}
 use Rattle.tl_proof.specs.Proofs.{inclusion_proof, consistency_proof}
 use Rattle.tl_command.specs.Lines.{entries_of, first_too_long}
-use Rattle.tl_command.specs.ProofText.{Inclusion, Consistency, Proof, IsProof, inclusion_text, consistency_text, proof_text, Accepts}
+use Rattle.tl_command.specs.ProofText.{Inclusion, Consistency, Proof, IsProof, inclusion_text, consistency_text, proof_text, Accepts, proof_size, proof_root, proof_leaf}
 use Rattle.tl_command.specs.Run.{Output, Prints, PrintsRefusal, Fails, IsEntryFault}
 use Rattle.tl_command.specs.declared.fault.RunFault.TheVariants.{BadIndex, BadOld, Malformed}
 
@@ -55,8 +55,37 @@ pub record IsTextOf (Fact : Proof → Type 0) (input : Bytes) : Type 0 where
   pub fact : Fact proof
 
 -- what comes of an input to `check`: a proof's text is accepted or refused, and another input is malformed
+abbrev pub ChecksBy : (Proof → Type 0) → Bytes → Output → Type 0
+ChecksBy IsGood input (Prints text) = IsTextOf IsGood input × (text ≡ line (codes "accepted"))
+ChecksBy IsGood input (PrintsRefusal text) = IsTextOf (λ p. ¬ (IsGood p)) input × (text ≡ line (codes "refused"))
+ChecksBy IsGood input (Fails Malformed) = (p : Proof) → IsProof p → input ≢ proof_text p
+ChecksBy IsGood input (Fails fault) = ⊥
+
+-- a proof is good where it is accepted
 abbrev pub CheckComes : Bytes → Output → Type 0
-CheckComes input (Prints text) = IsTextOf (Accepts sha256) input × (text ≡ line (codes "accepted"))
-CheckComes input (PrintsRefusal text) = IsTextOf (λ p. ¬ (Accepts sha256 p)) input × (text ≡ line (codes "refused"))
-CheckComes input (Fails Malformed) = (p : Proof) → IsProof p → input ≢ proof_text p
-CheckComes input (Fails fault) = ⊥
+CheckComes input outcome = ChecksBy (Accepts sha256) input outcome
+
+-- what a proof is to be about: the size and the root of a trusted checkpoint, and the entry that is to be shown, if
+-- one is
+pub record Subject : Type 0 where
+  pub size : ℕ
+  pub root : Bytes
+  pub entry : Option Bytes
+
+-- the hash of this entry is shown, where one is asked for
+abbrev pub Shows : Option Bytes → Option Bytes → Type 0
+Shows None leaf = Unit {0}
+Shows (Some entry) leaf = leaf ≡ Some (sha256 (leaf_input entry))
+
+-- a tree, and the hash of an entry that is shown, are the subject's
+pub record AreOf (s : Subject) (size : ℕ) (root : Bytes) (leaf : Option Bytes) : Type 0 where
+  pub same_size : size ≡ s.size
+  pub same_root : root ≡ s.root
+  pub shown : Shows s.entry leaf
+
+-- a proof is good where it is accepted, leads to the subject's tree, and shows its entry
+abbrev pub IsAbout : Subject → Proof → Type 0
+IsAbout s p = Accepts sha256 p × AreOf s (proof_size p) (proof_root p) (proof_leaf p)
+
+abbrev pub CheckAboutComes : Subject → Bytes → Output → Type 0
+CheckAboutComes s input outcome = ChecksBy (IsAbout s) input outcome

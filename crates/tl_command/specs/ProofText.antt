@@ -1,5 +1,5 @@
 -- Texts of inclusion and consistency proofs (formats of this project).
-use Rattle.std.specs.Prelude.{ℕ, List, ◌∷◌, ◌++◌, All, map, codes}
+use Rattle.std.specs.Prelude.{ℕ, List, ◌∷◌, ◌++◌, All, map, codes, Option, Some, None}
 use Rattle.tl_hash.specs.Bytes.{Bytes, Digest, IsHash}
 use Rattle.tl_text.specs.Text.{number_text, base64_text, IsSize}
 use Rattle.tl_proof.specs.Acceptance.{AcceptsInclusion, AcceptsConsistency}
@@ -72,3 +72,16 @@ proof_text p = lines_text (proof_lines p)
 abbrev pub Accepts : Digest → Proof → Type 0
 Accepts H (Included p) = AcceptsInclusion H p.proof p.size p.root p.index p.leaf
 Accepts H (Consistent p) = AcceptsConsistency H p.proof p.size p.root p.old p.old_root
+
+-- the tree that a proof leads to, and the hash of the entry that it shows, if it shows one
+abbrev pub proof_size : Proof → ℕ
+proof_size (Included p) = p.size
+proof_size (Consistent p) = p.size
+
+abbrev pub proof_root : Proof → Bytes
+proof_root (Included p) = p.root
+proof_root (Consistent p) = p.root
+
+abbrev pub proof_leaf : Proof → Option Bytes
+proof_leaf (Included p) = Some p.leaf
+proof_leaf (Consistent p) = None

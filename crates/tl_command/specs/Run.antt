@@ -86,3 +86,8 @@ abbrev pub ReadsEntries : {A : Type 0} → ℕ → Passage → Result (Vec (Vec 
 ReadsEntries most p (Ok entries) = ReadEntries p most (map vec_items (vec_items entries))
 ReadsEntries most p (Err (EntryTooLong place)) = ReadTooLong p most place
 ReadsEntries most p (Err fault) = ReadingFails most p fault
+
+-- reading all that a reader gives, at most so many bytes
+abbrev pub ReadsInput : {A : Type 0} → ℕ → Passage → Result (Vec ℕ A) RunFault → Type 0
+ReadsInput most p (Ok input) = ReadWhole p most (vec_items input)
+ReadsInput most p (Err fault) = ReadingFails most p fault

@@ -60,6 +60,21 @@ pub enum RunFault {
     /// A growth was refused.
     #[error("out of memory")]
     OutOfMemory,
+    /// The name can't be a key's.
+    #[error("bad name")]
+    BadName,
+    /// The text is no key's.
+    #[error("bad key")]
+    BadKey,
+    /// The text is no signed checkpoint.
+    #[error("bad checkpoint")]
+    BadCheckpoint,
+    /// The signature line at this place, counted from 0, is wrong.
+    #[error("signature {0} wrong")]
+    WrongSignature(u64),
+    /// No signature line is of a key that was given.
+    #[error("no known signature")]
+    Unverified,
 }
 
 impl From<AllocError> for RunFault {
@@ -111,6 +126,11 @@ pub fn fault_line<A: Allocator>(alloc: A, fault: &RunFault) -> Result<Option<Str
         RunFault::Listen => fixed_line(alloc, "tlog: listen failed"),
         RunFault::Accept => fixed_line(alloc, "tlog: accept failed"),
         RunFault::OutOfMemory => fixed_line(alloc, "tlog: out of memory"),
+        RunFault::BadName => fixed_line(alloc, "tlog: bad name"),
+        RunFault::BadKey => fixed_line(alloc, "tlog: bad key"),
+        RunFault::BadCheckpoint => fixed_line(alloc, "tlog: bad checkpoint"),
+        RunFault::WrongSignature(k) => Ok(Some(format!(in alloc; "tlog: signature {k} wrong")?)),
+        RunFault::Unverified => fixed_line(alloc, "tlog: no known signature"),
     }
 }
 

@@ -21,10 +21,10 @@ mod whole_lines;
 mod words;
 
 pub use commands::audit::run_audit;
-pub use commands::check::run_check;
+pub use commands::check::{run_check, run_check_about};
 pub use commands::head::{checkpoint_of, run_head};
 pub use commands::proving::{run_consistency, run_inclusion};
 pub use entries::read_entries;
 pub use fault::{RunFault, exit_of, fault_line};
-pub use streams::{MOST_INPUT, print_text};
+pub use streams::{MOST_INPUT, print_text, read_input};
 pub use words::{Job, WordsFault, read_words};

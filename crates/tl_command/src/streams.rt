@@ -1,7 +1,7 @@
 //! The streams of a command: its whole input, and what it prints.
 
 ghost use Rattle.std.specs.Prelude.{◌≡◌, IfErr, OnErr, OnOk};
-ghost use Rattle.tl_command.specs.Inner.Input.{ReadsInput};
+ghost use Rattle.tl_command.specs.Run.{ReadsInput};
 ghost use Rattle.tl_device.specs.Device.{WrotePart, WroteWhole, passage};
 
 use crate::fault::RunFault;
@@ -12,8 +12,8 @@ use tl_device::{Counted, InputFault, read_whole, write_whole};
 /// The most bytes that a command reads, 64 MiB.
 pub const MOST_INPUT: u64 = 67_108_864;
 
-// All bytes that the reader gives. More than `most` are `TooLarge`.
-pub(crate) fn read_input<A: Allocator, R: Read>(
+/// All bytes that the reader gives, to its end. More than `most` are `TooLarge`, a read that fails is `Read`.
+pub fn read_input<A: Allocator, R: Read>(
     alloc: A,
     reader: &mut Counted<R>,
     most: u64,

@@ -7,6 +7,9 @@ use thiserror::Error;
 
 mod texts;
 
+// What is said of the option that takes the text of a log's verifier key.
+const LOG_KEY: &str = "The log's verifier key";
+
 // The program's version. The formats that it reads and writes have versions of their own.
 const VERSION: &str = "0.1.0";
 
@@ -29,6 +32,15 @@ pub enum Job {
         /// The path of the one resource to print; without it, the listing of all of them.
         get: Option<String>,
     },
+    /// The same, signed by a private key.
+    BuildSigned {
+        /// The name of the log and of the key.
+        origin: String,
+        /// The file with the key.
+        key: String,
+        /// The path of the one resource to print; without it, the listing of all of them.
+        get: Option<String>,
+    },
     /// Print the inclusion proof of a line of standard input.
     Inclusion {
         /// The place of the line, counted from 0.
@@ -41,6 +53,27 @@ pub enum Job {
     },
     /// Say whether the proof on standard input is accepted.
     Check,
+    /// Say whether it is accepted and about a signed checkpoint.
+    CheckUnder {
+        /// The file with the checkpoint.
+        checkpoint: String,
+        /// The text of the log's verifier key.
+        key: String,
+        /// The entry that an inclusion proof is to show; without it any.
+        entry: Option<String>,
+    },
+    /// Make a key.
+    Keygen {
+        /// The key's name.
+        name: String,
+        /// Whether it is a witness's, which cosigns, and not a log's.
+        is_cosigner: bool,
+    },
+    /// Print the text of the note on standard input, if it opens.
+    Open {
+        /// The text of the log's verifier key.
+        key: String,
+    },
     /// Say whether one list on standard input extends another by an accepted proof.
     Audit,
 }
@@ -113,18 +146,20 @@ fn head<'a>(alloc: Global) -> Result<Command<'a>, AllocError> {
 // The command `build`.
 fn build<'a>(alloc: Global) -> Result<Command<'a>, AllocError> {
     let origin = required(alloc, "origin", "NAME", "The name of the log, a key's name");
-    let secret = required(
+    let secret = option(
         alloc,
         "secret",
         "SECRET",
         "The secret of the log's demonstration key",
     );
+    let key = option(alloc, "key", "FILE", "The file with the log's private key");
     let get = option(alloc, "get", "PATH", "Print the resource with this path");
     Command::new(alloc, "build")
         .about("Prints what a static mirror of the log of the lines of standard input serves")
         .after_help(texts::BUILD)
         .arg(origin)?
         .arg(secret)?
+        .arg(key)?
         .arg(get)
 }
 
@@ -145,10 +180,46 @@ fn consistency<'a>(alloc: Global) -> Result<Command<'a>, AllocError> {
 }
 
 // The command `check`.
-fn check<'a>(alloc: Global) -> Command<'a> {
+fn check<'a>(alloc: Global) -> Result<Command<'a>, AllocError> {
+    let checkpoint = option(
+        alloc,
+        "checkpoint",
+        "FILE",
+        "The signed checkpoint that the proof is to be about",
+    );
+    let entry = option(
+        alloc,
+        "entry",
+        "TEXT",
+        "The entry that the proof is to show",
+    );
     Command::new(alloc, "check")
         .about("Says whether the proof on standard input is accepted")
         .after_help(texts::CHECK)
+        .arg(checkpoint)?
+        .arg(option(alloc, "key", "VKEY", LOG_KEY))?
+        .arg(entry)
+}
+
+// The command `keygen`.
+fn keygen<'a>(alloc: Global) -> Result<Command<'a>, AllocError> {
+    let cosigner = Arg::new(alloc, "cosigner")
+        .long("cosigner")
+        .help("Make a key of a witness, which cosigns checkpoints")
+        .action(ArgAction::SetTrue);
+    Command::new(alloc, "keygen")
+        .about("Makes a key from the system's random bytes")
+        .after_help(texts::KEYGEN)
+        .arg(required(alloc, "name", "NAME", "The key's name"))?
+        .arg(cosigner)
+}
+
+// The command `open`.
+fn open<'a>(alloc: Global) -> Result<Command<'a>, AllocError> {
+    Command::new(alloc, "open")
+        .about("Prints the text of the note on standard input, where it opens")
+        .after_help(texts::OPEN)
+        .arg(required(alloc, "key", "VKEY", LOG_KEY))
 }
 
 // The command `audit`.
@@ -170,7 +241,9 @@ fn commands<'a>(alloc: Global) -> Result<Command<'a>, AllocError> {
         .subcommand(build(alloc)?)?
         .subcommand(inclusion(alloc)?)?
         .subcommand(consistency(alloc)?)?
-        .subcommand(check(alloc))?
+        .subcommand(check(alloc)?)?
+        .subcommand(keygen(alloc)?)?
+        .subcommand(open(alloc)?)?
         .subcommand(audit(alloc))
 }
 
@@ -207,6 +280,82 @@ fn number_of(alloc: Global, options: &ArgMatches<'_>, name: &str) -> Result<u64,
     }
 }
 
+// The fault of options that don't go together.
+fn unfit(alloc: Global, error: Result<ClapError, AllocError>) -> WordsFault {
+    match error {
+        Ok(error) => usage(alloc, error),
+        Err(_) => WordsFault::OutOfMemory,
+    }
+}
+
+// The job of `build`: of the secret and the file of a key one is given.
+fn building_job(alloc: Global, options: &ArgMatches<'_>) -> Result<Job, WordsFault> {
+    let origin = text_of(alloc, options, "origin")?;
+    let secret = text_if_given(alloc, options, "secret")?;
+    let key = text_if_given(alloc, options, "key")?;
+    let get = text_if_given(alloc, options, "get")?;
+    match (secret, key) {
+        (Some(secret), None) => Ok(Job::Build {
+            origin,
+            secret,
+            get,
+        }),
+        (None, Some(key)) => Ok(Job::BuildSigned { origin, key, get }),
+        _ => {
+            let kind = ErrorKind::MissingRequiredArgument;
+            let why = "either --secret or --key is given";
+            Err(unfit(alloc, build(alloc)?.error(kind, why)))
+        }
+    }
+}
+
+// The job of `check`: the checkpoint and the key are given both or not, and an entry with them.
+fn checking_job(alloc: Global, options: &ArgMatches<'_>) -> Result<Job, WordsFault> {
+    let checkpoint = text_if_given(alloc, options, "checkpoint")?;
+    let key = text_if_given(alloc, options, "key")?;
+    let entry = text_if_given(alloc, options, "entry")?;
+    match (checkpoint, key, entry) {
+        (None, None, None) => Ok(Job::Check),
+        (Some(checkpoint), Some(key), entry) => Ok(Job::CheckUnder {
+            checkpoint,
+            key,
+            entry,
+        }),
+        _ => {
+            let kind = ErrorKind::MissingRequiredArgument;
+            let why = "--checkpoint and --key are given together, and --entry with them";
+            Err(unfit(alloc, check(alloc)?.error(kind, why)))
+        }
+    }
+}
+
+// The job of a command with these options.
+fn job_of(alloc: Global, command: &str, options: &ArgMatches<'_>) -> Result<Job, WordsFault> {
+    match command {
+        "head" => Ok(Job::Head {
+            origin: text_of(alloc, options, "origin")?,
+            threads: options.get_one::<u16>("threads"),
+        }),
+        "build" => building_job(alloc, options),
+        "inclusion" => Ok(Job::Inclusion {
+            index: number_of(alloc, options, "index")?,
+        }),
+        "consistency" => Ok(Job::Consistency {
+            old: number_of(alloc, options, "old")?,
+        }),
+        "check" => checking_job(alloc, options),
+        "keygen" => Ok(Job::Keygen {
+            name: text_of(alloc, options, "name")?,
+            is_cosigner: options.get_flag("cosigner"),
+        }),
+        "open" => Ok(Job::Open {
+            key: text_of(alloc, options, "key")?,
+        }),
+        "audit" => Ok(Job::Audit),
+        _ => Err(missing(alloc)),
+    }
+}
+
 /// The job that the words ask for, the first of which is the program's name. Words that are no command of the program
 /// with its options, and a call for help, are `Usage`.
 pub fn read_words(alloc: Global, words: &[String]) -> Result<Job, WordsFault> {
@@ -216,23 +365,7 @@ pub fn read_words(alloc: Global, words: &[String]) -> Result<Job, WordsFault> {
         Err(error) => return Err(usage(alloc, error)),
     };
     match matches.subcommand() {
-        Some(("head", options)) => Ok(Job::Head {
-            origin: text_of(alloc, options, "origin")?,
-            threads: options.get_one::<u16>("threads"),
-        }),
-        Some(("build", options)) => Ok(Job::Build {
-            origin: text_of(alloc, options, "origin")?,
-            secret: text_of(alloc, options, "secret")?,
-            get: text_if_given(alloc, options, "get")?,
-        }),
-        Some(("inclusion", options)) => Ok(Job::Inclusion {
-            index: number_of(alloc, options, "index")?,
-        }),
-        Some(("consistency", options)) => Ok(Job::Consistency {
-            old: number_of(alloc, options, "old")?,
-        }),
-        Some(("check", _)) => Ok(Job::Check),
-        Some(("audit", _)) => Ok(Job::Audit),
-        _ => Err(missing(alloc)),
+        Some((command, options)) => job_of(alloc, command, options),
+        None => Err(missing(alloc)),
     }
 }

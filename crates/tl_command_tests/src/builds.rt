@@ -3,7 +3,7 @@
 use std::alloc::{AllocError, Allocator, Global};
 use std::process::Abort;
 use std::test::Fail;
-use tl_build::run_build;
+use tl_build::{Demonstration, run_build};
 use tl_checkpoint::parse;
 use tl_command::{RunFault, run_head};
 use tl_device::Counted;
@@ -48,7 +48,8 @@ pub(crate) fn build<A: Allocator + Copy>(
 ) -> (Vec<u8>, Result<(), RunFault>) {
     let mut reader = Counted::new(input);
     let mut writer = Counted::new(Vec::new(alloc));
-    let outcome = run_build(heap, alloc, origin, SECRET, get, &mut reader, &mut writer);
+    let key = Demonstration::new(origin, SECRET);
+    let outcome = run_build(heap, alloc, &key, get, &mut reader, &mut writer);
     (writer.into_inner(), outcome)
 }
 

@@ -1,10 +1,12 @@
 //! Large inputs beside small ones: 64 MiB and a byte more, 100,000 lines, a long origin, an empty secret.
 
 use std::alloc::{AllocError, Global};
+use std::fs::Files;
+use std::random::RandomSource;
 use std::str;
 use std::test::Fail;
 use std::thread::Threads;
-use tl_build::run_build;
+use tl_build::{Demonstration, run_build};
 use tl_command::{Job, MOST_INPUT, RunFault, run_check, run_consistency, run_head, run_inclusion};
 use tl_device::Counted;
 use tl_hash::{Hash, Sha256Tree, leaf_hash, node_hash};
@@ -12,7 +14,7 @@ use tl_job::run_job;
 use tl_store::{HashStore, tree_hash};
 
 // What a job writes for an input, and its fault.
-fn written<H: Threads + Sync>(
+fn written<H: Threads + Sync + Files + RandomSource>(
     rt: &H,
     alloc: Global,
     job: Job,
@@ -20,7 +22,8 @@ fn written<H: Threads + Sync>(
 ) -> (Vec<u8>, Result<(), RunFault>) {
     let mut reader = Counted::new(input);
     let mut writer = Counted::new(Vec::new(alloc));
-    let outcome = run_job(rt, alloc, job, &mut reader, &mut writer);
+    let mut errors = Counted::new(Vec::new(alloc));
+    let outcome = run_job(rt, alloc, job, &mut reader, &mut writer, &mut errors);
     (writer.into_inner(), outcome)
 }
 
@@ -176,15 +179,8 @@ fn an_origin_of_1000_bytes_and_an_empty_secret(rt: HostRuntime) -> Result<(), Fa
     assert_eq!(rt; writer.into_inner().len(), 1000 + 1 + 2 + 45);
     let mut reader = Counted::new(b"a\n".as_slice());
     let mut writer = Counted::new(Vec::new(alloc));
-    let outcome = run_build(
-        alloc,
-        alloc,
-        origin.as_str(),
-        b"",
-        None,
-        &mut reader,
-        &mut writer,
-    );
+    let key = Demonstration::new(origin.as_str(), b"");
+    let outcome = run_build(alloc, alloc, &key, None, &mut reader, &mut writer);
     assert_eq!(rt; outcome, Ok(()));
     let listing = writer.into_inner();
     let want = b"tile/0/000.p/1 32\ntile/entries/000.p/1 3\ncheckpoint 2103\n";

@@ -2,11 +2,13 @@
 
 use crate::builds;
 use std::alloc::{AllocError, Global};
+use std::fs::Files;
 use std::io::{ErrorKind, Read, Write};
 use std::process::Abort;
+use std::random::RandomSource;
 use std::test::Fail;
 use std::thread::Threads;
-use tl_build::run_build;
+use tl_build::{Demonstration, run_build};
 use tl_command::{RunFault, run_head};
 use tl_device::Counted;
 use tl_job::run_words;
@@ -31,7 +33,7 @@ fn words_of(alloc: Global, words: &[&str]) -> Result<Vec<String>, AllocError> {
 }
 
 // Runs the words over this reader.
-fn run_line<H: Threads + Sync, R: Read + Drop>(
+fn run_line<H: Threads + Sync + Files + RandomSource, R: Read + Drop>(
     rt: &H,
     alloc: Global,
     words: &[&str],
@@ -182,15 +184,10 @@ fn outcome_of<H: Threads + Sync, R: Read, W: Write>(
 ) -> Result<(), RunFault> {
     match asked {
         Asked::Head => run_head(rt, alloc, alloc, 2, builds::ORIGIN, reader, writer),
-        Asked::Build(get) => run_build(
-            alloc,
-            alloc,
-            builds::ORIGIN,
-            builds::SECRET,
-            get,
-            reader,
-            writer,
-        ),
+        Asked::Build(get) => {
+            let key = Demonstration::new(builds::ORIGIN, builds::SECRET);
+            run_build(alloc, alloc, &key, get, reader, writer)
+        }
     }
 }
 

@@ -8,6 +8,7 @@
 //! ```
 #![tactic(auto)]
 
+mod files;
 mod running;
 
 pub use running::{end_run, run_job, run_words};

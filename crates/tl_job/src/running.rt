@@ -1,20 +1,26 @@
 //! From words to the command that they name, and from how it ended to an exit status.
 
-ghost use Rattle.tl_job.specs.Job.{EndsWords, RunsJob};
+ghost use Rattle.std.specs.Prelude.{◌≡◌, option_map};
 ghost use Rattle.tl_device.specs.Device.{passage};
-ghost use Rattle.std.specs.Prelude.{◌≡◌};
+ghost use Rattle.tl_job.specs.Job.{BuildsSigned, ChecksFile, EndsWords, RunsJob, key_kind};
+ghost use Rattle.tl_open.specs.Keygen.{GivesKey};
 ghost use Rattle.tl_job.specs.Ending.{Told, status_of, told_of};
 
+use crate::files::read_file;
 use std::alloc::{Allocator, Global};
+use std::fs::Files;
 use std::io::{Read, Write};
+use std::random::RandomSource;
 use std::thread::{Threads, available_parallelism};
-use tl_build::run_build;
+use tl_build::{Demonstration, run_build, run_build_signed};
 use tl_command::{
     Job, RunFault, WordsFault, exit_of, fault_line, read_words, run_audit, run_check,
     run_consistency, run_head, run_inclusion,
 };
 use tl_device::{Counted, write_whole};
 use tl_hash::Sha256Tree;
+use tl_key::{Cosignature, Note};
+use tl_open::{run_check_opened, run_keygen, run_open};
 
 // How many threads hash at once: as many as are asked for, or else as the machine has.
 fn threads_of<H: Threads>(rt: &H, asked: Option<u16>) -> usize {
@@ -27,42 +33,112 @@ fn threads_of<H: Threads>(rt: &H, asked: Option<u16>) -> usize {
     }
 }
 
+// Makes a key of a witness or of a log.
+fn make_key<H: RandomSource, W: Write, E: Write>(
+    rt: &H,
+    alloc: Global,
+    name: &str,
+    is_cosigner: bool,
+    writer: &mut Counted<W>,
+    errors: &mut Counted<E>,
+) -> Result<(), RunFault>
+    ensures { GivesKey name.now (key_kind is_cosigner) (passage W.contents writer.old writer.new) (passage E.contents errors.old errors.new) result }
+{
+    if is_cosigner {
+        return run_keygen::<Cosignature, H, W, E>(rt, alloc, name, writer, errors);
+    }
+    run_keygen::<Note, H, W, E>(rt, alloc, name, writer, errors)
+}
+
+// Builds a mirror that is signed by the key in a file.
+fn build_signed<H: Files, R: Read, W: Write>(
+    rt: &H,
+    alloc: Global,
+    origin: &str,
+    key: &str,
+    get: Option<&str>,
+    reader: &mut Counted<R>,
+    writer: &mut Counted<W>,
+) -> Result<(), RunFault>
+    ensures { BuildsSigned origin.now (option_map (λ path. path.now) get.entry) (passage R.remaining reader.old reader.new) (passage W.contents writer.old writer.new) result }
+{
+    let bytes = match read_file(rt, alloc, key) {
+        Ok(bytes) => bytes,
+        Err(fault) => return Err(fault),
+    };
+    run_build_signed(alloc, alloc, origin, bytes.as_slice(), get, reader, writer)
+}
+
+// Checks the proof of the input against the checkpoint in a file.
+fn check_under<H: Files, R: Read, W: Write>(
+    rt: &H,
+    alloc: Global,
+    checkpoint: &str,
+    key: &str,
+    entry: Option<&str>,
+    reader: &mut Counted<R>,
+    writer: &mut Counted<W>,
+) -> Result<(), RunFault>
+    ensures { ChecksFile key.now (option_map (λ e. e.now) entry.entry) (passage R.remaining reader.old reader.new) (passage W.contents writer.old writer.new) result }
+{
+    let bytes = match read_file(rt, alloc, checkpoint) {
+        Ok(bytes) => bytes,
+        Err(fault) => return Err(fault),
+    };
+    let entry = entry.map(|entry| entry.as_bytes());
+    run_check_opened(alloc, key, bytes.as_slice(), entry, reader, writer)
+}
+
 /// Runs the command of a job with its options: each job its own command, which reads the reader and writes the writer.
-pub fn run_job<H: Threads + Sync, R: Read, W: Write>(
+/// `keygen` writes to `errors` too.
+pub fn run_job<H: Threads + Sync + Files + RandomSource, R: Read, W: Write, E: Write>(
     rt: &H,
     alloc: Global,
     job: Job,
     reader: &mut Counted<R>,
     writer: &mut Counted<W>,
+    errors: &mut Counted<E>,
 ) -> Result<(), RunFault>
-    ensures { RunsJob job (passage R.remaining reader.old reader.new) (passage W.contents writer.old writer.new) result }
+    ensures { RunsJob job (passage R.remaining reader.old reader.new) (passage W.contents writer.old writer.new) (passage E.contents errors.old errors.new) result }
 {
     match job {
-        Job::Head { origin, threads } => run_head(
-            rt,
-            alloc,
-            alloc,
-            threads_of(rt, threads),
-            origin.as_str(),
-            reader,
-            writer,
-        ),
+        Job::Head { origin, threads } => {
+            let threads = threads_of(rt, threads);
+            run_head(rt, alloc, alloc, threads, &origin, reader, writer)
+        }
         Job::Build {
             origin,
             secret,
             get,
-        } => run_build(
-            alloc,
-            alloc,
-            origin.as_str(),
-            secret.as_bytes(),
-            get.as_deref(),
-            reader,
-            writer,
-        ),
+        } => {
+            let key = Demonstration::new(&origin, secret.as_bytes());
+            run_build(alloc, alloc, &key, get.as_deref(), reader, writer)
+        }
+        Job::BuildSigned { origin, key, get } => {
+            build_signed(rt, alloc, &origin, &key, get.as_deref(), reader, writer)
+        }
         Job::Inclusion { index } => run_inclusion(alloc, index, reader, writer),
         Job::Consistency { old } => run_consistency(alloc, old, reader, writer),
         Job::Check => run_check(alloc, reader, writer),
+        Job::CheckUnder {
+            checkpoint,
+            key,
+            entry,
+        } => {
+            check_under(
+                rt,
+                alloc,
+                &checkpoint,
+                &key,
+                entry.as_deref(),
+                reader,
+                writer,
+            )
+        }
+        Job::Keygen { name, is_cosigner } => {
+            make_key(rt, alloc, &name, is_cosigner, writer, errors)
+        }
+        Job::Open { key } => run_open(alloc, &key, reader, writer),
         Job::Audit => run_audit(alloc, Sha256Tree, reader, writer),
     }
 }
@@ -70,7 +146,7 @@ pub fn run_job<H: Threads + Sync, R: Read, W: Write>(
 /// Runs the command that the words name, the program's own name first, and answers the exit status. Where they name
 /// none, the text on how to call the program is written to `errors`, the status is 2, and nothing is read or written
 /// else.
-pub fn run_words<H: Threads + Sync, R: Read, W: Write, E: Write>(
+pub fn run_words<H: Threads + Sync + Files + RandomSource, R: Read, W: Write, E: Write>(
     rt: &H,
     alloc: Global,
     words: &[String],
@@ -82,7 +158,7 @@ pub fn run_words<H: Threads + Sync, R: Read, W: Write, E: Write>(
 {
     match read_words(alloc, words) {
         Ok(job) => {
-            let outcome = run_job(rt, alloc, job, reader, writer);
+            let outcome = run_job(rt, alloc, job, reader, writer, errors);
             end_run(alloc, outcome, errors)
         }
         Err(WordsFault::Usage(text)) => {

@@ -6,6 +6,8 @@
 #![tactic(auto)]
 
 use std::alloc::{AllocError, Global};
+use std::fs::Files;
+use std::random::RandomSource;
 use std::thread::Threads;
 use std::{io, str};
 use tl_command::{MOST_INPUT, read_entries};
@@ -37,7 +39,11 @@ fn words_of(alloc: Global, line: &str) -> Result<Vec<String>, AllocError> {
 }
 
 // Runs one command line over its input, in memory.
-fn run_line<H: Threads + Sync>(rt: &H, alloc: Global, run: &Run) -> Result<Ended, AllocError> {
+fn run_line<H: Threads + Sync + Files + RandomSource>(
+    rt: &H,
+    alloc: Global,
+    run: &Run,
+) -> Result<Ended, AllocError> {
     let words = words_of(alloc, run.line)?;
     let mut reader = Counted::new(run.input.as_slice());
     let mut writer = Counted::new(Vec::new(alloc));

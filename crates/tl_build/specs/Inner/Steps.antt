@@ -8,7 +8,7 @@ use Rattle.tl_command.specs.declared.fault.RunFault.{RunFault}
 use Rattle.tl_command.specs.declared.fault.RunFault.TheVariants.{BadPath, NotThere, OutOfMemory}
 use Rattle.tl_command.specs.Lines.{entries_of, first_too_long}
 use Rattle.tl_command.specs.Run.{Output, Prints, PrintsRefusal, Fails, IsEntryFault}
-use Rattle.tl_build.specs.Mirror.{checkpoint_note, mirrored, resource_text, listing_text}
+use Rattle.tl_build.specs.Mirror.{LogKey, checkpoint_note, mirrored, resource_text, listing_text}
 use Rattle.tl_build.specs.Build.{IsLawfulPath}
 
 -- the resource with the path that was asked for
@@ -42,10 +42,10 @@ AnswersWanted note entries wanted (Err OutOfMemory) = Unit {0}
 AnswersWanted note entries wanted (Err fault) = ⊥
 
 -- what comes of an input where this resource, or the listing, is wanted
-abbrev pub WantedComes : Bytes → Bytes → Option Resource → Bytes → Output → Type 0
-WantedComes origin secret wanted input (Prints text) =
-    (first_too_long (entries_of input) ≡ None) × IsShown (checkpoint_note origin secret (entries_of input)) (entries_of input) wanted text
-WantedComes origin secret wanted input (PrintsRefusal text) = ⊥
-WantedComes origin secret wanted input (Fails NotThere) =
+abbrev pub WantedComes : LogKey → Option Resource → Bytes → Output → Type 0
+WantedComes key wanted input (Prints text) =
+    (first_too_long (entries_of input) ≡ None) × IsShown (checkpoint_note key (entries_of input)) (entries_of input) wanted text
+WantedComes key wanted input (PrintsRefusal text) = ⊥
+WantedComes key wanted input (Fails NotThere) =
     (first_too_long (entries_of input) ≡ None) × ¬ (IsServed (mirrored (length (entries_of input))) wanted)
-WantedComes origin secret wanted input (Fails fault) = IsEntryFault (entries_of input) fault
+WantedComes key wanted input (Fails fault) = IsEntryFault (entries_of input) fault

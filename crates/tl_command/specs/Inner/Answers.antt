@@ -1,5 +1,5 @@
 -- What a command answers once its input is read.
-use Rattle.std.specs.Prelude.{◌≡◌, ◌≢◌, ◌⊎◌, ◌<◌, true, false, List, length, codes, vec_items, Result, Ok, Err, ◌↔◌, Bool, IsTrue}
+use Rattle.std.specs.Prelude.{◌≡◌, ◌≢◌, ◌⊎◌, ◌<◌, true, false, length, codes, vec_items, Result, Ok, Err}
 use Rattle.tl_text.specs.Text.{line}
 use Rattle.tl_proof.specs.Collisions.{IsPrefix}
 use Rattle.tl_command.specs.AuditText.{Audit, IsAudit, audit_text}
@@ -7,10 +7,7 @@ use Rattle.tl_command.specs.declared.commands.audit.Answer.{Answer}
 use Rattle.tl_command.specs.declared.fault.RunFault.{RunFault}
 use Rattle.tl_command.specs.declared.fault.RunFault.TheVariants.{Malformed, OutOfMemory}
 use Rattle.tl_command.specs.AuditCommand.{IsAccepted, AuditRefuses, IsAuditOf}
-use Rattle.sha2.specs.Sha256.{sha256}
 use Rattle.tl_hash.specs.Bytes.{Bytes, Digest}
-use Rattle.tl_command.specs.Lines.{entries_of, lines_text}
-use Rattle.tl_command.specs.ProofText.{Proof, IsProof, proof_lines, proof_text, Accepts}
 
 -- what is answered of an audit: that the new list extends the old one, or that the answer is no
 abbrev pub AnswersAudit : {A : Type 0} → Digest → Audit → Answer A → Type 0
@@ -24,17 +21,3 @@ AnswersAuditText H text (Ok answer) = IsAuditOf (λ a. AnswersAudit H a answer) 
 AnswersAuditText H text (Err Malformed) = (a : Audit) → IsAudit a → text ≢ audit_text a
 AnswersAuditText H text (Err OutOfMemory) = 0 < length text
 AnswersAuditText H text (Err fault) = ⊥
-
--- the lines are those of a proof, and this says whether it is accepted
-pub record IsAnswerOf (lines : List Bytes) (accepted : Bool) : Type 0 where
-  pub proof : Proof
-  pub lawful : IsProof proof
-  pub spelled : lines ≡ proof_lines proof
-  pub says : IsTrue accepted ↔ Accepts sha256 proof
-
--- what is said of a text: whether its proof is accepted, or that it is no proof's
-abbrev pub AnswersText : Bytes → Result Bool RunFault → Type 0
-AnswersText text (Ok accepted) = IsAnswerOf (entries_of text) accepted × (text ≡ lines_text (entries_of text))
-AnswersText text (Err Malformed) = (p : Proof) → IsProof p → text ≢ proof_text p
-AnswersText text (Err OutOfMemory) = 0 < length text
-AnswersText text (Err fault) = ⊥

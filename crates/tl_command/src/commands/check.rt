@@ -1,12 +1,11 @@
 //! The command `check`: whether the proof in a text is accepted.
 
-ghost use Rattle.std.specs.Prelude.{◌≡◌, ◌≢◌, ◌<◌, ◌↔◌, List, ℕ, length, map, vec_items, IsTrue, IfOk, IfErr, OnErr, MatchOption};
-ghost use Rattle.sha2.specs.Sha256.{sha256};
+ghost use Rattle.std.specs.Prelude.{◌≡◌, ◌≢◌, ◌<◌, ◌↔◌, length, map, option_map, vec_items, IsTrue, IfOk, OnErr, MatchOption};
 ghost use Rattle.tl_device.specs.Device.{passage};
-ghost use Rattle.tl_command.specs.ProofText.{Proof, Included, Consistent, IsProof, Accepts, proof_lines};
+ghost use Rattle.tl_command.specs.ProofText.{Proof, Included, Consistent, IsProof, proof_lines};
 ghost use Rattle.tl_command.specs.Inner.Shown.{consistency_shown, inclusion_shown};
-ghost use Rattle.tl_command.specs.ProofCommands.{CheckComes};
-ghost use Rattle.tl_command.specs.Inner.Answers.{AnswersText, IsAnswerOf};
+ghost use Rattle.tl_command.specs.ProofCommands.{CheckAboutComes, CheckComes};
+ghost use Rattle.tl_command.specs.Inner.Checks.{FindsInText, HasFinding, IsFinding, IsFindingAbout, PrintsAnswer};
 ghost use Rattle.tl_command.specs.Run.{Runs};
 
 use crate::fault::RunFault;
@@ -16,66 +15,115 @@ use crate::streams::{MOST_INPUT, print_text, read_input};
 use std::alloc::{AllocError, Allocator};
 use std::io::{Read, Write};
 use tl_device::Counted;
-use tl_hash::Sha256Tree;
+use tl_hash::{Hash, Sha256Tree, leaf_hash};
 use tl_proof::{check_record, check_tree};
 
-// Whether the inclusion proof is accepted.
-fn accepts_inclusion<A: Allocator>(p: &InclusionProof<A>) -> bool
-    ensures { IsTrue result ↔ Accepts sha256 (Included (inclusion_shown p.now)) }
+// What the text of a proof says, and whether the proof is accepted.
+#[derive(Clone, Copy)]
+struct Finding {
+    accepted: bool,
+    size: u64,
+    root: Hash,
+    // The hash of the entry that is shown; a consistency proof shows none.
+    leaf: Option<Hash>,
+}
+
+// Checks an inclusion proof.
+fn inclusion_finding<A: Allocator>(p: &InclusionProof<A>) -> Finding
+    ensures { IsFinding (Included (inclusion_shown p.now)) result }
 {
-    check_record(
+    let accepted = check_record(
         Sha256Tree,
         p.proof.as_slice(),
         p.size,
         p.root,
         p.index,
         p.leaf,
-    )
+    );
+    Finding {
+        accepted,
+        size: p.size,
+        root: p.root,
+        leaf: Some(p.leaf),
+    }
 }
 
-// Whether the consistency proof is accepted.
-fn accepts_consistency<A: Allocator>(p: &ConsistencyProof<A>) -> bool
-    ensures { IsTrue result ↔ Accepts sha256 (Consistent (consistency_shown p.now)) }
+// Checks a consistency proof.
+fn consistency_finding<A: Allocator>(p: &ConsistencyProof<A>) -> Finding
+    ensures { IsFinding (Consistent (consistency_shown p.now)) result }
 {
-    check_tree(
+    let accepted = check_tree(
         Sha256Tree,
         p.proof.as_slice(),
         p.size,
         p.root,
         p.old,
         p.old_root,
-    )
+    );
+    Finding {
+        accepted,
+        size: p.size,
+        root: p.root,
+        leaf: None,
+    }
 }
 
-// Whether the proof of which these are the lines is accepted, if they are those of a proof.
-fn answer_of<A: Allocator + Copy, B: Allocator>(
+// Checks the proof of which these are the lines, if they are those of a proof.
+fn finding_in_lines<A: Allocator + Copy, B: Allocator>(
     alloc: A,
     lines: &[Vec<u8, B>],
-) -> Result<Option<bool>, AllocError>
+) -> Result<Option<Finding>, AllocError>
     ensures answer { IfOk result (λ found. MatchOption found
         ((p : Proof) → IsProof p → map vec_items lines.now ≢ proof_lines p)
-        (IsAnswerOf (map vec_items lines.now))) }
+        (HasFinding (map vec_items lines.now))) }
     ensures memory { OnErr result (0 < length lines.now) }
 {
     if let Some(p) = read_inclusion(alloc, lines)? {
-        return Ok(Some(accepts_inclusion(&p)));
+        return Ok(Some(inclusion_finding(&p)));
     }
     match read_consistency(alloc, lines)? {
-        Some(p) => Ok(Some(accepts_consistency(&p))),
+        Some(p) => Ok(Some(consistency_finding(&p))),
         None => Ok(None),
     }
 }
 
-// Whether the proof of which this is the text is accepted, if it is that of a proof.
-fn answer<A: Allocator + Copy>(alloc: A, text: &[u8]) -> Result<bool, RunFault>
-    ensures { AnswersText text.now result }
+// Checks the proof of which this is the text, if it is that of a proof.
+fn finding_in<A: Allocator + Copy>(alloc: A, text: &[u8]) -> Result<Finding, RunFault>
+    ensures { FindsInText text.now result }
 {
     let Some(lines) = lines_of(alloc, text)? else {
         return Err(RunFault::Malformed);
     };
-    match answer_of(alloc, lines.as_slice())? {
-        Some(accepted) => Ok(accepted),
+    match finding_in_lines(alloc, lines.as_slice())? {
+        Some(finding) => Ok(finding),
         None => Err(RunFault::Malformed),
+    }
+}
+
+// Whether a proof is accepted, leads to the tree of this size and root, and shows the entry, if one is asked for.
+fn is_about(finding: &Finding, size: u64, root: Hash, entry: Option<&[u8]>) -> bool
+    ensures { IsTrue result ↔ IsFindingAbout (record { size = size; root = root; entry = option_map (λ e. e.now) entry.entry }) finding.now }
+{
+    if !finding.accepted || finding.size != size || finding.root != root {
+        return false;
+    }
+    match (entry, finding.leaf) {
+        (None, _) => true,
+        (Some(entry), Some(leaf)) => leaf == leaf_hash(Sha256Tree, entry),
+        (Some(_), None) => false,
+    }
+}
+
+// Prints whether a proof is good.
+fn print_answer<W: Write>(writer: &mut Counted<W>, is_good: bool) -> Result<(), RunFault>
+    ensures { PrintsAnswer is_good (passage W.contents writer.old writer.new) result }
+{
+    if is_good {
+        return print_text(writer, b"accepted\n");
+    }
+    match print_text(writer, b"refused\n") {
+        Ok(()) => Err(RunFault::Refused),
+        Err(fault) => Err(fault),
     }
 }
 
@@ -90,13 +138,24 @@ pub fn run_check<A: Allocator + Copy, R: Read, W: Write>(
     ensures { Runs CheckComes (passage R.remaining reader.old reader.new) (passage W.contents writer.old writer.new) result }
 {
     let input = read_input(alloc, reader, MOST_INPUT)?;
-    if answer(alloc, input.as_slice())? {
-        print_text(writer, b"accepted\n")?;
-        return Ok(());
-    }
-    match print_text(writer, b"refused\n") {
-        Ok(()) => {}
-        Err(_) => return Err(RunFault::Write),
-    }
-    Err(RunFault::Refused)
+    let finding = finding_in(alloc, input.as_slice())?;
+    print_answer(writer, finding.accepted)
+}
+
+/// The same, and the proof is also refused unless it is about the tree of this size and root, which a trusted
+/// checkpoint has: of a consistency proof the new tree. With an entry, only an inclusion proof of that entry is
+/// accepted.
+pub fn run_check_about<A: Allocator + Copy, R: Read, W: Write>(
+    alloc: A,
+    size: u64,
+    root: Hash,
+    entry: Option<&[u8]>,
+    reader: &mut Counted<R>,
+    writer: &mut Counted<W>,
+) -> Result<(), RunFault>
+    ensures { Runs (CheckAboutComes (record { size = size; root = root; entry = option_map (λ e. e.now) entry.entry })) (passage R.remaining reader.old reader.new) (passage W.contents writer.old writer.new) result }
+{
+    let input = read_input(alloc, reader, MOST_INPUT)?;
+    let finding = finding_in(alloc, input.as_slice())?;
+    print_answer(writer, is_about(&finding, size, root, entry))
 }

@@ -15,11 +15,12 @@ or a call for help; 3 a read or a write failed. A refusal is one line 'tlog: ..'
 
 pub(super) const BUILD: &str = "Input: the entries of the log, one a line, as for 'tlog head'.
 Output: a line 'PATH LENGTH' for each resource of the log (C2SP tlog-tiles): its tiles of hashes, its entry bundles and
-its checkpoint. With --get the bytes of the resource with that path. The checkpoint is a signed note, by a key for
-demonstrations alone: HMAC with SHA-256 under the secret.
-Exit status: 0 done; 1 refused (a bad origin, no such path, not there, input too large, an entry too long, out of
-memory); 2 wrong arguments or a call for help; 3 a read or a write failed. A refusal is one line 'tlog: ..' on standard
-error.";
+its checkpoint. With --get the bytes of the resource with that path. The checkpoint is a signed note: with --key by the
+private key in that file, as 'tlog keygen' prints it, whose name is the origin; with --secret by a key for
+demonstrations alone, HMAC with SHA-256 under the secret. One of the two is given.
+Exit status: 0 done; 1 refused (a bad key, a bad origin, no such path, not there, input too large, an entry too long,
+out of memory); 2 wrong arguments or a call for help; 3 a read or a write failed. A refusal is one line 'tlog: ..' on
+standard error.";
 
 pub(super) const INCLUSION: &str = "Input: the entries of the log, one a line, as for 'tlog head'.
 Output: lines 'inclusion', 'index I', 'size N', 'leaf HASH', 'root HASH', and the hashes of the proof (RFC 6962,
@@ -36,8 +37,24 @@ arguments or a call for help; 3 a read or a write failed. A refusal is one line 
 pub(super) const CHECK: &str =
     "Input: the text of a proof, as 'tlog inclusion' and 'tlog consistency' print it.
 Output: 'accepted' where the proof is accepted under SHA-256 (RFC 6962, sections 2.1.1 and 2.1.2), else 'refused'.
-Exit status: 0 accepted; 1 refused, or no such text, or out of memory; 2 wrong arguments or a call for help; 3 a read
-or a write failed.";
+With --checkpoint and --key only where it is about the tree of the signed checkpoint in that file, of a consistency
+proof the new one; the checkpoint is opened first, as by 'tlog open'. With --entry only where it is an inclusion proof
+of that line. Without them 'accepted' says that the proof is right in itself, and not whose root it has.
+Exit status: 0 accepted; 1 refused, or no such text, or no checkpoint that opens, or out of memory; 2 wrong arguments
+or a call for help; 3 a read or a write failed.";
+
+pub(super) const KEYGEN: &str =
+    "Output: on standard output the text of the private key, which is to be kept secret, and on standard error that of
+the verifier key, which all may know (C2SP signed-note; RFC 8032), a line each.
+Exit status: 0 done; 1 refused (a name that is empty or has white space or '+', out of memory); 2 wrong arguments or a
+call for help; 3 no random bytes, or a write failed. A refusal is one line 'tlog: ..' on standard error.";
+
+pub(super) const OPEN: &str =
+    "Input: a note, such as a signed checkpoint (C2SP signed-note, tlog-checkpoint).
+Output: its text, where a line of it is of the key, and the first such line is valid.
+Exit status: 0 it opens; 1 refused (a bad key, malformed input, no known signature, signature K wrong, counted from 0,
+input too large, out of memory); 2 wrong arguments or a call for help; 3 a read or a write failed. A refusal is one
+line 'tlog: ..' on standard error.";
 
 pub(super) const AUDIT: &str =
     "Input: lines 'old M', M entries, 'new N', N entries, and the hashes of a consistency proof (RFC 6962, section 2.1.2)

@@ -22,7 +22,7 @@ returns-in-Some g c =
     let entries = map vec_items c.args.entries.now in
     let same = c.as_slice.ensures.value ∙ c.in_ok-resources.ensures in
     let has = wanted_served c.as_slice.result.now (length c.args.entries.now) c.args.wanted c.is_served.result c.in-Some.resource same c.is_served.ensures c.if-not-is_served.false c.in-Some.is in
-    answers_some g.row.A.Denot (checkpoint_note c.args.origin.now c.args.secret.now entries) _ entries (length c.args.entries.now) c.args.wanted c.in-Some.resource c.wanted_bytes.result c.in-Some.is refl (length-map c.args.entries.now vec_items)
+    answers_some g.row.A.Denot (checkpoint_note (g.K.MirrorKey.log_key c.args.key.now) entries) _ entries (length c.args.entries.now) c.args.wanted c.in-Some.resource c.wanted_bytes.result c.in-Some.is refl (length-map c.args.entries.now vec_items)
     has c.wanted_bytes.ensures.text c.wanted_bytes.ensures.fault
 
 pub returns : goal.returns

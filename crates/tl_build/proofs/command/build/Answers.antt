@@ -29,5 +29,5 @@ returns-in-Err g c =
       | inl some ↦ inl (omega (arith, some, c.len.ensures, ap length same, length-map c.in_ok-entries.entries.items vec_items))
       | inr served ↦ inr served
     ] in
-    answer_fails g.row.A.Denot c.args.origin.now c.args.secret.now c.args.wanted _ _ c.in-Err.fault (map vec_items c.as_slice.result.now) (subst (ReadEntries _ most_input) (sym same) c.in_ok-entries.ensures) (search rules)
-    (asks_for c.args.origin.now c.args.secret.now c.args.wanted _ (map vec_items c.as_slice.result.now) (subst (ReadEntries _ most_input) (sym same) c.in_ok-entries.ensures) either) c.in-Err.ensures
+    answer_fails g.row.A.Denot (g.K.MirrorKey.log_key c.args.key.now) c.args.wanted _ _ c.in-Err.fault (map vec_items c.as_slice.result.now) (subst (ReadEntries _ most_input) (sym same) c.in_ok-entries.ensures) (search rules)
+    (asks_for (g.K.MirrorKey.log_key c.args.key.now) c.args.wanted _ (map vec_items c.as_slice.result.now) (subst (ReadEntries _ most_input) (sym same) c.in_ok-entries.ensures) either) c.in-Err.ensures

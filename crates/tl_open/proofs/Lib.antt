@@ -1,0 +1,4 @@
+pub mod NoteBytes
+pub mod NoCheckpoints
+pub mod Runs
+pub mod KeyRuns

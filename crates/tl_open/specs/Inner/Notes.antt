@@ -1,0 +1,48 @@
+-- Steps of opening a note.
+use Rattle.std.specs.Prelude.{ℕ, List, Result, Ok, Err}
+use Rattle.tl_hash.specs.Bytes.{Bytes}
+use Rattle.tl_note.specs.Key.{Key}
+use Rattle.tl_note.specs.declared.fault.NoteFault.{NoteFault}
+use Rattle.tl_note.specs.declared.fault.NoteFault.TheVariants as note
+use Rattle.tl_checkpoint.specs.declared.checkpoint.Checkpoint.{Checkpoint}
+use Rattle.tl_checkpoint.specs.declared.opening.OpenCheckpointFault.{OpenCheckpointFault}
+use Rattle.tl_checkpoint.specs.declared.opening.OpenCheckpointFault.TheVariants as opening
+use Rattle.tl_checkpoint.specs.Checkpoint.{head_of}
+use Rattle.tl_checkpoint.specs.OpenCheckpoint.{IsSignedCheckpoint}
+use Rattle.tl_key.specs.NoteKey.{PublicKey, note_kind}
+use Rattle.tl_key.specs.KeyText.{IsVerifierText}
+use Rattle.tl_command.specs.declared.fault.RunFault.{RunFault}
+use Rattle.tl_command.specs.declared.fault.RunFault.TheVariants.{Malformed, BadKey, BadCheckpoint, WrongSignature, Unverified, OutOfMemory}
+use Rattle.tl_open.specs.Open.{IsNoKey, IsWrongNote, IsUnknownNote}
+use Rattle.tl_open.specs.CheckOpened.{IsNoCheckpoint}
+
+-- the key that a text is of, or that it is none's
+abbrev pub ReadsKey : Bytes → Result PublicKey RunFault → Type 0
+ReadsKey text (Ok k) = IsVerifierText note_kind text k
+ReadsKey text (Err BadKey) = IsNoKey text
+ReadsKey text (Err OutOfMemory) = (k : PublicKey) × IsVerifierText note_kind text k
+ReadsKey text (Err fault) = ⊥
+
+-- a fault of opening a note, as one of the command
+abbrev pub after_note : NoteFault → RunFault
+after_note (note.Ambiguous place) = WrongSignature place
+after_note (note.InvalidSignature place) = WrongSignature place
+after_note note.Unverified = Unverified
+after_note note.OutOfMemory = OutOfMemory
+after_note fault = Malformed
+
+-- a fault of opening a checkpoint, as one of the command
+abbrev pub after_opening : OpenCheckpointFault → RunFault
+after_opening (opening.Unopened note.Malformed) = BadCheckpoint
+after_opening (opening.Unopened fault) = after_note fault
+after_opening (opening.NoCheckpoint fault) = BadCheckpoint
+after_opening opening.OutOfMemory = OutOfMemory
+
+-- the checkpoint that bytes are, or why there is none
+abbrev pub OpensBytes : {A : Type 0} → Bytes → List Key → Result (Checkpoint A) RunFault → Type 0
+OpensBytes bytes keys (Ok c) = IsSignedCheckpoint bytes keys (head_of c)
+OpensBytes bytes keys (Err BadCheckpoint) = IsNoCheckpoint bytes
+OpensBytes bytes keys (Err (WrongSignature place)) = IsWrongNote keys bytes place
+OpensBytes bytes keys (Err Unverified) = IsUnknownNote keys bytes
+OpensBytes bytes keys (Err OutOfMemory) = Unit {0}
+OpensBytes bytes keys (Err fault) = ⊥

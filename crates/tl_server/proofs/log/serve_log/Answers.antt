@@ -1,0 +1,11 @@
+use Rattle.std.proofs.Common.{refl}
+use Rattle.tl_server.proofs.ServeLemmas.{headless_serves, headed_serves}
+use Rattle.tl_server.proofs.log.serve_log.Goals as goal
+
+pub returns-in-NoHead : goal.returns-in-NoHead
+returns-in-NoHead g c = headless_serves _ _ _ _ c.in-NoHead.status c.refuse.result refl c.in-NoHead.ensures c.refuse.ensures
+
+pub returns-in-Head : goal.returns-in-Head
+returns-in-Head g c =
+    headed_serves _ _ _ _ _ c.read_head.new.buf c.read_head.new.headers c.in-Head.len c.in-Head.spans _ _ c.answer_log.result
+    c.of.ensures c.of-in-Head.ensures c.in-Head.ensures c.answer_log.ensures

@@ -1,0 +1,49 @@
+-- One request over a reader and a writer.
+use Rattle.std.specs.Prelude.{◌≡◌, ℕ, [], ◌++◌, Bool, true, Option, Some, None, Result, Ok, Err}
+use Rattle.std.specs.Io.KnownBytes.{Consumes, IsAtEnd}
+use Rattle.tl_device.specs.Device.{Passage, IsSteady, HasFailed, IsUnwritten, WroteWhole, WrotePart}
+use Rattle.tl_hash.specs.Bytes.{Bytes}
+use Rattle.tl_server.specs.Answer.{Answer, answer_text}
+use Rattle.tl_server.specs.declared.fault.ServeFault.{ServeFault}
+use Rattle.tl_server.specs.declared.fault.ServeFault.TheVariants.{Read, Write}
+
+-- the reader gave these bytes; `ended` says that it was seen to be at its end after them
+pub record Gave (i : Passage) (bytes : Bytes) (ended : Bool) : Type 0 where
+  pub consumed : Consumes i.old i.new bytes
+  pub at_end : ended ≡ true → IsAtEnd i.new
+  pub steady : IsSteady i
+
+-- the whole input may be this one, of which these bytes were read
+pub record MayBe (bytes : Bytes) (ended : Bool) (input : Bytes) : Type 0 where
+  pub more : Bytes
+  pub joined : input ≡ bytes ++ more
+  pub none : ended ≡ true → more ≡ []
+
+-- this is the answer to what was read, whatever may follow it
+pub record Came (Answers : Bytes → Option Answer → Type 0) (i : Passage) (answer : Option Answer) : Type 0 where
+  pub bytes : Bytes
+  pub ended : Bool
+  pub gave : Gave i bytes ended
+  pub so : (input : Bytes) → MayBe bytes ended input → Answers input answer
+
+-- sending an answer: its status, or that the writer failed after some of its first bytes
+abbrev pub Sends : Answer → Passage → Result (Option ℕ) ServeFault → Type 0
+Sends a o (Ok (Some status)) = (status ≡ a.status) × WroteWhole o (answer_text a)
+Sends a o (Ok None) = ⊥
+Sends a o (Err Write) = WrotePart o (answer_text a)
+Sends a o (Err Read) = ⊥
+
+-- this was the answer, and it was sent
+pub record Sent
+    (Answers : Bytes → Option Answer → Type 0) (i o : Passage) (result : Result (Option ℕ) ServeFault) : Type 0 where
+  pub answer : Answer
+  pub came : Came Answers i (Some answer)
+  pub sends : Sends answer o result
+
+-- one request: i is its reader, o its writer. Nothing is written where no byte came or a read failed
+abbrev pub Serves
+    : Type 0 → (Bytes → Option Answer → Type 0) → Passage → Passage → Result (Option ℕ) ServeFault → Type 0
+Serves Idle Answers i o (Ok None) = Came Answers i None × IsUnwritten o
+Serves Idle Answers i o (Err Read) = HasFailed i × IsUnwritten o × Idle
+Serves Idle Answers i o (Ok (Some status)) = Sent Answers i o (Ok (Some status))
+Serves Idle Answers i o (Err Write) = Sent Answers i o (Err Write)

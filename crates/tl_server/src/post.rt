@@ -1,0 +1,113 @@
+//! One request to a witness.
+
+ghost use Rattle.std.specs.Prelude.{◌≡◌, ◌++◌};
+ghost use Rattle.tl_device.specs.Device.{passage};
+ghost use Rattle.tl_server.specs.Exchange.{Exchange};
+ghost use Rattle.tl_server.specs.Inner.AskedOf.{AskedAnswers};
+ghost use Rattle.tl_server.specs.Inner.Deciding.{Rest};
+ghost use Rattle.tl_server.specs.Serve.{Sends, Serves};
+ghost use Rattle.tl_server.specs.Witness.{Replies, WitnessDecides, reply_answer, reply_kind};
+
+use crate::asked::{Asked, asked_of};
+use crate::body::{Body, read_body};
+use crate::fault::ServeFault;
+use crate::head::{HeadRead, MOST_FIELDS, MOST_HEAD, read_head};
+use crate::sending::{refuse, refuse_method, send};
+use crate::witness::Witness;
+use httparse::spans::EMPTY_HEADER_SPAN;
+use std::alloc::Allocator;
+use std::io::{Read, Write};
+use std::sync::Wait;
+use tl_device::Counted;
+use tl_witness::Saver;
+
+// The type of a reply's body.
+fn type_of(status: u16) -> &'static [u8]
+    ensures { result.now ≡ reply_kind status }
+{
+    if status == 409 {
+        b"text/x.tlog.size"
+    } else {
+        b"text/plain; charset=utf-8"
+    }
+}
+
+// Sends a reply of the witness.
+fn send_reply<O: Write>(
+    writer: &mut Counted<O>,
+    status: u16,
+    body: &[u8],
+) -> Result<Option<u16>, ServeFault>
+    ensures { Sends (reply_answer status body.now) (passage O.contents writer.old writer.new) result }
+{
+    send(writer, status, b"", type_of(status), body)
+}
+
+// Answers what the head of a request asked. Some of what follows was read with the head.
+fn answer_asked<R: Wait, A: Allocator, I: Read, O: Write, W: Witness<A>, S: Saver>(
+    rt: &R,
+    alloc: A,
+    reader: &mut Counted<I>,
+    writer: &mut Counted<O>,
+    witness: &W,
+    time: u64,
+    saver: &mut S,
+    asked: Asked,
+    part: &[u8],
+) -> Result<Option<u16>, ServeFault>
+    ensures { Serves (S.saved saver.new ≡ S.saved saver.old)
+        (Rest (AskedAnswers (S.saved saver.new ≡ S.saved saver.old)
+        (Replies W.digest (W.shown witness.now) time (S.saved saver.old) (S.saved saver.new)) asked part.now))
+        (passage I.remaining reader.old reader.new) (passage O.contents writer.old writer.new) result }
+{
+    let most = match asked {
+        Asked::NotFound => return refuse(writer, 404),
+        Asked::OtherMethod => return refuse_method(writer, b"POST"),
+        Asked::Unsized => return refuse(writer, 400),
+        Asked::TooLarge => return refuse(writer, 413),
+        Asked::Decision(most) => most,
+    };
+    match read_body(alloc, reader, part, most as usize) {
+        Body::Failed => Err(ServeFault::Read),
+        Body::Cut => refuse(writer, 400),
+        Body::NoMemory => refuse(writer, 500),
+        Body::Whole(body) => {
+            let reply = witness.reply(rt, body.as_slice(), time, saver);
+            send_reply(writer, reply.status, reply.body.as_slice())
+        }
+    }
+}
+
+/// Answers one request to a witness (C2SP tlog-witness), and gives the status, or none where no byte came: 400 or 431
+/// without a head, 404 for another target than `/add-checkpoint`, 405 for another method than POST, 400 without one
+/// `Content-Length` (RFC 9112, section 6), 413 above 1,048,576 bytes, 500 where memory for the body was refused, 400
+/// where the input ends before it, else what the witness replies. After that reply nothing grows.
+pub fn serve_witness<R: Wait, A: Allocator, I: Read, O: Write, W: Witness<A>, S: Saver>(
+    rt: &R,
+    alloc: A,
+    reader: &mut Counted<I>,
+    writer: &mut Counted<O>,
+    witness: &W,
+    time: u64,
+    saver: &mut S,
+) -> Result<Option<u16>, ServeFault>
+    ensures { Serves (S.saved saver.new ≡ S.saved saver.old)
+        (Exchange (S.saved saver.new ≡ S.saved saver.old)
+        (WitnessDecides (S.saved saver.new ≡ S.saved saver.old)
+        (Replies W.digest (W.shown witness.now) time (S.saved saver.old) (S.saved saver.new))))
+        (passage I.remaining reader.old reader.new) (passage O.contents writer.old writer.new) result }
+{
+    let mut buf = [0u8; MOST_HEAD];
+    let mut headers = [EMPTY_HEADER_SPAN; MOST_FIELDS];
+    match read_head(reader, &mut buf, &mut headers) {
+        HeadRead::Failed => Err(ServeFault::Read),
+        HeadRead::Nothing => Ok(None),
+        HeadRead::NoHead(status) => refuse(writer, status),
+        HeadRead::Head(len, spans) => {
+            let bytes = &buf[..len];
+            let asked = asked_of(bytes, &headers, spans);
+            let part = &bytes[spans.len..];
+            answer_asked(rt, alloc, reader, writer, witness, time, saver, asked, part)
+        }
+    }
+}

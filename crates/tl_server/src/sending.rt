@@ -1,0 +1,148 @@
+//! An answer, written with as few calls as can be and without memory.
+
+ghost use Rattle.std.specs.Prelude.{◌≡◌, ◌<◌, ◌≤◌, ◌++◌, ◌∷◌, [], List, ℕ, OnOk, OnErr, IfOk, length};
+ghost use Rattle.tl_device.specs.Device.{passage, WroteWhole, WrotePart};
+ghost use Rattle.tl_server.specs.Answer.{phrase, bare, not_allowed};
+ghost use Rattle.tl_server.specs.Serve.{Sends};
+ghost use Rattle.tl_server.specs.Inner.Sending.{pieces_text, PutSome, beside, answer_pieces};
+
+use crate::fault::ServeFault;
+use arrayvec::ArrayVec;
+use itoa::Buffer;
+use std::io::Write;
+use tl_device::{Counted, WriteFault, write_whole};
+
+// How many bytes are kept before they are written.
+const ROOM: usize = 16_384;
+
+// The reason phrase of a status.
+fn phrase_of(status: u16) -> &'static str
+    ensures { result.now ≡ phrase status }
+{
+    match status {
+        200 => "OK",
+        400 => "Bad Request",
+        403 => "Forbidden",
+        404 => "Not Found",
+        405 => "Method Not Allowed",
+        409 => "Conflict",
+        413 => "Payload Too Large",
+        422 => "Unprocessable Entity",
+        431 => "Request Header Fields Too Large",
+        _ => "Internal Server Error",
+    }
+}
+
+// Keeps the bytes where there is room for them. Else what was kept is written, and then they are kept or written.
+fn put<W: Write>(
+    writer: &mut Counted<W>,
+    kept: &mut ArrayVec<u8, ROOM>,
+    bytes: &[u8],
+) -> Result<(), WriteFault>
+    ensures some { OnOk result (PutSome (passage W.contents writer.old writer.new) kept.old.items kept.new.items bytes.now) }
+    ensures part { OnErr result (WrotePart (passage W.contents writer.old writer.new) (kept.old.items ++ bytes.now)) }
+{
+    if kept.try_extend_from_slice(bytes).is_ok() {
+        return Ok(());
+    }
+    write_whole(writer, kept.as_slice())?;
+    kept.clear();
+    if kept.try_extend_from_slice(bytes).is_ok() {
+        return Ok(());
+    }
+    write_whole(writer, bytes)
+}
+
+// Writes the pieces, one after another.
+fn put_all<W: Write>(writer: &mut Counted<W>, pieces: &[&[u8]]) -> Result<(), WriteFault>
+    ensures whole { OnOk result (WroteWhole (passage W.contents writer.old writer.new) (pieces_text (λ p. p.now) pieces.now)) }
+    ensures part { OnErr result (WrotePart (passage W.contents writer.old writer.new) (pieces_text (λ p. p.now) pieces.now)) }
+{
+    let mut kept = ArrayVec::new();
+    for piece in pieces {
+        put(writer, &mut kept, piece)?;
+    }
+    write_whole(writer, kept.as_slice())
+}
+
+// The text, or none where the list is empty.
+fn beside<'a>(list: &[u8], text: &'a [u8]) -> &'a [u8]
+    ensures { result.now ≡ beside list.now text.now }
+{
+    match list {
+        [] => b"",
+        _ => text,
+    }
+}
+
+// The texts of an answer, one after another.
+fn put_texts<'a, W: Write>(
+    writer: &mut Counted<W>,
+    status: &'a [u8],
+    reason: &'a [u8],
+    allow: &'a [u8],
+    kind: &'a [u8],
+    size: &'a [u8],
+    body: &'a [u8],
+) -> Result<(), WriteFault>
+    ensures whole { OnOk result (WroteWhole (passage W.contents writer.old writer.new)
+        (pieces_text (λ p. p) (answer_pieces status.now reason.now allow.now kind.now size.now body.now))) }
+    ensures part { OnErr result (WrotePart (passage W.contents writer.old writer.new)
+        (pieces_text (λ p. p) (answer_pieces status.now reason.now allow.now kind.now size.now body.now))) }
+{
+    let version: &'a [u8] = b"HTTP/1.1 ";
+    let space: &'a [u8] = b" ";
+    let line_end: &'a [u8] = b"\r\n";
+    let allow_name: &'a [u8] = beside(allow, b"Allow: ");
+    let allow_end: &'a [u8] = beside(allow, line_end);
+    let kind_name: &'a [u8] = beside(body, b"Content-Type: ");
+    let kind_text: &'a [u8] = beside(body, kind);
+    let kind_end: &'a [u8] = beside(body, line_end);
+    let size_name: &'a [u8] = b"Content-Length: ";
+    let close: &'a [u8] = b"\r\nConnection: close\r\n\r\n";
+    let pieces: [&'a [u8]; 15] = [
+        version, status, space, reason, line_end, allow_name, allow, allow_end, kind_name,
+        kind_text, kind_end, size_name, size, close, body,
+    ];
+    put_all(writer, &pieces)
+}
+
+/// Writes an answer. It takes no memory.
+pub(crate) fn send<W: Write>(
+    writer: &mut Counted<W>,
+    status: u16,
+    allow: &[u8],
+    kind: &[u8],
+    body: &[u8],
+) -> Result<Option<u16>, ServeFault>
+    ensures { Sends (record { status = status; allow = allow.now; kind = kind.now; body = body.now })
+        (passage W.contents writer.old writer.new) result }
+{
+    let mut status_digits = Buffer::new();
+    let mut size_digits = Buffer::new();
+    let status_text = status_digits.format(status).as_bytes();
+    let size_text = size_digits.format(body.len()).as_bytes();
+    let reason = phrase_of(status).as_bytes();
+    put_texts(writer, status_text, reason, allow, kind, size_text, body)?;
+    Ok(Some(status))
+}
+
+/// Writes an answer with no body.
+pub(crate) fn refuse<W: Write>(
+    writer: &mut Counted<W>,
+    status: u16,
+) -> Result<Option<u16>, ServeFault>
+    ensures { Sends (bare status) (passage W.contents writer.old writer.new) result }
+{
+    send(writer, status, b"", b"", b"")
+}
+
+/// Writes the answer to a method that isn't the one allowed.
+pub(crate) fn refuse_method<W: Write>(
+    writer: &mut Counted<W>,
+    allowed: &[u8],
+) -> Result<Option<u16>, ServeFault>
+    ensures { Sends (not_allowed allowed.now) (passage W.contents writer.old writer.new) result }
+{
+    send(writer, 405, allowed, b"", b"")
+}

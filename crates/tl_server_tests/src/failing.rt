@@ -1,0 +1,136 @@
+//! Readers, writers and growths that fail, one after another.
+
+use crate::boards::{board_of_two, empty_board};
+use crate::devices::{Devices, ROOM, Served, is_answer, log_served, sound, witness_served};
+use crate::log_rows::{IS_NO_MEMORY, NOTE_OF_NONE};
+use crate::witness_rows::COSIGNED;
+use crate::witnesses::{KeepingSaver, fresh_witness, witness_of_one};
+use crate::worked::{FIRST, LOG};
+use std::test::Fail;
+use tl_server::ServeFault;
+use tl_testing::Refusing;
+
+// More requests for memory than a request makes.
+const MOST: u64 = 1000;
+
+#[test]
+fn each_read_fails_once(rt: HostRuntime) -> Result<(), Fail> {
+    let alloc = rt.alloc();
+    let (_operator, mut board) = empty_board(&rt, alloc)?;
+    let witness = witness_of_one(alloc)?;
+    let mut saver = KeepingSaver::new(alloc);
+    let mut out = [0u8; ROOM];
+    let (input, _due) = LOG[0];
+    for read_fails in 0..FIRST.len() as u64 {
+        let devices = Devices {
+            read_fails: read_fails + 1,
+            ..sound(1)
+        };
+        let (served, count) = witness_served(
+            &rt, alloc, &witness, &mut saver, FIRST, devices, &mut out,
+        );
+        assert_eq!(rt; (served, count), (Err(ServeFault::Read), 0));
+        if read_fails < input.len() as u64 {
+            let (served, count) = log_served(alloc, &mut board, input, devices, &mut out);
+            assert_eq!(rt; (served, count), (Err(ServeFault::Read), 0));
+        }
+    }
+    assert_eq!(rt; saver.calls, 0);
+    let (served, count) = log_served(alloc, &mut board, input, sound(1), &mut out);
+    assert!(rt; is_answer(served, out.get(..count).ok_or("too long")?, NOTE_OF_NONE));
+    Ok(())
+}
+
+// Whether the first bytes of an answer were written, so many, and then a write failed; or all of it.
+fn is_cut(served: Served, written: &[u8], due: &[u8], room: usize) -> bool {
+    if room >= due.len() {
+        return is_answer(served, written, due);
+    }
+    served == Err(ServeFault::Write) && due.get(..room) == Some(written)
+}
+
+#[test]
+fn writer_fails_after_each_byte(rt: HostRuntime) -> Result<(), Fail> {
+    let alloc = rt.alloc();
+    let (_operator, mut board) = empty_board(&rt, alloc)?;
+    let mut out = [0u8; ROOM];
+    let (input, due) = LOG[0];
+    for room in 0..due.len() + 1 {
+        let devices = Devices {
+            room,
+            write_fails: if room == 0 || room >= due.len() { 0 } else { 2 },
+            ..sound(7)
+        };
+        let (served, count) = log_served(alloc, &mut board, input, devices, &mut out);
+        let written = out.get(..count).ok_or("too long")?;
+        assert!(rt; is_cut(served, written, due, room), "after {room} bytes");
+    }
+    assert!(rt; out.starts_with(b"HTTP/1.1 2"));
+    let witness = witness_of_one(alloc)?;
+    let mut saver = KeepingSaver::new(alloc);
+    let devices = Devices {
+        room: 10,
+        write_fails: 2,
+        ..sound(7)
+    };
+    let (served, count) = witness_served(
+        &rt, alloc, &witness, &mut saver, FIRST, devices, &mut out,
+    );
+    assert!(rt; is_cut(served, out.get(..count).ok_or("too long")?, COSIGNED, 10));
+    assert_eq!(rt; saver.calls, 1);
+    Ok(())
+}
+
+#[test]
+fn answer_of_a_log_is_one_growth_and_one_write(rt: HostRuntime) -> Result<(), Fail> {
+    let alloc = rt.alloc();
+    let (_operator, mut board) = board_of_two(&rt, alloc)?;
+    let (input, _due) = LOG[0];
+    let mut out = [0u8; ROOM];
+    let devices = Devices {
+        write_fails: 2,
+        ..sound(9000)
+    };
+    let heap = Refusing::at(alloc, 1);
+    let (served, count) = log_served(&heap, &mut board, input, devices, &mut out);
+    assert!(rt; heap.refused());
+    assert!(rt; is_answer(served, out.get(..count).ok_or("too long")?, IS_NO_MEMORY));
+    let heap = Refusing::at(alloc, 2);
+    let (served, _count) = log_served(&heap, &mut board, input, devices, &mut out);
+    assert!(rt; !heap.refused());
+    assert_eq!(rt; served, Ok(Some(200)));
+    Ok(())
+}
+
+#[test]
+fn each_growth_of_a_witness_is_refused_once(rt: HostRuntime) -> Result<(), Fail> {
+    let alloc = rt.alloc();
+    let mut out = [0u8; ROOM];
+    for number in 1..MOST {
+        let heap = Refusing::at(alloc, number);
+        let Some(witness) = fresh_witness(alloc, &heap) else {
+            assert!(rt; heap.refused());
+            continue;
+        };
+        let mut saver = KeepingSaver::new(alloc);
+        let (served, count) = witness_served(
+            &rt,
+            &heap,
+            &witness,
+            &mut saver,
+            FIRST,
+            sound(50),
+            &mut out,
+        );
+        let written = out.get(..count).ok_or("too long")?;
+        if !heap.refused() {
+            assert!(rt; is_answer(served, written, COSIGNED));
+            assert!(rt; number > 5);
+            return Ok(());
+        }
+        assert!(rt; is_answer(served, written, IS_NO_MEMORY), "at {number}");
+        assert_eq!(rt; saver.calls, 0);
+    }
+    assert!(rt; false, "each request was refused");
+    Ok(())
+}
