@@ -21,5 +21,5 @@ pub use keys::{SignFault, Signer, Verifier, is_key_name};
 pub use law::bytes_are_one_note;
 pub use line::{SigView, write_signature_line};
 pub use open::{OpenedNote, open_note, verify_note};
-pub use parse::{NoteView, parse_note, parse_signatures};
+pub use parse::{MOST_LINES, NoteView, parse_note, parse_signatures};
 pub use sign::{first_bad_name, sign_note, signature_of};

@@ -9,8 +9,8 @@ use crate::fault::NoteFault;
 use crate::line::SigView;
 use std::alloc::{AllocError, Allocator};
 
-/// How many signature lines a note may have.
-pub(crate) const MOST_LINES: usize = 100;
+/// The most signature lines of a note (C2SP signed-note, "Format").
+pub const MOST_LINES: usize = 100;
 
 /// A note's text, with the newline that ends it, and its signature lines, in order.
 #[derive(Debug, Drop)]

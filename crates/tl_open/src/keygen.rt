@@ -52,9 +52,9 @@ fn texts_of<K: KeyKind>(alloc: Global, key: &SignerKey<K, Global>) -> Result<Tex
 }
 
 /// Makes a key of this name and type from 32 random bytes, and prints its texts, a line each: the verifier's to
-/// `errors`, and then the private one to `writer` (C2SP signed-note, "Verifier keys"; golang.org/x/mod/sumdb/note). Where
-/// the system gives no random bytes it is `Read`; a name that is no key's is `BadName`. Until both texts are there
-/// nothing is written.
+/// `errors`, and then the private one to `writer` (C2SP signed-note, "Verifier keys"; golang.org/x/mod/sumdb/note).
+/// Where the system gives no random bytes it is `Read`; a name that is no key's is `BadName`. Until both texts are
+/// there nothing is written.
 pub fn run_keygen<K: KeyKind, H: RandomSource, W: Write, E: Write>(
     rt: &H,
     alloc: Global,

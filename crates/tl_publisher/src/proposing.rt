@@ -11,9 +11,7 @@ use crate::noting::note_of;
 use crate::operator::{Operator, Shown};
 use std::sync::Wait;
 use tl_checkpoint::are_apart;
-use tl_note::Verifier;
-
-const MOST_LINES: usize = 100;
+use tl_note::{MOST_LINES, Verifier};
 
 /// A checkpoint that the signers signed, for the witnesses: the number of its entries, and its note (C2SP signed-note),
 /// which an add-checkpoint request sends (C2SP tlog-witness).

@@ -116,10 +116,7 @@ impl<R: Wait + Drop> Run<R> {
     pub(crate) fn is_unpublished(&self) -> bool
         ensures { IsTrue result ↔ (self.now.past.log ≡ []) }
     {
-        match self.board.head() {
-            Some(_head) => false,
-            None => true,
-        }
+        self.board.head().is_none()
     }
 
     /// Size and root of what the growth has taken in.
