@@ -116,7 +116,10 @@ impl<R: Wait + Drop> Run<R> {
     pub(crate) fn is_unpublished(&self) -> bool
         ensures { IsTrue result ↔ (self.now.past.log ≡ []) }
     {
-        self.board.head().is_none()
+        match self.board.head() {
+            Some(_head) => false,
+            None => true,
+        }
     }
 
     /// Size and root of what the growth has taken in.
