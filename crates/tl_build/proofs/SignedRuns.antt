@@ -2,15 +2,16 @@
 use Rattle.std.proofs.Common.{◌≡◌, ℕ, List}
 use Rattle.std.specs.Prelude.{Option, Result, Ok, Err}
 use Rattle.tl_device.specs.Device.{Passage}
-use Rattle.tl_key.specs.NoteKey.{SeedKey}
+use Rattle.tl_key.specs.NoteKey.{SeedKey, note_kind}
 use Rattle.tl_command.specs.declared.fault.RunFault.{RunFault}
 use Rattle.tl_command.specs.declared.fault.RunFault.TheVariants as fault
 use Rattle.tl_build.specs.Mirror.{seed_log_key}
 use Rattle.tl_build.specs.Build.{RunsBuild}
-use Rattle.tl_build.specs.Signed.{IsPrivateFile, RunsSigned}
+use Rattle.tl_open.specs.Keys.{IsPrivateFile}
+use Rattle.tl_build.specs.Signed.{RunsSigned}
 
 -- a run under the key of a file is one of the file
-pub runs_signed : (origin bytes : List ℕ) (get : Option (List ℕ)) (k : SeedKey) (i o : Passage) (r : Result (Unit {0}) RunFault) → IsPrivateFile bytes k → k.name ≡ origin
+pub runs_signed : (origin bytes : List ℕ) (get : Option (List ℕ)) (k : SeedKey) (i o : Passage) (r : Result (Unit {0}) RunFault) → IsPrivateFile note_kind bytes k → k.name ≡ origin
     → RunsBuild (seed_log_key k) get i o r → RunsSigned origin bytes get i o r
 runs_signed origin bytes get k i o (Ok done) file named runs = record { key = k; file = file; fact = (named, runs) }
 runs_signed origin bytes get k i o (Err fault.BadOrigin) file named runs = absurd (runs.0 file.of.name)

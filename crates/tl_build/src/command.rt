@@ -135,10 +135,10 @@ fn build<K: MirrorKey, A: Allocator + Copy, R: Read, W: Write>(
 }
 
 /// Reads the whole input and writes what a static mirror of the log of its lines serves (C2SP tlog-tiles): with no path
-/// a line `path length` for each resource, tiles by level and index, bundles, the checkpoint; with a path the bytes of
-/// that resource. The checkpoint is a note by the log's key, whose name is the log's. A name that is no key's is
-/// `BadOrigin`, a path of no resource `BadPath`, both before anything is read; what the log hasn't got is `NotThere`.
-/// `global` is what the key takes its memory from.
+/// a line `path length` for each resource, tiles by level and index, bundles, the checkpoint; with a path its bytes.
+/// The checkpoint is a note by the log's key, whose name is the log's. A name that is no key's is `BadOrigin`, a path
+/// of no resource `BadPath`, both before anything is read; what the log hasn't got is `NotThere`. The key takes its
+/// memory from `global`.
 pub fn run_build<K: MirrorKey, A: Allocator + Copy, R: Read, W: Write>(
     alloc: A,
     global: Global,

@@ -14,6 +14,7 @@ mod entries;
 mod fault;
 mod growing;
 mod lines;
+mod options;
 mod proof_text;
 mod stored;
 mod streams;
@@ -26,5 +27,8 @@ pub use commands::head::{checkpoint_of, run_head};
 pub use commands::proving::{run_consistency, run_inclusion};
 pub use entries::read_entries;
 pub use fault::{RunFault, exit_of, fault_line};
+pub use options::{
+    CheckOptions, CosignerKey, KnownKey, ListenOptions, LogKey, ServeOptions, WitnessOptions,
+};
 pub use streams::{MOST_INPUT, print_text, read_input};
 pub use words::{Job, WordsFault, read_words};

@@ -1,11 +1,16 @@
 //! The command line: from words to a job.
 
+use crate::options::{CheckOptions, ServeOptions, WitnessOptions};
 use clap::error::ErrorKind;
 use clap::{Arg, ArgAction, ArgMatches, Command, Error as ClapError, value_parser};
 use std::alloc::{AllocError, Global};
 use thiserror::Error;
 
+mod serving;
 mod texts;
+
+// What is said where not one of two options is given.
+const EITHER_KEY: &str = "either --secret or --key is given";
 
 // What is said of the option that takes the text of a log's verifier key.
 const LOG_KEY: &str = "The log's verifier key";
@@ -54,14 +59,7 @@ pub enum Job {
     /// Say whether the proof on standard input is accepted.
     Check,
     /// Say whether it is accepted and about a signed checkpoint.
-    CheckUnder {
-        /// The file with the checkpoint.
-        checkpoint: String,
-        /// The text of the log's verifier key.
-        key: String,
-        /// The entry that an inclusion proof is to show; without it any.
-        entry: Option<String>,
-    },
+    CheckUnder(CheckOptions),
     /// Make a key.
     Keygen {
         /// The key's name.
@@ -76,6 +74,10 @@ pub enum Job {
     },
     /// Say whether one list on standard input extends another by an accepted proof.
     Audit,
+    /// Serve the log of the lines of standard input.
+    Serve(ServeOptions),
+    /// Serve a witness of one log.
+    Witness(WitnessOptions),
 }
 
 /// Why a command line gives no job.
@@ -244,7 +246,9 @@ fn commands<'a>(alloc: Global) -> Result<Command<'a>, AllocError> {
         .subcommand(check(alloc)?)?
         .subcommand(keygen(alloc)?)?
         .subcommand(open(alloc)?)?
-        .subcommand(audit(alloc))
+        .subcommand(audit(alloc))?
+        .subcommand(serving::serve(alloc)?)?
+        .subcommand(serving::witness(alloc)?)
 }
 
 // The fault where an option isn't there, though the command line was understood.
@@ -280,9 +284,10 @@ fn number_of(alloc: Global, options: &ArgMatches<'_>, name: &str) -> Result<u64,
     }
 }
 
-// The fault of options that don't go together.
-fn unfit(alloc: Global, error: Result<ClapError, AllocError>) -> WordsFault {
-    match error {
+// The fault of options of a command that don't go together.
+fn unfit(alloc: Global, command: Command<'_>, why: &str) -> WordsFault {
+    let mut command = command;
+    match command.error(ErrorKind::MissingRequiredArgument, why) {
         Ok(error) => usage(alloc, error),
         Err(_) => WordsFault::OutOfMemory,
     }
@@ -301,11 +306,7 @@ fn building_job(alloc: Global, options: &ArgMatches<'_>) -> Result<Job, WordsFau
             get,
         }),
         (None, Some(key)) => Ok(Job::BuildSigned { origin, key, get }),
-        _ => {
-            let kind = ErrorKind::MissingRequiredArgument;
-            let why = "either --secret or --key is given";
-            Err(unfit(alloc, build(alloc)?.error(kind, why)))
-        }
+        _ => Err(unfit(alloc, build(alloc)?, EITHER_KEY)),
     }
 }
 
@@ -316,15 +317,14 @@ fn checking_job(alloc: Global, options: &ArgMatches<'_>) -> Result<Job, WordsFau
     let entry = text_if_given(alloc, options, "entry")?;
     match (checkpoint, key, entry) {
         (None, None, None) => Ok(Job::Check),
-        (Some(checkpoint), Some(key), entry) => Ok(Job::CheckUnder {
+        (Some(checkpoint), Some(key), entry) => Ok(Job::CheckUnder(CheckOptions {
             checkpoint,
             key,
             entry,
-        }),
+        })),
         _ => {
-            let kind = ErrorKind::MissingRequiredArgument;
             let why = "--checkpoint and --key are given together, and --entry with them";
-            Err(unfit(alloc, check(alloc)?.error(kind, why)))
+            Err(unfit(alloc, check(alloc)?, why))
         }
     }
 }
@@ -352,6 +352,8 @@ fn job_of(alloc: Global, command: &str, options: &ArgMatches<'_>) -> Result<Job,
             key: text_of(alloc, options, "key")?,
         }),
         "audit" => Ok(Job::Audit),
+        "serve" => serving::serve_job(alloc, options),
+        "witness" => serving::witness_job(alloc, options),
         _ => Err(missing(alloc)),
     }
 }

@@ -53,7 +53,7 @@ fn hmac_of_the_vectors(rt: HostRuntime) -> Result<(), Fail> {
     ];
     for (secret, message, want) in cases {
         let tag = in_hex(rt.alloc(), hmac(secret, message))?;
-        assert_eq!(rt; tag.as_str(), want);
+        assert!(rt; tag.as_str() == want);
     }
     Ok(())
 }
@@ -72,10 +72,10 @@ fn what_the_key_signs_opens_with_the_same_secret_alone(rt: HostRuntime) -> Resul
     let note = sign_note(alloc, alloc, NO_ENTRY, signers.as_slice())?;
     let own = verifiers(alloc, b"s3cret")?;
     let opened = open_note(alloc, note.as_str(), own.as_slice())?;
-    assert_eq!(rt; opened.verified.as_slice(), [0].as_slice());
+    assert!(rt; opened.verified.as_slice() == [0].as_slice());
     let other = verifiers(alloc, b"another")?;
     let fault = open_note(alloc, note.as_str(), other.as_slice());
-    assert_eq!(rt; fault.err(), Some(NoteFault::Unverified));
+    assert!(rt; fault.err() == Some(NoteFault::Unverified));
     Ok(())
 }
 
@@ -88,8 +88,8 @@ fn id_of(alloc: Global, name: &str, secret: &[u8]) -> Result<u32, NoteFault> {
 #[test]
 fn identifiers_and_names(rt: HostRuntime) -> Result<(), Fail> {
     let alloc = rt.alloc();
-    assert_eq!(rt; id_of(alloc, "example.com/log", b"s3cret")?, 0x53B39C85);
-    assert_eq!(rt; id_of(alloc, "a b", b"").err(), Some(NoteFault::BadName(0)));
+    assert!(rt; id_of(alloc, "example.com/log", b"s3cret")? == 0x53B39C85);
+    assert!(rt; id_of(alloc, "a b", b"").err() == Some(NoteFault::BadName(0)));
     Ok(())
 }
 
@@ -106,11 +106,11 @@ fn demo_key_answers_out_of_memory(rt: HostRuntime) -> Result<(), AllocError> {
         let answer = made_on(&heap);
         if !heap.refused() {
             assert!(rt; number > 2);
-            assert_eq!(rt; answer, Ok(true));
+            assert!(rt; answer == Ok(true));
             return Ok(());
         }
-        assert_eq!(rt; answer, Err(NoteFault::OutOfMemory));
-        assert_eq!(rt; made_on(&heap), Ok(true));
+        assert!(rt; answer == Err(NoteFault::OutOfMemory));
+        assert!(rt; made_on(&heap) == Ok(true));
     }
     assert!(rt; false, "each run was refused");
     Ok(())

@@ -32,7 +32,7 @@ fn read_entries_answers_out_of_memory(rt: HostRuntime) -> Result<(), Fail> {
             assert!(rt; entry_root(Sha256Tree, answer?.as_slice()) == want);
             return Ok(());
         }
-        assert_eq!(rt; answer.err(), Some(RunFault::OutOfMemory));
+        assert!(rt; answer.err() == Some(RunFault::OutOfMemory));
         let again = read_entries(&heap, &mut Counted::new(input), 100)?;
         assert!(rt; entry_root(Sha256Tree, again.as_slice()) == want);
     }
@@ -67,15 +67,18 @@ fn head_answers_out_of_memory(rt: HostRuntime) -> Result<(), Fail> {
         let (outcome, text) = head_on(&rt, rt.alloc(), &heap);
         if !heap.refused() {
             assert!(rt; number > 5);
-            assert_eq!(rt; outcome, Ok(()));
-            assert_eq!(rt; text.as_slice(), TWO_ENTRIES.as_bytes());
+            assert!(rt; outcome == Ok(()));
+            assert!(rt; text.as_slice() == TWO_ENTRIES.as_bytes());
             return Ok(());
         }
-        assert_eq!(rt; outcome, Err(RunFault::OutOfMemory), "at request {number}");
-        assert_eq!(rt; text.len(), 0);
+        assert!(rt;
+            outcome == Err(RunFault::OutOfMemory),
+            "at request {number}"
+        );
+        assert!(rt; text.len() == 0);
         let (outcome, text) = head_on(&rt, rt.alloc(), &heap);
-        assert_eq!(rt; outcome, Ok(()));
-        assert_eq!(rt; text.as_slice(), TWO_ENTRIES.as_bytes());
+        assert!(rt; outcome == Ok(()));
+        assert!(rt; text.as_slice() == TWO_ENTRIES.as_bytes());
     }
     assert!(rt; false, "each run was refused");
     Ok(())
@@ -88,19 +91,18 @@ fn build_answers_out_of_memory(rt: &(impl Abort + AllocGlobal), get: Option<&str
         let (text, outcome) = build(&heap, rt.alloc(), ORIGIN, get, INPUT);
         if !heap.refused() {
             assert!(rt; number > 5);
-            assert_eq!(rt; outcome, Ok(()));
-            assert_eq!(rt; text.as_slice(), want);
+            assert!(rt; outcome == Ok(()));
+            assert!(rt; text.as_slice() == want);
             return;
         }
-        assert_eq!(rt;
-            outcome,
-            Err(RunFault::OutOfMemory),
+        assert!(rt;
+            outcome == Err(RunFault::OutOfMemory),
             "{get:?} at request {number}"
         );
-        assert_eq!(rt; text.len(), 0);
+        assert!(rt; text.len() == 0);
         let (text, outcome) = build(&heap, rt.alloc(), ORIGIN, get, INPUT);
-        assert_eq!(rt; outcome, Ok(()));
-        assert_eq!(rt; text.as_slice(), want);
+        assert!(rt; outcome == Ok(()));
+        assert!(rt; text.as_slice() == want);
     }
     assert!(rt; false, "each run was refused");
 }
@@ -122,15 +124,18 @@ fn a_missing_resource_is_told_or_memory_is_out(rt: HostRuntime) {
     for number in 1..MOST {
         let heap = Refusing::at(rt.alloc(), number);
         let (text, outcome) = build(&heap, rt.alloc(), ORIGIN, absent, INPUT);
-        assert_eq!(rt; text.len(), 0);
+        assert!(rt; text.len() == 0);
         if !heap.refused() {
             assert!(rt; number > 5);
-            assert_eq!(rt; outcome, Err(RunFault::NotThere));
+            assert!(rt; outcome == Err(RunFault::NotThere));
             return;
         }
-        assert_eq!(rt; outcome, Err(RunFault::OutOfMemory), "at request {number}");
+        assert!(rt;
+            outcome == Err(RunFault::OutOfMemory),
+            "at request {number}"
+        );
         let (_, outcome) = build(&heap, rt.alloc(), ORIGIN, absent, INPUT);
-        assert_eq!(rt; outcome, Err(RunFault::NotThere));
+        assert!(rt; outcome == Err(RunFault::NotThere));
     }
     assert!(rt; false, "each run was refused");
 }
@@ -139,9 +144,9 @@ fn a_missing_resource_is_told_or_memory_is_out(rt: HostRuntime) {
 fn a_bad_origin_and_a_bad_path_need_no_memory(rt: HostRuntime) {
     let heap = Refusing::since(rt.alloc(), 1);
     let (_, outcome) = build(&heap, rt.alloc(), "a b", Some("checkpoint"), INPUT);
-    assert_eq!(rt; outcome, Err(RunFault::BadOrigin));
+    assert!(rt; outcome == Err(RunFault::BadOrigin));
     let (_, outcome) = build(&heap, rt.alloc(), ORIGIN, Some("tile/0/67"), INPUT);
-    assert_eq!(rt; outcome, Err(RunFault::BadPath));
+    assert!(rt; outcome == Err(RunFault::BadPath));
     assert!(rt; !heap.refused());
 }
 

@@ -2,8 +2,8 @@
 
 use crate::builds;
 use std::alloc::{AllocError, Global};
-use std::fs::Files;
 use std::io::{ErrorKind, Read, Write};
+use std::net::{Net, TcpListener, TcpStream};
 use std::process::Abort;
 use std::random::RandomSource;
 use std::test::Fail;
@@ -12,6 +12,7 @@ use tl_build::{Demonstration, run_build};
 use tl_command::{RunFault, run_head};
 use tl_device::Counted;
 use tl_job::run_words;
+use tl_serve::Host;
 use tl_testing::texts::TWO_ENTRIES;
 use tl_testing::{FailingReader, FailingWriter};
 
@@ -33,12 +34,10 @@ fn words_of(alloc: Global, words: &[&str]) -> Result<Vec<String>, AllocError> {
 }
 
 // Runs the words over this reader.
-fn run_line<H: Threads + Sync + Files + RandomSource, R: Read + Drop>(
-    rt: &H,
-    alloc: Global,
-    words: &[&str],
-    reader: R,
-) -> Result<Ended, AllocError> {
+fn run_line<
+    H: Host + Net<Listener = TcpListener, Stream = TcpStream> + RandomSource,
+    R: Read + Send + Drop,
+>(rt: &H, alloc: Global, words: &[&str], reader: R) -> Result<Ended, AllocError> {
     let words = words_of(alloc, words)?;
     let mut reader = Counted::new(reader);
     let mut writer = Counted::new(Vec::new(alloc));
@@ -84,9 +83,9 @@ fn faults_are_told_on_standard_error(rt: HostRuntime) -> Result<(), Fail> {
     ];
     for (words, input, errors, status) in cases {
         let ended = run_line(&rt, alloc, words, input)?;
-        assert_eq!(rt; ended.errors.as_slice(), errors);
+        assert!(rt; ended.errors.as_slice() == errors);
         assert!(rt; ended.output.is_empty());
-        assert_eq!(rt; ended.status, status);
+        assert!(rt; ended.status == status);
     }
     Ok(())
 }
@@ -102,7 +101,7 @@ fn words_that_name_no_job_are_explained(rt: HostRuntime) -> Result<(), Fail> {
         let ended = run_line(&rt, rt.alloc(), words, b"a\n".as_slice())?;
         assert!(rt; ended.errors.len() > 10);
         assert!(rt; ended.output.is_empty());
-        assert_eq!(rt; ended.status, 2);
+        assert!(rt; ended.status == 2);
     }
     Ok(())
 }
@@ -112,8 +111,8 @@ fn a_device_that_fails_ends_with_3(rt: HostRuntime) -> Result<(), Fail> {
     let alloc = rt.alloc();
     let reader = FailingReader::new(b"a\n", 1, 2, ErrorKind::Other);
     let ended = run_line(&rt, alloc, &["tlog", "head", "--origin", "x"], reader)?;
-    assert_eq!(rt; ended.errors.as_slice(), b"tlog: read failed\n".as_slice());
-    assert_eq!(rt; ended.status, 3);
+    assert!(rt; ended.errors.as_slice() == b"tlog: read failed\n".as_slice());
+    assert!(rt; ended.status == 3);
     let words = words_of(alloc, &["tlog", "head", "--origin", ""])?;
     let mut reader = Counted::new(b"".as_slice());
     let mut writer = Counted::new(Vec::new(alloc));
@@ -127,9 +126,9 @@ fn a_device_that_fails_ends_with_3(rt: HostRuntime) -> Result<(), Fail> {
         &mut writer,
         &mut errors,
     );
-    assert_eq!(rt; status, 1);
+    assert!(rt; status == 1);
     assert!(rt; errors.failed());
-    assert_eq!(rt; errors.into_inner().written(), 6);
+    assert!(rt; errors.into_inner().written() == 6);
     Ok(())
 }
 
@@ -214,18 +213,17 @@ fn tells_failed_reads(rt: &(impl Abort + AllocGlobal + Threads + Sync), run: Run
     let after = run.input.len() as u64 + 2;
     for fails_at in 1..after {
         let (outcome, failed, written) = run_from(rt, rt.alloc(), run, fails_at, kind);
-        assert_eq!(rt;
-            outcome,
-            Err(RunFault::Read),
+        assert!(rt;
+            outcome == Err(RunFault::Read),
             "{asked:?} at read {fails_at}"
         );
         assert!(rt; failed);
-        assert_eq!(rt; written, 0);
+        assert!(rt; written == 0);
     }
     let (outcome, failed, written) = run_from(rt, rt.alloc(), run, after, kind);
-    assert_eq!(rt; outcome, Ok(()), "{asked:?}");
+    assert!(rt; outcome == Ok(()), "{asked:?}");
     assert!(rt; !failed);
-    assert_eq!(rt; written, run.want.len());
+    assert!(rt; written == run.want.len());
 }
 
 #[test]
@@ -264,9 +262,8 @@ fn tells_failed_writes(
         let mut bytes = [0u8; 200];
         let fails_at = number as u64 + 1;
         let (outcome, failed) = run_into(rt, rt.alloc(), run, &mut bytes, 1, fails_at, takes_none);
-        assert_eq!(rt;
-            outcome,
-            Err(RunFault::Write),
+        assert!(rt;
+            outcome == Err(RunFault::Write),
             "{asked:?} at write {fails_at}"
         );
         assert!(rt; failed);
@@ -282,7 +279,7 @@ fn a_failed_write_leaves_the_front_of_the_text(rt: HostRuntime) -> Result<(), Fa
         tells_failed_writes(&rt, run, true);
         let mut bytes = [0u8; 200];
         let (outcome, failed) = run_into(&rt, rt.alloc(), run, &mut bytes, 7, 0, false);
-        assert_eq!(rt; outcome, Ok(()));
+        assert!(rt; outcome == Ok(()));
         assert!(rt; !failed);
         assert!(rt; bytes.as_slice().starts_with(run.want));
     }

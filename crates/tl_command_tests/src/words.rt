@@ -74,8 +74,8 @@ fn build_with_and_without_a_path(rt: HostRuntime) -> Result<(), Fail> {
     else {
         return Err(Fail::new("another job"));
     };
-    assert_eq!(rt; origin.as_str(), "x");
-    assert_eq!(rt; secret.as_str(), "y");
+    assert!(rt; origin.as_str() == "x");
+    assert!(rt; secret.as_str() == "y");
     assert!(rt; get.is_none());
     let words = [
         "tlog", "build", "--get", "p", "--secret", "", "--origin", "x",
@@ -85,7 +85,7 @@ fn build_with_and_without_a_path(rt: HostRuntime) -> Result<(), Fail> {
         return Err(Fail::new("another job"));
     };
     assert!(rt; secret.is_empty());
-    assert_eq!(rt; get.as_deref(), Some("p"));
+    assert!(rt; get.as_deref() == Some("p"));
     Ok(())
 }
 
@@ -109,7 +109,7 @@ fn other_words_get_the_usage(rt: HostRuntime) -> Result<(), Fail> {
         &["tlog", "build", "--origin", "x", "--secret", "y", "p"],
     ];
     for words in cases {
-        assert_eq!(rt; job_of(rt.alloc(), words)?.err(), Some(true));
+        assert!(rt; job_of(rt.alloc(), words)?.err() == Some(true));
     }
     Ok(())
 }

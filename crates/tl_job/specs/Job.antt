@@ -1,6 +1,5 @@
 -- What the program does with a job: which command runs, with which options, and how the run ends.
 use Rattle.std.specs.Prelude.{◌≡◌, ◌⊎◌, ℕ, Bool, true, false, List, Option, Result, Ok, Err, string_bytes, option_map}
-use Rattle.std.specs.declared.vec.Vec.{Vec}
 use Rattle.sha2.specs.Sha256.{sha256}
 use Rattle.tl_device.specs.Device.{Passage, IsUnread, IsUnwritten}
 use Rattle.tl_command.specs.Run.{Runs}
@@ -8,30 +7,18 @@ use Rattle.tl_command.specs.Head.{RunsHead}
 use Rattle.tl_command.specs.ProofCommands.{InclusionComes, ConsistencyComes, CheckComes}
 use Rattle.tl_command.specs.AuditCommand.{AuditComes}
 use Rattle.tl_command.specs.declared.fault.RunFault.{RunFault}
-use Rattle.tl_command.specs.declared.fault.RunFault.TheVariants.{Read, TooLarge, OutOfMemory}
 use Rattle.tl_command.specs.declared.words.Job.{Job}
-use Rattle.tl_command.specs.declared.words.Job.TheVariants.{Head, Build, BuildSigned, Inclusion, Consistency, Check, CheckUnder, Keygen, Open, Audit}
+use Rattle.tl_command.specs.declared.words.Job.TheVariants.{Head, Build, BuildSigned, Inclusion, Consistency, Check, CheckUnder, Keygen, Open, Audit, Serve, Witness}
 use Rattle.tl_build.specs.Mirror.{demo_log_key}
 use Rattle.tl_build.specs.Build.{RunsBuild}
 use Rattle.tl_build.specs.Signed.{RunsSigned}
 use Rattle.tl_key.specs.NoteKey.{note_kind, cosignature_kind}
 use Rattle.tl_open.specs.CheckOpened.{IsIdle, RunsCheckOpened}
+use Rattle.tl_open.specs.Keys.{IsFileFault}
 use Rattle.tl_open.specs.Keygen.{GivesKey}
 use Rattle.tl_open.specs.Open.{RunsOpen}
 use Rattle.tl_hash.specs.Bytes.{Bytes}
 use Rattle.tl_job.specs.Ending.{status_of, told_of, Told}
-
--- a file may fail to be read for these reasons alone
-abbrev pub IsFileFault : RunFault → Type 0
-IsFileFault Read = Unit {0}
-IsFileFault TooLarge = Unit {0}
-IsFileFault OutOfMemory = Unit {0}
-IsFileFault fault = ⊥
-
--- the bytes of a file come, whatever it has, or it can't be read
-abbrev pub ReadsFile : {A : Type 0} → Result (Vec ℕ A) RunFault → Type 0
-ReadsFile (Ok bytes) = Unit {0}
-ReadsFile (Err fault) = IsFileFault fault
 
 -- the result is such a fault
 abbrev pub IsUnopened : Result (Unit {0}) RunFault → Type 0
@@ -53,7 +40,8 @@ abbrev pub key_kind : Bool → ℕ
 key_kind true = cosignature_kind
 key_kind false = note_kind
 
--- a run of a job's command: i is its reader, o its writer, and e standard error, to which keygen alone writes
+-- a run of a job's command: i is its reader, o its writer, and e standard error, to which keygen and the servers alone
+-- write
 abbrev pub RunsJob : Job → Passage → Passage → Passage → Result (Unit {0}) RunFault → Type 0
 RunsJob (Head origin threads) i o e result = RunsHead (string_bytes origin) i o result × IsUnwritten e
 RunsJob (Build origin secret get) i o e result =
@@ -62,10 +50,12 @@ RunsJob (BuildSigned origin key get) i o e result = BuildsSigned (string_bytes o
 RunsJob (Inclusion index) i o e result = Runs (InclusionComes index) i o result × IsUnwritten e
 RunsJob (Consistency old) i o e result = Runs (ConsistencyComes old) i o result × IsUnwritten e
 RunsJob Check i o e result = Runs CheckComes i o result × IsUnwritten e
-RunsJob (CheckUnder checkpoint key entry) i o e result = ChecksFile (string_bytes key) (option_map string_bytes entry) i o result × IsUnwritten e
+RunsJob (CheckUnder options) i o e result = ChecksFile (string_bytes options.key) (option_map string_bytes options.entry) i o result × IsUnwritten e
 RunsJob (Keygen name is_cosigner) i o e result = GivesKey (string_bytes name) (key_kind is_cosigner) o e result × IsUnread i
 RunsJob (Open key) i o e result = RunsOpen (string_bytes key) i o result × IsUnwritten e
 RunsJob Audit i o e result = Runs (AuditComes sha256) i o result × IsUnwritten e
+RunsJob (Serve options) i o e result = IsUnwritten o
+RunsJob (Witness options) i o e result = Unit {0}
 
 -- the job's command ran, its fault was told, and the exit status says how it ended. In between standard error held
 -- these bytes, or had failed

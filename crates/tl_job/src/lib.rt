@@ -8,7 +8,6 @@
 //! ```
 #![tactic(auto)]
 
-mod files;
 mod running;
 
 pub use running::{end_run, run_job, run_words};

@@ -6,21 +6,22 @@ ghost use Rattle.tl_job.specs.Job.{BuildsSigned, ChecksFile, EndsWords, RunsJob,
 ghost use Rattle.tl_open.specs.Keygen.{GivesKey};
 ghost use Rattle.tl_job.specs.Ending.{Told, status_of, told_of};
 
-use crate::files::read_file;
 use std::alloc::{Allocator, Global};
 use std::fs::Files;
 use std::io::{Read, Write};
+use std::net::{Net, TcpListener, TcpStream};
 use std::random::RandomSource;
 use std::thread::{Threads, available_parallelism};
 use tl_build::{Demonstration, run_build, run_build_signed};
 use tl_command::{
-    Job, RunFault, WordsFault, exit_of, fault_line, read_words, run_audit, run_check,
+    CheckOptions, Job, RunFault, WordsFault, exit_of, fault_line, read_words, run_audit, run_check,
     run_consistency, run_head, run_inclusion,
 };
 use tl_device::{Counted, write_whole};
 use tl_hash::Sha256Tree;
 use tl_key::{Cosignature, Note};
-use tl_open::{run_check_opened, run_keygen, run_open};
+use tl_open::{read_file, run_check_opened, run_keygen, run_open};
+use tl_serve::{Host, run_serve, run_witness};
 
 // How many threads hash at once: as many as are asked for, or else as the machine has.
 fn threads_of<H: Threads>(rt: &H, asked: Option<u16>) -> usize {
@@ -90,8 +91,13 @@ fn check_under<H: Files, R: Read, W: Write>(
 }
 
 /// Runs the command of a job with its options: each job its own command, which reads the reader and writes the writer.
-/// `keygen` writes to `errors` too.
-pub fn run_job<H: Threads + Sync + Files + RandomSource, R: Read, W: Write, E: Write>(
+/// `keygen`, `serve` and `witness` write to `errors` too, and the last two may wait.
+pub fn run_job<
+    H: Host + Net<Listener = TcpListener, Stream = TcpStream> + RandomSource,
+    R: Read + Send,
+    W: Write + Send,
+    E: Write,
+>(
     rt: &H,
     alloc: Global,
     job: Job,
@@ -120,33 +126,35 @@ pub fn run_job<H: Threads + Sync + Files + RandomSource, R: Read, W: Write, E: W
         Job::Inclusion { index } => run_inclusion(alloc, index, reader, writer),
         Job::Consistency { old } => run_consistency(alloc, old, reader, writer),
         Job::Check => run_check(alloc, reader, writer),
-        Job::CheckUnder {
-            checkpoint,
-            key,
-            entry,
-        } => {
-            check_under(
-                rt,
-                alloc,
-                &checkpoint,
-                &key,
-                entry.as_deref(),
-                reader,
-                writer,
-            )
+        Job::CheckUnder(
+            CheckOptions {
+                checkpoint,
+                key,
+                entry,
+            },
+        ) => {
+            let entry = entry.as_deref();
+            check_under(rt, alloc, &checkpoint, &key, entry, reader, writer)
         }
         Job::Keygen { name, is_cosigner } => {
             make_key(rt, alloc, &name, is_cosigner, writer, errors)
         }
         Job::Open { key } => run_open(alloc, &key, reader, writer),
         Job::Audit => run_audit(alloc, Sha256Tree, reader, writer),
+        Job::Serve(options) => run_serve(rt, alloc, &options, reader, errors),
+        Job::Witness(options) => run_witness(rt, alloc, &options, reader, writer, errors),
     }
 }
 
 /// Runs the command that the words name, the program's own name first, and answers the exit status. Where they name
 /// none, the text on how to call the program is written to `errors`, the status is 2, and nothing is read or written
 /// else.
-pub fn run_words<H: Threads + Sync + Files + RandomSource, R: Read, W: Write, E: Write>(
+pub fn run_words<
+    H: Host + Net<Listener = TcpListener, Stream = TcpStream> + RandomSource,
+    R: Read + Send,
+    W: Write + Send,
+    E: Write,
+>(
     rt: &H,
     alloc: Global,
     words: &[String],

@@ -37,7 +37,7 @@ pub(crate) fn check_rows(rt: &(impl Abort + AllocGlobal), rows: &[Row]) -> Resul
         let message = message_of(rt.alloc(), row.message)?;
         let signature = signature_of(row.signature)?;
         let stands = verify(&key, message.as_slice(), &signature);
-        assert_eq!(rt; stands, row.stands, "{} {}", row.key, row.message);
+        assert!(rt; stands == row.stands, "{} {}", row.key, row.message);
     }
     Ok(())
 }

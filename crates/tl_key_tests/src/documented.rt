@@ -37,15 +37,15 @@ pub(crate) const COSIGNER_PUBLIC: &str =
 fn texts_of_the_documentation(rt: HostRuntime) -> Result<(), Fail> {
     let alloc = rt.alloc();
     let signer: NoteSigner<Global> = read_signer_key(alloc, PRIVATE)?;
-    assert_eq!(rt; Signer::name(&signer), "PeterNeumann");
-    assert_eq!(rt; Signer::key_id(&signer), 0xc74f_20a3);
-    assert_eq!(rt; write_signer_key(alloc, &signer)?.as_str(), PRIVATE);
+    assert!(rt; Signer::name(&signer) == "PeterNeumann");
+    assert!(rt; Signer::key_id(&signer) == 0xc74f_20a3);
+    assert!(rt; write_signer_key(alloc, &signer)?.as_str() == PRIVATE);
     let public = signer.verifier(alloc)?;
-    assert_eq!(rt; write_verifier_key(alloc, &public)?.as_str(), PUBLIC);
+    assert!(rt; write_verifier_key(alloc, &public)?.as_str() == PUBLIC);
     let verifier: NoteVerifier<Global> = read_verifier_key(alloc, PUBLIC)?;
-    assert_eq!(rt; Verifier::name(&verifier), "PeterNeumann");
-    assert_eq!(rt; Verifier::key_id(&verifier), 0xc74f_20a3);
-    assert_eq!(rt; write_verifier_key(alloc, &verifier)?.as_str(), PUBLIC);
+    assert!(rt; Verifier::name(&verifier) == "PeterNeumann");
+    assert!(rt; Verifier::key_id(&verifier) == 0xc74f_20a3);
+    assert!(rt; write_verifier_key(alloc, &verifier)?.as_str() == PUBLIC);
     assert!(rt; verifier.public_key() == public.public_key());
     Ok(())
 }
@@ -56,12 +56,12 @@ fn note_of_the_documentation(rt: HostRuntime) -> Result<(), Fail> {
     let key: NoteSigner<Global> = read_signer_key(alloc, PRIVATE)?;
     let signer: Box<dyn Signer> = Box::new(alloc, key)?;
     let note = sign_note(alloc, alloc, TEXT, &[signer])?;
-    assert_eq!(rt; note.as_str(), NOTE);
+    assert!(rt; note.as_str() == NOTE);
     let key: NoteVerifier<Global> = read_verifier_key(alloc, PUBLIC)?;
     let verifier: Box<dyn Verifier> = Box::new(alloc, key)?;
     let opened = open_note(alloc, NOTE, &[verifier])?;
-    assert_eq!(rt; opened.note.text, TEXT);
-    assert_eq!(rt; opened.verified.as_slice(), [0].as_slice());
+    assert!(rt; opened.note.text == TEXT);
+    assert!(rt; opened.verified.as_slice() == [0].as_slice());
     assert!(rt; opened.unverified.is_empty());
     Ok(())
 }
@@ -70,18 +70,12 @@ fn note_of_the_documentation(rt: HostRuntime) -> Result<(), Fail> {
 fn key_of_a_cosigner(rt: HostRuntime) -> Result<(), Fail> {
     let alloc = rt.alloc();
     let signer: CosignerSigner<Global> = read_signer_key(alloc, COSIGNER_PRIVATE)?;
-    assert_eq!(rt;
-        write_signer_key(alloc, &signer)?.as_str(),
-        COSIGNER_PRIVATE
-    );
+    assert!(rt; write_signer_key(alloc, &signer)?.as_str() == COSIGNER_PRIVATE);
     let public = signer.verifier(alloc)?;
-    assert_eq!(rt;
-        write_verifier_key(alloc, &public)?.as_str(),
-        COSIGNER_PUBLIC
-    );
+    assert!(rt; write_verifier_key(alloc, &public)?.as_str() == COSIGNER_PUBLIC);
     let verifier: CosignerVerifier<Global> = read_verifier_key(alloc, COSIGNER_PUBLIC)?;
     let mut signature = Signer::sign(&signer, alloc, b"a message")?;
-    assert_eq!(rt; signature.len(), 64);
+    assert!(rt; signature.len() == 64);
     assert!(rt; verifier.verify(b"a message", signature.as_slice()));
     assert!(rt; !verifier.verify(b"another message", signature.as_slice()));
     signature.push(0)?;

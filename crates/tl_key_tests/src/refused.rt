@@ -91,22 +91,16 @@ fn texts_of_other_keys(rt: HostRuntime) -> Result<(), Fail> {
     for text in ["", "+", "++", COSIGNER_PUBLIC, COSIGNER_PRIVATE] {
         assert!(rt; is_refused(alloc, text), "{text}");
     }
-    assert_eq!(rt; verifier_fault(alloc, PRIVATE), Some(KeyFault::Malformed));
-    assert_eq!(rt; signer_fault(alloc, PUBLIC), Some(KeyFault::Malformed));
+    assert!(rt; verifier_fault(alloc, PRIVATE) == Some(KeyFault::Malformed));
+    assert!(rt; signer_fault(alloc, PUBLIC) == Some(KeyFault::Malformed));
     let line = format!(in alloc; "{PUBLIC}\n")?;
-    assert_eq!(rt;
-        verifier_fault(alloc, line.as_str()),
-        Some(KeyFault::Malformed)
-    );
+    assert!(rt; verifier_fault(alloc, line.as_str()) == Some(KeyFault::Malformed));
     let line = format!(in alloc; "{PRIVATE}\n")?;
-    assert_eq!(rt;
-        signer_fault(alloc, line.as_str()),
-        Some(KeyFault::Malformed)
-    );
+    assert!(rt; signer_fault(alloc, line.as_str()) == Some(KeyFault::Malformed));
     let verifier: Result<CosignerVerifier<Global>, KeyFault> = read_verifier_key(alloc, PUBLIC);
-    assert_eq!(rt; verifier.err(), Some(KeyFault::Malformed));
+    assert!(rt; verifier.err() == Some(KeyFault::Malformed));
     let signer: Result<CosignerSigner<Global>, KeyFault> = read_signer_key(alloc, PRIVATE);
-    assert_eq!(rt; signer.err(), Some(KeyFault::Malformed));
+    assert!(rt; signer.err() == Some(KeyFault::Malformed));
     Ok(())
 }
 
@@ -125,14 +119,14 @@ fn keys_that_are_not_made(rt: HostRuntime) -> Result<(), Fail> {
         "example.com/log",
         &small,
     );
-    assert_eq!(rt; unsound.err(), Some(KeyFault::Unsound));
+    assert!(rt; unsound.err() == Some(KeyFault::Unsound));
     for name in ["", "a b", "a+b", "a\n"] {
         let verifier: Result<NoteVerifier<Global>, KeyFault> = VerifierKey::new(
             alloc, name, &small,
         );
-        assert_eq!(rt; verifier.err(), Some(KeyFault::BadName), "{name}");
+        assert!(rt; verifier.err() == Some(KeyFault::BadName), "{name}");
         let signer: Result<NoteSigner<Global>, KeyFault> = SignerKey::new(alloc, name, &small);
-        assert_eq!(rt; signer.err(), Some(KeyFault::BadName), "{name}");
+        assert!(rt; signer.err() == Some(KeyFault::BadName), "{name}");
     }
     Ok(())
 }
@@ -170,7 +164,7 @@ fn each_request_for_memory_refused(rt: HostRuntime) -> Result<(), Fail> {
             assert!(rt; answer?);
             return Ok(());
         }
-        assert_eq!(rt; answer.err(), Some(KeyFault::OutOfMemory));
+        assert!(rt; answer.err() == Some(KeyFault::OutOfMemory));
     }
     assert!(rt; false, "each run was refused");
     Ok(())
@@ -183,12 +177,12 @@ fn malformed_where_no_memory_is_left(rt: HostRuntime) -> Result<(), Fail> {
         &heap,
         COSIGNER_PUBLIC,
     );
-    assert_eq!(rt; other.err(), Some(KeyFault::Malformed));
+    assert!(rt; other.err() == Some(KeyFault::Malformed));
     let other: Result<NoteSigner<&Refusing<Global>>, KeyFault> = read_signer_key(
         &heap,
         COSIGNER_PRIVATE,
     );
-    assert_eq!(rt; other.err(), Some(KeyFault::Malformed));
+    assert!(rt; other.err() == Some(KeyFault::Malformed));
     assert!(rt; !heap.refused());
     Ok(())
 }

@@ -12,7 +12,8 @@ use Rattle.tl_command.specs.ProofCommands.{Subject, CheckAboutComes}
 use Rattle.tl_command.specs.Run.{Runs}
 use Rattle.tl_command.specs.declared.fault.RunFault.{RunFault}
 use Rattle.tl_command.specs.declared.fault.RunFault.TheVariants.{BadKey, BadCheckpoint, WrongSignature, Unverified, OutOfMemory}
-use Rattle.tl_open.specs.Open.{IsNoKey, IsKeyWith, IsWrongNote, IsUnknownNote}
+use Rattle.tl_open.specs.Keys.{IsNoKey}
+use Rattle.tl_open.specs.Open.{IsKeyWith, IsWrongNote, IsUnknownNote}
 
 -- the bytes are no note of a checkpoint
 abbrev pub IsNoCheckpoint : Bytes → Type 0

@@ -10,6 +10,7 @@ use Rattle.tl_key.specs.KeyText.{IsVerifierText}
 use Rattle.tl_command.specs.Run.{Output, Prints, PrintsRefusal, Fails, Runs}
 use Rattle.tl_command.specs.declared.fault.RunFault.{RunFault}
 use Rattle.tl_command.specs.declared.fault.RunFault.TheVariants.{Malformed, BadKey, WrongSignature, Unverified, OutOfMemory}
+use Rattle.tl_open.specs.Keys.{IsNoKey}
 
 -- the bytes are a note of this text, which opens
 pub record IsOpened (keys : List Key) (bytes text : Bytes) : Type 0 where
@@ -41,10 +42,6 @@ OpenComes keys input (Fails Malformed) = HasNoNote input
 OpenComes keys input (Fails (WrongSignature place)) = IsWrongNote keys input place
 OpenComes keys input (Fails Unverified) = IsUnknownNote keys input
 OpenComes keys input (Fails fault) = ⊥
-
--- the text is that of no verifier's key of a log
-abbrev pub IsNoKey : Bytes → Type 0
-IsNoKey text = (k : PublicKey) → IsVerifierText note_kind text k → ⊥
 
 -- the text is that of a verifier's key of a log, of which this holds
 pub record IsKeyWith (text : Bytes) (Fact : PublicKey → Type 0) : Type 0 where

@@ -8,7 +8,8 @@ ghost use Rattle.tl_key.specs.NoteKey.{PublicKey, note_kind, verifier_key};
 ghost use Rattle.tl_open.specs.CheckOpened.{RunsCheckOpened, RunsUnder};
 ghost use Rattle.tl_open.specs.Inner.Notes.{OpensBytes, after_opening};
 
-use crate::opening::{key_of, note_refusal};
+use crate::keys::read_log_key;
+use crate::opening::note_refusal;
 use std::alloc::Global;
 use std::io::{Read, Write};
 use std::str;
@@ -99,7 +100,7 @@ pub fn run_check_opened<R: Read, W: Write>(
 ) -> Result<(), RunFault>
     ensures { RunsCheckOpened text.now bytes.now (option_map (λ e. e.now) entry.entry) (passage R.remaining reader.old reader.new) (passage W.contents writer.old writer.new) result }
 {
-    let key = key_of(alloc, text)?;
+    let key = read_log_key(alloc, text)?;
     let verifier: Box<dyn Verifier> = Box::new(alloc, key)?;
     check_by(alloc, text, &[verifier], bytes, entry, reader, writer)
 }

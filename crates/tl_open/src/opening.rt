@@ -5,28 +5,16 @@ ghost use Rattle.tl_command.specs.Run.{Runs};
 ghost use Rattle.tl_device.specs.Device.{passage};
 ghost use Rattle.tl_key.specs.NoteKey.{PublicKey, note_kind, verifier_key};
 ghost use Rattle.tl_key.specs.KeyText.{IsVerifierText};
-ghost use Rattle.tl_key.specs.Reading.{ReadsVerifier};
-ghost use Rattle.tl_open.specs.Inner.Notes.{ReadsKey, after_note};
+ghost use Rattle.tl_open.specs.Inner.Notes.{after_note};
 ghost use Rattle.tl_open.specs.Open.{OpenComes, RunsOpen};
 
+use crate::keys::read_log_key;
 use std::alloc::Global;
 use std::io::{Read, Write};
 use std::str;
 use tl_command::{MOST_INPUT, RunFault, print_text, read_input};
 use tl_device::Counted;
-use tl_key::{KeyFault, NoteVerifier, read_verifier_key};
 use tl_note::{NoteFault, Verifier, open_note};
-
-// The verifier's key of a log that a text is of.
-pub(crate) fn key_of(alloc: Global, text: &str) -> Result<NoteVerifier<Global>, RunFault>
-    ensures { ReadsKey text.now result }
-{
-    match read_verifier_key(alloc, text) {
-        Ok(key) => Ok(key),
-        Err(KeyFault::OutOfMemory) => Err(RunFault::OutOfMemory),
-        Err(_) => Err(RunFault::BadKey),
-    }
-}
 
 // Why a note doesn't open.
 pub(crate) fn note_refusal(fault: NoteFault) -> RunFault
@@ -87,7 +75,7 @@ pub fn run_open<R: Read, W: Write>(
 ) -> Result<(), RunFault>
     ensures { RunsOpen text.now (passage R.remaining reader.old reader.new) (passage W.contents writer.old writer.new) result }
 {
-    let key = key_of(alloc, text)?;
+    let key = read_log_key(alloc, text)?;
     let verifier: Box<dyn Verifier> = Box::new(alloc, key)?;
     open_by(alloc, text, &[verifier], reader, writer)
 }

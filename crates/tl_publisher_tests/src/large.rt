@@ -120,6 +120,6 @@ fn all_that_was_published_stays(rt: HostRuntime) -> Result<(), Fail> {
     let alloc = rt.alloc();
     let script = script(alloc)?;
     let wrong = run(&rt, alloc, 1, 4096, 100_000, script.as_slice())?;
-    assert_eq!(rt; wrong, None);
+    assert!(rt; wrong == None);
     Ok(())
 }

@@ -80,7 +80,7 @@ fn first() -> [Step; 14] {
 #[test]
 fn proposed_prefix_is_shown_with_the_line_of_its_witness(rt: HostRuntime) -> Result<(), Fail> {
     let alloc = rt.alloc();
-    assert_eq!(rt; run_required(&rt, alloc, &[WITNESS], 1, &first())?, None);
+    assert!(rt; run_required(&rt, alloc, &[WITNESS], 1, &first())? == None);
     Ok(())
 }
 
@@ -103,7 +103,7 @@ fn next() -> [Step; 10] {
 #[test]
 fn other_lines_are_left_out_and_a_proposal_is_attached_once(rt: HostRuntime) -> Result<(), Fail> {
     let alloc = rt.alloc();
-    assert_eq!(rt; run_required(&rt, alloc, &[WITNESS], 1, &next())?, None);
+    assert!(rt; run_required(&rt, alloc, &[WITNESS], 1, &next())? == None);
     Ok(())
 }
 
@@ -121,12 +121,12 @@ fn one_of_two() -> [Step; 4] {
 fn two_lines_of_one_witness_count_once(rt: HostRuntime) -> Result<(), Fail> {
     let alloc = rt.alloc();
     let names = [WITNESS, "w2.example"];
-    assert_eq!(rt; run_required(&rt, alloc, &names, 2, &one_of_two())?, None);
+    assert!(rt; run_required(&rt, alloc, &names, 2, &one_of_two())? == None);
     let free = [
         Step::Propose(Err(PublishFault::Quorum)),
         Step::Publish(Ok(0)),
     ];
-    assert_eq!(rt; run(&rt, alloc, 1, 4, 9, &free)?, None);
+    assert!(rt; run(&rt, alloc, 1, 4, 9, &free)? == None);
     Ok(())
 }
 
@@ -170,7 +170,7 @@ fn refused_first<R: Wait + Drop>(
 fn witnesses_that_are_not_required_come_back(rt: HostRuntime) -> Result<(), Fail> {
     let alloc = rt.alloc();
     for (names, need, want) in REFUSED {
-        assert_eq!(rt; refused_first(&rt, alloc, names, need)?, want);
+        assert!(rt; refused_first(&rt, alloc, names, need)? == want);
     }
     Ok(())
 }
@@ -180,10 +180,10 @@ fn requirement_is_too_late_after_another(rt: HostRuntime) -> Result<(), Fail> {
     let alloc = rt.alloc();
     let (mut operator, _submitters, _reader) = opened(&rt, alloc, signers(alloc)?, 1, 4, 9)?;
     let witness = verifiers(alloc, WITNESS, WITNESS_ID)?;
-    assert_eq!(rt; refused(&mut operator, witness, 1), None);
+    assert!(rt; refused(&mut operator, witness, 1) == None);
     let again = verifiers(alloc, "a", 1)?;
     let late = Some((RequireFault::Late, 1));
-    assert_eq!(rt; refused(&mut operator, again, 1), late);
+    assert!(rt; refused(&mut operator, again, 1) == late);
     Ok(())
 }
 
@@ -194,7 +194,7 @@ fn requirement_is_too_late_after_a_publication(rt: HostRuntime) -> Result<(), Fa
     assert!(rt; operator.publish().is_ok());
     let witness = verifiers(alloc, WITNESS, WITNESS_ID)?;
     let late = Some((RequireFault::Late, 1));
-    assert_eq!(rt; refused(&mut operator, witness, 0), late);
+    assert!(rt; refused(&mut operator, witness, 0) == late);
     Ok(())
 }
 
@@ -213,7 +213,7 @@ fn up_to_a_hundred_lines_are_read(rt: HostRuntime) -> Result<(), Fail> {
     for count in [0u32, 1, 2, 99, 100] {
         let text = lines(alloc, count)?;
         let found = parse_signatures(alloc, text.as_str())?;
-        assert_eq!(rt; found.len() as u32, count);
+        assert!(rt; found.len() as u32 == count);
     }
     let text = lines(alloc, 101)?;
     for wrong in [
@@ -223,7 +223,7 @@ fn up_to_a_hundred_lines_are_read(rt: HostRuntime) -> Result<(), Fail> {
         "— witness.example CgsMDQAAAABlU/EAAAAAAAAAAF8=",
     ] {
         let found = parse_signatures(alloc, wrong);
-        assert_eq!(rt; found.err(), Some(NoteFault::Malformed));
+        assert!(rt; found.err() == Some(NoteFault::Malformed));
     }
     Ok(())
 }

@@ -127,12 +127,12 @@ fn run_resumed<R: Wait + Drop>(
 #[test]
 fn log_goes_on_from_two_entries(rt: HostRuntime) -> Result<(), Fail> {
     let alloc = rt.alloc();
-    assert_eq!(rt; run_resumed(&rt, alloc, ASKED, &grows()), Ok(None));
+    assert!(rt; run_resumed(&rt, alloc, ASKED, &grows()) == Ok(None));
     let extended = Asked {
         note: EXTENDED_NOTE,
         ..ASKED
     };
-    assert_eq!(rt; run_resumed(&rt, alloc, extended, &grows()), Ok(None));
+    assert!(rt; run_resumed(&rt, alloc, extended, &grows()) == Ok(None));
     let empty = Asked {
         note: EMPTY_NOTE,
         bundles: &[],
@@ -142,7 +142,7 @@ fn log_goes_on_from_two_entries(rt: HostRuntime) -> Result<(), Fail> {
         Step::Publish(Ok(0)),
         Step::Look(Sight::Bytes(Resource::Checkpoint, EMPTY_NOTE.as_bytes())),
     ];
-    assert_eq!(rt; run_resumed(&rt, alloc, empty, &steps), Ok(None));
+    assert!(rt; run_resumed(&rt, alloc, empty, &steps) == Ok(None));
     Ok(())
 }
 
@@ -243,7 +243,7 @@ fn fault_of<R: Wait + Drop>(rt: R, alloc: Global, asked: Asked) -> Option<Resume
 fn first_fault_is_answered(rt: HostRuntime) -> Result<(), Fail> {
     let alloc = rt.alloc();
     for (asked, want) in REFUSED {
-        assert_eq!(rt; fault_of(&rt, alloc, asked), Some(want));
+        assert!(rt; fault_of(&rt, alloc, asked) == Some(want));
     }
     Ok(())
 }
@@ -273,7 +273,7 @@ fn closed<R: Wait + Drop>(
 fn entries_that_were_there_are_of_no_lane(rt: HostRuntime) -> Result<(), Fail> {
     let alloc = rt.alloc();
     let want = Some((3, Some(2), None, Some(0)));
-    assert_eq!(rt; closed(&rt, alloc), Ok(want));
+    assert!(rt; closed(&rt, alloc) == Ok(want));
     Ok(())
 }
 
@@ -359,11 +359,11 @@ fn log_goes_on_from_many_entries(rt: HostRuntime) -> Result<(), Fail> {
     let text = str::from_utf8(note.as_slice()).map_err(|_| "no text")?;
     let (again, bytes) = shown_again(&rt, alloc, text, bundles.as_slice())?;
     assert!(rt; again.map(|shown| shown.as_slice() == note.as_slice()) == Some(true));
-    assert_eq!(rt; bytes, Some(8192));
+    assert!(rt; bytes == Some(8192));
     let mut last = bundles.pop().ok_or("no bundle")?;
     last.truncate(300);
     bundles.push(last)?;
     let refused = shown_again(&rt, alloc, text, bundles.as_slice());
-    assert_eq!(rt; refused.err(), Some(ResumeFault::Bundle(2)));
+    assert!(rt; refused.err() == Some(ResumeFault::Bundle(2)));
     Ok(())
 }

@@ -29,13 +29,13 @@ fn each_read_fails_once(rt: HostRuntime) -> Result<(), Fail> {
         let (served, count) = witness_served(
             &rt, alloc, &witness, &mut saver, FIRST, devices, &mut out,
         );
-        assert_eq!(rt; (served, count), (Err(ServeFault::Read), 0));
+        assert!(rt; (served, count) == (Err(ServeFault::Read), 0));
         if read_fails < input.len() as u64 {
             let (served, count) = log_served(alloc, &mut board, input, devices, &mut out);
-            assert_eq!(rt; (served, count), (Err(ServeFault::Read), 0));
+            assert!(rt; (served, count) == (Err(ServeFault::Read), 0));
         }
     }
-    assert_eq!(rt; saver.calls, 0);
+    assert!(rt; saver.calls == 0);
     let (served, count) = log_served(alloc, &mut board, input, sound(1), &mut out);
     assert!(rt; is_answer(served, out.get(..count).ok_or("too long")?, NOTE_OF_NONE));
     Ok(())
@@ -77,7 +77,7 @@ fn writer_fails_after_each_byte(rt: HostRuntime) -> Result<(), Fail> {
         &rt, alloc, &witness, &mut saver, FIRST, devices, &mut out,
     );
     assert!(rt; is_cut(served, out.get(..count).ok_or("too long")?, COSIGNED, 10));
-    assert_eq!(rt; saver.calls, 1);
+    assert!(rt; saver.calls == 1);
     Ok(())
 }
 
@@ -98,7 +98,7 @@ fn answer_of_a_log_is_one_growth_and_one_write(rt: HostRuntime) -> Result<(), Fa
     let heap = Refusing::at(alloc, 2);
     let (served, _count) = log_served(&heap, &mut board, input, devices, &mut out);
     assert!(rt; !heap.refused());
-    assert_eq!(rt; served, Ok(Some(200)));
+    assert!(rt; served == Ok(Some(200)));
     Ok(())
 }
 
@@ -129,7 +129,7 @@ fn each_growth_of_a_witness_is_refused_once(rt: HostRuntime) -> Result<(), Fail>
             return Ok(());
         }
         assert!(rt; is_answer(served, written, IS_NO_MEMORY), "at {number}");
-        assert_eq!(rt; saver.calls, 0);
+        assert!(rt; saver.calls == 0);
     }
     assert!(rt; false, "each request was refused");
     Ok(())

@@ -98,6 +98,6 @@ fn bodies_have_limits(rt: HostRuntime) -> Result<(), Fail> {
         let written = out.get(..count).ok_or("too long")?;
         assert!(rt; is_answer(served, written, IS_BAD));
     }
-    assert_eq!(rt; saver.calls, 0);
+    assert!(rt; saver.calls == 0);
     Ok(())
 }

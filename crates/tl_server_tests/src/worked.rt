@@ -85,6 +85,6 @@ fn witness_answers_worked_requests(rt: HostRuntime) -> Result<(), Fail> {
         let written = out.get(..count).ok_or("too long")?;
         assert!(rt; is_answer(served, written, due), "{served:?}");
     }
-    assert_eq!(rt; saver.calls, 1);
+    assert!(rt; saver.calls == 1);
     Ok(())
 }

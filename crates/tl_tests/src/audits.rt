@@ -102,16 +102,16 @@ fn one_proof_between_two_lists(rt: HostRuntime) -> Result<(), Fail> {
     assert!(rt; entry_root(SumDigest, new.as_slice()) == weak(0x28));
     let answer = audit_tree(alloc, SumDigest, &old, &new, &[weak(0x63)]);
     let want = nodes_text(alloc, ["61", "62"], ["62", "61"])?;
-    assert_eq!(rt; told(alloc, answer)?.as_str(), want.as_str());
+    assert!(rt; told(alloc, answer)?.as_str() == want.as_str());
     let answer = audit_tree(alloc, SumDigest, &old, &new, &[]);
-    assert_eq!(rt; told(alloc, answer)?.as_str(), "not accepted");
+    assert!(rt; told(alloc, answer)?.as_str() == "not accepted");
     let list = entries(alloc, 8)?;
     let first = entries(alloc, 6)?;
     let proof = prove_tree(alloc, Sha256Tree, 8, 6, &store_of_list(alloc, &list)?)?;
     let answer = audit_tree(alloc, Sha256Tree, &first, &list, &proof);
-    assert_eq!(rt; told(alloc, answer)?.as_str(), "extends");
+    assert!(rt; told(alloc, answer)?.as_str() == "extends");
     let answer = audit_tree(alloc, Sha256Tree, &first, &list, &[]);
-    assert_eq!(rt; told(alloc, answer)?.as_str(), "not accepted");
+    assert!(rt; told(alloc, answer)?.as_str() == "not accepted");
     Ok(())
 }
 
@@ -131,9 +131,9 @@ fn a_chain_of_two_links(rt: HostRuntime) -> Result<(), Fail> {
     let nodes = nodes_text(alloc, ["05", "c2"], ["63", "64"])?;
     assert!(rt; answer.as_str() == leaves.as_str() || answer.as_str() == nodes.as_str());
     let answer = audit_chain(alloc, SumDigest, &old, &new, &links.as_slice()[1..]);
-    assert_eq!(rt; told(alloc, answer)?.as_str(), "not accepted");
+    assert!(rt; told(alloc, answer)?.as_str() == "not accepted");
     let answer = audit_chain(alloc, SumDigest, &old, &new, &links.as_slice()[..1]);
-    assert_eq!(rt; told(alloc, answer)?.as_str(), "not accepted");
+    assert!(rt; told(alloc, answer)?.as_str() == "not accepted");
     Ok(())
 }
 
@@ -168,16 +168,16 @@ fn a_chain_of_twelve_links(rt: HostRuntime) -> Result<(), Fail> {
     let new = letters(alloc, b"abcdefghijklmn")?;
     let old = letters(alloc, b"ab")?;
     let links = links_over(alloc, Sha256Tree, &new, 2)?;
-    assert_eq!(rt; links.len(), 12);
+    assert!(rt; links.len() == 12);
     let answer = audit_chain(alloc, Sha256Tree, &old, &new, links.as_slice());
-    assert_eq!(rt; told(alloc, answer)?.as_str(), "extends");
+    assert!(rt; told(alloc, answer)?.as_str() == "extends");
     let answer = audit_chain(alloc, Sha256Tree, &old, &new, &links.as_slice()[..11]);
-    assert_eq!(rt; told(alloc, answer)?.as_str(), "not accepted");
+    assert!(rt; told(alloc, answer)?.as_str() == "not accepted");
     let swapped = letters(alloc, b"ba")?;
     let links = links_over(alloc, SumDigest, &new, 2)?;
     let answer = audit_chain(alloc, SumDigest, &swapped, &new, links.as_slice());
     let want = nodes_text(alloc, ["61", "62"], ["62", "61"])?;
-    assert_eq!(rt; told(alloc, answer)?.as_str(), want.as_str());
+    assert!(rt; told(alloc, answer)?.as_str() == want.as_str());
     Ok(())
 }
 
@@ -189,16 +189,16 @@ fn chains_with_no_links(rt: HostRuntime) -> Result<(), Fail> {
     let same = entries(alloc, 8)?;
     let fewer = entries(alloc, 7)?;
     let answer = audit_chain(alloc, Sha256Tree, &list, &same, none.as_slice());
-    assert_eq!(rt; told(alloc, answer)?.as_str(), "extends");
+    assert!(rt; told(alloc, answer)?.as_str() == "extends");
     let answer = audit_chain(alloc, Sha256Tree, &fewer, &list, none.as_slice());
-    assert_eq!(rt; told(alloc, answer)?.as_str(), "not accepted");
+    assert!(rt; told(alloc, answer)?.as_str() == "not accepted");
     let ab = letters(alloc, b"ab")?;
     let ba = letters(alloc, b"ba")?;
     let answer = audit_chain(alloc, Sha256Tree, &ab, &ba, none.as_slice());
-    assert_eq!(rt; told(alloc, answer)?.as_str(), "not accepted");
+    assert!(rt; told(alloc, answer)?.as_str() == "not accepted");
     let answer = audit_chain(alloc, SumDigest, &ab, &ba, none.as_slice());
     let want = nodes_text(alloc, ["61", "62"], ["62", "61"])?;
-    assert_eq!(rt; told(alloc, answer)?.as_str(), want.as_str());
+    assert!(rt; told(alloc, answer)?.as_str() == want.as_str());
     Ok(())
 }
 
@@ -223,8 +223,8 @@ fn audits_answer_out_of_memory(rt: HostRuntime) -> Result<(), Fail> {
         )?;
         if !heap.refused() && !chain_heap.refused() {
             assert!(rt; number > 2);
-            assert_eq!(rt; answer.as_str(), want.as_str());
-            assert_eq!(rt; other.as_str(), want.as_str());
+            assert!(rt; answer.as_str() == want.as_str());
+            assert!(rt; other.as_str() == want.as_str());
             return Ok(());
         }
         assert!(rt; !heap.refused() || answer.as_str() == "out of memory");

@@ -38,9 +38,9 @@ fn what_is_read_is_written_back(rt: HostRuntime) -> Result<(), Fail> {
     ] {
         let text = format!(in alloc; "example.com/log\n{size}\n{EMPTY_ROOT}{extensions}")?;
         let checkpoint = parse(alloc, text.as_str())?;
-        assert_eq!(rt; checkpoint.origin.as_str(), "example.com/log");
-        assert_eq!(rt; checkpoint.size.to_string(alloc)?.as_str(), size);
-        assert_eq!(rt; write(alloc, &checkpoint)?.as_str(), text.as_str());
+        assert!(rt; checkpoint.origin.as_str() == "example.com/log");
+        assert!(rt; checkpoint.size.to_string(alloc)?.as_str() == size);
+        assert!(rt; write(alloc, &checkpoint)?.as_str() == text.as_str());
     }
     Ok(())
 }
@@ -71,9 +71,9 @@ fn the_first_wrong_part_is_told(rt: HostRuntime) -> Result<(), Fail> {
         ),
     ];
     for (text, want) in cases {
-        assert_eq!(rt; fault_of(alloc, text), Some(want), "of {text:?}");
+        assert!(rt; fault_of(alloc, text) == Some(want), "of {text:?}");
     }
-    assert_eq!(rt; fault_of(alloc, NO_ENTRY), None);
+    assert!(rt; fault_of(alloc, NO_ENTRY) == None);
     Ok(())
 }
 
@@ -86,10 +86,7 @@ fn a_size_of_64_bits_has_no_text(rt: HostRuntime) -> Result<(), Fail> {
         root: Hash::from_bytes([0; 32]),
         extensions: Vec::new(alloc),
     };
-    assert_eq!(rt;
-        write(alloc, &checkpoint).err(),
-        Some(CheckpointFault::Size)
-    );
+    assert!(rt; write(alloc, &checkpoint).err() == Some(CheckpointFault::Size));
     Ok(())
 }
 
@@ -101,11 +98,11 @@ fn parse_answers_out_of_memory(rt: HostRuntime) -> Result<(), Fail> {
         let answer = parse(&heap, text.as_str());
         if !heap.refused() {
             assert!(rt; number > 3);
-            assert_eq!(rt; answer?.size, 7);
+            assert!(rt; answer?.size == 7);
             return Ok(());
         }
-        assert_eq!(rt; answer.err(), Some(CheckpointFault::OutOfMemory));
-        assert_eq!(rt; parse(&heap, text.as_str())?.size, 7);
+        assert!(rt; answer.err() == Some(CheckpointFault::OutOfMemory));
+        assert!(rt; parse(&heap, text.as_str())?.size == 7);
     }
     assert!(rt; false, "each run was refused");
     Ok(())
@@ -146,11 +143,11 @@ fn time_of<A: Allocator + Copy>(
 #[test]
 fn a_witness_cosigns_the_empty_log(rt: HostRuntime) -> Result<(), Fail> {
     let alloc = rt.alloc();
-    assert_eq!(rt; cosign_message(alloc, TIME, NO_ENTRY)?.len(), 94);
+    assert!(rt; cosign_message(alloc, TIME, NO_ENTRY)?.len() == 94);
     let line = cosign(alloc, alloc, NO_ENTRY, "witness.example")?;
-    assert_eq!(rt; line.as_str(), COSIGNATURE);
+    assert!(rt; line.as_str() == COSIGNATURE);
     let refused = cosign(alloc, alloc, NO_ENTRY, "a+b");
-    assert_eq!(rt; refused.err(), Some(NoteFault::BadName(0)));
+    assert!(rt; refused.err() == Some(NoteFault::BadName(0)));
     Ok(())
 }
 
@@ -162,7 +159,7 @@ fn late_times_are_cosigned_and_read_back(rt: HostRuntime) -> Result<(), Fail> {
         let line = cosign_line(alloc, alloc, NO_ENTRY, time, &*key)?;
         let note = format!(in alloc; "{NO_ENTRY}\n{line}")?;
         let found = time_of(alloc, alloc, NO_ENTRY, note.as_str(), "witness.example")?;
-        assert_eq!(rt; found, Some(time));
+        assert!(rt; found == Some(time));
     }
     Ok(())
 }
@@ -178,13 +175,10 @@ fn a_cosignature_is_of_its_text_alone(rt: HostRuntime) -> Result<(), Fail> {
         (NO_ENTRY, "another.example", None),
     ];
     for (text, name, want) in cases {
-        assert_eq!(rt; time_of(alloc, alloc, text, note.as_str(), name)?, want);
+        assert!(rt; time_of(alloc, alloc, text, note.as_str(), name)? == want);
     }
     let short = format!(in alloc; "{NO_ENTRY}\n— witness.example CgsMDQAAAAA=\n")?;
-    assert_eq!(rt;
-        time_of(alloc, alloc, NO_ENTRY, short.as_str(), "witness.example")?,
-        None
-    );
+    assert!(rt; time_of(alloc, alloc, NO_ENTRY, short.as_str(), "witness.example")? == None);
     Ok(())
 }
 
@@ -197,24 +191,24 @@ fn cosignatures_answer_out_of_memory(rt: HostRuntime) -> Result<(), Fail> {
         let line = cosign(alloc, &heap, NO_ENTRY, "witness.example");
         let was_refused = heap.refused();
         match line {
-            Ok(line) => assert_eq!(rt; line.as_str(), COSIGNATURE),
+            Ok(line) => assert!(rt; line.as_str() == COSIGNATURE),
             Err(fault) => {
                 assert!(rt; was_refused);
-                assert_eq!(rt; fault, NoteFault::OutOfMemory);
+                assert!(rt; fault == NoteFault::OutOfMemory);
             }
         }
         let time = time_of(alloc, &heap, NO_ENTRY, note.as_str(), "witness.example");
         if !heap.refused() {
             assert!(rt; number > 4);
-            assert_eq!(rt; time?, Some(TIME));
+            assert!(rt; time? == Some(TIME));
             return Ok(());
         }
         match time {
             Ok(time) => {
                 assert!(rt; was_refused);
-                assert_eq!(rt; time, Some(TIME));
+                assert!(rt; time == Some(TIME));
             }
-            Err(fault) => assert_eq!(rt; fault, NoteFault::OutOfMemory),
+            Err(fault) => assert!(rt; fault == NoteFault::OutOfMemory),
         }
     }
     assert!(rt; false, "each run was refused");
@@ -243,10 +237,10 @@ fn first_cosignatures_answers_out_of_memory(rt: HostRuntime) -> Result<(), Fail>
         let answer = cosigned_on(alloc, &heap, lines.as_str());
         if !heap.refused() {
             assert!(rt; number > 3);
-            assert_eq!(rt; answer, Ok(1));
+            assert!(rt; answer == Ok(1));
             return Ok(());
         }
-        assert_eq!(rt; answer, Err(NoteFault::OutOfMemory));
+        assert!(rt; answer == Err(NoteFault::OutOfMemory));
     }
     assert!(rt; false, "each run was refused");
     Ok(())
@@ -269,11 +263,11 @@ fn write_answers_out_of_memory(rt: HostRuntime) -> Result<(), Fail> {
         let answer = write(&heap, &checkpoint);
         if !heap.refused() {
             assert!(rt; number > 2);
-            assert_eq!(rt; answer?.as_str(), want.as_str());
+            assert!(rt; answer?.as_str() == want.as_str());
             return Ok(());
         }
-        assert_eq!(rt; answer.err(), Some(CheckpointFault::OutOfMemory));
-        assert_eq!(rt; write(&heap, &checkpoint)?.as_str(), want.as_str());
+        assert!(rt; answer.err() == Some(CheckpointFault::OutOfMemory));
+        assert!(rt; write(&heap, &checkpoint)?.as_str() == want.as_str());
     }
     assert!(rt; false, "each run was refused");
     Ok(())

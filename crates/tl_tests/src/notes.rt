@@ -86,16 +86,16 @@ const OTHER: &str = "— example.com/log AQIDBAAAAAAAAAA/\n";
 fn a_signed_note_is_read_and_opened(rt: HostRuntime) -> Result<(), Fail> {
     let alloc = rt.alloc();
     let note = signing(alloc, EMPTY_LOG, &["example.com/log"])?;
-    assert_eq!(rt; note.as_str(), EMPTY_LOG_NOTE);
-    assert_eq!(rt; note.len(), 101);
+    assert!(rt; note.as_str() == EMPTY_LOG_NOTE);
+    assert!(rt; note.len() == 101);
     let answer = opening(alloc, note.as_str(), &["example.com/log"])?;
-    assert_eq!(rt; answer.as_str(), "[0] []");
+    assert!(rt; answer.as_str() == "[0] []");
     let view = parse_note(alloc, note.as_str())?;
     assert!(rt; view.text == EMPTY_LOG);
-    assert_eq!(rt; view.signatures.len(), 1);
+    assert!(rt; view.signatures.len() == 1);
     let line = &view.signatures[0];
     assert!(rt; line.name() == "example.com/log");
-    assert_eq!(rt; line.key_id(), 0x01020304);
+    assert!(rt; line.key_id() == 0x01020304);
     assert!(rt; line.base64() == "AQIDBAAAAAAAAAA/");
     let signature = line.decode(alloc)?;
     assert!(rt; signature.as_slice() == [0, 0, 0, 0, 0, 0, 0, 0x3F].as_slice());
@@ -106,7 +106,7 @@ fn a_signed_note_is_read_and_opened(rt: HostRuntime) -> Result<(), Fail> {
 fn the_text_ends_at_the_last_empty_line(rt: HostRuntime) -> Result<(), Fail> {
     let alloc = rt.alloc();
     let note = signing(alloc, "a\n\nb\n", &["k.example"])?;
-    assert_eq!(rt; note.as_str(), gap_note(alloc, &[GOOD])?.as_str());
+    assert!(rt; note.as_str() == gap_note(alloc, &[GOOD])?.as_str());
     let view = parse_note(alloc, note.as_str())?;
     assert!(rt; view.text == "a\n\nb\n");
     Ok(())
@@ -132,7 +132,7 @@ fn lines_that_count_decide(rt: HostRuntime) -> Result<(), Fail> {
     ];
     for (lines, names, want) in rows {
         let note = gap_note(alloc, lines)?;
-        assert_eq!(rt; opening(alloc, note.as_str(), names)?.as_str(), want);
+        assert!(rt; opening(alloc, note.as_str(), names)?.as_str() == want);
     }
     Ok(())
 }
@@ -164,10 +164,10 @@ fn what_is_no_note_is_malformed(rt: HostRuntime) -> Result<(), Fail> {
     ];
     for message in messages {
         let answer = opening(alloc, message, &["k.example"])?;
-        assert_eq!(rt; answer.as_str(), "Malformed");
+        assert!(rt; answer.as_str() == "Malformed");
     }
     let answer = opening(alloc, "a\n\n— k.example AQIDBAU=\n", &["other"])?;
-    assert_eq!(rt; answer.as_str(), "Unverified");
+    assert!(rt; answer.as_str() == "Unverified");
     Ok(())
 }
 
@@ -179,10 +179,10 @@ fn a_note_has_at_most_100_lines(rt: HostRuntime) -> Result<(), Fail> {
         note.push_str(GOOD)?;
     }
     let answer = opening(alloc, note.as_str(), &["k.example"])?;
-    assert_eq!(rt; answer.as_str(), "[0] []");
+    assert!(rt; answer.as_str() == "[0] []");
     note.push_str(GOOD)?;
     let answer = opening(alloc, note.as_str(), &["k.example"])?;
-    assert_eq!(rt; answer.as_str(), "Malformed");
+    assert!(rt; answer.as_str() == "Malformed");
     Ok(())
 }
 
@@ -203,11 +203,11 @@ fn signers_are_refused_in_order(rt: HostRuntime) -> Result<(), Fail> {
         ("a\n", &["k", "", "l m"], "BadName(1)"),
     ];
     for (text, names, want) in rows {
-        assert_eq!(rt; signing(alloc, text, names)?.as_str(), want);
+        assert!(rt; signing(alloc, text, names)?.as_str() == want);
     }
     let many = ["k"; 101];
     let answer = signing(alloc, "a\n", many.as_slice())?;
-    assert_eq!(rt; answer.as_str(), "Malformed");
+    assert!(rt; answer.as_str() == "Malformed");
     Ok(())
 }
 
@@ -228,13 +228,10 @@ fn stubborn_signing(
 #[test]
 fn a_signer_may_refuse(rt: HostRuntime) -> Result<(), Fail> {
     let alloc = rt.alloc();
-    assert_eq!(rt;
-        stubborn_signing(alloc, Some(SignFault::Refused))?,
-        Some(NoteFault::Sign(1))
-    );
-    assert_eq!(rt; stubborn_signing(alloc, None)?, Some(NoteFault::Sign(1)));
+    assert!(rt; stubborn_signing(alloc, Some(SignFault::Refused))? == Some(NoteFault::Sign(1)));
+    assert!(rt; stubborn_signing(alloc, None)? == Some(NoteFault::Sign(1)));
     let out_of_memory = stubborn_signing(alloc, Some(SignFault::OutOfMemory))?;
-    assert_eq!(rt; out_of_memory, Some(NoteFault::OutOfMemory));
+    assert!(rt; out_of_memory == Some(NoteFault::OutOfMemory));
     Ok(())
 }
 
@@ -247,9 +244,9 @@ fn names_and_lines(rt: HostRuntime) -> Result<(), Fail> {
         assert!(rt; !is_key_name(name));
     }
     let line = write_signature_line(alloc, "k.example", 0x01020304, &[5])?;
-    assert_eq!(rt; line.as_str(), "— k.example AQIDBAU=\n");
+    assert!(rt; line.as_str() == "— k.example AQIDBAU=\n");
     let fault = format!(in alloc; "{}", NoteFault::Sign(3))?;
-    assert_eq!(rt; fault.as_str(), "signer 3 gave no signature");
+    assert!(rt; fault.as_str() == "signer 3 gave no signature");
     Ok(())
 }
 
@@ -261,12 +258,12 @@ fn parse_note_answers_out_of_memory(rt: HostRuntime) -> Result<(), Fail> {
         let answer = parse_note(&heap, EMPTY_LOG_NOTE);
         if !heap.refused() {
             assert!(rt; number > 1);
-            assert_eq!(rt; answer?.signatures.len(), 1);
+            assert!(rt; answer?.signatures.len() == 1);
             return Ok(());
         }
         match answer {
             Ok(_view) => assert!(rt; false, "an answer with request {number} refused"),
-            Err(fault) => assert_eq!(rt; fault, NoteFault::OutOfMemory),
+            Err(fault) => assert!(rt; fault == NoteFault::OutOfMemory),
         }
     }
     assert!(rt; false, "each run was refused");
@@ -277,14 +274,14 @@ fn parse_note_answers_out_of_memory(rt: HostRuntime) -> Result<(), Fail> {
 fn decode_answers_out_of_memory(rt: HostRuntime) -> Result<(), Fail> {
     let alloc = rt.alloc();
     let view = parse_note(alloc, EMPTY_LOG_NOTE)?;
-    assert_eq!(rt; view.signatures.len(), 1);
+    assert!(rt; view.signatures.len() == 1);
     let line = &view.signatures[0];
     for number in 1..MOST {
         let heap = Refusing::at(alloc, number);
         let answer = line.decode(&heap);
         if !heap.refused() {
             assert!(rt; number > 1);
-            assert_eq!(rt; answer?.len(), 8);
+            assert!(rt; answer?.len() == 8);
             return Ok(());
         }
         assert!(rt; answer.is_err());
@@ -309,10 +306,10 @@ fn open_note_answers_out_of_memory(rt: HostRuntime) -> Result<(), Fail> {
         let answer = opening_on(rt.alloc(), &heap);
         if !heap.refused() {
             assert!(rt; number > 3);
-            assert_eq!(rt; answer, Ok(1));
+            assert!(rt; answer == Ok(1));
             return Ok(());
         }
-        assert_eq!(rt; answer, Err(NoteFault::OutOfMemory));
+        assert!(rt; answer == Err(NoteFault::OutOfMemory));
     }
     assert!(rt; false, "each run was refused");
     Ok(())
@@ -334,10 +331,10 @@ fn sign_note_answers_out_of_memory(rt: HostRuntime) -> Result<(), Fail> {
         let answer = signing_on(rt.alloc(), &heap);
         if !heap.refused() {
             assert!(rt; number > 4);
-            assert_eq!(rt; answer, Ok(101));
+            assert!(rt; answer == Ok(101));
             return Ok(());
         }
-        assert_eq!(rt; answer, Err(NoteFault::OutOfMemory));
+        assert!(rt; answer == Err(NoteFault::OutOfMemory));
     }
     assert!(rt; false, "each run was refused");
     Ok(())

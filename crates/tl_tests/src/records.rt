@@ -75,7 +75,7 @@ fn proofs_made_together_are_those_made_one_by_one(rt: HostRuntime) -> Result<(),
             places.push(place)?;
         }
         let proofs = prove_records(alloc, Sha256Tree, size, places.as_slice(), &store)?;
-        assert_eq!(rt; proofs.len(), places.len());
+        assert!(rt; proofs.len() == places.len());
         for (place, proof) in places.iter().zip(&proofs) {
             let one = prove_record(alloc, Sha256Tree, size, *place, &store)?;
             assert!(rt; proof.as_slice() == one.as_slice(), "{place} of {size}");
@@ -120,11 +120,8 @@ fn places_out_of_range_are_refused(rt: HostRuntime) -> Result<(), Fail> {
     let unread = Some(ProveFault::Read(ReadFault::OutOfRange));
     assert!(rt; prove_records(alloc, Sha256Tree, 7, &[0, 7, 1], &store).err() == past);
     assert!(rt; prove_records(alloc, Sha256Tree, 8, &[7, 0], &store).err() == unread);
-    assert_eq!(rt;
-        prove_records(alloc, Sha256Tree, 8, &[7, 7], &store)?.len(),
-        2
-    );
-    assert_eq!(rt; prove_records(alloc, Sha256Tree, 8, &[], &store)?.len(), 0);
+    assert!(rt; prove_records(alloc, Sha256Tree, 8, &[7, 7], &store)?.len() == 2);
+    assert!(rt; prove_records(alloc, Sha256Tree, 8, &[], &store)?.len() == 0);
     Ok(())
 }
 

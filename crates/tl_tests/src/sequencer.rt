@@ -43,7 +43,7 @@ fn opening_names_the_first_number_outside_its_bounds(rt: HostRuntime) {
         ((1, 65_536, 1), None),
     ];
     for ((lanes, capacity, limit), want) in wanted {
-        assert_eq!(rt; open_fault(alloc, lanes, capacity, limit), want);
+        assert!(rt; open_fault(alloc, lanes, capacity, limit) == want);
     }
 }
 
@@ -65,18 +65,12 @@ fn submitting_names_the_first_reason(rt: HostRuntime) -> Result<(), Fail> {
     let alloc = rt.alloc();
     let (mut log, mut submitters) = open(alloc, 1, 1, 9)?;
     let mut submitter = submitters.pop().unwrap();
-    assert_eq!(rt; sent(&mut submitter, vec![in alloc; 7; 65_535]?), Ok(0));
-    assert_eq!(rt;
-        sent(&mut submitter, vec![in alloc; 7; 65_536]?),
-        Err((Why::TooLong, 65_536))
-    );
-    assert_eq!(rt;
-        sent(&mut submitter, bytes(alloc, "short")?),
-        Err((Why::Full, 5))
-    );
-    assert_eq!(rt; log.take(1, 1), Err(TakeFault::NoLane));
-    assert_eq!(rt; log.take(0, 5), Ok(1));
-    assert_eq!(rt; sent(&mut submitter, bytes(alloc, "short")?), Ok(1));
+    assert!(rt; sent(&mut submitter, vec![in alloc; 7; 65_535]?) == Ok(0));
+    assert!(rt; sent(&mut submitter, vec![in alloc; 7; 65_536]?) == Err((Why::TooLong, 65_536)));
+    assert!(rt; sent(&mut submitter, bytes(alloc, "short")?) == Err((Why::Full, 5)));
+    assert!(rt; log.take(1, 1) == Err(TakeFault::NoLane));
+    assert!(rt; log.take(0, 5) == Ok(1));
+    assert!(rt; sent(&mut submitter, bytes(alloc, "short")?) == Ok(1));
     Ok(())
 }
 
@@ -95,21 +89,12 @@ fn submitter_gives_as_many_numbers_as_the_limit(rt: HostRuntime) -> Result<(), F
     let alloc = rt.alloc();
     let (mut log, mut submitters) = open(alloc, 1, 4, 2)?;
     let mut submitter = submitters.pop().unwrap();
-    assert_eq!(rt; sent(&mut submitter, bytes(alloc, "a1")?), Ok(0));
-    assert_eq!(rt; sent(&mut submitter, bytes(alloc, "a2")?), Ok(1));
-    assert_eq!(rt;
-        sent(&mut submitter, bytes(alloc, "a3")?),
-        Err((Why::NumbersUsed, 2))
-    );
-    assert_eq!(rt; log.take(0, 9), Ok(2));
-    assert_eq!(rt;
-        sent(&mut submitter, bytes(alloc, "a3")?),
-        Err((Why::NumbersUsed, 2))
-    );
-    assert_eq!(rt;
-        sent(&mut submitter, vec![in alloc; 7; 65_536]?),
-        Err((Why::TooLong, 65_536))
-    );
+    assert!(rt; sent(&mut submitter, bytes(alloc, "a1")?) == Ok(0));
+    assert!(rt; sent(&mut submitter, bytes(alloc, "a2")?) == Ok(1));
+    assert!(rt; sent(&mut submitter, bytes(alloc, "a3")?) == Err((Why::NumbersUsed, 2)));
+    assert!(rt; log.take(0, 9) == Ok(2));
+    assert!(rt; sent(&mut submitter, bytes(alloc, "a3")?) == Err((Why::NumbersUsed, 2)));
+    assert!(rt; sent(&mut submitter, vec![in alloc; 7; 65_536]?) == Err((Why::TooLong, 65_536)));
     Ok(())
 }
 
@@ -163,23 +148,23 @@ fn full_log_takes_nothing(rt: HostRuntime) -> Result<(), Fail> {
     let alloc = rt.alloc();
     let mut refused = false;
     let (mut log, mut zero, mut one) = opened(alloc, 4, 2, &mut refused)?;
-    assert_eq!(rt; sent(&mut zero, bytes(alloc, "a1")?), Ok(0));
-    assert_eq!(rt; sent(&mut zero, bytes(alloc, "a2")?), Ok(1));
-    assert_eq!(rt; sent(&mut one, bytes(alloc, "b1")?), Ok(0));
-    assert_eq!(rt; log.take(0, 9), Ok(2));
-    assert_eq!(rt; log.take(1, 9), Err(TakeFault::LogFull));
-    assert_eq!(rt; log.take(1, 0), Ok(0));
-    assert_eq!(rt; log.take(2, 0), Err(TakeFault::NoLane));
+    assert!(rt; sent(&mut zero, bytes(alloc, "a1")?) == Ok(0));
+    assert!(rt; sent(&mut zero, bytes(alloc, "a2")?) == Ok(1));
+    assert!(rt; sent(&mut one, bytes(alloc, "b1")?) == Ok(0));
+    assert!(rt; log.take(0, 9) == Ok(2));
+    assert!(rt; log.take(1, 9) == Err(TakeFault::LogFull));
+    assert!(rt; log.take(1, 0) == Ok(0));
+    assert!(rt; log.take(2, 0) == Err(TakeFault::NoLane));
     match log.end(closed(one)?) {
         Ok(_) => assert!(rt; false, "there was no room"),
         Err(EndRefused { ended, why }) => {
-            assert_eq!(rt; why, TakeFault::LogFull);
-            assert_eq!(rt; ended.lane(), 1);
+            assert!(rt; why == TakeFault::LogFull);
+            assert!(rt; ended.lane() == 1);
         }
     }
-    assert_eq!(rt; log.len(), 2);
-    assert_eq!(rt; log.who(1), Some(0));
-    assert_eq!(rt; log.place_of(1, 0), None);
+    assert!(rt; log.len() == 2);
+    assert!(rt; log.who(1) == Some(0));
+    assert!(rt; log.place_of(1, 0) == None);
     Ok(())
 }
 
@@ -312,7 +297,7 @@ fn each_growth_refused_changes_nothing(rt: HostRuntime) -> Result<(), Fail> {
                 "a step had another answer with request {number} refused"
             ),
         }
-        assert_eq!(rt; refused, heap.refused());
+        assert!(rt; refused == heap.refused());
         if !refused {
             assert!(rt; number > 10);
             return Ok(());

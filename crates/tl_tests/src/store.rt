@@ -17,13 +17,13 @@ const MOST: u64 = 1000;
 
 #[test]
 fn numbers_of_subtrees_and_back(rt: HostRuntime) -> Result<(), Fail> {
-    assert_eq!(rt; stored_index(0, 0), 0);
-    assert_eq!(rt; stored_index(1, 0), 2);
-    assert_eq!(rt; stored_index(2, 0), 6);
-    assert_eq!(rt; stored_index(0, 7), 11);
-    assert_eq!(rt; stored_index(3, 0), 14);
-    assert_eq!(rt; stored_index(0, 8), 15);
-    assert_eq!(rt; stored_index(62, 0), 9223372036854775806);
+    assert!(rt; stored_index(0, 0) == 0);
+    assert!(rt; stored_index(1, 0) == 2);
+    assert!(rt; stored_index(2, 0) == 6);
+    assert!(rt; stored_index(0, 7) == 11);
+    assert!(rt; stored_index(3, 0) == 14);
+    assert!(rt; stored_index(0, 8) == 15);
+    assert!(rt; stored_index(62, 0) == 9223372036854775806);
     assert!(rt; split_index(0) == (0, 0));
     assert!(rt; split_index(2) == (1, 0));
     assert!(rt; split_index(6) == (2, 0));
@@ -36,11 +36,11 @@ fn numbers_of_subtrees_and_back(rt: HostRuntime) -> Result<(), Fail> {
 
 #[test]
 fn counts_of_stored_hashes(rt: HostRuntime) -> Result<(), Fail> {
-    assert_eq!(rt; stored_count(0), 0);
-    assert_eq!(rt; stored_count(1), 1);
-    assert_eq!(rt; stored_count(7), 11);
-    assert_eq!(rt; stored_count(8), 15);
-    assert_eq!(rt; stored_count(1 << 62), 9223372036854775807);
+    assert!(rt; stored_count(0) == 0);
+    assert!(rt; stored_count(1) == 1);
+    assert!(rt; stored_count(7) == 11);
+    assert!(rt; stored_count(8) == 15);
+    assert!(rt; stored_count(1 << 62) == 9223372036854775807);
     Ok(())
 }
 
@@ -48,23 +48,20 @@ fn counts_of_stored_hashes(rt: HostRuntime) -> Result<(), Fail> {
 fn store_of_seven_entries_and_one_more(rt: HostRuntime) -> Result<(), Fail> {
     let alloc = rt.alloc();
     let mut store = store_of(alloc, &ENTRIES[..7])?;
-    assert_eq!(rt; store.read(alloc, &[14]).err(), Some(ReadFault::OutOfRange));
-    assert_eq!(rt;
-        store.read(alloc, &[11, 11]).err(),
-        Some(ReadFault::OutOfRange)
-    );
+    assert!(rt; store.read(alloc, &[14]).err() == Some(ReadFault::OutOfRange));
+    assert!(rt; store.read(alloc, &[11, 11]).err() == Some(ReadFault::OutOfRange));
     let leaves = store.read(alloc, &[10, 0])?;
-    assert_eq!(rt; leaves.len(), 2);
-    assert_eq!(rt; in_hex(alloc, leaves[0])?.as_str(), LEAVES[6]);
-    assert_eq!(rt; in_hex(alloc, leaves[1])?.as_str(), LEAVES[0]);
-    assert_eq!(rt; store.size(), 7);
-    assert_eq!(rt; store.append(ENTRIES[7])?, 7);
-    assert_eq!(rt; store.size(), 8);
+    assert!(rt; leaves.len() == 2);
+    assert!(rt; in_hex(alloc, leaves[0])?.as_str() == LEAVES[6]);
+    assert!(rt; in_hex(alloc, leaves[1])?.as_str() == LEAVES[0]);
+    assert!(rt; store.size() == 7);
+    assert!(rt; store.append(ENTRIES[7])? == 7);
+    assert!(rt; store.size() == 8);
     let top = store.read(alloc, &[14, 14])?;
-    assert_eq!(rt; top.len(), 2);
-    assert_eq!(rt; in_hex(alloc, top[0])?.as_str(), ROOTS[7].1);
-    assert_eq!(rt; in_hex(alloc, top[1])?.as_str(), ROOTS[7].1);
-    assert_eq!(rt; store.read(alloc, &[]).map(|hashes| hashes.len()), Ok(0));
+    assert!(rt; top.len() == 2);
+    assert!(rt; in_hex(alloc, top[0])?.as_str() == ROOTS[7].1);
+    assert!(rt; in_hex(alloc, top[1])?.as_str() == ROOTS[7].1);
+    assert!(rt; store.read(alloc, &[]).map(|hashes| hashes.len()) == Ok(0));
     Ok(())
 }
 
@@ -74,13 +71,12 @@ fn heads_of_the_worked_entries(rt: HostRuntime) -> Result<(), Fail> {
     let store = store_of(alloc, &ENTRIES)?;
     for (size, root) in ROOTS {
         let head = tree_hash(alloc, Sha256Tree, size as u64, &store)?;
-        assert_eq!(rt; in_hex(alloc, head)?.as_str(), root, "of {size} entries");
+        assert!(rt; in_hex(alloc, head)?.as_str() == root, "of {size} entries");
     }
     assert!(rt; tree_hash(alloc, Sha256Tree, 0, &store)? == empty_hash(Sha256Tree));
     for size in [9, 1 << 62, (1 << 62) + 1, u64::MAX] {
-        assert_eq!(rt;
-            tree_hash(alloc, Sha256Tree, size, &store).err(),
-            Some(ReadFault::OutOfRange)
+        assert!(rt;
+            tree_hash(alloc, Sha256Tree, size, &store).err() == Some(ReadFault::OutOfRange)
         );
     }
     Ok(())
@@ -99,7 +95,7 @@ fn head_is_the_plain_recursion(rt: HostRuntime) -> Result<(), Fail> {
         entries.push(vec![in alloc; number]?)?;
         roots.push(entry_root(Sha256Tree, entries.as_slice()))?;
     }
-    assert_eq!(rt; store.size(), 130);
+    assert!(rt; store.size() == 130);
     let mut size = 0;
     for root in &roots {
         assert!(rt; tree_hash(alloc, Sha256Tree, size, &store)? == *root);
@@ -120,12 +116,12 @@ fn append_leaves_the_store_as_it_was(rt: HostRuntime) -> Result<(), Fail> {
             assert!(rt; before < 8);
             if let Err(_) = store.append(entry) {
                 assert!(rt; heap.refused());
-                assert_eq!(rt; store.size(), before);
+                assert!(rt; store.size() == before);
                 assert!(rt;
                     tree_hash(alloc, Sha256Tree, before, &store)?
                         == tree_hash(alloc, Sha256Tree, before, &whole)?
                 );
-                assert_eq!(rt; store.append(entry)?, before);
+                assert!(rt; store.append(entry)? == before);
             }
         }
         assert!(rt;
@@ -164,7 +160,7 @@ fn entries_together_are_entries_one_by_one(rt: HostRuntime) -> Result<(), Fail> 
             singly.append(entry)?;
         }
         let size = together.size();
-        assert_eq!(rt; size, singly.size());
+        assert!(rt; size == singly.size());
         assert!(rt; size < 200_000);
         let root = tree_hash(alloc, Sha256Tree, size, &together)?;
         assert!(rt;
@@ -184,10 +180,10 @@ fn append_all_leaves_the_store_as_it_was(rt: HostRuntime) -> Result<(), Fail> {
         let mut store = HashStore::new(&heap, Sha256Tree);
         if add_all(&mut store, entries.as_slice()).is_err() {
             assert!(rt; heap.refused());
-            assert_eq!(rt; store.size(), 0);
+            assert!(rt; store.size() == 0);
             add_all(&mut store, entries.as_slice())?;
         }
-        assert_eq!(rt; store.size(), 6);
+        assert!(rt; store.size() == 6);
         assert!(rt;
             tree_hash(alloc, Sha256Tree, 6, &store)? == entry_root(Sha256Tree, entries.as_slice())
         );
@@ -215,7 +211,7 @@ fn read_answers_out_of_memory(rt: HostRuntime) -> Result<(), Fail> {
         }
         match answer {
             Ok(_hashes) => assert!(rt; false, "an answer with request {number} refused"),
-            Err(fault) => assert_eq!(rt; fault, ReadFault::OutOfMemory),
+            Err(fault) => assert!(rt; fault == ReadFault::OutOfMemory),
         }
     }
     assert!(rt; false, "each run was refused");
@@ -236,7 +232,7 @@ fn tree_hash_answers_out_of_memory(rt: HostRuntime) -> Result<(), Fail> {
         }
         match answer {
             Ok(_root) => assert!(rt; false, "an answer with request {number} refused"),
-            Err(fault) => assert_eq!(rt; fault, ReadFault::OutOfMemory),
+            Err(fault) => assert!(rt; fault == ReadFault::OutOfMemory),
         }
     }
     assert!(rt; false, "each run was refused");
@@ -249,8 +245,8 @@ fn head_is_one_read_of_the_covering_subtrees(rt: HostRuntime) -> Result<(), Fail
     for (size, reads, hashes) in [(0, 0, 0), (1, 1, 1), (6, 1, 2), (7, 1, 3), (8, 1, 1)] {
         let reader = CountedReader::over(store_of(alloc, &ENTRIES)?);
         let _root = tree_hash(alloc, Sha256Tree, size, &reader)?;
-        assert_eq!(rt; reader.reads.get(), reads, "at {size}");
-        assert_eq!(rt; reader.hashes.get(), hashes, "at {size}");
+        assert!(rt; reader.reads.get() == reads, "at {size}");
+        assert!(rt; reader.hashes.get() == hashes, "at {size}");
     }
     Ok(())
 }
@@ -264,25 +260,19 @@ fn what_a_failing_source_answers_is_passed_on(rt: HostRuntime) -> Result<(), Fai
             tile,
         };
         let fault = broken.fault();
-        assert_eq!(rt; tree_hash(alloc, Sha256Tree, 7, &broken).err(), Some(fault));
-        assert_eq!(rt;
-            tree_hash(alloc, Sha256Tree, 9, &broken).err(),
-            Some(ReadFault::OutOfRange)
-        );
+        assert!(rt; tree_hash(alloc, Sha256Tree, 7, &broken).err() == Some(fault));
+        assert!(rt; tree_hash(alloc, Sha256Tree, 9, &broken).err() == Some(ReadFault::OutOfRange));
         assert!(rt; tree_hash(alloc, Sha256Tree, 0, &broken)? == empty_hash(Sha256Tree));
         let failed = Some(ProveFault::Read(fault));
-        assert_eq!(rt;
-            prove_record(alloc, Sha256Tree, 7, 2, &broken).err(),
-            failed
-        );
-        assert_eq!(rt; prove_tree(alloc, Sha256Tree, 7, 2, &broken).err(), failed);
+        assert!(rt; prove_record(alloc, Sha256Tree, 7, 2, &broken).err() == failed);
+        assert!(rt; prove_tree(alloc, Sha256Tree, 7, 2, &broken).err() == failed);
         assert!(rt; prove_tree(alloc, Sha256Tree, 7, 7, &broken)?.is_empty());
         let tile = Tile {
             level: 0,
             index: 0,
             width: 8,
         };
-        assert_eq!(rt; tile_bytes(alloc, tile, &broken).err(), Some(fault));
+        assert!(rt; tile_bytes(alloc, tile, &broken).err() == Some(fault));
     }
     Ok(())
 }

@@ -34,7 +34,7 @@ fn resources_of_worked_sizes(rt: HostRuntime) -> Result<(), Fail> {
         needed(alloc, 256)?.as_slice() == [tile(0, 0, 256), tile(1, 0, 1), full].as_slice()
     );
     let resources = needed(alloc, 70_000)?;
-    assert_eq!(rt; resources.len(), 551);
+    assert!(rt; resources.len() == 551);
     assert!(rt; resources.first() == Some(&tile(0, 0, 256)));
     assert!(rt; resources.get(272) == Some(&tile(0, 272, 256)));
     assert!(rt; resources.get(273) == Some(&tile(0, 273, 112)));
@@ -48,7 +48,7 @@ fn resources_of_worked_sizes(rt: HostRuntime) -> Result<(), Fail> {
     };
     assert!(rt; resources.last() == Some(&last));
     let resources = needed(alloc, (1 << 24) + 3)?;
-    assert_eq!(rt; resources.len(), 131_332);
+    assert!(rt; resources.len() == 131_332);
     assert!(rt; resources.get(65_536) == Some(&tile(0, 65_536, 3)));
     assert!(rt; resources.get(65_794) == Some(&tile(3, 0, 1)));
     Ok(())
@@ -65,7 +65,7 @@ fn paths_read_and_written_back(rt: HostRuntime) -> Result<(), Fail> {
     ] {
         let resource = parse_path(text).ok_or("a path")?;
         assert!(rt; resource == want);
-        assert_eq!(rt; path_of(alloc, &resource)?.as_str(), text);
+        assert!(rt; path_of(alloc, &resource)?.as_str() == text);
     }
     Ok(())
 }
@@ -151,7 +151,7 @@ fn indexes_about_powers_of_ten_are_read_back(rt: HostRuntime) -> Result<(), Fail
         width: 256,
     });
     let path = path_of(alloc, &last)?;
-    assert_eq!(rt; path.as_str(), "tile/0/x072/x057/x594/x037/x927/935");
+    assert!(rt; path.as_str() == "tile/0/x072/x057/x594/x037/x927/935");
     Ok(())
 }
 
@@ -160,17 +160,11 @@ fn bundles_written_and_read(rt: HostRuntime) -> Result<(), Fail> {
     let alloc = rt.alloc();
     let entries = vec![in alloc; Vec::new(alloc), b"a".to_vec(alloc)?]?;
     let text = write_bundle(alloc, &entries)?;
-    assert_eq!(rt; text.as_slice(), [0, 0, 0, 1, 97].as_slice());
+    assert!(rt; text.as_slice() == [0, 0, 0, 1, 97].as_slice());
     let back = read_bundle(alloc, &text, 2)?;
     assert!(rt; back == entries);
-    assert_eq!(rt;
-        read_bundle(alloc, &text[..4], 2).err(),
-        Some(BundleFault::Truncated)
-    );
-    assert_eq!(rt;
-        read_bundle(alloc, &[0, 0, 0, 1, 97, 7], 2).err(),
-        Some(BundleFault::Trailing)
-    );
+    assert!(rt; read_bundle(alloc, &text[..4], 2).err() == Some(BundleFault::Truncated));
+    assert!(rt; read_bundle(alloc, &[0, 0, 0, 1, 97, 7], 2).err() == Some(BundleFault::Trailing));
     Ok(())
 }
 
@@ -179,13 +173,10 @@ fn longest_entry_of_a_bundle(rt: HostRuntime) -> Result<(), Fail> {
     let alloc = rt.alloc();
     let longest = vec![in alloc; vec![in alloc; 7u8; 65_535]?]?;
     let text = write_bundle(alloc, &longest)?;
-    assert_eq!(rt; text.len(), 65_537);
+    assert!(rt; text.len() == 65_537);
     assert!(rt; text.starts_with(&[0xFF, 0xFF, 7]));
     let too_long = vec![in alloc; vec![in alloc; 7u8; 65_536]?]?;
-    assert_eq!(rt;
-        write_bundle(alloc, &too_long).err(),
-        Some(BundleFault::EntryTooLong)
-    );
+    assert!(rt; write_bundle(alloc, &too_long).err() == Some(BundleFault::EntryTooLong));
     Ok(())
 }
 
@@ -199,7 +190,7 @@ fn tile_of_two_leaf_hashes(rt: HostRuntime) -> Result<(), Fail> {
         width: 2,
     };
     let bytes = tile_bytes(alloc, two, &store)?;
-    assert_eq!(rt; bytes.len(), 64);
+    assert!(rt; bytes.len() == 64);
     let hashes = hex::encode(alloc, &bytes)?;
     assert!(rt; hashes.as_str().strip_prefix(LEAVES[0]) == Some(LEAVES[1]));
     for (level, width) in [(0, 9), (1, 1)] {
@@ -208,10 +199,7 @@ fn tile_of_two_leaf_hashes(rt: HostRuntime) -> Result<(), Fail> {
             index: 0,
             width,
         };
-        assert_eq!(rt;
-            tile_bytes(alloc, past, &store).err(),
-            Some(ReadFault::OutOfRange)
-        );
+        assert!(rt; tile_bytes(alloc, past, &store).err() == Some(ReadFault::OutOfRange));
     }
     Ok(())
 }
@@ -235,11 +223,11 @@ fn tile_is_one_read_of_its_hashes(rt: HostRuntime) -> Result<(), Fail> {
             width,
         };
         let bytes = tile_bytes(alloc, tile, &reader)?;
-        assert_eq!(rt; bytes.len(), 32 * width as usize);
+        assert!(rt; bytes.len() == 32 * width as usize);
         reads = reads.saturating_add(1);
         hashes = hashes.saturating_add(width as usize);
-        assert_eq!(rt; reader.reads.get(), reads);
-        assert_eq!(rt; reader.hashes.get(), hashes);
+        assert!(rt; reader.reads.get() == reads);
+        assert!(rt; reader.hashes.get() == hashes);
     }
     Ok(())
 }
@@ -256,7 +244,7 @@ fn path_of_answers_out_of_memory(rt: HostRuntime) -> Result<(), Fail> {
         let answer = path_of(&heap, &resource);
         if !heap.refused() {
             assert!(rt; number > 1);
-            assert_eq!(rt; answer?.as_str(), "tile/0/x001/x234/067.p/3");
+            assert!(rt; answer?.as_str() == "tile/0/x001/x234/067.p/3");
             return Ok(());
         }
         assert!(rt; answer.is_err());
@@ -301,7 +289,7 @@ fn tile_bytes_answers_out_of_memory(rt: HostRuntime) -> Result<(), Fail> {
         }
         match answer {
             Ok(_bytes) => assert!(rt; false, "an answer with request {number} refused"),
-            Err(fault) => assert_eq!(rt; fault, ReadFault::OutOfMemory),
+            Err(fault) => assert!(rt; fault == ReadFault::OutOfMemory),
         }
     }
     assert!(rt; false, "each run was refused");
@@ -325,12 +313,12 @@ fn bundles_answer_out_of_memory(rt: HostRuntime) -> Result<(), Fail> {
         let read = read_bundle(&heap, &want, 2);
         if !heap.refused() {
             assert!(rt; number > 3);
-            assert_eq!(rt; read?.len(), 2);
+            assert!(rt; read?.len() == 2);
             return Ok(());
         }
         match read {
             Ok(_entries) => assert!(rt; false, "an answer with request {number} refused"),
-            Err(fault) => assert_eq!(rt; fault, BundleFault::OutOfMemory),
+            Err(fault) => assert!(rt; fault == BundleFault::OutOfMemory),
         }
     }
     assert!(rt; false, "each run was refused");

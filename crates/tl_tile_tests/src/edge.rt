@@ -37,7 +37,7 @@ fn add<A: Allocator + Copy>(
 #[test]
 fn edge_of_no_entries(rt: HostRuntime) -> Result<(), Fail> {
     let edge = Edge::new(rt.alloc(), Sha256Tree);
-    assert_eq!(rt; edge.size(), 0);
+    assert!(rt; edge.size() == 0);
     assert!(rt; edge.root() == empty_hash(Sha256Tree));
     for level in 0..8 {
         assert!(rt; edge.partial(level)?.is_none());
@@ -52,15 +52,15 @@ fn edge_of_the_worked_entries(rt: HostRuntime) -> Result<(), Fail> {
     for entry in ENTRIES {
         assert!(rt; add(&mut edge, entry)?.is_empty());
     }
-    assert_eq!(rt; edge.size(), 8);
+    assert!(rt; edge.size() == 8);
     let root = hex::encode(alloc, edge.root().as_bytes().as_slice())?;
-    assert_eq!(rt; root.as_str(), ROOTS[7].1);
+    assert!(rt; root.as_str() == ROOTS[7].1);
     let (shown, bytes) = edge.partial(0)?.ok_or("a tile of level 0")?;
     assert!(rt; shown == tile(0, 0, 8));
-    assert_eq!(rt; bytes.len(), 256);
+    assert!(rt; bytes.len() == 256);
     for (hash, leaf) in bytes.chunks(32).zip(LEAVES.iter()) {
         let text = hex::encode(alloc, hash)?;
-        assert_eq!(rt; text.as_str(), *leaf);
+        assert!(rt; text.as_str() == *leaf);
     }
     assert!(rt; edge.partial(1)?.is_none());
     Ok(())
@@ -77,9 +77,9 @@ fn edge_of_256_empty_entries(rt: HostRuntime) -> Result<(), Fail> {
         if number < 256 {
             assert!(rt; tiles.is_empty());
         } else {
-            assert_eq!(rt; tiles.len(), 1);
+            assert!(rt; tiles.len() == 1);
             assert!(rt; tiles[0].0 == tile(0, 0, 256));
-            assert_eq!(rt; tiles[0].1.len(), 8192);
+            assert!(rt; tiles[0].1.len() == 8192);
         }
     }
     let root = entry_root(Sha256Tree, entries.as_slice());
@@ -168,7 +168,7 @@ fn edge_beside_a_store(rt: HostRuntime) -> Result<(), Fail> {
             assert!(rt; are_alike(alloc, &both)?, "{size}");
         }
     }
-    assert_eq!(rt; both.full, 274);
+    assert!(rt; both.full == 274);
     Ok(())
 }
 
@@ -199,7 +199,7 @@ fn append_leaves_the_edge_as_it_was(rt: HostRuntime) -> Result<(), Fail> {
             let mut tiles = add(&mut edge, &[entry]);
             if tiles.is_err() {
                 assert!(rt; heap.refused());
-                assert_eq!(rt; edge.size(), u64::from(entry));
+                assert!(rt; edge.size() == u64::from(entry));
                 assert!(rt; edge.root() == whole.root());
                 tiles = add(&mut edge, &[entry]);
             }
@@ -248,7 +248,7 @@ fn entries_together_are_entries_one_by_one(rt: HostRuntime) -> Result<(), Fail> 
             want.append(&mut add(&mut singly, entry)?)?;
         }
         assert!(rt; are_same(tiles.as_slice(), want.as_slice()), "{count}");
-        assert_eq!(rt; together.size(), singly.size());
+        assert!(rt; together.size() == singly.size());
         assert!(rt; together.root() == singly.root(), "{count}");
     }
     Ok(())
@@ -266,7 +266,7 @@ fn append_all_leaves_the_edge_as_it_was(rt: HostRuntime) -> Result<(), Fail> {
         let mut tiles = add_all(&mut edge, entries.as_slice());
         if tiles.is_err() {
             assert!(rt; heap.refused());
-            assert_eq!(rt; edge.size(), 0);
+            assert!(rt; edge.size() == 0);
             assert!(rt; edge.root() == empty_hash(Sha256Tree));
             tiles = add_all(&mut edge, entries.as_slice());
         }

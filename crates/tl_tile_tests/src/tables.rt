@@ -211,14 +211,8 @@ fn provers_over_a_source_of_tiles(rt: HostRuntime) -> Result<(), Fail> {
         index: 0,
         width: 1,
     });
-    assert_eq!(rt;
-        prove_record(alloc, Sha256Tree, 300, 299, &spoilt).err(),
-        Some(bad_top)
-    );
-    assert_eq!(rt;
-        prove_tree(alloc, Sha256Tree, 300, 256, &spoilt).err(),
-        Some(bad_top)
-    );
+    assert!(rt; prove_record(alloc, Sha256Tree, 300, 299, &spoilt).err() == Some(bad_top));
+    assert!(rt; prove_tree(alloc, Sha256Tree, 300, 256, &spoilt).err() == Some(bad_top));
     Ok(())
 }
 
@@ -233,12 +227,9 @@ fn a_tile_with_a_byte_more_and_numbers_at_the_end(rt: HostRuntime) -> Result<(),
         index: 0,
         width: 256,
     };
-    assert_eq!(rt; longer.read(alloc, &[0]).err(), Some(bad_full));
+    assert!(rt; longer.read(alloc, &[0]).err() == Some(bad_full));
     let honest = reader_of(alloc, &store, root, NO_TILE, Trick::Nothing);
-    assert_eq!(rt;
-        honest.read(alloc, &[596]).err(),
-        Some(ReadFault::OutOfRange)
-    );
+    assert!(rt; honest.read(alloc, &[596]).err() == Some(ReadFault::OutOfRange));
     assert!(rt; honest.read(alloc, &[595])?.as_slice() == store.read(alloc, &[595])?.as_slice());
     Ok(())
 }

@@ -6,13 +6,13 @@
 #![tactic(auto)]
 
 use std::alloc::{AllocError, Global};
-use std::fs::Files;
+use std::net::{Net, TcpListener, TcpStream};
 use std::random::RandomSource;
-use std::thread::Threads;
 use std::{io, str};
 use tl_command::{MOST_INPUT, read_entries};
 use tl_device::Counted;
 use tl_job::run_words;
+use tl_serve::Host;
 
 // One run: its command line and its input.
 #[derive(Drop)]
@@ -39,7 +39,7 @@ fn words_of(alloc: Global, line: &str) -> Result<Vec<String>, AllocError> {
 }
 
 // Runs one command line over its input, in memory.
-fn run_line<H: Threads + Sync + Files + RandomSource>(
+fn run_line<H: Host + Net<Listener = TcpListener, Stream = TcpStream> + RandomSource>(
     rt: &H,
     alloc: Global,
     run: &Run,

@@ -71,15 +71,15 @@ fn each_origin_keeps_its_key_its_cosigner_and_its_links(rt: HostRuntime) -> Resu
     let witness = shared(alloc, &logs, &reached)?;
     for (log, last) in logs.iter().zip(reached) {
         let root = log.root(alloc, last)?;
-        assert_eq!(rt; witness.head(&rt, log.origin), Some((last, root)));
+        assert!(rt; witness.head(&rt, log.origin) == Some((last, root)));
         let before = witness.chain(&rt, log.origin)?.ok_or("no chain")?;
-        assert_eq!(rt; before.len() as u64, last);
+        assert!(rt; before.len() as u64 == last);
         let body = log.body(alloc, last, 40)?;
         let reply = post(&rt, alloc, &witness, body.as_str());
         assert!(rt; is_cosigned_by(&reply, log.cosigner));
         let after = witness.chain(&rt, log.origin)?.ok_or("no chain")?;
         assert!(rt; are_first(before.as_slice(), after.as_slice(), before.len()));
-        assert_eq!(rt; after.len() as u64, last + 1);
+        assert!(rt; after.len() as u64 == last + 1);
     }
     assert!(rt; witness.chain(&rt, "c.example")?.is_none());
     assert!(rt; witness.head(&rt, "c.example").is_none());
@@ -94,7 +94,7 @@ fn the_key_of_another_origin_is_refused(rt: HostRuntime) -> Result<(), Fail> {
     let witness = shared(alloc, &logs, &[5, 12])?;
     for (log, status) in [(&forged, 403), (&logs[0], 200)] {
         let body = log.body(alloc, 5, 20)?;
-        assert_eq!(rt; post(&rt, alloc, &witness, body.as_str()).status, status);
+        assert!(rt; post(&rt, alloc, &witness, body.as_str()).status == status);
     }
     Ok(())
 }
@@ -116,8 +116,8 @@ fn links_from_a_place_on(rt: HostRuntime) -> Result<(), Fail> {
         (2, u64::MAX, 10, Some(3)),
     ] {
         let links = witness.links(&rt, origin, from, most)?.ok_or("no links")?;
-        assert_eq!(rt; links.len(), count, "from {from}, at most {most}");
-        assert_eq!(rt; links.as_slice().first().map(|link| link.size), size);
+        assert!(rt; links.len() == count, "from {from}, at most {most}");
+        assert!(rt; links.as_slice().first().map(|link| link.size) == size);
     }
     assert!(rt; witness.links(&rt, "c.example", 0, 1)?.is_none());
     Ok(())
@@ -130,7 +130,7 @@ fn a_book_again_with_what_was_accepted(rt: HostRuntime) -> Result<(), Fail> {
     let witness = shared(alloc, &logs, &[5, 12])?;
     let grown = logs[1].origin;
     let body = logs[1].body(alloc, 12, 19)?;
-    assert_eq!(rt; post(&rt, alloc, &witness, body.as_str()).status, 200);
+    assert!(rt; post(&rt, alloc, &witness, body.as_str()).status == 200);
     let whole = witness.chain(&rt, grown)?.ok_or("no chain")?;
     let Ok(mut book) = witness.into_book(&rt) else {
         assert!(rt; false, "out of memory");
@@ -138,10 +138,7 @@ fn a_book_again_with_what_was_accepted(rt: HostRuntime) -> Result<(), Fail> {
     };
     let links = book.chain(grown).ok_or("no chain")?;
     assert!(rt; are_first(links, whole.as_slice(), 13));
-    assert_eq!(rt;
-        book.chain(logs[0].origin).map(|links| links.len()),
-        Some(5)
-    );
+    assert!(rt; book.chain(logs[0].origin).map(|links| links.len()) == Some(5));
     let mut saver = KeepingSaver::new(alloc);
     for (log, old) in logs.iter().zip([5u64, 19]) {
         let body = log.body(alloc, old, 20)?;

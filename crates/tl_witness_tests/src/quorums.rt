@@ -261,6 +261,6 @@ fn two_of_three_witnesses_cosign_twenty_publications(rt: HostRuntime) -> Result<
         .get(alloc, &Resource::Checkpoint)?
         .ok_or("no checkpoint")?;
     let text = str::from_utf8(note.as_slice()).map_err(|_| "no text")?;
-    assert_eq!(rt; counts(alloc, text)?, (1, 3));
+    assert!(rt; counts(alloc, text)? == (1, 3));
     Ok(())
 }

@@ -60,16 +60,15 @@ fn open_fault(alloc: Global, text: &str) -> Result<Option<BookFault>, BookFault>
 fn saved_links_are_read_and_taken(rt: HostRuntime) -> Result<(), Fail> {
     let alloc = rt.alloc();
     let chains = read_chain(alloc, LINES.as_bytes())?;
-    assert_eq!(rt; chains.len(), 1);
-    assert_eq!(rt; chains[0].0.as_str(), ORIGIN);
+    assert!(rt; chains.len() == 1);
+    assert!(rt; chains[0].0.as_str() == ORIGIN);
     let whole = two_links(alloc, F1)?;
     assert!(rt; are_first(chains[0].1.as_slice(), whole.as_slice(), 2));
-    assert_eq!(rt; open_fault(alloc, LINES)?, None);
+    assert!(rt; open_fault(alloc, LINES)? == None);
     let line = first_line(alloc, ORIGIN)?;
     let wrong = format!(in alloc; "{line}2 {E2} 1 {E1} {ORIGIN}\n")?;
-    assert_eq!(rt;
-        open_fault(alloc, wrong.as_str())?,
-        Some(BookFault::BadChain { chain: 0, link: 1 })
+    assert!(rt;
+        open_fault(alloc, wrong.as_str())? == Some(BookFault::BadChain { chain: 0, link: 1 })
     );
     assert!(rt; read_chain(alloc, b"")?.is_empty());
     Ok(())
@@ -81,9 +80,9 @@ fn origins_come_in_the_order_of_their_first_lines(rt: HostRuntime) -> Result<(),
     let spaced = first_line(alloc, "b c d")?;
     let text = format!(in alloc; "1 {E1} 0 z\n{spaced}2 {E2} 1 {F1} z\n")?;
     let chains = read_chain(alloc, text.as_bytes())?;
-    assert_eq!(rt; chains.len(), 2);
-    assert_eq!(rt; (chains[0].0.as_str(), chains[0].1.len()), ("z", 2));
-    assert_eq!(rt; (chains[1].0.as_str(), chains[1].1.len()), ("b c d", 1));
+    assert!(rt; chains.len() == 2);
+    assert!(rt; (chains[0].0.as_str(), chains[0].1.len()) == ("z", 2));
+    assert!(rt; (chains[1].0.as_str(), chains[1].1.len()) == ("b c d", 1));
     let whole = two_links(alloc, F1)?;
     assert!(rt; are_first(chains[0].1.as_slice(), whole.as_slice(), 2));
     assert!(rt; are_first(chains[1].1.as_slice(), whole.as_slice(), 1));
@@ -93,8 +92,8 @@ fn origins_come_in_the_order_of_their_first_lines(rt: HostRuntime) -> Result<(),
 #[test]
 fn the_first_malformed_line(rt: HostRuntime) -> Result<(), Fail> {
     let alloc = rt.alloc();
-    assert_eq!(rt; malformed(alloc, b"1"), Some(0));
-    assert_eq!(rt; malformed(alloc, b"\n"), Some(0));
+    assert!(rt; malformed(alloc, b"1") == Some(0));
+    assert!(rt; malformed(alloc, b"\n") == Some(0));
     for fields in [
         "01 {} 0 a",
         "+1 {} 0 a",
@@ -109,16 +108,16 @@ fn the_first_malformed_line(rt: HostRuntime) -> Result<(), Fail> {
     ] {
         let line = fields.replace(alloc, "{}", E1)?;
         let text = format!(in alloc; "{LINES}{line}\n1\n")?;
-        assert_eq!(rt; malformed(alloc, text.as_bytes()), Some(2), "for {line}");
+        assert!(rt; malformed(alloc, text.as_bytes()) == Some(2), "for {line}");
     }
     let cut = LINES.len() - 1;
-    assert_eq!(rt; malformed(alloc, &LINES.as_bytes()[..cut]), Some(1));
-    assert_eq!(rt; malformed(alloc, long_line(alloc, 63)?.as_bytes()), None);
-    assert_eq!(rt; malformed(alloc, long_line(alloc, 64)?.as_bytes()), Some(0));
+    assert!(rt; malformed(alloc, &LINES.as_bytes()[..cut]) == Some(1));
+    assert!(rt; malformed(alloc, long_line(alloc, 63)?.as_bytes()) == None);
+    assert!(rt; malformed(alloc, long_line(alloc, 64)?.as_bytes()) == Some(0));
     let mut text = Vec::from_slice(alloc, first_line(alloc, "a")?.as_bytes())?;
     text.pop();
     text.extend_from_slice(b"\xff\n")?;
-    assert_eq!(rt; malformed(alloc, text.as_slice()), Some(0));
+    assert!(rt; malformed(alloc, text.as_slice()) == Some(0));
     Ok(())
 }
 
@@ -130,16 +129,16 @@ fn reading_with_memory_refused(rt: HostRuntime) -> Result<(), Fail> {
         let heap = Refusing::at(alloc, number);
         match read_chain(&heap, LINES.as_bytes()) {
             Ok(chains) => {
-                assert_eq!(rt; chains.len(), 1);
+                assert!(rt; chains.len() == 1);
                 is_read = !heap.refused();
             }
-            Err(fault) => assert_eq!(rt; (fault, heap.refused()), (ChainFault::OutOfMemory, true)),
+            Err(fault) => assert!(rt; (fault, heap.refused()) == (ChainFault::OutOfMemory, true)),
         }
         if is_read {
             assert!(rt; number > 1);
             return Ok(());
         }
-        assert_eq!(rt; read_chain(&heap, LINES.as_bytes())?.len(), 1);
+        assert!(rt; read_chain(&heap, LINES.as_bytes())?.len() == 1);
     }
     assert!(rt; is_read);
     Ok(())
@@ -205,7 +204,7 @@ fn each_line_with_memory_refused(rt: HostRuntime) -> Result<(), Fail> {
         let reply = book.add(step.body.as_bytes(), TIME, &mut saver);
         assert!(rt; is_due(&reply, &step));
     }
-    assert_eq!(rt; saver.inner.lines.as_str(), LINES);
+    assert!(rt; saver.inner.lines.as_str() == LINES);
     assert!(rt; saver.are_right);
     Ok(())
 }

@@ -63,3 +63,28 @@ Output: 'extends' where the proof is accepted under SHA-256 and the first list i
 'not accepted', or 'collision' and in hexadecimal two different byte strings with one SHA-256, a line each.
 Exit status: 0 extends; 1 another answer, no such text, or out of memory; 2 wrong arguments or a call for help; 3 a
 read or a write failed.";
+
+pub(super) const SERVE: &str =
+    "Input: the entries of the log, one a line, as for 'tlog head'. With --follow they are published as they come, and
+the input has no limit.
+Serves the log over HTTP (C2SP tlog-tiles, tlog-checkpoint): 'listening ADDRESS' on standard error says where, and a
+line more each publication, 'published SIZE ROOT', and the end, 'closed SIZE'. Checkpoints are signed as those of 'tlog
+build'. With --note the first lines are the entries of that signed checkpoint, and the log goes on from it.
+Defaults: --lanes 1, --capacity 256, --batch 256, --timeout 10, as many threads as the machine has processors, and any
+number of connections.
+Exit status: 0 done; 1 refused (a bad key, a bad origin, input too large, an entry too long, fewer lines than the note's
+size, the operator refused, signing failed, out of memory); 2 wrong arguments or a call for help; 3 a read, a write, the
+address or an accept failed. A refusal is one line 'tlog: ..' on standard error.";
+
+pub(super) const WITNESS: &str =
+    "Input: what an earlier run printed, a line for each checkpoint that it cosigned.
+Serves a witness of one log over HTTP (C2SP tlog-witness, tlog-cosignature): 'listening ADDRESS' on standard error says
+where. Output: a line for each new checkpoint that it cosigns, before it answers: size, root, the hashes of the proof
+from the one before, and the log's name. The log is known by --log-key or, for demonstrations, by --secret; the witness
+cosigns by the private key in the file of --key, as 'tlog keygen --cosigner' prints it, or, for demonstrations, by
+--name and --witness-secret.
+Defaults: --timeout 10, as many threads as the machine has processors, any number of connections, and the machine's
+clock for the time of a cosignature.
+Exit status: 0 done; 1 refused (a bad key, a bad origin, a bad name, line K of the input refused, out of memory); 2
+wrong arguments or a call for help; 3 a read, a write, the address or an accept failed. A refusal is one line 'tlog: ..'
+on standard error.";

@@ -9,19 +9,10 @@ use Rattle.tl_checkpoint.specs.declared.opening.OpenCheckpointFault.{OpenCheckpo
 use Rattle.tl_checkpoint.specs.declared.opening.OpenCheckpointFault.TheVariants as opening
 use Rattle.tl_checkpoint.specs.Checkpoint.{head_of}
 use Rattle.tl_checkpoint.specs.OpenCheckpoint.{IsSignedCheckpoint}
-use Rattle.tl_key.specs.NoteKey.{PublicKey, note_kind}
-use Rattle.tl_key.specs.KeyText.{IsVerifierText}
 use Rattle.tl_command.specs.declared.fault.RunFault.{RunFault}
-use Rattle.tl_command.specs.declared.fault.RunFault.TheVariants.{Malformed, BadKey, BadCheckpoint, WrongSignature, Unverified, OutOfMemory}
-use Rattle.tl_open.specs.Open.{IsNoKey, IsWrongNote, IsUnknownNote}
+use Rattle.tl_command.specs.declared.fault.RunFault.TheVariants.{Malformed, BadCheckpoint, WrongSignature, Unverified, OutOfMemory}
+use Rattle.tl_open.specs.Open.{IsWrongNote, IsUnknownNote}
 use Rattle.tl_open.specs.CheckOpened.{IsNoCheckpoint}
-
--- the key that a text is of, or that it is none's
-abbrev pub ReadsKey : Bytes → Result PublicKey RunFault → Type 0
-ReadsKey text (Ok k) = IsVerifierText note_kind text k
-ReadsKey text (Err BadKey) = IsNoKey text
-ReadsKey text (Err OutOfMemory) = (k : PublicKey) × IsVerifierText note_kind text k
-ReadsKey text (Err fault) = ⊥
 
 -- a fault of opening a note, as one of the command
 abbrev pub after_note : NoteFault → RunFault

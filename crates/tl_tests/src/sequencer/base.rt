@@ -30,7 +30,7 @@ fn base_comes_back_from_a_refused_opening(rt: HostRuntime) -> Result<(), Fail> {
     match open_from(alloc, base_of_one(alloc, alloc)?, 0, 1, 1) {
         Ok(_opened) => assert!(rt; false, "it has no lane"),
         Err(BaseBack { base, why }) => {
-            assert_eq!(rt; why, OpenFault::LaneCount);
+            assert!(rt; why == OpenFault::LaneCount);
             assert!(rt; is_base_of_one(base.as_slice()));
         }
     }
@@ -44,7 +44,7 @@ fn base_comes_back_from_a_refused_opening(rt: HostRuntime) -> Result<(), Fail> {
             }
             Err(BaseBack { base, why }) => {
                 assert!(rt; heap.refused());
-                assert_eq!(rt; why, OpenFault::OutOfMemory);
+                assert!(rt; why == OpenFault::OutOfMemory);
                 assert!(rt; is_base_of_one(base.as_slice()));
             }
         }
@@ -57,8 +57,8 @@ fn base_comes_back_from_a_refused_opening(rt: HostRuntime) -> Result<(), Fail> {
 fn base_counts_towards_the_limit(rt: HostRuntime) -> Result<(), Fail> {
     let alloc = rt.alloc();
     let (mut log, _submitters) = opened_from(alloc, 1)?;
-    assert_eq!(rt; log.len(), 1);
-    assert_eq!(rt; log.take(0, 1), Err(TakeFault::LogFull));
+    assert!(rt; log.len() == 1);
+    assert!(rt; log.take(0, 1) == Err(TakeFault::LogFull));
     Ok(())
 }
 
@@ -81,14 +81,14 @@ fn base_is_of_no_lane(rt: HostRuntime) -> Result<(), Fail> {
     let alloc = rt.alloc();
     let (mut log, mut submitters) = opened_from(alloc, 2)?;
     let mut submitter = submitters.pop().unwrap();
-    assert_eq!(rt; submitter.lane(), 0);
-    assert_eq!(rt; sent(&mut submitter, bytes(alloc, "new")?), Ok(0));
-    assert_eq!(rt; log.take(0, 5), Ok(1));
-    assert_eq!(rt; log.len(), 2);
-    assert_eq!(rt; log.who(0), None);
-    assert_eq!(rt; log.who(1), Some(0));
-    assert_eq!(rt; log.place_of(0, 0), Some(1));
-    assert_eq!(rt; log.place_of(0, 1), None);
+    assert!(rt; submitter.lane() == 0);
+    assert!(rt; sent(&mut submitter, bytes(alloc, "new")?) == Ok(0));
+    assert!(rt; log.take(0, 5) == Ok(1));
+    assert!(rt; log.len() == 2);
+    assert!(rt; log.who(0) == None);
+    assert!(rt; log.who(1) == Some(0));
+    assert!(rt; log.place_of(0, 0) == Some(1));
+    assert!(rt; log.place_of(0, 1) == None);
     assert!(rt; log.entry(0) == Some(b"old".as_slice()));
     assert!(rt; log.entry(1) == Some(b"new".as_slice()));
     Ok(())

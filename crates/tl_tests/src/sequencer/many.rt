@@ -37,20 +37,20 @@ fn hundreds_waiting_are_taken_in_batches_and_ended(rt: HostRuntime) -> Result<()
     assert!(rt; send_many(alloc, &mut one, 1, 300)?);
     let zero = closed(zero)?;
     let one = closed(one)?;
-    assert_eq!(rt; taken(&mut log, 0, 256, &mut refused), Ok(256));
-    assert_eq!(rt; taken(&mut log, 1, 256, &mut refused), Ok(256));
-    assert_eq!(rt; ended(&mut log, zero, &mut refused), Ok(444));
-    assert_eq!(rt; ended(&mut log, one, &mut refused), Ok(44));
+    assert!(rt; taken(&mut log, 0, 256, &mut refused) == Ok(256));
+    assert!(rt; taken(&mut log, 1, 256, &mut refused) == Ok(256));
+    assert!(rt; ended(&mut log, zero, &mut refused) == Ok(444));
+    assert!(rt; ended(&mut log, one, &mut refused) == Ok(44));
     let Ok(complete) = log.close() else {
         return Err(Fail::new("a lane has not ended"));
     };
-    assert_eq!(rt; complete.len(), 1000);
-    assert_eq!(rt; complete.place_of(0, 255), Some(255));
-    assert_eq!(rt; complete.place_of(1, 0), Some(256));
-    assert_eq!(rt; complete.place_of(0, 256), Some(512));
-    assert_eq!(rt; complete.place_of(0, 699), Some(955));
-    assert_eq!(rt; complete.place_of(1, 299), Some(999));
-    assert_eq!(rt; complete.place_of(1, 300), None);
+    assert!(rt; complete.len() == 1000);
+    assert!(rt; complete.place_of(0, 255) == Some(255));
+    assert!(rt; complete.place_of(1, 0) == Some(256));
+    assert!(rt; complete.place_of(0, 256) == Some(512));
+    assert!(rt; complete.place_of(0, 699) == Some(955));
+    assert!(rt; complete.place_of(1, 299) == Some(999));
+    assert!(rt; complete.place_of(1, 300) == None);
     let last = [0, 0, 0, 1, 0, 0, 0, 0, 0, 0, 1, 43];
     assert!(rt; complete.entry(999) == Some(last.as_slice()));
     Ok(())
@@ -68,15 +68,15 @@ fn logs_of_3_and_5_and_64_lanes(rt: HostRuntime) -> Result<(), Fail> {
             lane = lane.saturating_add(1);
         }
         for lane in 0..lanes {
-            assert_eq!(rt; log.take(lane, 256), Ok(256), "lane {lane} of {lanes}");
+            assert!(rt; log.take(lane, 256) == Ok(256), "lane {lane} of {lanes}");
         }
         for lane in 0..lanes {
-            assert_eq!(rt; log.take(lane, 256), Ok(44), "lane {lane} of {lanes}");
+            assert!(rt; log.take(lane, 256) == Ok(44), "lane {lane} of {lanes}");
         }
-        assert_eq!(rt; log.len(), lanes as u64 * 300);
+        assert!(rt; log.len() == lanes as u64 * 300);
         let last = lanes as u64 * 300 - 1;
-        assert_eq!(rt; log.who(last), Some(lanes - 1));
-        assert_eq!(rt; log.place_of(lanes - 1, 299), Some(last));
+        assert!(rt; log.who(last) == Some(lanes - 1));
+        assert!(rt; log.place_of(lanes - 1, 299) == Some(last));
     }
     Ok(())
 }

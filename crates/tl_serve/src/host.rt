@@ -1,0 +1,14 @@
+//! What a server needs of the system.
+
+use std::fs::Files;
+use std::sync::Wait;
+use std::thread::Threads;
+use std::time::Clock;
+
+/// The system, as a server needs it beside its sockets: threads, a clock and files.
+pub trait Host: Threads + Wait + Clock + Files + Copy + Send + Sync + Drop {}
+
+impl<H> Host for H
+where
+    H: Threads + Wait + Clock + Files + Copy + Send + Sync + Drop,
+{}

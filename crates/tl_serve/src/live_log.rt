@@ -1,0 +1,77 @@
+//! A log that runs, as the threads that serve it see it.
+
+ghost use Rattle.std.specs.Prelude.{◌≡◌, IfOk, IfSome};
+ghost use Rattle.tl_publisher.specs.Operating.{IsOperating};
+ghost use Rattle.tl_sequencer.specs.Log.{IsEndOf};
+ghost use Rattle.tl_serve.specs.Kept.{IsKept};
+
+use crate::host::Host;
+use std::alloc::Global;
+use tl_command::RunFault;
+use tl_publisher::{Operator, PublishFault, Published, Shown};
+use tl_sequencer::{Ended, TakeFault};
+
+/// A log that runs: entries are taken in from its lanes, and published, until it is closed.
+pub(crate) trait LiveLog: Shown + Drop {
+    /// Takes in at most so many entries of a lane: how many it took.
+    fn take_in(&mut self, lane: u32, most: u64) -> Result<u64, RunFault>
+        requires { IsOperating (Self.shown self.old) }
+        ensures { IsKept (Self.shown self.old) (Self.shown self.new) };
+
+    /// Publishes what was taken in; none where it is published already.
+    fn show(&mut self) -> Result<Option<Published>, RunFault>
+        requires { IsOperating (Self.shown self.old) }
+        ensures kept { IsKept (Self.shown self.old) (Self.shown self.new) }
+        ensures book { IfOk result (λ shown. IfSome shown (λ p. p.book ≡ (Self.shown self.old).past.book)) };
+
+    /// Takes in all that is left of the lane of an end.
+    fn end_lane(&mut self, ended: Ended<Global, Global>) -> Result<(), RunFault>
+        requires operating { IsOperating (Self.shown self.old) }
+        requires end { IsEndOf ended (Self.shown self.old).log }
+        ensures { IsKept (Self.shown self.old) (Self.shown self.new) };
+
+    /// Closes the log: how many entries it has.
+    fn finish(self) -> Result<u64, RunFault>
+        requires { IsOperating (Self.shown self) };
+}
+
+// Why nothing was taken.
+fn refusal(fault: TakeFault) -> RunFault {
+    match fault {
+        TakeFault::OutOfMemory => RunFault::OutOfMemory,
+        _ => RunFault::Operator,
+    }
+}
+
+impl<H: Host> LiveLog for Operator<H> {
+    fn take_in(&mut self, lane: u32, most: u64) -> Result<u64, RunFault> {
+        match self.take(lane, most) {
+            Ok(taken) => Ok(taken),
+            Err(fault) => Err(refusal(fault)),
+        }
+    }
+
+    fn show(&mut self) -> Result<Option<Published>, RunFault> {
+        match self.publish() {
+            Ok(published) => Ok(Some(published)),
+            Err(PublishFault::NothingNew) => Ok(None),
+            Err(PublishFault::OutOfMemory) => Err(RunFault::OutOfMemory),
+            Err(PublishFault::Sign(_)) => Err(RunFault::Sign),
+            Err(PublishFault::Quorum) => Err(RunFault::Operator),
+        }
+    }
+
+    fn end_lane(&mut self, ended: Ended<Global, Global>) -> Result<(), RunFault> {
+        match self.end(ended) {
+            Ok(_taken) => Ok(()),
+            Err(refused) => Err(refusal(refused.why)),
+        }
+    }
+
+    fn finish(self) -> Result<u64, RunFault> {
+        match self.close() {
+            Ok((complete, _board)) => Ok(complete.len()),
+            Err(_back) => Err(RunFault::Operator),
+        }
+    }
+}

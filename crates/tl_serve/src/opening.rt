@@ -1,0 +1,151 @@
+//! What the log of `serve` is opened with, and what its lanes are to send.
+
+ghost use Rattle.std.specs.Prelude.{◌≡◌, IfOk, map};
+
+use crate::following::Lines;
+use crate::lanes::Lane;
+use std::alloc::{AllocError, Global};
+use std::io::Read;
+use tl_checkpoint::open_checkpoint;
+use tl_command::{MOST_INPUT, RunFault, ServeOptions, read_entries};
+use tl_device::Counted;
+use tl_note::Verifier;
+use tl_sequencer::Submitter;
+use tl_tile::{BundleFault, write_bundle};
+
+/// The bundles of entries, none of which is too long.
+pub(crate) fn bundles_of(alloc: Global, entries: &[Vec<u8>]) -> Result<Vec<Vec<u8>>, RunFault> {
+    let mut bundles = Vec::new(alloc);
+    for bundle in entries.chunks(256) {
+        match write_bundle(alloc, bundle) {
+            Ok(bytes) => bundles.push(bytes)?,
+            Err(BundleFault::OutOfMemory) => return Err(RunFault::OutOfMemory),
+            Err(_) => return Err(RunFault::Operator),
+        }
+    }
+    Ok(bundles)
+}
+
+/// A note with its last newline, which a shell takes off.
+pub(crate) fn whole_note(alloc: Global, note: &str) -> Result<String, AllocError> {
+    let mut whole = String::from_str(alloc, note)?;
+    if !note.ends_with('\n') {
+        whole.push_str("\n")?;
+    }
+    Ok(whole)
+}
+
+/// How many entries the checkpoint of a note has.
+pub(crate) fn size_of(
+    alloc: Global,
+    note: &str,
+    verifiers: &[Box<dyn Verifier>],
+) -> Result<u64, RunFault> {
+    match open_checkpoint(alloc, note, verifiers) {
+        Ok(checkpoint) => Ok(checkpoint.size),
+        Err(_) => Err(RunFault::Operator),
+    }
+}
+
+/// What a log is opened with: the entries that it goes on from, those that it is to be sent, lines that come later, how
+/// many lanes there are, and the room of each.
+#[derive(Drop)]
+pub(crate) struct Plan {
+    pub(crate) base: Vec<Vec<u8>>,
+    pub(crate) entries: Vec<Vec<u8>>,
+    pub(crate) lines: Lines,
+    pub(crate) lanes: u32,
+    pub(crate) room: usize,
+}
+
+// The entries that a log of this size goes on from, and those that it is to be sent. Where lines are followed the
+// latter come later. `Malformed`: there are fewer.
+fn read_log<R: Read>(
+    alloc: Global,
+    options: &ServeOptions,
+    size: u64,
+    lines: &mut Lines,
+    reader: &mut Counted<R>,
+) -> Result<(Vec<Vec<u8>>, Vec<Vec<u8>>), RunFault> {
+    if options.follow {
+        let base = lines.take(alloc, reader, size)?;
+        return Ok((base, Vec::new(alloc)));
+    }
+    let mut base = read_entries(alloc, reader, MOST_INPUT)?;
+    let Ok(size) = usize::try_from(size) else {
+        return Err(RunFault::Malformed);
+    };
+    if size > base.len() {
+        return Err(RunFault::Malformed);
+    }
+    let entries = base.split_off(size)?;
+    Ok((base, entries))
+}
+
+/// Reads what a log of this size is opened with. Where lines are followed there is one lane.
+pub(crate) fn read_plan<R: Read>(
+    alloc: Global,
+    options: &ServeOptions,
+    size: u64,
+    reader: &mut Counted<R>,
+) -> Result<Plan, RunFault> {
+    let mut lines = Lines::new(alloc)?;
+    let (base, entries) = match read_log(alloc, options, size, &mut lines, reader) {
+        Ok(read) => read,
+        Err(fault) => return Err(fault),
+    };
+    let Ok(lanes) = u32::try_from(options.lanes) else {
+        return Err(RunFault::Operator);
+    };
+    let Ok(room) = usize::try_from(options.capacity) else {
+        return Err(RunFault::Operator);
+    };
+    if options.follow && lanes != 1 {
+        return Err(RunFault::Operator);
+    }
+    Ok(Plan {
+        base,
+        entries,
+        lines,
+        lanes,
+        room,
+    })
+}
+
+// Deals entries out to so many lanes in turn.
+fn deal(
+    alloc: Global,
+    entries: Vec<Vec<u8>>,
+    lanes: usize,
+) -> Result<Vec<Vec<Vec<u8>>>, AllocError> {
+    let mut shares: Vec<Vec<Vec<u8>>> = Vec::new(alloc);
+    for _ in 0..lanes {
+        shares.push(Vec::new(alloc))?;
+    }
+    let mut lane = 0usize;
+    for entry in entries {
+        if let Some(share) = shares.get_mut(lane) {
+            share.push(entry)?;
+        }
+        let next = lane.saturating_add(1);
+        lane = if next < lanes { next } else { 0 };
+    }
+    Ok(shares)
+}
+
+/// What each submitter is to send: the entries are dealt out in turn.
+pub(crate) fn lanes_of(
+    alloc: Global,
+    submitters: Vec<Submitter<Global, Global>>,
+    entries: Vec<Vec<u8>>,
+) -> Result<Vec<Lane>, AllocError>
+    ensures { IfOk result (λ lanes. map (λ l. l.submitter) lanes.items ≡ submitters.items) }
+{
+    let mut shares = deal(alloc, entries, submitters.len())?.into_iter();
+    let mut lanes = Vec::new(alloc);
+    for submitter in submitters {
+        let entries = shares.next().unwrap_or(Vec::new(alloc));
+        lanes.push(Lane { submitter, entries })?;
+    }
+    Ok(lanes)
+}

@@ -1,0 +1,293 @@
+//! The command `serve`: a running log over HTTP.
+
+ghost use Rattle.std.specs.Prelude.{◌≡◌, ◌≤◌, All, string_bytes};
+ghost use Rattle.tl_device.specs.Device.{passage};
+ghost use Rattle.tl_publisher.specs.Operating.{IsOperating};
+ghost use Rattle.tl_sequencer.specs.Log.{IsSenderOf};
+ghost use Rattle.tl_serve.specs.Kept.{IsKept};
+ghost use Rattle.tl_serve.specs.Serving.{RefusesOrigin};
+
+use crate::door::Door;
+use crate::following::{Followed, Lines};
+use crate::gate::{Gate, OpenGate};
+use crate::host::Host;
+use crate::live_log::LiveLog;
+use crate::opening::{bundles_of, lanes_of, read_plan, size_of, whole_note};
+use crate::running::run_log;
+use std::alloc::Global;
+use std::io::{Read, Write};
+use std::net::{Net, TcpListener, TcpStream};
+use std::sync::Arc;
+use std::thread::{Threads, available_parallelism};
+use tl_command::{LogKey, RunFault, ServeOptions};
+use tl_device::Counted;
+use tl_key::{DemoKey, Note, SignerKey, VerifierKey, demo_key};
+use tl_note::{NoteFault, Signer, Verifier, is_key_name};
+use tl_open::{read_file, read_private_key};
+use tl_publisher::{BoardReader, Operator, OperatorFault, Published, ResumeFault};
+use tl_sequencer::Submitter;
+
+// The most threads that answer: one less than the board may have readers, since one more tells what is published.
+const MOST_THREADS: u32 = 63;
+
+// The most entries of a log.
+const MOST_ENTRIES: u64 = 0xFFFF_FFFF;
+
+/// The keys of a log: one that signs, and one that opens what it signed.
+#[derive(Drop)]
+enum Keys {
+    Demonstration(DemoKey<Global>, DemoKey<Global>),
+    Private(SignerKey<Note, Global>, VerifierKey<Note, Global>),
+}
+
+/// How many threads answer: as many as are asked for, or else as the machine has, and at most 63.
+pub(crate) fn threads_of<H: Threads>(rt: &H, asked: Option<u64>) -> u32
+    ensures { result ≤ 63 }
+{
+    let count = match asked {
+        Some(count) => count,
+        None => match available_parallelism(rt) {
+            Ok(count) => count.get() as u64,
+            Err(_) => 1,
+        },
+    };
+    match u32::try_from(count) {
+        Ok(count) => count.clamp(1, MOST_THREADS),
+        Err(_) => MOST_THREADS,
+    }
+}
+
+// Has each reader see at least this publication.
+fn learn(readers: Vec<BoardReader<Global>>, published: &Published) -> Vec<BoardReader<Global>>
+    requires { All (λ r. r.book ≡ published.now.book) readers.items }
+{
+    let mut readers = readers;
+    for reader in readers.iter_mut() {
+        reader.learn(published);
+    }
+    readers
+}
+
+// Publishes the log as it was opened, which each reader then sees.
+fn publish_first<O: LiveLog>(
+    log: &mut O,
+    readers: Vec<BoardReader<Global>>,
+) -> Result<Vec<BoardReader<Global>>, RunFault>
+    requires operating { IsOperating (O.shown log.old) }
+    requires seen { All (λ w. w ≡ (O.shown log.old).past) readers.items }
+    ensures { IsKept (O.shown log.old) (O.shown log.new) }
+{
+    match log.show() {
+        Ok(Some(published)) => Ok(learn(readers, &published)),
+        Ok(None) => Ok(readers),
+        Err(fault) => Err(fault),
+    }
+}
+
+// What a log is served with.
+#[derive(Drop)]
+struct Server<'s, H, G> {
+    rt: &'s H,
+    alloc: Global,
+    options: &'s ServeOptions,
+    gate: &'s G,
+}
+
+impl<H: Host + Net<Listener = TcpListener, Stream = TcpStream>, G: Gate> Server<'_, H, G> {
+    // How many readers the board has: one for each thread that answers, and one for that which tells.
+    fn readers(&self) -> u32 {
+        threads_of(self.rt, self.options.server.threads) + 1
+    }
+
+    // Serves a log that was opened, and is to be sent these entries.
+    fn serve_opened<O: LiveLog, R: Read + Send, L: Write>(
+        &self,
+        opened: O,
+        submitters: Vec<Submitter<Global, Global>>,
+        readers: Vec<BoardReader<Global>>,
+        entries: Vec<Vec<u8>>,
+        lines: Lines,
+        reader: &mut Counted<R>,
+        log: &mut Counted<L>,
+    ) -> Result<(), RunFault>
+        requires operating { IsOperating (O.shown opened) }
+        requires senders { All (λ s. IsSenderOf s (O.shown opened).log) submitters.items }
+        requires seen { All (λ w. w ≡ (O.shown opened).past) readers.items }
+    {
+        let (rt, alloc, options) = (self.rt, self.alloc, self.options);
+        let mut operator = opened;
+        let lanes = lanes_of(alloc, submitters, entries)?;
+        let readers = publish_first(&mut operator, readers)?;
+        let threads = threads_of(rt, options.server.threads);
+        let door = Door::open(rt, alloc, &options.server, threads, log)?;
+        let followed = if options.follow {
+            Some(Followed { lines, reader })
+        } else {
+            None
+        };
+        run_log(
+            rt, alloc, options, operator, lanes, readers, followed, &door, log, self.gate,
+        )
+    }
+
+    // Serves a log that begins with no entry.
+    fn serve_new<R: Read + Send, L: Write>(
+        &self,
+        keys: Keys,
+        reader: &mut Counted<R>,
+        log: &mut Counted<L>,
+    ) -> Result<(), RunFault> {
+        let (alloc, origin) = (self.alloc, self.options.origin.as_str());
+        let plan = match read_plan(alloc, self.options, 0, reader) {
+            Ok(plan) => plan,
+            Err(fault) => return Err(fault),
+        };
+        let signer: Box<dyn Signer> = match keys {
+            Keys::Demonstration(signer, _verifier) => Box::new(alloc, signer)?,
+            Keys::Private(signer, _verifier) => Box::new(alloc, signer)?,
+        };
+        let mut signers = Vec::new(alloc);
+        signers.push(signer)?;
+        let (lanes, room, limit, readers) = (plan.lanes, plan.room, MOST_ENTRIES, self.readers());
+        match Operator::open(
+            *self.rt, alloc, origin, signers, lanes, room, limit, readers,
+        ) {
+            Ok((operator, submitters, readers)) => {
+                let (entries, lines) = (plan.entries, plan.lines);
+                self.serve_opened(operator, submitters, readers, entries, lines, reader, log)
+            }
+            Err(OperatorFault::OutOfMemory) => Err(RunFault::OutOfMemory),
+            Err(_) => Err(RunFault::Operator),
+        }
+    }
+
+    // Serves a log that goes on from the checkpoint of a note.
+    fn serve_resumed<R: Read + Send, L: Write>(
+        &self,
+        keys: Keys,
+        note: &str,
+        reader: &mut Counted<R>,
+        log: &mut Counted<L>,
+    ) -> Result<(), RunFault> {
+        let (alloc, origin) = (self.alloc, self.options.origin.as_str());
+        let (signer, verifier): (Box<dyn Signer>, Box<dyn Verifier>) = match keys {
+            Keys::Demonstration(signer, verifier) => {
+                (Box::new(alloc, signer)?, Box::new(alloc, verifier)?)
+            }
+            Keys::Private(signer, verifier) => {
+                (Box::new(alloc, signer)?, Box::new(alloc, verifier)?)
+            }
+        };
+        let (mut signers, opens) = (Vec::new(alloc), [verifier]);
+        signers.push(signer)?;
+        let size = size_of(alloc, note, &opens)?;
+        let plan = match read_plan(alloc, self.options, size, reader) {
+            Ok(plan) => plan,
+            Err(fault) => return Err(fault),
+        };
+        let bundles = bundles_of(alloc, plan.base.as_slice())?;
+        let (lanes, room, limit, readers) = (plan.lanes, plan.room, MOST_ENTRIES, self.readers());
+        let (rt, base) = (*self.rt, bundles.as_slice());
+        match Operator::resume(
+            rt, alloc, origin, signers, &opens, lanes, room, limit, readers, note, base,
+        ) {
+            Ok((operator, submitters, readers)) => {
+                let (entries, lines) = (plan.entries, plan.lines);
+                self.serve_opened(operator, submitters, readers, entries, lines, reader, log)
+            }
+            Err(ResumeFault::OutOfMemory) => Err(RunFault::OutOfMemory),
+            Err(_) => Err(RunFault::Operator),
+        }
+    }
+}
+
+// The demonstration key of the log.
+fn demonstration(alloc: Global, origin: &str, secret: &str) -> Result<DemoKey<Global>, RunFault> {
+    match demo_key(alloc, origin, secret.as_bytes()) {
+        Ok(key) => Ok(key),
+        Err(NoteFault::OutOfMemory) => Err(RunFault::OutOfMemory),
+        Err(_) => Err(RunFault::BadOrigin),
+    }
+}
+
+// The keys that the options name. `BadOrigin`: they are of another name than the log.
+fn keys_of<H: Host>(rt: &H, alloc: Global, options: &ServeOptions) -> Result<Keys, RunFault> {
+    let origin = options.origin.as_str();
+    match &options.key {
+        LogKey::Secret(secret) => Ok(Keys::Demonstration(
+            demonstration(alloc, origin, secret)?,
+            demonstration(alloc, origin, secret)?,
+        )),
+        LogKey::File(path) => {
+            let bytes = read_file(rt, alloc, path)?;
+            let key = read_private_key::<Note>(alloc, bytes.as_slice())?;
+            if key.name() != origin {
+                return Err(RunFault::BadOrigin);
+            }
+            let verifier = key.verifier(alloc)?;
+            Ok(Keys::Private(key, verifier))
+        }
+    }
+}
+
+/// `run_serve` where the thread of each lane passes this gate before it sends.
+pub fn serve_gated<
+    H: Host + Net<Listener = TcpListener, Stream = TcpStream>,
+    R: Read + Send,
+    L: Write,
+    G: Gate,
+>(
+    rt: &H,
+    alloc: Global,
+    options: &ServeOptions,
+    reader: &mut Counted<R>,
+    log: &mut Counted<L>,
+    gate: Arc<G>,
+) -> Result<(), RunFault>
+    ensures { RefusesOrigin (string_bytes options.now.origin) (passage R.remaining reader.old reader.new) result }
+{
+    let origin = options.origin.as_str();
+    if !is_key_name(origin) {
+        return Err(RunFault::BadOrigin);
+    }
+    let gate: &G = &gate;
+    let keys = keys_of(rt, alloc, options)?;
+    let server = Server {
+        rt,
+        alloc,
+        options,
+        gate,
+    };
+    match &options.note {
+        Some(note) => {
+            let note = whole_note(alloc, note)?;
+            server.serve_resumed(keys, note.as_str(), reader, log)
+        }
+        None => server.serve_new(keys, reader, log),
+    }
+}
+
+/// Serves the log of the lines of the input over HTTP: tells the address, then answers connections, each by
+/// `tl_server::serve_log`, and ends after as many as the options say. A thread for each lane sends its entries, and
+/// this one takes and publishes them. In the end the log is closed. It may wait.
+pub fn run_serve<
+    H: Host + Net<Listener = TcpListener, Stream = TcpStream>,
+    R: Read + Send,
+    L: Write,
+>(
+    rt: &H,
+    alloc: Global,
+    options: &ServeOptions,
+    reader: &mut Counted<R>,
+    log: &mut Counted<L>,
+) -> Result<(), RunFault>
+    ensures { RefusesOrigin (string_bytes options.now.origin) (passage R.remaining reader.old reader.new) result }
+{
+    if !is_key_name(options.origin.as_str()) {
+        return Err(RunFault::BadOrigin);
+    }
+    let Ok(gate) = Arc::new(alloc, OpenGate) else {
+        return Err(RunFault::OutOfMemory);
+    };
+    serve_gated(rt, alloc, options, reader, log, gate)
+}
