@@ -83,7 +83,7 @@ fn rounds<R: Net<Stream = TcpStream> + Clock>(rt: &R, alloc: Global, address: So
     let mut right = 0;
     for _round in 0..ROUNDS {
         if let Ok(true) = round(rt, alloc, address, limit) {
-            right += 1;
+            right = right.saturating_add(1);
         }
     }
     right

@@ -46,7 +46,7 @@ fn asked<R: Net<Stream = TcpStream> + Clock>(rt: &R, alloc: Global, address: Soc
         (b"HTTP/1.1 409 Conflict\r\n".as_slice(), CONFLICT),
     ] {
         if let Ok(true) = is_answered(rt, alloc, address, due) {
-            right += 1;
+            right = right.saturating_add(1);
         }
     }
     right
