@@ -80,7 +80,7 @@ fn round<R: Net<Stream = TcpStream> + Clock>(
 // How many rounds went well.
 fn rounds<R: Net<Stream = TcpStream> + Clock>(rt: &R, alloc: Global, address: SocketAddr) -> u64 {
     let limit = Duration::from_millis(2000);
-    let mut right = 0;
+    let mut right = 0u64;
     for _round in 0..ROUNDS {
         if let Ok(true) = round(rt, alloc, address, limit) {
             right = right.saturating_add(1);

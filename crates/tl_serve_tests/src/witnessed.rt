@@ -40,7 +40,7 @@ fn is_answered<R: Net<Stream = TcpStream> + Clock>(
 
 // How many of the two requests have their answer.
 fn asked<R: Net<Stream = TcpStream> + Clock>(rt: &R, alloc: Global, address: SocketAddr) -> u64 {
-    let mut right = 0;
+    let mut right = 0u64;
     for due in [
         (b"HTTP/1.1 200 OK\r\n".as_slice(), COSIGNED),
         (b"HTTP/1.1 409 Conflict\r\n".as_slice(), CONFLICT),
