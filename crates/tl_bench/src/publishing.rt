@@ -128,6 +128,22 @@ fn rate(count: u64, took: Duration) -> u128 {
     }
 }
 
+// Prints what was measured: how long all took, the longest publication, and how many tiles were read.
+fn print_rates<R: Print>(
+    rt: &R,
+    batch: u64,
+    took: Duration,
+    longest: Duration,
+    tiles: u64,
+) -> io::Result<()> {
+    println!(rt;
+        "publish: each {batch}: {} entries a second, longest publication {} microseconds, {} tiles a second read",
+        rate(ENTRIES, took),
+        longest.as_micros(),
+        rate(tiles, took)
+    )
+}
+
 /// Prints how many entries a second four threads get published, so many a publication, how long the longest took, and
 /// how many full tiles two readers got meanwhile. None where memory is refused.
 pub fn publish<R: Threads + Wait + Clock + Print + Copy + Drop>(
@@ -167,11 +183,6 @@ pub fn publish<R: Threads + Wait + Clock + Print + Copy + Drop>(
     for thread in senders {
         thread.join(rt)?;
     }
-    println!(rt;
-        "publish: each {batch}: {} entries a second, longest publication {} microseconds, {} tiles a second read",
-        rate(ENTRIES, took),
-        longest.as_micros(),
-        rate(tiles, took)
-    )?;
+    print_rates(rt, batch, took, longest, tiles)?;
     Ok(Some(()))
 }

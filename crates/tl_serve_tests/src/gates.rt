@@ -1,12 +1,14 @@
 //! Lanes that wait for one another before they send.
 
 use crate::options::{ORIGIN, serve_options};
+use std::alloc::Global;
+use std::net::{Net, TcpListener, TcpStream};
 use std::sync::Arc;
 use std::sync::atomic::{AtomicBool, AtomicU64, Ordering};
 use std::test::Fail;
 use std::thread;
 use tl_device::Counted;
-use tl_serve::{Gate, serve_gated};
+use tl_serve::{Gate, Host, serve_gated};
 
 // How often a lane looks for the other.
 const TURNS: u64 = 10_000_000;
@@ -37,9 +39,11 @@ impl Gate for Meeting {
     }
 }
 
-#[test]
-fn each_lane_has_a_thread(rt: HostRuntime) -> Result<(), Fail> {
-    let alloc = rt.alloc();
+// Serves a log of two lanes that meet. Whether both saw the other, and the log ended well.
+fn is_met<H: Host + Net<Listener = TcpListener, Stream = TcpStream>>(
+    rt: &H,
+    alloc: Global,
+) -> Result<bool, Fail> {
     let meeting = Arc::new(
         alloc,
         Meeting {
@@ -54,7 +58,14 @@ fn each_lane_has_a_thread(rt: HostRuntime) -> Result<(), Fail> {
     let input: &[u8] = b"a\nb\n";
     let mut reader = Counted::new(input);
     let mut log = Counted::new(Vec::new(alloc));
-    let ended = serve_gated(&rt, alloc, &options, &mut reader, &mut log, gate);
-    assert!(rt; ended.is_ok() && meeting.met.load(Ordering::SeqCst) == 2);
+    let ended = serve_gated(rt, alloc, &options, &mut reader, &mut log, gate);
+    Ok(ended.is_ok() && meeting.met.load(Ordering::SeqCst) == 2)
+}
+
+#[test]
+fn each_lane_has_a_thread(rt: HostRuntime) -> Result<(), Fail> {
+    for _ in 0..100 {
+        assert!(rt; is_met(&rt, rt.alloc())?);
+    }
     Ok(())
 }
