@@ -64,6 +64,16 @@ impl<B: Allocator> Refusing<B> {
         });
     }
 
+    /// Refuses each request from now on.
+    pub fn refuse(&self) {
+        let now = self.countdown.get();
+        self.countdown.set(Countdown {
+            left: 1,
+            is_lasting: true,
+            ..now
+        });
+    }
+
     /// Whether a request was refused.
     pub fn refused(&self) -> bool {
         self.countdown.get().was_refused
