@@ -1,0 +1,5 @@
+pub mod Needs
+pub mod Stays
+pub mod Lists
+pub mod Ways
+pub mod Follows

@@ -1,0 +1,6 @@
+pub mod Shelves
+pub mod Complete
+pub mod Faults
+pub mod Publishing
+pub mod Laws
+pub mod Inner
