@@ -1,6 +1,6 @@
 //! From words to the command that they name, and from how it ended to an exit status.
 
-ghost use Rattle.std.specs.Prelude.{◌≡◌, option_map, string_bytes};
+ghost use Rattle.std.specs.Prelude.{◌≡◌, option_map};
 ghost use Rattle.tl_device.specs.Device.{passage};
 ghost use Rattle.tl_command.specs.Head.{RunsHead};
 ghost use Rattle.tl_job.specs.Job.{BuildsDemo, BuildsSigned, ChecksFile, EndsWords, RunsJob, key_kind};
@@ -105,18 +105,20 @@ fn build_signed<H: Files, R: Read, W: Write>(
 fn check_under<H: Files, R: Read, W: Write>(
     rt: &H,
     alloc: Global,
-    options: &CheckOptions,
+    checkpoint: &str,
+    key: &str,
+    entry: Option<&str>,
     reader: &mut Counted<R>,
     writer: &mut Counted<W>,
 ) -> Result<(), RunFault>
-    ensures { ChecksFile (string_bytes options.now.key) (option_map string_bytes options.now.entry) (passage R.remaining reader.old reader.new) (passage W.contents writer.old writer.new) result }
+    ensures { ChecksFile key.now (option_map (λ e. e.now) entry.entry) (passage R.remaining reader.old reader.new) (passage W.contents writer.old writer.new) result }
 {
-    let bytes = match read_file(rt, alloc, &options.checkpoint) {
+    let bytes = match read_file(rt, alloc, checkpoint) {
         Ok(bytes) => bytes,
         Err(fault) => return Err(fault),
     };
-    let entry = options.entry.as_ref().map(|entry| entry.as_bytes());
-    run_check_opened(alloc, &options.key, bytes.as_slice(), entry, reader, writer)
+    let entry = entry.map(|entry| entry.as_bytes());
+    run_check_opened(alloc, key, bytes.as_slice(), entry, reader, writer)
 }
 
 /// Runs the command of a job with its options: each job its own command, which reads the reader and writes the writer.
@@ -149,7 +151,16 @@ pub fn run_job<
         Job::Inclusion { index } => run_inclusion(alloc, index, reader, writer),
         Job::Consistency { old } => run_consistency(alloc, old, reader, writer),
         Job::Check => run_check(alloc, reader, writer),
-        Job::CheckUnder(options) => check_under(rt, alloc, &options, reader, writer),
+        Job::CheckUnder(
+            CheckOptions {
+                checkpoint,
+                key,
+                entry,
+            },
+        ) => {
+            let entry = entry.as_deref();
+            check_under(rt, alloc, &checkpoint, &key, entry, reader, writer)
+        }
         Job::Keygen { name, is_cosigner } => {
             make_key(rt, alloc, &name, is_cosigner, writer, errors)
         }
