@@ -3,3 +3,4 @@ pub mod Stays
 pub mod Lists
 pub mod Ways
 pub mod Follows
+pub mod Found

@@ -6,11 +6,20 @@ use Rattle.tl_publisher.specs.declared.fault.GetFault.TheVariants as get
 use Rattle.tl_archive.specs.Shelves.{Fails}
 use Rattle.tl_archive.specs.declared.fault.ArchiveFault.{ArchiveFault}
 use Rattle.tl_archive.specs.declared.fault.ArchiveFault.TheVariants as archive
+use Rattle.tl_archive.specs.declared.fault.ShelfReadFault.{ShelfReadFault}
+use Rattle.tl_archive.specs.declared.fault.ShelfReadFault.TheVariants as shelf
+use Rattle.tl_archive.specs.declared.fault.ReadLogFault.{ReadLogFault}
+use Rattle.tl_archive.specs.declared.fault.ReadLogFault.TheVariants as reading
 
 -- a fault of the board, passed on
 abbrev pub after_get : GetFault → ArchiveFault
 after_get get.Gone = archive.Gone
 after_get get.OutOfMemory = archive.OutOfMemory
+
+-- a fault of reading a shelf, passed on
+abbrev pub after_read : ShelfReadFault → ReadLogFault
+after_read shelf.Shelf = reading.Shelf
+after_read shelf.OutOfMemory = reading.OutOfMemory
 
 -- the last publication that was seen, between these two looks, has fewer entries than are surely there, or too many
 pub record IsBehind (before after : List Prefix) (sure : ℕ) : Type 0 where

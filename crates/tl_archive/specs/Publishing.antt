@@ -37,6 +37,12 @@ pub record IsArchived (H : Digest) (before after : List Prefix) (size : ℕ) (he
   pub sized : length last.entries ≡ size
   pub there : IsFor H last held
 
+-- the size that is sure then: that of what was archived, or what it was
+abbrev pub sure_after : ℕ → Result (Option ℕ) ArchiveFault → ℕ
+sure_after sure (Ok None) = sure
+sure_after sure (Ok (Some size)) = size
+sure_after sure (Err fault) = sure
+
 -- of which size a publication was archived; none where nothing is published
 abbrev pub ArchivesLast : Digest → List Prefix → List Prefix → Held → Result (Option ℕ) ArchiveFault → Type 0
 ArchivesLast H before after held (Ok None) = after ≡ []

@@ -5,7 +5,7 @@ ghost use Rattle.sha2.specs.Sha256.{sha256};
 ghost use Rattle.tl_publisher.specs.Histories.{Prefix, Grew};
 ghost use Rattle.tl_archive.specs.Complete.{KeptSafe};
 ghost use Rattle.tl_archive.specs.Faults.{ArchiveFails};
-ghost use Rattle.tl_archive.specs.Publishing.{ArchivesLast, GoesOn, IsArchive};
+ghost use Rattle.tl_archive.specs.Publishing.{ArchivesLast, GoesOn, IsArchive, sure_after};
 
 use crate::fault::ArchiveFault;
 use crate::shelf::Shelf;
@@ -68,6 +68,7 @@ impl<S: Shelf> Archive<S> {
         ensures archived { (earlier : List Prefix) → GoesOn earlier board.new.log
             → IsArchive sha256 (earlier ++ board.old.log) (S.kept self.old.shelf) self.old.sure
             → ArchivesLast sha256 board.old.log board.new.log (S.kept self.new.shelf).held result }
+        ensures sure { self.new.sure ≡ sure_after self.old.sure result }
         ensures unfailed { OnOk result (S.faults self.new.shelf ≡ S.faults self.old.shelf) }
         ensures failed { IfErr result (ArchiveFails board.old.log board.new.log self.old.sure (S.faults self.old.shelf) (S.faults self.new.shelf)) }
     {

@@ -2,9 +2,10 @@
 
 ghost use Rattle.std.specs.Prelude.{◌≡◌};
 ghost use Rattle.tl_archive.specs.declared.fault.ArchiveFault.TheVariants as archive;
-ghost use Rattle.tl_archive.specs.Faults.{after_get};
+ghost use Rattle.tl_archive.specs.declared.fault.ReadLogFault.TheVariants as reading;
+ghost use Rattle.tl_archive.specs.Faults.{after_get, after_read};
 
-use std::alloc::AllocError;
+use std::alloc::{AllocError, AllocFailed};
 use thiserror::Error;
 use tl_publisher::GetFault;
 
@@ -39,6 +40,54 @@ pub enum ArchiveFault {
     /// A growth was refused.
     #[error("out of memory")]
     OutOfMemory,
+}
+
+/// Why a log was not read from a shelf.
+#[derive(Clone, Copy, Debug, PartialEq, Eq, Error)]
+pub enum ReadLogFault {
+    /// The checkpoint's bytes are no note that opens under the verifiers, with a checkpoint's text (C2SP
+    /// tlog-checkpoint).
+    #[error("the checkpoint does not open")]
+    Checkpoint,
+    /// The checkpoint states more than 2^32 - 1 entries.
+    #[error("the log is too large")]
+    TooLarge,
+    /// This bundle isn't there, counted from 0.
+    #[error("bundle {0} is missing")]
+    Missing(u64),
+    /// The shelf failed.
+    #[error("the shelf failed")]
+    Shelf,
+    /// A growth was refused.
+    #[error("out of memory")]
+    OutOfMemory,
+}
+
+impl From<AllocError> for ReadLogFault {
+    ghost from_gives = { λ _ fault. fault ≡ reading.OutOfMemory };
+
+    fn from(_error: AllocError) -> ReadLogFault {
+        ReadLogFault::OutOfMemory
+    }
+}
+
+impl<X: Drop> From<AllocFailed<X>> for ReadLogFault {
+    ghost from_gives = { λ _ fault. fault ≡ reading.OutOfMemory };
+
+    fn from(_fault: AllocFailed<X>) -> ReadLogFault {
+        ReadLogFault::OutOfMemory
+    }
+}
+
+impl From<ShelfReadFault> for ReadLogFault {
+    ghost from_gives = { λ fault wider. wider ≡ after_read fault };
+
+    fn from(fault: ShelfReadFault) -> ReadLogFault {
+        match fault {
+            ShelfReadFault::Shelf => ReadLogFault::Shelf,
+            ShelfReadFault::OutOfMemory => ReadLogFault::OutOfMemory,
+        }
+    }
 }
 
 impl From<AllocError> for ArchiveFault {
