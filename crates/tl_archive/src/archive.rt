@@ -50,9 +50,9 @@ impl<S: Shelf> Archive<S> {
     }
 
     /// Writes the last publication of the board to the shelf, and answers its size; `None` where nothing is published.
-    /// What it needs beyond the last one that is surely there is put first, and its checkpoint after it: at every moment,
-    /// also where a call of the shelf failed, what is there is complete. After a failure the next call goes on from the
-    /// last one that is surely there.
+    /// What it needs beyond the last one that is surely there is put first, and its checkpoint after it: at every
+    /// moment, also where a call of the shelf failed, what is there is complete. After a failure the next call goes on
+    /// from the last one that is surely there.
     pub fn publish<A: Allocator, B: Allocator + Copy>(
         &mut self,
         alloc: B,

@@ -1,6 +1,6 @@
 //! From words to the command that they name, and from how it ended to an exit status.
 
-ghost use Rattle.std.specs.Prelude.{◌≡◌, option_map};
+ghost use Rattle.std.specs.Prelude.{◌≡◌, option_map, string_bytes};
 ghost use Rattle.tl_device.specs.Device.{passage};
 ghost use Rattle.tl_command.specs.Head.{RunsHead};
 ghost use Rattle.tl_job.specs.Job.{BuildsDemo, BuildsSigned, ChecksFile, EndsWords, RunsJob, key_kind};
@@ -121,6 +121,25 @@ fn check_under<H: Files, R: Read, W: Write>(
     run_check_opened(alloc, key, bytes.as_slice(), entry, reader, writer)
 }
 
+// The same with its options as they were given.
+fn check_as_asked<H: Files, R: Read, W: Write>(
+    rt: &H,
+    alloc: Global,
+    options: CheckOptions,
+    reader: &mut Counted<R>,
+    writer: &mut Counted<W>,
+) -> Result<(), RunFault>
+    ensures { ChecksFile (string_bytes options.key) (option_map string_bytes options.entry) (passage R.remaining reader.old reader.new) (passage W.contents writer.old writer.new) result }
+{
+    let CheckOptions {
+        checkpoint,
+        key,
+        entry,
+    } = options;
+    let entry = entry.as_deref();
+    check_under(rt, alloc, &checkpoint, &key, entry, reader, writer)
+}
+
 /// Runs the command of a job with its options: each job its own command, which reads the reader and writes the writer.
 /// `keygen`, `serve` and `witness` write to `errors` too, and the last two may wait.
 pub fn run_job<
@@ -151,16 +170,7 @@ pub fn run_job<
         Job::Inclusion { index } => run_inclusion(alloc, index, reader, writer),
         Job::Consistency { old } => run_consistency(alloc, old, reader, writer),
         Job::Check => run_check(alloc, reader, writer),
-        Job::CheckUnder(
-            CheckOptions {
-                checkpoint,
-                key,
-                entry,
-            },
-        ) => {
-            let entry = entry.as_deref();
-            check_under(rt, alloc, &checkpoint, &key, entry, reader, writer)
-        }
+        Job::CheckUnder(options) => check_as_asked(rt, alloc, options, reader, writer),
         Job::Keygen { name, is_cosigner } => {
             make_key(rt, alloc, &name, is_cosigner, writer, errors)
         }

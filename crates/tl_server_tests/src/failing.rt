@@ -136,12 +136,11 @@ fn each_growth_of_a_witness_is_refused_once(rt: HostRuntime) -> Result<(), Fail>
         );
         let written = out.get(..count).ok_or("too long")?;
         if !heap.refused() {
-            assert!(rt; is_answer(served, written, COSIGNED));
-            assert!(rt; turn > 10);
+            assert!(rt; is_answer(served, written, COSIGNED) && turn > 10);
             return Ok(());
         }
-        assert!(rt; is_answer(served, written, IS_NO_MEMORY), "in turn {turn}");
-        assert!(rt; saver.calls == 0);
+        let is_right = is_answer(served, written, IS_NO_MEMORY) && saver.calls == 0;
+        assert!(rt; is_right, "in turn {turn}");
         heap.lift();
         let (served, count) = witness_served(
             &rt,
