@@ -226,10 +226,10 @@ fn is_taken_shared<R: Wait>(
     if reply.status != 500 || !reply.body.is_empty() {
         return false;
     }
+    heap.lift();
     if saver.calls != calls || !has_shared_links(rt, witness, heap, whole, count) {
         return false;
     }
-    heap.lift();
     let again = witness.add(rt, step.body.as_bytes(), TIME, saver);
     is_due(&again, step) && has_shared_links(rt, witness, heap, whole, step.links)
 }
