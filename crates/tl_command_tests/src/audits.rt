@@ -96,19 +96,16 @@ fn tells_collision(alloc: Global, text: &[u8]) -> Result<bool, AllocError> {
 
 #[test]
 fn a_weak_digest_shows_its_collision(rt: HostRuntime) -> Result<(), Fail> {
-    for number in 1..MOST {
-        let heap = Refusing::at(rt.alloc(), number);
+    for turn in 1..MOST {
+        let heap = Refusing::in_turn(rt.alloc(), turn);
         let (text, outcome) = exchanged(rt.alloc(), &heap)?;
         if !heap.refused() {
-            assert!(rt; number > 5);
+            assert!(rt; turn > 10);
             assert!(rt; outcome == Err(RunFault::Refused));
             assert!(rt; tells_collision(rt.alloc(), text.as_slice())?);
             return Ok(());
         }
-        assert!(rt;
-            outcome == Err(RunFault::OutOfMemory),
-            "at request {number}"
-        );
+        assert!(rt; outcome == Err(RunFault::OutOfMemory), "in turn {turn}");
         assert!(rt; text.len() == 0);
     }
     assert!(rt; false, "each run was refused");

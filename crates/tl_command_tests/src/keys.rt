@@ -101,15 +101,16 @@ fn made_on(heap: &Refusing<Global>) -> Result<bool, NoteFault> {
 
 #[test]
 fn demo_key_answers_out_of_memory(rt: HostRuntime) -> Result<(), AllocError> {
-    for number in 1..MOST {
-        let heap = Refusing::at(rt.alloc(), number);
+    for turn in 1..MOST {
+        let heap = Refusing::in_turn(rt.alloc(), turn);
         let answer = made_on(&heap);
         if !heap.refused() {
-            assert!(rt; number > 2);
+            assert!(rt; turn > 4);
             assert!(rt; answer == Ok(true));
             return Ok(());
         }
         assert!(rt; answer == Err(NoteFault::OutOfMemory));
+        heap.lift();
         assert!(rt; made_on(&heap) == Ok(true));
     }
     assert!(rt; false, "each run was refused");

@@ -230,17 +230,17 @@ fn every_proof_over_seven_lines_is_accepted(rt: HostRuntime) {
 // Checks that each request of the command refused is `OutOfMemory` with nothing written.
 fn answers_out_of_memory(rt: &(impl Abort + AllocGlobal), asked: Asked) {
     let input = b"a\nb\nc\n".as_slice();
-    for number in 1..MOST {
-        let heap = Refusing::at(rt.alloc(), number);
+    for turn in 1..MOST {
+        let heap = Refusing::in_turn(rt.alloc(), turn);
         let (text, outcome) = prove(&heap, rt.alloc(), asked, input);
         if !heap.refused() {
-            assert!(rt; number > 5);
+            assert!(rt; turn > 10);
             assert!(rt; outcome == Ok(()));
             return;
         }
         assert!(rt;
             outcome == Err(RunFault::OutOfMemory),
-            "{asked:?} at request {number}"
+            "{asked:?} in turn {turn}"
         );
         assert!(rt; text.len() == 0);
     }
@@ -257,18 +257,15 @@ fn provers_answer_out_of_memory(rt: HostRuntime) {
 fn check_answers_out_of_memory(rt: HostRuntime) {
     let heap = Refusing::at(rt.alloc(), 0);
     let (proof, _) = prove(&heap, rt.alloc(), Asked::Inclusion(2), b"a\nb\nc\n");
-    for number in 1..MOST {
-        let heap = Refusing::at(rt.alloc(), number);
+    for turn in 1..MOST {
+        let heap = Refusing::in_turn(rt.alloc(), turn);
         let (text, outcome) = check(&heap, rt.alloc(), proof.as_slice());
         if !heap.refused() {
-            assert!(rt; number > 5);
+            assert!(rt; turn > 10);
             assert!(rt; outcome == Ok(()));
             return;
         }
-        assert!(rt;
-            outcome == Err(RunFault::OutOfMemory),
-            "at request {number}"
-        );
+        assert!(rt; outcome == Err(RunFault::OutOfMemory), "in turn {turn}");
         assert!(rt; text.len() == 0);
     }
     assert!(rt; false, "each run was refused");

@@ -22,17 +22,18 @@ fn read_entries_answers_out_of_memory(rt: HostRuntime) -> Result<(), Fail> {
         Sha256Tree,
         read_entries(alloc, &mut Counted::new(input), 100)?.as_slice(),
     );
-    for number in 1..MOST {
-        let heap = Refusing::at(alloc, number);
+    for turn in 1..MOST {
+        let heap = Refusing::in_turn(alloc, turn);
         let mut reader = Counted::new(input);
         let answer = read_entries(&heap, &mut reader, 100);
         assert!(rt; !reader.failed());
         if !heap.refused() {
-            assert!(rt; number > 3);
+            assert!(rt; turn > 6);
             assert!(rt; entry_root(Sha256Tree, answer?.as_slice()) == want);
             return Ok(());
         }
         assert!(rt; answer.err() == Some(RunFault::OutOfMemory));
+        heap.lift();
         let again = read_entries(&heap, &mut Counted::new(input), 100)?;
         assert!(rt; entry_root(Sha256Tree, again.as_slice()) == want);
     }
@@ -62,20 +63,18 @@ fn head_on<H: Threads + Sync>(
 
 #[test]
 fn head_answers_out_of_memory(rt: HostRuntime) -> Result<(), Fail> {
-    for number in 1..MOST {
-        let heap = Refusing::at(rt.alloc(), number);
+    for turn in 1..MOST {
+        let heap = Refusing::in_turn(rt.alloc(), turn);
         let (outcome, text) = head_on(&rt, rt.alloc(), &heap);
         if !heap.refused() {
-            assert!(rt; number > 5);
+            assert!(rt; turn > 10);
             assert!(rt; outcome == Ok(()));
             assert!(rt; text.as_slice() == TWO_ENTRIES.as_bytes());
             return Ok(());
         }
-        assert!(rt;
-            outcome == Err(RunFault::OutOfMemory),
-            "at request {number}"
-        );
+        assert!(rt; outcome == Err(RunFault::OutOfMemory), "in turn {turn}");
         assert!(rt; text.len() == 0);
+        heap.lift();
         let (outcome, text) = head_on(&rt, rt.alloc(), &heap);
         assert!(rt; outcome == Ok(()));
         assert!(rt; text.as_slice() == TWO_ENTRIES.as_bytes());
@@ -86,20 +85,21 @@ fn head_answers_out_of_memory(rt: HostRuntime) -> Result<(), Fail> {
 
 // Checks that each request of `build` refused is `OutOfMemory` with nothing written, and that the next call gives this.
 fn build_answers_out_of_memory(rt: &(impl Abort + AllocGlobal), get: Option<&str>, want: &[u8]) {
-    for number in 1..MOST {
-        let heap = Refusing::at(rt.alloc(), number);
+    for turn in 1..MOST {
+        let heap = Refusing::in_turn(rt.alloc(), turn);
         let (text, outcome) = build(&heap, rt.alloc(), ORIGIN, get, INPUT);
         if !heap.refused() {
-            assert!(rt; number > 5);
+            assert!(rt; turn > 10);
             assert!(rt; outcome == Ok(()));
             assert!(rt; text.as_slice() == want);
             return;
         }
         assert!(rt;
             outcome == Err(RunFault::OutOfMemory),
-            "{get:?} at request {number}"
+            "{get:?} in turn {turn}"
         );
         assert!(rt; text.len() == 0);
+        heap.lift();
         let (text, outcome) = build(&heap, rt.alloc(), ORIGIN, get, INPUT);
         assert!(rt; outcome == Ok(()));
         assert!(rt; text.as_slice() == want);
@@ -121,19 +121,17 @@ fn the_listing_and_each_resource_answer_out_of_memory(rt: HostRuntime) -> Result
 #[test]
 fn a_missing_resource_is_told_or_memory_is_out(rt: HostRuntime) {
     let absent = Some("tile/0/000");
-    for number in 1..MOST {
-        let heap = Refusing::at(rt.alloc(), number);
+    for turn in 1..MOST {
+        let heap = Refusing::in_turn(rt.alloc(), turn);
         let (text, outcome) = build(&heap, rt.alloc(), ORIGIN, absent, INPUT);
         assert!(rt; text.len() == 0);
         if !heap.refused() {
-            assert!(rt; number > 5);
+            assert!(rt; turn > 10);
             assert!(rt; outcome == Err(RunFault::NotThere));
             return;
         }
-        assert!(rt;
-            outcome == Err(RunFault::OutOfMemory),
-            "at request {number}"
-        );
+        assert!(rt; outcome == Err(RunFault::OutOfMemory), "in turn {turn}");
+        heap.lift();
         let (_, outcome) = build(&heap, rt.alloc(), ORIGIN, absent, INPUT);
         assert!(rt; outcome == Err(RunFault::NotThere));
     }

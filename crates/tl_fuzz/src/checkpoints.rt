@@ -47,10 +47,7 @@ impl Subject for Checkpoints {
             return Outcome::Refused;
         };
         match parse(alloc, text) {
-            Ok(checkpoint) => match write(alloc, &checkpoint) {
-                Ok(again) => Outcome::of(again.as_str() == text),
-                Err(_) => Outcome::Broken,
-            },
+            Ok(checkpoint) => Outcome::written_back(write(alloc, &checkpoint).ok(), input),
             Err(CheckpointFault::OutOfMemory) => Outcome::Broken,
             Err(_) => Outcome::Refused,
         }

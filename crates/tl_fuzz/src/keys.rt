@@ -24,10 +24,7 @@ fn key(alloc: Global, dice: &mut Dice) -> Option<SignerKey<Note, Global>> {
 // What becomes of the text of who verifies.
 fn verifier<A: Allocator + Copy>(alloc: A, text: &str) -> Outcome {
     match read_verifier_key::<Note, A>(alloc, text) {
-        Ok(key) => match write_verifier_key(alloc, &key) {
-            Ok(again) => Outcome::of(again.as_str() == text),
-            Err(_) => Outcome::Broken,
-        },
+        Ok(key) => Outcome::written_back(write_verifier_key(alloc, &key).ok(), text.as_bytes()),
         Err(KeyFault::Malformed) => Outcome::Refused,
         Err(_) => Outcome::Broken,
     }
@@ -36,10 +33,7 @@ fn verifier<A: Allocator + Copy>(alloc: A, text: &str) -> Outcome {
 // What becomes of the text of who signs.
 fn signer<A: Allocator + Copy>(alloc: A, text: &str) -> Outcome {
     match read_signer_key::<Note, A>(alloc, text) {
-        Ok(key) => match write_signer_key(alloc, &key) {
-            Ok(again) => Outcome::of(again.as_str() == text),
-            Err(_) => Outcome::Broken,
-        },
+        Ok(key) => Outcome::written_back(write_signer_key(alloc, &key).ok(), text.as_bytes()),
         Err(KeyFault::Malformed) => Outcome::Refused,
         Err(_) => Outcome::Broken,
     }

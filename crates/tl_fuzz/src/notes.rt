@@ -141,10 +141,10 @@ impl Subject for SignatureLines {
             return Outcome::Refused;
         };
         match parse_signatures(alloc, text) {
-            Ok(lines) => match written(String::new(alloc), lines.as_slice()) {
-                Ok(again) => Outcome::of(again.as_str() == text),
-                Err(_) => Outcome::Broken,
-            },
+            Ok(lines) => {
+                let again = written(String::new(alloc), lines.as_slice());
+                Outcome::written_back(again.ok(), input)
+            }
             Err(NoteFault::Malformed) => Outcome::Refused,
             Err(_) => Outcome::Broken,
         }

@@ -57,10 +57,8 @@ impl Subject for Requests {
     fn outcome<A: Allocator + Copy>(&mut self, alloc: A, _valid: &[u8], input: &[u8]) -> Outcome {
         match parse_request(alloc, input) {
             Ok(request) => {
-                match body(alloc, request.old, request.proof.as_slice(), request.note) {
-                    Ok(again) => Outcome::of(again.as_bytes() == input),
-                    Err(_) => Outcome::Broken,
-                }
+                let again = body(alloc, request.old, request.proof.as_slice(), request.note);
+                Outcome::written_back(again.ok(), input)
             }
             Err(RequestFault::Malformed) => Outcome::Refused,
             Err(RequestFault::OutOfMemory) => Outcome::Broken,

@@ -25,6 +25,14 @@ impl Outcome {
             Outcome::Broken
         }
     }
+
+    /// `Kept` where what was read is written again to the same bytes, else `Broken`.
+    pub fn written_back<A: Allocator>(again: Option<String<A>>, input: &[u8]) -> Outcome {
+        match again {
+            Some(again) => Outcome::of(again.as_bytes() == input),
+            None => Outcome::Broken,
+        }
+    }
 }
 
 /// A reader of bytes.

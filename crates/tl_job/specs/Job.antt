@@ -30,6 +30,10 @@ abbrev pub ChecksFile : Bytes → Option Bytes → Passage → Passage → Resul
 ChecksFile key entry i o result =
     ((bytes : Bytes) × RunsCheckOpened key bytes entry i o result) ⊎ (IsUnopened result × IsIdle i o)
 
+-- a run signed by the demonstration key of an origin and a secret
+abbrev pub BuildsDemo : Bytes → Bytes → Option Bytes → Passage → Passage → Result (Unit {0}) RunFault → Type 0
+BuildsDemo origin secret get = RunsBuild (demo_log_key (record { name = origin; secret = secret })) get
+
 -- a run signed by the key in a file, likewise
 abbrev pub BuildsSigned : Bytes → Option Bytes → Passage → Passage → Result (Unit {0}) RunFault → Type 0
 BuildsSigned origin get i o result =
@@ -45,7 +49,7 @@ key_kind false = note_kind
 abbrev pub RunsJob : Job → Passage → Passage → Passage → Result (Unit {0}) RunFault → Type 0
 RunsJob (Head origin threads) i o e result = RunsHead (string_bytes origin) i o result × IsUnwritten e
 RunsJob (Build origin secret get) i o e result =
-    RunsBuild (demo_log_key (record { name = string_bytes origin; secret = string_bytes secret })) (option_map string_bytes get) i o result × IsUnwritten e
+    BuildsDemo (string_bytes origin) (string_bytes secret) (option_map string_bytes get) i o result × IsUnwritten e
 RunsJob (BuildSigned origin key get) i o e result = BuildsSigned (string_bytes origin) (option_map string_bytes get) i o result × IsUnwritten e
 RunsJob (Inclusion index) i o e result = Runs (InclusionComes index) i o result × IsUnwritten e
 RunsJob (Consistency old) i o e result = Runs (ConsistencyComes old) i o result × IsUnwritten e

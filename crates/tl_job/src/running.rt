@@ -1,8 +1,9 @@
 //! From words to the command that they name, and from how it ended to an exit status.
 
-ghost use Rattle.std.specs.Prelude.{◌≡◌, option_map};
+ghost use Rattle.std.specs.Prelude.{◌≡◌, option_map, string_bytes};
 ghost use Rattle.tl_device.specs.Device.{passage};
-ghost use Rattle.tl_job.specs.Job.{BuildsSigned, ChecksFile, EndsWords, RunsJob, key_kind};
+ghost use Rattle.tl_command.specs.Head.{RunsHead};
+ghost use Rattle.tl_job.specs.Job.{BuildsDemo, BuildsSigned, ChecksFile, EndsWords, RunsJob, key_kind};
 ghost use Rattle.tl_open.specs.Keygen.{GivesKey};
 ghost use Rattle.tl_job.specs.Ending.{Told, status_of, told_of};
 
@@ -34,6 +35,21 @@ fn threads_of<H: Threads>(rt: &H, asked: Option<u16>) -> usize {
     }
 }
 
+// Hashes the input's lines with so many threads.
+fn head<H: Threads + Sync, R: Read, W: Write>(
+    rt: &H,
+    alloc: Global,
+    origin: &str,
+    threads: Option<u16>,
+    reader: &mut Counted<R>,
+    writer: &mut Counted<W>,
+) -> Result<(), RunFault>
+    ensures { RunsHead origin.now (passage R.remaining reader.old reader.new) (passage W.contents writer.old writer.new) result }
+{
+    let threads = threads_of(rt, threads);
+    run_head(rt, alloc, alloc, threads, origin, reader, writer)
+}
+
 // Makes a key of a witness or of a log.
 fn make_key<H: RandomSource, W: Write, E: Write>(
     rt: &H,
@@ -49,6 +65,21 @@ fn make_key<H: RandomSource, W: Write, E: Write>(
         return run_keygen::<Cosignature, H, W, E>(rt, alloc, name, writer, errors);
     }
     run_keygen::<Note, H, W, E>(rt, alloc, name, writer, errors)
+}
+
+// Builds a mirror that is signed by the demonstration key of this secret.
+fn build<R: Read, W: Write>(
+    alloc: Global,
+    origin: &str,
+    secret: &str,
+    get: Option<&str>,
+    reader: &mut Counted<R>,
+    writer: &mut Counted<W>,
+) -> Result<(), RunFault>
+    ensures { BuildsDemo origin.now secret.now (option_map (λ path. path.now) get.entry) (passage R.remaining reader.old reader.new) (passage W.contents writer.old writer.new) result }
+{
+    let key = Demonstration::new(origin, secret.as_bytes());
+    run_build(alloc, alloc, &key, get, reader, writer)
 }
 
 // Builds a mirror that is signed by the key in a file.
@@ -90,6 +121,25 @@ fn check_under<H: Files, R: Read, W: Write>(
     run_check_opened(alloc, key, bytes.as_slice(), entry, reader, writer)
 }
 
+// The same with its options as they were given.
+fn check_as_asked<H: Files, R: Read, W: Write>(
+    rt: &H,
+    alloc: Global,
+    options: CheckOptions,
+    reader: &mut Counted<R>,
+    writer: &mut Counted<W>,
+) -> Result<(), RunFault>
+    ensures { ChecksFile (string_bytes options.key) (option_map string_bytes options.entry) (passage R.remaining reader.old reader.new) (passage W.contents writer.old writer.new) result }
+{
+    let CheckOptions {
+        checkpoint,
+        key,
+        entry,
+    } = options;
+    let entry = entry.as_deref();
+    check_under(rt, alloc, &checkpoint, &key, entry, reader, writer)
+}
+
 /// Runs the command of a job with its options: each job its own command, which reads the reader and writes the writer.
 /// `keygen`, `serve` and `witness` write to `errors` too, and the last two may wait.
 pub fn run_job<
@@ -108,34 +158,19 @@ pub fn run_job<
     ensures { RunsJob job (passage R.remaining reader.old reader.new) (passage W.contents writer.old writer.new) (passage E.contents errors.old errors.new) result }
 {
     match job {
-        Job::Head { origin, threads } => {
-            let threads = threads_of(rt, threads);
-            run_head(rt, alloc, alloc, threads, &origin, reader, writer)
-        }
+        Job::Head { origin, threads } => head(rt, alloc, &origin, threads, reader, writer),
         Job::Build {
             origin,
             secret,
             get,
-        } => {
-            let key = Demonstration::new(&origin, secret.as_bytes());
-            run_build(alloc, alloc, &key, get.as_deref(), reader, writer)
-        }
+        } => build(alloc, &origin, &secret, get.as_deref(), reader, writer),
         Job::BuildSigned { origin, key, get } => {
             build_signed(rt, alloc, &origin, &key, get.as_deref(), reader, writer)
         }
         Job::Inclusion { index } => run_inclusion(alloc, index, reader, writer),
         Job::Consistency { old } => run_consistency(alloc, old, reader, writer),
         Job::Check => run_check(alloc, reader, writer),
-        Job::CheckUnder(
-            CheckOptions {
-                checkpoint,
-                key,
-                entry,
-            },
-        ) => {
-            let entry = entry.as_deref();
-            check_under(rt, alloc, &checkpoint, &key, entry, reader, writer)
-        }
+        Job::CheckUnder(options) => check_as_asked(rt, alloc, options, reader, writer),
         Job::Keygen { name, is_cosigner } => {
             make_key(rt, alloc, &name, is_cosigner, writer, errors)
         }

@@ -156,15 +156,17 @@ fn makes_all(heap: &Refusing<Global>) -> Result<bool, KeyFault> {
 
 #[test]
 fn each_request_for_memory_refused(rt: HostRuntime) -> Result<(), Fail> {
-    for number in 1..MOST {
-        let heap = Refusing::at(rt.alloc(), number);
+    for turn in 1..MOST {
+        let heap = Refusing::in_turn(rt.alloc(), turn);
         let answer = makes_all(&heap);
         if !heap.refused() {
-            assert!(rt; number > 9);
+            assert!(rt; turn > 18);
             assert!(rt; answer?);
             return Ok(());
         }
         assert!(rt; answer.err() == Some(KeyFault::OutOfMemory));
+        heap.lift();
+        assert!(rt; makes_all(&heap)?);
     }
     assert!(rt; false, "each run was refused");
     Ok(())

@@ -143,11 +143,11 @@ fn length_on(
 fn each_growth_of_a_read_is_refused_once(rt: HostRuntime) -> Result<(), Fail> {
     let (_operator, mut reader) = published_empty(&rt, rt.alloc())?;
     assert!(rt; ORIGIN.len() == 15);
-    for number in 1..MOST {
-        let heap = Refusing::at(rt.alloc(), number);
+    for turn in 1..MOST {
+        let heap = Refusing::in_turn(rt.alloc(), turn);
         let length = length_on(&mut reader, &heap);
         if !heap.refused() {
-            assert!(rt; number > 1);
+            assert!(rt; turn > 2);
             assert!(rt; length == Ok(Some(101)));
             return Ok(());
         }

@@ -75,13 +75,15 @@ fn is_served<H: Host + Net<Listener = TcpListener, Stream = TcpStream>>(
 #[test]
 fn cosignature_and_line(rt: HostRuntime) -> Result<(), Fail> {
     let alloc = rt.alloc();
-    let address = free_address(&rt)?;
     let there = &rt;
-    let (is_served, right) = thread::join(
-        &rt,
-        move || is_served(there, alloc, address),
-        move || asked(there, alloc, address),
-    );
-    assert!(rt; is_served && right == 2);
+    for _ in 0..100 {
+        let address = free_address(&rt)?;
+        let (is_served, right) = thread::join(
+            &rt,
+            move || is_served(there, alloc, address),
+            move || asked(there, alloc, address),
+        );
+        assert!(rt; is_served && right == 2);
+    }
     Ok(())
 }

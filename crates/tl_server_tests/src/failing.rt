@@ -3,7 +3,7 @@
 use crate::boards::{board_of_two, empty_board};
 use crate::devices::{Devices, ROOM, Served, is_answer, log_served, sound, witness_served};
 use crate::log_rows::{IS_NO_MEMORY, NOTE_OF_NONE};
-use crate::witness_rows::COSIGNED;
+use crate::witness_rows::{COSIGNED, IS_CONFLICT};
 use crate::witnesses::{KeepingSaver, fresh_witness, witness_of_one};
 use crate::worked::{FIRST, LOG};
 use std::test::Fail;
@@ -78,6 +78,16 @@ fn writer_fails_after_each_byte(rt: HostRuntime) -> Result<(), Fail> {
     );
     assert!(rt; is_cut(served, out.get(..count).ok_or("too long")?, COSIGNED, 10));
     assert!(rt; saver.calls == 1);
+    let (served, count) = witness_served(
+        &rt,
+        alloc,
+        &witness,
+        &mut saver,
+        FIRST,
+        sound(50),
+        &mut out,
+    );
+    assert!(rt; is_answer(served, out.get(..count).ok_or("too long")?, IS_CONFLICT));
     Ok(())
 }
 
@@ -91,11 +101,13 @@ fn answer_of_a_log_is_one_growth_and_one_write(rt: HostRuntime) -> Result<(), Fa
         write_fails: 2,
         ..sound(9000)
     };
-    let heap = Refusing::at(alloc, 1);
-    let (served, count) = log_served(&heap, &mut board, input, devices, &mut out);
-    assert!(rt; heap.refused());
-    assert!(rt; is_answer(served, out.get(..count).ok_or("too long")?, IS_NO_MEMORY));
-    let heap = Refusing::at(alloc, 2);
+    for turn in [1, 2] {
+        let heap = Refusing::in_turn(alloc, turn);
+        let (served, count) = log_served(&heap, &mut board, input, devices, &mut out);
+        assert!(rt; heap.refused());
+        assert!(rt; is_answer(served, out.get(..count).ok_or("too long")?, IS_NO_MEMORY));
+    }
+    let heap = Refusing::since(alloc, 2);
     let (served, _count) = log_served(&heap, &mut board, input, devices, &mut out);
     assert!(rt; !heap.refused());
     assert!(rt; served == Ok(Some(200)));
@@ -106,8 +118,8 @@ fn answer_of_a_log_is_one_growth_and_one_write(rt: HostRuntime) -> Result<(), Fa
 fn each_growth_of_a_witness_is_refused_once(rt: HostRuntime) -> Result<(), Fail> {
     let alloc = rt.alloc();
     let mut out = [0u8; ROOM];
-    for number in 1..MOST {
-        let heap = Refusing::at(alloc, number);
+    for turn in 1..MOST {
+        let heap = Refusing::in_turn(alloc, turn);
         let Some(witness) = fresh_witness(alloc, &heap) else {
             assert!(rt; heap.refused());
             continue;
@@ -124,12 +136,22 @@ fn each_growth_of_a_witness_is_refused_once(rt: HostRuntime) -> Result<(), Fail>
         );
         let written = out.get(..count).ok_or("too long")?;
         if !heap.refused() {
-            assert!(rt; is_answer(served, written, COSIGNED));
-            assert!(rt; number > 5);
+            assert!(rt; is_answer(served, written, COSIGNED) && turn > 10);
             return Ok(());
         }
-        assert!(rt; is_answer(served, written, IS_NO_MEMORY), "at {number}");
-        assert!(rt; saver.calls == 0);
+        let is_right = is_answer(served, written, IS_NO_MEMORY) && saver.calls == 0;
+        assert!(rt; is_right, "in turn {turn}");
+        heap.lift();
+        let (served, count) = witness_served(
+            &rt,
+            &heap,
+            &witness,
+            &mut saver,
+            FIRST,
+            sound(50),
+            &mut out,
+        );
+        assert!(rt; is_answer(served, out.get(..count).ok_or("too long")?, COSIGNED));
     }
     assert!(rt; false, "each request was refused");
     Ok(())

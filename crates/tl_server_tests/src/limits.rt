@@ -4,7 +4,7 @@ use crate::boards::empty_board;
 use crate::devices::{ROOM, is_answer, log_served, sound, witness_served};
 use crate::log_rows::{IS_BAD, IS_LONG, IS_NOT_FOUND, IS_NOT_GET, NOTE_OF_NONE};
 use crate::witnesses::{KeepingSaver, witness_of_one};
-use crate::worked::long_head;
+use crate::worked::{FIRST, LOG, long_head};
 use std::alloc::{AllocError, Global};
 use std::test::Fail;
 
@@ -74,6 +74,38 @@ fn heads_have_limits(rt: HostRuntime) -> Result<(), Fail> {
             assert!(rt; is_right, "head {place} in pieces of {step}");
         }
     }
+    Ok(())
+}
+
+#[test]
+fn a_request_cut_after_each_byte_is_bad(rt: HostRuntime) -> Result<(), Fail> {
+    let alloc = rt.alloc();
+    let (_operator, mut board) = empty_board(&rt, alloc)?;
+    let witness = witness_of_one(alloc)?;
+    let mut saver = KeepingSaver::new(alloc);
+    let mut out = [0u8; ROOM];
+    let (get, _due) = LOG[0];
+    for end in 1..FIRST.len() {
+        let input = FIRST.get(..end).ok_or("too long")?;
+        let (served, count) = witness_served(
+            &rt,
+            alloc,
+            &witness,
+            &mut saver,
+            input,
+            sound(50),
+            &mut out,
+        );
+        let written = out.get(..count).ok_or("too long")?;
+        assert!(rt; is_answer(served, written, IS_BAD), "after {end} bytes");
+        if end < get.len() {
+            let input = get.get(..end).ok_or("too long")?;
+            let (served, count) = log_served(alloc, &mut board, input, sound(50), &mut out);
+            let written = out.get(..count).ok_or("too long")?;
+            assert!(rt; is_answer(served, written, IS_BAD), "after {end} bytes");
+        }
+    }
+    assert!(rt; saver.calls == 0);
     Ok(())
 }
 

@@ -10,7 +10,8 @@ struct Countdown {
     was_refused: bool,
 }
 
-/// An allocator that refuses one request for memory, and passes the others on. Take it as `&heap`.
+/// An allocator that refuses a request for memory, alone or with all after it, and passes the others on. Take it as
+/// `&heap`.
 #[derive(Drop)]
 pub struct Refusing<B: Allocator> {
     behind: B,
@@ -40,6 +41,37 @@ impl<B: Allocator> Refusing<B> {
                 was_refused: false,
             }),
         }
+    }
+
+    /// Each request in turn, from turn 1 on: an odd turn refuses one request alone, the even one after it this request
+    /// and all later ones.
+    pub fn in_turn(inner: B, turn: u64) -> Refusing<B> {
+        let number = turn / 2 + turn % 2;
+        if turn % 2 == 0 {
+            Refusing::since(inner, number)
+        } else {
+            Refusing::at(inner, number)
+        }
+    }
+
+    /// Refuses no request from now on.
+    pub fn lift(&self) {
+        let now = self.countdown.get();
+        self.countdown.set(Countdown {
+            left: 0,
+            is_lasting: false,
+            ..now
+        });
+    }
+
+    /// Refuses each request from now on.
+    pub fn refuse(&self) {
+        let now = self.countdown.get();
+        self.countdown.set(Countdown {
+            left: 1,
+            is_lasting: true,
+            ..now
+        });
     }
 
     /// Whether a request was refused.

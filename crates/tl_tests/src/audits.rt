@@ -210,9 +210,9 @@ fn audits_answer_out_of_memory(rt: HostRuntime) -> Result<(), Fail> {
     let none: Vec<Link<Global>> = Vec::new(alloc);
     let ba = letters(alloc, b"ba")?;
     let want = nodes_text(alloc, ["61", "62"], ["62", "61"])?;
-    for number in 1..MOST {
-        let heap = Refusing::at(alloc, number);
-        let chain_heap = Refusing::at(alloc, number);
+    for turn in 1..MOST {
+        let heap = Refusing::in_turn(alloc, turn);
+        let chain_heap = Refusing::in_turn(alloc, turn);
         let answer = told(
             alloc,
             audit_tree(&heap, SumDigest, &old, &new, &[weak(0x63)]),
@@ -222,7 +222,7 @@ fn audits_answer_out_of_memory(rt: HostRuntime) -> Result<(), Fail> {
             audit_chain(&chain_heap, SumDigest, &old, &ba, none.as_slice()),
         )?;
         if !heap.refused() && !chain_heap.refused() {
-            assert!(rt; number > 2);
+            assert!(rt; turn > 4);
             assert!(rt; answer.as_str() == want.as_str());
             assert!(rt; other.as_str() == want.as_str());
             return Ok(());

@@ -93,15 +93,16 @@ fn a_size_of_64_bits_has_no_text(rt: HostRuntime) -> Result<(), Fail> {
 #[test]
 fn parse_answers_out_of_memory(rt: HostRuntime) -> Result<(), Fail> {
     let text = format!(in rt.alloc(); "a\n7\n{EMPTY_ROOT}an extension\n")?;
-    for number in 1..MOST {
-        let heap = Refusing::at(rt.alloc(), number);
+    for turn in 1..MOST {
+        let heap = Refusing::in_turn(rt.alloc(), turn);
         let answer = parse(&heap, text.as_str());
         if !heap.refused() {
-            assert!(rt; number > 3);
+            assert!(rt; turn > 6);
             assert!(rt; answer?.size == 7);
             return Ok(());
         }
         assert!(rt; answer.err() == Some(CheckpointFault::OutOfMemory));
+        heap.lift();
         assert!(rt; parse(&heap, text.as_str())?.size == 7);
     }
     assert!(rt; false, "each run was refused");
@@ -186,8 +187,8 @@ fn a_cosignature_is_of_its_text_alone(rt: HostRuntime) -> Result<(), Fail> {
 fn cosignatures_answer_out_of_memory(rt: HostRuntime) -> Result<(), Fail> {
     let alloc = rt.alloc();
     let note = format!(in alloc; "{NO_ENTRY}\n{COSIGNATURE}")?;
-    for number in 1..MOST {
-        let heap = Refusing::at(alloc, number);
+    for turn in 1..MOST {
+        let heap = Refusing::in_turn(alloc, turn);
         let line = cosign(alloc, &heap, NO_ENTRY, "witness.example");
         let was_refused = heap.refused();
         match line {
@@ -199,7 +200,7 @@ fn cosignatures_answer_out_of_memory(rt: HostRuntime) -> Result<(), Fail> {
         }
         let time = time_of(alloc, &heap, NO_ENTRY, note.as_str(), "witness.example");
         if !heap.refused() {
-            assert!(rt; number > 4);
+            assert!(rt; turn > 8);
             assert!(rt; time? == Some(TIME));
             return Ok(());
         }
@@ -232,11 +233,11 @@ fn cosigned_on(alloc: Global, heap: &Refusing<Global>, lines: &str) -> Result<us
 fn first_cosignatures_answers_out_of_memory(rt: HostRuntime) -> Result<(), Fail> {
     let alloc = rt.alloc();
     let lines = format!(in alloc; "{COSIGNATURE}{COSIGNATURE}")?;
-    for number in 1..MOST {
-        let heap = Refusing::at(alloc, number);
+    for turn in 1..MOST {
+        let heap = Refusing::in_turn(alloc, turn);
         let answer = cosigned_on(alloc, &heap, lines.as_str());
         if !heap.refused() {
-            assert!(rt; number > 3);
+            assert!(rt; turn > 6);
             assert!(rt; answer == Ok(1));
             return Ok(());
         }
@@ -258,15 +259,16 @@ fn write_answers_out_of_memory(rt: HostRuntime) -> Result<(), Fail> {
         extensions,
     };
     let want = write(alloc, &checkpoint)?;
-    for number in 1..MOST {
-        let heap = Refusing::at(alloc, number);
+    for turn in 1..MOST {
+        let heap = Refusing::in_turn(alloc, turn);
         let answer = write(&heap, &checkpoint);
         if !heap.refused() {
-            assert!(rt; number > 2);
+            assert!(rt; turn > 4);
             assert!(rt; answer?.as_str() == want.as_str());
             return Ok(());
         }
         assert!(rt; answer.err() == Some(CheckpointFault::OutOfMemory));
+        heap.lift();
         assert!(rt; write(&heap, &checkpoint)?.as_str() == want.as_str());
     }
     assert!(rt; false, "each run was refused");

@@ -253,16 +253,16 @@ fn names_and_lines(rt: HostRuntime) -> Result<(), Fail> {
 #[test]
 fn parse_note_answers_out_of_memory(rt: HostRuntime) -> Result<(), Fail> {
     let alloc = rt.alloc();
-    for number in 1..MOST {
-        let heap = Refusing::at(alloc, number);
+    for turn in 1..MOST {
+        let heap = Refusing::in_turn(alloc, turn);
         let answer = parse_note(&heap, EMPTY_LOG_NOTE);
         if !heap.refused() {
-            assert!(rt; number > 1);
+            assert!(rt; turn > 2);
             assert!(rt; answer?.signatures.len() == 1);
             return Ok(());
         }
         match answer {
-            Ok(_view) => assert!(rt; false, "an answer with request {number} refused"),
+            Ok(_view) => assert!(rt; false, "an answer in turn {turn}"),
             Err(fault) => assert!(rt; fault == NoteFault::OutOfMemory),
         }
     }
@@ -276,11 +276,11 @@ fn decode_answers_out_of_memory(rt: HostRuntime) -> Result<(), Fail> {
     let view = parse_note(alloc, EMPTY_LOG_NOTE)?;
     assert!(rt; view.signatures.len() == 1);
     let line = &view.signatures[0];
-    for number in 1..MOST {
-        let heap = Refusing::at(alloc, number);
+    for turn in 1..MOST {
+        let heap = Refusing::in_turn(alloc, turn);
         let answer = line.decode(&heap);
         if !heap.refused() {
-            assert!(rt; number > 1);
+            assert!(rt; turn > 2);
             assert!(rt; answer?.len() == 8);
             return Ok(());
         }
@@ -301,11 +301,11 @@ fn opening_on(alloc: Global, heap: &Refusing<Global>) -> Result<usize, NoteFault
 
 #[test]
 fn open_note_answers_out_of_memory(rt: HostRuntime) -> Result<(), Fail> {
-    for number in 1..MOST {
-        let heap = Refusing::at(rt.alloc(), number);
+    for turn in 1..MOST {
+        let heap = Refusing::in_turn(rt.alloc(), turn);
         let answer = opening_on(rt.alloc(), &heap);
         if !heap.refused() {
-            assert!(rt; number > 3);
+            assert!(rt; turn > 6);
             assert!(rt; answer == Ok(1));
             return Ok(());
         }
@@ -326,16 +326,26 @@ fn signing_on(alloc: Global, heap: &Refusing<Global>) -> Result<usize, NoteFault
 
 #[test]
 fn sign_note_answers_out_of_memory(rt: HostRuntime) -> Result<(), Fail> {
-    for number in 1..MOST {
-        let heap = Refusing::at(rt.alloc(), number);
+    for turn in 1..MOST {
+        let heap = Refusing::in_turn(rt.alloc(), turn);
         let answer = signing_on(rt.alloc(), &heap);
         if !heap.refused() {
-            assert!(rt; number > 4);
+            assert!(rt; turn > 8);
             assert!(rt; answer == Ok(101));
             return Ok(());
         }
         assert!(rt; answer == Err(NoteFault::OutOfMemory));
     }
     assert!(rt; false, "each run was refused");
+    Ok(())
+}
+
+#[test]
+fn a_note_cut_at_each_character_is_malformed(rt: HostRuntime) -> Result<(), Fail> {
+    for (end, _) in EMPTY_LOG_NOTE.char_indices() {
+        let cut = EMPTY_LOG_NOTE.get(..end).ok_or("within a character")?;
+        let fault = parse_note(rt.alloc(), cut).err();
+        assert!(rt; fault == Some(NoteFault::Malformed), "after {end} bytes");
+    }
     Ok(())
 }

@@ -245,15 +245,15 @@ fn every_proof_of_sizes_to_70_is_exact(rt: HostRuntime) -> Result<(), Fail> {
 fn provers_answer_out_of_memory(rt: HostRuntime) -> Result<(), Fail> {
     let alloc = rt.alloc();
     let store = store_of_list(alloc, &entries(alloc, 7)?)?;
-    for number in 1..MOST {
-        let heap = Refusing::at(alloc, number);
+    for turn in 1..MOST {
+        let heap = Refusing::in_turn(alloc, turn);
         let fault = prove_record(&heap, Sha256Tree, 7, 4, &store).err();
         if !heap.refused() {
-            assert!(rt; number > 3 && fault == None);
+            assert!(rt; turn > 6 && fault == None);
             return Ok(());
         }
         assert!(rt; fault == Some(ProveFault::OutOfMemory));
-        let heap = Refusing::at(alloc, number);
+        let heap = Refusing::in_turn(alloc, turn);
         let fault = prove_tree(&heap, Sha256Tree, 7, 3, &store).err();
         assert!(rt; !heap.refused() || fault == Some(ProveFault::OutOfMemory));
     }

@@ -129,11 +129,11 @@ fn places_out_of_range_are_refused(rt: HostRuntime) -> Result<(), Fail> {
 fn prove_records_answers_out_of_memory(rt: HostRuntime) -> Result<(), Fail> {
     let alloc = rt.alloc();
     let store = store_of_list(alloc, numbered(alloc, 7)?.as_slice())?;
-    for number in 1..MOST {
-        let heap = Refusing::at(alloc, number);
+    for turn in 1..MOST {
+        let heap = Refusing::in_turn(alloc, turn);
         let fault = prove_records(&heap, Sha256Tree, 7, &[4, 0, 6], &store).err();
         if !heap.refused() {
-            assert!(rt; number > 5 && fault == None);
+            assert!(rt; turn > 10 && fault == None);
             return Ok(());
         }
         assert!(rt; fault == Some(ProveFault::OutOfMemory));

@@ -17,6 +17,8 @@ use tl_testing::Refusing;
 // More requests for memory than any of the runs makes.
 const MOST: u64 = 1000;
 
+type Heap<'h> = &'h Refusing<Global>;
+
 fn bytes(alloc: Global, text: &str) -> Result<Vec<u8>, AllocError> {
     Vec::from_slice(alloc, text.as_bytes())
 }
@@ -119,16 +121,15 @@ fn pair<A: Allocator>(
 }
 
 // The same, opened on this heap with rings of so many entries. It is tried once more where memory was refused.
-fn opened<A: Allocator + Copy>(
-    heap: A,
+fn opened<'h>(
+    heap: Heap<'h>,
     capacity: usize,
     limit: u64,
-    refused: &mut bool,
 ) -> Result<
     (
-        Sequencer<Global, A>,
-        Submitter<Global, A>,
-        Submitter<Global, A>,
+        Sequencer<Global, Heap<'h>>,
+        Submitter<Global, Heap<'h>>,
+        Submitter<Global, Heap<'h>>,
     ),
     OpenFault,
 >
@@ -138,7 +139,7 @@ fn opened<A: Allocator + Copy>(
     if let Ok((log, submitters)) = open(heap, 2, capacity, limit) {
         return Ok(pair(log, submitters));
     }
-    *refused = true;
+    heap.lift();
     let (log, submitters) = open(heap, 2, capacity, limit)?;
     Ok(pair(log, submitters))
 }
@@ -146,8 +147,8 @@ fn opened<A: Allocator + Copy>(
 #[test]
 fn full_log_takes_nothing(rt: HostRuntime) -> Result<(), Fail> {
     let alloc = rt.alloc();
-    let mut refused = false;
-    let (mut log, mut zero, mut one) = opened(alloc, 4, 2, &mut refused)?;
+    let heap = Refusing::at(alloc, 0);
+    let (mut log, mut zero, mut one) = opened(&heap, 4, 2)?;
     assert!(rt; sent(&mut zero, bytes(alloc, "a1")?) == Ok(0));
     assert!(rt; sent(&mut zero, bytes(alloc, "a2")?) == Ok(1));
     assert!(rt; sent(&mut one, bytes(alloc, "b1")?) == Ok(0));
@@ -169,21 +170,21 @@ fn full_log_takes_nothing(rt: HostRuntime) -> Result<(), Fail> {
 }
 
 // The answer of `take`, tried once more where memory was refused. Then no entry was taken before.
-fn taken<A: Allocator>(
-    log: &mut Sequencer<Global, A>,
+fn taken(
+    log: &mut Sequencer<Global, Heap<'_>>,
+    heap: Heap<'_>,
     lane: u32,
     max: u64,
-    refused: &mut bool,
 ) -> Result<u64, TakeFault>
     ensures { rings_of log.new ≡ rings_of log.old }
 {
     let len = log.len();
     match log.take(lane, max) {
         Err(TakeFault::OutOfMemory) => {
-            *refused = true;
             if log.len() != len {
                 return Err(TakeFault::OutOfMemory);
             }
+            heap.lift();
             log.take(lane, max)
         }
         answer => answer,
@@ -191,10 +192,10 @@ fn taken<A: Allocator>(
 }
 
 // The answer of `end`, tried once more with the end that came back where memory was refused.
-fn ended<A: Allocator>(
-    log: &mut Sequencer<Global, A>,
-    end: Ended<Global, A>,
-    refused: &mut bool,
+fn ended<'h>(
+    log: &mut Sequencer<Global, Heap<'h>>,
+    heap: Heap<'h>,
+    end: Ended<Global, Heap<'h>>,
 ) -> Result<u64, TakeFault>
     requires { IsEndOf end log.old }
     ensures { rings_of log.new ≡ rings_of log.old }
@@ -206,7 +207,7 @@ fn ended<A: Allocator>(
     if back.why != TakeFault::OutOfMemory {
         return Err(back.why);
     }
-    *refused = true;
+    heap.lift();
     match log.end(back.ended) {
         Ok(count) => Ok(count),
         Err(back) => Err(back.why),
@@ -215,12 +216,11 @@ fn ended<A: Allocator>(
 
 // The whole life of two lanes: lane 0 sends a1 and a2, lane 1 sends b1. `None` where a step has another answer than
 // it is to have.
-fn whole_life<A: Allocator + Copy>(
+fn whole_life<'h>(
     alloc: Global,
-    heap: A,
-    refused: &mut bool,
-) -> Result<Option<Complete<Global, A>>, AllocError> {
-    let Ok((mut log, mut zero, mut one)) = opened(heap, 4, 9, refused) else {
+    heap: Heap<'h>,
+) -> Result<Option<Complete<Global, Heap<'h>>>, AllocError> {
+    let Ok((mut log, mut zero, mut one)) = opened(heap, 4, 9) else {
         return Ok(None);
     };
     if sent(&mut zero, bytes(alloc, "a1")?) != Ok(0)
@@ -231,10 +231,10 @@ fn whole_life<A: Allocator + Copy>(
     }
     let zero = closed(zero)?;
     let one = closed(one)?;
-    if taken(&mut log, 0, 1, refused) != Ok(1)
-        || taken(&mut log, 1, 9, refused) != Ok(1)
-        || ended(&mut log, zero, refused) != Ok(1)
-        || taken(&mut log, 0, 5, refused) != Ok(0)
+    if taken(&mut log, heap, 0, 1) != Ok(1)
+        || taken(&mut log, heap, 1, 9) != Ok(1)
+        || ended(&mut log, heap, zero) != Ok(1)
+        || taken(&mut log, heap, 0, 5) != Ok(0)
     {
         return Ok(None);
     }
@@ -245,7 +245,7 @@ fn whole_life<A: Allocator + Copy>(
         mut sequencer,
         lane,
     } = open;
-    if lane != 1 || ended(&mut sequencer, one, refused) != Ok(0) {
+    if lane != 1 || ended(&mut sequencer, heap, one) != Ok(0) {
         return Ok(None);
     }
     match sequencer.close() {
@@ -275,31 +275,26 @@ fn is_merged<A: Allocator>(log: &Complete<Global, A>) -> bool {
 #[test]
 fn two_lanes_from_open_to_close(rt: HostRuntime) -> Result<(), Fail> {
     let alloc = rt.alloc();
-    let mut refused = false;
-    match whole_life(alloc, alloc, &mut refused)? {
+    let heap = Refusing::at(alloc, 0);
+    match whole_life(alloc, &heap)? {
         Some(complete) => assert!(rt; is_merged(&complete)),
         None => assert!(rt; false, "a step had another answer"),
     }
-    assert!(rt; !refused);
+    assert!(rt; !heap.refused());
     Ok(())
 }
 
 #[test]
 fn each_growth_refused_changes_nothing(rt: HostRuntime) -> Result<(), Fail> {
     let alloc = rt.alloc();
-    for number in 1..MOST {
-        let heap = Refusing::at(alloc, number);
-        let mut refused = false;
-        match whole_life(alloc, &heap, &mut refused)? {
+    for turn in 1..MOST {
+        let heap = Refusing::in_turn(alloc, turn);
+        match whole_life(alloc, &heap)? {
             Some(complete) => assert!(rt; is_merged(&complete)),
-            None => assert!(rt;
-                false,
-                "a step had another answer with request {number} refused"
-            ),
+            None => assert!(rt; false, "a step had another answer in turn {turn}"),
         }
-        assert!(rt; refused == heap.refused());
-        if !refused {
-            assert!(rt; number > 10);
+        if !heap.refused() {
+            assert!(rt; turn > 20);
             return Ok(());
         }
     }
@@ -313,5 +308,30 @@ fn lane_of_a_dropped_log_has_no_end(rt: HostRuntime) -> Result<(), Fail> {
     let submitter = submitters.pop().unwrap();
     drop(log);
     assert!(rt; submitter.close().is_none());
+    Ok(())
+}
+
+#[test]
+fn sending_and_closing_take_no_memory(rt: HostRuntime) -> Result<(), Fail> {
+    let alloc = rt.alloc();
+    let heap = Refusing::at(alloc, 0);
+    let (mut log, mut zero, one) = opened(&heap, 4, 9)?;
+    let entry = bytes(alloc, "a1")?;
+    heap.refuse();
+    assert!(rt; sent(&mut zero, entry) == Ok(0));
+    let zero = closed(zero)?;
+    let one = closed(one)?;
+    assert!(rt; (zero.lane(), one.lane()) == (0, 1));
+    heap.lift();
+    assert!(rt; ended(&mut log, &heap, zero) == Ok(1));
+    assert!(rt; ended(&mut log, &heap, one) == Ok(0));
+    heap.refuse();
+    let Ok(complete) = log.close() else {
+        return Err(Fail::new("a lane has not ended"));
+    };
+    assert!(rt; complete.len() == 1);
+    assert!(rt; complete.entry(0) == Some(b"a1".as_slice()));
+    assert!(rt; (complete.who(0), complete.place_of(0, 0)) == (Some(0), Some(0)));
+    assert!(rt; !heap.refused());
     Ok(())
 }

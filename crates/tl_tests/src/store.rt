@@ -10,7 +10,7 @@ use tl_store::{
 };
 use tl_testing::Refusing;
 use tl_testing::vectors::{ENTRIES, LEAVES, ROOTS, in_hex, numbered};
-use tl_tile::{Tile, tile_bytes};
+use tl_tile::{Tile, needed, needed_since, tile_bytes};
 
 // More requests than any of the calls makes.
 const MOST: u64 = 1000;
@@ -108,8 +108,8 @@ fn head_is_the_plain_recursion(rt: HostRuntime) -> Result<(), Fail> {
 fn append_leaves_the_store_as_it_was(rt: HostRuntime) -> Result<(), Fail> {
     let alloc = rt.alloc();
     let whole = store_of(alloc, &ENTRIES)?;
-    for number in 1..MOST {
-        let heap = Refusing::at(alloc, number);
+    for turn in 1..MOST {
+        let heap = Refusing::in_turn(alloc, turn);
         let mut store = HashStore::new(&heap, Sha256Tree);
         for entry in ENTRIES {
             let before = store.size();
@@ -121,6 +121,7 @@ fn append_leaves_the_store_as_it_was(rt: HostRuntime) -> Result<(), Fail> {
                     tree_hash(alloc, Sha256Tree, before, &store)?
                         == tree_hash(alloc, Sha256Tree, before, &whole)?
                 );
+                heap.lift();
                 assert!(rt; store.append(entry)? == before);
             }
         }
@@ -128,7 +129,7 @@ fn append_leaves_the_store_as_it_was(rt: HostRuntime) -> Result<(), Fail> {
             tree_hash(alloc, Sha256Tree, 8, &store)? == tree_hash(alloc, Sha256Tree, 8, &whole)?
         );
         if !heap.refused() {
-            assert!(rt; number > 1);
+            assert!(rt; turn > 2);
             return Ok(());
         }
     }
@@ -175,12 +176,13 @@ fn entries_together_are_entries_one_by_one(rt: HostRuntime) -> Result<(), Fail> 
 fn append_all_leaves_the_store_as_it_was(rt: HostRuntime) -> Result<(), Fail> {
     let alloc = rt.alloc();
     let entries = numbered(alloc, 6)?;
-    for number in 1..MOST {
-        let heap = Refusing::at(alloc, number);
+    for turn in 1..MOST {
+        let heap = Refusing::in_turn(alloc, turn);
         let mut store = HashStore::new(&heap, Sha256Tree);
         if add_all(&mut store, entries.as_slice()).is_err() {
             assert!(rt; heap.refused());
             assert!(rt; store.size() == 0);
+            heap.lift();
             add_all(&mut store, entries.as_slice())?;
         }
         assert!(rt; store.size() == 6);
@@ -188,7 +190,7 @@ fn append_all_leaves_the_store_as_it_was(rt: HostRuntime) -> Result<(), Fail> {
             tree_hash(alloc, Sha256Tree, 6, &store)? == entry_root(Sha256Tree, entries.as_slice())
         );
         if !heap.refused() {
-            assert!(rt; number > 1);
+            assert!(rt; turn > 2);
             return Ok(());
         }
     }
@@ -201,16 +203,16 @@ fn read_answers_out_of_memory(rt: HostRuntime) -> Result<(), Fail> {
     let store = store_of(rt.alloc(), &ENTRIES)?;
     let indexes = [14, 0, 14, 3, 7, 11, 2, 6, 1, 14, 5];
     let want = store.read(rt.alloc(), &indexes)?;
-    for number in 1..MOST {
-        let heap = Refusing::at(rt.alloc(), number);
+    for turn in 1..MOST {
+        let heap = Refusing::in_turn(rt.alloc(), turn);
         let answer = store.read(&heap, &indexes);
         if !heap.refused() {
-            assert!(rt; number > 1);
+            assert!(rt; turn > 2);
             assert!(rt; answer?.as_slice() == want.as_slice());
             return Ok(());
         }
         match answer {
-            Ok(_hashes) => assert!(rt; false, "an answer with request {number} refused"),
+            Ok(_hashes) => assert!(rt; false, "an answer in turn {turn}"),
             Err(fault) => assert!(rt; fault == ReadFault::OutOfMemory),
         }
     }
@@ -222,16 +224,16 @@ fn read_answers_out_of_memory(rt: HostRuntime) -> Result<(), Fail> {
 fn tree_hash_answers_out_of_memory(rt: HostRuntime) -> Result<(), Fail> {
     let store = store_of(rt.alloc(), &ENTRIES[..7])?;
     let want = tree_hash(rt.alloc(), Sha256Tree, 7, &store)?;
-    for number in 1..MOST {
-        let heap = Refusing::at(rt.alloc(), number);
+    for turn in 1..MOST {
+        let heap = Refusing::in_turn(rt.alloc(), turn);
         let answer = tree_hash(&heap, Sha256Tree, 7, &store);
         if !heap.refused() {
-            assert!(rt; number > 2);
+            assert!(rt; turn > 4);
             assert!(rt; answer? == want);
             return Ok(());
         }
         match answer {
-            Ok(_root) => assert!(rt; false, "an answer with request {number} refused"),
+            Ok(_root) => assert!(rt; false, "an answer in turn {turn}"),
             Err(fault) => assert!(rt; fault == ReadFault::OutOfMemory),
         }
     }
@@ -274,5 +276,19 @@ fn what_a_failing_source_answers_is_passed_on(rt: HostRuntime) -> Result<(), Fai
         };
         assert!(rt; tile_bytes(alloc, tile, &broken).err() == Some(fault));
     }
+    Ok(())
+}
+
+#[test]
+fn an_empty_store_takes_no_memory(rt: HostRuntime) -> Result<(), Fail> {
+    let heap = Refusing::since(rt.alloc(), 1);
+    let store = HashStore::new(&heap, Sha256Tree);
+    assert!(rt; store.size() == 0);
+    assert!(rt; store.read(&heap, &[])?.is_empty());
+    assert!(rt; tree_hash(&heap, Sha256Tree, 0, &store)? == empty_hash(Sha256Tree));
+    assert!(rt; prove_tree(&heap, Sha256Tree, 0, 0, &store)?.is_empty());
+    assert!(rt; needed(&heap, 0)?.is_empty());
+    assert!(rt; needed_since(&heap, 70_000, 70_000)?.is_empty());
+    assert!(rt; !heap.refused());
     Ok(())
 }

@@ -163,7 +163,10 @@ fn bundles_written_and_read(rt: HostRuntime) -> Result<(), Fail> {
     assert!(rt; text.as_slice() == [0, 0, 0, 1, 97].as_slice());
     let back = read_bundle(alloc, &text, 2)?;
     assert!(rt; back == entries);
-    assert!(rt; read_bundle(alloc, &text[..4], 2).err() == Some(BundleFault::Truncated));
+    for end in 0..text.len() {
+        let cut = read_bundle(alloc, &text[..end], 2).err();
+        assert!(rt; cut == Some(BundleFault::Truncated), "after {end} bytes");
+    }
     assert!(rt; read_bundle(alloc, &[0, 0, 0, 1, 97, 7], 2).err() == Some(BundleFault::Trailing));
     Ok(())
 }
@@ -239,11 +242,11 @@ fn path_of_answers_out_of_memory(rt: HostRuntime) -> Result<(), Fail> {
         index: 1_234_067,
         width: 3,
     });
-    for number in 1..MOST {
-        let heap = Refusing::at(rt.alloc(), number);
+    for turn in 1..MOST {
+        let heap = Refusing::in_turn(rt.alloc(), turn);
         let answer = path_of(&heap, &resource);
         if !heap.refused() {
-            assert!(rt; number > 1);
+            assert!(rt; turn > 2);
             assert!(rt; answer?.as_str() == "tile/0/x001/x234/067.p/3");
             return Ok(());
         }
@@ -256,11 +259,11 @@ fn path_of_answers_out_of_memory(rt: HostRuntime) -> Result<(), Fail> {
 #[test]
 fn needed_answers_out_of_memory(rt: HostRuntime) -> Result<(), Fail> {
     let want = needed(rt.alloc(), 70_000)?;
-    for number in 1..MOST {
-        let heap = Refusing::at(rt.alloc(), number);
+    for turn in 1..MOST {
+        let heap = Refusing::in_turn(rt.alloc(), turn);
         let answer = needed(&heap, 70_000);
         if !heap.refused() {
-            assert!(rt; number > 2);
+            assert!(rt; turn > 4);
             assert!(rt; answer?.as_slice() == want.as_slice());
             return Ok(());
         }
@@ -279,16 +282,16 @@ fn tile_bytes_answers_out_of_memory(rt: HostRuntime) -> Result<(), Fail> {
         width: 7,
     };
     let want = tile_bytes(rt.alloc(), tile, &store)?;
-    for number in 1..MOST {
-        let heap = Refusing::at(rt.alloc(), number);
+    for turn in 1..MOST {
+        let heap = Refusing::in_turn(rt.alloc(), turn);
         let answer = tile_bytes(&heap, tile, &store);
         if !heap.refused() {
-            assert!(rt; number > 3);
+            assert!(rt; turn > 6);
             assert!(rt; answer?.as_slice() == want.as_slice());
             return Ok(());
         }
         match answer {
-            Ok(_bytes) => assert!(rt; false, "an answer with request {number} refused"),
+            Ok(_bytes) => assert!(rt; false, "an answer in turn {turn}"),
             Err(fault) => assert!(rt; fault == ReadFault::OutOfMemory),
         }
     }
@@ -301,23 +304,23 @@ fn bundles_answer_out_of_memory(rt: HostRuntime) -> Result<(), Fail> {
     let alloc = rt.alloc();
     let entries = vec![in alloc; b"first".to_vec(alloc)?, b"second".to_vec(alloc)?]?;
     let want = write_bundle(alloc, &entries)?;
-    for number in 1..MOST {
-        let heap = Refusing::at(alloc, number);
+    for turn in 1..MOST {
+        let heap = Refusing::in_turn(alloc, turn);
         let written = write_bundle(&heap, &entries);
         let was_refused = heap.refused();
         match written {
             Ok(text) => assert!(rt; !was_refused && text.as_slice() == want.as_slice()),
             Err(fault) => assert!(rt; was_refused && fault == BundleFault::OutOfMemory),
         }
-        let heap = Refusing::at(alloc, number);
+        let heap = Refusing::in_turn(alloc, turn);
         let read = read_bundle(&heap, &want, 2);
         if !heap.refused() {
-            assert!(rt; number > 3);
+            assert!(rt; turn > 6);
             assert!(rt; read?.len() == 2);
             return Ok(());
         }
         match read {
-            Ok(_entries) => assert!(rt; false, "an answer with request {number} refused"),
+            Ok(_entries) => assert!(rt; false, "an answer in turn {turn}"),
             Err(fault) => assert!(rt; fault == BundleFault::OutOfMemory),
         }
     }

@@ -11,6 +11,7 @@ pub mod FillSteps
 pub mod JoinedEdges
 pub mod Fills
 pub mod FilledTiles
+pub mod NeededSince
 pub mod Members
 pub mod Segments
 pub mod Walks

@@ -1,9 +1,10 @@
 -- What holds of the definitions alone.
-use Rattle.std.specs.Prelude.{◌≡◌, ℕ, ◌+◌, List, Contains, ◌↔◌}
+use Rattle.std.specs.Prelude.{◌≡◌, ℕ, ◌+◌, ◌≤◌, ◌⊎◌, List, Contains, ◌↔◌}
 use Rattle.tl_hash.specs.Bytes.{Bytes}
 use Rattle.tl_tile.specs.declared.resource.Tile.{Tile}
+use Rattle.tl_tile.specs.declared.resource.Resource.{Resource}
 use Rattle.tl_tile.specs.declared.resource.Resource.TheVariants as resource
-use Rattle.tl_tile.specs.Needed.{needed_resources}
+use Rattle.tl_tile.specs.Needed.{needed_resources, needed_resources_since}
 use Rattle.tl_tile.specs.RightEdge.{filled_tiles}
 use Rattle.tl_tile.specs.Bundle.{AreEntries, bundle_text, IsTruncated, HasTrailing}
 
@@ -26,3 +27,13 @@ FilledTilesAreNew =
     (n : ℕ) (t : Tile)
     → Contains (filled_tiles (n + 1)) t
     ↔ ((t.width ≡ 256) × Contains (needed_resources (n + 1)) (resource.Tile t) × (Contains (needed_resources n) (resource.Tile t) → ⊥))
+
+-- what a log serves since it had `from` entries: with what it served then it is all that it serves, and none of it was
+-- served then
+pub record IsNewSince (from size : ℕ) (r : Resource) : Type 0 where
+  pub enough : Contains (needed_resources size) r → Contains (needed_resources_since from size) r ⊎ Contains (needed_resources from) r
+  pub needed : Contains (needed_resources_since from size) r → Contains (needed_resources size) r
+  pub new : Contains (needed_resources_since from size) r → Contains (needed_resources from) r → ⊥
+
+abbrev pub NeededSinceIsNew : Type 0
+NeededSinceIsNew = (from size : ℕ) → from ≤ size → (r : Resource) → IsNewSince from size r

@@ -1,6 +1,6 @@
 -- The resources that a log of a size must serve beside its checkpoint (C2SP tlog-tiles, "Partial Tiles" and "Log
 -- Entries").
-use Rattle.std.specs.Prelude.{ℕ, ◌/◌, ◌%◌, List, [], ◌∷◌, ◌++◌, map, ◌==◌, if◌then◌else◌}
+use Rattle.std.specs.Prelude.{ℕ, ◌-◌, ◌/◌, ◌%◌, List, [], ◌∷◌, ◌++◌, map, ◌==◌, ◌||◌, if◌then◌else◌}
 use Rattle.std.specs.List.{flat_map, range_with_len}
 use Rattle.tl_tile.specs.TileText.{level_count}
 use Rattle.tl_tile.specs.declared.resource.Resource.{Resource}
@@ -19,3 +19,15 @@ pieces piece count = map (λ index. piece index 256) (range_with_len 0 (count / 
 abbrev pub needed_resources : ℕ → List Resource
 needed_resources size = flat_map (λ level. pieces (tile_at level) (level_count size level)) (range_with_len 0 8)
     ++ pieces resource.Entries size
+
+-- of these the ones that `from` hashes or entries don't have: the full ones from there on, and the partial one, unless
+-- nothing was added
+abbrev pub pieces_since : (ℕ → ℕ → Resource) → ℕ → ℕ → List Resource
+pieces_since piece from count = map (λ index. piece index 256) (range_with_len (from / 256) (count / 256 - from / 256))
+    ++ (if count % 256 == 0 || count == from then [] else piece (count / 256) (count % 256) ∷ [])
+
+-- the tiles by level, and then the bundles, that a log of `size` entries serves and one of `from` doesn't
+abbrev pub needed_resources_since : ℕ → ℕ → List Resource
+needed_resources_since from size =
+    flat_map (λ level. pieces_since (tile_at level) (level_count from level) (level_count size level)) (range_with_len 0 8)
+    ++ pieces_since resource.Entries from size

@@ -1,6 +1,6 @@
 //! What holds of entry bundles, of tiles and of sources of tiles by their definitions.
 
-ghost use Rattle.tl_tile.specs.Law.{BundlesAreOne, BundleFaultsApart, FilledTilesAreNew};
+ghost use Rattle.tl_tile.specs.Law.{BundlesAreOne, BundleFaultsApart, FilledTilesAreNew, NeededSinceIsNew};
 ghost use Rattle.tl_tile.specs.SourceFaults.{HonestSourceIsRead};
 ghost use Rattle.tl_tile.specs.TileLaws.{CheckedTilesHaveStoredHashes, HonestTilesFoldToRoot, HonestTilesFoldToAbove, HonestTilesHaveStoredHashes, FoldedHashesAreOne};
 
@@ -15,6 +15,11 @@ pub fn bundle_has_one_reading()
 /// The tiles that an entry fills are exactly the full tiles that a log needs with this entry and didn't need before it.
 pub fn filled_tiles_are_new()
     ensures { FilledTilesAreNew }
+{}
+
+/// What a log needs is what it needed when it was shorter, and what was added since, which it didn't need then.
+pub fn needed_since_is_new()
+    ensures { NeededSinceIsNew }
 {}
 
 /// Reading from a source that has each tile over the entries fails only where memory is refused.

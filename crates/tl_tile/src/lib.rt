@@ -26,9 +26,9 @@ pub use bundle::{BundleFault, LONGEST_ENTRY, push_entry, read_bundle, write_bund
 pub use edge::Edge;
 pub use law::{
     bundle_has_one_reading, checked_tiles_law, filled_tiles_are_new, folded_hashes_law,
-    honest_source_law, honest_tiles_law,
+    honest_source_law, honest_tiles_law, needed_since_is_new,
 };
-pub use listing::needed;
+pub use listing::{needed, needed_since};
 pub use path::{parse_path, path_of};
 pub use resource::{Resource, Tile};
 pub use source::{SourceFault, TileSource};

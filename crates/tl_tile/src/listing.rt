@@ -1,29 +1,31 @@
-//! Which resources a log of a size serves.
+//! Which resources a log of a size serves, and which it began to serve since it had another.
 
 ghost use Rattle.std.specs.Prelude.{◌≡◌, ◌<◌, ◌≤◌, ◌-◌, ◌^◌, ◌++◌, OnOk, OnErr, IfOk};
-ghost use Rattle.tl_tile.specs.Needed.{tile_at, pieces, needed_resources};
+ghost use Rattle.tl_tile.specs.Needed.{tile_at, pieces_since, needed_resources, needed_resources_since};
 ghost use Rattle.tl_tile.specs.declared.resource.Resource.TheVariants as resource;
 
 use crate::resource::{Resource, Tile};
 use std::alloc::{AllocError, Allocator};
 
-// Adds the tiles of a level that has so many hashes.
+// Adds the tiles that a level of `count` hashes has, and had not when it had `from` of them.
 fn push_tiles<A: Allocator>(
     out: &mut Vec<Resource, A>,
     level: u32,
+    from: u64,
     count: u64,
 ) -> Result<(), AllocError>
-    ensures pieces { OnOk result (out.new.items ≡ out.old.items ++ pieces (tile_at level) count) }
-    ensures memory { OnErr result (0 < count) }
+    requires { from ≤ count }
+    ensures pieces { OnOk result (out.new.items ≡ out.old.items ++ pieces_since (tile_at level) from count) }
+    ensures memory { OnErr result (from < count) }
 {
-    for index in 0..count / 256 {
+    for index in from / 256..count / 256 {
         out.push(Resource::Tile(Tile {
             level,
             index,
             width: 256,
         }))?;
     }
-    if count % 256 != 0 {
+    if count % 256 != 0 && count != from {
         out.push(Resource::Tile(Tile {
             level,
             index: count / 256,
@@ -33,15 +35,20 @@ fn push_tiles<A: Allocator>(
     Ok(())
 }
 
-// Adds the bundles of so many entries.
-fn push_bundles<A: Allocator>(out: &mut Vec<Resource, A>, size: u64) -> Result<(), AllocError>
-    ensures pieces { OnOk result (out.new.items ≡ out.old.items ++ pieces resource.Entries size) }
-    ensures memory { OnErr result (0 < size) }
+// Adds the bundles that a log of `size` entries has, and had not when it had `from` of them.
+fn push_bundles<A: Allocator>(
+    out: &mut Vec<Resource, A>,
+    from: u64,
+    size: u64,
+) -> Result<(), AllocError>
+    requires { from ≤ size }
+    ensures pieces { OnOk result (out.new.items ≡ out.old.items ++ pieces_since resource.Entries from size) }
+    ensures memory { OnErr result (from < size) }
 {
-    for index in 0..size / 256 {
+    for index in from / 256..size / 256 {
         out.push(Resource::Entries { index, width: 256 })?;
     }
-    if size % 256 != 0 {
+    if size % 256 != 0 && size != from {
         out.push(Resource::Entries {
             index: size / 256,
             width: (size % 256) as u32,
@@ -58,12 +65,30 @@ pub fn needed<A: Allocator>(alloc: A, size: u64) -> Result<Vec<Resource, A>, All
     ensures resources { IfOk result (λ resources. resources.items ≡ needed_resources size) }
     ensures memory { OnErr result (0 < size) }
 {
+    needed_since(alloc, 0, size)
+}
+
+/// The resources that a log of `size` entries serves and did not serve when it had `from`, at most as many: what a
+/// publication adds. They stand in the order of `needed`, and are found in the time that they take to be written down.
+/// `size` is at most 2^32 - 1. It fails only where memory is refused; where nothing was added it needs none.
+pub fn needed_since<A: Allocator>(
+    alloc: A,
+    from: u64,
+    size: u64,
+) -> Result<Vec<Resource, A>, AllocError>
+    requires order { from ≤ size }
+    requires limit { size ≤ 2 ^ 32 - 1 }
+    ensures resources { IfOk result (λ resources. resources.items ≡ needed_resources_since from size) }
+    ensures memory { OnErr result (from < size) }
+{
     let mut resources = Vec::new(alloc);
-    let mut count = size;
+    let mut low = from;
+    let mut high = size;
     for level in 0..8 {
-        push_tiles(&mut resources, level, count)?;
-        count /= 256;
+        push_tiles(&mut resources, level, low, high)?;
+        low /= 256;
+        high /= 256;
     }
-    push_bundles(&mut resources, size)?;
+    push_bundles(&mut resources, from, size)?;
     Ok(resources)
 }

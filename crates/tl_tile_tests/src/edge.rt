@@ -191,8 +191,8 @@ fn are_same<A: Allocator, B: Allocator>(
 #[test]
 fn append_leaves_the_edge_as_it_was(rt: HostRuntime) -> Result<(), Fail> {
     let alloc = rt.alloc();
-    for number in 1..MOST {
-        let heap = Refusing::at(alloc, number);
+    for turn in 1..MOST {
+        let heap = Refusing::in_turn(alloc, turn);
         let mut edge = Edge::new(&heap, Sha256Tree);
         let mut whole = Edge::new(alloc, Sha256Tree);
         for entry in 0..=255u8 {
@@ -201,6 +201,7 @@ fn append_leaves_the_edge_as_it_was(rt: HostRuntime) -> Result<(), Fail> {
                 assert!(rt; heap.refused());
                 assert!(rt; edge.size() == u64::from(entry));
                 assert!(rt; edge.root() == whole.root());
+                heap.lift();
                 tiles = add(&mut edge, &[entry]);
             }
             let want = add(&mut whole, &[entry])?;
@@ -210,13 +211,14 @@ fn append_leaves_the_edge_as_it_was(rt: HostRuntime) -> Result<(), Fail> {
         let mut shown = edge.partial(1);
         if shown.is_err() {
             assert!(rt; heap.refused());
+            heap.lift();
             shown = edge.partial(1);
         }
         let (shown_tile, bytes) = shown?.ok_or("a tile of level 1")?;
         assert!(rt; shown_tile == tile(1, 0, 1));
         assert!(rt; bytes.as_slice() == whole.root().as_bytes().as_slice());
         if !heap.refused() {
-            assert!(rt; number > 3);
+            assert!(rt; turn > 6);
             return Ok(());
         }
     }
@@ -260,23 +262,39 @@ fn append_all_leaves_the_edge_as_it_was(rt: HostRuntime) -> Result<(), Fail> {
     let entries = numbered(alloc, 600)?;
     let mut whole = Edge::new(alloc, Sha256Tree);
     let want = add_all(&mut whole, entries.as_slice())?;
-    for number in 1..MOST {
-        let heap = Refusing::at(alloc, number);
+    for turn in 1..MOST {
+        let heap = Refusing::in_turn(alloc, turn);
         let mut edge = Edge::new(&heap, Sha256Tree);
         let mut tiles = add_all(&mut edge, entries.as_slice());
         if tiles.is_err() {
             assert!(rt; heap.refused());
             assert!(rt; edge.size() == 0);
             assert!(rt; edge.root() == empty_hash(Sha256Tree));
+            heap.lift();
             tiles = add_all(&mut edge, entries.as_slice());
         }
-        assert!(rt; are_same(tiles?.as_slice(), want.as_slice()), "{number}");
-        assert!(rt; edge.root() == whole.root(), "{number}");
+        assert!(rt; are_same(tiles?.as_slice(), want.as_slice()), "{turn}");
+        assert!(rt; edge.root() == whole.root(), "{turn}");
         if !heap.refused() {
-            assert!(rt; number > 5);
+            assert!(rt; turn > 10);
             return Ok(());
         }
     }
     assert!(rt; false, "each run was refused");
+    Ok(())
+}
+
+#[test]
+fn root_and_size_of_an_edge_take_no_memory(rt: HostRuntime) -> Result<(), Fail> {
+    let alloc = rt.alloc();
+    let heap = Refusing::at(alloc, 0);
+    let entries = numbered(alloc, 600)?;
+    let mut edge = Edge::new(&heap, Sha256Tree);
+    let _tiles = add_all(&mut edge, entries.as_slice())?;
+    heap.refuse();
+    assert!(rt; edge.size() == 600);
+    assert!(rt; edge.root() == entry_root(Sha256Tree, entries.as_slice()));
+    assert!(rt; Edge::new(&heap, Sha256Tree).root() == empty_hash(Sha256Tree));
+    assert!(rt; !heap.refused());
     Ok(())
 }

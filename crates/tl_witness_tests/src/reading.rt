@@ -125,8 +125,8 @@ fn the_first_malformed_line(rt: HostRuntime) -> Result<(), Fail> {
 fn reading_with_memory_refused(rt: HostRuntime) -> Result<(), Fail> {
     let alloc = rt.alloc();
     let mut is_read = false;
-    for number in 1..MOST {
-        let heap = Refusing::at(alloc, number);
+    for turn in 1..MOST {
+        let heap = Refusing::in_turn(alloc, turn);
         match read_chain(&heap, LINES.as_bytes()) {
             Ok(chains) => {
                 assert!(rt; chains.len() == 1);
@@ -135,9 +135,10 @@ fn reading_with_memory_refused(rt: HostRuntime) -> Result<(), Fail> {
             Err(fault) => assert!(rt; (fault, heap.refused()) == (ChainFault::OutOfMemory, true)),
         }
         if is_read {
-            assert!(rt; number > 1);
+            assert!(rt; turn > 2);
             return Ok(());
         }
+        heap.lift();
         assert!(rt; read_chain(&heap, LINES.as_bytes())?.len() == 1);
     }
     assert!(rt; is_read);
@@ -148,8 +149,8 @@ fn reading_with_memory_refused(rt: HostRuntime) -> Result<(), Fail> {
 fn is_line_refused<A: Allocator>(alloc: Global, origin: &str, link: &Link<A>, line: &str) -> bool
     requires { IsChainLine (record { origin = origin.now; step = step_of link.now }) }
 {
-    for number in 1..MOST {
-        let heap = Refusing::at(alloc, number);
+    for turn in 1..MOST {
+        let heap = Refusing::in_turn(alloc, turn);
         let is_written = match write_chain_line(&heap, origin, link) {
             Ok(written) => written.as_str() == line,
             Err(_) => false,
@@ -158,8 +159,9 @@ fn is_line_refused<A: Allocator>(alloc: Global, origin: &str, link: &Link<A>, li
             return false;
         }
         if is_written {
-            return number > 1;
+            return turn > 2;
         }
+        heap.lift();
         let is_written = match write_chain_line(&heap, origin, link) {
             Ok(written) => written.as_str() == line,
             Err(_) => false,

@@ -30,12 +30,12 @@ fn opening_answers_out_of_memory(rt: HostRuntime) -> Result<(), Fail> {
     let alloc = rt.alloc();
     let whole = two_links(alloc, F1)?;
     let calm = Refusing::at(alloc, 0);
-    for number in 1..MOST {
-        let heap = Refusing::at(alloc, number);
+    for turn in 1..MOST {
+        let heap = Refusing::in_turn(alloc, turn);
         let fault = match saved_book(alloc, &calm, &heap)? {
             Ok(book) => {
                 assert!(rt; !heap.refused());
-                assert!(rt; number > 2);
+                assert!(rt; turn > 4);
                 let links = book.chain(ORIGIN).ok_or("no chain")?;
                 assert!(rt; are_first(links, whole.as_slice(), 2));
                 return Ok(());
@@ -44,6 +44,7 @@ fn opening_answers_out_of_memory(rt: HostRuntime) -> Result<(), Fail> {
         };
         assert!(rt; heap.refused());
         assert!(rt; fault == BookFault::OutOfMemory);
+        heap.lift();
         let book = saved_book(alloc, &calm, &heap)??;
         let links = book.chain(ORIGIN).ok_or("no chain")?;
         assert!(rt; are_first(links, whole.as_slice(), 2));
@@ -87,6 +88,7 @@ fn is_taken(
     if saver.calls != calls || !has_links(book, whole, count) {
         return false;
     }
+    heap.lift();
     let again = book.add(step.body.as_bytes(), TIME, saver);
     is_due(&again, step) && has_links(book, whole, step.links)
 }
@@ -96,8 +98,8 @@ fn a_book_answers_500(rt: HostRuntime) -> Result<(), Fail> {
     let alloc = rt.alloc();
     let whole = two_links(alloc, F1)?;
     let list = steps(alloc)?;
-    for number in 1..MOST {
-        let heap = Refusing::at(alloc, number);
+    for turn in 1..MOST {
+        let heap = Refusing::in_turn(alloc, turn);
         let Ok(mut book) = fresh_book(alloc, &heap, &[ORIGIN]) else {
             assert!(rt; heap.refused());
             continue;
@@ -106,13 +108,13 @@ fn a_book_answers_500(rt: HostRuntime) -> Result<(), Fail> {
         let mut count = 0;
         for step in list.iter() {
             let is_right = is_taken(&mut book, &heap, &mut saver, step, whole.as_slice(), count);
-            assert!(rt; is_right, "with request {number} refused, to {}", step.body);
+            assert!(rt; is_right, "in turn {turn}, to {}", step.body);
             count = step.links;
         }
         assert!(rt; saver.calls == 3);
         assert!(rt; saver.lines.as_str() == LINES);
         if !heap.refused() {
-            assert!(rt; number > 100);
+            assert!(rt; turn > 200);
             return Ok(());
         }
     }
@@ -139,11 +141,11 @@ fn parse_request_answers_out_of_memory(rt: HostRuntime) -> Result<(), Fail> {
     let request = body(alloc, 1, format!(in alloc; "{F1}\n")?.as_str(), 2, E2)?;
     let whole = two_links(alloc, F1)?;
     let link = whole.last().ok_or("no link")?;
-    for number in 1..MOST {
-        let heap = Refusing::at(alloc, number);
+    for turn in 1..MOST {
+        let heap = Refusing::in_turn(alloc, turn);
         assert!(rt; is_read(&heap, request.as_str(), link));
         if !heap.refused() {
-            assert!(rt; number > 1);
+            assert!(rt; turn > 2);
             return Ok(());
         }
         let calm = Refusing::at(alloc, 0);
@@ -168,6 +170,7 @@ fn shared<'h>(
     if !heap.refused() || back.book.chain(ORIGIN)?.len() != 0 {
         return None;
     }
+    heap.lift();
     match SharedWitness::new(back.book) {
         Ok(witness) => Some(witness),
         Err(_) => None,
@@ -189,6 +192,7 @@ fn has_shared_links<R: Wait>(
             if was_refused || !heap.refused() {
                 return false;
             }
+            heap.lift();
             match witness.chain(rt, ORIGIN) {
                 Ok(copies) => copies,
                 Err(_) => return false,
@@ -222,6 +226,7 @@ fn is_taken_shared<R: Wait>(
     if reply.status != 500 || !reply.body.is_empty() {
         return false;
     }
+    heap.lift();
     if saver.calls != calls || !has_shared_links(rt, witness, heap, whole, count) {
         return false;
     }
@@ -234,8 +239,8 @@ fn a_shared_witness_answers_500(rt: HostRuntime) -> Result<(), Fail> {
     let alloc = rt.alloc();
     let whole = two_links(alloc, F1)?;
     let list = steps(alloc)?;
-    for number in 1..MOST {
-        let heap = Refusing::at(alloc, number);
+    for turn in 1..MOST {
+        let heap = Refusing::in_turn(alloc, turn);
         let Ok(book) = fresh_book(alloc, &heap, &[ORIGIN]) else {
             assert!(rt; heap.refused());
             continue;
@@ -253,16 +258,29 @@ fn a_shared_witness_answers_500(rt: HostRuntime) -> Result<(), Fail> {
                 whole.as_slice(),
                 count,
             );
-            assert!(rt; is_right, "with request {number} refused, to {}", step.body);
+            assert!(rt; is_right, "in turn {turn}, to {}", step.body);
             count = step.links;
         }
         assert!(rt; saver.calls == 3);
         assert!(rt; saver.lines.as_str() == LINES);
         if !heap.refused() {
-            assert!(rt; number > 100);
+            assert!(rt; turn > 200);
             return Ok(());
         }
     }
     assert!(rt; false, "each run was refused");
+    Ok(())
+}
+
+#[test]
+fn links_of_an_origin_take_no_memory(rt: HostRuntime) -> Result<(), Fail> {
+    let alloc = rt.alloc();
+    let whole = two_links(alloc, F1)?;
+    let heap = Refusing::at(alloc, 0);
+    let book = saved_book(alloc, &heap, &heap)??;
+    heap.refuse();
+    assert!(rt; has_links(&book, whole.as_slice(), 2));
+    assert!(rt; book.chain("example.com/c").is_none());
+    assert!(rt; !heap.refused());
     Ok(())
 }

@@ -34,12 +34,12 @@ fn base_comes_back_from_a_refused_opening(rt: HostRuntime) -> Result<(), Fail> {
             assert!(rt; is_base_of_one(base.as_slice()));
         }
     }
-    for number in 2..MOST {
-        let heap = Refusing::at(alloc, number);
+    for turn in 3..MOST {
+        let heap = Refusing::in_turn(alloc, turn);
         match open_from(&heap, base_of_one(alloc, &heap)?, 3, 1, 1) {
             Ok(_opened) => {
                 assert!(rt; !heap.refused());
-                assert!(rt; number > 9);
+                assert!(rt; turn > 18);
                 return Ok(());
             }
             Err(BaseBack { base, why }) => {

@@ -2,15 +2,16 @@
 //! threads.
 
 use super::{bytes, closed, ended, opened, sent, taken};
-use std::alloc::{AllocError, Global};
+use std::alloc::{AllocError, Allocator, Global};
 use std::test::Fail;
 use std::thread;
 use tl_sequencer::{Sequencer, Submitter, open};
+use tl_testing::Refusing;
 
 // Sends so many entries, each the number of the lane and its own. It tells whether each was taken.
-fn send_many(
+fn send_many<A: Allocator>(
     alloc: Global,
-    submitter: &mut Submitter<Global, Global>,
+    submitter: &mut Submitter<Global, A>,
     lane: u32,
     count: u64,
 ) -> Result<bool, AllocError>
@@ -31,16 +32,16 @@ ghost use Rattle.std.specs.Prelude.{◌≡◌, IfOk};
 #[test]
 fn hundreds_waiting_are_taken_in_batches_and_ended(rt: HostRuntime) -> Result<(), Fail> {
     let alloc = rt.alloc();
-    let mut refused = false;
-    let (mut log, mut zero, mut one) = opened(alloc, 1000, 4_000_000_000, &mut refused)?;
+    let heap = Refusing::at(alloc, 0);
+    let (mut log, mut zero, mut one) = opened(&heap, 1000, 4_000_000_000)?;
     assert!(rt; send_many(alloc, &mut zero, 0, 700)?);
     assert!(rt; send_many(alloc, &mut one, 1, 300)?);
     let zero = closed(zero)?;
     let one = closed(one)?;
-    assert!(rt; taken(&mut log, 0, 256, &mut refused) == Ok(256));
-    assert!(rt; taken(&mut log, 1, 256, &mut refused) == Ok(256));
-    assert!(rt; ended(&mut log, zero, &mut refused) == Ok(444));
-    assert!(rt; ended(&mut log, one, &mut refused) == Ok(44));
+    assert!(rt; taken(&mut log, &heap, 0, 256) == Ok(256));
+    assert!(rt; taken(&mut log, &heap, 1, 256) == Ok(256));
+    assert!(rt; ended(&mut log, &heap, zero) == Ok(444));
+    assert!(rt; ended(&mut log, &heap, one) == Ok(44));
     let Ok(complete) = log.close() else {
         return Err(Fail::new("a lane has not ended"));
     };

@@ -1,0 +1,7 @@
+pub mod Shelves
+pub mod Complete
+pub mod Faults
+pub mod Publishing
+pub mod Reading
+pub mod Laws
+pub mod Inner
