@@ -1,6 +1,6 @@
 //! Reading a log back from a shelf.
 
-ghost use Rattle.std.specs.Prelude.{◌≡◌, ◌<◌, ◌≤◌, ◌-◌, ◌^◌, Some, None, IfOk, IfErr, MatchOption, length, map, string_bytes, vec_items};
+ghost use Rattle.std.specs.Prelude.{◌≡◌, ◌<◌, ◌≤◌, ◌-◌, ◌^◌, true, Some, None, IfOk, IfErr, MatchOption, length, map, string_bytes, vec_items};
 ghost use Rattle.tl_tile.specs.declared.resource.Resource.TheVariants as resource;
 ghost use Rattle.tl_publisher.specs.Resuming.{bundle_count, bundle_width};
 ghost use Rattle.tl_archive.specs.Inner.Bundles.{LacksOne, StatesNone};
@@ -50,8 +50,8 @@ fn bundle_at<S: Shelf, A: Allocator>(
 ) -> Result<Vec<u8, A>, ReadLogFault>
     requires within { place < bundle_count size }
     requires limit { size ≤ 2 ^ 32 - 1 }
-    ensures there { IfOk result (λ bundle. (S.kept shelf.now).held (resource.Entries place (bundle_width size place)) ≡ Some bundle.items) }
-    ensures missing { IfErr result (LacksOne (S.kept shelf.now).held size) }
+    ensures there { S.is_honest ≡ true → IfOk result (λ bundle. (S.kept shelf.now).held (resource.Entries place (bundle_width size place)) ≡ Some bundle.items) }
+    ensures missing { S.is_honest ≡ true → IfErr result (LacksOne (S.kept shelf.now).held size) }
 {
     let resource = Resource::Entries {
         index: place,
@@ -67,8 +67,8 @@ fn bundle_at<S: Shelf, A: Allocator>(
 // All bundles of a log of so many entries.
 fn bundles_of<S: Shelf>(shelf: &S, alloc: Global, size: u64) -> Result<Vec<Vec<u8>>, ReadLogFault>
     requires { size ≤ 2 ^ 32 - 1 }
-    ensures all { IfOk result (λ bundles. AreFound (S.kept shelf.now).held size (map vec_items bundles.items)) }
-    ensures missing { IfErr result (LacksOne (S.kept shelf.now).held size) }
+    ensures all { S.is_honest ≡ true → IfOk result (λ bundles. AreFound (S.kept shelf.now).held size (map vec_items bundles.items)) }
+    ensures missing { S.is_honest ≡ true → IfErr result (LacksOne (S.kept shelf.now).held size) }
 {
     let mut bundles = Vec::new(alloc);
     for place in 0..(size + 255) / 256 {
@@ -104,8 +104,8 @@ pub fn read_log<S: Shelf>(
     alloc: Global,
     verifiers: &[Box<dyn Verifier>],
 ) -> Result<Option<FoundLog>, ReadLogFault>
-    ensures found { IfOk result (λ found. MatchOption found ((S.kept shelf.now).held resource.Checkpoint ≡ None) (λ log. IsFoundLog (S.kept shelf.now).held (map (λ v. key v) verifiers.now) (string_bytes log.note) log.size (map vec_items log.bundles.items))) }
-    ensures refused { IfErr result (ReadLogFails (S.kept shelf.now).held (map (λ v. key v) verifiers.now)) }
+    ensures found { S.is_honest ≡ true → IfOk result (λ found. MatchOption found ((S.kept shelf.now).held resource.Checkpoint ≡ None) (λ log. IsFoundLog (S.kept shelf.now).held (map (λ v. key v) verifiers.now) (string_bytes log.note) log.size (map vec_items log.bundles.items))) }
+    ensures refused { S.is_honest ≡ true → IfErr result (ReadLogFails (S.kept shelf.now).held (map (λ v. key v) verifiers.now)) }
 {
     let bytes = match shelf.read(alloc, &Resource::Checkpoint) {
         Ok(Some(bytes)) => bytes,

@@ -7,7 +7,7 @@ use tl_tile::Resource;
 /// Who keeps bytes by resource. Bytes are staged first, and come under their resources together when the shelf settles.
 /// Contracts see what is there and what is staged, now and after each call so far, and how often a call failed.
 pub trait Shelf {
-    ghost use Rattle.std.specs.Prelude.{◌≡◌, ℕ, List, [], ◌∷◌, ◌++◌, OnOk, OnErr, IfOk, option_map, vec_items};
+    ghost use Rattle.std.specs.Prelude.{◌≡◌, ℕ, Bool, true, List, [], ◌∷◌, ◌++◌, OnOk, OnErr, IfOk, option_map, vec_items};
     ghost use Rattle.tl_tile.specs.Path.{IsResource};
     ghost use Rattle.tl_archive.specs.Shelves.{Kept, Stages, Unstages, Settles, Fails};
 
@@ -19,6 +19,9 @@ pub trait Shelf {
 
     /// How many calls failed.
     ghost faults: { Self → ℕ };
+
+    /// Whether what is read is what is there, as far as contracts can tell: no file of a system states that.
+    ghost is_honest: { Bool };
 
     /// Stages the bytes, which are to replace those of the resource. At a failure nothing is staged.
     fn stage(&mut self, resource: &Resource, bytes: &[u8]) -> Result<(), ShelfFault>
@@ -38,12 +41,13 @@ pub trait Shelf {
         ensures failed { OnErr result (Fails (faults self.old) (faults self.new)) }
         ensures trace { trace self.new ≡ trace self.old ++ kept self.new ∷ [] };
 
-    /// The bytes that are there under the resource, `None` where there are none.
+    /// The bytes that are there under the resource, `None` where there are none. A shelf that isn't honest may answer
+    /// anything.
     fn read<A: Allocator>(
         &self,
         alloc: A,
         resource: &Resource,
     ) -> Result<Option<Vec<u8, A>>, ShelfReadFault>
         requires { IsResource resource.now }
-        ensures { IfOk result (λ found. option_map vec_items found ≡ (kept self.now).held resource.now) };
+        ensures { is_honest ≡ true → IfOk result (λ found. option_map vec_items found ≡ (kept self.now).held resource.now) };
 }

@@ -1,16 +1,15 @@
 -- What `check` says of a proof is what is to come of its text.
 use Rattle.std.proofs.Common.{◌≡◌, inl, inr, List, ℕ, refl, sym, ap, ◌∙◌, subst, true≢false}
 use Rattle.std.specs.Prelude.{◌↔◌, Bool, true, false, IsTrue, Result, Ok, Err}
-use Rattle.sha2.specs.Sha256.{sha256}
 use Rattle.tl_device.specs.Device.{Passage, ReadWhole}
 use Rattle.tl_command.specs.Lines.{lines_text}
-use Rattle.tl_command.specs.ProofText.{Proof, Accepts, proof_size, proof_root, proof_leaf}
+use Rattle.tl_command.specs.ProofText.{Proof}
 use Rattle.tl_command.specs.ProofCommands.{ChecksBy, Subject, Shows, IsAbout}
 use Rattle.tl_command.specs.Run.{Output, Prints, PrintsRefusal, most_input, CameOf, Runs}
 use Rattle.tl_command.specs.Inner.Checks.{FindsInText, IsFinding, IsFindingAbout, PrintsAnswer, answer_line}
 use Rattle.tl_command.specs.declared.commands.check.Finding.{Finding}
 use Rattle.tl_command.specs.declared.fault.RunFault.{RunFault}
-use Rattle.tl_command.specs.declared.fault.RunFault.TheVariants.{Refused, Read, Write, TooLarge, EntryTooLong, BadOrigin, BadIndex, BadOld, BadPath, NotThere, Malformed, Chain, Sign, Operator, Listen, Accept, OutOfMemory, BadName, BadKey, BadCheckpoint, WrongSignature, Unverified}
+use Rattle.tl_command.specs.declared.fault.RunFault.TheVariants.{Refused, Read, Write, TooLarge, EntryTooLong, BadOrigin, BadIndex, BadOld, BadPath, NotThere, Malformed, Chain, Sign, Operator, Listen, Accept, OutOfMemory, BadName, BadKey, BadCheckpoint, WrongSignature, Unverified, Busy}
 
 -- what is to come of a text that was read, where what was found tells whether its proof is good
 abbrev pub good_output : Bool → Output
@@ -64,6 +63,7 @@ answered Comes i o is_good (Err Sign) came prints = absurd prints
 answered Comes i o is_good (Err Operator) came prints = absurd prints
 answered Comes i o is_good (Err Listen) came prints = absurd prints
 answered Comes i o is_good (Err Accept) came prints = absurd prints
+answered Comes i o is_good (Err Busy) came prints = absurd prints
 answered Comes i o is_good (Err OutOfMemory) came prints = absurd prints
 answered Comes i o is_good (Err BadName) came prints = absurd prints
 answered Comes i o is_good (Err BadKey) came prints = absurd prints

@@ -1,6 +1,6 @@
 -- The lines of a proof's text have no newline, and what the provers give is what the text has.
-use Rattle.std.proofs.Common.{◌≡◌, ℕ, ◌<◌, ◌≤◌, true, List, [], ◌∷◌, ◌++◌, length, get_or, map, take, refl, sym, ap, ◌∙◌, arith, All, append-nil}
-use Rattle.std.specs.Prelude.{codes, nat_le, slice_index_or, Bool, false, Ok}
+use Rattle.std.proofs.Common.{◌≡◌, ℕ, ◌<◌, ◌≤◌, true, List, [], ◌∷◌, ◌++◌, length, get_or, map, take, refl, ap, ◌∙◌, arith, All, append-nil}
+use Rattle.std.specs.Prelude.{codes, nat_le, slice_index_or}
 use Rattle.std.specs.List.{list_all}
 use Rattle.std.proofs.lemmas.Bool.{leb-true}
 use Rattle.std.proofs.lemmas.List.{take_all, get_or-map, length-map}
@@ -9,10 +9,10 @@ use Rattle.std.proofs.lemmas.List.Sums.{AllPass-from_list_all}
 use Rattle.sha2.specs.Sha256.{sha256}
 use Rattle.tl_hash.specs.Bytes.{IsHash}
 use Rattle.tl_hash.specs.Tree.{leaf_input, tree_hash}
-use Rattle.tl_text.specs.Text.{line, number_text, base64_text, HasNoControl, IsSize}
+use Rattle.tl_text.specs.Text.{number_text, base64_text, HasNoControl, IsSize}
 use Rattle.tl_text.proofs.PlainText.{number_plain, base64_plain}
 use Rattle.tl_proof.specs.Proofs.{inclusion_proof, consistency_proof}
-use Rattle.tl_command.specs.Lines.{entries_of, lines_text, HasNoNewline}
+use Rattle.tl_command.specs.Lines.{entries_of, HasNoNewline}
 use Rattle.tl_command.specs.ProofText.{Inclusion, Consistency, Proof, Included, Consistent, IsProof, proof_lines, proof_text}
 use Rattle.tl_command.specs.ProofCommands.{inclusion_of, consistency_of}
 use Rattle.tl_command.proofs.LineTexts.{entries_of_lines}

@@ -3,7 +3,7 @@ use Rattle.std.specs.Prelude.{ℕ, ◌++◌, codes, Option, Some, None}
 use Rattle.tl_hash.specs.Bytes.{Bytes}
 use Rattle.tl_text.specs.Text.{number_text}
 use Rattle.tl_command.specs.declared.fault.RunFault.{RunFault}
-use Rattle.tl_command.specs.declared.fault.RunFault.TheVariants.{Refused, Read, Write, TooLarge, EntryTooLong, BadOrigin, BadIndex, BadOld, BadPath, NotThere, Malformed, Chain, Sign, Operator, Listen, Accept, OutOfMemory, BadName, BadKey, BadCheckpoint, WrongSignature, Unverified}
+use Rattle.tl_command.specs.declared.fault.RunFault.TheVariants.{Refused, Read, Write, TooLarge, EntryTooLong, BadOrigin, BadIndex, BadOld, BadPath, NotThere, Malformed, Chain, Sign, Operator, Listen, Accept, OutOfMemory, BadName, BadKey, BadCheckpoint, WrongSignature, Unverified, Busy}
 
 -- the line on standard error, without its newline; a refusal has none, since its answer is on standard output
 abbrev pub fault_text : RunFault → Option Bytes
@@ -29,6 +29,7 @@ fault_text BadKey = Some (codes "tlog: bad key")
 fault_text BadCheckpoint = Some (codes "tlog: bad checkpoint")
 fault_text (WrongSignature place) = Some (codes "tlog: signature " ++ number_text place ++ codes " wrong")
 fault_text Unverified = Some (codes "tlog: no known signature")
+fault_text Busy = Some (codes "tlog: in use")
 
 -- the exit status: 3 where a device failed, else 1
 abbrev pub exit_status : RunFault → ℕ

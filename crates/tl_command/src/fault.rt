@@ -75,6 +75,9 @@ pub enum RunFault {
     /// No signature line is of a key that was given.
     #[error("no known signature")]
     Unverified,
+    /// Another process works on the folder or the file.
+    #[error("in use")]
+    Busy,
 }
 
 impl From<AllocError> for RunFault {
@@ -131,6 +134,7 @@ pub fn fault_line<A: Allocator>(alloc: A, fault: &RunFault) -> Result<Option<Str
         RunFault::BadCheckpoint => fixed_line(alloc, "tlog: bad checkpoint"),
         RunFault::WrongSignature(k) => Ok(Some(format!(in alloc; "tlog: signature {k} wrong")?)),
         RunFault::Unverified => fixed_line(alloc, "tlog: no known signature"),
+        RunFault::Busy => fixed_line(alloc, "tlog: in use"),
     }
 }
 

@@ -28,7 +28,8 @@ pub use commands::proving::{run_consistency, run_inclusion};
 pub use entries::read_entries;
 pub use fault::{RunFault, exit_of, fault_line};
 pub use options::{
-    CheckOptions, CosignerKey, KnownKey, ListenOptions, LogKey, ServeOptions, WitnessOptions,
+    AppendOptions, CheckOptions, CosignerKey, KnownKey, ListenOptions, LogKey, ServeOptions,
+    WitnessOptions,
 };
 pub use streams::{MOST_INPUT, print_text, read_input};
 pub use words::{Job, WordsFault, read_words};

@@ -20,6 +20,21 @@ pub enum LogKey {
     File(String),
 }
 
+/// The options of `append`, and of `build` into a folder.
+#[derive(Debug, Drop)]
+pub struct AppendOptions {
+    /// The folder of the log.
+    pub dir: String,
+    /// The name of the log, a key's name.
+    pub origin: String,
+    /// The log's key.
+    pub key: LogKey,
+    /// After how many entries it is published, at least 1; without it at the end alone.
+    pub batch: Option<u64>,
+    /// Whether the folder may have no log yet.
+    pub is_new: bool,
+}
+
 /// By which key a witness knows a log.
 #[derive(Debug, Drop)]
 pub enum KnownKey {
@@ -85,6 +100,8 @@ pub struct WitnessOptions {
     pub key: CosignerKey,
     /// The seconds since 1970 that it cosigns with; without it, those of the machine's clock.
     pub time: Option<u64>,
+    /// The file of what it cosigned; without it, standard input and output.
+    pub state: Option<String>,
     /// Where and how long it listens.
     pub server: ListenOptions,
 }

@@ -1,11 +1,12 @@
 //! The command line: from words to a job.
 
-use crate::options::{CheckOptions, ServeOptions, WitnessOptions};
+use crate::options::{AppendOptions, CheckOptions, LogKey, ServeOptions, WitnessOptions};
 use clap::error::ErrorKind;
 use clap::{Arg, ArgAction, ArgMatches, Command, Error as ClapError, value_parser};
 use std::alloc::{AllocError, Global};
 use thiserror::Error;
 
+mod building;
 mod serving;
 mod texts;
 
@@ -46,6 +47,8 @@ pub enum Job {
         /// The path of the one resource to print; without it, the listing of all of them.
         get: Option<String>,
     },
+    /// Append the lines of standard input to the log in a folder.
+    Append(AppendOptions),
     /// Print the inclusion proof of a line of standard input.
     Inclusion {
         /// The place of the line, counted from 0.
@@ -145,26 +148,6 @@ fn head<'a>(alloc: Global) -> Result<Command<'a>, AllocError> {
         .arg(threads)
 }
 
-// The command `build`.
-fn build<'a>(alloc: Global) -> Result<Command<'a>, AllocError> {
-    let origin = required(alloc, "origin", "NAME", "The name of the log, a key's name");
-    let secret = option(
-        alloc,
-        "secret",
-        "SECRET",
-        "The secret of the log's demonstration key",
-    );
-    let key = option(alloc, "key", "FILE", "The file with the log's private key");
-    let get = option(alloc, "get", "PATH", "Print the resource with this path");
-    Command::new(alloc, "build")
-        .about("Prints what a static mirror of the log of the lines of standard input serves")
-        .after_help(texts::BUILD)
-        .arg(origin)?
-        .arg(secret)?
-        .arg(key)?
-        .arg(get)
-}
-
 // The command `inclusion`.
 fn inclusion<'a>(alloc: Global) -> Result<Command<'a>, AllocError> {
     Command::new(alloc, "inclusion")
@@ -240,7 +223,8 @@ fn commands<'a>(alloc: Global) -> Result<Command<'a>, AllocError> {
         .subcommand_required(true)
         .disable_help_subcommand(true)
         .subcommand(head(alloc)?)?
-        .subcommand(build(alloc)?)?
+        .subcommand(building::build(alloc)?)?
+        .subcommand(building::append(alloc)?)?
         .subcommand(inclusion(alloc)?)?
         .subcommand(consistency(alloc)?)?
         .subcommand(check(alloc)?)?
@@ -284,29 +268,23 @@ fn number_of(alloc: Global, options: &ArgMatches<'_>, name: &str) -> Result<u64,
     }
 }
 
+// The key of a log: none unless one of the secret and the file is given.
+fn log_key_if_one(alloc: Global, options: &ArgMatches<'_>) -> Result<Option<LogKey>, AllocError> {
+    let secret = text_if_given(alloc, options, "secret")?;
+    let key = text_if_given(alloc, options, "key")?;
+    match (secret, key) {
+        (Some(secret), None) => Ok(Some(LogKey::Secret(secret))),
+        (None, Some(file)) => Ok(Some(LogKey::File(file))),
+        _ => Ok(None),
+    }
+}
+
 // The fault of options of a command that don't go together.
 fn unfit(alloc: Global, command: Command<'_>, why: &str) -> WordsFault {
     let mut command = command;
     match command.error(ErrorKind::MissingRequiredArgument, why) {
         Ok(error) => usage(alloc, error),
         Err(_) => WordsFault::OutOfMemory,
-    }
-}
-
-// The job of `build`: of the secret and the file of a key one is given.
-fn building_job(alloc: Global, options: &ArgMatches<'_>) -> Result<Job, WordsFault> {
-    let origin = text_of(alloc, options, "origin")?;
-    let secret = text_if_given(alloc, options, "secret")?;
-    let key = text_if_given(alloc, options, "key")?;
-    let get = text_if_given(alloc, options, "get")?;
-    match (secret, key) {
-        (Some(secret), None) => Ok(Job::Build {
-            origin,
-            secret,
-            get,
-        }),
-        (None, Some(key)) => Ok(Job::BuildSigned { origin, key, get }),
-        _ => Err(unfit(alloc, build(alloc)?, EITHER_KEY)),
     }
 }
 
@@ -336,7 +314,8 @@ fn job_of(alloc: Global, command: &str, options: &ArgMatches<'_>) -> Result<Job,
             origin: text_of(alloc, options, "origin")?,
             threads: options.get_one::<u16>("threads"),
         }),
-        "build" => building_job(alloc, options),
+        "build" => building::build_job(alloc, options),
+        "append" => building::append_job(alloc, options),
         "inclusion" => Ok(Job::Inclusion {
             index: number_of(alloc, options, "index")?,
         }),

@@ -1,6 +1,7 @@
 //! Large inputs beside small ones: 64 MiB and a byte more, 100,000 lines, a long origin, an empty secret.
 
 use std::alloc::{AllocError, Global};
+use std::fs::{File, Files};
 use std::net::{Net, TcpListener, TcpStream};
 use std::random::RandomSource;
 use std::str;
@@ -14,12 +15,9 @@ use tl_serve::Host;
 use tl_store::{HashStore, tree_hash};
 
 // What a job writes for an input, and its fault.
-fn written<H: Host + Net<Listener = TcpListener, Stream = TcpStream> + RandomSource>(
-    rt: &H,
-    alloc: Global,
-    job: Job,
-    input: &[u8],
-) -> (Vec<u8>, Result<(), RunFault>) {
+fn written<
+    H: Host + Files<File = File> + Net<Listener = TcpListener, Stream = TcpStream> + RandomSource,
+>(rt: &H, alloc: Global, job: Job, input: &[u8]) -> (Vec<u8>, Result<(), RunFault>) {
     let mut reader = Counted::new(input);
     let mut writer = Counted::new(Vec::new(alloc));
     let mut errors = Counted::new(Vec::new(alloc));

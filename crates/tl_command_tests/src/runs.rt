@@ -2,6 +2,7 @@
 
 use crate::builds;
 use std::alloc::{AllocError, Global};
+use std::fs::{File, Files};
 use std::io::{ErrorKind, Read, Write};
 use std::net::{Net, TcpListener, TcpStream};
 use std::process::Abort;
@@ -35,7 +36,7 @@ fn words_of(alloc: Global, words: &[&str]) -> Result<Vec<String>, AllocError> {
 
 // Runs the words over this reader.
 fn run_line<
-    H: Host + Net<Listener = TcpListener, Stream = TcpStream> + RandomSource,
+    H: Host + Files<File = File> + Net<Listener = TcpListener, Stream = TcpStream> + RandomSource,
     R: Read + Send + Drop,
 >(rt: &H, alloc: Global, words: &[&str], reader: R) -> Result<Ended, AllocError> {
     let words = words_of(alloc, words)?;

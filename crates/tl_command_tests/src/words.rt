@@ -2,7 +2,7 @@
 
 use std::alloc::{AllocError, Global};
 use std::test::Fail;
-use tl_command::{Job, WordsFault, read_words};
+use tl_command::{Job, LogKey, WordsFault, read_words};
 
 // The job that these words ask for, or whether there is a text on how to call the program.
 fn job_of(alloc: Global, words: &[&str]) -> Result<Result<Job, bool>, AllocError> {
@@ -90,8 +90,35 @@ fn build_with_and_without_a_path(rt: HostRuntime) -> Result<(), Fail> {
 }
 
 #[test]
+fn logs_in_folders(rt: HostRuntime) -> Result<(), Fail> {
+    let begin = [
+        "tlog", "append", "--dir", "d", "--origin", "x", "--key", "k",
+    ];
+    let job = job_of(rt.alloc(), &begin)?;
+    let Ok(Job::Append(options)) = job else {
+        return Err(Fail::new("another job"));
+    };
+    assert!(rt; options.dir.as_str() == "d" && options.origin.as_str() == "x");
+    assert!(rt; matches!(&options.key, LogKey::File(path) if path.as_str() == "k"));
+    assert!(rt; options.batch.is_none() && !options.is_new);
+    for (word, number) in [("1", 1), ("65536", 65_536), ("4294967295", 0xFFFF_FFFF)] {
+        let words = [
+            "tlog", "append", "--batch", word, "--dir", "", "--origin", "x", "--secret", "",
+        ];
+        let job = job_of(rt.alloc(), &words)?;
+        assert!(rt; matches!(&job, Ok(Job::Append(options)) if options.batch == Some(number)));
+    }
+    let words = [
+        "tlog", "build", "--dir", "d", "--origin", "x", "--secret", "s",
+    ];
+    let job = job_of(rt.alloc(), &words)?;
+    assert!(rt; matches!(&job, Ok(Job::Append(options)) if options.is_new));
+    Ok(())
+}
+
+#[test]
 fn other_words_get_the_usage(rt: HostRuntime) -> Result<(), Fail> {
-    let cases: [&[&str]; 15] = [
+    let cases: [&[&str]; 19] = [
         &["tlog", "heads", "--origin", "x"],
         &["tlog"],
         &["tlog", "--help"],
@@ -107,6 +134,14 @@ fn other_words_get_the_usage(rt: HostRuntime) -> Result<(), Fail> {
         &["tlog", "build", "--secret", "y"],
         &["tlog", "build", "--origin", "x", "--secret", "y", "--get"],
         &["tlog", "build", "--origin", "x", "--secret", "y", "p"],
+        &[
+            "tlog", "build", "--origin", "x", "--secret", "y", "--get", "p", "--dir", "d",
+        ],
+        &["tlog", "append", "--origin", "x", "--secret", "y"],
+        &["tlog", "append", "--dir", "d", "--origin", "x"],
+        &[
+            "tlog", "append", "--dir", "d", "--origin", "x", "--secret", "y", "--batch", "0",
+        ],
     ];
     for words in cases {
         assert!(rt; job_of(rt.alloc(), words)?.err() == Some(true));

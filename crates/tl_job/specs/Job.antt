@@ -8,7 +8,7 @@ use Rattle.tl_command.specs.ProofCommands.{InclusionComes, ConsistencyComes, Che
 use Rattle.tl_command.specs.AuditCommand.{AuditComes}
 use Rattle.tl_command.specs.declared.fault.RunFault.{RunFault}
 use Rattle.tl_command.specs.declared.words.Job.{Job}
-use Rattle.tl_command.specs.declared.words.Job.TheVariants.{Head, Build, BuildSigned, Inclusion, Consistency, Check, CheckUnder, Keygen, Open, Audit, Serve, Witness}
+use Rattle.tl_command.specs.declared.words.Job.TheVariants.{Head, Build, BuildSigned, Append, Inclusion, Consistency, Check, CheckUnder, Keygen, Open, Audit, Serve, Witness}
 use Rattle.tl_build.specs.Mirror.{demo_log_key}
 use Rattle.tl_build.specs.Build.{RunsBuild}
 use Rattle.tl_build.specs.Signed.{RunsSigned}
@@ -17,6 +17,7 @@ use Rattle.tl_open.specs.CheckOpened.{IsIdle, RunsCheckOpened}
 use Rattle.tl_open.specs.Keys.{IsFileFault}
 use Rattle.tl_open.specs.Keygen.{GivesKey}
 use Rattle.tl_open.specs.Open.{RunsOpen}
+use Rattle.tl_serve.specs.Serving.{RefusesOrigin}
 use Rattle.tl_hash.specs.Bytes.{Bytes}
 use Rattle.tl_job.specs.Ending.{status_of, told_of, Told}
 
@@ -51,6 +52,7 @@ RunsJob (Head origin threads) i o e result = RunsHead (string_bytes origin) i o 
 RunsJob (Build origin secret get) i o e result =
     BuildsDemo (string_bytes origin) (string_bytes secret) (option_map string_bytes get) i o result × IsUnwritten e
 RunsJob (BuildSigned origin key get) i o e result = BuildsSigned (string_bytes origin) (option_map string_bytes get) i o result × IsUnwritten e
+RunsJob (Append options) i o e result = RefusesOrigin (string_bytes options.origin) i result × IsUnwritten e
 RunsJob (Inclusion index) i o e result = Runs (InclusionComes index) i o result × IsUnwritten e
 RunsJob (Consistency old) i o e result = Runs (ConsistencyComes old) i o result × IsUnwritten e
 RunsJob Check i o e result = Runs CheckComes i o result × IsUnwritten e

@@ -8,6 +8,7 @@
 //! ```
 #![tactic(auto)]
 
+mod lasting;
 mod running;
 
 pub use running::{end_run, run_job, run_words};

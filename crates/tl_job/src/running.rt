@@ -7,8 +7,9 @@ ghost use Rattle.tl_job.specs.Job.{BuildsDemo, BuildsSigned, ChecksFile, EndsWor
 ghost use Rattle.tl_open.specs.Keygen.{GivesKey};
 ghost use Rattle.tl_job.specs.Ending.{Told, status_of, told_of};
 
+use crate::lasting::{append, witness};
 use std::alloc::{Allocator, Global};
-use std::fs::Files;
+use std::fs::{File, Files};
 use std::io::{Read, Write};
 use std::net::{Net, TcpListener, TcpStream};
 use std::random::RandomSource;
@@ -22,7 +23,7 @@ use tl_device::{Counted, write_whole};
 use tl_hash::Sha256Tree;
 use tl_key::{Cosignature, Note};
 use tl_open::{read_file, run_check_opened, run_keygen, run_open};
-use tl_serve::{Host, run_serve, run_witness};
+use tl_serve::{Host, run_serve};
 
 // How many threads hash at once: as many as are asked for, or else as the machine has.
 fn threads_of<H: Threads>(rt: &H, asked: Option<u16>) -> usize {
@@ -143,7 +144,7 @@ fn check_as_asked<H: Files, R: Read, W: Write>(
 /// Runs the command of a job with its options: each job its own command, which reads the reader and writes the writer.
 /// `keygen`, `serve` and `witness` write to `errors` too, and the last two may wait.
 pub fn run_job<
-    H: Host + Net<Listener = TcpListener, Stream = TcpStream> + RandomSource,
+    H: Host + Files<File = File> + Net<Listener = TcpListener, Stream = TcpStream> + RandomSource,
     R: Read + Send,
     W: Write + Send,
     E: Write,
@@ -167,6 +168,7 @@ pub fn run_job<
         Job::BuildSigned { origin, key, get } => {
             build_signed(rt, alloc, &origin, &key, get.as_deref(), reader, writer)
         }
+        Job::Append(options) => append(rt, alloc, &options, reader, writer),
         Job::Inclusion { index } => run_inclusion(alloc, index, reader, writer),
         Job::Consistency { old } => run_consistency(alloc, old, reader, writer),
         Job::Check => run_check(alloc, reader, writer),
@@ -177,7 +179,7 @@ pub fn run_job<
         Job::Open { key } => run_open(alloc, &key, reader, writer),
         Job::Audit => run_audit(alloc, Sha256Tree, reader, writer),
         Job::Serve(options) => run_serve(rt, alloc, &options, reader, errors),
-        Job::Witness(options) => run_witness(rt, alloc, &options, reader, writer, errors),
+        Job::Witness(options) => witness(rt, alloc, &options, reader, writer, errors),
     }
 }
 
@@ -185,7 +187,7 @@ pub fn run_job<
 /// none, the text on how to call the program is written to `errors`, the status is 2, and nothing is read or written
 /// else.
 pub fn run_words<
-    H: Host + Net<Listener = TcpListener, Stream = TcpStream> + RandomSource,
+    H: Host + Files<File = File> + Net<Listener = TcpListener, Stream = TcpStream> + RandomSource,
     R: Read + Send,
     W: Write + Send,
     E: Write,

@@ -8,7 +8,7 @@ use Rattle.tl_key.specs.KeyText.{IsSignerText, private_text, verifier_text}
 use Rattle.tl_key.specs.NoteKey.{SeedKey, public_of}
 use Rattle.tl_command.specs.declared.fault.RunFault.{RunFault}
 use Rattle.tl_command.specs.declared.fault.RunFault.TheVariants.{Write}
-use Rattle.tl_open.specs.Keygen.{IsKeyOf, GaveKey, GivesKey}
+use Rattle.tl_open.specs.Keygen.{IsKeyOf, GivesKey}
 
 is_key_of : (name seed : List ℕ) (kind : ℕ) (k : SeedKey) → (k ≡ record { name = name; kind = kind; seed = seed }) × IsKeyName name → IsSignerText kind (private_text k) k → IsKeyOf name kind k
 is_key_of name seed kind k made text = record { lawful = made.1; name_is = ap (λ (s : SeedKey). s.name) made.0; kind_is = text.kind_asked; seed = text.seed }

@@ -1,12 +1,10 @@
 -- Bytes that are no signed checkpoint.
 use Rattle.std.proofs.Common.{◌≡◌, ◌≢◌, ℕ, List, refl, sym, subst}
-use Rattle.std.specs.Prelude.{Result, Ok, Err}
+use Rattle.std.specs.Prelude.{Err}
 use Rattle.tl_note.specs.Key.{Key}
-use Rattle.tl_note.specs.Note.{Signature, HasNoNote, Note}
-use Rattle.tl_note.specs.declared.fault.NoteFault.{NoteFault}
 use Rattle.tl_note.specs.declared.fault.NoteFault.TheVariants as note
 use Rattle.tl_note.proofs.OneNote.{one_note}
-use Rattle.tl_checkpoint.specs.Checkpoint.{Head, checkpoint_text}
+use Rattle.tl_checkpoint.specs.Checkpoint.{checkpoint_text}
 use Rattle.tl_checkpoint.specs.OpenCheckpoint.{OpensCheckpoint, HasOtherText}
 use Rattle.tl_checkpoint.specs.declared.checkpoint.CheckpointFault.{CheckpointFault}
 use Rattle.tl_checkpoint.specs.declared.checkpoint.CheckpointFault.TheVariants as checkpoint

@@ -1,9 +1,8 @@
 -- Runs of `open` and of `check` against a checkpoint, from what was opened.
-use Rattle.std.proofs.Common.{◌≡◌, ◌≢◌, ℕ, inl, inr, List, [], ◌∷◌, refl, sym, subst}
+use Rattle.std.proofs.Common.{◌≡◌, ℕ, inl, List, [], ◌∷◌, sym, subst}
 use Rattle.std.specs.Prelude.{Option, Result, Ok, Err, OnOk, OnErr, IfErr}
-use Rattle.tl_device.specs.Device.{Passage, IsUnread, IsUnwritten, ReadWhole, WroteWhole, WrotePart}
+use Rattle.tl_device.specs.Device.{Passage, IsUnwritten, ReadWhole, WroteWhole, WrotePart}
 use Rattle.tl_note.specs.Key.{Key}
-use Rattle.tl_note.specs.Note.{HasNoNote}
 use Rattle.tl_note.specs.OpenNote.{OpensNote}
 use Rattle.tl_note.specs.declared.fault.NoteFault.{NoteFault}
 use Rattle.tl_note.specs.declared.fault.NoteFault.TheVariants as note
@@ -14,9 +13,9 @@ use Rattle.tl_checkpoint.specs.OpenCheckpoint.{IsSignedCheckpoint}
 use Rattle.tl_command.specs.ProofCommands.{CheckAboutComes}
 use Rattle.tl_command.specs.Run.{Output, Prints, Runs, CameOf, most_input}
 use Rattle.tl_command.specs.declared.fault.RunFault.{RunFault}
-use Rattle.tl_command.specs.declared.fault.RunFault.TheVariants.{Refused, Read, Write, TooLarge, EntryTooLong, BadOrigin, BadIndex, BadOld, BadPath, NotThere, Malformed, Chain, Sign, Operator, Listen, Accept, OutOfMemory, BadName, BadKey, BadCheckpoint, WrongSignature, Unverified}
-use Rattle.tl_open.specs.Open.{OpenComes, RunsOpen, IsKeyWith}
-use Rattle.tl_open.specs.CheckOpened.{ChecksUnder, RunsUnder, RunsCheckOpened, subject_of}
+use Rattle.tl_command.specs.declared.fault.RunFault.TheVariants.{Refused, Read, Write, TooLarge, EntryTooLong, BadOrigin, BadIndex, BadOld, BadPath, NotThere, Malformed, Chain, Sign, Operator, Listen, Accept, OutOfMemory, BadName, BadKey, BadCheckpoint, WrongSignature, Unverified, Busy}
+use Rattle.tl_open.specs.Open.{OpenComes, RunsOpen}
+use Rattle.tl_open.specs.CheckOpened.{RunsUnder, RunsCheckOpened, subject_of}
 use Rattle.tl_open.specs.Inner.Notes.{after_note}
 use Rattle.tl_open.proofs.NoteBytes.{note_some}
 
@@ -62,6 +61,7 @@ runs_open text k i o (Err Sign) spelled runs = record { key = k; spelled = spell
 runs_open text k i o (Err Operator) spelled runs = record { key = k; spelled = spelled; fact = runs }
 runs_open text k i o (Err Listen) spelled runs = record { key = k; spelled = spelled; fact = runs }
 runs_open text k i o (Err Accept) spelled runs = record { key = k; spelled = spelled; fact = runs }
+runs_open text k i o (Err Busy) spelled runs = record { key = k; spelled = spelled; fact = runs }
 runs_open text k i o (Err OutOfMemory) spelled runs = record { key = k; spelled = spelled; fact = (runs.0, runs.1) }
 runs_open text k i o (Err BadName) spelled runs = record { key = k; spelled = spelled; fact = runs }
 runs_open text k i o (Err BadKey) spelled runs = absurd runs.0.so
@@ -89,6 +89,7 @@ runs_under bytes keys entry c i o (Err Sign) signed runs = record { checkpoint =
 runs_under bytes keys entry c i o (Err Operator) signed runs = record { checkpoint = c; signed = signed; runs = runs }
 runs_under bytes keys entry c i o (Err Listen) signed runs = record { checkpoint = c; signed = signed; runs = runs }
 runs_under bytes keys entry c i o (Err Accept) signed runs = record { checkpoint = c; signed = signed; runs = runs }
+runs_under bytes keys entry c i o (Err Busy) signed runs = record { checkpoint = c; signed = signed; runs = runs }
 runs_under bytes keys entry c i o (Err OutOfMemory) signed runs = (runs.0, runs.1)
 runs_under bytes keys entry c i o (Err BadName) signed runs = record { checkpoint = c; signed = signed; runs = runs }
 runs_under bytes keys entry c i o (Err BadKey) signed runs = record { checkpoint = c; signed = signed; runs = runs }
@@ -116,6 +117,7 @@ runs_check_opened text bytes entry k i o (Err Sign) spelled runs = record { key 
 runs_check_opened text bytes entry k i o (Err Operator) spelled runs = record { key = k; spelled = spelled; fact = runs }
 runs_check_opened text bytes entry k i o (Err Listen) spelled runs = record { key = k; spelled = spelled; fact = runs }
 runs_check_opened text bytes entry k i o (Err Accept) spelled runs = record { key = k; spelled = spelled; fact = runs }
+runs_check_opened text bytes entry k i o (Err Busy) spelled runs = record { key = k; spelled = spelled; fact = runs }
 runs_check_opened text bytes entry k i o (Err OutOfMemory) spelled runs = record { key = k; spelled = spelled; fact = runs }
 runs_check_opened text bytes entry k i o (Err BadName) spelled runs = record { key = k; spelled = spelled; fact = runs }
 runs_check_opened text bytes entry k i o (Err BadKey) spelled runs = absurd runs.runs.0.so

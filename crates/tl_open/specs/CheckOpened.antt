@@ -1,9 +1,8 @@
 -- The command `check` against a signed checkpoint (C2SP tlog-checkpoint, signed-note).
-use Rattle.std.specs.Prelude.{◌⊎◌, ℕ, List, [], ◌∷◌, Option, Result, Err}
+use Rattle.std.specs.Prelude.{List, [], ◌∷◌, Option, Result, Err}
 use Rattle.tl_hash.specs.Bytes.{Bytes}
 use Rattle.tl_note.specs.Key.{Key}
-use Rattle.tl_note.specs.Note.{HasNoNote, Signature, Note}
-use Rattle.tl_note.specs.Open.{Opened}
+use Rattle.tl_note.specs.Note.{Signature, Note}
 use Rattle.tl_checkpoint.specs.Checkpoint.{Head, IsHead, checkpoint_text}
 use Rattle.tl_checkpoint.specs.OpenCheckpoint.{IsSignedCheckpoint}
 use Rattle.tl_device.specs.Device.{Passage, IsSteady, IsUnread, IsUnwritten}

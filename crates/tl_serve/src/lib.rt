@@ -1,5 +1,5 @@
-//! The commands `serve` and `witness` of the program `tlog`: a running log and a witness over HTTP, each answered by
-//! several threads.
+//! The commands of the program `tlog` that run a log or a witness: `serve` and `witness` over HTTP, each answered by
+//! several threads, and `append` on a shelf.
 //!
 //! ```
 //! let options = ServeOptions { origin, key: LogKey::Secret(secret), .. };
@@ -8,6 +8,7 @@
 #![tactic(auto)]
 
 mod answering;
+mod append;
 mod connection;
 mod door;
 mod flags;
@@ -16,6 +17,7 @@ mod gate;
 mod host;
 mod lanes;
 mod live_log;
+mod log_keys;
 mod opening;
 mod running;
 mod saver;
@@ -24,6 +26,7 @@ mod taking;
 mod telling;
 mod witness;
 
+pub use append::run_append;
 pub use gate::Gate;
 pub use host::Host;
 pub use saver::LineSaver;

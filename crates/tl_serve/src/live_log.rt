@@ -11,6 +11,9 @@ use tl_command::RunFault;
 use tl_publisher::{Operator, PublishFault, Published, Shown};
 use tl_sequencer::{Ended, TakeFault};
 
+/// The most entries of a log.
+pub(crate) const MOST_ENTRIES: u64 = 0xFFFF_FFFF;
+
 /// A log that runs: entries are taken in from its lanes, and published, until it is closed.
 pub(crate) trait LiveLog: Shown + Drop {
     /// Takes in at most so many entries of a lane: how many it took.

@@ -11,7 +11,8 @@ use crate::door::Door;
 use crate::following::{Followed, Lines};
 use crate::gate::{Gate, OpenGate};
 use crate::host::Host;
-use crate::live_log::LiveLog;
+use crate::live_log::{LiveLog, MOST_ENTRIES};
+use crate::log_keys::{LogKeys, keys_of};
 use crate::opening::{bundles_of, lanes_of, read_plan, size_of, whole_note};
 use crate::running::run_log;
 use std::alloc::Global;
@@ -19,26 +20,14 @@ use std::io::{Read, Write};
 use std::net::{Net, TcpListener, TcpStream};
 use std::sync::Arc;
 use std::thread::{Threads, available_parallelism};
-use tl_command::{LogKey, RunFault, ServeOptions};
+use tl_command::{RunFault, ServeOptions};
 use tl_device::Counted;
-use tl_key::{DemoKey, Note, SignerKey, VerifierKey, demo_key};
-use tl_note::{NoteFault, Signer, Verifier, is_key_name};
-use tl_open::{read_file, read_private_key};
+use tl_note::{Signer, Verifier, is_key_name};
 use tl_publisher::{BoardReader, Operator, OperatorFault, Published, ResumeFault};
 use tl_sequencer::Submitter;
 
 // The most threads that answer: one less than the board may have readers, since one more tells what is published.
 const MOST_THREADS: u32 = 63;
-
-// The most entries of a log.
-const MOST_ENTRIES: u64 = 0xFFFF_FFFF;
-
-/// The keys of a log: one that signs, and one that opens what it signed.
-#[derive(Drop)]
-enum Keys {
-    Demonstration(DemoKey<Global>, DemoKey<Global>),
-    Private(SignerKey<Note, Global>, VerifierKey<Note, Global>),
-}
 
 /// How many threads answer: as many as are asked for, or else as the machine has, and at most 63.
 pub(crate) fn threads_of<H: Threads>(rt: &H, asked: Option<u64>) -> u32
@@ -133,7 +122,7 @@ impl<H: Host + Net<Listener = TcpListener, Stream = TcpStream>, G: Gate> Server<
     // Serves a log that begins with no entry.
     fn serve_new<R: Read + Send, L: Write>(
         &self,
-        keys: Keys,
+        keys: LogKeys,
         reader: &mut Counted<R>,
         log: &mut Counted<L>,
     ) -> Result<(), RunFault> {
@@ -143,8 +132,8 @@ impl<H: Host + Net<Listener = TcpListener, Stream = TcpStream>, G: Gate> Server<
             Err(fault) => return Err(fault),
         };
         let signer: Box<dyn Signer> = match keys {
-            Keys::Demonstration(signer, _verifier) => Box::new(alloc, signer)?,
-            Keys::Private(signer, _verifier) => Box::new(alloc, signer)?,
+            LogKeys::Demonstration(signer, _verifier) => Box::new(alloc, signer)?,
+            LogKeys::Private(signer, _verifier) => Box::new(alloc, signer)?,
         };
         let mut signers = Vec::new(alloc);
         signers.push(signer)?;
@@ -164,17 +153,17 @@ impl<H: Host + Net<Listener = TcpListener, Stream = TcpStream>, G: Gate> Server<
     // Serves a log that goes on from the checkpoint of a note.
     fn serve_resumed<R: Read + Send, L: Write>(
         &self,
-        keys: Keys,
+        keys: LogKeys,
         note: &str,
         reader: &mut Counted<R>,
         log: &mut Counted<L>,
     ) -> Result<(), RunFault> {
         let (alloc, origin) = (self.alloc, self.options.origin.as_str());
         let (signer, verifier): (Box<dyn Signer>, Box<dyn Verifier>) = match keys {
-            Keys::Demonstration(signer, verifier) => {
+            LogKeys::Demonstration(signer, verifier) => {
                 (Box::new(alloc, signer)?, Box::new(alloc, verifier)?)
             }
-            Keys::Private(signer, verifier) => {
+            LogKeys::Private(signer, verifier) => {
                 (Box::new(alloc, signer)?, Box::new(alloc, verifier)?)
             }
         };
@@ -201,35 +190,6 @@ impl<H: Host + Net<Listener = TcpListener, Stream = TcpStream>, G: Gate> Server<
     }
 }
 
-// The demonstration key of the log.
-fn demonstration(alloc: Global, origin: &str, secret: &str) -> Result<DemoKey<Global>, RunFault> {
-    match demo_key(alloc, origin, secret.as_bytes()) {
-        Ok(key) => Ok(key),
-        Err(NoteFault::OutOfMemory) => Err(RunFault::OutOfMemory),
-        Err(_) => Err(RunFault::BadOrigin),
-    }
-}
-
-// The keys that the options name. `BadOrigin`: they are of another name than the log.
-fn keys_of<H: Host>(rt: &H, alloc: Global, options: &ServeOptions) -> Result<Keys, RunFault> {
-    let origin = options.origin.as_str();
-    match &options.key {
-        LogKey::Secret(secret) => Ok(Keys::Demonstration(
-            demonstration(alloc, origin, secret)?,
-            demonstration(alloc, origin, secret)?,
-        )),
-        LogKey::File(path) => {
-            let bytes = read_file(rt, alloc, path)?;
-            let key = read_private_key::<Note>(alloc, bytes.as_slice())?;
-            if key.name() != origin {
-                return Err(RunFault::BadOrigin);
-            }
-            let verifier = key.verifier(alloc)?;
-            Ok(Keys::Private(key, verifier))
-        }
-    }
-}
-
 /// `run_serve` where the thread of each lane passes this gate before it sends.
 pub fn serve_gated<
     H: Host + Net<Listener = TcpListener, Stream = TcpStream>,
@@ -251,7 +211,7 @@ pub fn serve_gated<
         return Err(RunFault::BadOrigin);
     }
     let gate: &G = &gate;
-    let keys = keys_of(rt, alloc, options)?;
+    let keys = keys_of(rt, alloc, origin, &options.key)?;
     let server = Server {
         rt,
         alloc,

@@ -5,7 +5,7 @@ ghost use Rattle.tl_serve.specs.Kept.{IsKept};
 
 use crate::flags::Flags;
 use crate::live_log::LiveLog;
-use crate::telling::tell_published;
+use crate::telling::tell_head;
 use std::alloc::Global;
 use std::io::Write;
 use std::thread;
@@ -13,6 +13,9 @@ use std::time::{Clock, Duration};
 use tl_command::RunFault;
 use tl_device::Counted;
 use tl_publisher::BoardReader;
+
+// What is told before size and root.
+const PUBLISHED: &str = "published ";
 
 // How many milliseconds are waited where nothing came.
 const PAUSE: u64 = 1;
@@ -76,7 +79,7 @@ fn take_and_show<O: LiveLog, L: Write>(
     }
     operator.show()?;
     if !rounds.is_quiet {
-        tell_published(alloc, log, board)?;
+        tell_head(alloc, log, board, PUBLISHED)?;
     }
     Ok(taken)
 }
@@ -121,7 +124,7 @@ pub(crate) fn take_all<H: Clock, O: LiveLog, L: Write>(
 {
     let mut board = board;
     if !rounds.is_quiet {
-        if let Err(fault) = tell_published(alloc, log, &mut board) {
+        if let Err(fault) = tell_head(alloc, log, &mut board, PUBLISHED) {
             flags.stop();
             return Err(fault);
         }

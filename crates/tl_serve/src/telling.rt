@@ -7,17 +7,18 @@ use tl_command::{RunFault, print_text};
 use tl_device::Counted;
 use tl_publisher::BoardReader;
 
-/// Tells size and root of the last publication that a reader of the board sees.
-pub(crate) fn tell_published<L: Write>(
+/// Tells size and root of the last publication that a reader of the board sees, after this word.
+pub(crate) fn tell_head<L: Write>(
     alloc: Global,
     log: &mut Counted<L>,
     board: &mut BoardReader<Global>,
+    word: &str,
 ) -> Result<(), RunFault> {
     let Ok(Some(head)) = board.head() else {
         return Ok(());
     };
     let root = STANDARD.encode(alloc, head.root.as_bytes())?;
-    let line = format!(in alloc; "published {} {root}\n", head.size)?;
+    let line = format!(in alloc; "{word}{} {root}\n", head.size)?;
     print_text(log, line.as_bytes())
 }
 

@@ -53,5 +53,6 @@ pub fn witness_options(
         ),
         time: Some(1700000000),
         server: server(alloc, listen, connections)?,
+        state: None,
     })
 }

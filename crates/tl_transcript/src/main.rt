@@ -6,6 +6,7 @@
 #![tactic(auto)]
 
 use std::alloc::{AllocError, Global};
+use std::fs::{File, Files};
 use std::net::{Net, TcpListener, TcpStream};
 use std::random::RandomSource;
 use std::{io, str};
@@ -39,11 +40,9 @@ fn words_of(alloc: Global, line: &str) -> Result<Vec<String>, AllocError> {
 }
 
 // Runs one command line over its input, in memory.
-fn run_line<H: Host + Net<Listener = TcpListener, Stream = TcpStream> + RandomSource>(
-    rt: &H,
-    alloc: Global,
-    run: &Run,
-) -> Result<Ended, AllocError> {
+fn run_line<
+    H: Host + Files<File = File> + Net<Listener = TcpListener, Stream = TcpStream> + RandomSource,
+>(rt: &H, alloc: Global, run: &Run) -> Result<Ended, AllocError> {
     let words = words_of(alloc, run.line)?;
     let mut reader = Counted::new(run.input.as_slice());
     let mut writer = Counted::new(Vec::new(alloc));

@@ -1,7 +1,10 @@
 //! The words of the commands that serve.
 
-use super::{EITHER_KEY, Job, WordsFault, option, required, text_if_given, text_of, texts, unfit};
-use crate::options::{CosignerKey, KnownKey, ListenOptions, LogKey, ServeOptions, WitnessOptions};
+use super::{
+    EITHER_KEY, Job, WordsFault, log_key_if_one, option, required, text_if_given, text_of, texts,
+    unfit,
+};
+use crate::options::{CosignerKey, KnownKey, ListenOptions, ServeOptions, WitnessOptions};
 use clap::{Arg, ArgAction, ArgMatches, Command, value_parser};
 use std::alloc::{AllocError, Global};
 
@@ -85,22 +88,14 @@ pub(super) fn serve<'a>(alloc: Global) -> Result<Command<'a>, AllocError> {
     server(alloc, command)
 }
 
-// The key of a log: of the secret and the file one is given.
-fn log_key(alloc: Global, options: &ArgMatches<'_>) -> Result<LogKey, WordsFault> {
-    let secret = text_if_given(alloc, options, "secret")?;
-    let key = text_if_given(alloc, options, "key")?;
-    match (secret, key) {
-        (Some(secret), None) => Ok(LogKey::Secret(secret)),
-        (None, Some(file)) => Ok(LogKey::File(file)),
-        _ => Err(unfit(alloc, serve(alloc)?, EITHER_KEY)),
-    }
-}
-
 // The job of `serve`.
 pub(super) fn serve_job(alloc: Global, options: &ArgMatches<'_>) -> Result<Job, WordsFault> {
+    let Some(key) = log_key_if_one(alloc, options)? else {
+        return Err(unfit(alloc, serve(alloc)?, EITHER_KEY));
+    };
     Ok(Job::Serve(ServeOptions {
         origin: text_of(alloc, options, "origin")?,
-        key: log_key(alloc, options)?,
+        key,
         server: listen_options(alloc, options)?,
         lanes: options.get_one::<u64>("lanes").unwrap_or(LANES),
         capacity: options.get_one::<u64>("capacity").unwrap_or(CAPACITY),
@@ -115,6 +110,7 @@ pub(super) fn witness<'a>(alloc: Global) -> Result<Command<'a>, AllocError> {
     let secret = "The secret of the log's demonstration key";
     let name = "The name of the witness's demonstration key";
     let time = "The seconds since 1970 to cosign with, in place of the machine's clock";
+    let state = "The file of what it cosigned, in place of standard input and output";
     let command = Command::new(alloc, "witness")
         .about("Serves a witness, which cosigns each checkpoint of a log that extends the last one")
         .after_help(texts::WITNESS)
@@ -129,7 +125,8 @@ pub(super) fn witness<'a>(alloc: Global) -> Result<Command<'a>, AllocError> {
             "FILE",
             "The file with the witness's private key",
         ))?
-        .arg(optional(alloc, "time", time))?;
+        .arg(optional(alloc, "time", time))?
+        .arg(option(alloc, "state", "FILE", state))?;
     server(alloc, command)
 }
 
@@ -169,6 +166,7 @@ pub(super) fn witness_job(alloc: Global, options: &ArgMatches<'_>) -> Result<Job
         log_key: known_key(alloc, options)?,
         key: cosigner_key(alloc, options)?,
         time: options.get_one::<u64>("time"),
+        state: text_if_given(alloc, options, "state")?,
         server: listen_options(alloc, options)?,
     }))
 }

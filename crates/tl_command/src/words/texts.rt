@@ -15,12 +15,25 @@ or a call for help; 3 a read or a write failed. A refusal is one line 'tlog: ..'
 
 pub(super) const BUILD: &str = "Input: the entries of the log, one a line, as for 'tlog head'.
 Output: a line 'PATH LENGTH' for each resource of the log (C2SP tlog-tiles): its tiles of hashes, its entry bundles and
-its checkpoint. With --get the bytes of the resource with that path. The checkpoint is a signed note: with --key by the
-private key in that file, as 'tlog keygen' prints it, whose name is the origin; with --secret by a key for
+its checkpoint. With --get the bytes of the resource with that path. With --dir all of them are written into a folder in
+which there is no log yet, as by 'tlog append', and the output is 'SIZE ROOT'. The checkpoint is a signed note: with
+--key by the private key in that file, as 'tlog keygen' prints it, whose name is the origin; with --secret by a key for
 demonstrations alone, HMAC with SHA-256 under the secret. One of the two is given.
 Exit status: 0 done; 1 refused (a bad key, a bad origin, no such path, not there, input too large, an entry too long,
 out of memory); 2 wrong arguments or a call for help; 3 a read or a write failed. A refusal is one line 'tlog: ..' on
 standard error.";
+
+pub(super) const APPEND: &str =
+    "Input: entries, one a line, each of at most 65,535 bytes. A last line without a newline
+counts if it isn't empty. The input has no limit.
+Appends them to the log in the folder, which begins one where it has none: its files are the log's resources (C2SP
+tlog-tiles), which any web server can serve. It is published after each N entries of --batch, and at the end: the tiles
+and bundles are written first and the checkpoint after them, so that a crash at any moment leaves a checkpoint with all
+that it needs. Run again, it goes on from there. One process at a time works on a folder.
+Output: 'SIZE ROOT' for each publication, once it outlasts a crash. The checkpoint is signed as by 'tlog build'.
+Exit status: 0 done; 1 refused (a bad key, a bad origin, a bad checkpoint, a bundle not there, an entry too long, in use,
+the operator refused, signing failed, out of memory); 2 wrong arguments or a call for help; 3 a read or a write failed.
+A refusal is one line 'tlog: ..' on standard error.";
 
 pub(super) const INCLUSION: &str = "Input: the entries of the log, one a line, as for 'tlog head'.
 Output: lines 'inclusion', 'index I', 'size N', 'leaf HASH', 'root HASH', and the hashes of the proof (RFC 6962,
@@ -82,9 +95,10 @@ Serves a witness of one log over HTTP (C2SP tlog-witness, tlog-cosignature): 'li
 where. Output: a line for each new checkpoint that it cosigns, before it answers: size, root, the hashes of the proof
 from the one before, and the log's name. The log is known by --log-key or, for demonstrations, by --secret; the witness
 cosigns by the private key in the file of --key, as 'tlog keygen --cosigner' prints it, or, for demonstrations, by
---name and --witness-secret.
+--name and --witness-secret. With --state those lines are read from that file, and each is written to it, and outlasts
+a crash, before the answer.
 Defaults: --timeout 10, as many threads as the machine has processors, any number of connections, and the machine's
 clock for the time of a cosignature.
-Exit status: 0 done; 1 refused (a bad key, a bad origin, a bad name, line K of the input refused, out of memory); 2
-wrong arguments or a call for help; 3 a read, a write, the address or an accept failed. A refusal is one line 'tlog: ..'
-on standard error.";
+Exit status: 0 done; 1 refused (a bad key, a bad origin, a bad name, line K of the input refused, in use, out of
+memory); 2 wrong arguments or a call for help; 3 a read, a write, the address or an accept failed. A refusal is one line
+'tlog: ..' on standard error.";

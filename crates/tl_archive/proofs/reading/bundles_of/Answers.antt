@@ -6,7 +6,7 @@ pub bundle_at-requires-clause-within : goal.bundle_at-requires-clause-within
 bundle_at-requires-clause-within g c = omega (arith, c.loop-place-test.true, counted c.args.size)
 
 pub returns-clause-all : goal.returns-clause-all
-returns-clause-all g c = record {
+returns-clause-all g c = λ honest. record {
   count = omega (arith, c.loop-place.invariant.count, c.loop-place-test.false, counted c.args.size);
-  each = c.loop-place.invariant.each;
+  each = c.loop-place.invariant.each honest;
 }

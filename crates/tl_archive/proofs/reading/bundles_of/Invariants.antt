@@ -1,4 +1,4 @@
-use Rattle.std.proofs.Common.{◌≡◌, ℕ, ◌<◌, [], length, map, vec_items}
+use Rattle.std.proofs.Common.{◌≡◌, ℕ, ◌<◌, true, [], length, map, vec_items}
 use Rattle.std.specs.Prelude.{Some, slice_index_or}
 use Rattle.tl_tile.specs.declared.resource.Resource.TheVariants as resource
 use Rattle.tl_publisher.specs.Resuming.{bundle_width}
@@ -7,5 +7,5 @@ use Rattle.tl_archive.proofs.reading.bundles_of.Given as goal
 abbrev pub invariant-loop-place : goal.invariant-loop-place
 invariant-loop-place g l = record {
   count : length (map vec_items l.bundles.items) ≡ l.place;
-  each : (i : ℕ) → i < length (map vec_items l.bundles.items) → (g.S.Shelf.kept l.shelf).held (resource.Entries i (bundle_width l.size i)) ≡ Some (slice_index_or (map vec_items l.bundles.items) i []);
+  each : g.S.Shelf.is_honest ≡ true → (i : ℕ) → i < length (map vec_items l.bundles.items) → (g.S.Shelf.kept l.shelf).held (resource.Entries i (bundle_width l.size i)) ≡ Some (slice_index_or (map vec_items l.bundles.items) i []);
 }

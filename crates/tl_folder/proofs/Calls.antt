@@ -1,0 +1,92 @@
+-- One call more.
+use Rattle.std.proofs.Common.{◌≡◌, ℕ, ◌+◌, true, false, inl, ◌⊎◌, List, [], ◌∷◌, ◌++◌, length, Some, refl, sym, ap, subst, ◌∙◌, arith}
+use Rattle.std.specs.Prelude.{Bool, Contains, if◌then◌else◌}
+use Rattle.tl_tile.specs.declared.resource.Resource.{Resource}
+use Rattle.tl_archive.specs.Shelves.{Kept, Stages, Unstages, Settles}
+use Rattle.tl_folder.specs.declared.step.Step.TheVariants as step
+use Rattle.tl_folder.specs.Events.{Event}
+use Rattle.tl_folder.specs.Folders.{Reached, Calls, put, after_call, after_calls, after_each}
+use Rattle.tl_folder.proofs.Puts.{put_between, put_there}
+
+-- ---- after one call more
+
+pub calls_more : (reached : Reached) (n : ℕ) (events : List Event) (event : Event) (kept : Kept)
+    → after_calls reached n (events ++ event ∷ []) kept ≡ after_call reached (n + length events) event (after_calls reached n events kept)
+calls_more reached n [] event kept = ap (λ (m : ℕ). after_call reached m event kept) (omega arith)
+calls_more reached n (first ∷ more) event kept =
+    calls_more reached (n + 1) more event (after_call reached n first kept)
+    ∙ ap (λ (m : ℕ). after_call reached m event (after_calls reached (n + 1) more (after_call reached n first kept))) (omega arith)
+
+pub each_more : (reached : Reached) (n : ℕ) (events : List Event) (event : Event) (kept : Kept)
+    → after_each reached n (events ++ event ∷ []) kept ≡ after_each reached n events kept ++ after_calls reached n (events ++ event ∷ []) kept ∷ []
+each_more reached n [] event kept = refl
+each_more reached n (first ∷ more) event kept =
+    ap (λ (x : List Kept). after_call reached n first kept ∷ x) (each_more reached (n + 1) more event (after_call reached n first kept))
+
+-- ---- what each call makes of it
+
+part : (b : Bool) (kept : Kept) (r : Resource) → (let now = (if b then put kept.staged kept.held r else kept.held r) in (now ≡ kept.held r) ⊎ ((bytes : List ℕ) × (now ≡ Some bytes) × Contains kept.staged (r, bytes)))
+part true kept r = put_between kept.staged kept.held r
+part false kept r = inl refl
+
+pub staged_after : (reached : Reached) (events : List Event) (r : Resource) (bytes : List ℕ) (kept : Kept)
+    → Stages (after_calls reached 0 events kept) (after_calls reached 0 (events ++ (step.Staged r, bytes) ∷ []) kept) r bytes
+staged_after reached events r bytes kept =
+    let a : Kept = after_calls reached 0 events kept in
+    subst (λ (b : Kept). Stages a b r bytes) (sym (calls_more reached 0 events (step.Staged r, bytes) kept)) (record { held = refl; staged = refl })
+
+pub failed_after : (reached : Reached) (events : List Event) (bytes : List ℕ) (kept : Kept)
+    → after_calls reached 0 (events ++ (step.Failed, bytes) ∷ []) kept ≡ after_calls reached 0 events kept
+failed_after reached events bytes kept = calls_more reached 0 events (step.Failed, bytes) kept
+
+pub settled_after : (reached : Reached) (events : List Event) (bytes : List ℕ) (kept : Kept)
+    → Settles (after_calls reached 0 events kept) (after_calls reached 0 (events ++ (step.Settled, bytes) ∷ []) kept)
+settled_after reached events bytes kept =
+    let a : Kept = after_calls reached 0 events kept in
+    subst (λ (b : Kept). Settles a b) (sym (calls_more reached 0 events (step.Settled, bytes) kept))
+    (record { unstages = record { others = put_between a.staged a.held; staged = refl }; there = put_there a.staged a.held })
+
+pub cut_after : (reached : Reached) (events : List Event) (bytes : List ℕ) (kept : Kept)
+    → Unstages (after_calls reached 0 events kept) (after_calls reached 0 (events ++ (step.Cut, bytes) ∷ []) kept)
+cut_after reached events bytes kept =
+    let a : Kept = after_calls reached 0 events kept in
+    subst (λ (b : Kept). Unstages a b) (sym (calls_more reached 0 events (step.Cut, bytes) kept))
+    (record { others = λ r. part (reached (0 + length events) r) a r; staged = refl })
+
+-- ---- the same of a folder: what it noted before, and with the call
+
+joined : (inside events now : List Event) (event : Event) → inside ≡ events → now ≡ inside ++ event ∷ [] → now ≡ events ++ event ∷ []
+joined inside events now event same is = is ∙ ap (λ (x : List Event). x ++ event ∷ []) same
+
+pub now_staged : (reached : Reached) (inside events now : List Event) (r : Resource) (bytes : List ℕ) (kept : Kept) → inside ≡ events → now ≡ inside ++ (step.Staged r, bytes) ∷ []
+    → Stages (after_calls reached 0 events kept) (after_calls reached 0 now kept) r bytes
+now_staged reached inside events now r bytes kept same is =
+    subst (λ (x : List Event). Stages (after_calls reached 0 events kept) (after_calls reached 0 x kept) r bytes) (sym (joined inside events now (step.Staged r, bytes) same is))
+    (staged_after reached events r bytes kept)
+
+pub now_failed : (reached : Reached) (inside events now : List Event) (bytes : List ℕ) (kept : Kept) → inside ≡ events → now ≡ inside ++ (step.Failed, bytes) ∷ []
+    → after_calls reached 0 now kept ≡ after_calls reached 0 events kept
+now_failed reached inside events now bytes kept same is =
+    ap (λ (x : List Event). after_calls reached 0 x kept) (joined inside events now (step.Failed, bytes) same is) ∙ failed_after reached events bytes kept
+
+pub now_settled : (reached : Reached) (inside events now : List Event) (bytes : List ℕ) (kept : Kept) → inside ≡ events → now ≡ inside ++ (step.Settled, bytes) ∷ []
+    → Settles (after_calls reached 0 events kept) (after_calls reached 0 now kept)
+now_settled reached inside events now bytes kept same is =
+    subst (λ (x : List Event). Settles (after_calls reached 0 events kept) (after_calls reached 0 x kept)) (sym (joined inside events now (step.Settled, bytes) same is))
+    (settled_after reached events bytes kept)
+
+pub now_cut : (reached : Reached) (inside events now : List Event) (bytes : List ℕ) (kept : Kept) → inside ≡ events → now ≡ inside ++ (step.Cut, bytes) ∷ []
+    → Unstages (after_calls reached 0 events kept) (after_calls reached 0 now kept)
+now_cut reached inside events now bytes kept same is =
+    subst (λ (x : List Event). Unstages (after_calls reached 0 events kept) (after_calls reached 0 x kept)) (sym (joined inside events now (step.Cut, bytes) same is))
+    (cut_after reached events bytes kept)
+
+pub each_now : (reached : Reached) (inside events now : List Event) (event : Event) (kept : Kept) → inside ≡ events → now ≡ inside ++ event ∷ []
+    → after_each reached 0 now kept ≡ after_each reached 0 events kept ++ after_calls reached 0 now kept ∷ []
+each_now reached inside events now event kept same is =
+    subst (λ (x : List Event). after_each reached 0 x kept ≡ after_each reached 0 events kept ++ after_calls reached 0 x kept ∷ []) (sym (joined inside events now event same is))
+    (each_more reached 0 events event kept)
+
+-- what a folder noted is what its model has
+pub same_events : (events : List Event) (failures : ℕ) (shown : Calls) → ◌≡◌ {A = Calls} (record { events = events; failures = failures }) shown → events ≡ shown.events
+same_events events failures shown is = ap (λ (x : Calls). x.events) is

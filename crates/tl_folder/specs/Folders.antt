@@ -1,0 +1,54 @@
+-- A folder as a shelf: what its calls made of what it had.
+use Rattle.std.specs.Prelude.{ℕ, ◌+◌, Bool, true, false, List, [], ◌∷◌, ◌++◌, Some, ◌==◌, if◌then◌else◌}
+use Rattle.tl_tile.specs.declared.resource.Resource.{Resource}
+use Rattle.tl_tile.specs.declared.resource.Resource.TheVariants as resource
+use Rattle.tl_archive.specs.Shelves.{Item, Held, Kept}
+use Rattle.tl_folder.specs.declared.step.Step.TheVariants as step
+use Rattle.tl_folder.specs.Events.{Event}
+
+-- whether two resources are the same
+abbrev pub is_same : Resource → Resource → Bool
+is_same (resource.Tile a) (resource.Tile b) = if a.level == b.level then (if a.index == b.index then a.width == b.width else false) else false
+is_same (resource.Tile a) (resource.Entries index width) = false
+is_same (resource.Tile a) resource.Checkpoint = false
+is_same (resource.Entries i w) (resource.Tile b) = false
+is_same (resource.Entries i w) (resource.Entries index width) = if i == index then w == width else false
+is_same (resource.Entries i w) resource.Checkpoint = false
+is_same resource.Checkpoint (resource.Tile b) = false
+is_same resource.Checkpoint (resource.Entries index width) = false
+is_same resource.Checkpoint resource.Checkpoint = true
+
+-- what is there after these bytes came under their resources, one after another
+abbrev pub put : List Item → Held → Held
+put [] held = held
+put (item ∷ more) held = put more (λ r. if is_same r item.0 then Some item.1 else held r)
+
+-- of which resources the settling that is the n-th call replaced the bytes, where it failed
+abbrev pub Reached : Type 0
+Reached = ℕ → Resource → Bool
+
+-- what the n-th call made of it
+abbrev pub after_call : Reached → ℕ → Event → Kept → Kept
+after_call reached n (step.Staged r, bytes) kept = record { held = kept.held; staged = kept.staged ++ (r, bytes) ∷ [] }
+after_call reached n (step.Settled, bytes) kept = record { held = put kept.staged kept.held; staged = [] }
+after_call reached n (step.Cut, bytes) kept = record { held = (λ r. if reached n r then put kept.staged kept.held r else kept.held r); staged = [] }
+after_call reached n (step.Failed, bytes) kept = kept
+
+-- what the calls made of it, of which the first is the n-th
+abbrev pub after_calls : Reached → ℕ → List Event → Kept → Kept
+after_calls reached n [] kept = kept
+after_calls reached n (event ∷ more) kept = after_calls reached (n + 1) more (after_call reached n event kept)
+
+-- what it was after each of them
+abbrev pub after_each : Reached → ℕ → List Event → Kept → List Kept
+after_each reached n [] kept = []
+after_each reached n (event ∷ more) kept = after_call reached n event kept ∷ after_each reached (n + 1) more (after_call reached n event kept)
+
+-- at first nothing is staged
+abbrev pub at_first : Held → Kept
+at_first held = record { held = held; staged = [] }
+
+-- a folder, by its calls so far and how many of them failed
+pub record Calls : Type 0 where
+  pub events : List Event
+  pub failures : ℕ

@@ -1,0 +1,26 @@
+//! What of a folder no contract tells.
+
+/// What a folder had before its first call, and of which resources a settling that failed replaced the bytes. No call
+/// of a system tells that: what is stated of a folder holds for every disk.
+pub trait Disk {
+    ghost use Rattle.tl_archive.specs.Shelves.{Held};
+    ghost use Rattle.tl_folder.specs.Folders.{Reached};
+
+    /// What the folder had at first.
+    ghost held: { Held };
+
+    /// Of which resources the n-th call, where it was a settling that failed, replaced the bytes.
+    ghost reached: { Reached };
+}
+
+/// The disk of a program: code over any disk is the same code.
+#[derive(Clone, Copy, Debug)]
+pub struct AnyDisk;
+
+impl Disk for AnyDisk {
+    ghost use Rattle.std.specs.Prelude.{None, false};
+
+    ghost held = { λ _. None };
+
+    ghost reached = { λ _ _. false };
+}

@@ -1,0 +1,207 @@
+//! The files of a folder: each is written beside its place, and all that were written are put there together.
+
+ghost use Rattle.tl_tile.specs.Path.{IsResource};
+
+use crate::fault::FileFault;
+use std::alloc::{AllocError, Allocator, Global};
+use std::fs::{File, Files, OpenFile, create_dir_all, rename};
+use std::io::{ErrorKind, Write};
+use std::mem;
+use std::path::Path;
+use tl_archive::ShelfReadFault;
+use tl_device::{Counted, InputFault, read_whole};
+use tl_tile::{Resource, path_of};
+
+// The most bytes of a resource: those of a bundle of 256 of the longest entries.
+const LONGEST: u64 = 256 * 65_537;
+
+/// A file that was written beside its place.
+#[derive(Drop)]
+struct Staged {
+    beside: String,
+    place: String,
+}
+
+/// The files under a folder.
+#[derive(Drop)]
+pub(crate) struct FolderFiles<H> {
+    files: H,
+    alloc: Global,
+    root: String,
+    staged: Vec<Staged>,
+    // The folders in which files are put by the next settling, or folders were made for them.
+    changed: Vec<String>,
+    // Whether a settling failed: what of it outlasts a crash isn't known then.
+    is_broken: bool,
+}
+
+// Has what the file or folder at this path has outlast a crash.
+fn sync<H: Files>(files: &H, path: &str) -> Result<(), FileFault> {
+    let file = File::open(files, path)?;
+    file.sync_all()?;
+    Ok(())
+}
+
+/// Has the name of a file or folder at this path outlast a crash.
+pub(crate) fn sync_parent<H: Files>(files: &H, path: &str) -> Result<(), FileFault> {
+    let Some(parent) = Path::new(path).parent() else {
+        return Ok(());
+    };
+    let parent = parent.as_str();
+    sync(files, if parent.is_empty() { "." } else { parent })
+}
+
+// Has what each of the files has outlast a crash.
+fn sync_staged<H: Files>(files: &H, staged: &[Staged]) -> Result<(), FileFault> {
+    for file in staged {
+        sync(files, file.beside.as_str())?;
+    }
+    Ok(())
+}
+
+// Puts each of the files in its place.
+fn place_staged<H: Files>(files: &H, staged: &[Staged]) -> Result<(), FileFault> {
+    for file in staged {
+        rename(files, file.beside.as_str(), file.place.as_str())?;
+    }
+    Ok(())
+}
+
+// Has the names in each of the folders outlast a crash.
+fn sync_folders<H: Files>(files: &H, folders: &[String]) -> Result<(), FileFault> {
+    for folder in folders {
+        sync(files, folder.as_str())?;
+    }
+    Ok(())
+}
+
+// Writes a new file, in place of one that may be there.
+fn write_file<H: Files>(files: &H, path: &str, bytes: &[u8]) -> Result<(), ErrorKind> {
+    let mut file = match File::create(files, path) {
+        Ok(file) => file,
+        Err(error) => return Err(error.kind()),
+    };
+    match file.write_all(bytes) {
+        Ok(()) => Ok(()),
+        Err(error) => Err(error.kind()),
+    }
+}
+
+// Writes a new file, and makes its folder where it isn't there.
+fn write_in_folder<H: Files>(files: &H, path: &str, bytes: &[u8]) -> Result<(), FileFault> {
+    match write_file(files, path, bytes) {
+        Ok(()) => return Ok(()),
+        Err(ErrorKind::NotFound) => {}
+        Err(_) => return Err(FileFault::System),
+    }
+    if let Some(folder) = Path::new(path).parent() {
+        create_dir_all(files, folder)?;
+    }
+    match write_file(files, path, bytes) {
+        Ok(()) => Ok(()),
+        Err(_) => Err(FileFault::System),
+    }
+}
+
+// Whether the folder is among these.
+fn has(folders: &[String], folder: &str) -> bool {
+    for it in folders {
+        if it.as_str() == folder {
+            return true;
+        }
+    }
+    false
+}
+
+impl<H: Files + Drop> FolderFiles<H> {
+    /// The files under this folder, which is made where it isn't there.
+    pub(crate) fn open(files: H, alloc: Global, root: &str) -> Result<FolderFiles<H>, FileFault> {
+        create_dir_all(&files, root)?;
+        sync_parent(&files, root)?;
+        Ok(FolderFiles {
+            files,
+            alloc,
+            root: String::from_str(alloc, root.trim_end_matches('/'))?,
+            staged: Vec::new(alloc),
+            changed: Vec::new(alloc),
+            is_broken: false,
+        })
+    }
+
+    // The path of a resource's file.
+    fn place_of(&self, resource: &Resource) -> Result<String, AllocError>
+        requires { IsResource resource.now }
+    {
+        let mut place = String::from_str(self.alloc, self.root.as_str())?;
+        place.push_str("/")?;
+        place.push_str(path_of(self.alloc, resource)?.as_str())?;
+        Ok(place)
+    }
+
+    // Notes the folders that change where a file is put in this place: its own, and those above it up to the root.
+    fn note_changed(&mut self, place: &str) -> Result<(), AllocError> {
+        for folder in Path::new(place).ancestors().skip(1) {
+            let folder = folder.as_str();
+            if folder.len() < self.root.len() || has(self.changed.as_slice(), folder) {
+                return Ok(());
+            }
+            self.changed.push(String::from_str(self.alloc, folder)?)?;
+        }
+        Ok(())
+    }
+
+    /// Writes the bytes beside the place of a resource.
+    pub(crate) fn stage(&mut self, resource: &Resource, bytes: &[u8]) -> Result<(), FileFault>
+        requires { IsResource resource.now }
+    {
+        if self.is_broken {
+            return Err(FileFault::System);
+        }
+        let place = self.place_of(resource)?;
+        let beside = format!(in self.alloc; "{place}.new")?;
+        self.note_changed(place.as_str())?;
+        self.staged.reserve(1)?;
+        write_in_folder(&self.files, beside.as_str(), bytes)?;
+        self.staged.push_reserved(Staged { beside, place });
+        Ok(())
+    }
+
+    /// Puts all files that were written beside their places there. It waits for the disk: what it wrote outlasts a
+    /// crash. After a failure every call fails.
+    pub(crate) fn settle(&mut self) -> Result<(), FileFault> {
+        if self.is_broken {
+            return Err(FileFault::System);
+        }
+        let staged = mem::replace(&mut self.staged, Vec::new(self.alloc));
+        let changed = mem::replace(&mut self.changed, Vec::new(self.alloc));
+        self.is_broken = true;
+        sync_staged(&self.files, staged.as_slice())?;
+        place_staged(&self.files, staged.as_slice())?;
+        sync_folders(&self.files, changed.as_slice())?;
+        self.is_broken = false;
+        Ok(())
+    }
+
+    /// The bytes of a resource's file, `None` where there is none.
+    pub(crate) fn read<A: Allocator>(
+        &self,
+        alloc: A,
+        resource: &Resource,
+    ) -> Result<Option<Vec<u8, A>>, ShelfReadFault>
+        requires { IsResource resource.now }
+    {
+        let Ok(place) = self.place_of(resource) else {
+            return Err(ShelfReadFault::OutOfMemory);
+        };
+        let file = match File::open(&self.files, place.as_str()) {
+            Ok(file) => file,
+            Err(error) if error.kind() == ErrorKind::NotFound => return Ok(None),
+            Err(_) => return Err(ShelfReadFault::Shelf),
+        };
+        match read_whole(alloc, &mut Counted::new(file), LONGEST) {
+            Ok(bytes) => Ok(Some(bytes)),
+            Err(InputFault::OutOfMemory) => Err(ShelfReadFault::OutOfMemory),
+            Err(_) => Err(ShelfReadFault::Shelf),
+        }
+    }
+}

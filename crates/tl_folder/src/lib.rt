@@ -1,0 +1,19 @@
+//! A log in a folder that outlasts a crash: a shelf whose resources are files in the layout of C2SP tlog-tiles, a file
+//! of lines each of which outlasts a crash before it is answered, and locks on both.
+#![tactic(auto)]
+
+mod disk;
+mod fault;
+mod files;
+mod lines;
+mod lock;
+mod record;
+mod shelf;
+mod step;
+
+pub use disk::{AnyDisk, Disk};
+pub use fault::FileFault;
+pub use lines::{LineFile, SyncedFile, open_lines};
+pub use lock::{FolderLock, lock_folder};
+pub use shelf::FolderShelf;
+pub use step::Step;

@@ -1,0 +1,50 @@
+//! The calls of a folder so far, for clauses alone.
+
+ghost use Rattle.std.specs.Prelude.{◌≡◌, [], ◌∷◌, ◌++◌, map};
+ghost use Rattle.tl_folder.specs.Events.{noted};
+
+use crate::step::Step;
+use http_server::Log;
+use std::marker::Model;
+
+/// What came of each call so far. It takes no memory.
+#[derive(Drop)]
+pub(crate) struct Record {
+    log: Log<Step, Log<(), u8>>,
+}
+
+impl Model for Record {
+    ghost use Rattle.std.specs.Prelude.{List, map};
+    ghost use Rattle.tl_folder.specs.Events as seen;
+
+    ghost Value = { List seen.Event };
+
+    ghost view = { λ r. map seen.event_of r.log.items };
+}
+
+/// Notes bytes, for clauses alone.
+pub(crate) fn note_bytes(note: &mut Log<(), u8>, bytes: &[u8])
+    ensures { noted note.new ≡ noted note.old ++ bytes.now }
+{
+    for byte in bytes {
+        *note = note.and(&(), byte);
+    }
+}
+
+impl Record {
+    /// No call yet.
+    pub(crate) fn new() -> Record
+        ensures { result ≡ [] }
+    {
+        Record { log: Log::new() }
+    }
+
+    /// Notes what came of a call, and the bytes that it staged.
+    pub(crate) fn note(&mut self, step: Step, bytes: &[u8])
+        ensures { self.new ≡ self.old ++ (step, bytes.now) ∷ [] }
+    {
+        let mut note = Log::new();
+        note_bytes(&mut note, bytes);
+        self.log = self.log.and(&step, &note);
+    }
+}

@@ -1,0 +1,102 @@
+//! A shelf in a folder.
+
+ghost use Rattle.std.specs.Prelude.{◌≡◌, [], IfOk};
+
+use crate::disk::Disk;
+use crate::fault::FileFault;
+use crate::files::FolderFiles;
+use crate::record::Record;
+use crate::step::Step;
+use std::alloc::{Allocator, Global};
+use std::fs::Files;
+use std::marker::Model;
+use tl_archive::{Shelf, ShelfFault, ShelfReadFault};
+use tl_tile::Resource;
+
+/// A folder with a log in the layout of C2SP tlog-tiles: the path of each resource is that of its file. A file is
+/// written beside its place under the name with `.new`. Where a settling fails, each later call fails: what outlasts a
+/// crash isn't known then.
+#[derive(Drop)]
+pub struct FolderShelf<D, H> {
+    disk: D,
+    files: FolderFiles<H>,
+    calls: Record,
+    failures: u64,
+}
+
+impl<D, H> Model for FolderShelf<D, H> {
+    ghost use Rattle.tl_folder.specs.Folders as seen;
+
+    ghost Value = { seen.Calls };
+
+    ghost view = { λ s. record { events = s.calls; failures = s.failures } };
+}
+
+impl<D: Disk + Drop, H: Files + Drop> FolderShelf<D, H> {
+    /// The folder at this path, which is made where it isn't there.
+    pub fn open(
+        disk: D,
+        files: H,
+        alloc: Global,
+        path: &str,
+    ) -> Result<FolderShelf<D, H>, FileFault>
+        ensures { IfOk result (λ shelf. shelf ≡ record { events = []; failures = 0 }) }
+    {
+        let files = FolderFiles::open(files, alloc, path)?;
+        Ok(FolderShelf {
+            disk,
+            files,
+            calls: Record::new(),
+            failures: 0,
+        })
+    }
+}
+
+impl<D: Disk, H: Files + Drop> Shelf for FolderShelf<D, H> {
+    ghost use Rattle.std.specs.Prelude.{false};
+    ghost use Rattle.tl_folder.specs.Folders.{after_calls, after_each, at_first};
+
+    ghost kept = { λ s. after_calls D.reached 0 s.events (at_first D.held) };
+
+    ghost trace = { λ s. after_each D.reached 0 s.events (at_first D.held) };
+
+    ghost faults = { λ s. s.failures };
+
+    ghost is_honest = { false };
+
+    fn stage(&mut self, resource: &Resource, bytes: &[u8]) -> Result<(), ShelfFault> {
+        match self.files.stage(resource, bytes) {
+            Ok(()) => {
+                self.calls.note(Step::Staged(*resource), bytes);
+                Ok(())
+            }
+            Err(_) => {
+                self.calls.note(Step::Failed, &[]);
+                self.failures = self.failures.saturating_add(1);
+                Err(ShelfFault)
+            }
+        }
+    }
+
+    fn settle(&mut self) -> Result<(), ShelfFault> {
+        match self.files.settle() {
+            Ok(()) => {
+                self.calls.note(Step::Settled, &[]);
+                Ok(())
+            }
+            Err(_) => {
+                self.calls.note(Step::Cut, &[]);
+                self.failures = self.failures.saturating_add(1);
+                Err(ShelfFault)
+            }
+        }
+    }
+
+    fn read<A: Allocator>(
+        &self,
+        alloc: A,
+        resource: &Resource,
+    ) -> Result<Option<Vec<u8, A>>, ShelfReadFault> {
+        self.files.read(alloc, resource)
+    }
+}

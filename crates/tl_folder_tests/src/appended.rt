@@ -1,0 +1,159 @@
+//! A log that is appended to in a folder, cut off after each call, and gone on with.
+
+use crate::failing::Calls;
+use crate::room::{append, are_alike, file, leave, lines, options, room};
+use std::alloc::Global;
+use std::str;
+use std::test::Fail;
+use tl_checkpoint::parse;
+use tl_command::RunFault;
+use tl_note::parse_note;
+use tl_serve::Host;
+
+// How many entries the checkpoint in a folder has; none where there is none.
+fn size_in<H: Host>(rt: &H, alloc: Global, dir: &str) -> Option<u64> {
+    let bytes = file(rt, alloc, dir, "checkpoint")?;
+    let note = str::from_utf8(bytes.as_slice()).ok()?;
+    let note = parse_note(alloc, note).ok()?;
+    Some(parse(alloc, note.text).ok()?.size)
+}
+
+// The size in the last whole line of what was printed.
+fn printed_size(text: &[u8]) -> u64 {
+    let Ok(text) = str::from_utf8(text) else {
+        return 0;
+    };
+    let mut size = 0;
+    for line in text.lines() {
+        if let Some((number, _root)) = line.split_once(' ') {
+            size = number.parse::<u64>().unwrap_or(0);
+        }
+    }
+    size
+}
+
+// Whether a log of so many entries that is cut off at a call, or of which one fails, is gone on with to the same log as
+// without; and whether the call was reached.
+fn is_gone_on_with<H: Host>(
+    rt: &H,
+    alloc: Global,
+    whole: &str,
+    size: u64,
+    batch: u64,
+    turn: u64,
+) -> Result<(bool, bool), Fail> {
+    let dir = room(rt, alloc, "cut")?;
+    let options = options(alloc, dir.as_str(), batch)?;
+    let calls = Calls::in_turn(turn);
+    let (printed, _ended) = append(
+        rt,
+        alloc,
+        &options,
+        lines(alloc, 0, size)?.as_slice(),
+        &calls,
+    );
+    let found = size_in(rt, alloc, dir.as_str());
+    let is_kept = printed_size(printed.as_slice()) <= found.unwrap_or(0);
+    let rest = lines(alloc, found.unwrap_or(0), size)?;
+    let (_printed, ended) = append(rt, alloc, &options, rest.as_slice(), &Calls::in_turn(0));
+    let is_same = are_alike(rt, alloc, dir.as_str(), whole, size);
+    leave(rt, alloc, dir.as_str());
+    Ok((is_kept && ended.is_ok() && is_same, calls.has_failed()))
+}
+
+// A log of so many entries that was appended to without a cut.
+fn uncut<H: Host>(rt: &H, alloc: Global, size: u64) -> Result<String, Fail> {
+    let dir = room(rt, alloc, "whole")?;
+    let options = options(alloc, dir.as_str(), 65_536)?;
+    let input = lines(alloc, 0, size)?;
+    let _ = append(rt, alloc, &options, input.as_slice(), &Calls::in_turn(0));
+    Ok(dir)
+}
+
+// The first turn that is not gone on with, of each so many from the first on; none where each is.
+fn first_lost<H: Host>(
+    rt: &H,
+    alloc: Global,
+    size: u64,
+    batch: u64,
+    stride: u64,
+) -> Result<Option<u64>, Fail> {
+    let whole = uncut(rt, alloc, size)?;
+    let mut lost = None;
+    for number in 0..1_000_000u64 {
+        let turn = number.saturating_mul(stride).saturating_add(1);
+        let (is_right, is_reached) = is_gone_on_with(rt, alloc, whole.as_str(), size, batch, turn)?;
+        if !is_right {
+            lost = Some(turn);
+        }
+        if !is_right || !is_reached {
+            break;
+        }
+    }
+    leave(rt, alloc, whole.as_str());
+    Ok(lost)
+}
+
+#[test]
+fn small_logs_at_each_call(rt: HostRuntime) -> Result<(), Fail> {
+    for size in [0, 1, 3] {
+        assert_eq!(rt; first_lost(&rt, rt.alloc(), size, 1, 1)?, None);
+    }
+    Ok(())
+}
+
+#[test]
+fn a_log_of_255_by_100_at_each_5th_turn(rt: HostRuntime) -> Result<(), Fail> {
+    assert_eq!(rt; first_lost(&rt, rt.alloc(), 255, 100, 5)?, None);
+    Ok(())
+}
+
+#[test]
+fn logs_of_a_bundle_at_each_5th_turn(rt: HostRuntime) -> Result<(), Fail> {
+    for size in [256, 257] {
+        assert_eq!(rt; first_lost(&rt, rt.alloc(), size, 256, 5)?, None);
+    }
+    Ok(())
+}
+
+#[test]
+fn a_log_of_600_by_256_at_each_25th_turn(rt: HostRuntime) -> Result<(), Fail> {
+    assert_eq!(rt; first_lost(&rt, rt.alloc(), 600, 256, 25)?, None);
+    Ok(())
+}
+
+#[test]
+fn a_log_of_5000_cut_off_once(rt: HostRuntime) -> Result<(), Fail> {
+    let alloc = rt.alloc();
+    let dir = room(&rt, alloc, "large")?;
+    let options = options(alloc, dir.as_str(), 4_096)?;
+    let calls = Calls::in_turn(460);
+    let input = lines(alloc, 0, 5_000)?;
+    let (_printed, ended) = append(&rt, alloc, &options, input.as_slice(), &calls);
+    assert_eq!(rt; ended, Err(RunFault::Write));
+    let found = size_in(&rt, alloc, dir.as_str()).unwrap_or(0);
+    assert_eq!(rt; found, 4_096);
+    let rest = lines(alloc, found, 5_000)?;
+    let none = Calls::in_turn(0);
+    let (printed, ended) = append(&rt, alloc, &options, rest.as_slice(), &none);
+    assert_eq!(rt; ended, Ok(()));
+    let last = b"5000 L61YEuH05hogGNCJvefD+wXBrFqJEYrJXANdWJMQRak=\n";
+    assert!(rt; printed.as_slice().ends_with(last));
+    leave(&rt, alloc, dir.as_str());
+    Ok(())
+}
+
+#[test]
+fn sizes_and_roots_are_printed(rt: HostRuntime) -> Result<(), Fail> {
+    let alloc = rt.alloc();
+    let dir = room(&rt, alloc, "printed")?;
+    let options = options(alloc, dir.as_str(), 1)?;
+    let (printed, ended) = append(&rt, alloc, &options, b"a cat\na dog", &Calls::in_turn(0));
+    assert!(rt; ended.is_ok());
+    let text =
+        b"1 ey1zIHofedE24p/S84gFHWKZSKXZbiB3nXb3pTGSwKI=\n2 ljJfTiUpUkTmfB+YodqX8yFkr11B8XbdqYVRAg28/Wo=\n";
+    assert_eq!(rt; printed.as_slice(), text.as_slice());
+    assert_eq!(rt; size_in(&rt, alloc, dir.as_str()), Some(2));
+    leave(&rt, alloc, dir.as_str());
+    Ok(())
+}
