@@ -83,8 +83,10 @@ pub struct ServeOptions {
     pub capacity: u64,
     /// How many entries of a lane are taken at once, 1 to 65,536.
     pub batch: u64,
-    /// The signed note of the checkpoint that the log goes on from.
+    /// The signed note of the checkpoint that the log goes on from, in memory.
     pub note: Option<String>,
+    /// The folder of the log; without it, the log is in memory.
+    pub dir: Option<String>,
     /// Whether lines are published as they come.
     pub follow: bool,
 }

@@ -1,22 +1,12 @@
 //! A log that is appended to in a folder, cut off after each call, and gone on with.
 
 use crate::failing::Calls;
-use crate::room::{append, are_alike, file, leave, lines, options, room};
+use crate::room::{append, are_alike, leave, lines, options, room, size_in, uncut};
 use std::alloc::Global;
 use std::str;
 use std::test::Fail;
-use tl_checkpoint::parse;
 use tl_command::RunFault;
-use tl_note::parse_note;
 use tl_serve::Host;
-
-// How many entries the checkpoint in a folder has; none where there is none.
-fn size_in<H: Host>(rt: &H, alloc: Global, dir: &str) -> Option<u64> {
-    let bytes = file(rt, alloc, dir, "checkpoint")?;
-    let note = str::from_utf8(bytes.as_slice()).ok()?;
-    let note = parse_note(alloc, note).ok()?;
-    Some(parse(alloc, note.text).ok()?.size)
-}
 
 // The size in the last whole line of what was printed.
 fn printed_size(text: &[u8]) -> u64 {
@@ -59,15 +49,6 @@ fn is_gone_on_with<H: Host>(
     let is_same = are_alike(rt, alloc, dir.as_str(), whole, size);
     leave(rt, alloc, dir.as_str());
     Ok((is_kept && ended.is_ok() && is_same, calls.has_failed()))
-}
-
-// A log of so many entries that was appended to without a cut.
-fn uncut<H: Host>(rt: &H, alloc: Global, size: u64) -> Result<String, Fail> {
-    let dir = room(rt, alloc, "whole")?;
-    let options = options(alloc, dir.as_str(), 65_536)?;
-    let input = lines(alloc, 0, size)?;
-    let _ = append(rt, alloc, &options, input.as_slice(), &Calls::in_turn(0));
-    Ok(dir)
 }
 
 // The first turn that is not gone on with, of each so many from the first on; none where each is.

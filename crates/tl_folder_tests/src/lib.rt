@@ -11,3 +11,5 @@ mod lines;
 mod refusals;
 #[cfg(test)]
 mod room;
+#[cfg(test)]
+mod served;

@@ -7,9 +7,11 @@ use std::io::Read;
 use std::test::Fail;
 use std::{io, str};
 use tl_build::{Demonstration, run_build};
+use tl_checkpoint::parse;
 use tl_command::{AppendOptions, LogKey, RunFault};
 use tl_device::Counted;
 use tl_folder::{AnyDisk, FolderShelf};
+use tl_note::parse_note;
 use tl_serve::{Host, run_append};
 
 /// The name of the log.
@@ -109,4 +111,21 @@ pub fn are_alike<H: Files>(rt: &H, alloc: Global, one: &str, other: &str, size: 
         }
     }
     true
+}
+
+/// How many entries the checkpoint in a folder has; none where there is none.
+pub fn size_in<H: Host>(rt: &H, alloc: Global, dir: &str) -> Option<u64> {
+    let bytes = file(rt, alloc, dir, "checkpoint")?;
+    let note = str::from_utf8(bytes.as_slice()).ok()?;
+    let note = parse_note(alloc, note).ok()?;
+    Some(parse(alloc, note.text).ok()?.size)
+}
+
+/// A log of so many entries that was appended to without a cut.
+pub fn uncut<H: Host>(rt: &H, alloc: Global, size: u64) -> Result<String, Fail> {
+    let dir = room(rt, alloc, "whole")?;
+    let options = options(alloc, dir.as_str(), 65_536)?;
+    let input = lines(alloc, 0, size)?;
+    let _ = append(rt, alloc, &options, input.as_slice(), &Calls::in_turn(0));
+    Ok(dir)
 }

@@ -8,11 +8,11 @@ use std::alloc::Global;
 use std::fs::{File, Files};
 use std::io::{Read, Write};
 use std::net::{Net, TcpListener, TcpStream};
-use tl_command::{AppendOptions, MOST_INPUT, RunFault, WitnessOptions};
+use tl_command::{AppendOptions, MOST_INPUT, RunFault, ServeOptions, WitnessOptions};
 use tl_device::Counted;
 use tl_folder::{AnyDisk, FileFault, FolderShelf, LineFile, lock_folder, open_lines};
 use tl_note::is_key_name;
-use tl_serve::{Host, run_append, run_witness};
+use tl_serve::{Host, run_append, run_serve, run_serve_shelf, run_witness};
 
 // Why a folder or a file was not opened.
 fn refusal(fault: FileFault) -> RunFault {
@@ -21,6 +21,18 @@ fn refusal(fault: FileFault) -> RunFault {
         FileFault::Busy => RunFault::Busy,
         FileFault::TooLarge => RunFault::TooLarge,
         FileFault::OutOfMemory => RunFault::OutOfMemory,
+    }
+}
+
+// The folder of a log as a shelf. It is made where it isn't there.
+fn open_folder<H: Files + Drop>(
+    rt: H,
+    alloc: Global,
+    dir: &str,
+) -> Result<FolderShelf<AnyDisk, H>, RunFault> {
+    match FolderShelf::open(AnyDisk, rt, alloc, dir) {
+        Ok(shelf) => Ok(shelf),
+        Err(fault) => Err(refusal(fault)),
     }
 }
 
@@ -42,10 +54,38 @@ pub(crate) fn append<H: Host + Files<File = File>, R: Read, W: Write>(
         Ok(lock) => lock,
         Err(fault) => return Err(refusal(fault)),
     };
-    match FolderShelf::open(AnyDisk, *rt, alloc, dir) {
-        Ok(shelf) => run_append(rt, alloc, options, shelf, reader, writer),
-        Err(fault) => Err(refusal(fault)),
+    let shelf = open_folder(*rt, alloc, dir)?;
+    run_append(rt, alloc, options, shelf, reader, writer)
+}
+
+/// Serves a log that is in a folder, where one is given and no other process works there, and else in memory.
+pub(crate) fn serve<
+    H: Host + Files<File = File> + Net<Listener = TcpListener, Stream = TcpStream>,
+    R: Read + Send,
+    E: Write,
+>(
+    rt: &H,
+    alloc: Global,
+    options: &ServeOptions,
+    reader: &mut Counted<R>,
+    errors: &mut Counted<E>,
+) -> Result<(), RunFault>
+    ensures { RefusesOrigin (string_bytes options.now.origin) (passage R.remaining reader.old reader.new) result }
+{
+    let Some(dir) = &options.dir else {
+        return run_serve(rt, alloc, options, reader, errors);
+    };
+    if !is_key_name(options.origin.as_str()) {
+        return Err(RunFault::BadOrigin);
     }
+    let dir = dir.as_str();
+    let _lock = match lock_folder(rt, dir) {
+        Ok(lock) => lock,
+        Err(fault) => return Err(refusal(fault)),
+    };
+    let shelf = open_folder(*rt, alloc, dir)?;
+    let shown = open_folder(*rt, alloc, dir)?;
+    run_serve_shelf(rt, alloc, options, shelf, &shown, reader, errors)
 }
 
 /// Serves a witness whose lines are those of a file, where one is given, and else of the input and the output.

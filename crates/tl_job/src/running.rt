@@ -7,7 +7,7 @@ ghost use Rattle.tl_job.specs.Job.{BuildsDemo, BuildsSigned, ChecksFile, EndsWor
 ghost use Rattle.tl_open.specs.Keygen.{GivesKey};
 ghost use Rattle.tl_job.specs.Ending.{Told, status_of, told_of};
 
-use crate::lasting::{append, witness};
+use crate::lasting::{append, serve, witness};
 use std::alloc::{Allocator, Global};
 use std::fs::{File, Files};
 use std::io::{Read, Write};
@@ -23,7 +23,7 @@ use tl_device::{Counted, write_whole};
 use tl_hash::Sha256Tree;
 use tl_key::{Cosignature, Note};
 use tl_open::{read_file, run_check_opened, run_keygen, run_open};
-use tl_serve::{Host, run_serve};
+use tl_serve::Host;
 
 // How many threads hash at once: as many as are asked for, or else as the machine has.
 fn threads_of<H: Threads>(rt: &H, asked: Option<u16>) -> usize {
@@ -178,7 +178,7 @@ pub fn run_job<
         }
         Job::Open { key } => run_open(alloc, &key, reader, writer),
         Job::Audit => run_audit(alloc, Sha256Tree, reader, writer),
-        Job::Serve(options) => run_serve(rt, alloc, &options, reader, errors),
+        Job::Serve(options) => serve(rt, alloc, &options, reader, errors),
         Job::Witness(options) => witness(rt, alloc, &options, reader, writer, errors),
     }
 }

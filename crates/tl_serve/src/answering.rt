@@ -2,6 +2,7 @@
 
 use crate::connection::Timed;
 use crate::door::Door;
+use crate::pages::Pages;
 use crate::saver::LineSaver;
 use std::alloc::Global;
 use std::io::Write;
@@ -10,36 +11,35 @@ use std::sync::{Mutex, Wait};
 use std::time::{Clock, Instant, SystemTime, UNIX_EPOCH};
 use tl_command::RunFault;
 use tl_device::Counted;
-use tl_publisher::BoardReader;
-use tl_server::{Witness, serve_log, serve_witness};
+use tl_server::{Witness, serve_witness};
 
 // Answers one connection to a log. A fault ends that connection alone.
-fn answer_log_once<H: Clock>(
+fn answer_log_once<H: Clock, P: Pages>(
     rt: &H,
     alloc: Global,
     door: &Door,
     stream: &TcpStream,
-    board: &mut BoardReader<Global>,
+    pages: &mut P,
 ) {
     let Ok(start) = Instant::now(rt) else {
         return;
     };
     let mut reader = Counted::new(Timed::new(rt, stream, start, door.limit()));
     let mut writer = Counted::new(Timed::new(rt, stream, start, door.limit()));
-    let _ = serve_log(alloc, &mut reader, &mut writer, board);
+    let _ = pages.answer(alloc, &mut reader, &mut writer);
 }
 
 /// Answers connections to a log, one after the other, until no more are to be taken.
-pub(crate) fn answer_log<H: Clock + Net>(
+pub(crate) fn answer_log<H: Clock + Net, P: Pages>(
     rt: &H,
     alloc: Global,
     door: &Door,
-    board: BoardReader<Global>,
+    pages: P,
 ) -> Result<(), RunFault> {
-    let mut board = board;
+    let mut pages = pages;
     for _ in 0..u64::MAX {
         match door.next(rt) {
-            Ok(Some(stream)) => answer_log_once(rt, alloc, door, &stream, &mut board),
+            Ok(Some(stream)) => answer_log_once(rt, alloc, door, &stream, &mut pages),
             Ok(None) => return Ok(()),
             Err(fault) => return Err(fault),
         }

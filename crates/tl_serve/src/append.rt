@@ -8,12 +8,13 @@ ghost use Rattle.tl_serve.specs.Serving.{RefusesOrigin};
 
 use crate::following::Lines;
 use crate::host::Host;
+use crate::keeping::Keeper;
 use crate::live_log::{LiveLog, MOST_ENTRIES};
 use crate::log_keys::{LogKeys, keys_of};
 use crate::telling::tell_head;
 use std::alloc::Global;
 use std::io::{Read, Write};
-use tl_archive::{Archive, ArchiveFault, FoundLog, ReadLogFault, Shelf, read_log};
+use tl_archive::{Archive, FoundLog, ReadLogFault, Shelf, read_log};
 use tl_command::{AppendOptions, RunFault};
 use tl_device::Counted;
 use tl_note::{Signer, Verifier, is_key_name};
@@ -23,23 +24,14 @@ use tl_sequencer::{Submitter, Why};
 // For how many entries the lane has room.
 const ROOM: usize = 256;
 
-// Why a log was not read from its shelf.
-fn unread(fault: ReadLogFault) -> RunFault {
+/// Why a log was not read from its shelf.
+pub(crate) fn unread(fault: ReadLogFault) -> RunFault {
     match fault {
         ReadLogFault::Checkpoint => RunFault::BadCheckpoint,
         ReadLogFault::TooLarge => RunFault::Operator,
         ReadLogFault::Missing(_) => RunFault::NotThere,
         ReadLogFault::Shelf => RunFault::Read,
         ReadLogFault::OutOfMemory => RunFault::OutOfMemory,
-    }
-}
-
-// Why a publication was not archived.
-fn unarchived(fault: ArchiveFault) -> RunFault {
-    match fault {
-        ArchiveFault::Shelf => RunFault::Write,
-        ArchiveFault::OutOfMemory => RunFault::OutOfMemory,
-        ArchiveFault::Gone | ArchiveFault::Behind => RunFault::Operator,
     }
 }
 
@@ -102,11 +94,11 @@ fn take_lines<O: LiveLog, R: Read>(
     Ok(is_end)
 }
 
-// Publishes what is new, archives it, and tells it once it outlasts a crash.
-fn publish<O: LiveLog, S: Shelf, W: Write>(
+// Publishes what is new, and tells it once it outlasts a crash.
+fn publish<O: LiveLog, K: Keeper, W: Write>(
     alloc: Global,
     log: &mut O,
-    archive: &mut Archive<S>,
+    archive: &mut K,
     board: &mut BoardReader<Global>,
     writer: &mut Counted<W>,
 ) -> Result<(), RunFault>
@@ -118,9 +110,7 @@ fn publish<O: LiveLog, S: Shelf, W: Write>(
         Ok(None) => return Ok(()),
         Err(fault) => return Err(fault),
     }
-    if let Err(fault) = archive.publish(alloc, board) {
-        return Err(unarchived(fault));
-    }
+    archive.keep(alloc, board)?;
     tell_head(alloc, writer, board, "")
 }
 

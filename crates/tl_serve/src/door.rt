@@ -107,8 +107,8 @@ impl Door {
         None
     }
 
-    // Closes the door, and wakes the threads that wait for a connection.
-    fn close<H: Net>(&self, rt: &H) {
+    /// Closes the door, and wakes the threads that wait for a connection.
+    pub(crate) fn close<H: Net>(&self, rt: &H) {
         self.left.store(0, Ordering::SeqCst);
         for _ in 0..self.threads {
             let _ = TcpStream::connect(rt, self.address);

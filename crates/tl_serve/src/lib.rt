@@ -1,5 +1,5 @@
-//! The commands of the program `tlog` that run a log or a witness: `serve` and `witness` over HTTP, each answered by
-//! several threads, and `append` on a shelf.
+//! The commands of the program `tlog` that run a log or a witness: `serve`, in memory or on a shelf, and `witness` over
+//! HTTP, each answered by several threads, and `append` on a shelf.
 //!
 //! ```
 //! let options = ServeOptions { origin, key: LogKey::Secret(secret), .. };
@@ -15,13 +15,16 @@ mod flags;
 mod following;
 mod gate;
 mod host;
+mod keeping;
 mod lanes;
 mod live_log;
 mod log_keys;
 mod opening;
+mod pages;
 mod running;
 mod saver;
 mod serve;
+mod serve_shelf;
 mod taking;
 mod telling;
 mod witness;
@@ -31,4 +34,5 @@ pub use gate::Gate;
 pub use host::Host;
 pub use saver::LineSaver;
 pub use serve::{run_serve, serve_gated};
+pub use serve_shelf::run_serve_shelf;
 pub use witness::run_witness;

@@ -11,8 +11,10 @@ use crate::flags::Flags;
 use crate::following::{Source, start_following};
 use crate::gate::Gate;
 use crate::host::Host;
+use crate::keeping::Keeper;
 use crate::lanes::{AllSent, Lane, LaneThread, join_lanes, start_lanes};
 use crate::live_log::LiveLog;
+use crate::pages::Pages;
 use crate::taking::{Rounds, take_all};
 use crate::telling::tell_closed;
 use std::alloc::Global;
@@ -26,6 +28,14 @@ use tl_device::Counted;
 use tl_publisher::BoardReader;
 use tl_sequencer::Ended;
 
+/// Who keeps what is published, the reader by which it is told, and what each thread answers from.
+#[derive(Drop)]
+pub(crate) struct Kept<K, P> {
+    pub(crate) keeper: K,
+    pub(crate) board: BoardReader<Global>,
+    pub(crate) pages: Vec<P>,
+}
+
 // How much is taken at a time from so many lanes.
 fn rounds_of(options: &ServeOptions, lanes: usize) -> Rounds {
     Rounds {
@@ -36,8 +46,14 @@ fn rounds_of(options: &ServeOptions, lanes: usize) -> Rounds {
     }
 }
 
-// Takes in the ends, publishes what they brought, and closes the log: how many entries it has.
-fn close_log<O: LiveLog>(operator: O, ends: Vec<Ended<Global, Global>>) -> Result<u64, RunFault>
+// Takes in the ends, publishes and keeps what they brought, and closes the log: how many entries it has.
+fn close_log<O: LiveLog, K: Keeper>(
+    alloc: Global,
+    operator: O,
+    keeper: &mut K,
+    board: &mut BoardReader<Global>,
+    ends: Vec<Ended<Global, Global>>,
+) -> Result<u64, RunFault>
     requires operating { IsOperating (O.shown operator) }
     requires ends { All (λ e. IsEndOf e (O.shown operator).log) ends.items }
 {
@@ -46,35 +62,36 @@ fn close_log<O: LiveLog>(operator: O, ends: Vec<Ended<Global, Global>>) -> Resul
         operator.end_lane(ended)?;
     }
     operator.show()?;
+    keeper.keep(alloc, board)?;
     operator.finish()
 }
 
 // Answers connections, and tells when it ends.
-fn answer<H: Clock + Net>(
+fn answer<H: Clock + Net, P: Pages>(
     rt: &H,
     alloc: Global,
     door: &Door,
-    board: BoardReader<Global>,
+    pages: P,
     flags: &Flags,
 ) -> Result<(), RunFault> {
-    let outcome = answer_log(rt, alloc, door, board);
+    let outcome = answer_log(rt, alloc, door, pages);
     flags.end_answering();
     outcome
 }
 
-// Starts a thread that answers for each reader.
-fn start_answering<'s, E, H: Host + Net<Listener = TcpListener, Stream = TcpStream>>(
+// Starts a thread that answers from each of these.
+fn start_answering<'s, E, H: Host + Net<Listener = TcpListener, Stream = TcpStream>, P: Pages + 's>(
     scope: &'s Scope<'s, E>,
     rt: &'s H,
     alloc: Global,
     door: &'s Door,
-    readers: Vec<BoardReader<Global>>,
+    pages: Vec<P>,
     flags: &'s Flags,
 ) -> Result<Vec<JoinHandle<Result<(), RunFault>>>, RunFault> {
     let mut threads = Vec::new(alloc);
-    for board in readers {
+    for own in pages {
         flags.begin_answering();
-        match scope.spawn(move || answer(rt, alloc, door, board, flags)) {
+        match scope.spawn(move || answer(rt, alloc, door, own, flags)) {
             Ok(thread) => threads.push(thread)?,
             Err(_) => {
                 flags.end_answering();
@@ -118,13 +135,15 @@ fn run_sending<
     E,
     H: Host + Net<Listener = TcpListener, Stream = TcpStream>,
     O: LiveLog,
+    K: Keeper,
+    P: Pages + 's,
     L: Write,
 >(
     scope: &'s Scope<'s, E>,
     rt: &'s H,
     alloc: Global,
     operator: O,
-    readers: Vec<BoardReader<Global>>,
+    kept: Kept<K, P>,
     sending: Vec<LaneThread>,
     door: &'s Door,
     log: &mut Counted<L>,
@@ -135,12 +154,25 @@ fn run_sending<
     requires senders { All (λ h. IsSenderOf h.promise.0.value (O.shown operator).log) sending.items }
 {
     let mut operator = operator;
-    let mut readers = readers;
-    let Some(board) = readers.pop() else {
-        return Err(RunFault::Operator);
-    };
-    let threads = start_answering(scope, rt, alloc, door, readers, flags)?;
-    let taken = take_all(rt, alloc, &mut operator, board, log, rounds, flags);
+    let Kept {
+        mut keeper,
+        mut board,
+        pages,
+    } = kept;
+    let threads = start_answering(scope, rt, alloc, door, pages, flags)?;
+    let taken = take_all(
+        rt,
+        alloc,
+        &mut operator,
+        &mut keeper,
+        &mut board,
+        log,
+        rounds,
+        flags,
+    );
+    if taken.is_err() {
+        door.close(rt);
+    }
     let mut answered = Ok(());
     for thread in threads {
         answered = answered.and(thread.join(rt));
@@ -149,7 +181,7 @@ fn run_sending<
     answered?;
     outcome?;
     taken?;
-    close_log(operator, ends)
+    close_log(alloc, operator, &mut keeper, &mut board, ends)
 }
 
 // Runs the threads of a log: how many entries it has in the end.
@@ -158,6 +190,8 @@ fn run_in<
     E,
     H: Host + Net<Listener = TcpListener, Stream = TcpStream>,
     O: LiveLog,
+    K: Keeper,
+    P: Pages + 's,
     S: Source + 's,
     L: Write,
     G: Gate,
@@ -167,7 +201,7 @@ fn run_in<
     alloc: Global,
     operator: O,
     lanes: Vec<Lane>,
-    readers: Vec<BoardReader<Global>>,
+    kept: Kept<K, P>,
     followed: Option<S>,
     door: &'s Door,
     log: &mut Counted<L>,
@@ -182,7 +216,7 @@ fn run_in<
     let closed = match sending {
         Ok(sending) => {
             run_sending(
-                scope, rt, alloc, operator, readers, sending, door, log, rounds, flags,
+                scope, rt, alloc, operator, kept, sending, door, log, rounds, flags,
             )
         }
         Err(fault) => Err(fault),
@@ -195,6 +229,8 @@ fn run_in<
 pub(crate) fn run_log<
     H: Host + Net<Listener = TcpListener, Stream = TcpStream>,
     O: LiveLog,
+    K: Keeper,
+    P: Pages,
     S: Source,
     L: Write,
     G: Gate,
@@ -204,7 +240,7 @@ pub(crate) fn run_log<
     options: &ServeOptions,
     operator: O,
     lanes: Vec<Lane>,
-    readers: Vec<BoardReader<Global>>,
+    kept: Kept<K, P>,
     followed: Option<S>,
     door: &Door,
     log: &mut Counted<L>,
@@ -222,8 +258,7 @@ pub(crate) fn run_log<
             requires senders { All (λ l. IsSenderOf l.submitter (O.shown operator).log) lanes.items }
         {
             run_in(
-                scope, rt, alloc, operator, lanes, readers, followed, door, log, rounds, gate,
-                &flags,
+                scope, rt, alloc, operator, lanes, kept, followed, door, log, rounds, gate, &flags,
             )
         },
     );

@@ -11,10 +11,13 @@ use crate::door::Door;
 use crate::following::{Followed, Lines};
 use crate::gate::{Gate, OpenGate};
 use crate::host::Host;
+use crate::keeping::{InMemory, Keeper};
+use crate::lanes::Lane;
 use crate::live_log::{LiveLog, MOST_ENTRIES};
 use crate::log_keys::{LogKeys, keys_of};
 use crate::opening::{bundles_of, lanes_of, read_plan, size_of, whole_note};
-use crate::running::run_log;
+use crate::pages::Pages;
+use crate::running::{Kept, run_log};
 use std::alloc::Global;
 use std::io::{Read, Write};
 use std::net::{Net, TcpListener, TcpStream};
@@ -57,8 +60,8 @@ fn learn(readers: Vec<BoardReader<Global>>, published: &Published) -> Vec<BoardR
     readers
 }
 
-// Publishes the log as it was opened, which each reader then sees.
-fn publish_first<O: LiveLog>(
+/// Publishes the log as it was opened, which each reader then sees.
+pub(crate) fn publish_first<O: LiveLog>(
     log: &mut O,
     readers: Vec<BoardReader<Global>>,
 ) -> Result<Vec<BoardReader<Global>>, RunFault>
@@ -73,13 +76,13 @@ fn publish_first<O: LiveLog>(
     }
 }
 
-// What a log is served with.
+/// What a log is served with.
 #[derive(Drop)]
-struct Server<'s, H, G> {
-    rt: &'s H,
-    alloc: Global,
-    options: &'s ServeOptions,
-    gate: &'s G,
+pub(crate) struct Server<'s, H, G> {
+    pub(crate) rt: &'s H,
+    pub(crate) alloc: Global,
+    pub(crate) options: &'s ServeOptions,
+    pub(crate) gate: &'s G,
 }
 
 impl<H: Host + Net<Listener = TcpListener, Stream = TcpStream>, G: Gate> Server<'_, H, G> {
@@ -88,7 +91,33 @@ impl<H: Host + Net<Listener = TcpListener, Stream = TcpStream>, G: Gate> Server<
         threads_of(self.rt, self.options.server.threads) + 1
     }
 
-    // Serves a log that was opened, and is to be sent these entries.
+    /// Serves a log that was published once.
+    pub(crate) fn serve_published<O: LiveLog, K: Keeper, P: Pages, R: Read + Send, L: Write>(
+        &self,
+        operator: O,
+        lanes: Vec<Lane>,
+        kept: Kept<K, P>,
+        lines: Lines,
+        reader: &mut Counted<R>,
+        log: &mut Counted<L>,
+    ) -> Result<(), RunFault>
+        requires operating { IsOperating (O.shown operator) }
+        requires senders { All (λ l. IsSenderOf l.submitter (O.shown operator).log) lanes.items }
+    {
+        let (rt, alloc, options) = (self.rt, self.alloc, self.options);
+        let threads = threads_of(rt, options.server.threads);
+        let door = Door::open(rt, alloc, &options.server, threads, log)?;
+        let followed = if options.follow {
+            Some(Followed { lines, reader })
+        } else {
+            None
+        };
+        run_log(
+            rt, alloc, options, operator, lanes, kept, followed, &door, log, self.gate,
+        )
+    }
+
+    // Serves a log in memory that was opened, and is to be sent these entries.
     fn serve_opened<O: LiveLog, R: Read + Send, L: Write>(
         &self,
         opened: O,
@@ -103,26 +132,24 @@ impl<H: Host + Net<Listener = TcpListener, Stream = TcpStream>, G: Gate> Server<
         requires senders { All (λ s. IsSenderOf s (O.shown opened).log) submitters.items }
         requires seen { All (λ w. w ≡ (O.shown opened).past) readers.items }
     {
-        let (rt, alloc, options) = (self.rt, self.alloc, self.options);
         let mut operator = opened;
-        let lanes = lanes_of(alloc, submitters, entries)?;
-        let readers = publish_first(&mut operator, readers)?;
-        let threads = threads_of(rt, options.server.threads);
-        let door = Door::open(rt, alloc, &options.server, threads, log)?;
-        let followed = if options.follow {
-            Some(Followed { lines, reader })
-        } else {
-            None
+        let lanes = lanes_of(self.alloc, submitters, entries)?;
+        let mut pages = publish_first(&mut operator, readers)?;
+        let Some(board) = pages.pop() else {
+            return Err(RunFault::Operator);
         };
-        run_log(
-            rt, alloc, options, operator, lanes, readers, followed, &door, log, self.gate,
-        )
+        let kept = Kept {
+            keeper: InMemory,
+            board,
+            pages,
+        };
+        self.serve_published(operator, lanes, kept, lines, reader, log)
     }
 
-    // Serves a log that begins with no entry.
+    // Serves a log in memory that begins with no entry.
     fn serve_new<R: Read + Send, L: Write>(
         &self,
-        keys: LogKeys,
+        signers: Vec<Box<dyn Signer>>,
         reader: &mut Counted<R>,
         log: &mut Counted<L>,
     ) -> Result<(), RunFault> {
@@ -131,12 +158,6 @@ impl<H: Host + Net<Listener = TcpListener, Stream = TcpStream>, G: Gate> Server<
             Ok(plan) => plan,
             Err(fault) => return Err(fault),
         };
-        let signer: Box<dyn Signer> = match keys {
-            LogKeys::Demonstration(signer, _verifier) => Box::new(alloc, signer)?,
-            LogKeys::Private(signer, _verifier) => Box::new(alloc, signer)?,
-        };
-        let mut signers = Vec::new(alloc);
-        signers.push(signer)?;
         let (lanes, room, limit, readers) = (plan.lanes, plan.room, MOST_ENTRIES, self.readers());
         match Operator::open(
             *self.rt, alloc, origin, signers, lanes, room, limit, readers,
@@ -150,26 +171,17 @@ impl<H: Host + Net<Listener = TcpListener, Stream = TcpStream>, G: Gate> Server<
         }
     }
 
-    // Serves a log that goes on from the checkpoint of a note.
+    // Serves a log in memory that goes on from the checkpoint of a note.
     fn serve_resumed<R: Read + Send, L: Write>(
         &self,
-        keys: LogKeys,
+        signers: Vec<Box<dyn Signer>>,
+        opens: &[Box<dyn Verifier>],
         note: &str,
         reader: &mut Counted<R>,
         log: &mut Counted<L>,
     ) -> Result<(), RunFault> {
         let (alloc, origin) = (self.alloc, self.options.origin.as_str());
-        let (signer, verifier): (Box<dyn Signer>, Box<dyn Verifier>) = match keys {
-            LogKeys::Demonstration(signer, verifier) => {
-                (Box::new(alloc, signer)?, Box::new(alloc, verifier)?)
-            }
-            LogKeys::Private(signer, verifier) => {
-                (Box::new(alloc, signer)?, Box::new(alloc, verifier)?)
-            }
-        };
-        let (mut signers, opens) = (Vec::new(alloc), [verifier]);
-        signers.push(signer)?;
-        let size = size_of(alloc, note, &opens)?;
+        let size = size_of(alloc, note, opens)?;
         let plan = match read_plan(alloc, self.options, size, reader) {
             Ok(plan) => plan,
             Err(fault) => return Err(fault),
@@ -178,7 +190,7 @@ impl<H: Host + Net<Listener = TcpListener, Stream = TcpStream>, G: Gate> Server<
         let (lanes, room, limit, readers) = (plan.lanes, plan.room, MOST_ENTRIES, self.readers());
         let (rt, base) = (*self.rt, bundles.as_slice());
         match Operator::resume(
-            rt, alloc, origin, signers, &opens, lanes, room, limit, readers, note, base,
+            rt, alloc, origin, signers, opens, lanes, room, limit, readers, note, base,
         ) {
             Ok((operator, submitters, readers)) => {
                 let (entries, lines) = (plan.entries, plan.lines);
@@ -211,7 +223,21 @@ pub fn serve_gated<
         return Err(RunFault::BadOrigin);
     }
     let gate: &G = &gate;
-    let keys = keys_of(rt, alloc, origin, &options.key)?;
+    let (signer, verifier): (Box<dyn Signer>, Box<dyn Verifier>) = match keys_of(
+        rt,
+        alloc,
+        origin,
+        &options.key,
+    )? {
+        LogKeys::Demonstration(signer, verifier) => {
+            (Box::new(alloc, signer)?, Box::new(alloc, verifier)?)
+        }
+        LogKeys::Private(signer, verifier) => {
+            (Box::new(alloc, signer)?, Box::new(alloc, verifier)?)
+        }
+    };
+    let (mut signers, opens) = (Vec::new(alloc), [verifier]);
+    signers.push(signer)?;
     let server = Server {
         rt,
         alloc,
@@ -221,9 +247,9 @@ pub fn serve_gated<
     match &options.note {
         Some(note) => {
             let note = whole_note(alloc, note)?;
-            server.serve_resumed(keys, note.as_str(), reader, log)
+            server.serve_resumed(signers, &opens, note.as_str(), reader, log)
         }
-        None => server.serve_new(keys, reader, log),
+        None => server.serve_new(signers, reader, log),
     }
 }
 

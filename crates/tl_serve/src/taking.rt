@@ -4,6 +4,7 @@ ghost use Rattle.tl_publisher.specs.Operating.{IsOperating};
 ghost use Rattle.tl_serve.specs.Kept.{IsKept};
 
 use crate::flags::Flags;
+use crate::keeping::Keeper;
 use crate::live_log::LiveLog;
 use crate::telling::tell_head;
 use std::alloc::Global;
@@ -62,10 +63,11 @@ fn gather<O: LiveLog>(operator: &mut O, rounds: Rounds) -> Result<u64, RunFault>
     Ok(count)
 }
 
-// Takes what came, if something did, and publishes it: how many entries.
-fn take_and_show<O: LiveLog, L: Write>(
+// Takes what came, if something did, publishes and keeps it: how many entries.
+fn take_and_show<O: LiveLog, K: Keeper, L: Write>(
     alloc: Global,
     operator: &mut O,
+    keeper: &mut K,
     board: &mut BoardReader<Global>,
     log: &mut Counted<L>,
     rounds: Rounds,
@@ -78,6 +80,7 @@ fn take_and_show<O: LiveLog, L: Write>(
         return Ok(0);
     }
     operator.show()?;
+    keeper.keep(alloc, board)?;
     if !rounds.is_quiet {
         tell_head(alloc, log, board, PUBLISHED)?;
     }
@@ -85,10 +88,11 @@ fn take_and_show<O: LiveLog, L: Write>(
 }
 
 // Takes and publishes until all threads have ended.
-fn take_rounds<H: Clock, O: LiveLog, L: Write>(
+fn take_rounds<H: Clock, O: LiveLog, K: Keeper, L: Write>(
     rt: &H,
     alloc: Global,
     operator: &mut O,
+    keeper: &mut K,
     board: &mut BoardReader<Global>,
     log: &mut Counted<L>,
     rounds: Rounds,
@@ -101,7 +105,7 @@ fn take_rounds<H: Clock, O: LiveLog, L: Write>(
         if flags.are_done() {
             break;
         }
-        let taken = take_and_show(alloc, operator, board, log, rounds)?;
+        let taken = take_and_show(alloc, operator, keeper, board, log, rounds)?;
         if taken == 0 {
             thread::sleep(rt, Duration::from_millis(PAUSE));
         }
@@ -110,11 +114,12 @@ fn take_rounds<H: Clock, O: LiveLog, L: Write>(
 }
 
 /// Takes and publishes until all threads have ended. Where that goes wrong, those that send are told to stop.
-pub(crate) fn take_all<H: Clock, O: LiveLog, L: Write>(
+pub(crate) fn take_all<H: Clock, O: LiveLog, K: Keeper, L: Write>(
     rt: &H,
     alloc: Global,
     operator: &mut O,
-    board: BoardReader<Global>,
+    keeper: &mut K,
+    board: &mut BoardReader<Global>,
     log: &mut Counted<L>,
     rounds: Rounds,
     flags: &Flags,
@@ -122,14 +127,13 @@ pub(crate) fn take_all<H: Clock, O: LiveLog, L: Write>(
     requires { IsOperating (O.shown operator.old) }
     ensures { IsKept (O.shown operator.old) (O.shown operator.new) }
 {
-    let mut board = board;
     if !rounds.is_quiet {
-        if let Err(fault) = tell_head(alloc, log, &mut board, PUBLISHED) {
+        if let Err(fault) = tell_head(alloc, log, board, PUBLISHED) {
             flags.stop();
             return Err(fault);
         }
     }
-    let outcome = take_rounds(rt, alloc, operator, &mut board, log, rounds, flags);
+    let outcome = take_rounds(rt, alloc, operator, keeper, board, log, rounds, flags);
     if outcome.is_err() {
         flags.stop();
     }

@@ -32,6 +32,7 @@ pub fn serve_options(
         capacity: 256,
         batch: 256,
         note: None,
+        dir: None,
         follow: false,
     })
 }

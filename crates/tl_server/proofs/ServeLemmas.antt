@@ -8,11 +8,9 @@ use Rattle.httparse.specs.Grammar.{RequestHead, ReadsRequest}
 use Rattle.httparse.specs.Spans.{span_bytes, header_bytes, name_and_value}
 use Rattle.httparse.proofs.GrammarLemmas.{ReadsRequest-append}
 use Rattle.tl_device.specs.Device.{Passage}
-use Rattle.tl_publisher.specs.Histories.{Past}
 use Rattle.tl_server.specs.Answer.{Answer, bare}
 use Rattle.tl_server.specs.Head.{HasHead}
 use Rattle.tl_server.specs.Exchange.{Begun, Exchange}
-use Rattle.tl_server.specs.Log.{LogAnswers, LogDecides}
 use Rattle.tl_server.specs.Serve.{Sends, Sent, Serves}
 use Rattle.tl_server.specs.Inner.Deciding.{Answered, ReadNoHead, IsHeaded}
 use Rattle.tl_server.specs.declared.fault.ServeFault.{ServeFault}
@@ -72,19 +70,19 @@ whole_begins i buf headers len spans is more input same =
       },
     )
 
--- an input with a head
-pub headed_serves : (A : Type 0) (old new : Past) (i o : Passage) (buf : List ℕ) (headers : List HeaderSpan) (len : ℕ) (spans : RequestSpans)
+-- an input with a head, which answers to its method and its target decide
+pub headed_serves : (Idle : Type 0) (Answers : List ℕ → List ℕ → Answer → Type 0) (i o : Passage) (buf : List ℕ) (headers : List HeaderSpan) (len : ℕ) (spans : RequestSpans)
     (method target : List ℕ) (result : Result (Option ℕ) ServeFault)
     → method ≡ span_bytes (take len buf) spans.method → target ≡ span_bytes (take len buf) spans.path
-    → IsHeaded i buf headers len spans → Answered (LogAnswers A old new method target) o result
-    → Serves (new ≡ old) (Exchange (new ≡ old) (LogDecides A old new)) i o result
-headed_serves A old new i o buf headers len spans method target result same_method same_target is answered =
+    → IsHeaded i buf headers len spans → Answered (Answers method target) o result
+    → Serves Idle (Exchange Idle (λ b a. Answers b.head.method b.head.target a)) i o result
+headed_serves Idle Answers i o buf headers len spans method target result same_method same_target is answered =
     let head = head_in i buf headers len spans is in
     let at = is.of.1 in
-    let decided : LogAnswers A old new head.method head.target answered.answer =
-    subst (λ (m : List ℕ). LogAnswers A old new m head.target answered.answer) (same_method ∙ at.method)
-    (subst (λ (t : List ℕ). LogAnswers A old new method t answered.answer) (same_target ∙ at.path) answered.decided) in
-    sent_serves (new ≡ old) (Exchange (new ≡ old) (LogDecides A old new)) i o result (record {
+    let decided : Answers head.method head.target answered.answer =
+    subst (λ (m : List ℕ). Answers m head.target answered.answer) (same_method ∙ at.method)
+    (subst (λ (t : List ℕ). Answers method t answered.answer) (same_target ∙ at.path) answered.decided) in
+    sent_serves Idle (Exchange Idle (λ b a. Answers b.head.method b.head.target a)) i o result (record {
       answer = answered.answer;
       came = record {
         bytes = take len buf;

@@ -1,5 +1,5 @@
-//! One request over HTTP/1.1: to a log, whose resources a reader of its board has (C2SP tlog-tiles), and to a witness
-//! (C2SP tlog-witness). After its answer the connection is closed.
+//! One request over HTTP/1.1: to a log, whose resources a reader of its board has or a shelf (C2SP tlog-tiles), and to a
+//! witness (C2SP tlog-witness). After its answer the connection is closed.
 //!
 //! ```
 //! let mut reader = Counted::new(&stream);
@@ -21,9 +21,11 @@ mod log;
 mod method;
 mod post;
 mod sending;
+mod shelf;
 mod witness;
 
 pub use fault::ServeFault;
 pub use log::serve_log;
 pub use post::serve_witness;
+pub use shelf::serve_shelf;
 pub use witness::Witness;

@@ -19,8 +19,8 @@ use tl_device::Counted;
 use tl_publisher::{BoardReader, GetFault};
 use tl_tile::{Resource, parse_path};
 
-// The resource that a target asks for.
-fn resource_of(target: &[u8]) -> Option<Resource>
+/// The resource that a target asks for.
+pub(crate) fn resource_of(target: &[u8]) -> Option<Resource>
     requires { IsUtf8 target.now }
     ensures { MatchOption result ((r : _) → ¬ (AsksFor target.now r)) (λ r. AsksFor target.now r) }
 {
@@ -33,8 +33,8 @@ fn resource_of(target: &[u8]) -> Option<Resource>
     }
 }
 
-// The type of a resource's bytes.
-fn type_of(resource: &Resource) -> &'static [u8]
+/// The type of a resource's bytes.
+pub(crate) fn type_of(resource: &Resource) -> &'static [u8]
     ensures { result.now ≡ kind_of resource.now }
 {
     match resource {

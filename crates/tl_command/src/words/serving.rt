@@ -30,6 +30,9 @@ fn optional<'a>(alloc: Global, name: &'a str, help: &'a str) -> Arg<'a> {
     option(alloc, name, "N", help).value_parser(value_parser!(u64))
 }
 
+// What is said where a note and a folder are given.
+const ONE_BASE: &str = "--note and --dir are not given together";
+
 // A command with the options that the servers share.
 fn server<'a>(alloc: Global, command: Command<'a>) -> Result<Command<'a>, AllocError> {
     let connections = optional(alloc, "connections", "End after so many connections").value_parser(
@@ -68,6 +71,7 @@ pub(super) fn serve<'a>(alloc: Global) -> Result<Command<'a>, AllocError> {
     let secret = "The secret of the log's demonstration key";
     let key = "The file with the log's private key";
     let note = "The signed checkpoint that the log goes on from";
+    let dir = "The folder of the log, which goes on from what is there";
     let batch = optional(
         alloc,
         "batch",
@@ -84,15 +88,21 @@ pub(super) fn serve<'a>(alloc: Global) -> Result<Command<'a>, AllocError> {
         .arg(optional(alloc, "capacity", "For how many entries a lane has room"))?
         .arg(batch)?
         .arg(option(alloc, "note", "NOTE", note))?
+        .arg(option(alloc, "dir", "DIR", dir))?
         .arg(flag(alloc, "follow", "Publish lines as they come"))?;
     server(alloc, command)
 }
 
-// The job of `serve`.
+// The job of `serve`: not both a note and a folder are given.
 pub(super) fn serve_job(alloc: Global, options: &ArgMatches<'_>) -> Result<Job, WordsFault> {
     let Some(key) = log_key_if_one(alloc, options)? else {
         return Err(unfit(alloc, serve(alloc)?, EITHER_KEY));
     };
+    let note = text_if_given(alloc, options, "note")?;
+    let dir = text_if_given(alloc, options, "dir")?;
+    if note.is_some() && dir.is_some() {
+        return Err(unfit(alloc, serve(alloc)?, ONE_BASE));
+    }
     Ok(Job::Serve(ServeOptions {
         origin: text_of(alloc, options, "origin")?,
         key,
@@ -100,7 +110,8 @@ pub(super) fn serve_job(alloc: Global, options: &ArgMatches<'_>) -> Result<Job, 
         lanes: options.get_one::<u64>("lanes").unwrap_or(LANES),
         capacity: options.get_one::<u64>("capacity").unwrap_or(CAPACITY),
         batch: options.get_one::<u64>("batch").unwrap_or(BATCH),
-        note: text_if_given(alloc, options, "note")?,
+        note,
+        dir,
         follow: options.get_flag("follow"),
     }))
 }

@@ -82,12 +82,15 @@ pub(super) const SERVE: &str =
 the input has no limit.
 Serves the log over HTTP (C2SP tlog-tiles, tlog-checkpoint): 'listening ADDRESS' on standard error says where, and a
 line more each publication, 'published SIZE ROOT', and the end, 'closed SIZE'. Checkpoints are signed as those of 'tlog
-build'. With --note the first lines are the entries of that signed checkpoint, and the log goes on from it.
+build'. With --note the first lines are the entries of that signed checkpoint, and the log goes on from it. With --dir
+the log is in that folder, as that of 'tlog append', and goes on from what is there: requests are answered with the
+folder's files, and a publication is shown once it outlasts a crash.
 Defaults: --lanes 1, --capacity 256, --batch 256, --timeout 10, as many threads as the machine has processors, and any
 number of connections.
 Exit status: 0 done; 1 refused (a bad key, a bad origin, input too large, an entry too long, fewer lines than the note's
-size, the operator refused, signing failed, out of memory); 2 wrong arguments or a call for help; 3 a read, a write, the
-address or an accept failed. A refusal is one line 'tlog: ..' on standard error.";
+size, a bad checkpoint, a bundle not there, in use, the operator refused, signing failed, out of memory); 2 wrong
+arguments or a call for help; 3 a read, a write, the address or an accept failed. A refusal is one line 'tlog: ..' on
+standard error.";
 
 pub(super) const WITNESS: &str =
     "Input: what an earlier run printed, a line for each checkpoint that it cosigned.

@@ -1,4 +1,5 @@
 use Rattle.std.proofs.Common.{refl}
+use Rattle.tl_server.specs.Log.{LogAnswers}
 use Rattle.tl_server.proofs.ServeLemmas.{headless_serves, headed_serves}
 use Rattle.tl_server.proofs.log.serve_log.Goals as goal
 
@@ -7,5 +8,5 @@ returns-in-NoHead g c = headless_serves _ _ _ _ c.in-NoHead.status c.refuse.resu
 
 pub returns-in-Head : goal.returns-in-Head
 returns-in-Head g c =
-    headed_serves _ _ _ _ _ c.read_head.new.buf c.read_head.new.headers c.in-Head.len c.in-Head.spans _ _ c.answer_log.result
+    headed_serves _ (LogAnswers _ _ _) _ _ c.read_head.new.buf c.read_head.new.headers c.in-Head.len c.in-Head.spans _ _ c.answer_log.result
     c.of.ensures c.of-in-Head.ensures c.in-Head.ensures c.answer_log.ensures

@@ -1,0 +1,40 @@
+//! How publications are kept.
+
+use std::alloc::Global;
+use tl_archive::{Archive, ArchiveFault, Shelf};
+use tl_command::RunFault;
+use tl_publisher::BoardReader;
+
+/// Who keeps the publications of a log.
+pub(crate) trait Keeper: Drop {
+    /// Has the last publication outlast a crash, where those of the log are to.
+    fn keep(&mut self, alloc: Global, board: &mut BoardReader<Global>) -> Result<(), RunFault>;
+}
+
+/// The keeper of a log that is in memory alone.
+#[derive(Clone, Copy)]
+pub(crate) struct InMemory;
+
+impl Keeper for InMemory {
+    fn keep(&mut self, _alloc: Global, _board: &mut BoardReader<Global>) -> Result<(), RunFault> {
+        Ok(())
+    }
+}
+
+// Why a publication was not archived.
+fn unarchived(fault: ArchiveFault) -> RunFault {
+    match fault {
+        ArchiveFault::Shelf => RunFault::Write,
+        ArchiveFault::OutOfMemory => RunFault::OutOfMemory,
+        ArchiveFault::Gone | ArchiveFault::Behind => RunFault::Operator,
+    }
+}
+
+impl<S: Shelf + Drop> Keeper for Archive<S> {
+    fn keep(&mut self, alloc: Global, board: &mut BoardReader<Global>) -> Result<(), RunFault> {
+        match self.publish(alloc, board) {
+            Ok(_size) => Ok(()),
+            Err(fault) => Err(unarchived(fault)),
+        }
+    }
+}
