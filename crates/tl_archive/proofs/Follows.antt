@@ -32,20 +32,20 @@ use Rattle.tl_archive.proofs.Lists.{none_has, one_has, all_is, starts_self, star
 use Rattle.tl_archive.proofs.Ways.{between_self, between_wide, between_on, among}
 
 -- the bytes of what a beginning needs, over the whole
-later_bytes : (front whole : List (List ℕ)) → Begins front whole → (r : Resource) → Contains (needed_resources (length front)) r → text_of sha256 r whole ≡ text_of sha256 r front
+pub later_bytes : (front whole : List (List ℕ)) → Begins front whole → (r : Resource) → Contains (needed_resources (length front)) r → text_of sha256 r whole ≡ text_of sha256 r front
 later_bytes front whole begins r has = ap (text_of sha256 r) (sym begins.1) ∙ needed_bytes_stay sha256 front begins.0 r has
 
 -- ---- what a board shows of what was needed
 
-does_need : (r : Resource) (size : ℕ) → Contains (needed_resources size) r → needs r size ≡ true
+pub does_need : (r : Resource) (size : ℕ) → Contains (needed_resources size) r → needs r size ≡ true
 does_need r size has = list_any-from_Any (same_resource r) (needed_resources size) (has.0, r, has.1, has.2, same_self r)
 
-did_need : (r : Resource) (log : List Prefix) (q : Prefix) → Contains log q → Contains (needed_resources (length q.entries)) r → was_needed r (sizes_of log) ≡ true
+pub did_need : (r : Resource) (log : List Prefix) (q : Prefix) → Contains log q → Contains (needed_resources (length q.entries)) r → was_needed r (sizes_of log) ≡ true
 did_need r log q among has =
     let size = map_has (λ (p : Prefix). length p.entries) log q among in
     list_any-from_Any (needs r) (sizes_of log) (size.0, length q.entries, size.1, size.2, does_need r (length q.entries) has)
 
-shown_text : (r : Resource) (log : List Prefix) (z : Prefix) → was_needed r (sizes_of log) ≡ true → last_of log ≡ Some z → (r ≡ resource.Checkpoint → ⊥) → shown sha256 r log ≡ Some (text_of sha256 r z.entries)
+pub shown_text : (r : Resource) (log : List Prefix) (z : Prefix) → was_needed r (sizes_of log) ≡ true → last_of log ≡ Some z → (r ≡ resource.Checkpoint → ⊥) → shown sha256 r log ≡ Some (text_of sha256 r z.entries)
 shown_text (resource.Tile t) log z was last other =
     ap (λ (b : Bool). cond b (tile_if sha256 t (last_of log)) None) was ∙ ap (tile_if sha256 t) last
 shown_text (resource.Entries index width) log z was last other =

@@ -4,3 +4,4 @@ pub mod Lists
 pub mod Ways
 pub mod Follows
 pub mod Found
+pub mod Exact

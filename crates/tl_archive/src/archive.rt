@@ -2,8 +2,9 @@
 
 ghost use Rattle.std.specs.Prelude.{◌≡◌, ◌++◌, List, OnOk, OnErr, IfErr};
 ghost use Rattle.sha2.specs.Sha256.{sha256};
-ghost use Rattle.tl_publisher.specs.Histories.{Prefix, Grew};
+ghost use Rattle.tl_publisher.specs.Histories.{Prefix, Grew, IsGrowing, StartsWith};
 ghost use Rattle.tl_archive.specs.Complete.{KeptSafe};
+ghost use Rattle.tl_archive.specs.Exact.{AnswersLast, IsExact, IsNext};
 ghost use Rattle.tl_archive.specs.Faults.{ArchiveFails};
 ghost use Rattle.tl_archive.specs.Publishing.{ArchivesLast, GoesOn, IsArchive, sure_after};
 
@@ -52,7 +53,8 @@ impl<S: Shelf> Archive<S> {
     /// Writes the last publication of the board to the shelf, and answers its size; `None` where nothing is published.
     /// What it needs beyond the last one that is surely there is put first, and its checkpoint after it: at every
     /// moment, also where a call of the shelf failed, what is there is complete. After a failure the next call goes on
-    /// from the last one that is surely there.
+    /// from the last one that is surely there. While each publication is written in turn, the shelf has exactly what
+    /// the board shows.
     pub fn publish<A: Allocator, B: Allocator + Copy>(
         &mut self,
         alloc: B,
@@ -68,6 +70,10 @@ impl<S: Shelf> Archive<S> {
         ensures archived { (earlier : List Prefix) → GoesOn earlier board.new.log
             → IsArchive sha256 (earlier ++ board.old.log) (S.kept self.old.shelf) self.old.sure
             → ArchivesLast sha256 board.old.log board.new.log (S.kept self.new.shelf).held result }
+        ensures exact { (history log : List Prefix) → IsNext history log → StartsWith board.new.log log
+            → IsGrowing board.new.log → AnswersLast log result
+            → IsExact sha256 history (S.kept self.old.shelf) self.old.sure
+            → IsExact sha256 log (S.kept self.new.shelf) self.new.sure }
         ensures sure { self.new.sure ≡ sure_after self.old.sure result }
         ensures unfailed { OnOk result (S.faults self.new.shelf ≡ S.faults self.old.shelf) }
         ensures failed { IfErr result (ArchiveFails board.old.log board.new.log self.old.sure (S.faults self.old.shelf) (S.faults self.new.shelf)) }

@@ -12,7 +12,7 @@ use tl_command::{AppendOptions, MOST_INPUT, RunFault, ServeOptions, WitnessOptio
 use tl_device::Counted;
 use tl_folder::{AnyDisk, FileFault, FolderShelf, LineFile, lock_folder, open_lines};
 use tl_note::is_key_name;
-use tl_serve::{Host, run_append, run_serve, run_serve_shelf, run_witness};
+use tl_serve::{Host, run_append, run_serve, run_serve_shelf, run_witness, threads_of};
 
 // Why a folder or a file was not opened.
 fn refusal(fault: FileFault) -> RunFault {
@@ -60,7 +60,9 @@ pub(crate) fn append<H: Host + Files<File = File>, R: Read, W: Write>(
 
 /// Serves a log that is in a folder, where one is given and no other process works there, and else in memory.
 pub(crate) fn serve<
-    H: Host + Files<File = File> + Net<Listener = TcpListener, Stream = TcpStream>,
+    H: Host
+        + Files<File = File, Dir: Send + Sync>
+        + Net<Listener = TcpListener, Stream = TcpStream>,
     R: Read + Send,
     E: Write,
 >(
@@ -84,8 +86,11 @@ pub(crate) fn serve<
         Err(fault) => return Err(refusal(fault)),
     };
     let shelf = open_folder(*rt, alloc, dir)?;
-    let shown = open_folder(*rt, alloc, dir)?;
-    run_serve_shelf(rt, alloc, options, shelf, &shown, reader, errors)
+    let mut shown = Vec::new(alloc);
+    for _ in 0..threads_of(rt, options.server.threads) {
+        shown.push(open_folder(*rt, alloc, dir)?)?;
+    }
+    run_serve_shelf(rt, alloc, options, shelf, shown, reader, errors)
 }
 
 /// Serves a witness whose lines are those of a file, where one is given, and else of the input and the output.

@@ -144,7 +144,10 @@ fn check_as_asked<H: Files, R: Read, W: Write>(
 /// Runs the command of a job with its options: each job its own command, which reads the reader and writes the writer.
 /// `keygen`, `serve` and `witness` write to `errors` too, and the last two may wait.
 pub fn run_job<
-    H: Host + Files<File = File> + Net<Listener = TcpListener, Stream = TcpStream> + RandomSource,
+    H: Host
+        + Files<File = File, Dir: Send + Sync>
+        + Net<Listener = TcpListener, Stream = TcpStream>
+        + RandomSource,
     R: Read + Send,
     W: Write + Send,
     E: Write,
@@ -187,7 +190,10 @@ pub fn run_job<
 /// none, the text on how to call the program is written to `errors`, the status is 2, and nothing is read or written
 /// else.
 pub fn run_words<
-    H: Host + Files<File = File> + Net<Listener = TcpListener, Stream = TcpStream> + RandomSource,
+    H: Host
+        + Files<File = File, Dir: Send + Sync>
+        + Net<Listener = TcpListener, Stream = TcpStream>
+        + RandomSource,
     R: Read + Send,
     W: Write + Send,
     E: Write,

@@ -33,6 +33,6 @@ pub use append::run_append;
 pub use gate::Gate;
 pub use host::Host;
 pub use saver::LineSaver;
-pub use serve::{run_serve, serve_gated};
+pub use serve::{run_serve, serve_gated, threads_of};
 pub use serve_shelf::run_serve_shelf;
 pub use witness::run_witness;

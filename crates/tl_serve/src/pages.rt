@@ -29,19 +29,19 @@ impl Pages for BoardReader<Global> {
     }
 }
 
-/// A shelf that threads share.
+/// What a shelf has.
 #[derive(Drop)]
-pub(crate) struct OnShelf<'s, S> {
-    pub(crate) shelf: &'s S,
+pub(crate) struct OnShelf<S> {
+    pub(crate) shelf: S,
 }
 
-impl<S: Shelf + Sync> Pages for OnShelf<'_, S> {
+impl<S: Shelf + Send + Drop> Pages for OnShelf<S> {
     fn answer<I: Read, O: Write>(
         &mut self,
         alloc: Global,
         reader: &mut Counted<I>,
         writer: &mut Counted<O>,
     ) -> Result<Option<u16>, ServeFault> {
-        serve_shelf(alloc, reader, writer, self.shelf)
+        serve_shelf(alloc, reader, writer, &self.shelf)
     }
 }

@@ -33,7 +33,7 @@ use tl_sequencer::Submitter;
 const MOST_THREADS: u32 = 63;
 
 /// How many threads answer: as many as are asked for, or else as the machine has, and at most 63.
-pub(crate) fn threads_of<H: Threads>(rt: &H, asked: Option<u64>) -> u32
+pub fn threads_of<H: Threads>(rt: &H, asked: Option<u64>) -> u32
     ensures { result ≤ 63 }
 {
     let count = match asked {
@@ -105,7 +105,7 @@ impl<H: Host + Net<Listener = TcpListener, Stream = TcpStream>, G: Gate> Server<
         requires senders { All (λ l. IsSenderOf l.submitter (O.shown operator).log) lanes.items }
     {
         let (rt, alloc, options) = (self.rt, self.alloc, self.options);
-        let threads = threads_of(rt, options.server.threads);
+        let threads = u32::try_from(kept.pages.len()).unwrap_or(u32::MAX);
         let door = Door::open(rt, alloc, &options.server, threads, log)?;
         let followed = if options.follow {
             Some(Followed { lines, reader })

@@ -15,7 +15,7 @@ use crate::log_keys::{LogKeys, keys_of};
 use crate::opening::{Plan, lanes_of, read_plan};
 use crate::pages::OnShelf;
 use crate::running::Kept;
-use crate::serve::{Server, publish_first, threads_of};
+use crate::serve::{Server, publish_first};
 use std::alloc::{AllocError, Global};
 use std::io::{Read, Write};
 use std::net::{Net, TcpListener, TcpStream};
@@ -26,14 +26,10 @@ use tl_note::{Signer, Verifier, is_key_name};
 use tl_publisher::{BoardReader, Operator, OperatorFault, ResumeFault};
 use tl_sequencer::Submitter;
 
-// The shelf for each of so many threads.
-fn pages_of<'s, P>(
-    alloc: Global,
-    shelf: &'s P,
-    threads: u32,
-) -> Result<Vec<OnShelf<'s, P>>, AllocError> {
+// What each thread answers from.
+fn pages_of<P: Drop>(alloc: Global, shown: Vec<P>) -> Result<Vec<OnShelf<P>>, AllocError> {
     let mut pages = Vec::new(alloc);
-    for _ in 0..threads {
+    for shelf in shown {
         pages.push(OnShelf { shelf })?;
     }
     Ok(pages)
@@ -41,9 +37,9 @@ fn pages_of<'s, P>(
 
 // A log on a shelf, as it is served: where publications are put, and where requests are answered from.
 #[derive(Drop)]
-struct OnShelves<'s, S, P> {
+struct OnShelves<S, P> {
     archive: Archive<S>,
-    shown: &'s P,
+    shown: Vec<P>,
 }
 
 // Serves a log on a shelf that was opened, and is to be sent what was planned.
@@ -51,7 +47,7 @@ fn serve_opened<
     H: Host + Net<Listener = TcpListener, Stream = TcpStream>,
     O: LiveLog,
     S: Shelf + Drop,
-    P: Shelf + Sync,
+    P: Shelf + Send + Drop,
     R: Read + Send,
     L: Write,
 >(
@@ -59,7 +55,7 @@ fn serve_opened<
     opened: O,
     submitters: Vec<Submitter<Global, Global>>,
     readers: Vec<BoardReader<Global>>,
-    shelves: OnShelves<'_, S, P>,
+    shelves: OnShelves<S, P>,
     plan: Plan,
     reader: &mut Counted<R>,
     log: &mut Counted<L>,
@@ -79,8 +75,7 @@ fn serve_opened<
         shown,
     } = shelves;
     keeper.keep(server.alloc, &mut board)?;
-    let threads = threads_of(server.rt, server.options.server.threads);
-    let pages = pages_of(server.alloc, shown, threads)?;
+    let pages = pages_of(server.alloc, shown)?;
     let kept = Kept {
         keeper,
         board,
@@ -93,14 +88,14 @@ fn serve_opened<
 fn serve_new<
     H: Host + Net<Listener = TcpListener, Stream = TcpStream>,
     S: Shelf + Drop,
-    P: Shelf + Sync,
+    P: Shelf + Send + Drop,
     R: Read + Send,
     L: Write,
 >(
     server: &Server<'_, H, OpenGate>,
     signers: Vec<Box<dyn Signer>>,
     shelf: S,
-    shown: &P,
+    shown: Vec<P>,
     reader: &mut Counted<R>,
     log: &mut Counted<L>,
 ) -> Result<(), RunFault> {
@@ -127,7 +122,7 @@ fn serve_new<
 fn serve_found<
     H: Host + Net<Listener = TcpListener, Stream = TcpStream>,
     S: Shelf + Drop,
-    P: Shelf + Sync,
+    P: Shelf + Send + Drop,
     R: Read + Send,
     L: Write,
 >(
@@ -136,7 +131,7 @@ fn serve_found<
     opens: &[Box<dyn Verifier>],
     found: FoundLog,
     shelf: S,
-    shown: &P,
+    shown: Vec<P>,
     reader: &mut Counted<R>,
     log: &mut Counted<L>,
 ) -> Result<(), RunFault> {
@@ -162,13 +157,13 @@ fn serve_found<
     }
 }
 
-/// As `run_serve`, but the log is on a shelf, and goes on from what is there: requests are answered by
-/// `tl_server::serve_shelf` with what `shown` has, which is to be the same shelf, and a publication is told once it is
-/// archived. Where that fails, the server ends. It may wait.
+/// As `run_serve`, but the log is on a shelf, and goes on from what is there: a thread for each of `shown`, which are to
+/// be of the same shelf (`threads_of` tells how many the options ask for), answers by `tl_server::serve_shelf` with what
+/// is there, and a publication is told once it is archived. Where that fails, the server ends. It may wait.
 pub fn run_serve_shelf<
     H: Host + Net<Listener = TcpListener, Stream = TcpStream>,
     S: Shelf + Drop,
-    P: Shelf + Sync,
+    P: Shelf + Send + Drop,
     R: Read + Send,
     L: Write,
 >(
@@ -176,7 +171,7 @@ pub fn run_serve_shelf<
     alloc: Global,
     options: &ServeOptions,
     shelf: S,
-    shown: &P,
+    shown: Vec<P>,
     reader: &mut Counted<R>,
     log: &mut Counted<L>,
 ) -> Result<(), RunFault>

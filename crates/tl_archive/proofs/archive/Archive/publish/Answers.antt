@@ -2,7 +2,9 @@ use Rattle.std.proofs.Common.{◌++◌, ◌∙◌, refl, sym, subst}
 use Rattle.sha2.specs.Sha256.{sha256}
 use Rattle.tl_archive.specs.Complete.{KeptSafe}
 use Rattle.tl_archive.specs.Publishing.{Archived, IsArchive}
+use Rattle.tl_archive.specs.Exact.{IsExact}
 use Rattle.tl_archive.proofs.Follows.{IsLatest, inside, is_latest, none_latest, looked_latest, same_archive, kept_after, safe_after, whole_kept, whole_archived, all_lawful}
+use Rattle.tl_archive.proofs.Exact.{exact_inside, exact_none, exact_written}
 use Rattle.tl_archive.proofs.archive.Archive.publish.Goals as goal
 
 pub returns-in_err-head-clause-kept : goal.returns-in_err-head-clause-kept
@@ -64,3 +66,13 @@ returns-clause-archived g c = λ earlier goes was.
     let latest : IsLatest c.latest.new.self.log c.in-Some.head.size c.as_slice-2.result.now = is_latest c.latest.new.self.log c.in_ok-head.field-0 _ _ _ c.in_ok-head.ensures.1 c.in-Some.is refl c.as_slice-2.ensures.value in
     whole_archived earlier c.args.board.now.log c.latest.new.self.log c.write_all.new.board.log _ _ _ _ _ _ _ _ latest (c.as_slice.ensures.value ∙ c.in_ok-added.ensures.resources) (looked_latest _ _ _ _ c.latest.ensures).1
     c.write_all.ensures.grew.1 c.if-head-self.false c.write_all.ensures.writes goes within c.in_ok-write_all.ensures.written
+
+pub returns-in_default-clause-exact : goal.returns-in_default-clause-exact
+returns-in_default-clause-exact g c = λ history log next starts growing answer was. exact_none history log _ _ next answer was
+
+pub returns-clause-exact : goal.returns-clause-exact
+returns-clause-exact g c = λ history log next starts growing answer was.
+    let within : IsExact sha256 history (g.S.Shelf.kept c.self.inside.shelf) c.self.inside.sure = exact_inside history g.S.Shelf.kept _ _ (sym c.self.view_is) was in
+    let latest : IsLatest c.latest.new.self.log c.in-Some.head.size c.as_slice-2.result.now = is_latest c.latest.new.self.log c.in_ok-head.field-0 _ _ _ c.in_ok-head.ensures.1 c.in-Some.is refl c.as_slice-2.ensures.value in
+    exact_written history log c.latest.new.self.log c.write_all.new.board.log _ _ _ _ _ _ _ _ latest (c.as_slice.ensures.value ∙ c.in_ok-added.ensures.resources)
+    c.write_all.ensures.grew.1 c.if-head-self.false c.write_all.ensures.writes c.in_ok-write_all.ensures.written next starts growing answer within

@@ -1,0 +1,5 @@
+pub mod Apart
+pub mod Forks
+pub mod Heads
+pub mod LeafReads
+pub mod SameEntries

@@ -1,0 +1,6 @@
+pub mod Faults
+pub mod Bundles
+pub mod Checked
+pub mod Refused
+pub mod Trusted
+pub mod Inner

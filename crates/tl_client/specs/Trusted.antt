@@ -1,0 +1,59 @@
+-- A checkpoint that a log signed and enough witnesses cosigned (C2SP tlog-checkpoint, tlog-cosignature).
+use Rattle.std.specs.Prelude.{◌≡◌, ◌≢◌, ℕ, ◌<◌, ◌≤◌, List, length, Result, Ok, Err}
+use Rattle.tl_hash.specs.Bytes.{Bytes}
+use Rattle.tl_note.specs.Key.{Key}
+use Rattle.tl_note.specs.Note.{IsNote}
+use Rattle.tl_note.specs.OpenNote.{OpensNote}
+use Rattle.tl_note.specs.declared.fault.NoteFault.{NoteFault}
+use Rattle.tl_note.specs.declared.fault.NoteFault.TheVariants as note
+use Rattle.tl_checkpoint.specs.Checkpoint.{Head, head_of, checkpoint_text}
+use Rattle.tl_checkpoint.specs.OpenCheckpoint.{IsSignedCheckpoint, HasOtherText}
+use Rattle.tl_checkpoint.specs.Quorum.{AreApart, AreFirst}
+use Rattle.tl_checkpoint.specs.declared.checkpoint.Checkpoint.{Checkpoint}
+use Rattle.tl_checkpoint.specs.declared.checkpoint.CheckpointFault.{CheckpointFault}
+use Rattle.tl_checkpoint.specs.declared.checkpoint.CheckpointFault.TheVariants as checkpoint
+use Rattle.tl_checkpoint.specs.declared.quorum.Cosigned.{Cosigned}
+use Rattle.tl_client.specs.declared.head.HeadFault.{HeadFault}
+use Rattle.tl_client.specs.declared.head.HeadFault.TheVariants as head
+
+-- a fault of a note, passed on
+abbrev pub after_note : NoteFault → HeadFault
+after_note note.OutOfMemory = head.OutOfMemory
+after_note fault = head.Unopened fault
+
+-- a fault of a checkpoint's text, passed on
+abbrev pub after_checkpoint : CheckpointFault → HeadFault
+after_checkpoint checkpoint.OutOfMemory = head.OutOfMemory
+after_checkpoint fault = head.NoCheckpoint fault
+
+-- whom a client trusts: the keys of the log, and so many of these witnesses
+pub record Trust : Type 0 where
+  pub keys : List Key
+  pub witnesses : List Key
+  pub need : ℕ
+
+-- the bytes are a note of this checkpoint that opens under the log's keys, and so many witnesses cosigned it
+pub record IsCosigned (bytes : Bytes) (trust : Trust) (c : Head) (count : ℕ) : Type 0 where
+  pub signed : IsSignedCheckpoint bytes trust.keys c
+  pub found : List Cosigned
+  pub first : AreFirst (checkpoint_text c) trust.witnesses signed.lines found
+  pub counted : length found ≡ count
+
+-- enough witnesses cosigned it
+abbrev pub IsTrusted : Bytes → Trust → Head → Type 0
+IsTrusted bytes trust c = (count : ℕ) × IsCosigned bytes trust c count × (trust.need ≤ count)
+
+-- so many did, and that isn't enough
+abbrev pub HasTooFew : Bytes → Trust → ℕ → Type 0
+HasTooFew bytes trust count = (c : Head) × IsCosigned bytes trust c count × (count < trust.need)
+
+-- the checkpoint, or the first reason why it isn't trusted; memory is asked for a note alone
+abbrev pub OpensHead : {A : Type 0} → Bytes → Trust → Result (Checkpoint A) HeadFault → Type 0
+OpensHead bytes trust (Ok c) = AreApart trust.witnesses × IsTrusted bytes trust (head_of c)
+OpensHead bytes trust (Err head.Twice) = AreApart trust.witnesses → ⊥
+OpensHead {A = A} bytes trust (Err (head.Unopened fault)) =
+    AreApart trust.witnesses × OpensNote {A = A} bytes trust.keys (Err fault) × (fault ≢ note.OutOfMemory)
+OpensHead {A = A} bytes trust (Err (head.NoCheckpoint fault)) =
+    AreApart trust.witnesses × HasOtherText A bytes trust.keys fault × (fault ≢ checkpoint.OutOfMemory)
+OpensHead bytes trust (Err (head.TooFew count)) = AreApart trust.witnesses × HasTooFew bytes trust count
+OpensHead bytes trust (Err head.OutOfMemory) = AreApart trust.witnesses × IsNote bytes

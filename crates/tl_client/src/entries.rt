@@ -1,0 +1,91 @@
+//! The entries of a log, a bundle at a time.
+
+ghost use Rattle.std.specs.Prelude.{◌≡◌, ◌↔◌, ◌<◌, ◌≤◌, ◌+◌, ◌*◌, ◌^◌, map, vec_items, IsTrue, IfOk, IfErr, OnOk};
+ghost use Rattle.sha2.specs.Sha256.{sha256};
+ghost use Rattle.tl_tile.specs.Bundle.{AreEntries};
+ghost use Rattle.tl_tile.specs.Fetched.{tiles_of};
+ghost use Rattle.tl_tile.specs.Verified.{AreVerified};
+ghost use Rattle.tl_client.specs.Bundles.{HasBundle, bundle_width};
+ghost use Rattle.tl_client.specs.Checked.{AreCheckedEntries};
+ghost use Rattle.tl_client.specs.Refused.{RefusesEntries};
+ghost use Rattle.tl_client.specs.Inner.Leaves.{IsNoBundle};
+
+use crate::fault::ClientFault;
+use crate::leaves::{check_leaves, read_leaves};
+use crate::source::ResourceSource;
+use std::alloc::Allocator;
+use tl_hash::Hash;
+use tl_tile::{FetchedTiles, Resource, read_bundle};
+
+// Whether a log of this size has the bundle.
+fn has_bundle(size: u64, bundle: u64) -> bool
+    ensures { IsTrue result ↔ HasBundle size bundle }
+{
+    size <= 1 << 62 && bundle < (size + 255) / 256
+}
+
+// How many entries the bundle has in a log of this size.
+fn width_of(size: u64, bundle: u64) -> u32
+    requires { HasBundle size bundle }
+    ensures value { result ≡ bundle_width size bundle }
+    ensures some { 0 < result }
+    ensures most { result ≤ 256 }
+    ensures inside { 256 * bundle + result ≤ size }
+{
+    if bundle < size / 256 {
+        256
+    } else {
+        (size % 256) as u32
+    }
+}
+
+// The entries of a bundle of this width, as the source has them.
+fn fetch_bundle<S: ResourceSource, A: Allocator + Copy>(
+    alloc: A,
+    source: &S,
+    bundle: u64,
+    width: u32,
+) -> Result<Vec<Vec<u8, A>, A>, ClientFault>
+    requires index { bundle < 2 ^ 56 }
+    requires some { 0 < width }
+    requires most { width ≤ 256 }
+    ensures entries { IfOk result (λ entries. AreEntries width (map vec_items entries.items)) }
+    ensures refused { IfErr result IsNoBundle }
+{
+    let resource = Resource::Entries {
+        index: bundle,
+        width,
+    };
+    let bytes = source.get(alloc, &resource)?;
+    let entries = read_bundle(alloc, &bytes, width)?;
+    Ok(entries)
+}
+
+/// The entries of a bundle of a log of this size and root, each of them checked (C2SP tlog-tiles, "Log Entries"): the
+/// bundle's bytes are what the source has, and each entry has the leaf hash that the checked tiles have. `fetched` then
+/// holds the tiles that were fetched and no others, also after a fault. `Range` comes where the log has no such bundle,
+/// counted from 0, or more than 2^62 entries; `BadBundle` where the bytes are no bundle of its width; `BadEntry` of the
+/// first entry that isn't the log's.
+pub fn read_entries<S: ResourceSource, A: Allocator + Copy>(
+    alloc: A,
+    source: &S,
+    size: u64,
+    root: Hash,
+    bundle: u64,
+    fetched: &mut FetchedTiles<A>,
+) -> Result<Vec<Vec<u8, A>, A>, ClientFault>
+    ensures entries { IfOk result (λ entries. AreCheckedEntries sha256 (tiles_of fetched.new) size root bundle (map vec_items entries.items)) }
+    ensures verified { OnOk result (AreVerified sha256 size root fetched.new) }
+    ensures within { OnOk result (HasBundle size bundle) }
+    ensures refused { IfErr result (RefusesEntries (record { size = size; root = root; bundle = bundle; fetched = fetched.new })) }
+{
+    *fetched = FetchedTiles::new(alloc);
+    if !has_bundle(size, bundle) {
+        return Err(ClientFault::Range);
+    }
+    let width = width_of(size, bundle);
+    let entries = fetch_bundle(alloc, source, bundle, width)?;
+    let leaves = read_leaves(alloc, source, size, root, 256 * bundle, width, fetched)?;
+    check_leaves(256 * bundle, &entries, &leaves)?;
+    Ok(entries)
+}

@@ -1,0 +1,111 @@
+//! Why a client has no answer.
+
+ghost use Rattle.std.specs.Prelude.{◌≡◌};
+ghost use Rattle.tl_client.specs.Faults.{after_bundle, after_prove, after_read, after_source};
+ghost use Rattle.tl_client.specs.declared.fault.ClientFault.TheVariants.{OutOfMemory};
+
+use std::alloc::{AllocError, AllocFailed};
+use thiserror::Error;
+use tl_proof::ProveFault;
+use tl_store::ReadFault;
+use tl_tile::{BundleFault, SourceFault};
+
+/// Why a client has no answer.
+#[derive(Clone, Copy, Debug, PartialEq, Eq, Error)]
+pub enum ClientFault {
+    /// The log has no such entry or bundle, or more than 2^62 entries.
+    #[error("out of range")]
+    Range,
+    /// The source has not got a resource.
+    #[error("a resource is unavailable")]
+    Unavailable,
+    /// This tile is not the one that the root was made with.
+    #[error("bad tile: level {level}, index {index}, width {width}")]
+    BadTile { level: u32, index: u64, width: u32 },
+    /// The bytes are no entry bundle of the width that it has to have.
+    #[error("the bytes are no entry bundle")]
+    BadBundle,
+    /// The entry with this index, counted from 0, is not the one that the root was made with.
+    #[error("entry {0} is not the log's")]
+    BadEntry(u64),
+    /// The new size is below the old one.
+    #[error("the log shrank")]
+    Shrunk,
+    /// The new log is no continuation of the old one.
+    #[error("the log forked")]
+    Forked,
+    /// Memory ran out.
+    #[error("out of memory")]
+    OutOfMemory,
+}
+
+impl From<AllocError> for ClientFault {
+    ghost from_gives = { λ _ fault. fault ≡ OutOfMemory };
+
+    fn from(_error: AllocError) -> ClientFault {
+        ClientFault::OutOfMemory
+    }
+}
+
+impl<X: Drop> From<AllocFailed<X>> for ClientFault {
+    ghost from_gives = { λ _ fault. fault ≡ OutOfMemory };
+
+    fn from(_error: AllocFailed<X>) -> ClientFault {
+        ClientFault::OutOfMemory
+    }
+}
+
+impl From<SourceFault> for ClientFault {
+    ghost from_gives = { λ fault wider. wider ≡ after_source fault };
+
+    fn from(fault: SourceFault) -> ClientFault {
+        match fault {
+            SourceFault::Unavailable => ClientFault::Unavailable,
+            SourceFault::OutOfMemory => ClientFault::OutOfMemory,
+        }
+    }
+}
+
+impl From<ReadFault> for ClientFault {
+    ghost from_gives = { λ fault wider. wider ≡ after_read fault };
+
+    fn from(fault: ReadFault) -> ClientFault {
+        match fault {
+            ReadFault::OutOfRange => ClientFault::Range,
+            ReadFault::Source => ClientFault::Unavailable,
+            ReadFault::OutOfMemory => ClientFault::OutOfMemory,
+            ReadFault::BadTile {
+                level,
+                index,
+                width,
+            } => ClientFault::BadTile {
+                level,
+                index,
+                width,
+            },
+        }
+    }
+}
+
+impl From<BundleFault> for ClientFault {
+    ghost from_gives = { λ fault wider. wider ≡ after_bundle fault };
+
+    fn from(fault: BundleFault) -> ClientFault {
+        match fault {
+            BundleFault::OutOfMemory => ClientFault::OutOfMemory,
+            _ => ClientFault::BadBundle,
+        }
+    }
+}
+
+impl From<ProveFault> for ClientFault {
+    ghost from_gives = { λ fault wider. wider ≡ after_prove fault };
+
+    fn from(fault: ProveFault) -> ClientFault {
+        match fault {
+            ProveFault::BadRange => ClientFault::Range,
+            ProveFault::Read(fault) => ClientFault::from(fault),
+            ProveFault::OutOfMemory => ClientFault::OutOfMemory,
+        }
+    }
+}

@@ -1,0 +1,73 @@
+//! The growth of a log from one size and root to another.
+
+ghost use Rattle.std.specs.Prelude.{◌≡◌, ◌≤◌, ◌^◌, ◌⊎◌, [], IfOk, IfErr};
+ghost use Rattle.sha2.specs.Sha256.{sha256};
+ghost use Rattle.tl_proof.specs.Acceptance.{AcceptsConsistency};
+ghost use Rattle.tl_client.specs.Refused.{IsBetween, RefusesGrowth};
+ghost use Rattle.tl_client.specs.Inner.Growing.{IsMadeProof, RefusesProof};
+
+use crate::fault::ClientFault;
+use crate::head::Head;
+use crate::kept::Kept;
+use crate::leaves::read_leaves;
+use crate::source::ResourceSource;
+use std::alloc::Allocator;
+use tl_hash::{Hash, Sha256Tree};
+use tl_proof::{check_tree, prove_tree};
+use tl_tile::{FetchedTiles, TileHashReader};
+
+// A consistency proof between the sizes, from checked tiles of a log with this root: those over the last old entry. It
+// has no hash where there is no old entry or no new one.
+fn proof_between<S: ResourceSource, A: Allocator + Copy>(
+    alloc: A,
+    source: &S,
+    old: u64,
+    size: u64,
+    root: Hash,
+) -> Result<Vec<Hash, A>, ClientFault>
+    requires order { old ≤ size }
+    requires limit { size ≤ 2 ^ 62 }
+    ensures empty { IfOk result (λ proof. (old ≡ 0) ⊎ (old ≡ size) → proof.items ≡ []) }
+    ensures made { IfOk result (λ proof. IsBetween old size → IsMadeProof sha256 old size root proof.items) }
+    ensures refused { IfErr result (RefusesProof old size) }
+{
+    if old == 0 || old == size {
+        return Ok(Vec::new(alloc));
+    }
+    let mut fetched = FetchedTiles::new(alloc);
+    let _leaf = read_leaves(alloc, source, size, root, old - 1, 1, &mut fetched)?;
+    let reader = TileHashReader::new(alloc, Sha256Tree, size, root, Kept(&fetched));
+    let proof = prove_tree(alloc, Sha256Tree, size, old, &reader)?;
+    Ok(proof)
+}
+
+/// A consistency proof that the new log begins with the old one (RFC 6962, section 2.1.2). It is made from checked
+/// tiles of the new log, those over the last old entry, and accepted. `Shrunk` comes where the new log is the smaller
+/// one, then `Range` where it has more than 2^62 entries; `Forked` where the old root is not that of the new log's
+/// first entries. From no entries, and between equal sizes, nothing is fetched.
+pub fn check_growth<S: ResourceSource, A: Allocator + Copy>(
+    alloc: A,
+    source: &S,
+    old: Head,
+    new: Head,
+) -> Result<Vec<Hash, A>, ClientFault>
+    ensures accepted { IfOk result (λ proof. AcceptsConsistency sha256 proof.items new.size new.root old.size old.root) }
+    ensures refused { IfErr result (RefusesGrowth old new) }
+{
+    let Head {
+        size: old_size,
+        root: old_root,
+    } = old;
+    let Head { size, root } = new;
+    if size < old_size {
+        return Err(ClientFault::Shrunk);
+    }
+    if size > 1 << 62 {
+        return Err(ClientFault::Range);
+    }
+    let proof = proof_between(alloc, source, old_size, size, root)?;
+    if !check_tree(Sha256Tree, &proof, size, root, old_size, old_root) {
+        return Err(ClientFault::Forked);
+    }
+    Ok(proof)
+}

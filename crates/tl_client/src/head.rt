@@ -1,0 +1,93 @@
+//! What a client trusts of a log: a size and a root, from a checkpoint that the log signed and witnesses cosigned.
+
+ghost use Rattle.std.specs.Prelude.{◌≡◌, map};
+ghost use Rattle.tl_client.specs.Trusted.{OpensHead, after_checkpoint, after_note};
+ghost use Rattle.tl_client.specs.declared.head.HeadFault.TheVariants.{OutOfMemory};
+
+use std::alloc::{AllocError, Allocator};
+use thiserror::Error;
+use tl_checkpoint::{Checkpoint, CheckpointFault, are_apart, first_cosignatures, parse};
+use tl_hash::Hash;
+use tl_note::{NoteFault, Verifier, open_note};
+
+/// A size of a log, and the root of the tree over so many entries.
+#[derive(Clone, Copy, Debug, PartialEq, Eq)]
+pub struct Head {
+    pub size: u64,
+    pub root: Hash,
+}
+
+/// Why a checkpoint isn't trusted, in the order in which it is found.
+#[derive(Clone, Copy, Debug, PartialEq, Eq, Error)]
+pub enum HeadFault {
+    /// Two witnesses have one name.
+    #[error("two witnesses have one name")]
+    Twice,
+    /// The bytes are no note, or it doesn't open under the log's keys (C2SP signed-note, "Verification").
+    #[error("{0}")]
+    Unopened(NoteFault),
+    /// The note opens, and its text is no checkpoint.
+    #[error("{0}")]
+    NoCheckpoint(CheckpointFault),
+    /// Only so many witnesses cosigned it.
+    #[error("only {0} witnesses cosigned the checkpoint")]
+    TooFew(u32),
+    /// Memory ran out.
+    #[error("out of memory")]
+    OutOfMemory,
+}
+
+impl From<AllocError> for HeadFault {
+    ghost from_gives = { λ _ fault. fault ≡ OutOfMemory };
+
+    fn from(_error: AllocError) -> HeadFault {
+        HeadFault::OutOfMemory
+    }
+}
+
+impl From<NoteFault> for HeadFault {
+    ghost from_gives = { λ fault wider. wider ≡ after_note fault };
+
+    fn from(fault: NoteFault) -> HeadFault {
+        match fault {
+            NoteFault::OutOfMemory => HeadFault::OutOfMemory,
+            _ => HeadFault::Unopened(fault),
+        }
+    }
+}
+
+impl From<CheckpointFault> for HeadFault {
+    ghost from_gives = { λ fault wider. wider ≡ after_checkpoint fault };
+
+    fn from(fault: CheckpointFault) -> HeadFault {
+        match fault {
+            CheckpointFault::OutOfMemory => HeadFault::OutOfMemory,
+            _ => HeadFault::NoCheckpoint(fault),
+        }
+    }
+}
+
+/// The checkpoint of a signed note that opens under the log's keys (C2SP tlog-checkpoint), and that at least `need` of
+/// the witnesses cosigned, each of whom has another name (C2SP tlog-cosignature). A line that is of no witness, or
+/// isn't valid for this checkpoint, isn't counted, nor is a witness's second line. `OutOfMemory` is of a note alone.
+pub fn open_head<A: Allocator + Copy>(
+    alloc: A,
+    note: &str,
+    verifiers: &[Box<dyn Verifier>],
+    witnesses: &[Box<dyn Verifier>],
+    need: u32,
+) -> Result<Checkpoint<A>, HeadFault>
+    ensures { OpensHead note.now (record { keys = map (λ v. key v) verifiers.now; witnesses = map (λ w. key w) witnesses.now; need = need }) result }
+{
+    if !are_apart(witnesses) {
+        return Err(HeadFault::Twice);
+    }
+    let opened = open_note(alloc, note, verifiers)?;
+    let checkpoint = parse(alloc, opened.note.text)?;
+    let lines = opened.note.signatures.as_slice();
+    let found = first_cosignatures(alloc, opened.note.text, lines, witnesses)?;
+    if found.len() < need as usize {
+        return Err(HeadFault::TooFew(found.len() as u32));
+    }
+    Ok(checkpoint)
+}

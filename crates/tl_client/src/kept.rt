@@ -1,0 +1,24 @@
+//! Fetched tiles as a source of tiles.
+
+ghost use Rattle.std.specs.Prelude.{◌≡◌, Some, None};
+ghost use Rattle.tl_tile.specs.Fetched.{tiles_of};
+
+use std::alloc::Allocator;
+use tl_tile::{FetchedTiles, SourceFault, Tile, TileSource};
+
+/// A source that has the tiles that were fetched, and no others.
+#[derive(Clone, Copy, Drop)]
+pub(crate) struct Kept<'f, F: Allocator>(pub(crate) &'f FetchedTiles<F>);
+
+impl<F: Allocator> TileSource for Kept<'_, F> {
+    ghost may_answer = { λ s t text. tiles_of s.0.now t ≡ Some text };
+
+    ghost may_lack = { λ s t. tiles_of s.0.now t ≡ None };
+
+    fn fetch<A: Allocator + Copy>(&self, alloc: A, tile: Tile) -> Result<Vec<u8, A>, SourceFault> {
+        match self.0.text_of(tile) {
+            Some(text) => Ok(Vec::from_slice(alloc, text)?),
+            None => Err(SourceFault::Unavailable),
+        }
+    }
+}

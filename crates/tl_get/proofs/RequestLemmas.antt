@@ -1,0 +1,14 @@
+-- The pieces of a request are its text.
+use Rattle.std.proofs.Common.{◌≡◌, ◌∙◌, ◌++◌, ℕ, List, [], ap, append-nil, append_assoc, codes, sym}
+use Rattle.tl_get.specs.Request.{request_text}
+use Rattle.tl_get.specs.Inner.Sending.{pieces_text, request_pieces}
+
+joined : (a b c d e : List ℕ) → a ++ (b ++ (c ++ (d ++ (e ++ [])))) ≡ (((a ++ b) ++ c) ++ d) ++ e
+joined a b c d e =
+    ap (λ (l : List ℕ). a ++ (b ++ (c ++ (d ++ l)))) (append-nil e)
+    ∙ sym (append_assoc ((a ++ b) ++ c) d e ∙ (append_assoc (a ++ b) c (d ++ e) ∙ append_assoc a b (c ++ (d ++ e))))
+
+pub request_in_pieces : (host target : List ℕ) → pieces_text (λ p. p) (request_pieces host target) ≡ request_text host target
+unfolding request_text
+request_in_pieces host target =
+    joined (codes "GET ") target (codes " HTTP/1.1\r\nHost: ") host (codes "\r\nConnection: close\r\n\r\n")

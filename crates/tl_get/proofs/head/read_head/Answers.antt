@@ -1,0 +1,66 @@
+use Rattle.std.proofs.Common.{take, true, false, arith}
+use Rattle.std.proofs.lemmas.List.{length-take-le}
+use Rattle.tl_get.proofs.HeadLaws.{no_response, refused_input, ended_input, long_input}
+use Rattle.tl_get.proofs.ReadLemmas.{gave_more, gave_end, gave_none}
+use Rattle.tl_get.proofs.head.read_head.Goals as goal
+
+pub loop-len-init : goal.loop-len-init
+loop-len-init g c = record { within = omega arith; gave = gave_none _ _; none = no_response }
+
+pub returns-then-n-eq0 : goal.returns-then-n-eq0
+returns-then-n-eq0 g c =
+    let part = c.read_some.auto.buf in
+    let at_end = c.in-Some.ensures.ended c.if-n-eq0.true (omega (arith, part, c.loop-len-test.true)) in
+    record {
+      bytes = take c.loop-len.len c.loop-len.buf;
+      ended = true;
+      gave = gave_end _ _ _ _ _ _ _ _ _ c.loop-len.invariant.gave c.if-n-eq0.true c.in-Some.ensures.consumed at_end c.in-Some.ensures.steady;
+      so = ended_input _ c.loop-len.invariant.none;
+    }
+
+pub returns-in-Whole : goal.returns-in-Whole
+returns-in-Whole g c =
+    let buf = c.loop-len.auto.buf in
+    let part = c.read_some.auto.buf in
+    let bound = c.in-Some.ensures.bound in
+    record {
+      fits = omega (arith, buf, part, bound, c.requires.bytes, c.loop-len-test.true);
+      room = omega (arith, c.parse.auto.headers, c.loop-len.auto.headers, c.requires.fields);
+      gave = gave_more _ _ _ _ _ _ _ _ _ _ _ (omega (arith, c.loop-len-test.true)) bound c.loop-len.invariant.gave c.in-Some.ensures.consumed c.in-Some.ensures.steady;
+      within = c.in-Whole.ensures.0;
+      of = c.in-Whole.ensures.1;
+    }
+
+pub loop-len-preserved : goal.loop-len-preserved
+loop-len-preserved g c =
+    let buf = c.loop-len.auto.buf in
+    let part = c.read_some.auto.buf in
+    let bound = c.in-Some.ensures.bound in
+    record {
+      within = omega (arith, buf, part, bound, c.requires.bytes, c.loop-len-test.true);
+      gave = gave_more _ _ _ _ _ _ _ _ _ _ _ (omega (arith, c.loop-len-test.true)) bound c.loop-len.invariant.gave c.in-Some.ensures.consumed c.in-Some.ensures.steady;
+      none = c.in-Partial.ensures;
+    }
+
+pub returns-in-Refused : goal.returns-in-Refused
+returns-in-Refused g c =
+    let bound = c.in-Some.ensures.bound in
+    record {
+      bytes = _;
+      ended = false;
+      gave = gave_more _ _ _ _ _ _ c.loop-len.len _ c.in-Some.n c.loop-len.buf c.read_some.new.buf (omega (arith, c.loop-len-test.true)) bound c.loop-len.invariant.gave c.in-Some.ensures.consumed c.in-Some.ensures.steady;
+      so = refused_input _ false c.in-Refused.ensures;
+    }
+
+pub returns : goal.returns
+returns g c =
+    let buf = c.loop-len.auto.buf in
+    let within = c.loop-len.invariant.within in
+    let full = c.loop-len-test.false in
+    let long = length-take-le c.loop-len.len c.loop-len.buf (omega (arith, buf, c.requires.bytes, within)) in
+    record {
+      bytes = take c.loop-len.len c.loop-len.buf;
+      ended = false;
+      gave = c.loop-len.invariant.gave;
+      so = long_input _ false (omega (arith, long, full, within, buf, c.requires.bytes)) c.loop-len.invariant.none;
+    }

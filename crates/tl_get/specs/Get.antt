@@ -1,0 +1,42 @@
+-- One request over a reader and a writer.
+use Rattle.std.specs.Prelude.{◌≡◌, ◌⊎◌, ℕ, [], ◌++◌, Bool, true, Err}
+use Rattle.std.specs.Io.KnownBytes.{Consumes, IsAtEnd}
+use Rattle.tl_device.specs.Device.{Passage, IsSteady, HasFailed, IsUnread, IsUnwritten, WroteWhole, WrotePart}
+use Rattle.tl_hash.specs.Bytes.{Bytes}
+use Rattle.tl_get.specs.Request.{IsAskable, request_text}
+use Rattle.tl_get.specs.Response.{Outcome, Responds, Unless}
+use Rattle.tl_get.specs.declared.fault.GetFault.TheVariants.{BadTarget, Read, Write}
+
+-- the reader gave these bytes; `ended` says that it was seen to be at its end after them
+pub record Gave (i : Passage) (bytes : Bytes) (ended : Bool) : Type 0 where
+  pub consumed : Consumes i.old i.new bytes
+  pub at_end : ended ≡ true → IsAtEnd i.new
+  pub steady : IsSteady i
+
+-- the whole input may be this one, of which these bytes were read
+pub record MayBe (bytes : Bytes) (ended : Bool) (input : Bytes) : Type 0 where
+  pub more : Bytes
+  pub joined : input ≡ bytes ++ more
+  pub none : ended ≡ true → more ≡ []
+
+-- this holds of the whole input, whatever follows what was read
+pub record Came (Holds : Bytes → Type 0) (i : Passage) : Type 0 where
+  pub bytes : Bytes
+  pub ended : Bool
+  pub gave : Gave i bytes ended
+  pub so : (input : Bytes) → MayBe bytes ended input → Holds input
+
+-- a read failed, or what was read decides
+abbrev pub Receives : (Bytes → Outcome → Type 0) → Passage → Outcome → Type 0
+Receives Decides i r = ((r ≡ Err Read) × HasFailed i) ⊎ Came (λ input. Decides input r) i
+
+-- the table of a request, of which the first row that applies decides; i is the reader, o the writer:
+--     BadTarget  host and target can't be asked for; nothing is written or read
+--     Write      a write failed, after some of the request's first bytes; nothing is read
+--     Read       the request was written, and a read failed
+--     else       the request was written, and the response decides
+abbrev pub Gets : Bytes → Bytes → ℕ → Passage → Passage → Outcome → Type 0
+Gets host target limit i o r =
+    Unless (IsAskable host target) ((r ≡ Err BadTarget) × IsUnwritten o × IsUnread i)
+    (((r ≡ Err Write) × WrotePart o (request_text host target) × IsUnread i)
+    ⊎ (WroteWhole o (request_text host target) × Receives (Responds limit) i r))

@@ -1,0 +1,47 @@
+-- The steps of reading a body.
+use Rattle.std.specs.Prelude.{◌≡◌, ℕ, ◌<◌, [], ◌++◌, ◌∷◌, true, false, Bool, Option, Some, None, length, drop, vec_items}
+use Rattle.tl_device.specs.Device.{Passage, HasFailed}
+use Rattle.tl_hash.specs.Bytes.{Bytes}
+use Rattle.tl_get.specs.Get.{Gave}
+use Rattle.tl_get.specs.declared.body.Body.{Body}
+use Rattle.tl_get.specs.declared.body.Body.TheVariants.{Failed, NoMemory, Ended, Full}
+
+-- what was read goes on from the beginning of a body and no further
+pub record GrownBody (i : Passage) (begun body : Bytes) : Type 0 where
+  pub bytes : Bytes
+  pub gave : Gave i bytes false
+  pub joined : begun ++ bytes ≡ body
+
+-- what was read makes a body of so many bytes full
+pub record FullBody (i : Passage) (begun : Bytes) (most : ℕ) (body : Bytes) : Type 0 where
+  pub bytes : Bytes
+  pub gave : Gave i bytes false
+  pub joined : begun ++ bytes ≡ body ++ drop most begun
+  pub whole : length body ≡ most
+
+-- the input ended with a body of fewer bytes
+pub record EndedBody (i : Passage) (begun : Bytes) (most : ℕ) (body : Bytes) : Type 0 where
+  pub bytes : Bytes
+  pub gave : Gave i bytes true
+  pub joined : begun ++ bytes ≡ body
+  pub short : length body < most
+
+-- some of a body came
+pub record SomeBody (i : Passage) (begun : Bytes) (most : ℕ) : Type 0 where
+  pub bytes : Bytes
+  pub gave : Gave i bytes false
+  pub some : 0 < length (begun ++ bytes)
+  pub wanted : 0 < most
+
+-- reading a body that begins so, up to so many bytes
+abbrev pub ReadsUpTo : {A : Type 0} → Passage → Bytes → ℕ → Body A → Type 0
+ReadsUpTo i begun most Failed = HasFailed i
+ReadsUpTo i begun most NoMemory = SomeBody i begun most
+ReadsUpTo i begun most (Ended body) = EndedBody i begun most (vec_items body)
+ReadsUpTo i begun most (Full body) = FullBody i begun most (vec_items body)
+
+-- whether the input has ended
+abbrev pub TellsEnd : Passage → Option Bool → Type 0
+TellsEnd i None = HasFailed i
+TellsEnd i (Some true) = Gave i [] true
+TellsEnd i (Some false) = (b : ℕ) × Gave i (b ∷ []) false

@@ -1,0 +1,53 @@
+-- The steps of reading a head.
+use Rattle.std.specs.Prelude.{◌≡◌, ℕ, ◌≤◌, List, false, Option, Ok, Err, Result, length, take}
+use Rattle.httparse.specs.declared.spans.HeaderSpan.{HeaderSpan}
+use Rattle.httparse.specs.declared.spans.ResponseSpans.{ResponseSpans}
+use Rattle.httparse.specs.Spans.{IsResponseWithin, IsResponseOf, ResponseOverflows}
+use Rattle.httparse.specs.Grammar.{HasNoResponse}
+use Rattle.tl_device.specs.Device.{Passage, HasFailed}
+use Rattle.tl_hash.specs.Bytes.{Bytes}
+use Rattle.tl_get.specs.Fields.{HasLength, IsPlain}
+use Rattle.tl_get.specs.Get.{Came, Gave}
+use Rattle.tl_get.specs.Response.{Begins, Begun, HeadDecides}
+use Rattle.tl_get.specs.declared.fault.GetFault.{GetFault}
+use Rattle.tl_get.specs.declared.head.Parsed.{Parsed}
+use Rattle.tl_get.specs.declared.head.Parsed.TheVariants.{Whole, Partial, Refused}
+use Rattle.tl_get.specs.declared.head.HeadRead.{HeadRead}
+use Rattle.tl_get.specs.declared.head.HeadRead.TheVariants.{Failed, Missing, Head}
+
+-- what the parser says of bytes, with room for 64 fields
+abbrev pub Parses : Bytes → List HeaderSpan → Parsed → Type 0
+Parses bytes headers (Whole spans) = IsResponseWithin bytes headers spans × IsResponseOf bytes headers spans
+Parses bytes headers Partial = HasNoResponse bytes
+Parses bytes headers Refused = ResponseOverflows 64 bytes
+
+-- the input begins with no head within the limits
+abbrev pub HasNoHead : Bytes → Type 0
+HasNoHead input = (b : Begun) → ¬ (Begins input b)
+
+-- what was read is the first bytes of the buffer, and begins with a head
+pub record IsHeaded (i : Passage) (buf : Bytes) (headers : List HeaderSpan) (len : ℕ) (spans : ResponseSpans) : Type 0 where
+  pub fits : len ≤ 8192
+  pub room : length headers ≡ 64
+  pub gave : Gave i (take len buf) false
+  pub within : IsResponseWithin (take len buf) headers spans
+  pub of : IsResponseOf (take len buf) headers spans
+
+-- reading a head into a buffer of 8,192 bytes and a list of 64 spans
+abbrev pub ReadsHead : Passage → Bytes → List HeaderSpan → HeadRead → Type 0
+ReadsHead i buf headers Failed = HasFailed i
+ReadsHead i buf headers Missing = Came HasNoHead i
+ReadsHead i buf headers (Head len spans) = IsHeaded i buf headers len spans
+
+-- what a head announces that is taken
+pub record IsTaken (minor status : ℕ) (fields : List (Bytes × Bytes)) (n : Option ℕ) : Type 0 where
+  pub version : minor ≡ 1
+  pub found : status ≡ 200
+  pub plain : IsPlain fields
+  pub announced : HasLength fields n
+
+-- a head is taken with its length, or decides alone
+abbrev pub Announces : ℕ → ℕ → List (Bytes × Bytes) → Result (Option ℕ) GetFault → Type 0
+Announces minor status fields (Ok n) = IsTaken minor status fields n
+Announces minor status fields (Err fault) =
+    (limit : ℕ) (rest : Bytes) → HeadDecides limit minor status fields rest (Err fault)

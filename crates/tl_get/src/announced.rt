@@ -1,0 +1,34 @@
+//! What the head of a response announces.
+
+ghost use Rattle.std.specs.Prelude.{map, take};
+ghost use Rattle.httparse.specs.Spans.{IsResponseWithin, header_bytes};
+ghost use Rattle.tl_get.specs.Inner.Heads.{Announces};
+
+use crate::fault::GetFault;
+use crate::fields::{lacks_field, length_in};
+use httparse::spans::{HeaderSpan, ResponseSpans};
+
+/// The length of the body that the head at the front of these bytes announces, or why none is taken.
+pub(crate) fn announced(
+    bytes: &[u8],
+    headers: &[HeaderSpan],
+    spans: ResponseSpans,
+) -> Result<Option<u64>, GetFault>
+    requires { IsResponseWithin bytes.now headers.now spans }
+    ensures { Announces spans.version spans.code (map (header_bytes bytes.now) (take spans.headers headers.now)) result }
+{
+    if spans.version != 1 {
+        return Err(GetFault::Version);
+    }
+    if spans.code != 200 {
+        return Err(GetFault::Status(spans.code));
+    }
+    let fields = &headers[..spans.headers];
+    if !lacks_field(bytes, fields, b"Transfer-Encoding") {
+        return Err(GetFault::Encoded);
+    }
+    if !lacks_field(bytes, fields, b"Content-Encoding") {
+        return Err(GetFault::Encoded);
+    }
+    length_in(bytes, fields)
+}

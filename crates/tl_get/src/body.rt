@@ -1,0 +1,170 @@
+//! Reading the body of a response.
+
+ghost use Rattle.std.specs.Prelude.{◌≡◌, ◌+◌, ◌<◌, ◌≤◌, ◌++◌, Some, None, OnOk, OnErr, length, vec_len, vec_capacity};
+ghost use Rattle.tl_device.specs.Device.{passage};
+ghost use Rattle.tl_get.specs.Get.{Receives};
+ghost use Rattle.tl_get.specs.Response.{BodyDecides, outcome};
+ghost use Rattle.tl_get.specs.Inner.Bodies.{ReadsUpTo, TellsEnd};
+
+use crate::fault::GetFault;
+use std::alloc::{AllocError, Allocator};
+use std::io::Read;
+use tl_device::Counted;
+
+// The most bytes of one read.
+const BLOCK: usize = 16_384;
+
+// What came of reading a body.
+#[derive(Drop)]
+pub(crate) enum Body<A: Allocator> {
+    // A read failed.
+    Failed,
+    // A growth was refused.
+    NoMemory,
+    // The input ended with so few bytes.
+    Ended(Vec<u8, A>),
+    // As many bytes as were wanted.
+    Full(Vec<u8, A>),
+}
+
+// Makes room for so many bytes more of a body that is to have at most `most`. The room doubles, up to those.
+fn make_room<A: Allocator + Copy>(
+    alloc: A,
+    body: &mut Vec<u8, A>,
+    more: usize,
+    most: usize,
+) -> Result<(), AllocError>
+    requires { vec_len body.old + more ≤ most }
+    ensures kept { OnOk result (body.new.items ≡ body.old.items) }
+    ensures room { OnOk result (vec_len body.new + more ≤ vec_capacity body.new) }
+    ensures refused { OnErr result (0 < more) }
+{
+    let len = body.len() + more;
+    if len <= body.capacity() {
+        return Ok(());
+    }
+    let room = body.capacity().saturating_mul(2).max(len).min(most);
+    let mut larger = Vec::with_capacity(alloc, room)?;
+    larger.extend_from_slice(body.as_slice())?;
+    *body = larger;
+    Ok(())
+}
+
+// Appends bytes to a body that is to have at most `most`.
+fn append<A: Allocator + Copy>(
+    alloc: A,
+    body: &mut Vec<u8, A>,
+    bytes: &[u8],
+    most: usize,
+) -> Result<(), AllocError>
+    requires { vec_len body.old + length bytes.now ≤ most }
+    ensures appended { OnOk result (body.new.items ≡ body.old.items ++ bytes.now) }
+    ensures len { OnOk result (vec_len body.new ≡ vec_len body.old + length bytes.now) }
+    ensures refused { OnErr result (0 < length bytes.now) }
+{
+    make_room(alloc, body, bytes.len(), most)?;
+    body.extend_from_slice(bytes)
+}
+
+// Reads a body up to so many bytes, of which the first may have come with the head. It grows as they come.
+fn read_up_to<A: Allocator + Copy, I: Read>(
+    alloc: A,
+    reader: &mut Counted<I>,
+    begun: &[u8],
+    most: usize,
+) -> Body<A>
+    ensures { ReadsUpTo (passage I.remaining reader.old reader.new) begun.now most result }
+{
+    let mut body = Vec::new(alloc);
+    let mut block = [0u8; BLOCK];
+    let Ok(()) = append(alloc, &mut body, &begun[..begun.len().min(most)], most) else {
+        return Body::NoMemory;
+    };
+    while body.len() < most {
+        let room = BLOCK.min(most - body.len());
+        let n = match reader.read_some(&mut block[..room]) {
+            None => return Body::Failed,
+            Some(n) => n,
+        };
+        if n == 0 {
+            return Body::Ended(body);
+        }
+        let Ok(()) = append(alloc, &mut body, &block[..n], most) else {
+            return Body::NoMemory;
+        };
+    }
+    Body::Full(body)
+}
+
+// Whether the input has ended. None where a read failed.
+fn has_ended<I: Read>(reader: &mut Counted<I>) -> Option<bool>
+    ensures { TellsEnd (passage I.remaining reader.old reader.new) result }
+{
+    let mut next = [0u8; 1];
+    match reader.read_some(&mut next) {
+        None => None,
+        Some(n) => Some(n == 0),
+    }
+}
+
+// Reads a body of so many bytes.
+fn read_sized<A: Allocator + Copy, I: Read>(
+    alloc: A,
+    reader: &mut Counted<I>,
+    begun: &[u8],
+    len: usize,
+) -> Result<Vec<u8, A>, GetFault>
+    ensures { Receives (λ rest r. BodyDecides len (Some len) (begun.now ++ rest) r)
+        (passage I.remaining reader.old reader.new) (outcome result) }
+{
+    match read_up_to(alloc, reader, begun, len) {
+        Body::Failed => Err(GetFault::Read),
+        Body::NoMemory => Err(GetFault::OutOfMemory),
+        Body::Ended(_) => Err(GetFault::Short),
+        Body::Full(body) => Ok(body),
+    }
+}
+
+// Reads a body up to the end of the input.
+fn read_rest<A: Allocator + Copy, I: Read>(
+    alloc: A,
+    reader: &mut Counted<I>,
+    begun: &[u8],
+    limit: usize,
+) -> Result<Vec<u8, A>, GetFault>
+    ensures { Receives (λ rest r. BodyDecides limit None (begun.now ++ rest) r)
+        (passage I.remaining reader.old reader.new) (outcome result) }
+{
+    if begun.len() > limit {
+        return Err(GetFault::TooLarge);
+    }
+    let body = match read_up_to(alloc, reader, begun, limit) {
+        Body::Failed => return Err(GetFault::Read),
+        Body::NoMemory => return Err(GetFault::OutOfMemory),
+        Body::Ended(body) => return Ok(body),
+        Body::Full(body) => body,
+    };
+    match has_ended(reader) {
+        None => Err(GetFault::Read),
+        Some(true) => Ok(body),
+        Some(false) => Err(GetFault::TooLarge),
+    }
+}
+
+/// Reads the body that follows a head, of which the first bytes may have come with it.
+pub(crate) fn read_body<A: Allocator + Copy, I: Read>(
+    alloc: A,
+    reader: &mut Counted<I>,
+    begun: &[u8],
+    length: Option<u64>,
+    limit: usize,
+) -> Result<Vec<u8, A>, GetFault>
+    ensures { Receives (λ rest r. BodyDecides limit length (begun.now ++ rest) r)
+        (passage I.remaining reader.old reader.new) (outcome result) }
+{
+    match length {
+        None => read_rest(alloc, reader, begun, limit),
+        Some(n) if n > limit as u64 => Err(GetFault::TooLarge),
+        Some(n) => read_sized(alloc, reader, begun, n as usize),
+    }
+}

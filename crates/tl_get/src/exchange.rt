@@ -1,0 +1,64 @@
+//! One request and its response.
+
+ghost use Rattle.tl_device.specs.Device.{passage};
+ghost use Rattle.tl_get.specs.Get.{Gets, Receives};
+ghost use Rattle.tl_get.specs.Response.{Responds, outcome};
+
+use crate::announced::announced;
+use crate::body::read_body;
+use crate::fault::GetFault;
+use crate::head::{HeadRead, MOST_FIELDS, MOST_HEAD, read_head};
+use crate::sending::send_request;
+use crate::target::is_askable;
+use httparse::spans::EMPTY_HEADER_SPAN;
+use std::alloc::Allocator;
+use std::io::{Read, Write};
+use tl_device::Counted;
+
+// Reads a response.
+fn read_response<A: Allocator + Copy, I: Read>(
+    alloc: A,
+    reader: &mut Counted<I>,
+    limit: usize,
+) -> Result<Vec<u8, A>, GetFault>
+    ensures { Receives (Responds limit) (passage I.remaining reader.old reader.new) (outcome result) }
+{
+    let mut buf = [0u8; MOST_HEAD];
+    let mut headers = [EMPTY_HEADER_SPAN; MOST_FIELDS];
+    match read_head(reader, &mut buf, &mut headers) {
+        HeadRead::Failed => Err(GetFault::Read),
+        HeadRead::Missing => Err(GetFault::NoHead),
+        HeadRead::Head(len, spans) => {
+            let bytes = &buf[..len];
+            match announced(bytes, &headers, spans) {
+                Err(fault) => Err(fault),
+                Ok(length) => read_body(alloc, reader, &bytes[spans.len..], length, limit),
+            }
+        }
+    }
+}
+
+/// Asks a host for a target over HTTP/1.1 by GET, and gives the body of the response with status 200: its
+/// `Content-Length` bytes, or without that field all up to the end of the input, at most `limit` bytes (RFC 9110,
+/// section 9.3.1; RFC 9112, section 6.3). `GetFault` says in its order when there is none. No redirect is followed,
+/// and no coding taken. The body grows as it comes, whatever `Content-Length` says. The connection is of no use after
+/// it.
+pub fn get<A: Allocator + Copy, I: Read, O: Write>(
+    alloc: A,
+    reader: &mut Counted<I>,
+    writer: &mut Counted<O>,
+    host: &str,
+    target: &str,
+    limit: usize,
+) -> Result<Vec<u8, A>, GetFault>
+    ensures { Gets host.now target.now limit
+        (passage I.remaining reader.old reader.new) (passage O.contents writer.old writer.new) (outcome result) }
+{
+    let host = host.as_bytes();
+    let target = target.as_bytes();
+    if !is_askable(host, target) {
+        return Err(GetFault::BadTarget);
+    }
+    send_request(writer, host, target)?;
+    read_response(alloc, reader, limit)
+}

@@ -1,0 +1,53 @@
+//! Why a request gives no body.
+
+ghost use Rattle.std.specs.Prelude.{◌≡◌};
+ghost use Rattle.tl_get.specs.declared.fault.GetFault.TheVariants as faults;
+
+use thiserror::Error;
+use tl_device::WriteFault;
+
+/// Why a request gives no body, in the order in which the refusals are checked.
+#[derive(Clone, Copy, Debug, PartialEq, Eq, Error)]
+pub enum GetFault {
+    /// Host and target can't be asked for. Nothing was written or read.
+    #[error("the host or the target can't be asked for")]
+    BadTarget,
+    /// A write failed, or took no byte. Some of the request's first bytes were written, and nothing was read.
+    #[error("write failed")]
+    Write,
+    /// A read failed.
+    #[error("read failed")]
+    Read,
+    /// The input doesn't begin with the head of a response, of at most 8,192 bytes and 64 fields.
+    #[error("the answer is no response over HTTP/1.1")]
+    NoHead,
+    /// The response is of another version than HTTP/1.1.
+    #[error("the response isn't of HTTP/1.1")]
+    Version,
+    /// The response has this status, which isn't 200.
+    #[error("the response has status {0}")]
+    Status(u16),
+    /// The response has a field Transfer-Encoding or Content-Encoding.
+    #[error("the body is encoded")]
+    Encoded,
+    /// The fields Content-Length of the response aren't one decimal number below 2^63.
+    #[error("the length of the body isn't clear")]
+    BadLength,
+    /// The body has more bytes than the limit.
+    #[error("the body is too large")]
+    TooLarge,
+    /// The input ended before Content-Length bytes of the body.
+    #[error("the body is cut short")]
+    Short,
+    /// A growth was refused.
+    #[error("out of memory")]
+    OutOfMemory,
+}
+
+impl From<WriteFault> for GetFault {
+    ghost from_gives = { λ _ fault. fault ≡ faults.Write };
+
+    fn from(_fault: WriteFault) -> GetFault {
+        GetFault::Write
+    }
+}

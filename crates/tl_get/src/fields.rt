@@ -1,0 +1,82 @@
+//! The fields of a response's head.
+
+ghost use Rattle.std.specs.Prelude.{◌≡◌, ℕ, List, [], ◌∷◌, ◌↔◌, IsTrue, MatchOption, All, codes, length, map};
+ghost use Rattle.httparse.specs.Spans.{IsHeaderWithin, header_bytes};
+ghost use Rattle.tl_hash.specs.Bytes.{Bytes};
+ghost use Rattle.tl_get.specs.Fields.{IsLength, values_of};
+ghost use Rattle.tl_get.specs.Inner.Lengths.{SaysLength};
+
+use crate::fault::GetFault;
+use httparse::spans::HeaderSpan;
+
+// The end of what a length may be.
+const END_OF_LENGTHS: u64 = 1 << 63;
+
+/// Whether no field has this name, whose case doesn't matter.
+pub(crate) fn lacks_field(buf: &[u8], headers: &[HeaderSpan], name: &[u8]) -> bool
+    requires { All (IsHeaderWithin (length buf.now)) headers.now }
+    ensures { IsTrue result ↔ (values_of name.now (map (header_bytes buf.now) headers.now) ≡ []) }
+{
+    let [first, rest @ ..] = headers else {
+        return true;
+    };
+    if first.name.of(buf).eq_ignore_ascii_case(name) {
+        return false;
+    }
+    lacks_field(buf, rest, name)
+}
+
+// The number below 2^63 that digits write. None where the text is no digits, or the number is larger.
+fn number_in(text: &[u8]) -> Option<u64>
+    ensures { MatchOption result ((n : ℕ) → ¬ (IsLength n text.now)) (λ n. IsLength n text.now) }
+{
+    if text.is_empty() {
+        return None;
+    }
+    let mut n: u64 = 0;
+    for byte in text {
+        if !byte.is_ascii_digit() {
+            return None;
+        }
+        n = n.saturating_mul(10).saturating_add((*byte - b'0') as u64);
+    }
+    if n < END_OF_LENGTHS { Some(n) } else { None }
+}
+
+// What one value more of Content-Length announces, in front of what the others announce.
+fn with_value(text: &[u8], below: Result<Option<u64>, GetFault>) -> Result<Option<u64>, GetFault>
+    ensures { (values : List Bytes) → SaysLength values below → SaysLength (text.now ∷ values) result }
+{
+    let Some(n) = number_in(text) else {
+        return Err(GetFault::BadLength);
+    };
+    let others = match below {
+        Err(fault) => return Err(fault),
+        Ok(others) => others,
+    };
+    match others {
+        None => Ok(Some(n)),
+        Some(m) => {
+            if m == n {
+                Ok(Some(n))
+            } else {
+                Err(GetFault::BadLength)
+            }
+        }
+    }
+}
+
+/// The length of the body that the fields announce, or none where no field does. `BadLength` where they aren't clear.
+pub(crate) fn length_in(buf: &[u8], headers: &[HeaderSpan]) -> Result<Option<u64>, GetFault>
+    requires { All (IsHeaderWithin (length buf.now)) headers.now }
+    ensures { SaysLength (values_of (codes "Content-Length") (map (header_bytes buf.now) headers.now)) result }
+{
+    let [first, rest @ ..] = headers else {
+        return Ok(None);
+    };
+    let below = length_in(buf, rest);
+    if !first.name.of(buf).eq_ignore_ascii_case(b"Content-Length") {
+        return below;
+    }
+    with_value(first.value.of(buf), below)
+}

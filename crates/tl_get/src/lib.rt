@@ -1,0 +1,24 @@
+//! One GET request over HTTP/1.1, over any reader and writer, for what a server has under a target.
+//!
+//! ```
+//! let mut reader = Counted::new(&stream);
+//! let mut writer = Counted::new(&stream);
+//! match get(alloc, &mut reader, &mut writer, "example.com", "/checkpoint", 65_536) {
+//!     Ok(body) => {}                    // the whole body, at most 65,536 bytes
+//!     Err(GetFault::Status(404)) => {}  // the server has nothing there
+//!     Err(_) => {}                      // no body that is taken
+//! }
+//! ```
+#![tactic(auto)]
+
+mod announced;
+mod body;
+mod exchange;
+mod fault;
+mod fields;
+mod head;
+mod sending;
+mod target;
+
+pub use exchange::get;
+pub use fault::GetFault;
