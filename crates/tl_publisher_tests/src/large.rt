@@ -13,20 +13,21 @@ const STEPS: [u64; 25] = [
 
 // Sends so many entries of two bytes and publishes them. The reader sees the size.
 fn add_publication(script: &mut Vec<Step>, count: u64, size: u64) -> Result<(), AllocError> {
-    script.push(Step::Send(0, b"xy", count))?;
-    script.push(Step::Take(0, count, count))?;
-    script.push(Step::Publish(Ok(size)))?;
-    script.push(Step::Look(Sight::Size(Some(size))))?;
-    Ok(())
+    script.extend_from_slice(&[
+        Step::Send(0, b"xy", count),
+        Step::Take(0, count, count),
+        Step::Publish(Ok(size)),
+        Step::Look(Sight::Size(Some(size))),
+    ])
 }
 
 // The reader finds a bundle and the tile under it, of this width.
 fn add_pair(script: &mut Vec<Step>, index: u64, width: u32) -> Result<(), AllocError> {
-    let entries = Sight::Length(bundle(index, width), Some(4 * width as usize));
-    script.push(Step::Look(entries))?;
-    let hashes = Sight::Length(tile(0, index, width), Some(32 * width as usize));
-    script.push(Step::Look(hashes))?;
-    Ok(())
+    let length = width as usize;
+    script.extend_from_slice(&[
+        Step::Look(Sight::Length(bundle(index, width), Some(4 * length))),
+        Step::Look(Sight::Length(tile(0, index, width), Some(32 * length))),
+    ])
 }
 
 // The publications: the size of the log after them.

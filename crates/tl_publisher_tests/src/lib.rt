@@ -16,6 +16,8 @@ mod refusals;
 #[cfg(test)]
 mod resumed;
 #[cfg(test)]
+mod resumed_many;
+#[cfg(test)]
 mod scripts;
 #[cfg(test)]
 mod threads;

@@ -137,15 +137,19 @@ fn text_of(alloc: Global, entries: &[Vec<u8>]) -> Result<String, Fail> {
     Ok(write(alloc, &checkpoint)?)
 }
 
+// The checkpoint of a log of these entries, signed.
+fn note_of(alloc: Global, entries: &[Vec<u8>]) -> Result<String, Fail> {
+    let text = text_of(alloc, entries)?;
+    let keys = signers(alloc)?;
+    Ok(sign_note(alloc, alloc, text.as_str(), keys.as_slice())?)
+}
+
 // Whether a publication has the checkpoint of its size, signed.
 fn is_noted(alloc: Global, entries: &[Vec<u8>], one: &Publication) -> Result<bool, Fail> {
-    let Some(part) = entries.get(..one.size as usize) else {
-        return Ok(false);
-    };
-    let text = text_of(alloc, part)?;
-    let keys = signers(alloc)?;
-    let note = sign_note(alloc, alloc, text.as_str(), keys.as_slice())?;
-    Ok(one.note.as_slice() == note.as_bytes())
+    match entries.get(..one.size as usize) {
+        Some(part) => Ok(one.note.as_slice() == note_of(alloc, part)?.as_bytes()),
+        None => Ok(false),
+    }
 }
 
 /// The size of the first publication whose checkpoint is wrong, if there is one.

@@ -6,10 +6,10 @@ ghost use Rattle.tl_publisher.specs.Operating.{IsOperating};
 ghost use Rattle.tl_sequencer.specs.Log.{IsSenderOf};
 
 use crate::logs::{
-    EMPTY_NOTE, LOG_ID, ORIGIN, Sender, TWO_NOTE, end_lane, found, opened, published, send,
-    signers, verifiers,
+    EMPTY_NOTE, LOG_ID, ORIGIN, Sender, TWO_NOTE, end_lane, opened, published, send, signers,
+    verifiers,
 };
-use crate::scripts::{Sight, Step, run_opened, tile, wrong_step};
+use crate::scripts::{Sight, Step, run_opened};
 use std::alloc::{AllocError, Global};
 use std::str;
 use std::sync::Wait;
@@ -58,6 +58,24 @@ fn copies(alloc: Global, bundles: &[&[u8]]) -> Result<Vec<Vec<u8>>, AllocError> 
     Ok(all)
 }
 
+// The log's signers, or none.
+fn keys_of(alloc: Global, are_some: bool) -> Result<Vec<Box<dyn Signer>>, AllocError> {
+    if are_some {
+        signers(alloc)
+    } else {
+        Ok(Vec::new(alloc))
+    }
+}
+
+// The log's verifiers, or none.
+fn known_of(alloc: Global, are_some: bool) -> Result<Vec<Box<dyn Verifier>>, AllocError> {
+    if are_some {
+        verifiers(alloc, ORIGIN, LOG_ID)
+    } else {
+        Ok(Vec::new(alloc))
+    }
+}
+
 // A log that goes on, with one reader.
 fn resumed<R: Wait + Drop>(
     rt: R,
@@ -68,16 +86,8 @@ fn resumed<R: Wait + Drop>(
     ensures own { IfOk result (λ r. All (λ s. IsSenderOf s (⟦<Operator<R> as Shown>⟧.shown r.0).log) r.1.items) }
     ensures many { IfOk result (λ r. vec_len r.1 ≡ asked.lanes) }
 {
-    let keys: Vec<Box<dyn Signer>> = if asked.signed {
-        signers(alloc)?
-    } else {
-        Vec::new(alloc)
-    };
-    let known: Vec<Box<dyn Verifier>> = if asked.known {
-        verifiers(alloc, ORIGIN, LOG_ID)?
-    } else {
-        Vec::new(alloc)
-    };
+    let keys = keys_of(alloc, asked.signed)?;
+    let known = known_of(alloc, asked.known)?;
     let bundles = copies(alloc, asked.bundles)?;
     let (operator, submitters, mut readers) = Operator::resume(
         rt,
@@ -124,26 +134,33 @@ fn run_resumed<R: Wait + Drop>(
     Ok(run_opened(alloc, resumed(rt, alloc, asked)?, steps))
 }
 
+// A checkpoint with an extension line.
+const EXTENDED: Asked = Asked {
+    note: EXTENDED_NOTE,
+    ..ASKED
+};
+
+// The log of no entries.
+const EMPTY: Asked = Asked {
+    note: EMPTY_NOTE,
+    bundles: &[],
+    ..ASKED
+};
+
 #[test]
-fn log_goes_on_from_two_entries(rt: HostRuntime) -> Result<(), Fail> {
-    let alloc = rt.alloc();
-    assert!(rt; run_resumed(&rt, alloc, ASKED, &grows()) == Ok(None));
-    let extended = Asked {
-        note: EXTENDED_NOTE,
-        ..ASKED
-    };
-    assert!(rt; run_resumed(&rt, alloc, extended, &grows()) == Ok(None));
-    let empty = Asked {
-        note: EMPTY_NOTE,
-        bundles: &[],
-        ..ASKED
-    };
+fn log_goes_on_from_two_entries(rt: HostRuntime) {
+    for asked in [ASKED, EXTENDED] {
+        assert!(rt; run_resumed(&rt, rt.alloc(), asked, &grows()) == Ok(None));
+    }
+}
+
+#[test]
+fn log_goes_on_from_no_entries(rt: HostRuntime) {
     let steps = [
         Step::Publish(Ok(0)),
         Step::Look(Sight::Bytes(Resource::Checkpoint, EMPTY_NOTE.as_bytes())),
     ];
-    assert!(rt; run_resumed(&rt, alloc, empty, &steps) == Ok(None));
-    Ok(())
+    assert!(rt; run_resumed(&rt, rt.alloc(), EMPTY, &steps) == Ok(None));
 }
 
 // The rows of what is refused, each with but one thing wrong or more that come after it.
@@ -274,96 +291,5 @@ fn entries_that_were_there_are_of_no_lane(rt: HostRuntime) -> Result<(), Fail> {
     let alloc = rt.alloc();
     let want = Some((3, Some(2), None, Some(0)));
     assert!(rt; closed(&rt, alloc) == Ok(want));
-    Ok(())
-}
-
-// More entries than two bundles have.
-const MANY: u64 = 600;
-
-// What is published of a log of many entries: its checkpoint and its bundles.
-fn published_log<R: Wait + Drop>(
-    rt: R,
-    alloc: Global,
-) -> Result<Option<(Vec<u8>, Vec<Vec<u8>>)>, OperatorFault> {
-    let (mut operator, mut submitters, mut reader) = opened(
-        rt,
-        alloc,
-        signers(alloc)?,
-        1,
-        1024,
-        MANY,
-    )?;
-    let steps = [
-        Step::Send(0, b"one of many", MANY),
-        Step::Take(0, MANY, MANY),
-        Step::Publish(Ok(MANY)),
-    ];
-    let wrong = wrong_step(
-        alloc,
-        &mut operator,
-        submitters.as_mut_slice(),
-        &mut reader,
-        &steps,
-    );
-    let mut bundles = Vec::new(alloc);
-    for (index, width) in [(0, 256), (1, 256), (2, 88)] {
-        if let Some(bundle) = found(alloc, &mut reader, Resource::Entries { index, width }) {
-            let Ok(()) = bundles.push(bundle) else {
-                return Err(OperatorFault::OutOfMemory);
-            };
-        }
-    }
-    match found(alloc, &mut reader, Resource::Checkpoint) {
-        Some(note) if wrong.is_none() && bundles.len() == 3 => Ok(Some((note, bundles))),
-        _ => Ok(None),
-    }
-}
-
-// Why a log doesn't go on from these bundles, or what its first publication shows.
-fn shown_again<R: Wait + Drop>(
-    rt: R,
-    alloc: Global,
-    note: &str,
-    bundles: &[Vec<u8>],
-) -> Result<(Option<Vec<u8>>, Option<usize>), ResumeFault> {
-    let keys = signers(alloc)?;
-    let known = verifiers(alloc, ORIGIN, LOG_ID)?;
-    let (mut operator, _submitters, mut readers) = Operator::resume(
-        rt,
-        alloc,
-        ORIGIN,
-        keys,
-        known.as_slice(),
-        1,
-        4,
-        1000,
-        1,
-        note,
-        bundles,
-    )?;
-    let mut reader = readers.pop().unwrap();
-    if published(&mut operator) != Ok(MANY) {
-        return Ok((None, None));
-    }
-    let tile = found(alloc, &mut reader, tile(0, 1, 256));
-    Ok((
-        found(alloc, &mut reader, Resource::Checkpoint),
-        tile.map(|bytes| bytes.len()),
-    ))
-}
-
-#[test]
-fn log_goes_on_from_many_entries(rt: HostRuntime) -> Result<(), Fail> {
-    let alloc = rt.alloc();
-    let (note, mut bundles) = published_log(&rt, alloc)?.ok_or("not published")?;
-    let text = str::from_utf8(note.as_slice()).map_err(|_| "no text")?;
-    let (again, bytes) = shown_again(&rt, alloc, text, bundles.as_slice())?;
-    assert!(rt; again.map(|shown| shown.as_slice() == note.as_slice()) == Some(true));
-    assert!(rt; bytes == Some(8192));
-    let mut last = bundles.pop().ok_or("no bundle")?;
-    last.truncate(300);
-    bundles.push(last)?;
-    let refused = shown_again(&rt, alloc, text, bundles.as_slice());
-    assert!(rt; refused.err() == Some(ResumeFault::Bundle(2)));
     Ok(())
 }

@@ -229,16 +229,21 @@ fn all_entries(alloc: Global) -> Result<Vec<Vec<u8>>, AllocError> {
     Ok(entries)
 }
 
+// The size of the first publication whose checkpoint is wrong, and the resource of the first look that is, if there are
+// such.
+fn wrong_answers(alloc: Global, walk: &Walk) -> Result<(Option<u64>, Option<Resource>), Fail> {
+    let content = content_of(alloc, all_entries(alloc)?)?;
+    let all = walk.published.as_slice();
+    let note = wrong_note(alloc, &content, all)?;
+    let look = wrong_look(alloc, &content, all, walk.looks.as_slice())?;
+    Ok((note, look))
+}
+
 #[test]
 fn each_answer_is_of_what_was_published(rt: HostRuntime) -> Result<(), Fail> {
-    let alloc = rt.alloc();
-    let walk = walked(&rt, alloc)?;
-    assert!(rt; walk.were_sent);
-    assert!(rt; walk.looks.len() as u64 == LOOKS);
-    let all = walk.published.as_slice();
-    assert!(rt; all.last().map(|one| one.size) == Some(ENTRIES));
-    let content = content_of(alloc, all_entries(alloc)?)?;
-    assert!(rt; wrong_note(alloc, &content, all)? == None);
-    assert!(rt; wrong_look(alloc, &content, all, walk.looks.as_slice())? == None);
+    let walk = walked(&rt, rt.alloc())?;
+    assert!(rt; walk.were_sent && walk.looks.len() as u64 == LOOKS);
+    assert!(rt; walk.published.as_slice().last().map(|one| one.size) == Some(ENTRIES));
+    assert!(rt; wrong_answers(rt.alloc(), &walk)? == (None, None));
     Ok(())
 }

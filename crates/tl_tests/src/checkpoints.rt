@@ -8,7 +8,7 @@ use tl_checkpoint::{
 };
 use tl_hash::Hash;
 use tl_note::{NoteFault, Signer, Verifier, parse_note, parse_signatures};
-use tl_testing::texts::{NO_ENTRY, TWO_ENTRIES};
+use tl_testing::texts::NO_ENTRY;
 use tl_testing::{LengthKey, Refusing};
 
 // More requests than any of the calls makes.
@@ -28,19 +28,26 @@ fn fault_of(alloc: Global, text: &str) -> Option<CheckpointFault> {
     }
 }
 
+// The origin, the size and the text of a checkpoint that was read and written back.
+fn read_back(alloc: Global, text: &str) -> Result<(String, u64, String), CheckpointFault> {
+    let checkpoint = parse(alloc, text)?;
+    let written = write(alloc, &checkpoint)?;
+    Ok((checkpoint.origin, checkpoint.size, written))
+}
+
 #[test]
 fn what_is_read_is_written_back(rt: HostRuntime) -> Result<(), Fail> {
     let alloc = rt.alloc();
     for (size, extensions) in [
-        ("0", ""),
-        ("1", "an extension\n"),
-        ("9223372036854775807", "a\nb c\n— é\n"),
+        (0u64, ""),
+        (1, "an extension\n"),
+        (9223372036854775807, "a\nb c\n— é\n"),
     ] {
         let text = format!(in alloc; "example.com/log\n{size}\n{EMPTY_ROOT}{extensions}")?;
-        let checkpoint = parse(alloc, text.as_str())?;
-        assert!(rt; checkpoint.origin.as_str() == "example.com/log");
-        assert!(rt; checkpoint.size.to_string(alloc)?.as_str() == size);
-        assert!(rt; write(alloc, &checkpoint)?.as_str() == text.as_str());
+        let (origin, read, written) = read_back(alloc, text.as_str())?;
+        assert!(rt;
+            (origin.as_str(), read, written.as_str()) == ("example.com/log", size, text.as_str())
+        );
     }
     Ok(())
 }
@@ -90,23 +97,28 @@ fn a_size_of_64_bits_has_no_text(rt: HostRuntime) -> Result<(), Fail> {
     Ok(())
 }
 
+// A checkpoint of size 7.
+const SEVEN: &str = "a\n7\n47DEQpj8HBSa+/TImW+5JCeuQeRkm5NMpJWZG3hSuFU=\nan extension\n";
+
+// The size of that checkpoint, read on this heap.
+fn size_on(heap: &Refusing<Global>) -> Result<u64, CheckpointFault> {
+    Ok(parse(heap, SEVEN)?.size)
+}
+
 #[test]
 fn parse_answers_out_of_memory(rt: HostRuntime) -> Result<(), Fail> {
-    let text = format!(in rt.alloc(); "a\n7\n{EMPTY_ROOT}an extension\n")?;
     for turn in 1..MOST {
         let heap = Refusing::in_turn(rt.alloc(), turn);
-        let answer = parse(&heap, text.as_str());
+        let size = size_on(&heap);
         if !heap.refused() {
-            assert!(rt; turn > 6);
-            assert!(rt; answer?.size == 7);
+            assert!(rt; turn > 6 && size == Ok(7));
             return Ok(());
         }
-        assert!(rt; answer.err() == Some(CheckpointFault::OutOfMemory));
+        assert!(rt; size == Err(CheckpointFault::OutOfMemory));
         heap.lift();
-        assert!(rt; parse(&heap, text.as_str())?.size == 7);
+        assert!(rt; size_on(&heap) == Ok(7));
     }
-    assert!(rt; false, "each run was refused");
-    Ok(())
+    Err(Fail::new("each run was refused"))
 }
 
 // The witness of the worked examples, under this name.
@@ -114,15 +126,16 @@ fn witness(alloc: Global, name: &str) -> Result<LengthKey, AllocError> {
     LengthKey::new(alloc, name, 0x0A0B0C0D)
 }
 
-// The cosignature line of this text by a witness of this name, with this heap.
+// The cosignature line of this text at this time by a witness of this name, with this heap.
 fn cosign<A: Allocator + Copy>(
     alloc: Global,
     heap: A,
     text: &str,
+    time: u64,
     name: &str,
 ) -> Result<String<A>, NoteFault> {
     let key: Box<dyn Signer> = Box::new(alloc, witness(alloc, name)?)?;
-    cosign_line(heap, alloc, text, TIME, &*key)
+    cosign_line(heap, alloc, text, time, &*key)
 }
 
 // The time of the first line of this note, if it is the witness's cosignature of the text.
@@ -145,88 +158,110 @@ fn time_of<A: Allocator + Copy>(
 fn a_witness_cosigns_the_empty_log(rt: HostRuntime) -> Result<(), Fail> {
     let alloc = rt.alloc();
     assert!(rt; cosign_message(alloc, TIME, NO_ENTRY)?.len() == 94);
-    let line = cosign(alloc, alloc, NO_ENTRY, "witness.example")?;
+    let line = cosign(alloc, alloc, NO_ENTRY, TIME, "witness.example")?;
     assert!(rt; line.as_str() == COSIGNATURE);
-    let refused = cosign(alloc, alloc, NO_ENTRY, "a+b");
+    let refused = cosign(alloc, alloc, NO_ENTRY, TIME, "a+b");
     assert!(rt; refused.err() == Some(NoteFault::BadName(0)));
     Ok(())
+}
+
+// The time of this line in a note of the empty log, if it is a cosignature of the text by a witness of this name.
+fn time_in(alloc: Global, text: &str, line: &str, name: &str) -> Result<Option<u64>, NoteFault> {
+    let note = format!(in alloc; "{NO_ENTRY}\n{line}")?;
+    time_of(alloc, alloc, text, note.as_str(), name)
 }
 
 #[test]
 fn late_times_are_cosigned_and_read_back(rt: HostRuntime) -> Result<(), Fail> {
     let alloc = rt.alloc();
-    let key: Box<dyn Signer> = Box::new(alloc, witness(alloc, "witness.example")?)?;
     for time in [0, u32::MAX as u64 + 1, 1 << 40, u64::MAX] {
-        let line = cosign_line(alloc, alloc, NO_ENTRY, time, &*key)?;
-        let note = format!(in alloc; "{NO_ENTRY}\n{line}")?;
-        let found = time_of(alloc, alloc, NO_ENTRY, note.as_str(), "witness.example")?;
+        let line = cosign(alloc, alloc, NO_ENTRY, time, "witness.example")?;
+        let found = time_in(alloc, NO_ENTRY, line.as_str(), "witness.example")?;
         assert!(rt; found == Some(time));
     }
     Ok(())
 }
 
+// The checkpoint of two entries with an extension line.
+const LONGER: &str = "example.com/log\n2\n+sVCA+fMaWzw38tCySodnbr3CtnmIfS9jZhmLwDjwSU=\nx\n";
+
+// A line whose signature has no time.
+const SHORT: &str = "— witness.example CgsMDQAAAAA=\n";
+
+// Texts, lines and names, each with the time of the line where it is a cosignature.
+const TIMES: [(&str, &str, &str, Option<u64>); 4] = [
+    (NO_ENTRY, COSIGNATURE, "witness.example", Some(TIME)),
+    (LONGER, COSIGNATURE, "witness.example", None),
+    (NO_ENTRY, COSIGNATURE, "another.example", None),
+    (NO_ENTRY, SHORT, "witness.example", None),
+];
+
 #[test]
 fn a_cosignature_is_of_its_text_alone(rt: HostRuntime) -> Result<(), Fail> {
-    let alloc = rt.alloc();
-    let note = format!(in alloc; "{NO_ENTRY}\n{COSIGNATURE}")?;
-    let longer = format!(in alloc; "{TWO_ENTRIES}x\n")?;
-    let cases = [
-        (NO_ENTRY, "witness.example", Some(TIME)),
-        (longer.as_str(), "witness.example", None),
-        (NO_ENTRY, "another.example", None),
-    ];
-    for (text, name, want) in cases {
-        assert!(rt; time_of(alloc, alloc, text, note.as_str(), name)? == want);
+    for (text, line, name, want) in TIMES {
+        assert!(rt; time_in(rt.alloc(), text, line, name)? == want);
     }
-    let short = format!(in alloc; "{NO_ENTRY}\n— witness.example CgsMDQAAAAA=\n")?;
-    assert!(rt; time_of(alloc, alloc, NO_ENTRY, short.as_str(), "witness.example")? == None);
     Ok(())
 }
 
+// Whether the cosignature line made on this heap is the witness's.
+fn is_cosigned(alloc: Global, heap: &Refusing<Global>) -> Result<bool, NoteFault> {
+    let line = cosign(alloc, heap, NO_ENTRY, TIME, "witness.example")?;
+    Ok(line.as_str() == COSIGNATURE)
+}
+
 #[test]
-fn cosignatures_answer_out_of_memory(rt: HostRuntime) -> Result<(), Fail> {
+fn cosign_line_answers_out_of_memory(rt: HostRuntime) -> Result<(), Fail> {
+    for turn in 1..MOST {
+        let heap = Refusing::in_turn(rt.alloc(), turn);
+        let answer = is_cosigned(rt.alloc(), &heap);
+        if !heap.refused() {
+            assert!(rt; turn > 4 && answer == Ok(true));
+            return Ok(());
+        }
+        assert!(rt; answer == Err(NoteFault::OutOfMemory));
+        heap.lift();
+        assert!(rt; is_cosigned(rt.alloc(), &heap) == Ok(true));
+    }
+    Err(Fail::new("each run was refused"))
+}
+
+#[test]
+fn check_cosignature_answers_out_of_memory(rt: HostRuntime) -> Result<(), Fail> {
     let alloc = rt.alloc();
     let note = format!(in alloc; "{NO_ENTRY}\n{COSIGNATURE}")?;
     for turn in 1..MOST {
         let heap = Refusing::in_turn(alloc, turn);
-        let line = cosign(alloc, &heap, NO_ENTRY, "witness.example");
-        let was_refused = heap.refused();
-        match line {
-            Ok(line) => assert!(rt; line.as_str() == COSIGNATURE),
-            Err(fault) => {
-                assert!(rt; was_refused);
-                assert!(rt; fault == NoteFault::OutOfMemory);
-            }
-        }
         let time = time_of(alloc, &heap, NO_ENTRY, note.as_str(), "witness.example");
         if !heap.refused() {
-            assert!(rt; turn > 8);
-            assert!(rt; time? == Some(TIME));
+            assert!(rt; turn > 2 && time == Ok(Some(TIME)));
             return Ok(());
         }
-        match time {
-            Ok(time) => {
-                assert!(rt; was_refused);
-                assert!(rt; time == Some(TIME));
-            }
-            Err(fault) => assert!(rt; fault == NoteFault::OutOfMemory),
-        }
+        assert!(rt; time == Err(NoteFault::OutOfMemory));
     }
-    assert!(rt; false, "each run was refused");
-    Ok(())
+    Err(Fail::new("each run was refused"))
 }
 
-// How many witnesses cosigned the empty log among these signature lines, with this heap.
+// How many of these witnesses cosigned the empty log among these signature lines, with this heap.
+fn found_on(
+    heap: &Refusing<Global>,
+    lines: &str,
+    witnesses: &[Box<dyn Verifier>],
+) -> Result<usize, NoteFault> {
+    if !are_apart(witnesses) {
+        return Err(NoteFault::Unverified);
+    }
+    let lines = parse_signatures(heap, lines)?;
+    let found = first_cosignatures(heap, NO_ENTRY, lines.as_slice(), witnesses)?;
+    Ok(found.len())
+}
+
+// The same of the one witness of the worked examples.
 fn cosigned_on(alloc: Global, heap: &Refusing<Global>, lines: &str) -> Result<usize, NoteFault> {
     let mut witnesses: Vec<Box<dyn Verifier>> = Vec::new(alloc);
     let key = witness(alloc, "witness.example")?;
     witnesses.push(Box::new(alloc, key)?)?;
-    if !are_apart(witnesses.as_slice()) {
-        return Err(NoteFault::Unverified);
-    }
-    let lines = parse_signatures(heap, lines)?;
-    let found = first_cosignatures(heap, NO_ENTRY, lines.as_slice(), witnesses.as_slice())?;
-    Ok(found.len())
+    found_on(heap, lines, witnesses.as_slice())
 }
 
 #[test]
@@ -237,40 +272,50 @@ fn first_cosignatures_answers_out_of_memory(rt: HostRuntime) -> Result<(), Fail>
         let heap = Refusing::in_turn(alloc, turn);
         let answer = cosigned_on(alloc, &heap, lines.as_str());
         if !heap.refused() {
-            assert!(rt; turn > 6);
-            assert!(rt; answer == Ok(1));
+            assert!(rt; turn > 6 && answer == Ok(1));
             return Ok(());
         }
         assert!(rt; answer == Err(NoteFault::OutOfMemory));
     }
-    assert!(rt; false, "each run was refused");
-    Ok(())
+    Err(Fail::new("each run was refused"))
+}
+
+// A checkpoint with an extension line.
+fn extended(alloc: Global) -> Result<Checkpoint<Global>, AllocError> {
+    let origin = String::from_str(alloc, "example.com/log")?;
+    let mut extensions = Vec::new(alloc);
+    extensions.push(String::from_str(alloc, "an extension line")?)?;
+    Ok(Checkpoint {
+        origin,
+        size: 7,
+        root: Hash::from_bytes([3; 32]),
+        extensions,
+    })
+}
+
+// Whether the text of this checkpoint, written on this heap, is this one.
+fn is_written(
+    heap: &Refusing<Global>,
+    checkpoint: &Checkpoint<Global>,
+    want: &str,
+) -> Result<bool, CheckpointFault> {
+    Ok(write(heap, checkpoint)?.as_str() == want)
 }
 
 #[test]
 fn write_answers_out_of_memory(rt: HostRuntime) -> Result<(), Fail> {
-    let alloc = rt.alloc();
-    let mut extensions = Vec::new(alloc);
-    extensions.push(String::from_str(alloc, "an extension line")?)?;
-    let checkpoint = Checkpoint {
-        origin: String::from_str(alloc, "example.com/log")?,
-        size: 7,
-        root: Hash::from_bytes([3; 32]),
-        extensions,
-    };
-    let want = write(alloc, &checkpoint)?;
+    let checkpoint = extended(rt.alloc())?;
+    let want = write(rt.alloc(), &checkpoint)?;
     for turn in 1..MOST {
-        let heap = Refusing::in_turn(alloc, turn);
-        let answer = write(&heap, &checkpoint);
+        let heap = Refusing::in_turn(rt.alloc(), turn);
+        let answer = is_written(&heap, &checkpoint, want.as_str());
         if !heap.refused() {
-            assert!(rt; turn > 4);
-            assert!(rt; answer?.as_str() == want.as_str());
+            assert!(rt; turn > 4 && answer == Ok(true));
             return Ok(());
         }
-        assert!(rt; answer.err() == Some(CheckpointFault::OutOfMemory));
+        assert!(rt; answer == Err(CheckpointFault::OutOfMemory));
         heap.lift();
-        assert!(rt; write(&heap, &checkpoint)?.as_str() == want.as_str());
+        assert!(rt; is_written(&heap, &checkpoint, want.as_str()) == Ok(true));
     }
-    assert!(rt; false, "each run was refused");
-    Ok(())
+    Err(Fail::new("each run was refused"))
 }

@@ -3,8 +3,8 @@
 use std::alloc::{AllocError, Global};
 use std::test::Fail;
 use tl_note::{
-    NoteFault, SignFault, Signer, Verifier, is_key_name, open_note, parse_note, sign_note,
-    write_signature_line,
+    NoteFault, NoteView, SignFault, Signer, Verifier, is_key_name, open_note, parse_note,
+    sign_note, write_signature_line,
 };
 use tl_testing::{LengthKey, Refusing};
 
@@ -83,21 +83,22 @@ const BAD: &str = "— k.example AQIDBAAAAAAAAABA\n";
 const OTHER: &str = "— example.com/log AQIDBAAAAAAAAAA/\n";
 
 #[test]
-fn a_signed_note_is_read_and_opened(rt: HostRuntime) -> Result<(), Fail> {
-    let alloc = rt.alloc();
-    let note = signing(alloc, EMPTY_LOG, &["example.com/log"])?;
-    assert!(rt; note.as_str() == EMPTY_LOG_NOTE);
-    assert!(rt; note.len() == 101);
-    let answer = opening(alloc, note.as_str(), &["example.com/log"])?;
+fn a_signed_note_is_opened(rt: HostRuntime) -> Result<(), Fail> {
+    let note = signing(rt.alloc(), EMPTY_LOG, &["example.com/log"])?;
+    assert!(rt; (note.as_str(), note.len()) == (EMPTY_LOG_NOTE, 101));
+    let answer = opening(rt.alloc(), note.as_str(), &["example.com/log"])?;
     assert!(rt; answer.as_str() == "[0] []");
-    let view = parse_note(alloc, note.as_str())?;
-    assert!(rt; view.text == EMPTY_LOG);
-    assert!(rt; view.signatures.len() == 1);
-    let line = &view.signatures[0];
-    assert!(rt; line.name() == "example.com/log");
-    assert!(rt; line.key_id() == 0x01020304);
+    Ok(())
+}
+
+#[test]
+fn a_signed_note_is_read(rt: HostRuntime) -> Result<(), Fail> {
+    let view = parse_note(rt.alloc(), EMPTY_LOG_NOTE)?;
+    assert!(rt; view.text == EMPTY_LOG && view.signatures.len() == 1);
+    let line = view.signatures.first().ok_or("no line")?;
+    assert!(rt; line.name() == "example.com/log" && line.key_id() == 0x01020304);
     assert!(rt; line.base64() == "AQIDBAAAAAAAAAA/");
-    let signature = line.decode(alloc)?;
+    let signature = line.decode(rt.alloc())?;
     assert!(rt; signature.as_slice() == [0, 0, 0, 0, 0, 0, 0, 0x3F].as_slice());
     Ok(())
 }
@@ -112,61 +113,62 @@ fn the_text_ends_at_the_last_empty_line(rt: HostRuntime) -> Result<(), Fail> {
     Ok(())
 }
 
+// The signature lines of a note, the names of the keys that open it, and what comes of it.
+const OPENINGS: [(&[&str], &[&str], &str); 9] = [
+    (&[GOOD], &["k.example"], "[0] []"),
+    (&[GOOD, BAD], &["k.example"], "[0] []"),
+    (&[GOOD, OTHER], &["k.example"], "[0] [1]"),
+    (&[OTHER, OTHER, GOOD], &["k.example"], "[2] [0, 1]"),
+    (&[BAD], &["k.example"], "InvalidSignature(0)"),
+    (&[BAD, GOOD], &["k.example"], "InvalidSignature(0)"),
+    (&[OTHER], &["k.example"], "Unverified"),
+    (&[OTHER, GOOD], &["k.example", "k.example"], "Ambiguous(1)"),
+    (
+        &[OTHER, GOOD],
+        &["k.example", "example.com/log"],
+        "InvalidSignature(0)",
+    ),
+];
+
 #[test]
 fn lines_that_count_decide(rt: HostRuntime) -> Result<(), Fail> {
-    let alloc = rt.alloc();
-    let rows: [(&[&str], &[&str], &str); 9] = [
-        (&[GOOD], &["k.example"], "[0] []"),
-        (&[GOOD, BAD], &["k.example"], "[0] []"),
-        (&[GOOD, OTHER], &["k.example"], "[0] [1]"),
-        (&[OTHER, OTHER, GOOD], &["k.example"], "[2] [0, 1]"),
-        (&[BAD], &["k.example"], "InvalidSignature(0)"),
-        (&[BAD, GOOD], &["k.example"], "InvalidSignature(0)"),
-        (&[OTHER], &["k.example"], "Unverified"),
-        (&[OTHER, GOOD], &["k.example", "k.example"], "Ambiguous(1)"),
-        (
-            &[OTHER, GOOD],
-            &["k.example", "example.com/log"],
-            "InvalidSignature(0)",
-        ),
-    ];
-    for (lines, names, want) in rows {
-        let note = gap_note(alloc, lines)?;
-        assert!(rt; opening(alloc, note.as_str(), names)?.as_str() == want);
+    for (lines, names, want) in OPENINGS {
+        let note = gap_note(rt.alloc(), lines)?;
+        assert!(rt; opening(rt.alloc(), note.as_str(), names)?.as_str() == want);
     }
     Ok(())
 }
 
+// Messages that are no notes.
+const MALFORMED: [&str; 20] = [
+    "",
+    "a\n",
+    "a\n\n",
+    "\n— k.example AQIDBAAAAAAAAAAF\n",
+    "a\n— k.example AQIDBAAAAAAAAAAF\n",
+    "a\n\n— k.example AQIDBAAAAAAAAAAF",
+    "a\n\n— k.example AQIDBAAAAAAAAAAF\n\n",
+    "a\n\n— k.example AQIDBAAAAAAAAAAF\nb\n",
+    "a\r\n\n— k.example AQIDBAAAAAAAAAAF\n",
+    "a\n\n-- k.example AQIDBAAAAAAAAAAF\n",
+    "a\n\n—  k.example AQIDBAAAAAAAAAAF\n",
+    "a\n\n— k.example  AQIDBAAAAAAAAAAF\n",
+    "a\n\n— k+example AQIDBAAAAAAAAAAF\n",
+    "a\n\n— k\u{a0}example AQIDBAAAAAAAAAAF\n",
+    "a\n\n— k.example\n",
+    "a\n\n— k.example AQIDBA==\n",
+    "a\n\n— k.example AQIDBAU\n",
+    "a\n\n— k.example AQIDBAV=\n",
+    "a\n\n— k.example AQIDBAU=\r\n",
+    "a\n\n— k.example AQIDBA-_\n",
+];
+
 #[test]
 fn what_is_no_note_is_malformed(rt: HostRuntime) -> Result<(), Fail> {
-    let alloc = rt.alloc();
-    let messages = [
-        "",
-        "a\n",
-        "a\n\n",
-        "\n— k.example AQIDBAAAAAAAAAAF\n",
-        "a\n— k.example AQIDBAAAAAAAAAAF\n",
-        "a\n\n— k.example AQIDBAAAAAAAAAAF",
-        "a\n\n— k.example AQIDBAAAAAAAAAAF\n\n",
-        "a\n\n— k.example AQIDBAAAAAAAAAAF\nb\n",
-        "a\r\n\n— k.example AQIDBAAAAAAAAAAF\n",
-        "a\n\n-- k.example AQIDBAAAAAAAAAAF\n",
-        "a\n\n—  k.example AQIDBAAAAAAAAAAF\n",
-        "a\n\n— k.example  AQIDBAAAAAAAAAAF\n",
-        "a\n\n— k+example AQIDBAAAAAAAAAAF\n",
-        "a\n\n— k\u{a0}example AQIDBAAAAAAAAAAF\n",
-        "a\n\n— k.example\n",
-        "a\n\n— k.example AQIDBA==\n",
-        "a\n\n— k.example AQIDBAU\n",
-        "a\n\n— k.example AQIDBAV=\n",
-        "a\n\n— k.example AQIDBAU=\r\n",
-        "a\n\n— k.example AQIDBA-_\n",
-    ];
-    for message in messages {
-        let answer = opening(alloc, message, &["k.example"])?;
-        assert!(rt; answer.as_str() == "Malformed");
+    for message in MALFORMED {
+        assert!(rt; opening(rt.alloc(), message, &["k.example"])?.as_str() == "Malformed");
     }
-    let answer = opening(alloc, "a\n\n— k.example AQIDBAU=\n", &["other"])?;
+    let answer = opening(rt.alloc(), "a\n\n— k.example AQIDBAU=\n", &["other"])?;
     assert!(rt; answer.as_str() == "Unverified");
     Ok(())
 }
@@ -186,28 +188,27 @@ fn a_note_has_at_most_100_lines(rt: HostRuntime) -> Result<(), Fail> {
     Ok(())
 }
 
+// A text, the names of its signers, and what comes of it.
+const SIGNINGS: [(&str, &[&str], &str); 8] = [
+    (
+        "a\n",
+        &["k", "l"],
+        "a\n\n— k AQIDBAAAAAAAAAAC\n— l AQIDBAAAAAAAAAAC\n",
+    ),
+    ("a", &["k"], "Malformed"),
+    ("", &["k"], "Malformed"),
+    ("a\t\n", &["k"], "Malformed"),
+    ("a\n", &[], "Malformed"),
+    ("a\n", &["a+b"], "BadName(0)"),
+    ("a\n", &["k", "", "l m"], "BadName(1)"),
+    ("a\n", &["k"; 101], "Malformed"),
+];
+
 #[test]
 fn signers_are_refused_in_order(rt: HostRuntime) -> Result<(), Fail> {
-    let alloc = rt.alloc();
-    let rows: [(&str, &[&str], &str); 7] = [
-        (
-            "a\n",
-            &["k", "l"],
-            "a\n\n— k AQIDBAAAAAAAAAAC\n— l AQIDBAAAAAAAAAAC\n",
-        ),
-        ("a", &["k"], "Malformed"),
-        ("", &["k"], "Malformed"),
-        ("a\t\n", &["k"], "Malformed"),
-        ("a\n", &[], "Malformed"),
-        ("a\n", &["a+b"], "BadName(0)"),
-        ("a\n", &["k", "", "l m"], "BadName(1)"),
-    ];
-    for (text, names, want) in rows {
-        assert!(rt; signing(alloc, text, names)?.as_str() == want);
+    for (text, names, want) in SIGNINGS {
+        assert!(rt; signing(rt.alloc(), text, names)?.as_str() == want);
     }
-    let many = ["k"; 101];
-    let answer = signing(alloc, "a\n", many.as_slice())?;
-    assert!(rt; answer.as_str() == "Malformed");
     Ok(())
 }
 
@@ -227,67 +228,73 @@ fn stubborn_signing(
 
 #[test]
 fn a_signer_may_refuse(rt: HostRuntime) -> Result<(), Fail> {
-    let alloc = rt.alloc();
-    assert!(rt; stubborn_signing(alloc, Some(SignFault::Refused))? == Some(NoteFault::Sign(1)));
-    assert!(rt; stubborn_signing(alloc, None)? == Some(NoteFault::Sign(1)));
-    let out_of_memory = stubborn_signing(alloc, Some(SignFault::OutOfMemory))?;
-    assert!(rt; out_of_memory == Some(NoteFault::OutOfMemory));
+    for (answer, want) in [
+        (Some(SignFault::Refused), NoteFault::Sign(1)),
+        (None, NoteFault::Sign(1)),
+        (Some(SignFault::OutOfMemory), NoteFault::OutOfMemory),
+    ] {
+        assert!(rt; stubborn_signing(rt.alloc(), answer)? == Some(want));
+    }
     Ok(())
 }
 
 #[test]
-fn names_and_lines(rt: HostRuntime) -> Result<(), Fail> {
-    let alloc = rt.alloc();
-    assert!(rt; is_key_name("example.com/log"));
-    assert!(rt; is_key_name("é—\u{7f}"));
+fn names_of_keys(rt: HostRuntime) {
+    assert!(rt; is_key_name("example.com/log") && is_key_name("é—\u{7f}"));
     for name in ["", "a b", "a+b", "a\u{1}", "a\u{2028}", "\u{3000}"] {
         assert!(rt; !is_key_name(name));
     }
-    let line = write_signature_line(alloc, "k.example", 0x01020304, &[5])?;
+}
+
+#[test]
+fn a_signature_line_and_a_fault_as_texts(rt: HostRuntime) -> Result<(), Fail> {
+    let line = write_signature_line(rt.alloc(), "k.example", 0x01020304, &[5])?;
     assert!(rt; line.as_str() == "— k.example AQIDBAU=\n");
-    let fault = format!(in alloc; "{}", NoteFault::Sign(3))?;
+    let fault = format!(in rt.alloc(); "{}", NoteFault::Sign(3))?;
     assert!(rt; fault.as_str() == "signer 3 gave no signature");
     Ok(())
 }
 
+// How many lines the note has, read on this heap.
+fn lines_on(heap: &Refusing<Global>) -> Result<usize, NoteFault> {
+    Ok(parse_note(heap, EMPTY_LOG_NOTE)?.signatures.len())
+}
+
 #[test]
 fn parse_note_answers_out_of_memory(rt: HostRuntime) -> Result<(), Fail> {
-    let alloc = rt.alloc();
     for turn in 1..MOST {
-        let heap = Refusing::in_turn(alloc, turn);
-        let answer = parse_note(&heap, EMPTY_LOG_NOTE);
+        let heap = Refusing::in_turn(rt.alloc(), turn);
+        let answer = lines_on(&heap);
         if !heap.refused() {
-            assert!(rt; turn > 2);
-            assert!(rt; answer?.signatures.len() == 1);
+            assert!(rt; turn > 2 && answer == Ok(1));
             return Ok(());
         }
-        match answer {
-            Ok(_view) => assert!(rt; false, "an answer in turn {turn}"),
-            Err(fault) => assert!(rt; fault == NoteFault::OutOfMemory),
-        }
+        assert!(rt; answer == Err(NoteFault::OutOfMemory));
     }
-    assert!(rt; false, "each run was refused");
-    Ok(())
+    Err(Fail::new("each run was refused"))
+}
+
+// How long the first signature of the note is, decoded on this heap, where there is memory.
+fn decoded_on(view: &NoteView<'_, Global>, heap: &Refusing<Global>) -> Option<usize> {
+    match view.signatures.first()?.decode(heap) {
+        Ok(signature) => Some(signature.len()),
+        Err(_) => None,
+    }
 }
 
 #[test]
 fn decode_answers_out_of_memory(rt: HostRuntime) -> Result<(), Fail> {
-    let alloc = rt.alloc();
-    let view = parse_note(alloc, EMPTY_LOG_NOTE)?;
-    assert!(rt; view.signatures.len() == 1);
-    let line = &view.signatures[0];
+    let view = parse_note(rt.alloc(), EMPTY_LOG_NOTE)?;
     for turn in 1..MOST {
-        let heap = Refusing::in_turn(alloc, turn);
-        let answer = line.decode(&heap);
+        let heap = Refusing::in_turn(rt.alloc(), turn);
+        let length = decoded_on(&view, &heap);
         if !heap.refused() {
-            assert!(rt; turn > 2);
-            assert!(rt; answer?.len() == 8);
+            assert!(rt; turn > 2 && length == Some(8));
             return Ok(());
         }
-        assert!(rt; answer.is_err());
+        assert!(rt; length == None);
     }
-    assert!(rt; false, "each run was refused");
-    Ok(())
+    Err(Fail::new("each run was refused"))
 }
 
 // What opening answers on this heap: how many lines are verified.
@@ -305,14 +312,12 @@ fn open_note_answers_out_of_memory(rt: HostRuntime) -> Result<(), Fail> {
         let heap = Refusing::in_turn(rt.alloc(), turn);
         let answer = opening_on(rt.alloc(), &heap);
         if !heap.refused() {
-            assert!(rt; turn > 6);
-            assert!(rt; answer == Ok(1));
+            assert!(rt; turn > 6 && answer == Ok(1));
             return Ok(());
         }
         assert!(rt; answer == Err(NoteFault::OutOfMemory));
     }
-    assert!(rt; false, "each run was refused");
-    Ok(())
+    Err(Fail::new("each run was refused"))
 }
 
 // What signing answers on this heap: how long the note is.
@@ -330,14 +335,12 @@ fn sign_note_answers_out_of_memory(rt: HostRuntime) -> Result<(), Fail> {
         let heap = Refusing::in_turn(rt.alloc(), turn);
         let answer = signing_on(rt.alloc(), &heap);
         if !heap.refused() {
-            assert!(rt; turn > 8);
-            assert!(rt; answer == Ok(101));
+            assert!(rt; turn > 8 && answer == Ok(101));
             return Ok(());
         }
         assert!(rt; answer == Err(NoteFault::OutOfMemory));
     }
-    assert!(rt; false, "each run was refused");
-    Ok(())
+    Err(Fail::new("each run was refused"))
 }
 
 #[test]

@@ -7,7 +7,7 @@ use tl_hash::{Hash, Sha256Tree, empty_hash, leaf_hash};
 use tl_proof::{HashList, Link, ProveFault, check_record, check_tree, prove_record, prove_tree};
 use tl_store::{HashStore, ReadFault, tree_hash};
 use tl_testing::Refusing;
-use tl_testing::vectors::{LEAVES, entries};
+use tl_testing::vectors::{ENTRIES, LEAVES, entries};
 
 // More requests than any of the calls makes, and more entries than any test has.
 const MOST: u64 = 1000;
@@ -123,45 +123,96 @@ fn joined(alloc: Global, texts: [&str; 3]) -> Result<String, AllocError> {
     Ok(text)
 }
 
+type Store = HashStore<Sha256Tree, Global>;
+
+// The log of the eight entries.
+fn eight(alloc: Global) -> Result<Store, AllocError> {
+    store_of_list(alloc, &entries(alloc, 8)?)
+}
+
+// Whether a proof is these hashes, shows the claim, and needs each of its bits.
+fn is_worked(
+    alloc: Global,
+    claim: Claim,
+    proof: &[Hash],
+    want: [&str; 3],
+) -> Result<bool, AllocError> {
+    let text = in_hex(alloc, proof)?;
+    let want = joined(alloc, want)?;
+    let is_exact = is_exact(alloc, claim, proof)?;
+    let is_needed = is_each_bit_needed(alloc, &claim, proof)?;
+    Ok(is_exact && is_needed && text.as_str() == want.as_str())
+}
+
+// The claim that an entry is in the log of this size, and its proof.
+fn record_proof(
+    alloc: Global,
+    store: &Store,
+    size: u64,
+    place: u64,
+    entry: &[u8],
+) -> Result<(Claim, Vec<Hash>), ProveFault> {
+    let proof = prove_record(alloc, Sha256Tree, size, place, store)?;
+    let root = tree_hash(alloc, Sha256Tree, size, store)?;
+    let claim = Claim {
+        is_record: true,
+        size,
+        root,
+        place,
+        hash: leaf_hash(Sha256Tree, entry),
+    };
+    Ok((claim, proof))
+}
+
+// The claim that the log of this size goes on from an old one, and its proof.
+fn tree_proof(
+    alloc: Global,
+    store: &Store,
+    size: u64,
+    old: u64,
+) -> Result<(Claim, Vec<Hash>), ProveFault> {
+    let proof = prove_tree(alloc, Sha256Tree, size, old, store)?;
+    let root = tree_hash(alloc, Sha256Tree, size, store)?;
+    let claim = Claim {
+        is_record: false,
+        size,
+        root,
+        place: old,
+        hash: tree_hash(alloc, Sha256Tree, old, store)?,
+    };
+    Ok((claim, proof))
+}
+
 #[test]
-fn proofs_over_the_eight_entries(rt: HostRuntime) -> Result<(), Fail> {
+fn inclusion_proofs_over_the_eight_entries(rt: HostRuntime) -> Result<(), Fail> {
     let alloc = rt.alloc();
-    let list = entries(alloc, 8)?;
-    let store = store_of_list(alloc, &list)?;
-    let root = tree_hash(alloc, Sha256Tree, 8, &store)?;
-    for (index, want) in [(0u64, [LEAVES[1], N23, N47]), (5, [LEAVES[4], N67, N03])] {
-        let proof = prove_record(alloc, Sha256Tree, 8, index, &store)?;
-        assert!(rt; in_hex(alloc, &proof)?.as_str() == joined(alloc, want)?.as_str());
-        let entry: &[u8] = if index == 0 { b"" } else { b"\x40\x41\x42\x43" };
-        let claim = Claim {
-            is_record: true,
-            size: 8,
-            root,
-            place: index,
-            hash: leaf_hash(Sha256Tree, entry),
-        };
-        assert!(rt; is_exact(alloc, claim, &proof)?);
-        assert!(rt; is_each_bit_needed(alloc, &claim, &proof)?);
+    let store = eight(alloc)?;
+    for (index, want) in [(0usize, [LEAVES[1], N23, N47]), (5, [LEAVES[4], N67, N03])] {
+        let (claim, proof) = record_proof(alloc, &store, 8, index as u64, ENTRIES[index])?;
+        assert!(rt; is_worked(alloc, claim, proof.as_slice(), want)?);
     }
+    Ok(())
+}
+
+#[test]
+fn consistency_proofs_over_the_eight_entries(rt: HostRuntime) -> Result<(), Fail> {
+    let alloc = rt.alloc();
+    let store = eight(alloc)?;
     for (old, want) in [(1u64, [LEAVES[1], N23, N47]), (6, [N45, N67, N03])] {
-        let proof = prove_tree(alloc, Sha256Tree, 8, old, &store)?;
-        assert!(rt; in_hex(alloc, &proof)?.as_str() == joined(alloc, want)?.as_str());
-        let hash = tree_hash(alloc, Sha256Tree, old, &store)?;
-        let claim = Claim {
-            is_record: false,
-            size: 8,
-            root,
-            place: old,
-            hash,
-        };
-        assert!(rt; is_exact(alloc, claim, &proof)?);
-        assert!(rt; is_each_bit_needed(alloc, &claim, &proof)?);
+        let (claim, proof) = tree_proof(alloc, &store, 8, old)?;
+        assert!(rt; is_worked(alloc, claim, proof.as_slice(), want)?);
     }
-    assert!(rt; prove_record(alloc, Sha256Tree, 8, 8, &store).err() == Some(ProveFault::BadRange));
-    assert!(rt; prove_tree(alloc, Sha256Tree, 8, 9, &store).err() == Some(ProveFault::BadRange));
-    assert!(rt;
-        prove_tree(alloc, Sha256Tree, (1 << 62) + 1, 0, &store).err() == Some(ProveFault::BadRange)
-    );
+    Ok(())
+}
+
+#[test]
+fn places_past_the_size_are_refused(rt: HostRuntime) -> Result<(), Fail> {
+    let alloc = rt.alloc();
+    let store = eight(alloc)?;
+    let past = Some(ProveFault::BadRange);
+    assert!(rt; prove_record(alloc, Sha256Tree, 8, 8, &store).err() == past);
+    assert!(rt; prove_tree(alloc, Sha256Tree, 8, 9, &store).err() == past);
+    assert!(rt; prove_tree(alloc, Sha256Tree, (1 << 62) + 1, 0, &store).err() == past);
     Ok(())
 }
 
@@ -204,61 +255,60 @@ fn equal_sizes_and_no_old_entries(rt: HostRuntime) -> Result<(), Fail> {
     Ok(())
 }
 
+// Whether the proofs of each place in a log of this size are exact.
+fn are_exact(alloc: Global, store: &Store, size: u64) -> Result<bool, ProveFault> {
+    for place in 0..size {
+        let (claim, proof) = record_proof(alloc, store, size, place, &(place + 1).to_be_bytes())?;
+        let (older, old_proof) = tree_proof(alloc, store, size, place)?;
+        let is_exact_record = is_exact(alloc, claim, proof.as_slice())?;
+        let is_exact_tree = is_exact(alloc, older, old_proof.as_slice())?;
+        if !is_exact_record || !is_exact_tree {
+            return Ok(false);
+        }
+    }
+    Ok(true)
+}
+
 #[test]
 fn every_proof_of_sizes_to_70_is_exact(rt: HostRuntime) -> Result<(), Fail> {
-    let alloc = rt.alloc();
-    let mut store = HashStore::new(alloc, Sha256Tree);
+    let mut store = HashStore::new(rt.alloc(), Sha256Tree);
     for size in 1..71u64 {
         if store.size() < MOST {
             store.append(&size.to_be_bytes())?;
         }
-        let root = tree_hash(alloc, Sha256Tree, size, &store)?;
-        for place in 0..size {
-            let proof = prove_record(alloc, Sha256Tree, size, place, &store)?;
-            let hash = leaf_hash(Sha256Tree, &(place + 1).to_be_bytes());
-            let claim = Claim {
-                is_record: true,
-                size,
-                root,
-                place,
-                hash,
-            };
-            assert!(rt; is_exact(alloc, claim, &proof)?);
-        }
-        for place in 0..size {
-            let proof = prove_tree(alloc, Sha256Tree, size, place, &store)?;
-            let hash = tree_hash(alloc, Sha256Tree, place, &store)?;
-            let claim = Claim {
-                is_record: false,
-                size,
-                root,
-                place,
-                hash,
-            };
-            assert!(rt; is_exact(alloc, claim, &proof)?);
-        }
+        assert!(rt; are_exact(rt.alloc(), &store, size)?, "of size {size}");
     }
     Ok(())
 }
 
 #[test]
-fn provers_answer_out_of_memory(rt: HostRuntime) -> Result<(), Fail> {
-    let alloc = rt.alloc();
-    let store = store_of_list(alloc, &entries(alloc, 7)?)?;
+fn prove_record_answers_out_of_memory(rt: HostRuntime) -> Result<(), Fail> {
+    let store = store_of_list(rt.alloc(), &entries(rt.alloc(), 7)?)?;
     for turn in 1..MOST {
-        let heap = Refusing::in_turn(alloc, turn);
+        let heap = Refusing::in_turn(rt.alloc(), turn);
         let fault = prove_record(&heap, Sha256Tree, 7, 4, &store).err();
         if !heap.refused() {
             assert!(rt; turn > 6 && fault == None);
             return Ok(());
         }
         assert!(rt; fault == Some(ProveFault::OutOfMemory));
-        let heap = Refusing::in_turn(alloc, turn);
-        let fault = prove_tree(&heap, Sha256Tree, 7, 3, &store).err();
-        assert!(rt; !heap.refused() || fault == Some(ProveFault::OutOfMemory));
     }
-    assert!(rt; false, "each run was refused");
-    Ok(())
+    Err(Fail::new("each run was refused"))
+}
+
+#[test]
+fn prove_tree_answers_out_of_memory(rt: HostRuntime) -> Result<(), Fail> {
+    let store = store_of_list(rt.alloc(), &entries(rt.alloc(), 7)?)?;
+    for turn in 1..MOST {
+        let heap = Refusing::in_turn(rt.alloc(), turn);
+        let fault = prove_tree(&heap, Sha256Tree, 7, 3, &store).err();
+        if !heap.refused() {
+            assert!(rt; turn > 6 && fault == None);
+            return Ok(());
+        }
+        assert!(rt; fault == Some(ProveFault::OutOfMemory));
+    }
+    Err(Fail::new("each run was refused"))
 }
 
 #[test]

@@ -1,11 +1,11 @@
 //! Many inclusion proofs: made together and one by one, checked together, and growths refused in turn.
 
 use crate::readers::{EqualEntries, store_of_list};
-use std::alloc::Global;
+use std::alloc::{AllocError, Global};
 use std::test::Fail;
 use tl_hash::{Hash, Sha256Tree, entry_root, leaf_hash};
 use tl_proof::{ProveFault, Record, check_records, prove_record, prove_records};
-use tl_store::ReadFault;
+use tl_store::{HashStore, ReadFault};
 use tl_testing::Refusing;
 use tl_testing::vectors::numbered;
 
@@ -14,6 +14,8 @@ const MOST: u64 = 1000;
 
 // Places in a log of 900 entries whose proofs are of several lengths: the last entry's has 3 hashes.
 const PLACES: [u64; 9] = [0, 1, 2, 511, 512, 800, 897, 898, 899];
+
+type Store = HashStore<Sha256Tree, Global>;
 
 // A claim of the entry at this place of the table, or of the one after it.
 fn claim(place: usize, proof: &[Hash], is_other: bool) -> Record<'_> {
@@ -65,21 +67,40 @@ fn claims_are_accepted_together_where_each_is(rt: HostRuntime) -> Result<(), Fai
     Ok(())
 }
 
+// The places in a log of this size.
+fn all_places(alloc: Global, size: u64) -> Result<Vec<u64>, AllocError> {
+    let mut places = Vec::new(alloc);
+    for place in 0..size {
+        places.push(place)?;
+    }
+    Ok(places)
+}
+
+// The first place whose proof, made together with those of all others in a log of this size, is another than that made
+// alone, if there is one.
+fn other_proof(alloc: Global, store: &Store, size: u64) -> Result<Option<u64>, ProveFault> {
+    let places = all_places(alloc, size)?;
+    let proofs = prove_records(alloc, Sha256Tree, size, places.as_slice(), store)?;
+    if proofs.len() != places.len() {
+        return Ok(Some(size));
+    }
+    for (place, proof) in places.iter().zip(&proofs) {
+        let one = prove_record(alloc, Sha256Tree, size, *place, store)?;
+        if proof.as_slice() != one.as_slice() {
+            return Ok(Some(*place));
+        }
+    }
+    Ok(None)
+}
+
 #[test]
 fn proofs_made_together_are_those_made_one_by_one(rt: HostRuntime) -> Result<(), Fail> {
-    let alloc = rt.alloc();
-    let store = store_of_list(alloc, numbered(alloc, 700)?.as_slice())?;
+    let store = store_of_list(rt.alloc(), numbered(rt.alloc(), 700)?.as_slice())?;
     for size in [1, 2, 7, 256, 257, 700] {
-        let mut places = Vec::new(alloc);
-        for place in 0..size {
-            places.push(place)?;
-        }
-        let proofs = prove_records(alloc, Sha256Tree, size, places.as_slice(), &store)?;
-        assert!(rt; proofs.len() == places.len());
-        for (place, proof) in places.iter().zip(&proofs) {
-            let one = prove_record(alloc, Sha256Tree, size, *place, &store)?;
-            assert!(rt; proof.as_slice() == one.as_slice(), "{place} of {size}");
-        }
+        assert!(rt;
+            other_proof(rt.alloc(), &store, size)? == None,
+            "of size {size}"
+        );
     }
     Ok(())
 }
@@ -138,6 +159,5 @@ fn prove_records_answers_out_of_memory(rt: HostRuntime) -> Result<(), Fail> {
         }
         assert!(rt; fault == Some(ProveFault::OutOfMemory));
     }
-    assert!(rt; false, "each run was refused");
-    Ok(())
+    Err(Fail::new("each run was refused"))
 }

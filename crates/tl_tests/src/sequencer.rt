@@ -5,6 +5,7 @@ ghost use Rattle.tl_sequencer.specs.Log.{IsEndOf, IsSenderOf, rings_of};
 
 mod base;
 mod many;
+mod refusals;
 
 use std::alloc::{AllocError, Allocator, Global};
 use std::test::Fail;
@@ -62,17 +63,79 @@ fn sent<E: Allocator, A: Allocator>(
     }
 }
 
+// What is done with a log of one lane, and what is to come of it.
+#[derive(Clone, Copy)]
+enum Step {
+    // An entry of so many bytes is sent.
+    Send(usize, Result<u64, (Why, usize)>),
+    // Up to so many entries of a lane are taken.
+    Take(u32, u64, Result<u64, TakeFault>),
+}
+
+// Does a step. Whether it came as it is to.
+fn is_done(
+    alloc: Global,
+    log: &mut Sequencer<Global, Global>,
+    submitter: &mut Submitter<Global, Global>,
+    step: Step,
+) -> Result<bool, AllocError> {
+    match step {
+        Step::Send(length, want) => {
+            let entry = vec![in alloc; 7; length]?;
+            Ok(sent(submitter, entry) == want)
+        }
+        Step::Take(lane, most, want) => Ok(log.take(lane, most) == want),
+    }
+}
+
+// Opens a log of one lane and does the steps: the place of the first that came otherwise than it is to.
+fn wrong_step(
+    alloc: Global,
+    capacity: usize,
+    limit: u64,
+    steps: &[Step],
+) -> Result<Option<u64>, Fail> {
+    let (mut log, mut submitters) = open(alloc, 1, capacity, limit)?;
+    let mut submitter = submitters.pop().ok_or("no submitter")?;
+    let mut place = 0u64;
+    for step in steps {
+        if !is_done(alloc, &mut log, &mut submitter, *step)? {
+            return Ok(Some(place));
+        }
+        place = place.saturating_add(1);
+    }
+    Ok(None)
+}
+
+// A ring of one entry.
+const REASONS: [Step; 6] = [
+    Step::Send(65_535, Ok(0)),
+    Step::Send(65_536, Err((Why::TooLong, 65_536))),
+    Step::Send(5, Err((Why::Full, 5))),
+    Step::Take(1, 1, Err(TakeFault::NoLane)),
+    Step::Take(0, 5, Ok(1)),
+    Step::Send(5, Ok(1)),
+];
+
 #[test]
 fn submitting_names_the_first_reason(rt: HostRuntime) -> Result<(), Fail> {
-    let alloc = rt.alloc();
-    let (mut log, mut submitters) = open(alloc, 1, 1, 9)?;
-    let mut submitter = submitters.pop().unwrap();
-    assert!(rt; sent(&mut submitter, vec![in alloc; 7; 65_535]?) == Ok(0));
-    assert!(rt; sent(&mut submitter, vec![in alloc; 7; 65_536]?) == Err((Why::TooLong, 65_536)));
-    assert!(rt; sent(&mut submitter, bytes(alloc, "short")?) == Err((Why::Full, 5)));
-    assert!(rt; log.take(1, 1) == Err(TakeFault::NoLane));
-    assert!(rt; log.take(0, 5) == Ok(1));
-    assert!(rt; sent(&mut submitter, bytes(alloc, "short")?) == Ok(1));
+    assert!(rt; wrong_step(rt.alloc(), 1, 9, &REASONS)? == None);
+    Ok(())
+}
+
+// A limit of two entries.
+const NUMBERS: [Step; 6] = [
+    Step::Send(2, Ok(0)),
+    Step::Send(2, Ok(1)),
+    Step::Send(2, Err((Why::NumbersUsed, 2))),
+    Step::Take(0, 9, Ok(2)),
+    Step::Send(2, Err((Why::NumbersUsed, 2))),
+    Step::Send(65_536, Err((Why::TooLong, 65_536))),
+];
+
+#[test]
+fn submitter_gives_as_many_numbers_as_the_limit(rt: HostRuntime) -> Result<(), Fail> {
+    assert!(rt; wrong_step(rt.alloc(), 4, 2, &NUMBERS)? == None);
     Ok(())
 }
 
@@ -84,20 +147,6 @@ fn closed<E: Allocator, A: Allocator>(submitter: Submitter<E, A>) -> Result<Ende
         Some(ended) => Ok(ended),
         None => Err(AllocError),
     }
-}
-
-#[test]
-fn submitter_gives_as_many_numbers_as_the_limit(rt: HostRuntime) -> Result<(), Fail> {
-    let alloc = rt.alloc();
-    let (mut log, mut submitters) = open(alloc, 1, 4, 2)?;
-    let mut submitter = submitters.pop().unwrap();
-    assert!(rt; sent(&mut submitter, bytes(alloc, "a1")?) == Ok(0));
-    assert!(rt; sent(&mut submitter, bytes(alloc, "a2")?) == Ok(1));
-    assert!(rt; sent(&mut submitter, bytes(alloc, "a3")?) == Err((Why::NumbersUsed, 2)));
-    assert!(rt; log.take(0, 9) == Ok(2));
-    assert!(rt; sent(&mut submitter, bytes(alloc, "a3")?) == Err((Why::NumbersUsed, 2)));
-    assert!(rt; sent(&mut submitter, vec![in alloc; 7; 65_536]?) == Err((Why::TooLong, 65_536)));
-    Ok(())
 }
 
 // A log of two lanes, and the submitters of lane 0 and of lane 1.
@@ -144,28 +193,65 @@ fn opened<'h>(
     Ok(pair(log, submitters))
 }
 
+// Sends a1 and a2 to lane 0 and b1 to lane 1. Whether each is given its number.
+fn are_sent<A: Allocator>(
+    alloc: Global,
+    zero: &mut Submitter<Global, A>,
+    one: &mut Submitter<Global, A>,
+) -> Result<bool, AllocError>
+    ensures zero { IfOk result (λ _. (zero.new.ring ≡ zero.old.ring) × (zero.new.lane ≡ zero.old.lane)) }
+    ensures one { IfOk result (λ _. (one.new.ring ≡ one.old.ring) × (one.new.lane ≡ one.old.lane)) }
+{
+    let first = sent(zero, bytes(alloc, "a1")?);
+    let second = sent(zero, bytes(alloc, "a2")?);
+    let third = sent(one, bytes(alloc, "b1")?);
+    Ok(first == Ok(0) && second == Ok(1) && third == Ok(0))
+}
+
+// A log of two lanes, and the ends of lane 0 and of lane 1.
+type Closed<'h> = (
+    Sequencer<Global, Heap<'h>>,
+    Ended<Global, Heap<'h>>,
+    Ended<Global, Heap<'h>>,
+);
+
+// Such a log of this limit, to which a1, a2 and b1 were sent.
+fn both_closed<'h>(alloc: Global, heap: Heap<'h>, limit: u64) -> Result<Closed<'h>, Fail>
+    ensures zero { IfOk result (λ r. IsEndOf r.1 r.0) }
+    ensures one { IfOk result (λ r. IsEndOf r.2 r.0) }
+{
+    let (log, mut zero, mut one) = opened(heap, 4, limit)?;
+    if !are_sent(alloc, &mut zero, &mut one)? {
+        return Err(Fail::new("an entry was not sent"));
+    }
+    let zero = closed(zero)?;
+    let one = closed(one)?;
+    Ok((log, zero, one))
+}
+
+// Why a lane isn't ended, and the lane that comes back.
+fn end_refused<'h>(
+    log: &mut Sequencer<Global, Heap<'h>>,
+    end: Ended<Global, Heap<'h>>,
+) -> Option<(TakeFault, u32)>
+    requires { IsEndOf end log.old }
+{
+    match log.end(end) {
+        Ok(_) => None,
+        Err(EndRefused { ended, why }) => Some((why, ended.lane())),
+    }
+}
+
 #[test]
 fn full_log_takes_nothing(rt: HostRuntime) -> Result<(), Fail> {
-    let alloc = rt.alloc();
-    let heap = Refusing::at(alloc, 0);
-    let (mut log, mut zero, mut one) = opened(&heap, 4, 2)?;
-    assert!(rt; sent(&mut zero, bytes(alloc, "a1")?) == Ok(0));
-    assert!(rt; sent(&mut zero, bytes(alloc, "a2")?) == Ok(1));
-    assert!(rt; sent(&mut one, bytes(alloc, "b1")?) == Ok(0));
+    let heap = Refusing::at(rt.alloc(), 0);
+    let (mut log, _zero, one) = both_closed(rt.alloc(), &heap, 2)?;
     assert!(rt; log.take(0, 9) == Ok(2));
     assert!(rt; log.take(1, 9) == Err(TakeFault::LogFull));
     assert!(rt; log.take(1, 0) == Ok(0));
     assert!(rt; log.take(2, 0) == Err(TakeFault::NoLane));
-    match log.end(closed(one)?) {
-        Ok(_) => assert!(rt; false, "there was no room"),
-        Err(EndRefused { ended, why }) => {
-            assert!(rt; why == TakeFault::LogFull);
-            assert!(rt; ended.lane() == 1);
-        }
-    }
-    assert!(rt; log.len() == 2);
-    assert!(rt; log.who(1) == Some(0));
-    assert!(rt; log.place_of(1, 0) == None);
+    assert!(rt; end_refused(&mut log, one) == Some((TakeFault::LogFull, 1)));
+    assert!(rt; (log.len(), log.who(1), log.place_of(1, 0)) == (2, Some(0), None));
     Ok(())
 }
 
@@ -214,43 +300,61 @@ fn ended<'h>(
     }
 }
 
-// The whole life of two lanes: lane 0 sends a1 and a2, lane 1 sends b1. `None` where a step has another answer than
-// it is to have.
-fn whole_life<'h>(
-    alloc: Global,
+// Takes a1 of lane 0 and b1 of lane 1, and ends lane 0. Whether each came as it is to.
+fn is_zero_ended<'h>(
+    log: &mut Sequencer<Global, Heap<'h>>,
     heap: Heap<'h>,
-) -> Result<Option<Complete<Global, Heap<'h>>>, AllocError> {
-    let Ok((mut log, mut zero, mut one)) = opened(heap, 4, 9) else {
-        return Ok(None);
-    };
-    if sent(&mut zero, bytes(alloc, "a1")?) != Ok(0)
-        || sent(&mut zero, bytes(alloc, "a2")?) != Ok(1)
-        || sent(&mut one, bytes(alloc, "b1")?) != Ok(0)
-    {
-        return Ok(None);
+    zero: Ended<Global, Heap<'h>>,
+) -> bool
+    requires { IsEndOf zero log.old }
+    ensures { rings_of log.new ≡ rings_of log.old }
+{
+    if taken(log, heap, 0, 1) != Ok(1) {
+        return false;
     }
-    let zero = closed(zero)?;
-    let one = closed(one)?;
-    if taken(&mut log, heap, 0, 1) != Ok(1)
-        || taken(&mut log, heap, 1, 9) != Ok(1)
-        || ended(&mut log, heap, zero) != Ok(1)
-        || taken(&mut log, heap, 0, 5) != Ok(0)
-    {
-        return Ok(None);
+    if taken(log, heap, 1, 9) != Ok(1) {
+        return false;
     }
+    if ended(log, heap, zero) != Ok(1) {
+        return false;
+    }
+    taken(log, heap, 0, 5) == Ok(0)
+}
+
+// Closes a log whose lane 1 alone has not ended, and ends it.
+fn finished<'h>(
+    log: Sequencer<Global, Heap<'h>>,
+    heap: Heap<'h>,
+    one: Ended<Global, Heap<'h>>,
+) -> Option<Complete<Global, Heap<'h>>>
+    requires { IsEndOf one log }
+{
     let Err(open) = log.close() else {
-        return Ok(None);
+        return None;
     };
     let Incomplete {
         mut sequencer,
         lane,
     } = open;
     if lane != 1 || ended(&mut sequencer, heap, one) != Ok(0) {
-        return Ok(None);
+        return None;
     }
     match sequencer.close() {
-        Ok(complete) => Ok(Some(complete)),
-        Err(_) => Ok(None),
+        Ok(complete) => Some(complete),
+        Err(_) => None,
+    }
+}
+
+// The whole life of two lanes: lane 0 sends a1 and a2, lane 1 sends b1. A failure where a step has another answer than
+// it is to have.
+fn whole_life<'h>(alloc: Global, heap: Heap<'h>) -> Result<Complete<Global, Heap<'h>>, Fail> {
+    let (mut log, zero, one) = both_closed(alloc, heap, 9)?;
+    if !is_zero_ended(&mut log, heap, zero) {
+        return Err(Fail::new("lane 0 was not taken or not ended"));
+    }
+    match finished(log, heap, one) {
+        Some(complete) => Ok(complete),
+        None => Err(Fail::new("lane 1 was not ended, or the log not closed")),
     }
 }
 
@@ -274,31 +378,9 @@ fn is_merged<A: Allocator>(log: &Complete<Global, A>) -> bool {
 
 #[test]
 fn two_lanes_from_open_to_close(rt: HostRuntime) -> Result<(), Fail> {
-    let alloc = rt.alloc();
-    let heap = Refusing::at(alloc, 0);
-    match whole_life(alloc, &heap)? {
-        Some(complete) => assert!(rt; is_merged(&complete)),
-        None => assert!(rt; false, "a step had another answer"),
-    }
+    let heap = Refusing::at(rt.alloc(), 0);
+    assert!(rt; is_merged(&whole_life(rt.alloc(), &heap)?));
     assert!(rt; !heap.refused());
-    Ok(())
-}
-
-#[test]
-fn each_growth_refused_changes_nothing(rt: HostRuntime) -> Result<(), Fail> {
-    let alloc = rt.alloc();
-    for turn in 1..MOST {
-        let heap = Refusing::in_turn(alloc, turn);
-        match whole_life(alloc, &heap)? {
-            Some(complete) => assert!(rt; is_merged(&complete)),
-            None => assert!(rt; false, "a step had another answer in turn {turn}"),
-        }
-        if !heap.refused() {
-            assert!(rt; turn > 20);
-            return Ok(());
-        }
-    }
-    assert!(rt; false, "each run was refused");
     Ok(())
 }
 
@@ -308,30 +390,5 @@ fn lane_of_a_dropped_log_has_no_end(rt: HostRuntime) -> Result<(), Fail> {
     let submitter = submitters.pop().unwrap();
     drop(log);
     assert!(rt; submitter.close().is_none());
-    Ok(())
-}
-
-#[test]
-fn sending_and_closing_take_no_memory(rt: HostRuntime) -> Result<(), Fail> {
-    let alloc = rt.alloc();
-    let heap = Refusing::at(alloc, 0);
-    let (mut log, mut zero, one) = opened(&heap, 4, 9)?;
-    let entry = bytes(alloc, "a1")?;
-    heap.refuse();
-    assert!(rt; sent(&mut zero, entry) == Ok(0));
-    let zero = closed(zero)?;
-    let one = closed(one)?;
-    assert!(rt; (zero.lane(), one.lane()) == (0, 1));
-    heap.lift();
-    assert!(rt; ended(&mut log, &heap, zero) == Ok(1));
-    assert!(rt; ended(&mut log, &heap, one) == Ok(0));
-    heap.refuse();
-    let Ok(complete) = log.close() else {
-        return Err(Fail::new("a lane has not ended"));
-    };
-    assert!(rt; complete.len() == 1);
-    assert!(rt; complete.entry(0) == Some(b"a1".as_slice()));
-    assert!(rt; (complete.who(0), complete.place_of(0, 0)) == (Some(0), Some(0)));
-    assert!(rt; !heap.refused());
     Ok(())
 }

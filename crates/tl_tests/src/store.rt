@@ -1,9 +1,9 @@
 //! Stored hashes: the numbers, a store over the worked entries, heads, and refused growths.
 
 use crate::readers::{CountedReader, FailingReader, store_of};
-use std::alloc::{AllocError, Allocator};
+use std::alloc::{AllocError, Allocator, Global};
 use std::test::Fail;
-use tl_hash::{Sha256Tree, empty_hash, entry_root};
+use tl_hash::{Hash, Sha256Tree, empty_hash, entry_root};
 use tl_proof::{ProveFault, prove_record, prove_tree};
 use tl_store::{
     HashReader, HashStore, ReadFault, split_index, stored_count, stored_index, tree_hash,
@@ -44,23 +44,39 @@ fn counts_of_stored_hashes(rt: HostRuntime) -> Result<(), Fail> {
     Ok(())
 }
 
+// The stored hashes with these two numbers, in hexadecimal.
+fn two_hashes<A: Allocator>(
+    alloc: Global,
+    store: &HashStore<Sha256Tree, A>,
+    indexes: [u64; 2],
+) -> Result<(String, String), ReadFault> {
+    let hashes = store.read(alloc, &indexes)?;
+    let [first, second] = hashes.as_slice() else {
+        return Err(ReadFault::Source);
+    };
+    Ok((in_hex(alloc, *first)?, in_hex(alloc, *second)?))
+}
+
+#[test]
+fn store_of_seven_entries(rt: HostRuntime) -> Result<(), Fail> {
+    let alloc = rt.alloc();
+    let store = store_of(alloc, &ENTRIES[..7])?;
+    assert!(rt; store.read(alloc, &[14]).err() == Some(ReadFault::OutOfRange));
+    assert!(rt; store.read(alloc, &[11, 11]).err() == Some(ReadFault::OutOfRange));
+    let (last, first) = two_hashes(alloc, &store, [10, 0])?;
+    assert!(rt; (last.as_str(), first.as_str()) == (LEAVES[6], LEAVES[0]));
+    Ok(())
+}
+
 #[test]
 fn store_of_seven_entries_and_one_more(rt: HostRuntime) -> Result<(), Fail> {
     let alloc = rt.alloc();
     let mut store = store_of(alloc, &ENTRIES[..7])?;
-    assert!(rt; store.read(alloc, &[14]).err() == Some(ReadFault::OutOfRange));
-    assert!(rt; store.read(alloc, &[11, 11]).err() == Some(ReadFault::OutOfRange));
-    let leaves = store.read(alloc, &[10, 0])?;
-    assert!(rt; leaves.len() == 2);
-    assert!(rt; in_hex(alloc, leaves[0])?.as_str() == LEAVES[6]);
-    assert!(rt; in_hex(alloc, leaves[1])?.as_str() == LEAVES[0]);
     assert!(rt; store.size() == 7);
     assert!(rt; store.append(ENTRIES[7])? == 7);
     assert!(rt; store.size() == 8);
-    let top = store.read(alloc, &[14, 14])?;
-    assert!(rt; top.len() == 2);
-    assert!(rt; in_hex(alloc, top[0])?.as_str() == ROOTS[7].1);
-    assert!(rt; in_hex(alloc, top[1])?.as_str() == ROOTS[7].1);
+    let (top, again) = two_hashes(alloc, &store, [14, 14])?;
+    assert!(rt; (top.as_str(), again.as_str()) == (ROOTS[7].1, ROOTS[7].1));
     assert!(rt; store.read(alloc, &[]).map(|hashes| hashes.len()) == Ok(0));
     Ok(())
 }
@@ -82,12 +98,13 @@ fn heads_of_the_worked_entries(rt: HostRuntime) -> Result<(), Fail> {
     Ok(())
 }
 
-#[test]
-fn head_is_the_plain_recursion(rt: HostRuntime) -> Result<(), Fail> {
-    let alloc = rt.alloc();
+// The store of 130 entries of one byte, and the root of each part of them by the plain recursion.
+fn store_and_roots(
+    alloc: Global,
+) -> Result<(HashStore<Sha256Tree, Global>, Vec<Hash>), AllocError> {
     let mut store = HashStore::new(alloc, Sha256Tree);
     let mut entries = Vec::new(alloc);
-    let mut roots = vec![in alloc; entry_root(Sha256Tree, entries.as_slice())]?;
+    let mut roots = vec![in alloc; empty_hash(Sha256Tree)]?;
     for number in 0..130u8 {
         if store.size() < MOST {
             store.append(&[number])?;
@@ -95,46 +112,66 @@ fn head_is_the_plain_recursion(rt: HostRuntime) -> Result<(), Fail> {
         entries.push(vec![in alloc; number]?)?;
         roots.push(entry_root(Sha256Tree, entries.as_slice()))?;
     }
+    Ok((store, roots))
+}
+
+#[test]
+fn head_is_the_plain_recursion(rt: HostRuntime) -> Result<(), Fail> {
+    let (store, roots) = store_and_roots(rt.alloc())?;
     assert!(rt; store.size() == 130);
-    let mut size = 0;
+    let mut size = 0u64;
     for root in &roots {
-        assert!(rt; tree_hash(alloc, Sha256Tree, size, &store)? == *root);
+        assert!(rt; tree_hash(rt.alloc(), Sha256Tree, size, &store)? == *root);
         size += 1;
     }
     Ok(())
 }
 
+type Store<'h> = HashStore<Sha256Tree, &'h Refusing<Global>>;
+
+// Whether a store has this size, and a root over so many of the worked entries.
+fn is_over(alloc: Global, store: &Store<'_>, size: u64) -> Result<bool, ReadFault> {
+    let whole = store_of(alloc, &ENTRIES)?;
+    let root = tree_hash(alloc, Sha256Tree, size, store)?;
+    Ok(store.size() == size && root == tree_hash(alloc, Sha256Tree, size, &whole)?)
+}
+
+// Appends an entry, once more where memory was refused. Whether a refusal left the store as it was.
+fn is_appended(
+    alloc: Global,
+    store: &mut Store<'_>,
+    heap: &Refusing<Global>,
+    entry: &[u8],
+) -> Result<bool, ReadFault> {
+    let before = store.size();
+    if before >= MOST {
+        return Ok(false);
+    }
+    if let Ok(place) = store.append(entry) {
+        return Ok(place == before);
+    }
+    if !heap.refused() || !is_over(alloc, store, before)? {
+        return Ok(false);
+    }
+    heap.lift();
+    Ok(store.append(entry)? == before)
+}
+
 #[test]
 fn append_leaves_the_store_as_it_was(rt: HostRuntime) -> Result<(), Fail> {
-    let alloc = rt.alloc();
-    let whole = store_of(alloc, &ENTRIES)?;
     for turn in 1..MOST {
-        let heap = Refusing::in_turn(alloc, turn);
+        let heap = Refusing::in_turn(rt.alloc(), turn);
         let mut store = HashStore::new(&heap, Sha256Tree);
         for entry in ENTRIES {
-            let before = store.size();
-            assert!(rt; before < 8);
-            if let Err(_) = store.append(entry) {
-                assert!(rt; heap.refused());
-                assert!(rt; store.size() == before);
-                assert!(rt;
-                    tree_hash(alloc, Sha256Tree, before, &store)?
-                        == tree_hash(alloc, Sha256Tree, before, &whole)?
-                );
-                heap.lift();
-                assert!(rt; store.append(entry)? == before);
-            }
+            assert!(rt; is_appended(rt.alloc(), &mut store, &heap, entry)?);
         }
-        assert!(rt;
-            tree_hash(alloc, Sha256Tree, 8, &store)? == tree_hash(alloc, Sha256Tree, 8, &whole)?
-        );
+        assert!(rt; is_over(rt.alloc(), &store, 8)?);
         if !heap.refused() {
             assert!(rt; turn > 2);
             return Ok(());
         }
     }
-    assert!(rt; false, "each run was refused");
-    Ok(())
+    Err(Fail::new("each run was refused"))
 }
 
 // Adds entries together to a store that has few.
@@ -148,6 +185,25 @@ fn add_all<A: Allocator>(
     Err(AllocError)
 }
 
+// Adds entries one by one to a store that has few.
+fn add_singly(
+    store: &mut HashStore<Sha256Tree, Global>,
+    entries: &[Vec<u8>],
+) -> Result<(), AllocError> {
+    for entry in entries {
+        if store.size() < 100_000 {
+            store.append(entry)?;
+        }
+    }
+    Ok(())
+}
+
+// The size of a store that has few entries, and its root.
+fn head_of(alloc: Global, store: &HashStore<Sha256Tree, Global>) -> Result<(u64, Hash), ReadFault> {
+    let size = store.size().min(200_000);
+    Ok((size, tree_hash(alloc, Sha256Tree, size, store)?))
+}
+
 #[test]
 fn entries_together_are_entries_one_by_one(rt: HostRuntime) -> Result<(), Fail> {
     let alloc = rt.alloc();
@@ -156,68 +212,74 @@ fn entries_together_are_entries_one_by_one(rt: HostRuntime) -> Result<(), Fail> 
     for count in [0, 1, 3, 4, 5, 250, 257, 66_000] {
         let entries = numbered(alloc, count)?;
         add_all(&mut together, entries.as_slice())?;
-        for entry in &entries {
-            assert!(rt; singly.size() < 100_000);
-            singly.append(entry)?;
-        }
-        let size = together.size();
-        assert!(rt; size == singly.size());
-        assert!(rt; size < 200_000);
-        let root = tree_hash(alloc, Sha256Tree, size, &together)?;
-        assert!(rt;
-            root == tree_hash(alloc, Sha256Tree, size, &singly)?,
-            "{count}"
-        );
+        add_singly(&mut singly, entries.as_slice())?;
+        let head = head_of(alloc, &together)?;
+        assert!(rt; head == head_of(alloc, &singly)?, "{count}");
     }
+    assert!(rt; together.size() == 66_520);
     Ok(())
+}
+
+// Adds entries together to an empty store, once more where memory was refused. Whether a refusal left the store empty,
+// and its root is at last that of the entries.
+fn are_added(
+    alloc: Global,
+    store: &mut Store<'_>,
+    heap: &Refusing<Global>,
+    entries: &[Vec<u8>],
+) -> Result<bool, ReadFault> {
+    if add_all(store, entries).is_err() {
+        if !heap.refused() || store.size() != 0 {
+            return Ok(false);
+        }
+        heap.lift();
+        add_all(store, entries)?;
+    }
+    let root = tree_hash(alloc, Sha256Tree, 6, store)?;
+    Ok(store.size() == 6 && root == entry_root(Sha256Tree, entries))
 }
 
 #[test]
 fn append_all_leaves_the_store_as_it_was(rt: HostRuntime) -> Result<(), Fail> {
-    let alloc = rt.alloc();
-    let entries = numbered(alloc, 6)?;
+    let entries = numbered(rt.alloc(), 6)?;
     for turn in 1..MOST {
-        let heap = Refusing::in_turn(alloc, turn);
+        let heap = Refusing::in_turn(rt.alloc(), turn);
         let mut store = HashStore::new(&heap, Sha256Tree);
-        if add_all(&mut store, entries.as_slice()).is_err() {
-            assert!(rt; heap.refused());
-            assert!(rt; store.size() == 0);
-            heap.lift();
-            add_all(&mut store, entries.as_slice())?;
-        }
-        assert!(rt; store.size() == 6);
-        assert!(rt;
-            tree_hash(alloc, Sha256Tree, 6, &store)? == entry_root(Sha256Tree, entries.as_slice())
-        );
+        assert!(rt; are_added(rt.alloc(), &mut store, &heap, entries.as_slice())?);
         if !heap.refused() {
             assert!(rt; turn > 2);
             return Ok(());
         }
     }
-    assert!(rt; false, "each run was refused");
-    Ok(())
+    Err(Fail::new("each run was refused"))
+}
+
+// Stored hashes of the worked entries.
+const INDEXES: [u64; 11] = [14, 0, 14, 3, 7, 11, 2, 6, 1, 14, 5];
+
+// Whether these hashes are read on this heap.
+fn are_read(
+    heap: &Refusing<Global>,
+    store: &HashStore<Sha256Tree, Global>,
+    want: &[Hash],
+) -> Result<bool, ReadFault> {
+    Ok(store.read(heap, &INDEXES)?.as_slice() == want)
 }
 
 #[test]
 fn read_answers_out_of_memory(rt: HostRuntime) -> Result<(), Fail> {
     let store = store_of(rt.alloc(), &ENTRIES)?;
-    let indexes = [14, 0, 14, 3, 7, 11, 2, 6, 1, 14, 5];
-    let want = store.read(rt.alloc(), &indexes)?;
+    let want = store.read(rt.alloc(), &INDEXES)?;
     for turn in 1..MOST {
         let heap = Refusing::in_turn(rt.alloc(), turn);
-        let answer = store.read(&heap, &indexes);
+        let answer = are_read(&heap, &store, want.as_slice());
         if !heap.refused() {
-            assert!(rt; turn > 2);
-            assert!(rt; answer?.as_slice() == want.as_slice());
+            assert!(rt; turn > 2 && answer == Ok(true));
             return Ok(());
         }
-        match answer {
-            Ok(_hashes) => assert!(rt; false, "an answer in turn {turn}"),
-            Err(fault) => assert!(rt; fault == ReadFault::OutOfMemory),
-        }
+        assert!(rt; answer == Err(ReadFault::OutOfMemory));
     }
-    assert!(rt; false, "each run was refused");
-    Ok(())
+    Err(Fail::new("each run was refused"))
 }
 
 #[test]
@@ -228,17 +290,12 @@ fn tree_hash_answers_out_of_memory(rt: HostRuntime) -> Result<(), Fail> {
         let heap = Refusing::in_turn(rt.alloc(), turn);
         let answer = tree_hash(&heap, Sha256Tree, 7, &store);
         if !heap.refused() {
-            assert!(rt; turn > 4);
-            assert!(rt; answer? == want);
+            assert!(rt; turn > 4 && answer == Ok(want));
             return Ok(());
         }
-        match answer {
-            Ok(_root) => assert!(rt; false, "an answer in turn {turn}"),
-            Err(fault) => assert!(rt; fault == ReadFault::OutOfMemory),
-        }
+        assert!(rt; answer == Err(ReadFault::OutOfMemory));
     }
-    assert!(rt; false, "each run was refused");
-    Ok(())
+    Err(Fail::new("each run was refused"))
 }
 
 #[test]
@@ -247,34 +304,59 @@ fn head_is_one_read_of_the_covering_subtrees(rt: HostRuntime) -> Result<(), Fail
     for (size, reads, hashes) in [(0, 0, 0), (1, 1, 1), (6, 1, 2), (7, 1, 3), (8, 1, 1)] {
         let reader = CountedReader::over(store_of(alloc, &ENTRIES)?);
         let _root = tree_hash(alloc, Sha256Tree, size, &reader)?;
-        assert!(rt; reader.reads.get() == reads, "at {size}");
-        assert!(rt; reader.hashes.get() == hashes, "at {size}");
+        assert!(rt;
+            (reader.reads.get(), reader.hashes.get()) == (reads, hashes),
+            "at {size}"
+        );
+    }
+    Ok(())
+}
+
+// A reader whose source fails, over the worked entries.
+fn broken(alloc: Global, tile: Option<u64>) -> Result<FailingReader, AllocError> {
+    let store = store_of(alloc, &ENTRIES)?;
+    Ok(FailingReader { store, tile })
+}
+
+// Bad tiles that the source has, and one that only fails.
+const BAD_TILES: [Option<u64>; 3] = [None, Some(5), Some((1 << 40) + 3)];
+
+#[test]
+fn heads_of_a_failing_source(rt: HostRuntime) -> Result<(), Fail> {
+    let alloc = rt.alloc();
+    for tile in BAD_TILES {
+        let broken = broken(alloc, tile)?;
+        let fault = Some(broken.fault());
+        assert!(rt; tree_hash(alloc, Sha256Tree, 7, &broken).err() == fault);
+        assert!(rt; tree_hash(alloc, Sha256Tree, 9, &broken).err() == Some(ReadFault::OutOfRange));
+        assert!(rt; tree_hash(alloc, Sha256Tree, 0, &broken)? == empty_hash(Sha256Tree));
     }
     Ok(())
 }
 
 #[test]
-fn what_a_failing_source_answers_is_passed_on(rt: HostRuntime) -> Result<(), Fail> {
+fn proofs_of_a_failing_source(rt: HostRuntime) -> Result<(), Fail> {
     let alloc = rt.alloc();
-    for tile in [None, Some(5), Some((1 << 40) + 3)] {
-        let broken = FailingReader {
-            store: store_of(alloc, &ENTRIES)?,
-            tile,
-        };
-        let fault = broken.fault();
-        assert!(rt; tree_hash(alloc, Sha256Tree, 7, &broken).err() == Some(fault));
-        assert!(rt; tree_hash(alloc, Sha256Tree, 9, &broken).err() == Some(ReadFault::OutOfRange));
-        assert!(rt; tree_hash(alloc, Sha256Tree, 0, &broken)? == empty_hash(Sha256Tree));
-        let failed = Some(ProveFault::Read(fault));
+    for tile in BAD_TILES {
+        let broken = broken(alloc, tile)?;
+        let failed = Some(ProveFault::Read(broken.fault()));
         assert!(rt; prove_record(alloc, Sha256Tree, 7, 2, &broken).err() == failed);
         assert!(rt; prove_tree(alloc, Sha256Tree, 7, 2, &broken).err() == failed);
         assert!(rt; prove_tree(alloc, Sha256Tree, 7, 7, &broken)?.is_empty());
-        let tile = Tile {
-            level: 0,
-            index: 0,
-            width: 8,
-        };
-        assert!(rt; tile_bytes(alloc, tile, &broken).err() == Some(fault));
+    }
+    Ok(())
+}
+
+#[test]
+fn tiles_of_a_failing_source(rt: HostRuntime) -> Result<(), Fail> {
+    let first = Tile {
+        level: 0,
+        index: 0,
+        width: 8,
+    };
+    for tile in BAD_TILES {
+        let broken = broken(rt.alloc(), tile)?;
+        assert!(rt; tile_bytes(rt.alloc(), first, &broken).err() == Some(broken.fault()));
     }
     Ok(())
 }
@@ -286,6 +368,14 @@ fn an_empty_store_takes_no_memory(rt: HostRuntime) -> Result<(), Fail> {
     assert!(rt; store.size() == 0);
     assert!(rt; store.read(&heap, &[])?.is_empty());
     assert!(rt; tree_hash(&heap, Sha256Tree, 0, &store)? == empty_hash(Sha256Tree));
+    assert!(rt; !heap.refused());
+    Ok(())
+}
+
+#[test]
+fn an_empty_proof_and_listing_take_no_memory(rt: HostRuntime) -> Result<(), Fail> {
+    let heap = Refusing::since(rt.alloc(), 1);
+    let store = HashStore::new(&heap, Sha256Tree);
     assert!(rt; prove_tree(&heap, Sha256Tree, 0, 0, &store)?.is_empty());
     assert!(rt; needed(&heap, 0)?.is_empty());
     assert!(rt; needed_since(&heap, 70_000, 70_000)?.is_empty());

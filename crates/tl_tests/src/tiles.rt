@@ -1,7 +1,7 @@
 //! Tiles, entry bundles and their paths: worked examples, and refused growths.
 
 use crate::readers::{CountedReader, store_of};
-use std::alloc::{AllocError, Global};
+use std::alloc::{AllocError, Allocator, Global};
 use std::test::Fail;
 use tl_hash::Sha256Tree;
 use tl_store::{HashStore, ReadFault};
@@ -22,32 +22,47 @@ fn tile(level: u32, index: u64, width: u32) -> Resource {
     })
 }
 
+const FULL: Resource = Resource::Entries {
+    index: 0,
+    width: 256,
+};
+
 #[test]
-fn resources_of_worked_sizes(rt: HostRuntime) -> Result<(), Fail> {
-    let alloc = rt.alloc();
-    assert!(rt; needed(alloc, 0)?.is_empty());
-    let full = Resource::Entries {
-        index: 0,
-        width: 256,
-    };
-    assert!(rt;
-        needed(alloc, 256)?.as_slice() == [tile(0, 0, 256), tile(1, 0, 1), full].as_slice()
-    );
-    let resources = needed(alloc, 70_000)?;
+fn resources_of_small_sizes(rt: HostRuntime) -> Result<(), Fail> {
+    assert!(rt; needed(rt.alloc(), 0)?.is_empty());
+    let want = [tile(0, 0, 256), tile(1, 0, 1), FULL];
+    assert!(rt; needed(rt.alloc(), 256)?.as_slice() == want.as_slice());
+    Ok(())
+}
+
+#[test]
+fn resources_of_70_000_entries(rt: HostRuntime) -> Result<(), Fail> {
+    let resources = needed(rt.alloc(), 70_000)?;
     assert!(rt; resources.len() == 551);
-    assert!(rt; resources.first() == Some(&tile(0, 0, 256)));
-    assert!(rt; resources.get(272) == Some(&tile(0, 272, 256)));
-    assert!(rt; resources.get(273) == Some(&tile(0, 273, 112)));
-    assert!(rt; resources.get(274) == Some(&tile(1, 0, 256)));
-    assert!(rt; resources.get(275) == Some(&tile(1, 1, 17)));
-    assert!(rt; resources.get(276) == Some(&tile(2, 0, 1)));
-    assert!(rt; resources.get(277) == Some(&full));
-    let last = Resource::Entries {
-        index: 273,
-        width: 112,
-    };
-    assert!(rt; resources.last() == Some(&last));
-    let resources = needed(alloc, (1 << 24) + 3)?;
+    for (place, want) in [
+        (0usize, tile(0, 0, 256)),
+        (272, tile(0, 272, 256)),
+        (273, tile(0, 273, 112)),
+        (274, tile(1, 0, 256)),
+        (275, tile(1, 1, 17)),
+        (276, tile(2, 0, 1)),
+        (277, FULL),
+        (
+            550,
+            Resource::Entries {
+                index: 273,
+                width: 112,
+            },
+        ),
+    ] {
+        assert!(rt; resources.get(place) == Some(&want), "{place}");
+    }
+    Ok(())
+}
+
+#[test]
+fn resources_of_four_levels(rt: HostRuntime) -> Result<(), Fail> {
+    let resources = needed(rt.alloc(), (1 << 24) + 3)?;
     assert!(rt; resources.len() == 131_332);
     assert!(rt; resources.get(65_536) == Some(&tile(0, 65_536, 3)));
     assert!(rt; resources.get(65_794) == Some(&tile(3, 0, 1)));
@@ -56,7 +71,6 @@ fn resources_of_worked_sizes(rt: HostRuntime) -> Result<(), Fail> {
 
 #[test]
 fn paths_read_and_written_back(rt: HostRuntime) -> Result<(), Fail> {
-    let alloc = rt.alloc();
     let bundle = Resource::Entries { index: 0, width: 1 };
     for (text, want) in [
         ("tile/0/x001/x234/067", tile(0, 1_234_067, 256)),
@@ -65,7 +79,7 @@ fn paths_read_and_written_back(rt: HostRuntime) -> Result<(), Fail> {
     ] {
         let resource = parse_path(text).ok_or("a path")?;
         assert!(rt; resource == want);
-        assert!(rt; path_of(alloc, &resource)?.as_str() == text);
+        assert!(rt; path_of(rt.alloc(), &resource)?.as_str() == text);
     }
     Ok(())
 }
@@ -143,32 +157,49 @@ fn indexes_about_powers_of_ten_are_read_back(rt: HostRuntime) -> Result<(), Fail
             "{power}"
         );
     }
+    Ok(())
+}
+
+#[test]
+fn the_greatest_index(rt: HostRuntime) -> Result<(), Fail> {
     let greatest = (1 << 56) - 1;
-    assert!(rt; is_read_back(alloc, greatest, 256)?);
+    assert!(rt; is_read_back(rt.alloc(), greatest, 256)?);
     let last = Resource::Tile(Tile {
         level: 0,
         index: greatest,
         width: 256,
     });
-    let path = path_of(alloc, &last)?;
+    let path = path_of(rt.alloc(), &last)?;
     assert!(rt; path.as_str() == "tile/0/x072/x057/x594/x037/x927/935");
     Ok(())
 }
 
-#[test]
-fn bundles_written_and_read(rt: HostRuntime) -> Result<(), Fail> {
-    let alloc = rt.alloc();
+// The bundle of an empty entry and of `a`.
+const BUNDLE: [u8; 5] = [0, 0, 0, 1, 97];
+
+// That bundle, written on this heap.
+fn written<A: Allocator>(alloc: Global, heap: A) -> Result<Vec<u8, A>, BundleFault> {
     let entries = vec![in alloc; Vec::new(alloc), b"a".to_vec(alloc)?]?;
-    let text = write_bundle(alloc, &entries)?;
-    assert!(rt; text.as_slice() == [0, 0, 0, 1, 97].as_slice());
-    let back = read_bundle(alloc, &text, 2)?;
-    assert!(rt; back == entries);
-    for end in 0..text.len() {
-        let cut = read_bundle(alloc, &text[..end], 2).err();
+    write_bundle(heap, &entries)
+}
+
+#[test]
+fn a_bundle_written_and_read(rt: HostRuntime) -> Result<(), Fail> {
+    let text = written(rt.alloc(), rt.alloc())?;
+    assert!(rt; text.as_slice() == BUNDLE.as_slice());
+    let back = read_bundle(rt.alloc(), &text, 2)?;
+    assert!(rt; back.len() == 2 && back[0].is_empty() && back[1].as_slice() == b"a".as_slice());
+    Ok(())
+}
+
+#[test]
+fn bundles_that_are_too_short_or_too_long(rt: HostRuntime) {
+    for end in 0..5usize {
+        let cut = read_bundle(rt.alloc(), &BUNDLE[..end], 2).err();
         assert!(rt; cut == Some(BundleFault::Truncated), "after {end} bytes");
     }
-    assert!(rt; read_bundle(alloc, &[0, 0, 0, 1, 97, 7], 2).err() == Some(BundleFault::Trailing));
-    Ok(())
+    let longer = [0, 0, 0, 1, 97, 7];
+    assert!(rt; read_bundle(rt.alloc(), &longer, 2).err() == Some(BundleFault::Trailing));
 }
 
 #[test]
@@ -185,75 +216,86 @@ fn longest_entry_of_a_bundle(rt: HostRuntime) -> Result<(), Fail> {
 
 #[test]
 fn tile_of_two_leaf_hashes(rt: HostRuntime) -> Result<(), Fail> {
-    let alloc = rt.alloc();
-    let store = store_of(alloc, &ENTRIES)?;
+    let store = store_of(rt.alloc(), &ENTRIES)?;
     let two = Tile {
         level: 0,
         index: 0,
         width: 2,
     };
-    let bytes = tile_bytes(alloc, two, &store)?;
-    assert!(rt; bytes.len() == 64);
-    let hashes = hex::encode(alloc, &bytes)?;
+    let bytes = tile_bytes(rt.alloc(), two, &store)?;
+    let hashes = hex::encode(rt.alloc(), &bytes)?;
     assert!(rt; hashes.as_str().strip_prefix(LEAVES[0]) == Some(LEAVES[1]));
+    Ok(())
+}
+
+#[test]
+fn tiles_past_eight_entries(rt: HostRuntime) -> Result<(), Fail> {
+    let store = store_of(rt.alloc(), &ENTRIES)?;
     for (level, width) in [(0, 9), (1, 1)] {
         let past = Tile {
             level,
             index: 0,
             width,
         };
-        assert!(rt; tile_bytes(alloc, past, &store).err() == Some(ReadFault::OutOfRange));
+        assert!(rt; tile_bytes(rt.alloc(), past, &store).err() == Some(ReadFault::OutOfRange));
     }
     Ok(())
 }
 
-#[test]
-fn tile_is_one_read_of_its_hashes(rt: HostRuntime) -> Result<(), Fail> {
-    let alloc = rt.alloc();
+// A store of 300 entries.
+fn three_hundred(alloc: Global) -> Result<HashStore<Sha256Tree, Global>, AllocError> {
     let mut store = HashStore::new(alloc, Sha256Tree);
     for number in 0..300u16 {
         if store.size() < MOST {
             store.append(&number.to_be_bytes())?;
         }
     }
-    let reader = CountedReader::over(store);
-    let mut reads = 0u32;
-    let mut hashes = 0usize;
+    Ok(store)
+}
+
+#[test]
+fn tile_is_one_read_of_its_hashes(rt: HostRuntime) -> Result<(), Fail> {
     for (level, index, width) in [(0, 0, 256), (0, 1, 44), (1, 0, 1)] {
+        let reader = CountedReader::over(three_hundred(rt.alloc())?);
         let tile = Tile {
             level,
             index,
             width,
         };
-        let bytes = tile_bytes(alloc, tile, &reader)?;
-        assert!(rt; bytes.len() == 32 * width as usize);
-        reads = reads.saturating_add(1);
-        hashes = hashes.saturating_add(width as usize);
-        assert!(rt; reader.reads.get() == reads);
-        assert!(rt; reader.hashes.get() == hashes);
+        let length = tile_bytes(rt.alloc(), tile, &reader)?.len();
+        let hashes = width as usize;
+        assert!(rt; (length, reader.reads.get(), reader.hashes.get()) == (32 * hashes, 1, hashes));
     }
     Ok(())
 }
 
-#[test]
-fn path_of_answers_out_of_memory(rt: HostRuntime) -> Result<(), Fail> {
-    let resource = Resource::Tile(Tile {
+// Whether the path of a tile is this one, written on this heap.
+fn is_path(heap: &Refusing<Global>, text: &str) -> Result<bool, AllocError> {
+    let tile = Resource::Tile(Tile {
         level: 0,
         index: 1_234_067,
         width: 3,
     });
+    Ok(path_of(heap, &tile)?.as_str() == text)
+}
+
+#[test]
+fn path_of_answers_out_of_memory(rt: HostRuntime) -> Result<(), Fail> {
     for turn in 1..MOST {
         let heap = Refusing::in_turn(rt.alloc(), turn);
-        let answer = path_of(&heap, &resource);
+        let answer = is_path(&heap, "tile/0/x001/x234/067.p/3");
         if !heap.refused() {
-            assert!(rt; turn > 2);
-            assert!(rt; answer?.as_str() == "tile/0/x001/x234/067.p/3");
+            assert!(rt; turn > 2 && answer == Ok(true));
             return Ok(());
         }
         assert!(rt; answer.is_err());
     }
-    assert!(rt; false, "each run was refused");
-    Ok(())
+    Err(Fail::new("each run was refused"))
+}
+
+// Whether these are the resources of 70,000 entries, listed on this heap.
+fn are_needed(heap: &Refusing<Global>, want: &[Resource]) -> Result<bool, AllocError> {
+    Ok(needed(heap, 70_000)?.as_slice() == want)
 }
 
 #[test]
@@ -261,69 +303,85 @@ fn needed_answers_out_of_memory(rt: HostRuntime) -> Result<(), Fail> {
     let want = needed(rt.alloc(), 70_000)?;
     for turn in 1..MOST {
         let heap = Refusing::in_turn(rt.alloc(), turn);
-        let answer = needed(&heap, 70_000);
+        let answer = are_needed(&heap, want.as_slice());
         if !heap.refused() {
-            assert!(rt; turn > 4);
-            assert!(rt; answer?.as_slice() == want.as_slice());
+            assert!(rt; turn > 4 && answer == Ok(true));
             return Ok(());
         }
         assert!(rt; answer.is_err());
     }
-    assert!(rt; false, "each run was refused");
-    Ok(())
+    Err(Fail::new("each run was refused"))
+}
+
+// A tile of seven leaf hashes.
+const SEVEN: Tile = Tile {
+    level: 0,
+    index: 0,
+    width: 7,
+};
+
+// Whether its bytes are these, read on this heap.
+fn is_seven(
+    heap: &Refusing<Global>,
+    store: &HashStore<Sha256Tree, Global>,
+    want: &[u8],
+) -> Result<bool, ReadFault> {
+    Ok(tile_bytes(heap, SEVEN, store)?.as_slice() == want)
 }
 
 #[test]
 fn tile_bytes_answers_out_of_memory(rt: HostRuntime) -> Result<(), Fail> {
     let store = store_of(rt.alloc(), &ENTRIES)?;
-    let tile = Tile {
-        level: 0,
-        index: 0,
-        width: 7,
-    };
-    let want = tile_bytes(rt.alloc(), tile, &store)?;
+    let want = tile_bytes(rt.alloc(), SEVEN, &store)?;
     for turn in 1..MOST {
         let heap = Refusing::in_turn(rt.alloc(), turn);
-        let answer = tile_bytes(&heap, tile, &store);
+        let answer = is_seven(&heap, &store, want.as_slice());
         if !heap.refused() {
-            assert!(rt; turn > 6);
-            assert!(rt; answer?.as_slice() == want.as_slice());
+            assert!(rt; turn > 6 && answer == Ok(true));
             return Ok(());
         }
-        match answer {
-            Ok(_bytes) => assert!(rt; false, "an answer in turn {turn}"),
-            Err(fault) => assert!(rt; fault == ReadFault::OutOfMemory),
-        }
+        assert!(rt; answer == Err(ReadFault::OutOfMemory));
     }
-    assert!(rt; false, "each run was refused");
-    Ok(())
+    Err(Fail::new("each run was refused"))
+}
+
+// Whether that bundle is written as it is to be, on this heap.
+fn is_written(alloc: Global, heap: &Refusing<Global>) -> Result<bool, BundleFault> {
+    Ok(written(alloc, heap)?.as_slice() == BUNDLE.as_slice())
 }
 
 #[test]
-fn bundles_answer_out_of_memory(rt: HostRuntime) -> Result<(), Fail> {
-    let alloc = rt.alloc();
-    let entries = vec![in alloc; b"first".to_vec(alloc)?, b"second".to_vec(alloc)?]?;
-    let want = write_bundle(alloc, &entries)?;
+fn write_bundle_answers_out_of_memory(rt: HostRuntime) -> Result<(), Fail> {
     for turn in 1..MOST {
-        let heap = Refusing::in_turn(alloc, turn);
-        let written = write_bundle(&heap, &entries);
-        let was_refused = heap.refused();
-        match written {
-            Ok(text) => assert!(rt; !was_refused && text.as_slice() == want.as_slice()),
-            Err(fault) => assert!(rt; was_refused && fault == BundleFault::OutOfMemory),
-        }
-        let heap = Refusing::in_turn(alloc, turn);
-        let read = read_bundle(&heap, &want, 2);
+        let heap = Refusing::in_turn(rt.alloc(), turn);
+        let answer = is_written(rt.alloc(), &heap);
         if !heap.refused() {
-            assert!(rt; turn > 6);
-            assert!(rt; read?.len() == 2);
+            assert!(rt; turn > 2 && answer == Ok(true));
             return Ok(());
         }
-        match read {
-            Ok(_entries) => assert!(rt; false, "an answer in turn {turn}"),
-            Err(fault) => assert!(rt; fault == BundleFault::OutOfMemory),
-        }
+        assert!(rt; answer == Err(BundleFault::OutOfMemory));
     }
-    assert!(rt; false, "each run was refused");
-    Ok(())
+    Err(Fail::new("each run was refused"))
+}
+
+// The bundle of `first` and `second`.
+const WORDS: &[u8] = b"\0\x05first\0\x06second";
+
+// How many entries that bundle has, read on this heap.
+fn read_on(heap: &Refusing<Global>) -> Result<usize, BundleFault> {
+    Ok(read_bundle(heap, WORDS, 2)?.len())
+}
+
+#[test]
+fn read_bundle_answers_out_of_memory(rt: HostRuntime) -> Result<(), Fail> {
+    for turn in 1..MOST {
+        let heap = Refusing::in_turn(rt.alloc(), turn);
+        let count = read_on(&heap);
+        if !heap.refused() {
+            assert!(rt; turn > 6 && count == Ok(2));
+            return Ok(());
+        }
+        assert!(rt; count == Err(BundleFault::OutOfMemory));
+    }
+    Err(Fail::new("each run was refused"))
 }

@@ -7,11 +7,16 @@ use tl_testing::SumDigest;
 use tl_testing::vectors::{ENTRIES, LEAVES, ROOTS, entries, in_hex};
 
 #[test]
-fn leaves_and_roots_of_the_vectors(rt: HostRuntime) -> Result<(), Fail> {
+fn leaves_of_the_vectors(rt: HostRuntime) -> Result<(), Fail> {
     for (entry, leaf) in ENTRIES.iter().zip(LEAVES.iter()) {
         let hash = in_hex(rt.alloc(), leaf_hash(Sha256Tree, entry))?;
         assert!(rt; hash.as_str() == *leaf);
     }
+    Ok(())
+}
+
+#[test]
+fn roots_of_the_vectors(rt: HostRuntime) -> Result<(), Fail> {
     for (size, root) in ROOTS {
         let list = entries(rt.alloc(), size)?;
         let hash = in_hex(rt.alloc(), entry_root(Sha256Tree, list.as_slice()))?;

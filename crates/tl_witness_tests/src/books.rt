@@ -1,30 +1,39 @@
 //! A book before its first link, and books opened with chains that were saved.
 
 use crate::logs::two_links;
-use crate::posts::{E0, E1, F1, ORIGIN, TIME, body, fresh_book, trust};
+use crate::posts::{COSIGNATURE, E0, E1, F1, ORIGIN, TIME, body, fresh_book, trust};
 use crate::savers::KeepingSaver;
 use std::alloc::{AllocError, Global};
 use std::test::Fail;
 use tl_hash::Sha256Tree;
 use tl_witness::{Book, BookFault};
 
+// The status of the reply of a book to this body, and whether that has no body, and left no link and nothing saved.
+fn answered(alloc: Global, body: &[u8]) -> Result<(u16, bool), BookFault> {
+    let mut book = fresh_book(alloc, alloc, &[ORIGIN])?;
+    let mut saver = KeepingSaver::new(alloc);
+    let reply = book.add(body, TIME, &mut saver);
+    let is_unchanged = match book.chain(ORIGIN) {
+        Some(links) => links.is_empty() && saver.calls == 0,
+        None => false,
+    };
+    Ok((reply.status, is_unchanged && reply.body.is_empty()))
+}
+
 #[test]
 fn bodies_that_are_no_requests(rt: HostRuntime) -> Result<(), Fail> {
     let alloc = rt.alloc();
-    let mut book = fresh_book(alloc, alloc, &[ORIGIN])?;
-    let mut saver = KeepingSaver::new(alloc);
     let first = body(alloc, 0, "", 1, E1)?;
     let bytes = first.as_bytes();
     assert!(rt; bytes.len() == 108);
     for end in 0..bytes.len() {
-        let reply = book.add(&bytes[..end], TIME, &mut saver);
-        assert!(rt; reply.status == 400, "cut after {end} bytes");
-        assert!(rt; reply.body.is_empty());
+        assert!(rt;
+            answered(alloc, &bytes[..end])? == (400, true),
+            "cut after {end} bytes"
+        );
     }
     let no_hash = body(alloc, 0, "x", 1, E1)?;
-    assert!(rt; book.add(no_hash.as_bytes(), TIME, &mut saver).status == 400);
-    assert!(rt; book.chain(ORIGIN).map(|links| links.len()) == Some(0));
-    assert!(rt; saver.calls == 0);
+    assert!(rt; answered(alloc, no_hash.as_bytes())? == (400, true));
     Ok(())
 }
 
@@ -33,13 +42,12 @@ fn the_log_of_no_entries(rt: HostRuntime) -> Result<(), Fail> {
     let alloc = rt.alloc();
     let mut book = fresh_book(alloc, alloc, &[ORIGIN])?;
     let mut saver = KeepingSaver::new(alloc);
-    let empty = body(alloc, 0, "", 0, E0)?;
-    assert!(rt; book.add(empty.as_bytes(), TIME, &mut saver).status == 200);
-    assert!(rt; book.chain(ORIGIN).map(|links| links.len()) == Some(0));
-    let other = body(alloc, 0, "", 0, E1)?;
-    let reply = book.add(other.as_bytes(), TIME, &mut saver);
-    assert!(rt; reply.status == 409);
-    assert!(rt; reply.body.as_slice() == b"0\n".as_slice());
+    for (root, status, want) in [(E0, 200, COSIGNATURE), (E1, 409, "0\n")] {
+        let request = body(alloc, 0, "", 0, root)?;
+        let reply = book.add(request.as_bytes(), TIME, &mut saver);
+        assert!(rt; reply.status == status && reply.body.as_slice() == want.as_bytes());
+        assert!(rt; book.chain(ORIGIN).map(|links| links.len()) == Some(0));
+    }
     assert!(rt; saver.calls == 0);
     Ok(())
 }
@@ -65,10 +73,14 @@ fn fault(
 
 #[test]
 fn chains_that_are_taken_and_refused(rt: HostRuntime) -> Result<(), Fail> {
-    let alloc = rt.alloc();
-    assert!(rt; fault(alloc, 1, ORIGIN, F1)? == None);
-    assert!(rt; fault(alloc, 1, ORIGIN, E1)? == Some(BookFault::BadChain { chain: 0, link: 1 }));
-    assert!(rt; fault(alloc, 2, ORIGIN, F1)? == Some(BookFault::TwiceNamed));
-    assert!(rt; fault(alloc, 1, "example.com/x", F1)? == Some(BookFault::NoTrust(0)));
+    let bad = BookFault::BadChain { chain: 0, link: 1 };
+    for (trusts, origin, proof, want) in [
+        (1usize, ORIGIN, F1, None),
+        (1, ORIGIN, E1, Some(bad)),
+        (2, ORIGIN, F1, Some(BookFault::TwiceNamed)),
+        (1, "example.com/x", F1, Some(BookFault::NoTrust(0))),
+    ] {
+        assert!(rt; fault(rt.alloc(), trusts, origin, proof)? == want);
+    }
     Ok(())
 }

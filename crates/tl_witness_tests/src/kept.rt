@@ -8,7 +8,8 @@ use std::str;
 use std::sync::Wait;
 use std::test::Fail;
 use tl_hash::Sha256Tree;
-use tl_witness::{Reply, SharedWitness, read_chain};
+use tl_proof::Link;
+use tl_witness::{Book, Reply, SharedWitness, read_chain};
 
 type Witness = SharedWitness<Sha256Tree, Global>;
 
@@ -22,16 +23,29 @@ fn beta(alloc: Global, size: u64) -> Result<Log, AllocError> {
     Ok(Log::of_size(alloc, "b.example/log", 2, size)?.cosigned_by("beta.example"))
 }
 
+// Puts to a book a request from one size to the next, where it is at most the last. The reply isn't looked at.
+fn step(
+    alloc: Global,
+    book: &mut Book<Sha256Tree, Global>,
+    saver: &mut KeepingSaver,
+    log: &Log,
+    size: u64,
+    last: u64,
+) -> Result<(), Fail> {
+    if size <= last {
+        let body = log.body(alloc, size.saturating_sub(1), size)?;
+        book.add(body.as_bytes(), TIME, saver);
+    }
+    Ok(())
+}
+
 // The links that a book of these logs saves: one to each size up to the one that its log reaches, in turns.
 fn saved_links(alloc: Global, logs: &[Log], reached: &[u64]) -> Result<Saved, Fail> {
     let mut book = open_book(alloc, logs, Vec::new(alloc))?;
     let mut saver = KeepingSaver::new(alloc);
     for size in 1..=12u64 {
         for (log, last) in logs.iter().zip(reached) {
-            if size <= *last {
-                let body = log.body(alloc, size - 1, size)?;
-                book.add(body.as_bytes(), TIME, &mut saver);
-            }
+            step(alloc, &mut book, &mut saver, log, size, *last)?;
         }
     }
     Ok(read_chain(alloc, saver.lines.as_bytes())?)
@@ -63,23 +77,54 @@ fn is_cosigned_by(reply: &Reply<Global>, cosigner: &str) -> bool {
     reply.status == 200 && name.map(|parts| parts.0) == Some(cosigner)
 }
 
+// The links of an origin that has some.
+fn chain_of<R: Wait>(rt: &R, witness: &Witness, origin: &str) -> Result<Vec<Link<Global>>, Fail> {
+    match witness.chain(rt, origin)? {
+        Some(links) => Ok(links),
+        None => Err(Fail::new("no chain")),
+    }
+}
+
+// Whether a log's origin is at this size, by as many links.
+fn is_at<R: Wait>(
+    rt: &R,
+    alloc: Global,
+    witness: &Witness,
+    log: &Log,
+    size: u64,
+) -> Result<bool, Fail> {
+    let root = log.root(alloc, size)?;
+    let links = chain_of(rt, witness, log.origin)?;
+    Ok(links.len() as u64 == size && witness.head(rt, log.origin) == Some((size, root)))
+}
+
+// Whether a request from this size to 40 is cosigned, and adds one link to those before.
+fn is_grown<R: Wait>(
+    rt: &R,
+    alloc: Global,
+    witness: &Witness,
+    log: &Log,
+    size: u64,
+) -> Result<bool, Fail> {
+    let before = chain_of(rt, witness, log.origin)?;
+    let body = log.body(alloc, size, 40)?;
+    let reply = post(rt, alloc, witness, body.as_str());
+    let after = chain_of(rt, witness, log.origin)?;
+    Ok(
+        is_cosigned_by(&reply, log.cosigner)
+            && are_first(before.as_slice(), after.as_slice(), before.len())
+            && after.len() as u64 == size.saturating_add(1),
+    )
+}
+
 #[test]
 fn each_origin_keeps_its_key_its_cosigner_and_its_links(rt: HostRuntime) -> Result<(), Fail> {
     let alloc = rt.alloc();
     let logs = [beta(alloc, 40)?, alpha(alloc, 40)?];
-    let reached = [12u64, 5];
-    let witness = shared(alloc, &logs, &reached)?;
-    for (log, last) in logs.iter().zip(reached) {
-        let root = log.root(alloc, last)?;
-        assert!(rt; witness.head(&rt, log.origin) == Some((last, root)));
-        let before = witness.chain(&rt, log.origin)?.ok_or("no chain")?;
-        assert!(rt; before.len() as u64 == last);
-        let body = log.body(alloc, last, 40)?;
-        let reply = post(&rt, alloc, &witness, body.as_str());
-        assert!(rt; is_cosigned_by(&reply, log.cosigner));
-        let after = witness.chain(&rt, log.origin)?.ok_or("no chain")?;
-        assert!(rt; are_first(before.as_slice(), after.as_slice(), before.len()));
-        assert!(rt; after.len() as u64 == last + 1);
+    let witness = shared(alloc, &logs, &[12, 5])?;
+    for (log, last) in logs.iter().zip([12u64, 5]) {
+        assert!(rt; is_at(&rt, alloc, &witness, log, last)?);
+        assert!(rt; is_grown(&rt, alloc, &witness, log, last)?);
     }
     assert!(rt; witness.chain(&rt, "c.example")?.is_none());
     assert!(rt; witness.head(&rt, "c.example").is_none());
@@ -99,28 +144,72 @@ fn the_key_of_another_origin_is_refused(rt: HostRuntime) -> Result<(), Fail> {
     Ok(())
 }
 
+// How many links an origin has from this place on, at most so many, and the size of the first.
+fn part_of<R: Wait>(
+    rt: &R,
+    witness: &Witness,
+    origin: &str,
+    from: u64,
+    most: u64,
+) -> Result<Option<(usize, Option<u64>)>, Fail> {
+    match witness.links(rt, origin, from, most)? {
+        Some(links) => Ok(Some((links.len(), links.as_slice().first().map(|link| link.size)))),
+        None => Ok(None),
+    }
+}
+
+// A place, how many links are asked for, how many there are, and the size of the first.
+const PARTS: [(u64, u64, usize, Option<u64>); 8] = [
+    (0, 12, 12, Some(1)),
+    (0, 5, 5, Some(1)),
+    (3, 4, 4, Some(4)),
+    (11, 4, 1, Some(12)),
+    (12, 4, 0, None),
+    (4, 0, 0, None),
+    (u64::MAX, u64::MAX, 0, None),
+    (2, u64::MAX, 10, Some(3)),
+];
+
 #[test]
 fn links_from_a_place_on(rt: HostRuntime) -> Result<(), Fail> {
     let alloc = rt.alloc();
     let logs = [alpha(alloc, 20)?, beta(alloc, 20)?];
     let witness = shared(alloc, &logs, &[5, 12])?;
-    let origin = logs[1].origin;
-    for (from, most, count, size) in [
-        (0u64, 12u64, 12usize, Some(1u64)),
-        (0, 5, 5, Some(1)),
-        (3, 4, 4, Some(4)),
-        (11, 4, 1, Some(12)),
-        (12, 4, 0, None),
-        (4, 0, 0, None),
-        (u64::MAX, u64::MAX, 0, None),
-        (2, u64::MAX, 10, Some(3)),
-    ] {
-        let links = witness.links(&rt, origin, from, most)?.ok_or("no links")?;
-        assert!(rt; links.len() == count, "from {from}, at most {most}");
-        assert!(rt; links.as_slice().first().map(|link| link.size) == size);
+    for (from, most, count, size) in PARTS {
+        let part = part_of(&rt, &witness, logs[1].origin, from, most)?;
+        assert!(rt; part == Some((count, size)), "from {from}, at most {most}");
     }
-    assert!(rt; witness.links(&rt, "c.example", 0, 1)?.is_none());
+    assert!(rt; part_of(&rt, &witness, "c.example", 0, 1)? == None);
     Ok(())
+}
+
+// Whether a book's chain of an origin is this one.
+fn has_chain(book: &Book<Sha256Tree, Global>, origin: &str, whole: &[Link<Global>]) -> bool {
+    match book.chain(origin) {
+        Some(links) => are_first(links, whole, whole.len()),
+        None => false,
+    }
+}
+
+// Whether a book cosigns for a log from this size to 20.
+fn is_cosigned_again(
+    alloc: Global,
+    book: &mut Book<Sha256Tree, Global>,
+    log: &Log,
+    old: u64,
+) -> Result<bool, Fail> {
+    let mut saver = KeepingSaver::new(alloc);
+    let body = log.body(alloc, old, 20)?;
+    let reply = book.add(body.as_bytes(), TIME, &mut saver);
+    Ok(is_cosigned_by(&reply, log.cosigner))
+}
+
+// The book of a witness.
+fn back(witness: Witness, rt: &impl Wait) -> Result<Book<Sha256Tree, Global>, Fail> {
+    match witness.into_book(rt) {
+        Ok(book) => Ok(book),
+        Err(_) => Err(Fail::new("out of memory")),
+    }
 }
 
 #[test]
@@ -128,22 +217,14 @@ fn a_book_again_with_what_was_accepted(rt: HostRuntime) -> Result<(), Fail> {
     let alloc = rt.alloc();
     let logs = [alpha(alloc, 20)?, beta(alloc, 20)?];
     let witness = shared(alloc, &logs, &[5, 12])?;
-    let grown = logs[1].origin;
     let body = logs[1].body(alloc, 12, 19)?;
     assert!(rt; post(&rt, alloc, &witness, body.as_str()).status == 200);
-    let whole = witness.chain(&rt, grown)?.ok_or("no chain")?;
-    let Ok(mut book) = witness.into_book(&rt) else {
-        assert!(rt; false, "out of memory");
-        return Ok(());
-    };
-    let links = book.chain(grown).ok_or("no chain")?;
-    assert!(rt; are_first(links, whole.as_slice(), 13));
+    let whole = chain_of(&rt, &witness, logs[1].origin)?;
+    let mut book = back(witness, &rt)?;
+    assert!(rt; whole.len() == 13 && has_chain(&book, logs[1].origin, whole.as_slice()));
     assert!(rt; book.chain(logs[0].origin).map(|links| links.len()) == Some(5));
-    let mut saver = KeepingSaver::new(alloc);
     for (log, old) in logs.iter().zip([5u64, 19]) {
-        let body = log.body(alloc, old, 20)?;
-        let reply = book.add(body.as_bytes(), TIME, &mut saver);
-        assert!(rt; is_cosigned_by(&reply, log.cosigner));
+        assert!(rt; is_cosigned_again(alloc, &mut book, log, old)?);
     }
     Ok(())
 }

@@ -79,6 +79,16 @@ impl Log {
         self.claim(alloc, old, &proof, size, root)
     }
 
+    // The checkpoint of this size and root, signed by the log's key.
+    fn note(&self, alloc: Global, size: u64, root: &Hash) -> Result<String, Fail> {
+        let mut signers: Vec<Box<dyn Signer>> = Vec::new(alloc);
+        let key = LengthKey::new(alloc, self.origin, self.key_id)?;
+        signers.push(Box::new(alloc, key)?)?;
+        let root = text_of(alloc, root)?;
+        let text = format!(in alloc; "{}\n{size}\n{root}\n", self.origin)?;
+        Ok(sign_note(alloc, alloc, text.as_str(), signers.as_slice())?)
+    }
+
     /// The body of a request with this proof and this root, right or wrong.
     pub fn claim(
         &self,
@@ -88,22 +98,20 @@ impl Log {
         size: u64,
         root: Hash,
     ) -> Result<String, Fail> {
-        let key = LengthKey::new(alloc, self.origin, self.key_id)?;
-        let signer: Box<dyn Signer> = Box::new(alloc, key)?;
-        let mut signers = Vec::new(alloc);
-        signers.push(signer)?;
-        let root = text_of(alloc, &root)?;
-        let text = format!(in alloc; "{}\n{size}\n{root}\n", self.origin)?;
-        let note = sign_note(alloc, alloc, text.as_str(), signers.as_slice())?;
-        let mut body = format!(in alloc; "old {old}\n")?;
-        for hash in proof {
-            body.push_str(text_of(alloc, hash)?.as_str())?;
-            body.push_str("\n")?;
-        }
-        body.push_str("\n")?;
-        body.push_str(note.as_str())?;
-        Ok(body)
+        let note = self.note(alloc, size, &root)?;
+        let proof = lines_of(alloc, proof)?;
+        Ok(format!(in alloc; "old {old}\n{proof}\n{note}")?)
     }
+}
+
+// The hashes of a proof, each on a line.
+fn lines_of(alloc: Global, proof: &[Hash]) -> Result<String, AllocError> {
+    let mut lines = String::new(alloc);
+    for hash in proof {
+        lines.push_str(text_of(alloc, hash)?.as_str())?;
+        lines.push_str("\n")?;
+    }
+    Ok(lines)
 }
 
 // The trusts in each log's own key for its origin.
@@ -134,6 +142,24 @@ pub fn hash(text: &str) -> Hash {
     hash_of(text).unwrap_or(Hash::from_bytes([0; 32]))
 }
 
+// The link to this size, with a proof of these hashes.
+fn link_to<A: Allocator + Copy>(
+    heap: A,
+    size: u64,
+    root: &str,
+    proof: &[&str],
+) -> Result<Link<A>, AllocError> {
+    let mut hashes = Vec::new(heap);
+    for text in proof {
+        hashes.push(hash(text))?;
+    }
+    Ok(Link {
+        size,
+        root: hash(root),
+        proof: HashList::from_vec(hashes),
+    })
+}
+
 /// The chain of size 1 and of this size, with a proof of these hashes.
 pub fn first_link_and<A: Allocator + Copy>(
     heap: A,
@@ -142,20 +168,8 @@ pub fn first_link_and<A: Allocator + Copy>(
     proof: &[&str],
 ) -> Result<Vec<Link<A>, A>, AllocError> {
     let mut links = Vec::new(heap);
-    links.push(Link {
-        size: 1,
-        root: hash(E1),
-        proof: HashList::from_vec(Vec::new(heap)),
-    })?;
-    let mut hashes = Vec::new(heap);
-    for text in proof {
-        hashes.push(hash(text))?;
-    }
-    links.push(Link {
-        size,
-        root: hash(root),
-        proof: HashList::from_vec(hashes),
-    })?;
+    links.push(link_to(heap, 1, E1, &[])?)?;
+    links.push(link_to(heap, size, root, proof)?)?;
     Ok(links)
 }
 

@@ -27,6 +27,18 @@ pub const COSIGNATURE: &str = "— witness.example CgsMDQAAAABlU/EAAAAAAAAAAF4=\
 /// The time of the requests.
 pub const TIME: u64 = 1700000000;
 
+// The one verifier, by the length key of this name and identifier.
+fn verifiers<A: Allocator + Copy>(
+    alloc: Global,
+    heap: A,
+    key: (&str, u32),
+) -> Result<Vec<Box<dyn Verifier>, A>, AllocError> {
+    let key = LengthKey::new(alloc, key.0, key.1)?;
+    let mut verifiers: Vec<Box<dyn Verifier>, A> = Vec::new(heap);
+    verifiers.push(Box::new(alloc, key)?)?;
+    Ok(verifiers)
+}
+
 /// The trust in this key of a log for an origin, and the key that cosigns, each by its name and identifier.
 pub fn trust_in<A: Allocator + Copy>(
     alloc: Global,
@@ -35,12 +47,9 @@ pub fn trust_in<A: Allocator + Copy>(
     log: (&str, u32),
     cosigner: (&str, u32),
 ) -> Result<Trust<A>, AllocError> {
-    let log = LengthKey::new(alloc, log.0, log.1)?;
-    let witness = LengthKey::new(alloc, cosigner.0, cosigner.1)?;
-    let verifier: Box<dyn Verifier> = Box::new(alloc, log)?;
-    let cosigner: Box<dyn Signer> = Box::new(alloc, witness)?;
-    let mut verifiers = Vec::new(heap);
-    verifiers.push(verifier)?;
+    let verifiers = verifiers(alloc, heap, log)?;
+    let key = LengthKey::new(alloc, cosigner.0, cosigner.1)?;
+    let cosigner: Box<dyn Signer> = Box::new(alloc, key)?;
     let origin = String::from_str(heap, origin)?;
     Ok(Trust {
         origin,

@@ -13,6 +13,8 @@ use tl_hash::Sha256Tree;
 use tl_proof::Link;
 use tl_witness::{Reply, SaveFault, Saver, SharedWitness};
 
+type Witness = SharedWitness<Sha256Tree, Global>;
+
 // The root of an empty entry, the byte 0 and the byte 16.
 const E3: &str = "rra8/idLcKFPsGel5VeCZNsPqbUa9eC6FZFY8yngbnc=";
 
@@ -58,40 +60,81 @@ fn is_decided(taken: &Reply<Global>, refused: &Reply<Global>, size: &str) -> boo
         && refused.body.as_slice() == size.as_bytes()
 }
 
-#[test]
-fn one_of_two_requests_is_taken(rt: HostRuntime) -> Result<(), Fail> {
-    let alloc = rt.alloc();
-    let first = body(alloc, 0, "", 1, E1)?;
+// A witness of these origins.
+fn shared(alloc: Global, origins: &[&str]) -> Result<Witness, Fail> {
+    match SharedWitness::new(fresh_book(alloc, alloc, origins)?) {
+        Ok(witness) => Ok(witness),
+        Err(_) => Err(Fail::new("out of memory")),
+    }
+}
+
+// The status of the reply to a request.
+fn status_of<R: Wait>(rt: &R, alloc: Global, witness: &Witness, body: &str) -> u16 {
+    let mut saver = KeepingSaver::new(alloc);
+    witness.add(rt, body.as_bytes(), TIME, &mut saver).status
+}
+
+// The requests from size 1 to 2 and to 3, and the chain that each leaves.
+#[derive(Drop)]
+struct Rivals {
+    bodies: [String; 2],
+    chains: [Vec<Link<Global>>; 2],
+}
+
+fn both_rivals(alloc: Global) -> Result<Rivals, AllocError> {
     let to_two = body(alloc, 1, format!(in alloc; "{F1}\n")?.as_str(), 2, E2)?;
     let to_three = body(alloc, 1, format!(in alloc; "{F1}\n{F2}\n")?.as_str(), 3, E3)?;
     let with_two = two_links(alloc, F1)?;
     let with_three = first_link_and(alloc, 3, E3, &[F1, F2])?;
+    Ok(Rivals {
+        bodies: [to_two, to_three],
+        chains: [with_two, with_three],
+    })
+}
+
+// Whether one of two replies is of a request that was taken, whose chain is there, and the other is told of it.
+fn is_one_taken(
+    two: &Reply<Global>,
+    three: &Reply<Global>,
+    links: &[Link<Global>],
+    chains: &[Vec<Link<Global>>; 2],
+) -> bool {
+    if two.status == 200 {
+        is_decided(two, three, "2\n") && are_first(links, chains[0].as_slice(), 2)
+    } else {
+        is_decided(three, two, "3\n") && are_first(links, chains[1].as_slice(), 2)
+    }
+}
+
+// Whether one of two rivals that post at once is taken, and none of them later.
+fn is_one_decided<R: Threads + Wait + Sync>(
+    rt: &R,
+    alloc: Global,
+    witness: &Witness,
+    rivals: &Rivals,
+) -> Result<bool, Fail> {
+    let [one, other] = &rivals.bodies;
+    let (met, two, three) = replies(rt, alloc, witness, one.as_str(), other.as_str());
+    let links = witness.chain(rt, ORIGIN)?.ok_or("no chain")?;
+    Ok(
+        met && is_one_taken(&two, &three, links.as_slice(), &rivals.chains)
+            && status_of(rt, alloc, witness, one.as_str()) == 409
+            && status_of(rt, alloc, witness, other.as_str()) == 409,
+    )
+}
+
+#[test]
+fn one_of_two_requests_is_taken(rt: HostRuntime) -> Result<(), Fail> {
+    let alloc = rt.alloc();
+    let first = body(alloc, 0, "", 1, E1)?;
+    let rivals = both_rivals(alloc)?;
     for _ in 0..100 {
-        let Ok(witness) = SharedWitness::new(fresh_book(alloc, alloc, &[ORIGIN])?) else {
-            assert!(rt; false, "out of memory");
-            return Ok(());
-        };
-        let mut saver = KeepingSaver::new(alloc);
-        assert!(rt; witness.add(&rt, first.as_bytes(), TIME, &mut saver).status == 200);
-        let (met, two, three) = replies(&rt, alloc, &witness, to_two.as_str(), to_three.as_str());
-        assert!(rt; met);
-        let links = witness.chain(&rt, ORIGIN)?.ok_or("no chain")?;
-        if two.status == 200 {
-            assert!(rt; is_decided(&two, &three, "2\n"));
-            assert!(rt; are_first(links.as_slice(), with_two.as_slice(), 2));
-        } else {
-            assert!(rt; is_decided(&three, &two, "3\n"));
-            assert!(rt; are_first(links.as_slice(), with_three.as_slice(), 2));
-        }
-        for request in [&to_two, &to_three] {
-            let reply = witness.add(&rt, request.as_bytes(), TIME, &mut saver);
-            assert!(rt; reply.status == 409);
-        }
+        let witness = shared(alloc, &[ORIGIN])?;
+        assert!(rt; status_of(&rt, alloc, &witness, first.as_str()) == 200);
+        assert!(rt; is_one_decided(&rt, alloc, &witness, &rivals)?);
     }
     Ok(())
 }
-
-type Witness = SharedWitness<Sha256Tree, Global>;
 
 const ORIGINS: [&str; 2] = ["example.com/a", "example.com/b"];
 
@@ -168,31 +211,42 @@ fn replies_in_a_save<R: Threads + Wait + Sync>(
     ))
 }
 
+// Whether the replies in a save are as they are to be.
+fn are_right(late: &Reply<Global>, meanwhile: &Meanwhile) -> bool {
+    meanwhile.is_saving
+        && late.status == 200
+        && late.body.as_slice() == SHORTER_COSIGNATURE.as_bytes()
+        && meanwhile.reply.status == 200
+        && meanwhile.reply.body.as_slice() == SHORTER_COSIGNATURE.as_bytes()
+        && meanwhile.malformed.status == 400
+        && meanwhile.unknown.status == 404
+}
+
+// Whether each origin has its first link.
+fn have_first<R: Wait>(rt: &R, alloc: Global, witness: &Witness) -> Result<bool, Fail> {
+    let whole = two_links(alloc, F1)?;
+    for origin in ORIGINS {
+        let links = witness.chain(rt, origin)?.ok_or("no chain")?;
+        if !are_first(links.as_slice(), whole.as_slice(), 1) {
+            return Ok(false);
+        }
+    }
+    Ok(true)
+}
+
 #[test]
 fn a_request_waits_for_no_other_origin(rt: HostRuntime) -> Result<(), Fail> {
     let alloc = rt.alloc();
     let unknown = first_body(alloc, "example.com/c")?;
-    let whole = two_links(alloc, F1)?;
-    for (slow, quick) in [(0usize, 1usize), (1, 0)] {
-        let slow = first_body(alloc, ORIGINS[slow])?;
-        let quick = first_body(alloc, ORIGINS[quick])?;
+    for (slow, quick) in [(ORIGINS[0], ORIGINS[1]), (ORIGINS[1], ORIGINS[0])] {
+        let slow = first_body(alloc, slow)?;
+        let quick = first_body(alloc, quick)?;
         for _ in 0..100 {
-            let Ok(witness) = SharedWitness::new(fresh_book(alloc, alloc, &ORIGINS)?) else {
-                assert!(rt; false, "out of memory");
-                return Ok(());
-            };
+            let witness = shared(alloc, &ORIGINS)?;
             let bodies = (quick.as_str(), unknown.as_str());
             let (late, meanwhile) = replies_in_a_save(&rt, alloc, &witness, slow.as_str(), bodies)?;
-            assert!(rt; meanwhile.is_saving);
-            assert!(rt; (late.status, meanwhile.reply.status) == (200, 200));
-            assert!(rt; (meanwhile.malformed.status, meanwhile.unknown.status) == (400, 404));
-            for reply in [late, meanwhile.reply] {
-                assert!(rt; reply.body.as_slice() == SHORTER_COSIGNATURE.as_bytes());
-            }
-            for origin in ORIGINS {
-                let links = witness.chain(&rt, origin)?.ok_or("no chain")?;
-                assert!(rt; are_first(links.as_slice(), whole.as_slice(), 1));
-            }
+            assert!(rt; are_right(&late, &meanwhile));
+            assert!(rt; have_first(&rt, alloc, &witness)?);
         }
     }
     Ok(())

@@ -56,21 +56,40 @@ fn open_fault(alloc: Global, text: &str) -> Result<Option<BookFault>, BookFault>
     }
 }
 
+// An origin, and how many links there are of it, which are the first of the two worked ones.
+type Found = (&'static str, usize);
+
+// Whether the chains read from these lines are of these origins, with so many of the worked links.
+fn are_found(alloc: Global, lines: &str, wanted: &[Found]) -> Result<bool, Fail> {
+    let chains = read_chain(alloc, lines.as_bytes())?;
+    let whole = two_links(alloc, F1)?;
+    if chains.len() != wanted.len() {
+        return Ok(false);
+    }
+    for ((origin, links), want) in chains.iter().zip(wanted) {
+        if origin.as_str() != want.0 || !are_first(links.as_slice(), whole.as_slice(), want.1) {
+            return Ok(false);
+        }
+    }
+    Ok(true)
+}
+
 #[test]
 fn saved_links_are_read_and_taken(rt: HostRuntime) -> Result<(), Fail> {
     let alloc = rt.alloc();
-    let chains = read_chain(alloc, LINES.as_bytes())?;
-    assert!(rt; chains.len() == 1);
-    assert!(rt; chains[0].0.as_str() == ORIGIN);
-    let whole = two_links(alloc, F1)?;
-    assert!(rt; are_first(chains[0].1.as_slice(), whole.as_slice(), 2));
+    assert!(rt; are_found(alloc, LINES, &[(ORIGIN, 2)])?);
+    assert!(rt; are_found(alloc, "", &[])?);
     assert!(rt; open_fault(alloc, LINES)? == None);
+    Ok(())
+}
+
+#[test]
+fn a_wrong_link_is_told(rt: HostRuntime) -> Result<(), Fail> {
+    let alloc = rt.alloc();
     let line = first_line(alloc, ORIGIN)?;
     let wrong = format!(in alloc; "{line}2 {E2} 1 {E1} {ORIGIN}\n")?;
-    assert!(rt;
-        open_fault(alloc, wrong.as_str())? == Some(BookFault::BadChain { chain: 0, link: 1 })
-    );
-    assert!(rt; read_chain(alloc, b"")?.is_empty());
+    let bad = Some(BookFault::BadChain { chain: 0, link: 1 });
+    assert!(rt; open_fault(alloc, wrong.as_str())? == bad);
     Ok(())
 }
 
@@ -79,41 +98,55 @@ fn origins_come_in_the_order_of_their_first_lines(rt: HostRuntime) -> Result<(),
     let alloc = rt.alloc();
     let spaced = first_line(alloc, "b c d")?;
     let text = format!(in alloc; "1 {E1} 0 z\n{spaced}2 {E2} 1 {F1} z\n")?;
-    let chains = read_chain(alloc, text.as_bytes())?;
-    assert!(rt; chains.len() == 2);
-    assert!(rt; (chains[0].0.as_str(), chains[0].1.len()) == ("z", 2));
-    assert!(rt; (chains[1].0.as_str(), chains[1].1.len()) == ("b c d", 1));
-    let whole = two_links(alloc, F1)?;
-    assert!(rt; are_first(chains[0].1.as_slice(), whole.as_slice(), 2));
-    assert!(rt; are_first(chains[1].1.as_slice(), whole.as_slice(), 1));
+    assert!(rt; are_found(alloc, text.as_str(), &[("z", 2), ("b c d", 1)])?);
     Ok(())
 }
+
+// Fields of a malformed line, with the root in the place of the braces.
+const MALFORMED: [&str; 10] = [
+    "01 {} 0 a",
+    "+1 {} 0 a",
+    "1  {} 0 a",
+    "1 {} 1 a",
+    "1 {} 00 a",
+    "1 {} 0 ",
+    "1 {} 0",
+    "1 {} a",
+    "9223372036854775808 {} 0 a",
+    "1 {} 0 a\tb",
+];
 
 #[test]
 fn the_first_malformed_line(rt: HostRuntime) -> Result<(), Fail> {
     let alloc = rt.alloc();
-    assert!(rt; malformed(alloc, b"1") == Some(0));
-    assert!(rt; malformed(alloc, b"\n") == Some(0));
-    for fields in [
-        "01 {} 0 a",
-        "+1 {} 0 a",
-        "1  {} 0 a",
-        "1 {} 1 a",
-        "1 {} 00 a",
-        "1 {} 0 ",
-        "1 {} 0",
-        "1 {} a",
-        "9223372036854775808 {} 0 a",
-        "1 {} 0 a\tb",
-    ] {
+    for fields in MALFORMED {
         let line = fields.replace(alloc, "{}", E1)?;
         let text = format!(in alloc; "{LINES}{line}\n1\n")?;
         assert!(rt; malformed(alloc, text.as_bytes()) == Some(2), "for {line}");
     }
+    Ok(())
+}
+
+#[test]
+fn lines_that_are_cut(rt: HostRuntime) {
+    assert!(rt; malformed(rt.alloc(), b"1") == Some(0));
+    assert!(rt; malformed(rt.alloc(), b"\n") == Some(0));
     let cut = LINES.len() - 1;
-    assert!(rt; malformed(alloc, &LINES.as_bytes()[..cut]) == Some(1));
-    assert!(rt; malformed(alloc, long_line(alloc, 63)?.as_bytes()) == None);
-    assert!(rt; malformed(alloc, long_line(alloc, 64)?.as_bytes()) == Some(0));
+    assert!(rt; malformed(rt.alloc(), &LINES.as_bytes()[..cut]) == Some(1));
+}
+
+#[test]
+fn a_line_has_at_most_63_hashes(rt: HostRuntime) -> Result<(), Fail> {
+    let alloc = rt.alloc();
+    for (count, place) in [(63usize, None), (64, Some(0u64))] {
+        assert!(rt; malformed(alloc, long_line(alloc, count)?.as_bytes()) == place);
+    }
+    Ok(())
+}
+
+#[test]
+fn an_origin_is_text(rt: HostRuntime) -> Result<(), Fail> {
+    let alloc = rt.alloc();
     let mut text = Vec::from_slice(alloc, first_line(alloc, "a")?.as_bytes())?;
     text.pop();
     text.extend_from_slice(b"\xff\n")?;
@@ -121,28 +154,35 @@ fn the_first_malformed_line(rt: HostRuntime) -> Result<(), Fail> {
     Ok(())
 }
 
+// How many chains the lines have, read on this heap.
+fn chains_on(heap: &Refusing<Global>) -> Result<usize, ChainFault> {
+    Ok(read_chain(heap, LINES.as_bytes())?.len())
+}
+
 #[test]
 fn reading_with_memory_refused(rt: HostRuntime) -> Result<(), Fail> {
-    let alloc = rt.alloc();
-    let mut is_read = false;
     for turn in 1..MOST {
-        let heap = Refusing::in_turn(alloc, turn);
-        match read_chain(&heap, LINES.as_bytes()) {
-            Ok(chains) => {
-                assert!(rt; chains.len() == 1);
-                is_read = !heap.refused();
-            }
-            Err(fault) => assert!(rt; (fault, heap.refused()) == (ChainFault::OutOfMemory, true)),
-        }
-        if is_read {
-            assert!(rt; turn > 2);
+        let heap = Refusing::in_turn(rt.alloc(), turn);
+        let count = chains_on(&heap);
+        if !heap.refused() {
+            assert!(rt; turn > 2 && count == Ok(1));
             return Ok(());
         }
+        assert!(rt; count == Err(ChainFault::OutOfMemory));
         heap.lift();
-        assert!(rt; read_chain(&heap, LINES.as_bytes())?.len() == 1);
+        assert!(rt; chains_on(&heap) == Ok(1));
     }
-    assert!(rt; is_read);
-    Ok(())
+    Err(Fail::new("each reading was refused"))
+}
+
+// Whether the link's line, written on this heap, is this one.
+fn is_line<A: Allocator>(heap: &Refusing<Global>, origin: &str, link: &Link<A>, line: &str) -> bool
+    requires { IsChainLine (record { origin = origin.now; step = step_of link.now }) }
+{
+    match write_chain_line(heap, origin, link) {
+        Ok(written) => written.as_str() == line,
+        Err(_) => false,
+    }
 }
 
 // Whether the link's line is this one, and OutOfMemory comes where a growth is refused, of which there are some.
@@ -151,10 +191,7 @@ fn is_line_refused<A: Allocator>(alloc: Global, origin: &str, link: &Link<A>, li
 {
     for turn in 1..MOST {
         let heap = Refusing::in_turn(alloc, turn);
-        let is_written = match write_chain_line(&heap, origin, link) {
-            Ok(written) => written.as_str() == line,
-            Err(_) => false,
-        };
+        let is_written = is_line(&heap, origin, link, line);
         if is_written == heap.refused() {
             return false;
         }
@@ -162,11 +199,7 @@ fn is_line_refused<A: Allocator>(alloc: Global, origin: &str, link: &Link<A>, li
             return turn > 2;
         }
         heap.lift();
-        let is_written = match write_chain_line(&heap, origin, link) {
-            Ok(written) => written.as_str() == line,
-            Err(_) => false,
-        };
-        if !is_written {
+        if !is_line(&heap, origin, link, line) {
             return false;
         }
     }

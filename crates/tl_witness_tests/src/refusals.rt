@@ -25,34 +25,6 @@ fn saved_book<'h>(
     Ok(Book::open(heap, alloc, Sha256Tree, trusts, chains))
 }
 
-#[test]
-fn opening_answers_out_of_memory(rt: HostRuntime) -> Result<(), Fail> {
-    let alloc = rt.alloc();
-    let whole = two_links(alloc, F1)?;
-    let calm = Refusing::at(alloc, 0);
-    for turn in 1..MOST {
-        let heap = Refusing::in_turn(alloc, turn);
-        let fault = match saved_book(alloc, &calm, &heap)? {
-            Ok(book) => {
-                assert!(rt; !heap.refused());
-                assert!(rt; turn > 4);
-                let links = book.chain(ORIGIN).ok_or("no chain")?;
-                assert!(rt; are_first(links, whole.as_slice(), 2));
-                return Ok(());
-            }
-            Err(fault) => fault,
-        };
-        assert!(rt; heap.refused());
-        assert!(rt; fault == BookFault::OutOfMemory);
-        heap.lift();
-        let book = saved_book(alloc, &calm, &heap)??;
-        let links = book.chain(ORIGIN).ok_or("no chain")?;
-        assert!(rt; are_first(links, whole.as_slice(), 2));
-    }
-    assert!(rt; false, "each opening was refused");
-    Ok(())
-}
-
 // Whether the links of the book are the first of a chain, so many of them.
 fn has_links<A: Allocator + Copy>(
     book: &Book<Sha256Tree, A>,
@@ -63,6 +35,37 @@ fn has_links<A: Allocator + Copy>(
         Some(links) => are_first(links, whole, count),
         None => false,
     }
+}
+
+// Whether the book that was opened has both links, or why none was opened.
+fn opened_on(
+    alloc: Global,
+    calm: &Refusing<Global>,
+    heap: &Refusing<Global>,
+) -> Result<Result<bool, BookFault>, AllocError> {
+    let whole = two_links(alloc, F1)?;
+    match saved_book(alloc, calm, heap)? {
+        Ok(book) => Ok(Ok(has_links(&book, whole.as_slice(), 2))),
+        Err(fault) => Ok(Err(fault)),
+    }
+}
+
+#[test]
+fn opening_answers_out_of_memory(rt: HostRuntime) -> Result<(), Fail> {
+    let alloc = rt.alloc();
+    let calm = Refusing::at(alloc, 0);
+    for turn in 1..MOST {
+        let heap = Refusing::in_turn(alloc, turn);
+        let answer = opened_on(alloc, &calm, &heap)?;
+        if !heap.refused() {
+            assert!(rt; turn > 4 && answer == Ok(true));
+            return Ok(());
+        }
+        assert!(rt; answer == Err(BookFault::OutOfMemory));
+        heap.lift();
+        assert!(rt; opened_on(alloc, &calm, &heap)? == Ok(true));
+    }
+    Err(Fail::new("each opening was refused"))
 }
 
 // Puts a request to a book, once more where memory was refused. Whether each reply is the one that is due, and a
@@ -93,6 +96,25 @@ fn is_taken(
     is_due(&again, step) && has_links(book, whole, step.links)
 }
 
+// Puts the requests to a book. Whether each is taken as it is to be, and the links that they leave are saved.
+fn are_taken(
+    alloc: Global,
+    book: &mut Book<Sha256Tree, &Refusing<Global>>,
+    heap: &Refusing<Global>,
+    list: &[Step],
+    whole: &[Link<Global>],
+) -> bool {
+    let mut saver = KeepingSaver::new(alloc);
+    let mut count = 0;
+    for step in list {
+        if !is_taken(book, heap, &mut saver, step, whole, count) {
+            return false;
+        }
+        count = step.links;
+    }
+    saver.calls == 3 && saver.lines.as_str() == LINES
+}
+
 #[test]
 fn a_book_answers_500(rt: HostRuntime) -> Result<(), Fail> {
     let alloc = rt.alloc();
@@ -104,22 +126,14 @@ fn a_book_answers_500(rt: HostRuntime) -> Result<(), Fail> {
             assert!(rt; heap.refused());
             continue;
         };
-        let mut saver = KeepingSaver::new(alloc);
-        let mut count = 0;
-        for step in list.iter() {
-            let is_right = is_taken(&mut book, &heap, &mut saver, step, whole.as_slice(), count);
-            assert!(rt; is_right, "in turn {turn}, to {}", step.body);
-            count = step.links;
-        }
-        assert!(rt; saver.calls == 3);
-        assert!(rt; saver.lines.as_str() == LINES);
+        let are_right = are_taken(alloc, &mut book, &heap, list.as_slice(), whole.as_slice());
+        assert!(rt; are_right, "in turn {turn}");
         if !heap.refused() {
             assert!(rt; turn > 200);
             return Ok(());
         }
     }
-    assert!(rt; false, "each run was refused");
-    Ok(())
+    Err(Fail::new("each run was refused"))
 }
 
 // Whether a body is read as a request for size 2 with this proof, or OutOfMemory comes where memory was refused.
@@ -135,24 +149,30 @@ fn is_read(heap: &Refusing<Global>, body: &str, link: &Link<Global>) -> bool {
     }
 }
 
+// Whether the body of the second link is read on this heap, or there is no memory for it.
+fn is_second_read(alloc: Global, heap: &Refusing<Global>, body: &str) -> Result<bool, AllocError> {
+    let whole = two_links(alloc, F1)?;
+    match whole.last() {
+        Some(link) => Ok(is_read(heap, body, link)),
+        None => Ok(false),
+    }
+}
+
 #[test]
 fn parse_request_answers_out_of_memory(rt: HostRuntime) -> Result<(), Fail> {
     let alloc = rt.alloc();
     let request = body(alloc, 1, format!(in alloc; "{F1}\n")?.as_str(), 2, E2)?;
-    let whole = two_links(alloc, F1)?;
-    let link = whole.last().ok_or("no link")?;
     for turn in 1..MOST {
         let heap = Refusing::in_turn(alloc, turn);
-        assert!(rt; is_read(&heap, request.as_str(), link));
+        assert!(rt; is_second_read(alloc, &heap, request.as_str())?);
         if !heap.refused() {
             assert!(rt; turn > 2);
             return Ok(());
         }
         let calm = Refusing::at(alloc, 0);
-        assert!(rt; is_read(&calm, request.as_str(), link));
+        assert!(rt; is_second_read(alloc, &calm, request.as_str())?);
     }
-    assert!(rt; false, "each reading was refused");
-    Ok(())
+    Err(Fail::new("each reading was refused"))
 }
 
 type Heap<'h> = &'h Refusing<Global>;
@@ -234,6 +254,26 @@ fn is_taken_shared<R: Wait>(
     is_due(&again, step) && has_shared_links(rt, witness, heap, whole, step.links)
 }
 
+// Puts the requests to a witness. Whether each is taken as it is to be, and the links that they leave are saved.
+fn are_taken_shared<R: Wait>(
+    rt: &R,
+    alloc: Global,
+    witness: &SharedWitness<Sha256Tree, Heap<'_>>,
+    heap: Heap<'_>,
+    list: &[Step],
+    whole: &[Link<Global>],
+) -> bool {
+    let mut saver = KeepingSaver::new(alloc);
+    let mut count = 0;
+    for step in list {
+        if !is_taken_shared(rt, witness, heap, &mut saver, step, whole, count) {
+            return false;
+        }
+        count = step.links;
+    }
+    saver.calls == 3 && saver.lines.as_str() == LINES
+}
+
 #[test]
 fn a_shared_witness_answers_500(rt: HostRuntime) -> Result<(), Fail> {
     let alloc = rt.alloc();
@@ -246,30 +286,21 @@ fn a_shared_witness_answers_500(rt: HostRuntime) -> Result<(), Fail> {
             continue;
         };
         let witness = shared(book, &heap).ok_or("not shared")?;
-        let mut saver = KeepingSaver::new(alloc);
-        let mut count = 0;
-        for step in list.iter() {
-            let is_right = is_taken_shared(
-                &rt,
-                &witness,
-                &heap,
-                &mut saver,
-                step,
-                whole.as_slice(),
-                count,
-            );
-            assert!(rt; is_right, "in turn {turn}, to {}", step.body);
-            count = step.links;
-        }
-        assert!(rt; saver.calls == 3);
-        assert!(rt; saver.lines.as_str() == LINES);
+        let are_right = are_taken_shared(
+            &rt,
+            alloc,
+            &witness,
+            &heap,
+            list.as_slice(),
+            whole.as_slice(),
+        );
+        assert!(rt; are_right, "in turn {turn}");
         if !heap.refused() {
             assert!(rt; turn > 200);
             return Ok(());
         }
     }
-    assert!(rt; false, "each run was refused");
-    Ok(())
+    Err(Fail::new("each run was refused"))
 }
 
 #[test]

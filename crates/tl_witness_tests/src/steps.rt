@@ -69,24 +69,36 @@ fn strange_body(alloc: Global, origin: &str, field: &str) -> Result<String, Allo
     signed_body(alloc, origin, 1, "", 1, E1, field)
 }
 
-/// The requests, in order.
-pub fn steps(alloc: Global) -> Result<Vec<Step>, AllocError> {
-    let mut list = Vec::new(alloc);
-    let first = body(alloc, 0, "", 1, E1)?;
-    list.push(answered(first, 200, COSIGNATURE, 1))?;
-    let first = body(alloc, 0, "", 1, E1)?;
-    list.push(answered(first, 409, "1\n", 1))?;
-    let same = body(alloc, 1, "", 1, E1)?;
-    list.push(answered(same, 200, COSIGNATURE, 1))?;
-    let other_root = body(alloc, 1, "", 1, E0)?;
-    list.push(answered(other_root, 409, "1\n", 1))?;
+// The first four requests: to size 1, again, and for the same size.
+fn first_steps(alloc: Global, list: &mut Vec<Step>) -> Result<(), AllocError> {
+    for (old, root, status, reply) in [
+        (0, E1, 200, COSIGNATURE),
+        (0, E1, 409, "1\n"),
+        (1, E1, 200, COSIGNATURE),
+        (1, E0, 409, "1\n"),
+    ] {
+        list.push(answered(body(alloc, old, "", 1, root)?, status, reply, 1))?;
+    }
     list.push(answered(second_body(alloc, E1)?, 422, "", 1))?;
+    Ok(())
+}
+
+// Those that are refused for what they say.
+fn refused_steps(alloc: Global, list: &mut Vec<Step>) -> Result<(), AllocError> {
     let unknown = strange_body(alloc, "example.com/x", "AQIDBAAAAAAAAAA/")?;
     list.push(answered(unknown, 404, "", 1))?;
     let unsigned = strange_body(alloc, ORIGIN, "AQIDBAAAAAAAAABA")?;
     list.push(answered(unsigned, 403, "", 1))?;
     list.push(answered(body(alloc, 2, "", 1, E1)?, 400, "", 1))?;
     list.push(answered(long_body(alloc)?, 400, "", 1))?;
+    Ok(())
+}
+
+/// The requests, in order.
+pub fn steps(alloc: Global) -> Result<Vec<Step>, AllocError> {
+    let mut list = Vec::new(alloc);
+    first_steps(alloc, &mut list)?;
+    refused_steps(alloc, &mut list)?;
     list.push(unsaved(second_body(alloc, F1)?, 500, "", 1))?;
     list.push(answered(second_body(alloc, F1)?, 200, COSIGNATURE, 2))?;
     Ok(list)

@@ -24,33 +24,32 @@ fn is_base_of_one(base: &[Vec<u8>]) -> bool {
     base.len() == 1 && base[0].as_slice() == b"old".as_slice()
 }
 
+// Why an opening with so many lanes and a base of the one entry `old` is refused, and whether that comes back.
+fn refused<A: Allocator + Copy>(
+    alloc: Global,
+    heap: A,
+    lanes: u32,
+) -> Result<Option<(OpenFault, bool)>, AllocError> {
+    match open_from(heap, base_of_one(alloc, heap)?, lanes, 1, 1) {
+        Ok(_opened) => Ok(None),
+        Err(BaseBack { base, why }) => Ok(Some((why, is_base_of_one(base.as_slice())))),
+    }
+}
+
 #[test]
 fn base_comes_back_from_a_refused_opening(rt: HostRuntime) -> Result<(), Fail> {
     let alloc = rt.alloc();
-    match open_from(alloc, base_of_one(alloc, alloc)?, 0, 1, 1) {
-        Ok(_opened) => assert!(rt; false, "it has no lane"),
-        Err(BaseBack { base, why }) => {
-            assert!(rt; why == OpenFault::LaneCount);
-            assert!(rt; is_base_of_one(base.as_slice()));
-        }
-    }
+    assert!(rt; refused(alloc, alloc, 0)? == Some((OpenFault::LaneCount, true)));
     for turn in 3..MOST {
         let heap = Refusing::in_turn(alloc, turn);
-        match open_from(&heap, base_of_one(alloc, &heap)?, 3, 1, 1) {
-            Ok(_opened) => {
-                assert!(rt; !heap.refused());
-                assert!(rt; turn > 18);
-                return Ok(());
-            }
-            Err(BaseBack { base, why }) => {
-                assert!(rt; heap.refused());
-                assert!(rt; why == OpenFault::OutOfMemory);
-                assert!(rt; is_base_of_one(base.as_slice()));
-            }
+        let back = refused(alloc, &heap, 3)?;
+        if !heap.refused() {
+            assert!(rt; turn > 18 && back == None);
+            return Ok(());
         }
+        assert!(rt; back == Some((OpenFault::OutOfMemory, true)));
     }
-    assert!(rt; false, "each opening was refused");
-    Ok(())
+    Err(Fail::new("each opening was refused"))
 }
 
 #[test]
@@ -76,19 +75,24 @@ fn opened_from(
     }
 }
 
-#[test]
-fn base_is_of_no_lane(rt: HostRuntime) -> Result<(), Fail> {
-    let alloc = rt.alloc();
+// A log that begins with the entry `old` and goes on with `new`.
+fn goes_on(alloc: Global) -> Result<Sequencer<Global, Global>, Fail> {
     let (mut log, mut submitters) = opened_from(alloc, 2)?;
     let mut submitter = submitters.pop().unwrap();
-    assert!(rt; submitter.lane() == 0);
-    assert!(rt; sent(&mut submitter, bytes(alloc, "new")?) == Ok(0));
-    assert!(rt; log.take(0, 5) == Ok(1));
-    assert!(rt; log.len() == 2);
-    assert!(rt; log.who(0) == None);
-    assert!(rt; log.who(1) == Some(0));
-    assert!(rt; log.place_of(0, 0) == Some(1));
-    assert!(rt; log.place_of(0, 1) == None);
+    if submitter.lane() != 0 || sent(&mut submitter, bytes(alloc, "new")?) != Ok(0) {
+        return Err(Fail::new("not sent to lane 0"));
+    }
+    if log.take(0, 5) != Ok(1) {
+        return Err(Fail::new("not taken"));
+    }
+    Ok(log)
+}
+
+#[test]
+fn base_is_of_no_lane(rt: HostRuntime) -> Result<(), Fail> {
+    let log = goes_on(rt.alloc())?;
+    assert!(rt; (log.len(), log.who(0), log.who(1)) == (2, None, Some(0)));
+    assert!(rt; (log.place_of(0, 0), log.place_of(0, 1)) == (Some(1), None));
     assert!(rt; log.entry(0) == Some(b"old".as_slice()));
     assert!(rt; log.entry(1) == Some(b"new".as_slice()));
     Ok(())

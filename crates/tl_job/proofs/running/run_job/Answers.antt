@@ -6,3 +6,6 @@ pub returns-in-BuildSigned : goal.returns-in-BuildSigned
 returns-in-BuildSigned g c =
     rw c.in-BuildSigned.is
     (builds_signed _ _ _ _ _ _ c.build_signed.result c.build_signed.ensures c.deref-in-BuildSigned.ensures (search rules), search rules)
+
+pub returns-in-Append : goal.returns-in-Append
+returns-in-Append g c = rw c.in-Append.is (c.append.ensures, search rules)
