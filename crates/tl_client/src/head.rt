@@ -4,7 +4,7 @@ ghost use Rattle.std.specs.Prelude.{◌≡◌, map};
 ghost use Rattle.tl_client.specs.Trusted.{OpensHead, after_checkpoint, after_note};
 ghost use Rattle.tl_client.specs.declared.head.HeadFault.TheVariants.{OutOfMemory};
 
-use std::alloc::{AllocError, Allocator};
+use std::alloc::{AllocError, AllocFailed, Allocator};
 use thiserror::Error;
 use tl_checkpoint::{Checkpoint, CheckpointFault, are_apart, first_cosignatures, parse};
 use tl_hash::Hash;
@@ -41,6 +41,14 @@ impl From<AllocError> for HeadFault {
     ghost from_gives = { λ _ fault. fault ≡ OutOfMemory };
 
     fn from(_error: AllocError) -> HeadFault {
+        HeadFault::OutOfMemory
+    }
+}
+
+impl<X: Drop> From<AllocFailed<X>> for HeadFault {
+    ghost from_gives = { λ _ fault. fault ≡ OutOfMemory };
+
+    fn from(_error: AllocFailed<X>) -> HeadFault {
         HeadFault::OutOfMemory
     }
 }

@@ -84,8 +84,8 @@ fn a_served_log_is_gone_on_with(rt: HostRuntime) -> Result<(), Fail> {
     Ok(())
 }
 
-// Whether a log of three entries whose server is cut off at a call, or of which one fails, is gone on with to the same log
-// as without; and whether the call was reached.
+// Whether a log of three entries whose server is cut off at a call, or of which one fails, is gone on with to the same
+// log as without; and whether the call was reached.
 fn is_served_on<H: Host + Net<Listener = TcpListener, Stream = TcpStream>>(
     rt: &H,
     alloc: Global,

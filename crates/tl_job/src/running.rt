@@ -52,7 +52,7 @@ fn head<H: Threads + Sync, R: Read, W: Write>(
 }
 
 // Makes a key of a witness or of a log.
-fn make_key<H: RandomSource, W: Write, E: Write>(
+fn key<H: RandomSource, W: Write, E: Write>(
     rt: &H,
     alloc: Global,
     name: &str,
@@ -176,9 +176,7 @@ pub fn run_job<
         Job::Consistency { old } => run_consistency(alloc, old, reader, writer),
         Job::Check => run_check(alloc, reader, writer),
         Job::CheckUnder(options) => check_as_asked(rt, alloc, options, reader, writer),
-        Job::Keygen { name, is_cosigner } => {
-            make_key(rt, alloc, &name, is_cosigner, writer, errors)
-        }
+        Job::Keygen { name, is_cosigner } => key(rt, alloc, &name, is_cosigner, writer, errors),
         Job::Open { key } => run_open(alloc, &key, reader, writer),
         Job::Audit => run_audit(alloc, Sha256Tree, reader, writer),
         Job::Serve(options) => serve(rt, alloc, &options, reader, errors),

@@ -223,18 +223,10 @@ pub fn run_append<H: Host, S: Shelf + Drop, R: Read, W: Write>(
     if !is_key_name(origin) {
         return Err(RunFault::BadOrigin);
     }
-    let (signer, verifier): (Box<dyn Signer>, Box<dyn Verifier>) = match keys_of(
-        rt,
-        alloc,
-        origin,
-        &options.key,
-    )? {
-        LogKeys::Demonstration(signer, verifier) => {
-            (Box::new(alloc, signer)?, Box::new(alloc, verifier)?)
-        }
-        LogKeys::Private(signer, verifier) => {
-            (Box::new(alloc, signer)?, Box::new(alloc, verifier)?)
-        }
+    let keys = keys_of(rt, alloc, origin, &options.key)?;
+    let (signer, verifier): (Box<dyn Signer>, Box<dyn Verifier>) = match keys {
+        LogKeys::Demonstration(a, b) => (Box::new(alloc, a)?, Box::new(alloc, b)?),
+        LogKeys::Private(a, b) => (Box::new(alloc, a)?, Box::new(alloc, b)?),
     };
     let (mut signers, opens) = (Vec::new(alloc), [verifier]);
     signers.push(signer)?;

@@ -11,7 +11,7 @@ use crate::flags::Flags;
 use crate::following::{Source, start_following};
 use crate::gate::Gate;
 use crate::host::Host;
-use crate::keeping::Keeper;
+use crate::keeping::{Keeper, Kept};
 use crate::lanes::{AllSent, Lane, LaneThread, join_lanes, start_lanes};
 use crate::live_log::LiveLog;
 use crate::pages::Pages;
@@ -21,20 +21,11 @@ use std::alloc::Global;
 use std::io::Write;
 use std::net::{Net, TcpListener, TcpStream};
 use std::thread;
-use std::thread::{JoinHandle, Scope};
+use std::thread::{JoinHandle, Scope, Threads};
 use std::time::Clock;
 use tl_command::{RunFault, ServeOptions};
 use tl_device::Counted;
-use tl_publisher::BoardReader;
 use tl_sequencer::Ended;
-
-/// Who keeps what is published, the reader by which it is told, and what each thread answers from.
-#[derive(Drop)]
-pub(crate) struct Kept<K, P> {
-    pub(crate) keeper: K,
-    pub(crate) board: BoardReader<Global>,
-    pub(crate) pages: Vec<P>,
-}
 
 // How much is taken at a time from so many lanes.
 fn rounds_of(options: &ServeOptions, lanes: usize) -> Rounds {
@@ -50,8 +41,7 @@ fn rounds_of(options: &ServeOptions, lanes: usize) -> Rounds {
 fn close_log<O: LiveLog, K: Keeper>(
     alloc: Global,
     operator: O,
-    keeper: &mut K,
-    board: &mut BoardReader<Global>,
+    kept: &mut Kept<K>,
     ends: Vec<Ended<Global, Global>>,
 ) -> Result<u64, RunFault>
     requires operating { IsOperating (O.shown operator) }
@@ -62,7 +52,7 @@ fn close_log<O: LiveLog, K: Keeper>(
         operator.end_lane(ended)?;
     }
     operator.show()?;
-    keeper.keep(alloc, board)?;
+    kept.keep(alloc)?;
     operator.finish()
 }
 
@@ -129,6 +119,26 @@ fn start_sending<'s, E, S: Source + 's, G: Gate>(
     Ok(threads)
 }
 
+// Waits for those that answer and for the threads of the lanes: the ends of the lanes. The ends are of the submitters
+// that were handed to these threads.
+fn join_all<T: Threads>(
+    rt: &T,
+    alloc: Global,
+    answering: Vec<JoinHandle<Result<(), RunFault>>>,
+    sending: Vec<LaneThread>,
+) -> Result<Vec<Ended<Global, Global>>, RunFault>
+    ensures { (log : Log GlobalValue) → All (λ h. IsSenderOf h.promise.0.value log) sending.items → IfOk result (λ ends. All (λ e. IsEndOf e log) ends.items) }
+{
+    let mut answered = Ok(());
+    for thread in answering {
+        answered = answered.and(thread.join(rt));
+    }
+    let AllSent { ends, outcome } = join_lanes(rt, alloc, sending)?;
+    answered?;
+    outcome?;
+    Ok(ends)
+}
+
 // Takes while the lanes' threads send and others answer, and closes the log in the end: how many entries it has.
 fn run_sending<
     's,
@@ -143,7 +153,8 @@ fn run_sending<
     rt: &'s H,
     alloc: Global,
     operator: O,
-    kept: Kept<K, P>,
+    kept: Kept<K>,
+    pages: Vec<P>,
     sending: Vec<LaneThread>,
     door: &'s Door,
     log: &mut Counted<L>,
@@ -153,35 +164,15 @@ fn run_sending<
     requires operating { IsOperating (O.shown operator) }
     requires senders { All (λ h. IsSenderOf h.promise.0.value (O.shown operator).log) sending.items }
 {
-    let mut operator = operator;
-    let Kept {
-        mut keeper,
-        mut board,
-        pages,
-    } = kept;
+    let (mut operator, mut kept) = (operator, kept);
     let threads = start_answering(scope, rt, alloc, door, pages, flags)?;
-    let taken = take_all(
-        rt,
-        alloc,
-        &mut operator,
-        &mut keeper,
-        &mut board,
-        log,
-        rounds,
-        flags,
-    );
+    let taken = take_all(rt, alloc, &mut operator, &mut kept, log, rounds, flags);
     if taken.is_err() {
         door.close(rt);
     }
-    let mut answered = Ok(());
-    for thread in threads {
-        answered = answered.and(thread.join(rt));
-    }
-    let AllSent { ends, outcome } = join_lanes(rt, alloc, sending)?;
-    answered?;
-    outcome?;
+    let ends = join_all(rt, alloc, threads, sending)?;
     taken?;
-    close_log(alloc, operator, &mut keeper, &mut board, ends)
+    close_log(alloc, operator, &mut kept, ends)
 }
 
 // Runs the threads of a log: how many entries it has in the end.
@@ -201,7 +192,8 @@ fn run_in<
     alloc: Global,
     operator: O,
     lanes: Vec<Lane>,
-    kept: Kept<K, P>,
+    kept: Kept<K>,
+    pages: Vec<P>,
     followed: Option<S>,
     door: &'s Door,
     log: &mut Counted<L>,
@@ -216,13 +208,27 @@ fn run_in<
     let closed = match sending {
         Ok(sending) => {
             run_sending(
-                scope, rt, alloc, operator, kept, sending, door, log, rounds, flags,
+                scope, rt, alloc, operator, kept, pages, sending, door, log, rounds, flags,
             )
         }
         Err(fault) => Err(fault),
     };
     flags.stop();
     closed
+}
+
+// Tells how many entries the log has that was closed, unless nothing is told.
+fn end_log<L: Write>(
+    alloc: Global,
+    log: &mut Counted<L>,
+    closed: Result<u64, RunFault>,
+    is_quiet: bool,
+) -> Result<(), RunFault> {
+    let size = closed?;
+    if is_quiet {
+        return Ok(());
+    }
+    tell_closed(alloc, log, size)
 }
 
 /// Runs a log that was opened and published once, until its connections are answered, and closes it.
@@ -240,7 +246,8 @@ pub(crate) fn run_log<
     options: &ServeOptions,
     operator: O,
     lanes: Vec<Lane>,
-    kept: Kept<K, P>,
+    kept: Kept<K>,
+    pages: Vec<P>,
     followed: Option<S>,
     door: &Door,
     log: &mut Counted<L>,
@@ -258,13 +265,10 @@ pub(crate) fn run_log<
             requires senders { All (λ l. IsSenderOf l.submitter (O.shown operator).log) lanes.items }
         {
             run_in(
-                scope, rt, alloc, operator, lanes, kept, followed, door, log, rounds, gate, &flags,
+                scope, rt, alloc, operator, lanes, kept, pages, followed, door, log, rounds, gate,
+                &flags,
             )
         },
     );
-    let size = closed?;
-    if options.server.quiet {
-        return Ok(());
-    }
-    tell_closed(alloc, log, size)
+    end_log(alloc, log, closed, options.server.quiet)
 }

@@ -11,13 +11,13 @@ use crate::door::Door;
 use crate::following::{Followed, Lines};
 use crate::gate::{Gate, OpenGate};
 use crate::host::Host;
-use crate::keeping::{InMemory, Keeper};
+use crate::keeping::{InMemory, Keeper, Kept};
 use crate::lanes::Lane;
 use crate::live_log::{LiveLog, MOST_ENTRIES};
 use crate::log_keys::{LogKeys, keys_of};
 use crate::opening::{bundles_of, lanes_of, read_plan, size_of, whole_note};
 use crate::pages::Pages;
-use crate::running::{Kept, run_log};
+use crate::running::run_log;
 use std::alloc::Global;
 use std::io::{Read, Write};
 use std::net::{Net, TcpListener, TcpStream};
@@ -96,7 +96,8 @@ impl<H: Host + Net<Listener = TcpListener, Stream = TcpStream>, G: Gate> Server<
         &self,
         operator: O,
         lanes: Vec<Lane>,
-        kept: Kept<K, P>,
+        kept: Kept<K>,
+        pages: Vec<P>,
         lines: Lines,
         reader: &mut Counted<R>,
         log: &mut Counted<L>,
@@ -105,7 +106,7 @@ impl<H: Host + Net<Listener = TcpListener, Stream = TcpStream>, G: Gate> Server<
         requires senders { All (λ l. IsSenderOf l.submitter (O.shown operator).log) lanes.items }
     {
         let (rt, alloc, options) = (self.rt, self.alloc, self.options);
-        let threads = u32::try_from(kept.pages.len()).unwrap_or(u32::MAX);
+        let threads = u32::try_from(pages.len()).unwrap_or(u32::MAX);
         let door = Door::open(rt, alloc, &options.server, threads, log)?;
         let followed = if options.follow {
             Some(Followed { lines, reader })
@@ -113,7 +114,7 @@ impl<H: Host + Net<Listener = TcpListener, Stream = TcpStream>, G: Gate> Server<
             None
         };
         run_log(
-            rt, alloc, options, operator, lanes, kept, followed, &door, log, self.gate,
+            rt, alloc, options, operator, lanes, kept, pages, followed, &door, log, self.gate,
         )
     }
 
@@ -138,12 +139,9 @@ impl<H: Host + Net<Listener = TcpListener, Stream = TcpStream>, G: Gate> Server<
         let Some(board) = pages.pop() else {
             return Err(RunFault::Operator);
         };
-        let kept = Kept {
-            keeper: InMemory,
-            board,
-            pages,
-        };
-        self.serve_published(operator, lanes, kept, lines, reader, log)
+        let keeper = InMemory;
+        let kept = Kept { keeper, board };
+        self.serve_published(operator, lanes, kept, pages, lines, reader, log)
     }
 
     // Serves a log in memory that begins with no entry.
@@ -223,18 +221,10 @@ pub fn serve_gated<
         return Err(RunFault::BadOrigin);
     }
     let gate: &G = &gate;
-    let (signer, verifier): (Box<dyn Signer>, Box<dyn Verifier>) = match keys_of(
-        rt,
-        alloc,
-        origin,
-        &options.key,
-    )? {
-        LogKeys::Demonstration(signer, verifier) => {
-            (Box::new(alloc, signer)?, Box::new(alloc, verifier)?)
-        }
-        LogKeys::Private(signer, verifier) => {
-            (Box::new(alloc, signer)?, Box::new(alloc, verifier)?)
-        }
+    let keys = keys_of(rt, alloc, origin, &options.key)?;
+    let (signer, verifier): (Box<dyn Signer>, Box<dyn Verifier>) = match keys {
+        LogKeys::Demonstration(a, b) => (Box::new(alloc, a)?, Box::new(alloc, b)?),
+        LogKeys::Private(a, b) => (Box::new(alloc, a)?, Box::new(alloc, b)?),
     };
     let (mut signers, opens) = (Vec::new(alloc), [verifier]);
     signers.push(signer)?;

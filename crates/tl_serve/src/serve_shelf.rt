@@ -9,12 +9,11 @@ ghost use Rattle.tl_serve.specs.Serving.{RefusesOrigin};
 use crate::append::unread;
 use crate::gate::OpenGate;
 use crate::host::Host;
-use crate::keeping::Keeper;
+use crate::keeping::Kept;
 use crate::live_log::{LiveLog, MOST_ENTRIES};
 use crate::log_keys::{LogKeys, keys_of};
 use crate::opening::{Plan, lanes_of, read_plan};
 use crate::pages::OnShelf;
-use crate::running::Kept;
 use crate::serve::{Server, publish_first};
 use std::alloc::{AllocError, Global};
 use std::io::{Read, Write};
@@ -35,10 +34,10 @@ fn pages_of<P: Drop>(alloc: Global, shown: Vec<P>) -> Result<Vec<OnShelf<P>>, Al
     Ok(pages)
 }
 
-// A log on a shelf, as it is served: where publications are put, and where requests are answered from.
+// The shelves of a log: one where publications are put, and one for each thread that answers.
 #[derive(Drop)]
-struct OnShelves<S, P> {
-    archive: Archive<S>,
+struct Shelves<S, P> {
+    shelf: S,
     shown: Vec<P>,
 }
 
@@ -55,7 +54,8 @@ fn serve_opened<
     opened: O,
     submitters: Vec<Submitter<Global, Global>>,
     readers: Vec<BoardReader<Global>>,
-    shelves: OnShelves<S, P>,
+    shelves: Shelves<S, P>,
+    sure: u64,
     plan: Plan,
     reader: &mut Counted<R>,
     log: &mut Counted<L>,
@@ -67,21 +67,14 @@ fn serve_opened<
     let mut operator = opened;
     let lanes = lanes_of(server.alloc, submitters, plan.entries)?;
     let mut readers = publish_first(&mut operator, readers)?;
-    let Some(mut board) = readers.pop() else {
+    let Some(board) = readers.pop() else {
         return Err(RunFault::Operator);
     };
-    let OnShelves {
-        archive: mut keeper,
-        shown,
-    } = shelves;
-    keeper.keep(server.alloc, &mut board)?;
-    let pages = pages_of(server.alloc, shown)?;
-    let kept = Kept {
-        keeper,
-        board,
-        pages,
-    };
-    server.serve_published(operator, lanes, kept, plan.lines, reader, log)
+    let keeper = Archive::new(shelves.shelf, sure);
+    let mut kept = Kept { keeper, board };
+    kept.keep(server.alloc)?;
+    let pages = pages_of(server.alloc, shelves.shown)?;
+    server.serve_published(operator, lanes, kept, pages, plan.lines, reader, log)
 }
 
 // Serves a log of which the shelf has nothing yet.
@@ -94,8 +87,7 @@ fn serve_new<
 >(
     server: &Server<'_, H, OpenGate>,
     signers: Vec<Box<dyn Signer>>,
-    shelf: S,
-    shown: Vec<P>,
+    shelves: Shelves<S, P>,
     reader: &mut Counted<R>,
     log: &mut Counted<L>,
 ) -> Result<(), RunFault> {
@@ -107,10 +99,8 @@ fn serve_new<
     let (lanes, room) = (plan.lanes, plan.room);
     match Operator::open(rt, alloc, origin, signers, lanes, room, MOST_ENTRIES, 1) {
         Ok((log_of, submitters, readers)) => {
-            let archive = Archive::new(shelf, 0);
-            let shelves = OnShelves { archive, shown };
             serve_opened(
-                server, log_of, submitters, readers, shelves, plan, reader, log,
+                server, log_of, submitters, readers, shelves, 0, plan, reader, log,
             )
         }
         Err(OperatorFault::OutOfMemory) => Err(RunFault::OutOfMemory),
@@ -130,8 +120,7 @@ fn serve_found<
     signers: Vec<Box<dyn Signer>>,
     opens: &[Box<dyn Verifier>],
     found: FoundLog,
-    shelf: S,
-    shown: Vec<P>,
+    shelves: Shelves<S, P>,
     reader: &mut Counted<R>,
     log: &mut Counted<L>,
 ) -> Result<(), RunFault> {
@@ -146,10 +135,9 @@ fn serve_found<
         rt, alloc, origin, signers, opens, lanes, room, most, 1, note, base,
     ) {
         Ok((log_of, submitters, readers)) => {
-            let archive = Archive::new(shelf, found.size);
-            let shelves = OnShelves { archive, shown };
+            let sure = found.size;
             serve_opened(
-                server, log_of, submitters, readers, shelves, plan, reader, log,
+                server, log_of, submitters, readers, shelves, sure, plan, reader, log,
             )
         }
         Err(ResumeFault::OutOfMemory) => Err(RunFault::OutOfMemory),
@@ -157,9 +145,9 @@ fn serve_found<
     }
 }
 
-/// As `run_serve`, but the log is on a shelf, and goes on from what is there: a thread for each of `shown`, which are to
-/// be of the same shelf (`threads_of` tells how many the options ask for), answers by `tl_server::serve_shelf` with what
-/// is there, and a publication is told once it is archived. Where that fails, the server ends. It may wait.
+/// As `run_serve`, but the log is on a shelf, and goes on from what is there: a thread for each of `shown`, which are
+/// to be of the same shelf (`threads_of` tells how many the options ask for), answers by `tl_server::serve_shelf` with
+/// what is there, and a publication is told once it is archived. Where that fails, the server ends. It may wait.
 pub fn run_serve_shelf<
     H: Host + Net<Listener = TcpListener, Stream = TcpStream>,
     S: Shelf + Drop,
@@ -181,33 +169,23 @@ pub fn run_serve_shelf<
     if !is_key_name(origin) {
         return Err(RunFault::BadOrigin);
     }
-    let (signer, verifier): (Box<dyn Signer>, Box<dyn Verifier>) = match keys_of(
-        rt,
-        alloc,
-        origin,
-        &options.key,
-    )? {
-        LogKeys::Demonstration(signer, verifier) => {
-            (Box::new(alloc, signer)?, Box::new(alloc, verifier)?)
-        }
-        LogKeys::Private(signer, verifier) => {
-            (Box::new(alloc, signer)?, Box::new(alloc, verifier)?)
-        }
+    let keys = keys_of(rt, alloc, origin, &options.key)?;
+    let (signer, verifier): (Box<dyn Signer>, Box<dyn Verifier>) = match keys {
+        LogKeys::Demonstration(a, b) => (Box::new(alloc, a)?, Box::new(alloc, b)?),
+        LogKeys::Private(a, b) => (Box::new(alloc, a)?, Box::new(alloc, b)?),
     };
     let (mut signers, opens) = (Vec::new(alloc), [verifier]);
     signers.push(signer)?;
-    let gate = OpenGate;
     let server = Server {
         rt,
         alloc,
         options,
-        gate: &gate,
+        gate: &OpenGate,
     };
-    match read_log(&shelf, alloc, &opens) {
-        Ok(Some(found)) => {
-            serve_found(&server, signers, &opens, found, shelf, shown, reader, log)
-        }
-        Ok(None) => serve_new(&server, signers, shelf, shown, reader, log),
+    let shelves = Shelves { shelf, shown };
+    match read_log(&shelves.shelf, alloc, &opens) {
+        Ok(Some(found)) => serve_found(&server, signers, &opens, found, shelves, reader, log),
+        Ok(None) => serve_new(&server, signers, shelves, reader, log),
         Err(fault) => Err(unread(fault)),
     }
 }

@@ -4,7 +4,7 @@ ghost use Rattle.tl_publisher.specs.Operating.{IsOperating};
 ghost use Rattle.tl_serve.specs.Kept.{IsKept};
 
 use crate::flags::Flags;
-use crate::keeping::Keeper;
+use crate::keeping::{Keeper, Kept};
 use crate::live_log::LiveLog;
 use crate::telling::tell_head;
 use std::alloc::Global;
@@ -13,7 +13,6 @@ use std::thread;
 use std::time::{Clock, Duration};
 use tl_command::RunFault;
 use tl_device::Counted;
-use tl_publisher::BoardReader;
 
 // What is told before size and root.
 const PUBLISHED: &str = "published ";
@@ -67,8 +66,7 @@ fn gather<O: LiveLog>(operator: &mut O, rounds: Rounds) -> Result<u64, RunFault>
 fn take_and_show<O: LiveLog, K: Keeper, L: Write>(
     alloc: Global,
     operator: &mut O,
-    keeper: &mut K,
-    board: &mut BoardReader<Global>,
+    kept: &mut Kept<K>,
     log: &mut Counted<L>,
     rounds: Rounds,
 ) -> Result<u64, RunFault>
@@ -80,9 +78,9 @@ fn take_and_show<O: LiveLog, K: Keeper, L: Write>(
         return Ok(0);
     }
     operator.show()?;
-    keeper.keep(alloc, board)?;
+    kept.keep(alloc)?;
     if !rounds.is_quiet {
-        tell_head(alloc, log, board, PUBLISHED)?;
+        tell_head(alloc, log, &mut kept.board, PUBLISHED)?;
     }
     Ok(taken)
 }
@@ -92,8 +90,7 @@ fn take_rounds<H: Clock, O: LiveLog, K: Keeper, L: Write>(
     rt: &H,
     alloc: Global,
     operator: &mut O,
-    keeper: &mut K,
-    board: &mut BoardReader<Global>,
+    kept: &mut Kept<K>,
     log: &mut Counted<L>,
     rounds: Rounds,
     flags: &Flags,
@@ -105,7 +102,7 @@ fn take_rounds<H: Clock, O: LiveLog, K: Keeper, L: Write>(
         if flags.are_done() {
             break;
         }
-        let taken = take_and_show(alloc, operator, keeper, board, log, rounds)?;
+        let taken = take_and_show(alloc, operator, kept, log, rounds)?;
         if taken == 0 {
             thread::sleep(rt, Duration::from_millis(PAUSE));
         }
@@ -118,8 +115,7 @@ pub(crate) fn take_all<H: Clock, O: LiveLog, K: Keeper, L: Write>(
     rt: &H,
     alloc: Global,
     operator: &mut O,
-    keeper: &mut K,
-    board: &mut BoardReader<Global>,
+    kept: &mut Kept<K>,
     log: &mut Counted<L>,
     rounds: Rounds,
     flags: &Flags,
@@ -128,12 +124,12 @@ pub(crate) fn take_all<H: Clock, O: LiveLog, K: Keeper, L: Write>(
     ensures { IsKept (O.shown operator.old) (O.shown operator.new) }
 {
     if !rounds.is_quiet {
-        if let Err(fault) = tell_head(alloc, log, board, PUBLISHED) {
+        if let Err(fault) = tell_head(alloc, log, &mut kept.board, PUBLISHED) {
             flags.stop();
             return Err(fault);
         }
     }
-    let outcome = take_rounds(rt, alloc, operator, keeper, board, log, rounds, flags);
+    let outcome = take_rounds(rt, alloc, operator, kept, log, rounds, flags);
     if outcome.is_err() {
         flags.stop();
     }
