@@ -16,7 +16,10 @@ use tl_store::{HashStore, tree_hash};
 
 // What a job writes for an input, and its fault.
 fn written<
-    H: Host + Files<File = File> + Net<Listener = TcpListener, Stream = TcpStream> + RandomSource,
+    H: Host
+        + Files<File = File, Dir: Send + Sync>
+        + Net<Listener = TcpListener, Stream = TcpStream>
+        + RandomSource,
 >(rt: &H, alloc: Global, job: Job, input: &[u8]) -> (Vec<u8>, Result<(), RunFault>) {
     let mut reader = Counted::new(input);
     let mut writer = Counted::new(Vec::new(alloc));

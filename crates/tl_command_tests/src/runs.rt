@@ -36,7 +36,10 @@ fn words_of(alloc: Global, words: &[&str]) -> Result<Vec<String>, AllocError> {
 
 // Runs the words over this reader.
 fn run_line<
-    H: Host + Files<File = File> + Net<Listener = TcpListener, Stream = TcpStream> + RandomSource,
+    H: Host
+        + Files<File = File, Dir: Send + Sync>
+        + Net<Listener = TcpListener, Stream = TcpStream>
+        + RandomSource,
     R: Read + Send + Drop,
 >(rt: &H, alloc: Global, words: &[&str], reader: R) -> Result<Ended, AllocError> {
     let words = words_of(alloc, words)?;

@@ -41,7 +41,10 @@ fn words_of(alloc: Global, line: &str) -> Result<Vec<String>, AllocError> {
 
 // Runs one command line over its input, in memory.
 fn run_line<
-    H: Host + Files<File = File> + Net<Listener = TcpListener, Stream = TcpStream> + RandomSource,
+    H: Host
+        + Files<File = File, Dir: Send + Sync>
+        + Net<Listener = TcpListener, Stream = TcpStream>
+        + RandomSource,
 >(rt: &H, alloc: Global, run: &Run) -> Result<Ended, AllocError> {
     let words = words_of(alloc, run.line)?;
     let mut reader = Counted::new(run.input.as_slice());
