@@ -3,6 +3,7 @@
 use crate::failing::{Calls, FailingFiles};
 use crate::room::{ORIGIN, append, are_alike, file, leave, lines, options, room, size_in, uncut};
 use std::alloc::{AllocError, Global};
+use std::fs::Files;
 use std::io::{Read, Write};
 use std::net::{Net, Shutdown, SocketAddr, TcpListener, TcpStream};
 use std::test::Fail;
@@ -40,7 +41,11 @@ fn serve_options(
 }
 
 // Serves the log in a folder, whose calls may fail, with these lines more.
-fn serve<H: Host + Net<Listener = TcpListener, Stream = TcpStream>>(
+fn serve<
+    H: Host
+        + Files<File: Send + Sync, Dir: Send + Sync>
+        + Net<Listener = TcpListener, Stream = TcpStream>,
+>(
     rt: &H,
     alloc: Global,
     options: &ServeOptions,
@@ -86,12 +91,11 @@ fn a_served_log_is_gone_on_with(rt: HostRuntime) -> Result<(), Fail> {
 
 // Whether a log of three entries whose server is cut off at a call, or of which one fails, is gone on with to the same
 // log as without; and whether the call was reached.
-fn is_served_on<H: Host + Net<Listener = TcpListener, Stream = TcpStream>>(
-    rt: &H,
-    alloc: Global,
-    whole: &str,
-    turn: u64,
-) -> Result<(bool, bool), Fail> {
+fn is_served_on<
+    H: Host
+        + Files<File: Send + Sync, Dir: Send + Sync>
+        + Net<Listener = TcpListener, Stream = TcpStream>,
+>(rt: &H, alloc: Global, whole: &str, turn: u64) -> Result<(bool, bool), Fail> {
     let dir = room(rt, alloc, "cut")?;
     let serving = serve_options(alloc, dir.as_str(), "127.0.0.1:0", 0)?;
     let calls = Calls::in_turn(turn);
