@@ -84,22 +84,30 @@ fn small_logs_at_each_call(rt: HostRuntime) -> Result<(), Fail> {
 }
 
 #[test]
-fn a_log_of_255_by_100_at_each_5th_turn(rt: HostRuntime) -> Result<(), Fail> {
-    assert_eq!(rt; first_lost(&rt, rt.alloc(), 255, 100, 5)?, None);
-    Ok(())
-}
-
-#[test]
-fn logs_of_a_bundle_at_each_5th_turn(rt: HostRuntime) -> Result<(), Fail> {
-    for size in [256, 257] {
-        assert_eq!(rt; first_lost(&rt, rt.alloc(), size, 256, 5)?, None);
+fn logs_about_a_bundle_by_100_at_each_call(rt: HostRuntime) -> Result<(), Fail> {
+    for size in [255, 256, 257, 600] {
+        assert_eq!(rt; first_lost(&rt, rt.alloc(), size, 100, 1)?, None);
     }
     Ok(())
 }
 
 #[test]
-fn a_log_of_600_by_256_at_each_25th_turn(rt: HostRuntime) -> Result<(), Fail> {
-    assert_eq!(rt; first_lost(&rt, rt.alloc(), 600, 256, 25)?, None);
+fn logs_about_a_bundle_by_256_at_each_call(rt: HostRuntime) -> Result<(), Fail> {
+    for size in [255, 256, 257, 600] {
+        assert_eq!(rt; first_lost(&rt, rt.alloc(), size, 256, 1)?, None);
+    }
+    Ok(())
+}
+
+#[test]
+fn a_log_of_255_by_one_at_each_500th_call(rt: HostRuntime) -> Result<(), Fail> {
+    assert_eq!(rt; first_lost(&rt, rt.alloc(), 255, 1, 500)?, None);
+    Ok(())
+}
+
+#[test]
+fn a_log_of_70000_by_256_at_each_1500th_call(rt: HostRuntime) -> Result<(), Fail> {
+    assert_eq!(rt; first_lost(&rt, rt.alloc(), 70_000, 256, 1_500)?, None);
     Ok(())
 }
 
