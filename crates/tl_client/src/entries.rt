@@ -63,8 +63,8 @@ fn fetch_bundle<S: ResourceSource, A: Allocator + Copy>(
 
 /// The entries of a bundle of a log of this size and root, each of them checked (C2SP tlog-tiles, "Log Entries"): each
 /// has the leaf hash that the checked tiles have. `fetched` then holds the tiles that were fetched and no others, also
-/// after a fault. `Range`: the log has no such bundle, counted from 0, or more than 2^62 entries. `BadBundle`: the bytes
-/// are no bundle of its width. `BadEntry`: the first entry that isn't the log's.
+/// after a fault. `Range`: the log has no such bundle, counted from 0, or more than 2^62 entries. `BadBundle`: the
+/// bytes are no bundle of its width. `BadEntry`: the first entry that isn't the log's.
 pub fn read_entries<S: ResourceSource, A: Allocator + Copy>(
     alloc: A,
     source: &S,
