@@ -223,6 +223,7 @@ fn tile_of_two_leaf_hashes(rt: HostRuntime) -> Result<(), Fail> {
         width: 2,
     };
     let bytes = tile_bytes(rt.alloc(), two, &store)?;
+    assert!(rt; bytes.len() == 64);
     let hashes = hex::encode(rt.alloc(), &bytes)?;
     assert!(rt; hashes.as_str().strip_prefix(LEAVES[0]) == Some(LEAVES[1]));
     Ok(())

@@ -57,7 +57,8 @@ const PLACES: [(u32, u64, Option<u64>); 6] = [
     (1, 300, None),
 ];
 
-// Takes 256 entries of each lane, ends both and closes the log. None where a step has another answer than it is to have.
+// Takes 256 entries of each lane, ends both and closes the log. None where a step has another answer than it is to
+// have.
 fn taken_and_ended<'h>(
     log: Sequencer<Global, Heap<'h>>,
     heap: Heap<'h>,
