@@ -1,5 +1,5 @@
 -- The numbers of leaves among the stored hashes, and the stored hashes under them.
-use Rattle.std.proofs.Common.{◌≡◌, ℕ, zero, suc, ◌+◌, ◌*◌, ◌^◌, ◌<◌, ◌≤◌, List, [], ◌∷◌, ◌++◌, length, take, drop, slice_index_or, refl, sym, ap, ◌∙◌, arith}
+use Rattle.std.proofs.Common.{◌≡◌, ℕ, zero, suc, ◌+◌, ◌*◌, ◌^◌, ◌<◌, ◌≤◌, List, [], ◌∷◌, ◌++◌, length, take, drop, slice_index_or, refl, sym, ap, subst, ◌∙◌, arith}
 use Rattle.std.proofs.lemmas.List.FromFn.{get_or-map-range_with_len, map-range_with_len_more, length-map-range_with_len}
 use Rattle.tl_hash.specs.Bytes.{Digest}
 use Rattle.tl_hash.specs.Tree.{leaf_input, tree_hash}
@@ -11,10 +11,16 @@ use Rattle.tl_store.specs.Reader.{readable_count}
 use Rattle.tl_store.specs.declared.reader.ReadFault.{ReadFault}
 use Rattle.tl_store.specs.declared.reader.ReadFault.TheVariants.{OutOfRange, Source, OutOfMemory, BadTile}
 use Rattle.tl_store.proofs.Readable.{is-readable}
+use Rattle.tl_tile.specs.declared.resource.Resource.{Resource}
+use Rattle.tl_tile.specs.declared.resource.Resource.TheVariants as resource
 use Rattle.tl_tile.specs.declared.resource.Tile.{Tile}
+use Rattle.tl_tile.specs.Fetching.{IsNeededFor}
+use Rattle.tl_tile.specs.Path.{IsTile}
 use Rattle.tl_tile.specs.TileReader.{GivesNumbersFault}
+use Rattle.tl_client.specs.Blame.{leaf_numbers, leaf_reading}
 use Rattle.tl_client.specs.Faults.{after_read}
-use Rattle.tl_client.specs.Inner.Leaves.{leaf_numbers, RefusesLeaves}
+use Rattle.tl_client.specs.Inner.Leaves.{RefusesLeaves}
+use Rattle.tl_client.proofs.Blamed.{tile_has_path}
 
 -- one leaf more
 pub numbers_more : (first i : ℕ) (before after : List ℕ) (number : ℕ) → before ≡ leaf_numbers first i → number ≡ stored_index 0 (first + i)
@@ -52,13 +58,20 @@ number_below size first count i d numbers are inside limit less =
     ap (λ (xs : List ℕ). slice_index_or xs i d) are ∙ get_or-map-range_with_len (λ x. stored_index 0 (first + x)) 0 count i i d below (omega arith) in
     omega (arith, is, is-readable size 0 (first + i) limit (omega (arith, inside, below)))
 
--- a fault of the reader is one of reading leaves
-pub leaves_fault : (size : ℕ) (root : List ℕ) (first count : ℕ) (numbers : List ℕ) (fetched : List (Tile × List ℕ)) (fault : ReadFault)
+-- a fault of the reader over the tiles of a source is one of reading leaves
+pub leaves_fault : (lacks : Resource → Type 0) (size : ℕ) (root : List ℕ) (first count : ℕ) (numbers : List ℕ) (fetched : List (Tile × List ℕ)) (fault : ReadFault)
     → numbers ≡ leaf_numbers first count → first + count ≤ size → size ≤ 2 ^ 62
-    → GivesNumbersFault sha256 (λ t. Unit {0}) (record { size = size; root = root; indexes = numbers; fetched = fetched }) fault
-    → RefusesLeaves size root fetched (after_read fault)
-leaves_fault size root first count numbers fetched OutOfRange are inside limit gives =
+    → GivesNumbersFault sha256 (λ t. IsTile t → lacks (resource.Tile t)) (record { size = size; root = root; indexes = numbers; fetched = fetched }) fault
+    → RefusesLeaves lacks (leaf_reading size root first count fetched) (after_read fault)
+leaves_fault lacks size root first count numbers fetched OutOfRange are inside limit gives =
     absurd (let far = gives.0 in omega (arith, far.4, far.3, number_below size first count far.0 far.1 numbers are inside limit far.2))
-leaves_fault size root first count numbers fetched Source are inside limit gives = tt
-leaves_fault size root first count numbers fetched OutOfMemory are inside limit gives = tt
-leaves_fault size root first count numbers fetched (BadTile level index width) are inside limit gives = gives.1
+leaves_fault lacks size root first count numbers fetched Source are inside limit (asking, (t, lack)) = (
+  t,
+  record {
+    lacks = (lack.lacks.0 (tile_has_path size t limit lack.of_log), subst (λ (xs : List ℕ). IsNeededFor size xs t) are lack.lacks.1);
+    of_log = lack.of_log;
+    next = lack.next;
+  },
+)
+leaves_fault lacks size root first count numbers fetched OutOfMemory are inside limit gives = tt
+leaves_fault lacks size root first count numbers fetched (BadTile level index width) are inside limit gives = gives.1

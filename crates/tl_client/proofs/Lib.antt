@@ -1,4 +1,5 @@
 pub mod Apart
+pub mod Blamed
 pub mod Forks
 pub mod Heads
 pub mod LeafReads

@@ -15,7 +15,8 @@ use Rattle.tl_tile.specs.Folds.{TilesCollide}
 use Rattle.tl_tile.specs.TileReader.{AreAuthentic}
 use Rattle.tl_client.specs.Bundles.{bundle_width}
 use Rattle.tl_client.specs.Checked.{AreCheckedEntries, LeavesCollide}
-use Rattle.tl_client.specs.Inner.Leaves.{HaveLeaves, leaf_numbers}
+use Rattle.tl_client.specs.Blame.{leaf_numbers}
+use Rattle.tl_client.specs.Inner.Leaves.{HaveLeaves}
 use Rattle.tl_client.proofs.LeafReads.{leaf_stored}
 
 -- two lists of one length differ at a place

@@ -1,4 +1,5 @@
 -- Faults of what a client calls, passed on.
+use Rattle.std.specs.Prelude.{ℕ}
 use Rattle.tl_store.specs.declared.reader.ReadFault.{ReadFault}
 use Rattle.tl_store.specs.declared.reader.ReadFault.TheVariants as read
 use Rattle.tl_proof.specs.declared.fault.ProveFault.{ProveFault}
@@ -22,12 +23,12 @@ after_read read.Source = client.Unavailable
 after_read read.OutOfMemory = client.OutOfMemory
 after_read (read.BadTile level index width) = client.BadTile level index width
 
--- a fault of reading a bundle
-abbrev pub after_bundle : BundleFault → ClientFault
-after_bundle bundle.EntryTooLong = client.BadBundle
-after_bundle bundle.Truncated = client.BadBundle
-after_bundle bundle.Trailing = client.BadBundle
-after_bundle bundle.OutOfMemory = client.OutOfMemory
+-- a fault of reading the bundle with this index
+abbrev pub after_bundle : ℕ → BundleFault → ClientFault
+after_bundle index bundle.EntryTooLong = client.BadBundle index
+after_bundle index bundle.Truncated = client.BadBundle index
+after_bundle index bundle.Trailing = client.BadBundle index
+after_bundle index bundle.OutOfMemory = client.OutOfMemory
 
 -- a fault of making a proof
 abbrev pub after_prove : ProveFault → ClientFault

@@ -1,5 +1,6 @@
 pub mod Faults
 pub mod Bundles
+pub mod Blame
 pub mod Checked
 pub mod Refused
 pub mod Trusted

@@ -1,16 +1,20 @@
 -- When a client has no answer.
-use Rattle.std.specs.Prelude.{◌≡◌, ◌≢◌, ℕ, ◌<◌, ◌≤◌, ◌^◌, List, length, take, slice_index_or, [], Some}
+use Rattle.std.specs.Prelude.{◌≡◌, ◌≢◌, ℕ, ◌-◌, ◌*◌, ◌<◌, ◌≤◌, ◌^◌, ◌⊎◌, List, length, take, slice_index_or, [], Some}
 use Rattle.sha2.specs.Sha256.{sha256}
 use Rattle.tl_hash.specs.Bytes.{Bytes, Digest}
 use Rattle.tl_hash.specs.Tree.{leaf_input, tree_hash}
 use Rattle.tl_proof.specs.ProveFaults.{IsIndex}
+use Rattle.tl_tile.specs.declared.resource.Resource.{Resource}
+use Rattle.tl_tile.specs.declared.resource.Resource.TheVariants as resource
 use Rattle.tl_tile.specs.declared.resource.Tile.{Tile}
 use Rattle.tl_tile.specs.Folds.{TilesCollide}
 use Rattle.tl_tile.specs.Fetched.{tiles_of}
 use Rattle.tl_tile.specs.Source.{AreAnswers}
 use Rattle.tl_tile.specs.SourceFaults.{IsBadTile}
+use Rattle.tl_tile.specs.TileReader.{Reading}
 use Rattle.tl_tile.specs.Verified.{AreVerified}
-use Rattle.tl_client.specs.Bundles.{HasBundle, IsInBundle}
+use Rattle.tl_client.specs.Bundles.{HasBundle, IsInBundle, bundle_width}
+use Rattle.tl_client.specs.Blame.{AnswersNoBundle, LacksTile, ServesBadTile, WantsTile, leaf_reading}
 use Rattle.tl_client.specs.declared.fault.ClientFault.{ClientFault}
 use Rattle.tl_client.specs.declared.fault.ClientFault.TheVariants as client
 use Rattle.tl_client.specs.declared.head.Head.{Head}
@@ -22,21 +26,32 @@ pub record BundleRead : Type 0 where
   pub bundle : ℕ
   pub fetched : List (Tile × Bytes)
 
--- when the entries of a bundle are not read, by the fault; a tile is bad among those that were fetched, and an entry
--- only where the tiles passed all checks
-abbrev pub RefusesEntries : BundleRead → ClientFault → Type 0
-RefusesEntries read client.Range = HasBundle read.size read.bundle → ⊥
-RefusesEntries read client.Unavailable = HasBundle read.size read.bundle
-RefusesEntries read (client.BadTile level index width) =
+-- the reading of the leaves of all its entries
+abbrev pub bundle_leaves : BundleRead → Reading
+bundle_leaves read =
+    leaf_reading read.size read.root (256 * read.bundle) (bundle_width read.size read.bundle) read.fetched
+
+-- the source may lack the bundle of its width, or a tile that its leaves need
+abbrev pub LacksEntries : (Resource → Type 0) → BundleRead → Type 0
+LacksEntries lacks read =
+    lacks (resource.Entries read.bundle (bundle_width read.size read.bundle)) ⊎ LacksTile lacks (bundle_leaves read)
+
+-- when the entries of a bundle are not read from a source, by the fault; a tile is bad among those that were fetched,
+-- and an entry only where the tiles passed all checks
+abbrev pub RefusesEntries : (Resource → Bytes → Type 0) → (Resource → Type 0) → BundleRead → ClientFault → Type 0
+RefusesEntries answers lacks read client.Range = HasBundle read.size read.bundle → ⊥
+RefusesEntries answers lacks read client.Unavailable = HasBundle read.size read.bundle × LacksEntries lacks read
+RefusesEntries answers lacks read (client.BadTile level index width) =
     HasBundle read.size read.bundle
     × IsBadTile sha256 read.size read.root read.fetched (record { level = level; index = index; width = width })
-RefusesEntries read client.BadBundle = HasBundle read.size read.bundle
-RefusesEntries read (client.BadEntry index) =
+RefusesEntries answers lacks read (client.BadBundle bundle) =
+    (bundle ≡ read.bundle) × HasBundle read.size bundle × AnswersNoBundle answers bundle (bundle_width read.size bundle)
+RefusesEntries answers lacks read (client.BadEntry index) =
     HasBundle read.size read.bundle × IsInBundle read.size read.bundle index
     × AreVerified sha256 read.size read.root read.fetched
-RefusesEntries read client.Shrunk = ⊥
-RefusesEntries read client.Forked = ⊥
-RefusesEntries read client.OutOfMemory = HasBundle read.size read.bundle
+RefusesEntries answers lacks read client.Shrunk = ⊥
+RefusesEntries answers lacks read client.Forked = ⊥
+RefusesEntries answers lacks read client.OutOfMemory = HasBundle read.size read.bundle
 
 -- a list of this size and root, no input of whose tree collides with a string that is hashed for these tiles, or for
 -- some of them
@@ -57,17 +72,28 @@ abbrev pub IsOtherLeaf : Digest → ℕ → Bytes → ℕ → Bytes → Type 0
 IsOtherLeaf H size root index leaf =
     HoldsByTiles H size root (λ all. H (leaf_input (slice_index_or all index [])) ≢ leaf)
 
--- when no inclusion proof is made for a leaf hash, by the fault
-abbrev pub RefusesEntry : ℕ → Bytes → ℕ → Bytes → ClientFault → Type 0
-RefusesEntry size root index leaf client.Range = IsIndex size index → ⊥
-RefusesEntry size root index leaf client.Unavailable = IsIndex size index
-RefusesEntry size root index leaf (client.BadTile _ _ _) = IsIndex size index
-RefusesEntry size root index leaf client.BadBundle = ⊥
-RefusesEntry size root index leaf (client.BadEntry entry) =
-    (entry ≡ index) × IsIndex size index × IsOtherLeaf sha256 size root index leaf
-RefusesEntry size root index leaf client.Shrunk = ⊥
-RefusesEntry size root index leaf client.Forked = ⊥
-RefusesEntry size root index leaf client.OutOfMemory = IsIndex size index
+-- an entry of a log, and what is said to be its leaf hash
+pub record LeafRead : Type 0 where
+  pub size : ℕ
+  pub root : Bytes
+  pub index : ℕ
+  pub leaf : Bytes
+
+-- when no inclusion proof is made for a leaf hash from a source, by the fault
+abbrev pub RefusesEntry : (Resource → Bytes → Type 0) → (Resource → Type 0) → LeafRead → ClientFault → Type 0
+RefusesEntry answers lacks read client.Range = IsIndex read.size read.index → ⊥
+RefusesEntry answers lacks read client.Unavailable =
+    IsIndex read.size read.index × WantsTile answers lacks read.size read.root read.index
+RefusesEntry answers lacks read (client.BadTile level index width) =
+    IsIndex read.size read.index
+    × ServesBadTile answers read.size read.root (record { level = level; index = index; width = width })
+RefusesEntry answers lacks read (client.BadBundle _) = ⊥
+RefusesEntry answers lacks read (client.BadEntry entry) =
+    (entry ≡ read.index) × IsIndex read.size read.index
+    × IsOtherLeaf sha256 read.size read.root read.index read.leaf
+RefusesEntry answers lacks read client.Shrunk = ⊥
+RefusesEntry answers lacks read client.Forked = ⊥
+RefusesEntry answers lacks read client.OutOfMemory = IsIndex read.size read.index
 
 -- a consistency proof between these sizes has a hash: the old log is neither empty nor the whole new one
 pub record IsBetween (old size : ℕ) : Type 0 where
@@ -86,13 +112,21 @@ pub record IsFork (H : Digest) (old new : Head) : Type 0 where
   pub no_prefix : IsBetween old.size new.size
       → HoldsByTiles H new.size new.root (λ all. tree_hash H (take old.size all) ≢ old.root)
 
--- when the growth of a log is not accepted, by the fault
-abbrev pub RefusesGrowth : Head → Head → ClientFault → Type 0
-RefusesGrowth old new client.Range = (old.size ≤ new.size) × (2 ^ 62 < new.size)
-RefusesGrowth old new client.Unavailable = IsBetween old.size new.size × (new.size ≤ 2 ^ 62)
-RefusesGrowth old new (client.BadTile _ _ _) = IsBetween old.size new.size × (new.size ≤ 2 ^ 62)
-RefusesGrowth old new client.BadBundle = ⊥
-RefusesGrowth old new (client.BadEntry _) = ⊥
-RefusesGrowth old new client.Shrunk = new.size < old.size
-RefusesGrowth old new client.Forked = IsFork sha256 old new
-RefusesGrowth old new client.OutOfMemory = IsBetween old.size new.size × (new.size ≤ 2 ^ 62)
+-- the growth between these heads has to be proved: from some entries to more, in range
+abbrev pub NeedsProof : Head → Head → Type 0
+NeedsProof old new = IsBetween old.size new.size × (new.size ≤ 2 ^ 62)
+
+-- when the growth of a log is not accepted from a source, by the fault; the tiles are those of the new log over the
+-- last old entry
+abbrev pub RefusesGrowth : (Resource → Bytes → Type 0) → (Resource → Type 0) → Head → Head → ClientFault → Type 0
+RefusesGrowth answers lacks old new client.Range = (old.size ≤ new.size) × (2 ^ 62 < new.size)
+RefusesGrowth answers lacks old new client.Unavailable =
+    NeedsProof old new × WantsTile answers lacks new.size new.root (old.size - 1)
+RefusesGrowth answers lacks old new (client.BadTile level index width) =
+    NeedsProof old new
+    × ServesBadTile answers new.size new.root (record { level = level; index = index; width = width })
+RefusesGrowth answers lacks old new (client.BadBundle _) = ⊥
+RefusesGrowth answers lacks old new (client.BadEntry _) = ⊥
+RefusesGrowth answers lacks old new client.Shrunk = new.size < old.size
+RefusesGrowth answers lacks old new client.Forked = IsFork sha256 old new
+RefusesGrowth answers lacks old new client.OutOfMemory = NeedsProof old new

@@ -5,17 +5,19 @@ ghost use Rattle.sha2.specs.Sha256.{sha256};
 ghost use Rattle.tl_tile.specs.Bundle.{AreEntries};
 ghost use Rattle.tl_tile.specs.Fetched.{tiles_of};
 ghost use Rattle.tl_tile.specs.Verified.{AreVerified};
+ghost use Rattle.tl_client.specs.Blame.{AreServed};
 ghost use Rattle.tl_client.specs.Bundles.{HasBundle, bundle_width};
 ghost use Rattle.tl_client.specs.Checked.{AreCheckedEntries};
 ghost use Rattle.tl_client.specs.Refused.{RefusesEntries};
-ghost use Rattle.tl_client.specs.Inner.Leaves.{IsNoBundle};
+ghost use Rattle.tl_client.specs.Faults.{after_bundle};
+ghost use Rattle.tl_client.specs.Inner.Leaves.{RefusesBundle};
 
 use crate::fault::ClientFault;
 use crate::leaves::{check_leaves, read_leaves};
 use crate::source::ResourceSource;
 use std::alloc::Allocator;
 use tl_hash::Hash;
-use tl_tile::{FetchedTiles, Resource, read_bundle};
+use tl_tile::{BundleFault, FetchedTiles, Resource, read_bundle};
 
 // Whether a log of this size has the bundle.
 fn has_bundle(size: u64, bundle: u64) -> bool
@@ -39,6 +41,16 @@ fn width_of(size: u64, bundle: u64) -> u32
     }
 }
 
+// A fault of reading the bundle with this index.
+fn bundle_fault(bundle: u64, fault: BundleFault) -> ClientFault
+    ensures { result ≡ after_bundle bundle fault }
+{
+    match fault {
+        BundleFault::OutOfMemory => ClientFault::OutOfMemory,
+        _ => ClientFault::BadBundle(bundle),
+    }
+}
+
 // The entries of a bundle of this width, as the source has them.
 fn fetch_bundle<S: ResourceSource, A: Allocator + Copy>(
     alloc: A,
@@ -50,21 +62,24 @@ fn fetch_bundle<S: ResourceSource, A: Allocator + Copy>(
     requires some { 0 < width }
     requires most { width ≤ 256 }
     ensures entries { IfOk result (λ entries. AreEntries width (map vec_items entries.items)) }
-    ensures refused { IfErr result IsNoBundle }
+    ensures refused { IfErr result (RefusesBundle (S.may_answer source.now) (S.may_lack source.now) bundle width) }
 {
     let resource = Resource::Entries {
         index: bundle,
         width,
     };
     let bytes = source.get(alloc, &resource)?;
-    let entries = read_bundle(alloc, &bytes, width)?;
-    Ok(entries)
+    match read_bundle(alloc, &bytes, width) {
+        Ok(entries) => Ok(entries),
+        Err(fault) => Err(bundle_fault(bundle, fault)),
+    }
 }
 
-/// The entries of a bundle of a log of this size and root, each of them checked (C2SP tlog-tiles, "Log Entries"): each
-/// has the leaf hash that the checked tiles have. `fetched` then holds the tiles that were fetched and no others, also
-/// after a fault. `Range`: the log has no such bundle, counted from 0, or more than 2^62 entries. `BadBundle`: the
-/// bytes are no bundle of its width. `BadEntry`: the first entry that isn't the log's.
+/// The entries of a bundle of a log of this size and root, each checked (C2SP tlog-tiles, "Log Entries"): each has the
+/// leaf hash that the checked tiles have. `fetched` then holds the tiles that were fetched and no others, also after a
+/// fault. `Range`: the log has no such bundle, counted from 0, or more than 2^62 entries. `Unavailable`: the source
+/// lacks the bundle or a tile over it. `BadBundle`: the bytes are none of its width. `BadEntry`: the first entry that
+/// isn't the log's.
 pub fn read_entries<S: ResourceSource, A: Allocator + Copy>(
     alloc: A,
     source: &S,
@@ -76,7 +91,9 @@ pub fn read_entries<S: ResourceSource, A: Allocator + Copy>(
     ensures entries { IfOk result (λ entries. AreCheckedEntries sha256 (tiles_of fetched.new) size root bundle (map vec_items entries.items)) }
     ensures verified { OnOk result (AreVerified sha256 size root fetched.new) }
     ensures within { OnOk result (HasBundle size bundle) }
-    ensures refused { IfErr result (RefusesEntries (record { size = size; root = root; bundle = bundle; fetched = fetched.new })) }
+    ensures served { AreServed (S.may_answer source.now) size fetched.new }
+    ensures refused { IfErr result (RefusesEntries (S.may_answer source.now) (S.may_lack source.now)
+        (record { size = size; root = root; bundle = bundle; fetched = fetched.new })) }
 {
     *fetched = FetchedTiles::new(alloc);
     if !has_bundle(size, bundle) {

@@ -1,14 +1,14 @@
 //! Why a client has no answer.
 
 ghost use Rattle.std.specs.Prelude.{◌≡◌};
-ghost use Rattle.tl_client.specs.Faults.{after_bundle, after_prove, after_read, after_source};
+ghost use Rattle.tl_client.specs.Faults.{after_prove, after_read, after_source};
 ghost use Rattle.tl_client.specs.declared.fault.ClientFault.TheVariants.{OutOfMemory};
 
 use std::alloc::{AllocError, AllocFailed};
 use thiserror::Error;
 use tl_proof::ProveFault;
 use tl_store::ReadFault;
-use tl_tile::{BundleFault, SourceFault};
+use tl_tile::SourceFault;
 
 /// Why a client has no answer.
 #[derive(Clone, Copy, Debug, PartialEq, Eq, Error)]
@@ -16,15 +16,15 @@ pub enum ClientFault {
     /// The log has no such entry or bundle, or more than 2^62 entries.
     #[error("out of range")]
     Range,
-    /// The source has not got a resource.
+    /// The source has not got a resource, or a proof asked for a tile beyond those over its leaf.
     #[error("a resource is unavailable")]
     Unavailable,
     /// This tile is not the one that the root was made with.
     #[error("bad tile: level {level}, index {index}, width {width}")]
     BadTile { level: u32, index: u64, width: u32 },
-    /// The bytes are no entry bundle of the width that it has to have.
-    #[error("the bytes are no entry bundle")]
-    BadBundle,
+    /// The bytes of the bundle with this index, counted from 0, are none of the width that it has to have.
+    #[error("entry bundle {0} is malformed")]
+    BadBundle(u64),
     /// The entry with this index, counted from 0, is not the one that the root was made with.
     #[error("entry {0} is not the log's")]
     BadEntry(u64),
@@ -83,17 +83,6 @@ impl From<ReadFault> for ClientFault {
                 index,
                 width,
             },
-        }
-    }
-}
-
-impl From<BundleFault> for ClientFault {
-    ghost from_gives = { λ fault wider. wider ≡ after_bundle fault };
-
-    fn from(fault: BundleFault) -> ClientFault {
-        match fault {
-            BundleFault::OutOfMemory => ClientFault::OutOfMemory,
-            _ => ClientFault::BadBundle,
         }
     }
 }

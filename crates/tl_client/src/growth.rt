@@ -29,7 +29,7 @@ fn proof_between<S: ResourceSource, A: Allocator + Copy>(
     requires limit { size ≤ 2 ^ 62 }
     ensures empty { IfOk result (λ proof. (old ≡ 0) ⊎ (old ≡ size) → proof.items ≡ []) }
     ensures made { IfOk result (λ proof. IsBetween old size → IsMadeProof sha256 old size root proof.items) }
-    ensures refused { IfErr result (RefusesProof old size) }
+    ensures refused { IfErr result (RefusesProof (S.may_answer source.now) (S.may_lack source.now) old size root) }
 {
     if old == 0 || old == size {
         return Ok(Vec::new(alloc));
@@ -43,8 +43,9 @@ fn proof_between<S: ResourceSource, A: Allocator + Copy>(
 
 /// A consistency proof that the new log begins with the old one (RFC 6962, section 2.1.2). It is made from checked
 /// tiles of the new log, those over the last old entry, and accepted. `Shrunk` comes where the new log is the smaller
-/// one, then `Range` where it has more than 2^62 entries; `Forked` where the old root is not that of the new log's
-/// first entries. From no entries, and between equal sizes, nothing is fetched.
+/// one, then `Range` where it has more than 2^62 entries; `Unavailable` where the source lacks such a tile or the
+/// proof asks for another; `Forked` where the old root isn't that of the new log's first entries. From no entries, and
+/// between equal sizes, nothing is fetched.
 pub fn check_growth<S: ResourceSource, A: Allocator + Copy>(
     alloc: A,
     source: &S,
@@ -52,7 +53,7 @@ pub fn check_growth<S: ResourceSource, A: Allocator + Copy>(
     new: Head,
 ) -> Result<Vec<Hash, A>, ClientFault>
     ensures accepted { IfOk result (λ proof. AcceptsConsistency sha256 proof.items new.size new.root old.size old.root) }
-    ensures refused { IfErr result (RefusesGrowth old new) }
+    ensures refused { IfErr result (RefusesGrowth (S.may_answer source.now) (S.may_lack source.now) old new) }
 {
     let Head {
         size: old_size,

@@ -31,7 +31,7 @@ pub enum HeadFault {
     NoCheckpoint(CheckpointFault),
     /// Only so many witnesses cosigned it.
     #[error("only {0} witnesses cosigned the checkpoint")]
-    TooFew(u32),
+    TooFew(u64),
     /// Memory ran out.
     #[error("out of memory")]
     OutOfMemory,
@@ -83,7 +83,7 @@ pub fn open_head<A: Allocator + Copy>(
     note: &str,
     verifiers: &[Box<dyn Verifier>],
     witnesses: &[Box<dyn Verifier>],
-    need: u32,
+    need: u64,
 ) -> Result<Checkpoint<A>, HeadFault>
     ensures { OpensHead note.now (record { keys = map (λ v. key v) verifiers.now; witnesses = map (λ w. key w) witnesses.now; need = need }) result }
 {
@@ -94,8 +94,8 @@ pub fn open_head<A: Allocator + Copy>(
     let checkpoint = parse(alloc, opened.note.text)?;
     let lines = opened.note.signatures.as_slice();
     let found = first_cosignatures(alloc, opened.note.text, lines, witnesses)?;
-    if found.len() < need as usize {
-        return Err(HeadFault::TooFew(found.len() as u32));
+    if (found.len() as u64) < need {
+        return Err(HeadFault::TooFew(found.len() as u64));
     }
     Ok(checkpoint)
 }

@@ -24,8 +24,8 @@ fn is_index(size: u64, index: u64) -> bool
 
 /// An inclusion proof of the leaf hash at this index, counted from 0, in a log of this size and root, the hash nearest
 /// to the leaf first (RFC 6962, section 2.1.1). It is made from checked tiles, those over the entry, and accepted.
-/// `Range` comes where the log has no such entry or more than 2^62; `BadEntry` where the leaf hash isn't that of the
-/// log's entry.
+/// `Range` comes where the log has no such entry or more than 2^62; `Unavailable` where the source lacks a tile over
+/// the entry or the proof asks for another; `BadEntry` where the leaf hash isn't that of the log's entry.
 pub fn prove_entry<S: ResourceSource, A: Allocator + Copy>(
     alloc: A,
     source: &S,
@@ -35,7 +35,8 @@ pub fn prove_entry<S: ResourceSource, A: Allocator + Copy>(
     leaf: Hash,
 ) -> Result<Vec<Hash, A>, ClientFault>
     ensures accepted { IfOk result (λ proof. AcceptsInclusion sha256 proof.items size root index leaf) }
-    ensures refused { IfErr result (RefusesEntry size root index leaf) }
+    ensures refused { IfErr result (RefusesEntry (S.may_answer source.now) (S.may_lack source.now)
+        (record { size = size; root = root; index = index; leaf = leaf })) }
 {
     if !is_index(size, index) {
         return Err(ClientFault::Range);

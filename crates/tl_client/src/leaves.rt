@@ -1,11 +1,12 @@
 //! The leaf hashes of a bundle, as the tiles have them and as the entries give them.
 
-ghost use Rattle.std.specs.Prelude.{◌≡◌, ◌↔◌, ◌<◌, ◌≤◌, ◌+◌, ◌^◌, IsTrue, length, map, vec_items, IfOk, IfErr, OnOk};
+ghost use Rattle.std.specs.Prelude.{◌≡◌, ◌↔◌, ◌<◌, ◌≤◌, ◌+◌, ◌^◌, IsTrue, [], length, map, vec_items, IfOk, IfErr, OnOk};
 ghost use Rattle.sha2.specs.Sha256.{sha256};
 ghost use Rattle.tl_hash.specs.Tree.{leaf_input};
 ghost use Rattle.tl_tile.specs.TileReader.{AreAuthentic};
 ghost use Rattle.tl_tile.specs.Verified.{AreVerified};
-ghost use Rattle.tl_client.specs.Inner.Leaves.{HaveLeaves, IsOfOne, RefusesLeaves, leaf_numbers};
+ghost use Rattle.tl_client.specs.Blame.{AreServed, leaf_numbers, leaf_reading};
+ghost use Rattle.tl_client.specs.Inner.Leaves.{HaveLeaves, IsOfOne, RefusesLeaves};
 
 use crate::fault::ClientFault;
 use crate::source::{ResourceSource, Tiles};
@@ -26,7 +27,8 @@ fn numbers_of<A: Allocator>(alloc: A, first: u64, count: u32) -> Result<Vec<u64,
     Ok(numbers)
 }
 
-/// So many leaf hashes of a log of this size and root, from the one of this entry on.
+/// So many leaf hashes of a log of this size and root, from the one of this entry on. `fetched` then holds the tiles
+/// that were fetched and no others.
 pub(crate) fn read_leaves<S: ResourceSource, A: Allocator + Copy>(
     alloc: A,
     source: &S,
@@ -39,10 +41,13 @@ pub(crate) fn read_leaves<S: ResourceSource, A: Allocator + Copy>(
     requires some { 0 < count }
     requires inside { first + count ≤ size }
     requires limit { size ≤ 2 ^ 62 }
-    ensures authentic { IfOk result (λ leaves. AreAuthentic sha256 (record { size = size; root = root; indexes = leaf_numbers first count; fetched = fetched.new }) leaves.items) }
+    requires none { fetched.old ≡ [] }
+    ensures authentic { IfOk result (λ leaves. AreAuthentic sha256 (leaf_reading size root first count fetched.new) leaves.items) }
     ensures verified { OnOk result (AreVerified sha256 size root fetched.new) }
     ensures count { IfOk result (λ leaves. length leaves.items ≡ count) }
-    ensures refused { IfErr result (RefusesLeaves size root fetched.new) }
+    ensures served { AreServed (S.may_answer source.now) size fetched.new }
+    ensures refused { IfErr result (RefusesLeaves (S.may_lack source.now)
+        (leaf_reading size root first count fetched.new)) }
 {
     let numbers = numbers_of(alloc, first, count)?;
     let reader = TileHashReader::new(alloc, Sha256Tree, size, root, Tiles(source));

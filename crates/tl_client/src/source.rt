@@ -1,18 +1,30 @@
 //! Sources of the resources of a log.
 
-ghost use Rattle.std.specs.Prelude.{◌↔◌, IsTrue};
+ghost use Rattle.std.specs.Prelude.{◌≡◌, ◌↔◌, IsTrue, IfOk, IfErr};
+ghost use Rattle.tl_hash.specs.Bytes.{Bytes};
 ghost use Rattle.tl_tile.specs.Path.{IsTile};
 
 use std::alloc::Allocator;
 use tl_tile::{Resource, SourceFault, Tile, TileSource};
 
-/// What serves the resources of a log (C2SP tlog-tiles). What it answers may be anything.
+/// What serves the resources of a log (C2SP tlog-tiles). Nothing is known of the bytes but what the source says that it
+/// may answer: it may lie.
 pub trait ResourceSource {
     ghost use Rattle.tl_tile.specs.Path.{IsResource};
+    ghost use Rattle.tl_tile.specs.declared.resource.Resource.{Resource};
+    ghost use Rattle.tl_tile.specs.declared.source.SourceFault.TheVariants.{Unavailable};
+
+    /// Which bytes it may answer for a resource.
+    ghost may_answer: { Self → Resource → Bytes → Type 0 };
+
+    /// Which resources it may not have.
+    ghost may_lack: { Self → Resource → Type 0 };
 
     /// The bytes of a resource. `Unavailable` where the source has not got it.
     fn get<A: Allocator>(&self, alloc: A, resource: &Resource) -> Result<Vec<u8, A>, SourceFault>
-        requires { IsResource resource.now };
+        requires { IsResource resource.now }
+        ensures text { IfOk result (λ text. may_answer self.now resource.now text.items) }
+        ensures lacks { IfErr result (λ fault. fault ≡ Unavailable → may_lack self.now resource.now) };
 }
 
 /// The tiles of a source of resources.
@@ -27,9 +39,11 @@ fn is_tile(tile: Tile) -> bool
 }
 
 impl<S: ResourceSource> TileSource for Tiles<'_, S> {
-    ghost may_answer = { λ s t text. Unit {0} };
+    ghost use Rattle.tl_tile.specs.declared.resource.Resource.TheVariants as resource;
 
-    ghost may_lack = { λ s t. Unit {0} };
+    ghost may_answer = { λ s t text. S.may_answer s.0.now (resource.Tile t) text };
+
+    ghost may_lack = { λ s t. IsTile t → S.may_lack s.0.now (resource.Tile t) };
 
     /// What the source has under the tile's path. `Unavailable` also where the tile has none.
     fn fetch<A: Allocator + Copy>(&self, alloc: A, tile: Tile) -> Result<Vec<u8, A>, SourceFault> {

@@ -36,7 +36,7 @@ fn opened(
     note: &str,
     id: u32,
     names: &[&str],
-    need: u32,
+    need: u64,
 ) -> Result<Result<Head, HeadFault>, AllocError> {
     let mut logs: Vec<Box<dyn Verifier>> = Vec::new(alloc);
     logs.push(Box::new(alloc, LengthKey::new(alloc, ORIGIN, id)?)?)?;
@@ -141,7 +141,7 @@ fn a_fork_serves_no_proof_of_the_log(rt: HostRuntime) -> Result<(), Fail> {
 }
 
 // Witnesses by name, how many of them are needed, and why a note isn't trusted.
-type Row = (&'static [&'static str], u32, Option<HeadFault>);
+type Row = (&'static [&'static str], u64, Option<HeadFault>);
 
 #[test]
 fn witnesses(rt: HostRuntime) -> Result<(), Fail> {

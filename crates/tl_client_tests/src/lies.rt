@@ -57,8 +57,10 @@ const HONEST: Outcome = Ok(true);
 // A resource is not there.
 const LACKING: Outcome = Err(ClientFault::Unavailable);
 
-// A bundle is none.
-const NO_BUNDLE: Outcome = Err(ClientFault::BadBundle);
+// The first or the second bundle is none.
+const NO_FIRST: Outcome = Err(ClientFault::BadBundle(0));
+
+const NO_SECOND: Outcome = Err(ClientFault::BadBundle(1));
 
 // Each of the tiles is bad.
 const BAD_FULL: Outcome = Err(ClientFault::BadTile {
@@ -199,29 +201,37 @@ fn tiles(rt: HostRuntime) -> Result<(), Fail> {
 }
 
 const BUNDLES: [Row; 12] = [
-    (FIRST, Lie::Changed(0), NO_BUNDLE, HONEST),
+    (FIRST, Lie::Changed(0), NO_FIRST, HONEST),
     (
         FIRST,
         Lie::Changed(2),
         Err(ClientFault::BadEntry(0)),
         HONEST,
     ),
-    (FIRST, Lie::Cut, NO_BUNDLE, HONEST),
-    (FIRST, Lie::Doubled, NO_BUNDLE, HONEST),
+    (FIRST, Lie::Cut, NO_FIRST, HONEST),
+    (FIRST, Lie::Doubled, NO_FIRST, HONEST),
     (FIRST, Lie::Lacking, LACKING, HONEST),
-    (FIRST, Lie::Exchanged(LAST), NO_BUNDLE, HONEST),
-    (LAST, Lie::Changed(0), HONEST, NO_BUNDLE),
+    (FIRST, Lie::Exchanged(LAST), NO_FIRST, HONEST),
+    (LAST, Lie::Changed(0), HONEST, NO_SECOND),
     (
         LAST,
         Lie::Changed(2),
         HONEST,
         Err(ClientFault::BadEntry(256)),
     ),
-    (LAST, Lie::Cut, HONEST, NO_BUNDLE),
-    (LAST, Lie::Doubled, HONEST, NO_BUNDLE),
+    (LAST, Lie::Cut, HONEST, NO_SECOND),
+    (LAST, Lie::Doubled, HONEST, NO_SECOND),
     (LAST, Lie::Lacking, HONEST, LACKING),
-    (LAST, Lie::Exchanged(FIRST), HONEST, NO_BUNDLE),
+    (LAST, Lie::Exchanged(FIRST), HONEST, NO_SECOND),
 ];
+
+#[test]
+fn a_malformed_bundle_is_named(rt: HostRuntime) -> Result<(), Fail> {
+    let fault = ClientFault::BadBundle(7);
+    let told = format!(in rt.alloc(); "{fault}")?;
+    assert_eq!(rt; told.as_str(), "entry bundle 7 is malformed");
+    Ok(())
+}
 
 // Proofs need no bundle.
 #[test]
@@ -254,7 +264,7 @@ fn each_byte_of_a_bundle(rt: HostRuntime) -> Result<(), Fail> {
     for place in 0..264usize {
         let source = Source::lying(&log, LAST, Lie::Changed(place));
         let want = if place % 6 < 2 {
-            ClientFault::BadBundle
+            ClientFault::BadBundle(1)
         } else {
             ClientFault::BadEntry(256 + place as u64 / 6)
         };
@@ -309,6 +319,17 @@ fn resources_of_one_length_exchanged(rt: HostRuntime) -> Result<(), Fail> {
             are_read(alloc, &log, &source, first, second),
             "{about:?} {lie:?}"
         );
+    }
+    Ok(())
+}
+
+#[test]
+fn each_entry_and_each_growth(rt: HostRuntime) -> Result<(), Fail> {
+    let alloc = rt.alloc();
+    let log = Log::new(alloc, 300, 300)?;
+    let source = Source::honest(&log);
+    for index in 0..300 {
+        assert!(rt; are_proved(alloc, &log, &source, index, HONEST), "{index}");
     }
     Ok(())
 }

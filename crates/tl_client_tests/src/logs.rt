@@ -139,6 +139,10 @@ impl<'l> Source<'l> {
 }
 
 impl ResourceSource for Source<'_> {
+    ghost may_answer = { λ s r text. Unit {0} };
+
+    ghost may_lack = { λ s r. Unit {0} };
+
     fn get<A: Allocator>(&self, alloc: A, resource: &Resource) -> Result<Vec<u8, A>, SourceFault> {
         let bytes = match self.lie {
             Some((about, lie)) if about == *resource => self.told(resource, lie),

@@ -2,8 +2,10 @@
 use Rattle.std.specs.Prelude.{ℕ, ◌++◌, codes, Option, Some, None}
 use Rattle.tl_hash.specs.Bytes.{Bytes}
 use Rattle.tl_text.specs.Text.{number_text}
+use Rattle.tl_command.specs.FetchFaults.{fetch_text}
+use Rattle.tl_command.specs.declared.fetch_fault.FetchFault.TheVariants.{Unavailable}
 use Rattle.tl_command.specs.declared.fault.RunFault.{RunFault}
-use Rattle.tl_command.specs.declared.fault.RunFault.TheVariants.{Refused, Read, Write, TooLarge, EntryTooLong, BadOrigin, BadIndex, BadOld, BadPath, NotThere, Malformed, Chain, Sign, Operator, Listen, Accept, OutOfMemory, BadName, BadKey, BadCheckpoint, WrongSignature, Unverified, Busy}
+use Rattle.tl_command.specs.declared.fault.RunFault.TheVariants.{Refused, Read, Write, TooLarge, EntryTooLong, BadOrigin, BadIndex, BadOld, BadPath, NotThere, Malformed, Chain, Sign, Operator, Listen, Accept, OutOfMemory, BadName, BadKey, BadCheckpoint, WrongSignature, Unverified, Busy, Fetch}
 
 -- the line on standard error, without its newline; a refusal has none, since its answer is on standard output
 abbrev pub fault_text : RunFault → Option Bytes
@@ -30,11 +32,13 @@ fault_text BadCheckpoint = Some (codes "tlog: bad checkpoint")
 fault_text (WrongSignature place) = Some (codes "tlog: signature " ++ number_text place ++ codes " wrong")
 fault_text Unverified = Some (codes "tlog: no known signature")
 fault_text Busy = Some (codes "tlog: in use")
+fault_text (Fetch fault) = Some (fetch_text fault)
 
--- the exit status: 3 where a device failed, else 1
+-- the exit status: 3 where a device failed or a source didn't answer, else 1
 abbrev pub exit_status : RunFault → ℕ
 exit_status Read = 3
 exit_status Write = 3
 exit_status Listen = 3
 exit_status Accept = 3
+exit_status (Fetch Unavailable) = 3
 exit_status _ = 1

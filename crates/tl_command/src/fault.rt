@@ -3,6 +3,7 @@
 ghost use Rattle.std.specs.Prelude.{◌≡◌, IfOk, Some, option_map, string_bytes};
 ghost use Rattle.tl_command.specs.Faults.{exit_status, fault_text};
 
+use crate::fetch_fault::{FetchFault, fetch_line};
 use std::alloc::{AllocError, AllocFailed, Allocator};
 use thiserror::Error;
 
@@ -78,6 +79,9 @@ pub enum RunFault {
     /// Another process works on the folder or the file.
     #[error("in use")]
     Busy,
+    /// The command `fetch` refused.
+    #[error("{0}")]
+    Fetch(FetchFault),
 }
 
 impl From<AllocError> for RunFault {
@@ -135,15 +139,17 @@ pub fn fault_line<A: Allocator>(alloc: A, fault: &RunFault) -> Result<Option<Str
         RunFault::WrongSignature(k) => Ok(Some(format!(in alloc; "tlog: signature {k} wrong")?)),
         RunFault::Unverified => fixed_line(alloc, "tlog: no known signature"),
         RunFault::Busy => fixed_line(alloc, "tlog: in use"),
+        RunFault::Fetch(fault) => fetch_line(alloc, fault),
     }
 }
 
-/// The exit status of a fault: 3 where a device failed, else 1. It takes no memory.
+/// The exit status of a fault: 3 where a device failed or a source didn't answer, else 1. It takes no memory.
 pub fn exit_of(fault: &RunFault) -> u8
     ensures { result ≡ exit_status fault.now }
 {
     match fault {
         RunFault::Read | RunFault::Write | RunFault::Listen | RunFault::Accept => 3,
+        RunFault::Fetch(FetchFault::Unavailable) => 3,
         _ => 1,
     }
 }

@@ -12,6 +12,7 @@ mod audit_text;
 mod commands;
 mod entries;
 mod fault;
+mod fetch_fault;
 mod growing;
 mod lines;
 mod options;
@@ -27,9 +28,11 @@ pub use commands::head::{checkpoint_of, run_head};
 pub use commands::proving::{run_consistency, run_inclusion};
 pub use entries::read_entries;
 pub use fault::{RunFault, exit_of, fault_line};
+pub use fetch_fault::FetchFault;
 pub use options::{
-    AppendOptions, CheckOptions, CosignerKey, KnownKey, ListenOptions, LogKey, ServeOptions,
-    WitnessOptions,
+    AppendOptions, CheckOptions, CosignerKey, FetchOptions, KnownKey, ListenOptions, LogKey,
+    ServeOptions, Wanted, WitnessOptions,
 };
+pub use proof_text::{InclusionProof, inclusion_bytes};
 pub use streams::{MOST_INPUT, print_text, read_input};
 pub use words::{Job, WordsFault, read_words};

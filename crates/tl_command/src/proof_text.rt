@@ -2,7 +2,7 @@
 
 ghost use Rattle.std.specs.Prelude.{◌≡◌, ◌≢◌, ◌<◌, length, map, vec_items, IfOk, OnErr, MatchOption, ◌++◌, OnOk};
 ghost use Rattle.tl_command.specs.ProofText.{Inclusion, IsInclusion, inclusion_lines, Consistency, IsConsistency, consistency_lines, inclusion_text, consistency_text};
-ghost use Rattle.tl_command.specs.Inner.Shown.{inclusion_shown, consistency_shown};
+ghost use Rattle.tl_command.specs.ProofShown.{inclusion_shown, consistency_shown};
 ghost use Rattle.std.specs.List.{flat_map};
 ghost use Rattle.tl_text.specs.Text.{line, number_text, base64_text};
 ghost use Rattle.tl_command.specs.Lines.{lines_text};
@@ -15,12 +15,17 @@ use tl_hash::Hash;
 
 /// An inclusion proof, and the leaf, the place and the tree that it is about.
 #[derive(Drop)]
-pub(crate) struct InclusionProof<A: Allocator> {
-    pub(crate) index: u64,
-    pub(crate) size: u64,
-    pub(crate) leaf: Hash,
-    pub(crate) root: Hash,
-    pub(crate) proof: Vec<Hash, A>,
+pub struct InclusionProof<A: Allocator> {
+    /// The entry's index, counted from 0.
+    pub index: u64,
+    /// The number of entries.
+    pub size: u64,
+    /// The leaf hash of the entry.
+    pub leaf: Hash,
+    /// The root of the tree.
+    pub root: Hash,
+    /// The hashes of the proof, the one nearest to the leaf first.
+    pub proof: Vec<Hash, A>,
 }
 
 /// A consistency proof, and the two trees that it is about.
@@ -163,8 +168,9 @@ fn push_hashes<A: Allocator + Copy>(
     Ok(())
 }
 
-/// The text of an inclusion proof. It fails only where a growth was refused.
-pub(crate) fn inclusion_bytes<A: Allocator + Copy, B: Allocator>(
+/// The text of an inclusion proof (RFC 6962, section 2.1.1), as `tlog check` reads it: a line `inclusion`, lines of what
+/// it is about, and its hashes, one a line. It fails only where a growth was refused.
+pub fn inclusion_bytes<A: Allocator + Copy, B: Allocator>(
     alloc: A,
     p: &InclusionProof<B>,
 ) -> Result<Vec<u8, A>, AllocError>

@@ -1,12 +1,15 @@
 //! The command line: from words to a job.
 
-use crate::options::{AppendOptions, CheckOptions, LogKey, ServeOptions, WitnessOptions};
+use crate::options::{
+    AppendOptions, CheckOptions, FetchOptions, LogKey, ServeOptions, WitnessOptions,
+};
 use clap::error::ErrorKind;
 use clap::{Arg, ArgAction, ArgMatches, Command, Error as ClapError, value_parser};
 use std::alloc::{AllocError, Global};
 use thiserror::Error;
 
 mod building;
+mod fetching;
 mod serving;
 mod texts;
 
@@ -15,6 +18,9 @@ const EITHER_KEY: &str = "either --secret or --key is given";
 
 // What is said of the option that takes the text of a log's verifier key.
 const LOG_KEY: &str = "The log's verifier key";
+
+// The seconds of a time limit that is left out.
+const TIMEOUT: u64 = 10;
 
 // The program's version. The formats that it reads and writes have versions of their own.
 const VERSION: &str = "0.1.0";
@@ -81,6 +87,8 @@ pub enum Job {
     Serve(ServeOptions),
     /// Serve a witness of one log.
     Witness(WitnessOptions),
+    /// Fetch from a log that isn't trusted.
+    Fetch(FetchOptions),
 }
 
 /// Why a command line gives no job.
@@ -128,6 +136,24 @@ fn required<'a>(alloc: Global, name: &'a str, value: &'a str, help: &'a str) -> 
 // An option with a number, which has to be given.
 fn number<'a>(alloc: Global, name: &'a str, help: &'a str) -> Arg<'a> {
     required(alloc, name, "N", help).value_parser(value_parser!(u64))
+}
+
+// An option with a number.
+fn optional<'a>(alloc: Global, name: &'a str, help: &'a str) -> Arg<'a> {
+    option(alloc, name, "N", help).value_parser(value_parser!(u64))
+}
+
+// An option that is a flag.
+fn flag<'a>(alloc: Global, name: &'a str, help: &'a str) -> Arg<'a> {
+    Arg::new(alloc, name)
+        .long(name)
+        .help(help)
+        .action(ArgAction::SetTrue)
+}
+
+// The option of a time limit in seconds, a day at most.
+fn timeout<'a>(alloc: Global, help: &'a str) -> Arg<'a> {
+    optional(alloc, "timeout", help).value_parser(value_parser!(u64).range(1..=86_400))
 }
 
 // The command `head`.
@@ -188,15 +214,12 @@ fn check<'a>(alloc: Global) -> Result<Command<'a>, AllocError> {
 
 // The command `keygen`.
 fn keygen<'a>(alloc: Global) -> Result<Command<'a>, AllocError> {
-    let cosigner = Arg::new(alloc, "cosigner")
-        .long("cosigner")
-        .help("Make a key of a witness, which cosigns checkpoints")
-        .action(ArgAction::SetTrue);
+    let cosigner = "Make a key of a witness, which cosigns checkpoints";
     Command::new(alloc, "keygen")
         .about("Makes a key from the system's random bytes")
         .after_help(texts::KEYGEN)
         .arg(required(alloc, "name", "NAME", "The key's name"))?
-        .arg(cosigner)
+        .arg(flag(alloc, "cosigner", cosigner))
 }
 
 // The command `open`.
@@ -232,7 +255,8 @@ fn commands<'a>(alloc: Global) -> Result<Command<'a>, AllocError> {
         .subcommand(open(alloc)?)?
         .subcommand(audit(alloc))?
         .subcommand(serving::serve(alloc)?)?
-        .subcommand(serving::witness(alloc)?)
+        .subcommand(serving::witness(alloc)?)?
+        .subcommand(fetching::fetch(alloc)?)
 }
 
 // The fault where an option isn't there, though the command line was understood.
@@ -333,6 +357,7 @@ fn job_of(alloc: Global, command: &str, options: &ArgMatches<'_>) -> Result<Job,
         "audit" => Ok(Job::Audit),
         "serve" => serving::serve_job(alloc, options),
         "witness" => serving::witness_job(alloc, options),
+        "fetch" => fetching::fetch_job(alloc, options),
         _ => Err(missing(alloc)),
     }
 }

@@ -24,7 +24,7 @@ fn written<
     let mut reader = Counted::new(input);
     let mut writer = Counted::new(Vec::new(alloc));
     let mut errors = Counted::new(Vec::new(alloc));
-    let outcome = run_job(rt, alloc, job, &mut reader, &mut writer, &mut errors);
+    let outcome = run_job(rt, alloc, job, false, &mut reader, &mut writer, &mut errors);
     (writer.into_inner(), outcome)
 }
 

@@ -1,4 +1,5 @@
-//! Readers and writers that remember whether they failed: reading a whole input, writing a whole text.
+//! Readers and writers that remember whether they failed: reading a whole input, writing a whole text. Connections that
+//! have to end in time.
 //!
 //! ```
 //! let mut reader = Counted::new(b"two\nlines\n".as_slice());
@@ -10,5 +11,7 @@
 #![tactic(auto)]
 
 mod counted;
+mod timed;
 
 pub use counted::{Counted, InputFault, WriteFault, read_whole, write_whole};
+pub use timed::Timed;

@@ -87,6 +87,21 @@ fn write_file<H: Files>(files: &H, path: &str, bytes: &[u8]) -> Result<(), Error
     }
 }
 
+/// Writes bytes beside the place of a file and then puts them there, once they outlast a crash.
+pub(crate) fn replace_file<H: Files>(
+    files: &H,
+    beside: &str,
+    path: &str,
+    bytes: &[u8],
+) -> Result<(), FileFault> {
+    if write_file(files, beside, bytes).is_err() {
+        return Err(FileFault::System);
+    }
+    sync(files, beside)?;
+    rename(files, beside, path)?;
+    Ok(())
+}
+
 // Writes a new file, and makes its folder where it isn't there.
 fn write_in_folder<H: Files>(files: &H, path: &str, bytes: &[u8]) -> Result<(), FileFault> {
     match write_file(files, path, bytes) {

@@ -1,5 +1,6 @@
 //! A log in a folder that outlasts a crash: a shelf whose resources are files in the layout of C2SP tlog-tiles, a file
-//! of lines each of which outlasts a crash before it is answered, and locks on both.
+//! of lines each of which outlasts a crash before it is answered, a file that is replaced as a whole, and locks on all
+//! of them.
 #![tactic(auto)]
 
 mod disk;
@@ -10,6 +11,7 @@ mod lock;
 mod record;
 mod shelf;
 mod step;
+mod whole;
 
 pub use disk::{AnyDisk, Disk};
 pub use fault::FileFault;
@@ -17,3 +19,4 @@ pub use lines::{LineFile, SyncedFile, open_lines};
 pub use lock::{FolderLock, lock_folder};
 pub use shelf::FolderShelf;
 pub use step::Step;
+pub use whole::WholeFile;

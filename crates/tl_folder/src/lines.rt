@@ -59,8 +59,8 @@ fn whole_front(bytes: &[u8]) -> usize
     }
 }
 
-// All bytes of a file.
-fn read_file(alloc: Global, file: &File, most: u64) -> Result<Vec<u8>, FileFault> {
+/// All bytes of a file. `TooLarge`: it has more than `most`.
+pub(crate) fn read_file(alloc: Global, file: &File, most: u64) -> Result<Vec<u8>, FileFault> {
     match read_whole(alloc, &mut Counted::new(file), most) {
         Ok(bytes) => Ok(bytes),
         Err(InputFault::OutOfMemory) => Err(FileFault::OutOfMemory),

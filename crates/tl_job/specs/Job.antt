@@ -8,7 +8,7 @@ use Rattle.tl_command.specs.ProofCommands.{InclusionComes, ConsistencyComes, Che
 use Rattle.tl_command.specs.AuditCommand.{AuditComes}
 use Rattle.tl_command.specs.declared.fault.RunFault.{RunFault}
 use Rattle.tl_command.specs.declared.words.Job.{Job}
-use Rattle.tl_command.specs.declared.words.Job.TheVariants.{Head, Build, BuildSigned, Append, Inclusion, Consistency, Check, CheckUnder, Keygen, Open, Audit, Serve, Witness}
+use Rattle.tl_command.specs.declared.words.Job.TheVariants.{Head, Build, BuildSigned, Append, Inclusion, Consistency, Check, CheckUnder, Keygen, Open, Audit, Serve, Witness, Fetch}
 use Rattle.tl_build.specs.Mirror.{demo_log_key}
 use Rattle.tl_build.specs.Build.{RunsBuild}
 use Rattle.tl_build.specs.Signed.{RunsSigned}
@@ -17,6 +17,7 @@ use Rattle.tl_open.specs.CheckOpened.{IsIdle, RunsCheckOpened}
 use Rattle.tl_open.specs.Keys.{IsFileFault}
 use Rattle.tl_open.specs.Keygen.{GivesKey}
 use Rattle.tl_open.specs.Open.{RunsOpen}
+use Rattle.tl_fetch.specs.Command.{RunsFetch}
 use Rattle.tl_serve.specs.Serving.{RefusesOrigin}
 use Rattle.tl_hash.specs.Bytes.{Bytes}
 use Rattle.tl_job.specs.Ending.{status_of, told_of, Told}
@@ -45,8 +46,8 @@ abbrev pub key_kind : Bool → ℕ
 key_kind true = cosignature_kind
 key_kind false = note_kind
 
--- a run of a job's command: i is its reader, o its writer, and e standard error, to which keygen and the servers alone
--- write
+-- a run of a job's command: i is its reader, o its writer, and e standard error, to which keygen, fetch and the servers
+-- alone write
 abbrev pub RunsJob : Job → Passage → Passage → Passage → Result (Unit {0}) RunFault → Type 0
 RunsJob (Head origin threads) i o e result = RunsHead (string_bytes origin) i o result × IsUnwritten e
 RunsJob (Build origin secret get) i o e result =
@@ -62,6 +63,7 @@ RunsJob (Open key) i o e result = RunsOpen (string_bytes key) i o result × IsUn
 RunsJob Audit i o e result = Runs (AuditComes sha256) i o result × IsUnwritten e
 RunsJob (Serve options) i o e result = IsUnwritten o
 RunsJob (Witness options) i o e result = Unit {0}
+RunsJob (Fetch options) i o e result = RunsFetch options o result × IsUnread i
 
 -- the job's command ran, its fault was told, and the exit status says how it ended. In between standard error held
 -- these bytes, or had failed

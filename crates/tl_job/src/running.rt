@@ -20,6 +20,7 @@ use tl_command::{
     run_consistency, run_head, run_inclusion,
 };
 use tl_device::{Counted, write_whole};
+use tl_fetch::run_fetch;
 use tl_hash::Sha256Tree;
 use tl_key::{Cosignature, Note};
 use tl_open::{read_file, run_check_opened, run_keygen, run_open};
@@ -142,7 +143,8 @@ fn check_as_asked<H: Files, R: Read, W: Write>(
 }
 
 /// Runs the command of a job with its options: each job its own command, which reads the reader and writes the writer.
-/// `keygen`, `serve` and `witness` write to `errors` too, and the last two may wait.
+/// `keygen`, `serve` and `witness` write to `errors` too, and so does `fetch` where that is a terminal. The servers may
+/// wait.
 pub fn run_job<
     H: Host
         + Files<File = File, Dir: Send + Sync>
@@ -155,6 +157,7 @@ pub fn run_job<
     rt: &H,
     alloc: Global,
     job: Job,
+    is_terminal: bool,
     reader: &mut Counted<R>,
     writer: &mut Counted<W>,
     errors: &mut Counted<E>,
@@ -167,7 +170,7 @@ pub fn run_job<
             origin,
             secret,
             get,
-        } => build(alloc, &origin, &secret, get.as_deref(), reader, writer),
+        } => { build(alloc, &origin, &secret, get.as_deref(), reader, writer) }
         Job::BuildSigned { origin, key, get } => {
             build_signed(rt, alloc, &origin, &key, get.as_deref(), reader, writer)
         }
@@ -181,12 +184,13 @@ pub fn run_job<
         Job::Audit => run_audit(alloc, Sha256Tree, reader, writer),
         Job::Serve(options) => serve(rt, alloc, &options, reader, errors),
         Job::Witness(options) => witness(rt, alloc, &options, reader, writer, errors),
+        Job::Fetch(options) => run_fetch(rt, alloc, &options, writer, errors, is_terminal),
     }
 }
 
-/// Runs the command that the words name, the program's own name first, and answers the exit status. Where they name
-/// none, the text on how to call the program is written to `errors`, the status is 2, and nothing is read or written
-/// else.
+/// Runs the command that the words name, the program's own name first, and answers the exit status. `is_terminal` says
+/// whether `errors` goes to one. Where the words name none, the text on how to call the program is written to `errors`,
+/// the status is 2, and nothing is read or written else.
 pub fn run_words<
     H: Host
         + Files<File = File, Dir: Send + Sync>
@@ -199,6 +203,7 @@ pub fn run_words<
     rt: &H,
     alloc: Global,
     words: &[String],
+    is_terminal: bool,
     reader: &mut Counted<R>,
     writer: &mut Counted<W>,
     errors: &mut Counted<E>,
@@ -207,7 +212,7 @@ pub fn run_words<
 {
     match read_words(alloc, words) {
         Ok(job) => {
-            let outcome = run_job(rt, alloc, job, reader, writer, errors);
+            let outcome = run_job(rt, alloc, job, is_terminal, reader, writer, errors);
             end_run(alloc, outcome, errors)
         }
         Err(WordsFault::Usage(text)) => {

@@ -13,10 +13,9 @@ use Rattle.tl_checkpoint.specs.OpenCheckpoint.{IsSignedCheckpoint}
 use Rattle.tl_command.specs.ProofCommands.{CheckAboutComes}
 use Rattle.tl_command.specs.Run.{Output, Prints, Runs, CameOf, most_input}
 use Rattle.tl_command.specs.declared.fault.RunFault.{RunFault}
-use Rattle.tl_command.specs.declared.fault.RunFault.TheVariants.{Refused, Read, Write, TooLarge, EntryTooLong, BadOrigin, BadIndex, BadOld, BadPath, NotThere, Malformed, Chain, Sign, Operator, Listen, Accept, OutOfMemory, BadName, BadKey, BadCheckpoint, WrongSignature, Unverified, Busy}
-use Rattle.tl_open.specs.Open.{OpenComes, RunsOpen}
+use Rattle.tl_command.specs.declared.fault.RunFault.TheVariants.{Refused, Read, Write, TooLarge, EntryTooLong, BadOrigin, BadIndex, BadOld, BadPath, NotThere, Malformed, Chain, Sign, Operator, Listen, Accept, OutOfMemory, BadName, BadKey, BadCheckpoint, WrongSignature, Unverified, Busy, Fetch}
+use Rattle.tl_open.specs.Open.{OpenComes, RunsOpen, after_note}
 use Rattle.tl_open.specs.CheckOpened.{RunsUnder, RunsCheckOpened, subject_of}
-use Rattle.tl_open.specs.Inner.Notes.{after_note}
 use Rattle.tl_open.proofs.NoteBytes.{note_some}
 
 -- a run prints the text that is to come of its input
@@ -62,6 +61,7 @@ runs_open text k i o (Err Operator) spelled runs = record { key = k; spelled = s
 runs_open text k i o (Err Listen) spelled runs = record { key = k; spelled = spelled; fact = runs }
 runs_open text k i o (Err Accept) spelled runs = record { key = k; spelled = spelled; fact = runs }
 runs_open text k i o (Err Busy) spelled runs = record { key = k; spelled = spelled; fact = runs }
+runs_open text k i o (Err (Fetch fault)) spelled runs = record { key = k; spelled = spelled; fact = runs }
 runs_open text k i o (Err OutOfMemory) spelled runs = record { key = k; spelled = spelled; fact = (runs.0, runs.1) }
 runs_open text k i o (Err BadName) spelled runs = record { key = k; spelled = spelled; fact = runs }
 runs_open text k i o (Err BadKey) spelled runs = absurd runs.0.so
@@ -90,6 +90,7 @@ runs_under bytes keys entry c i o (Err Operator) signed runs = record { checkpoi
 runs_under bytes keys entry c i o (Err Listen) signed runs = record { checkpoint = c; signed = signed; runs = runs }
 runs_under bytes keys entry c i o (Err Accept) signed runs = record { checkpoint = c; signed = signed; runs = runs }
 runs_under bytes keys entry c i o (Err Busy) signed runs = record { checkpoint = c; signed = signed; runs = runs }
+runs_under bytes keys entry c i o (Err (Fetch fault)) signed runs = record { checkpoint = c; signed = signed; runs = runs }
 runs_under bytes keys entry c i o (Err OutOfMemory) signed runs = (runs.0, runs.1)
 runs_under bytes keys entry c i o (Err BadName) signed runs = record { checkpoint = c; signed = signed; runs = runs }
 runs_under bytes keys entry c i o (Err BadKey) signed runs = record { checkpoint = c; signed = signed; runs = runs }
@@ -118,6 +119,7 @@ runs_check_opened text bytes entry k i o (Err Operator) spelled runs = record { 
 runs_check_opened text bytes entry k i o (Err Listen) spelled runs = record { key = k; spelled = spelled; fact = runs }
 runs_check_opened text bytes entry k i o (Err Accept) spelled runs = record { key = k; spelled = spelled; fact = runs }
 runs_check_opened text bytes entry k i o (Err Busy) spelled runs = record { key = k; spelled = spelled; fact = runs }
+runs_check_opened text bytes entry k i o (Err (Fetch fault)) spelled runs = record { key = k; spelled = spelled; fact = runs }
 runs_check_opened text bytes entry k i o (Err OutOfMemory) spelled runs = record { key = k; spelled = spelled; fact = runs }
 runs_check_opened text bytes entry k i o (Err BadName) spelled runs = record { key = k; spelled = spelled; fact = runs }
 runs_check_opened text bytes entry k i o (Err BadKey) spelled runs = absurd runs.runs.0.so

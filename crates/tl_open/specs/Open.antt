@@ -3,6 +3,8 @@ use Rattle.std.specs.Prelude.{◌≡◌, ℕ, List, [], ◌∷◌, Some, Result,
 use Rattle.tl_hash.specs.Bytes.{Bytes}
 use Rattle.tl_note.specs.Key.{Key}
 use Rattle.tl_note.specs.Note.{Signature, Note, HasNoNote}
+use Rattle.tl_note.specs.declared.fault.NoteFault.{NoteFault}
+use Rattle.tl_note.specs.declared.fault.NoteFault.TheVariants as note
 use Rattle.tl_note.specs.Open.{Placed, Opened, counting_lines, first_wrong}
 use Rattle.tl_device.specs.Device.{Passage, IsSteady, IsUnread, IsUnwritten}
 use Rattle.tl_key.specs.NoteKey.{PublicKey, note_kind, verifier_key}
@@ -11,6 +13,14 @@ use Rattle.tl_command.specs.Run.{Output, Prints, PrintsRefusal, Fails, Runs}
 use Rattle.tl_command.specs.declared.fault.RunFault.{RunFault}
 use Rattle.tl_command.specs.declared.fault.RunFault.TheVariants.{Malformed, BadKey, WrongSignature, Unverified, OutOfMemory}
 use Rattle.tl_open.specs.Keys.{IsNoKey}
+
+-- a fault of opening a note, as one of the command
+abbrev pub after_note : NoteFault → RunFault
+after_note (note.Ambiguous place) = WrongSignature place
+after_note (note.InvalidSignature place) = WrongSignature place
+after_note note.Unverified = Unverified
+after_note note.OutOfMemory = OutOfMemory
+after_note fault = Malformed
 
 -- the bytes are a note of this text, which opens
 pub record IsOpened (keys : List Key) (bytes text : Bytes) : Type 0 where

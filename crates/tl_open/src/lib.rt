@@ -17,4 +17,4 @@ mod opening;
 pub use checking::run_check_opened;
 pub use keygen::run_keygen;
 pub use keys::{read_file, read_log_key, read_private_key};
-pub use opening::run_open;
+pub use opening::{note_refusal, run_open};

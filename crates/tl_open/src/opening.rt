@@ -5,8 +5,7 @@ ghost use Rattle.tl_command.specs.Run.{Runs};
 ghost use Rattle.tl_device.specs.Device.{passage};
 ghost use Rattle.tl_key.specs.NoteKey.{PublicKey, note_kind, verifier_key};
 ghost use Rattle.tl_key.specs.KeyText.{IsVerifierText};
-ghost use Rattle.tl_open.specs.Inner.Notes.{after_note};
-ghost use Rattle.tl_open.specs.Open.{OpenComes, RunsOpen};
+ghost use Rattle.tl_open.specs.Open.{OpenComes, RunsOpen, after_note};
 
 use crate::keys::read_log_key;
 use std::alloc::Global;
@@ -16,8 +15,9 @@ use tl_command::{MOST_INPUT, RunFault, print_text, read_input};
 use tl_device::Counted;
 use tl_note::{NoteFault, Verifier, open_note};
 
-// Why a note doesn't open.
-pub(crate) fn note_refusal(fault: NoteFault) -> RunFault
+/// Why a note doesn't open, as a fault of a command: `WrongSignature` has the place of the line, counted from 0; what is
+/// no note is `Malformed`.
+pub fn note_refusal(fault: NoteFault) -> RunFault
     ensures { result ≡ after_note fault }
 {
     match fault {

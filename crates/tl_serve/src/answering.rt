@@ -1,6 +1,5 @@
 //! How a thread answers connections.
 
-use crate::connection::Timed;
 use crate::door::Door;
 use crate::pages::Pages;
 use crate::saver::LineSaver;
@@ -10,7 +9,7 @@ use std::net::{Net, TcpStream};
 use std::sync::{Mutex, Wait};
 use std::time::{Clock, Instant, SystemTime, UNIX_EPOCH};
 use tl_command::RunFault;
-use tl_device::Counted;
+use tl_device::{Counted, Timed};
 use tl_server::{Witness, serve_witness};
 
 // Answers one connection to a log. A fault ends that connection alone.

@@ -9,7 +9,6 @@
 
 mod answering;
 mod append;
-mod connection;
 mod door;
 mod flags;
 mod following;

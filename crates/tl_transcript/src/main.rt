@@ -54,6 +54,7 @@ fn run_line<
         rt,
         alloc,
         words.as_slice(),
+        false,
         &mut reader,
         &mut writer,
         &mut errors,

@@ -1,7 +1,9 @@
 -- A consistency proof that a client makes.
-use Rattle.std.specs.Prelude.{◌≡◌, ℕ, List}
+use Rattle.std.specs.Prelude.{◌≡◌, ℕ, ◌-◌, List}
 use Rattle.tl_hash.specs.Bytes.{Bytes, Digest}
 use Rattle.tl_proof.specs.Proofs.{consistency_proof}
+use Rattle.tl_tile.specs.declared.resource.Resource.{Resource}
+use Rattle.tl_client.specs.Blame.{ServesBadTile, WantsTile}
 use Rattle.tl_client.specs.Refused.{HoldsByTiles, IsBetween}
 use Rattle.tl_client.specs.declared.fault.ClientFault.{ClientFault}
 use Rattle.tl_client.specs.declared.fault.ClientFault.TheVariants as client
@@ -10,13 +12,15 @@ use Rattle.tl_client.specs.declared.fault.ClientFault.TheVariants as client
 abbrev pub IsMadeProof : Digest → ℕ → ℕ → Bytes → List Bytes → Type 0
 IsMadeProof H old size root proof = HoldsByTiles H size root (λ all. proof ≡ consistency_proof H old all)
 
--- when a proof between sizes in range is not made, by the fault
-abbrev pub RefusesProof : ℕ → ℕ → ClientFault → Type 0
-RefusesProof old size client.Range = ⊥
-RefusesProof old size client.Unavailable = IsBetween old size
-RefusesProof old size (client.BadTile _ _ _) = IsBetween old size
-RefusesProof old size client.BadBundle = ⊥
-RefusesProof old size (client.BadEntry _) = ⊥
-RefusesProof old size client.Shrunk = ⊥
-RefusesProof old size client.Forked = ⊥
-RefusesProof old size client.OutOfMemory = IsBetween old size
+-- when a proof between sizes in range, to this root, is not made from a source, by the fault
+abbrev pub RefusesProof : (Resource → Bytes → Type 0) → (Resource → Type 0) → ℕ → ℕ → Bytes → ClientFault → Type 0
+RefusesProof answers lacks old size root client.Range = ⊥
+RefusesProof answers lacks old size root client.Unavailable =
+    IsBetween old size × WantsTile answers lacks size root (old - 1)
+RefusesProof answers lacks old size root (client.BadTile level index width) =
+    IsBetween old size × ServesBadTile answers size root (record { level = level; index = index; width = width })
+RefusesProof answers lacks old size root (client.BadBundle _) = ⊥
+RefusesProof answers lacks old size root (client.BadEntry _) = ⊥
+RefusesProof answers lacks old size root client.Shrunk = ⊥
+RefusesProof answers lacks old size root client.Forked = ⊥
+RefusesProof answers lacks old size root client.OutOfMemory = IsBetween old size

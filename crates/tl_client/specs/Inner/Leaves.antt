@@ -1,18 +1,15 @@
--- The leaves of a bundle's entries.
-use Rattle.std.specs.Prelude.{◌≡◌, ℕ, ◌+◌, ◌<◌, List, [], length, map, slice_index_or}
-use Rattle.std.specs.List.{range_with_len}
+-- Bundles, and the leaves of their entries.
+use Rattle.std.specs.Prelude.{◌≡◌, ℕ, ◌+◌, ◌<◌, List, [], length, slice_index_or}
+use Rattle.sha2.specs.Sha256.{sha256}
 use Rattle.tl_hash.specs.Bytes.{Bytes, Digest}
 use Rattle.tl_hash.specs.Tree.{leaf_input}
-use Rattle.tl_store.specs.Stored.{stored_index}
-use Rattle.sha2.specs.Sha256.{sha256}
-use Rattle.tl_tile.specs.declared.resource.Tile.{Tile}
+use Rattle.tl_tile.specs.declared.resource.Resource.{Resource}
+use Rattle.tl_tile.specs.declared.resource.Resource.TheVariants as resource
 use Rattle.tl_tile.specs.SourceFaults.{IsBadTile}
+use Rattle.tl_tile.specs.TileReader.{Reading}
+use Rattle.tl_client.specs.Blame.{AnswersNoBundle, LacksTile}
 use Rattle.tl_client.specs.declared.fault.ClientFault.{ClientFault}
 use Rattle.tl_client.specs.declared.fault.ClientFault.TheVariants as client
-
--- the numbers of the stored hashes of so many leaves, from this one on
-abbrev pub leaf_numbers : ℕ → ℕ → List ℕ
-leaf_numbers first count = map (λ i. stored_index 0 (first + i)) (range_with_len 0 count)
 
 -- each entry has its leaf hash
 abbrev pub HaveLeaves : Digest → List Bytes → List Bytes → Type 0
@@ -24,25 +21,26 @@ pub record IsOfOne (first count : ℕ) (fault : ClientFault) : Type 0 where
   pub below : place < count
   pub named : fault ≡ client.BadEntry (first + place)
 
--- a fault of fetching a bundle
-abbrev pub IsNoBundle : ClientFault → Type 0
-IsNoBundle client.Range = ⊥
-IsNoBundle client.Unavailable = Unit {0}
-IsNoBundle (client.BadTile level index width) = ⊥
-IsNoBundle client.BadBundle = Unit {0}
-IsNoBundle (client.BadEntry index) = ⊥
-IsNoBundle client.Shrunk = ⊥
-IsNoBundle client.Forked = ⊥
-IsNoBundle client.OutOfMemory = Unit {0}
+-- a fault of fetching a bundle of this index and width
+abbrev pub RefusesBundle : (Resource → Bytes → Type 0) → (Resource → Type 0) → ℕ → ℕ → ClientFault → Type 0
+RefusesBundle answers lacks bundle width client.Range = ⊥
+RefusesBundle answers lacks bundle width client.Unavailable = lacks (resource.Entries bundle width)
+RefusesBundle answers lacks bundle width (client.BadTile _ _ _) = ⊥
+RefusesBundle answers lacks bundle width (client.BadBundle index) =
+    (index ≡ bundle) × AnswersNoBundle answers bundle width
+RefusesBundle answers lacks bundle width (client.BadEntry _) = ⊥
+RefusesBundle answers lacks bundle width client.Shrunk = ⊥
+RefusesBundle answers lacks bundle width client.Forked = ⊥
+RefusesBundle answers lacks bundle width client.OutOfMemory = Unit {0}
 
--- a fault of reading leaf hashes that are in range, with the tiles that were fetched
-abbrev pub RefusesLeaves : ℕ → Bytes → List (Tile × Bytes) → ClientFault → Type 0
-RefusesLeaves size root fetched client.Range = ⊥
-RefusesLeaves size root fetched client.Unavailable = Unit {0}
-RefusesLeaves size root fetched (client.BadTile level index width) =
-    IsBadTile sha256 size root fetched (record { level = level; index = index; width = width })
-RefusesLeaves size root fetched client.BadBundle = ⊥
-RefusesLeaves size root fetched (client.BadEntry index) = ⊥
-RefusesLeaves size root fetched client.Shrunk = ⊥
-RefusesLeaves size root fetched client.Forked = ⊥
-RefusesLeaves size root fetched client.OutOfMemory = Unit {0}
+-- a fault of reading leaf hashes that are in range
+abbrev pub RefusesLeaves : (Resource → Type 0) → Reading → ClientFault → Type 0
+RefusesLeaves lacks read client.Range = ⊥
+RefusesLeaves lacks read client.Unavailable = LacksTile lacks read
+RefusesLeaves lacks read (client.BadTile level index width) =
+    IsBadTile sha256 read.size read.root read.fetched (record { level = level; index = index; width = width })
+RefusesLeaves lacks read (client.BadBundle _) = ⊥
+RefusesLeaves lacks read (client.BadEntry _) = ⊥
+RefusesLeaves lacks read client.Shrunk = ⊥
+RefusesLeaves lacks read client.Forked = ⊥
+RefusesLeaves lacks read client.OutOfMemory = Unit {0}

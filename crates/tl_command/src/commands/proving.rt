@@ -2,7 +2,7 @@
 
 ghost use Rattle.std.specs.Prelude.{◌≡◌, ◌<◌, ◌≤◌, ◌^◌, length, map, vec_items, IfOk, IfErr};
 ghost use Rattle.tl_device.specs.Device.{passage};
-ghost use Rattle.tl_command.specs.Inner.Shown.{inclusion_shown, consistency_shown};
+ghost use Rattle.tl_command.specs.ProofShown.{inclusion_shown, consistency_shown};
 ghost use Rattle.tl_command.specs.ProofCommands.{inclusion_of, InclusionComes, consistency_of, ConsistencyComes};
 ghost use Rattle.tl_command.specs.Run.{Runs};
 

@@ -1,11 +1,11 @@
 //! The words of the commands that serve.
 
 use super::{
-    EITHER_KEY, Job, WordsFault, log_key_if_one, option, required, text_if_given, text_of, texts,
-    unfit,
+    EITHER_KEY, Job, TIMEOUT, WordsFault, flag, log_key_if_one, option, optional, required,
+    text_if_given, text_of, texts, timeout, unfit,
 };
 use crate::options::{CosignerKey, KnownKey, ListenOptions, ServeOptions, WitnessOptions};
-use clap::{Arg, ArgAction, ArgMatches, Command, value_parser};
+use clap::{ArgMatches, Command, value_parser};
 use std::alloc::{AllocError, Global};
 
 // What an option is where it is left out.
@@ -14,21 +14,6 @@ const LANES: u64 = 1;
 const CAPACITY: u64 = 256;
 
 const BATCH: u64 = 256;
-
-const TIMEOUT: u64 = 10;
-
-// An option that is a flag.
-fn flag<'a>(alloc: Global, name: &'a str, help: &'a str) -> Arg<'a> {
-    Arg::new(alloc, name)
-        .long(name)
-        .help(help)
-        .action(ArgAction::SetTrue)
-}
-
-// An option with a number.
-fn optional<'a>(alloc: Global, name: &'a str, help: &'a str) -> Arg<'a> {
-    option(alloc, name, "N", help).value_parser(value_parser!(u64))
-}
 
 // What is said where a note and a folder are given.
 const ONE_BASE: &str = "--note and --dir are not given together";
@@ -41,17 +26,12 @@ fn server<'a>(alloc: Global, command: Command<'a>) -> Result<Command<'a>, AllocE
     let threads = optional(alloc, "threads", "How many threads answer at once").value_parser(
         value_parser!(u64).range(1..=63),
     );
-    let timeout = optional(
-        alloc,
-        "timeout",
-        "How many seconds one connection may take in all",
-    )
-    .value_parser(value_parser!(u64).range(1..=86_400));
+    let seconds = "How many seconds one connection may take in all";
     command
         .arg(required(alloc, "listen", "ADDRESS", "The address to listen at"))?
         .arg(connections)?
         .arg(threads)?
-        .arg(timeout)?
+        .arg(timeout(alloc, seconds))?
         .arg(flag(alloc, "quiet", "Tell the address alone"))
 }
 

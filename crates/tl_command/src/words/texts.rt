@@ -105,3 +105,18 @@ clock for the time of a cosignature.
 Exit status: 0 done; 1 refused (a bad key, a bad origin, a bad name, line K of the input refused, in use, out of
 memory); 2 wrong arguments or a call for help; 3 a read, a write, the address or an accept failed. A refusal is one line
 'tlog: ..' on standard error.";
+
+pub(super) const FETCH: &str =
+    "Fetches the log's checkpoint, tiles and entry bundles (C2SP tlog-tiles) from a folder or over HTTP, and trusts none
+of them: the checkpoint opens under the log's key (C2SP signed-note, tlog-checkpoint), so many of the witnesses cosigned
+it (tlog-cosignature), it extends the one in the file of --state by a consistency proof, and tiles and entries are those
+of its root (RFC 6962). A checkpoint that passes is kept in that file, with --all once the entries are printed.
+Output: with --head three lines, the log's name, its size and its root; with --index the entry and a newline; with --all
+every entry from the state's size on, one a line, each checked before it is printed; with --prove the text that 'tlog
+check' reads. Where the log shrank or forked, both checkpoints: the state's and the new one.
+Defaults: --need all witnesses that are given, --timeout 10. With --cache tiles that passed are kept in that folder, and
+checked again when they are read.
+Exit status: 0 done; 1 refused (a bad key, a bad address, no checkpoint that opens, checkpoint of another log, cosigned
+by N witnesses, no entry at the index, a tile, a bundle or an entry wrong, log shrank, log forked, bad state, out of
+memory); 2 wrong arguments or a call for help; 3 not available, or a read or a write failed. A refusal is one line
+'tlog: ..' on standard error.";

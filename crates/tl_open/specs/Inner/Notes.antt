@@ -2,7 +2,6 @@
 use Rattle.std.specs.Prelude.{List, Result, Ok, Err}
 use Rattle.tl_hash.specs.Bytes.{Bytes}
 use Rattle.tl_note.specs.Key.{Key}
-use Rattle.tl_note.specs.declared.fault.NoteFault.{NoteFault}
 use Rattle.tl_note.specs.declared.fault.NoteFault.TheVariants as note
 use Rattle.tl_checkpoint.specs.declared.checkpoint.Checkpoint.{Checkpoint}
 use Rattle.tl_checkpoint.specs.declared.opening.OpenCheckpointFault.{OpenCheckpointFault}
@@ -10,17 +9,9 @@ use Rattle.tl_checkpoint.specs.declared.opening.OpenCheckpointFault.TheVariants 
 use Rattle.tl_checkpoint.specs.Checkpoint.{head_of}
 use Rattle.tl_checkpoint.specs.OpenCheckpoint.{IsSignedCheckpoint}
 use Rattle.tl_command.specs.declared.fault.RunFault.{RunFault}
-use Rattle.tl_command.specs.declared.fault.RunFault.TheVariants.{Malformed, BadCheckpoint, WrongSignature, Unverified, OutOfMemory}
-use Rattle.tl_open.specs.Open.{IsWrongNote, IsUnknownNote}
+use Rattle.tl_command.specs.declared.fault.RunFault.TheVariants.{BadCheckpoint, WrongSignature, Unverified, OutOfMemory}
+use Rattle.tl_open.specs.Open.{after_note, IsWrongNote, IsUnknownNote}
 use Rattle.tl_open.specs.CheckOpened.{IsNoCheckpoint}
-
--- a fault of opening a note, as one of the command
-abbrev pub after_note : NoteFault → RunFault
-after_note (note.Ambiguous place) = WrongSignature place
-after_note (note.InvalidSignature place) = WrongSignature place
-after_note note.Unverified = Unverified
-after_note note.OutOfMemory = OutOfMemory
-after_note fault = Malformed
 
 -- a fault of opening a checkpoint, as one of the command
 abbrev pub after_opening : OpenCheckpointFault → RunFault

@@ -1,6 +1,11 @@
+use Rattle.std.proofs.Common.{◌-◌, arith}
+use Rattle.std.proofs.lemmas.Result.{err_from_is_err_and}
 use Rattle.sha2.specs.Sha256.{sha256}
+use Rattle.tl_proof.specs.Needs.{consistency_needs}
 use Rattle.tl_proof.specs.Proofs.{consistency_proof}
+use Rattle.tl_proof.specs.ProveFaults.{IsOldSize}
 use Rattle.tl_client.proofs.Apart.{made_for}
+use Rattle.tl_client.proofs.Blamed.{consistency_most, kept_refused, proof_refused}
 use Rattle.tl_client.proofs.growth.proof_between.Goals as goal
 
 pub returns-clause-made : goal.returns-clause-made
@@ -10,3 +15,14 @@ returns-clause-made g c between = (
   made_for sha256 c.args.size c.args.root c.read_leaves.new.fetched c.in_ok-proof.proof.items (consistency_proof sha256 c.args.old)
       c.requires.limit (rw (c.new-reader.ensures) at c.in_ok-proof.ensures.proof),
 )
+
+pub returns-in_err-proof-clause-refused : goal.returns-in_err-proof-clause-refused
+returns-in_err-proof-clause-refused g c =
+    let p = err_from_is_err_and c.from_residual-in_err-proof.result c.from_residual-in_err-proof.ensures.1 in
+    rw (p.1, p.2)
+    (proof_refused (g.S.ResourceSource.may_answer c.args.source.now) (g.S.ResourceSource.may_lack c.args.source.now) c.args.old c.args.size c.args.root _
+    (record { some = omega (arith, c.if-old-eq0.false); more = omega (arith, c.if-old-size.false, c.requires.order) })
+    (kept_refused (g.S.ResourceSource.may_answer c.args.source.now) (g.S.ResourceSource.may_lack c.args.source.now) (IsOldSize c.args.size c.args.old) c.args.size c.args.root (c.args.old - 1)
+    (consistency_needs c.args.size c.args.old) c.read_leaves.new.fetched _ c.in_err-proof.field-0.0 (c.requires.order, c.requires.limit) c.requires.limit (consistency_most c.args.size c.args.old)
+    (record { served = c.read_leaves.ensures.served; verified = c.in_ok-_leaf.ensures.verified; authentic = c.in_ok-_leaf.ensures.authentic })
+    (rw (c.new-reader.ensures) at c.in_err-proof.ensures.faults)))

@@ -1,6 +1,10 @@
 use Rattle.std.proofs.Common.{refl}
+use Rattle.std.proofs.lemmas.Result.{err_from_is_err_and}
 use Rattle.sha2.specs.Sha256.{sha256}
+use Rattle.tl_proof.specs.Needs.{inclusion_needs}
+use Rattle.tl_proof.specs.ProveFaults.{IsIndex}
 use Rattle.tl_client.proofs.Apart.{false_is_not_true, other_leaf}
+use Rattle.tl_client.proofs.Blamed.{entry_refused, inclusion_most, kept_refused}
 use Rattle.tl_client.proofs.inclusion.prove_entry.Goals as goal
 
 pub returns-then-not-check_record-clause-refused : goal.returns-then-not-check_record-clause-refused
@@ -11,3 +15,15 @@ returns-then-not-check_record-clause-refused g c =
       other_leaf sha256 c.args.size c.args.root c.args.index c.args.leaf c.read_leaves.new.fetched c.in_ok-proof.proof.items inside c.in_ok-_leaf.ensures.verified
           (rw (c.new-reader.ensures) at c.in_ok-proof.ensures.path) (λ accepted. false_is_not_true ((rw (c.deref.ensures.value) at c.if-not-check_record.ensures).1 accepted)),
     )
+
+pub returns-in_err-proof-clause-refused : goal.returns-in_err-proof-clause-refused
+returns-in_err-proof-clause-refused g c =
+    let p = err_from_is_err_and c.from_residual-in_err-proof.result c.from_residual-in_err-proof.ensures.1 in
+    let inside : IsIndex c.args.size c.args.index = c.if-not-is_index.ensures.0 refl in
+    rw (p.1, p.2)
+    (entry_refused (g.S.ResourceSource.may_answer c.args.source.now) (g.S.ResourceSource.may_lack c.args.source.now)
+    (record { size = c.args.size; root = c.args.root; index = c.args.index; leaf = c.args.leaf }) _ inside
+    (kept_refused (g.S.ResourceSource.may_answer c.args.source.now) (g.S.ResourceSource.may_lack c.args.source.now) (IsIndex c.args.size c.args.index) c.args.size c.args.root c.args.index
+    (inclusion_needs c.args.size c.args.index) c.read_leaves.new.fetched _ c.in_err-proof.field-0.0 inside inside.1 (inclusion_most c.args.size c.args.index inside.0)
+    (record { served = c.read_leaves.ensures.served; verified = c.in_ok-_leaf.ensures.verified; authentic = c.in_ok-_leaf.ensures.authentic })
+    (rw (c.new-reader.ensures) at c.in_err-proof.ensures.faults)))

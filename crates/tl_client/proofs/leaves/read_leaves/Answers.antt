@@ -7,7 +7,7 @@ pub returns-in_err-leaves-clause-refused : goal.returns-in_err-leaves-clause-ref
 returns-in_err-leaves-clause-refused g c =
     let p = err_from_is_err_and c.from_residual-in_err-leaves.result c.from_residual-in_err-leaves.ensures.1 in
     rw (p.1, p.2)
-    (leaves_fault c.args.size c.args.root c.args.first c.args.count c.deref.result.now c.read_checked.new.fetched c.in_err-leaves.field-0.0 (c.deref.ensures.value ∙ c.in_ok-numbers.ensures) c.requires.inside
+    (leaves_fault (g.S.ResourceSource.may_lack c.args.source.now) c.args.size c.args.root c.args.first c.args.count c.deref.result.now c.read_checked.new.fetched c.in_err-leaves.field-0.0 (c.deref.ensures.value ∙ c.in_ok-numbers.ensures) c.requires.inside
     c.requires.limit (rw (c.new-reader.ensures) at c.in_err-leaves.ensures.faults))
 
 pub returns-clause-verified : goal.returns-clause-verified

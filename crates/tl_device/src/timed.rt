@@ -1,27 +1,36 @@
 //! A connection that has to end in time.
 
+ghost use Rattle.std.specs.Prelude.{◌≡◌};
+
 use std::io;
 use std::io::{Read, Write};
+use std::marker::Model;
 use std::net::TcpStream;
 use std::time::{Clock, Duration, Instant};
 
-/// A connection, and how long it may take in all.
+/// A connection, and how long it may take in all: a read or a write fails once no time is left. Contracts see the time
+/// that it may take.
 #[derive(Drop)]
-pub(crate) struct Timed<'s, H: Clock> {
+pub struct Timed<'s, H: Clock> {
     rt: &'s H,
     stream: &'s TcpStream,
     start: Instant,
     limit: Duration,
 }
 
+impl<'s, H: Clock> Model for Timed<'s, H> {
+    ghost use Rattle.std.specs.declared.time.Duration.{Duration};
+
+    ghost Value = { Duration };
+
+    ghost view = { λ c. c.limit };
+}
+
 impl<'s, H: Clock> Timed<'s, H> {
-    /// A connection that began at `start`.
-    pub(crate) fn new(
-        rt: &'s H,
-        stream: &'s TcpStream,
-        start: Instant,
-        limit: Duration,
-    ) -> Timed<'s, H> {
+    /// A connection that began at `start`, and that may take `limit` from then on.
+    pub fn new(rt: &'s H, stream: &'s TcpStream, start: Instant, limit: Duration) -> Timed<'s, H>
+        ensures { result ≡ limit }
+    {
         Timed {
             rt,
             stream,

@@ -1,0 +1,4 @@
+pub mod EntryLemmas
+pub mod Passages
+pub mod ListingLemmas
+pub mod RunLemmas

@@ -1,0 +1,16 @@
+use Rattle.std.proofs.Common.{subst, sym}
+use Rattle.tl_device.specs.Device.{passage}
+use Rattle.tl_command.specs.declared.options.Wanted.{Wanted}
+use Rattle.tl_fetch.specs.Printed.{IsWanted, PrintedWhole}
+use Rattle.tl_fetch.proofs.Passages.{on_err}
+use Rattle.tl_fetch.proofs.RunLemmas.{some_of_whole}
+use Rattle.tl_fetch.proofs.run.print_and_keep.Goals as goal
+
+pub returns-in-All-clause-part : goal.returns-in-All-clause-part
+returns-in-All-clause-part g c =
+    let origin = c.args.policy.now.origin.now in
+    let known = c.args.step.now.old.now.size in
+    let head = c.args.step.now.new.now in
+    let o = passage g.W.Write.contents c.args.writer.now c.print_entries.new.writer in
+    on_err _ (some_of_whole origin known head c.args.wanted o
+    (subst (λ (w : Wanted). PrintedWhole (IsWanted origin known head w) o) (sym c.in-All.is) c.in_ok-print_entries.ensures.printed))

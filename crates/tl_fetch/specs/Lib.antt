@@ -1,0 +1,9 @@
+-- The definitions of fetching from a log that isn't trusted.
+pub mod Faults
+pub mod Trusting
+pub mod Opening
+pub mod Entries
+pub mod Printed
+pub mod Fetching
+pub mod Command
+pub mod Inner

@@ -1,0 +1,23 @@
+//! Keeping tiles that passed their checks.
+
+use crate::observer::Observer;
+use std::alloc::{Allocator, Global};
+use std::fs::Files;
+use tl_client::Head;
+use tl_source::TileCache;
+use tl_tile::FetchedTiles;
+
+/// A cache where tiles are kept that passed their checks, and who is told of them then.
+#[derive(Drop)]
+pub(crate) struct Caching<'c, H: Files, O> {
+    pub(crate) alloc: Global,
+    pub(crate) cache: TileCache<'c, H>,
+    pub(crate) then: O,
+}
+
+impl<H: Files, O: Observer> Observer for Caching<'_, H, O> {
+    fn checked<A: Allocator>(&mut self, head: &Head, tiles: &FetchedTiles<A>, next: u64) {
+        let _ = self.cache.keep(self.alloc, tiles);
+        self.then.checked(head, tiles, next);
+    }
+}

@@ -1,0 +1,190 @@
+//! The command `fetch`.
+
+ghost use Rattle.std.specs.Prelude.{◌≡◌, ◌<◌, ◌∷◌, [], string_bytes, IfErr, IfOk, MatchOption, length, map, vec_items};
+ghost use Rattle.tl_device.specs.Device.{passage};
+ghost use Rattle.tl_key.specs.KeyText.{IsVerifierText};
+ghost use Rattle.tl_key.specs.NoteKey.{PublicKey, cosignature_kind, note_kind, verifier_key};
+ghost use Rattle.tl_key.specs.Reading.{IsNoVerifierText};
+ghost use Rattle.tl_fetch.specs.Command.{IsKeyFault, RunsFetch, RunsUnder};
+ghost use Rattle.tl_fetch.specs.Faults.{IsNoAccusation};
+ghost use Rattle.tl_fetch.specs.Trusting.{policy_of};
+
+use crate::caching::Caching;
+use crate::observer::Observer;
+use crate::policy::Policy;
+use crate::progress::Progress;
+use crate::run::fetch_under;
+use crate::state::NoState;
+use crate::state_file::{FileState, file_refusal};
+use std::alloc::{AllocError, Global};
+use std::fs::{File, Files};
+use std::io::Write;
+use std::net::{Net, TcpStream};
+use std::time::{Clock, Duration};
+use tl_client::ResourceSource;
+use tl_command::{FetchFault, FetchOptions, RunFault};
+use tl_device::Counted;
+use tl_folder::WholeFile;
+use tl_key::{CosignerVerifier, KeyFault, read_verifier_key};
+use tl_note::Verifier;
+use tl_open::read_log_key;
+use tl_source::{AnySource, CachedSource, FolderSource, HttpSource, TileCache, Url};
+
+// The source that the options name: what has a scheme is an address, and all else a folder.
+fn source_of<'s, H: Files + Net<Stream = TcpStream> + Clock>(
+    rt: &'s H,
+    alloc: Global,
+    options: &'s FetchOptions,
+) -> Result<AnySource<'s, H>, RunFault>
+    ensures { IfErr result IsNoAccusation }
+{
+    let from = options.from.as_str();
+    if !from.contains("://") {
+        return Ok(AnySource::Folder(FolderSource::new(rt, alloc, from)));
+    }
+    let Some(url) = Url::parse(from) else {
+        return Err(RunFault::Fetch(FetchFault::BadAddress));
+    };
+    let limit = Duration::from_secs(options.timeout);
+    Ok(AnySource::Http(HttpSource::new(rt, alloc, url, limit)))
+}
+
+// The verifier's key of a witness that a text is of, if it is of one.
+fn read_witness(alloc: Global, text: &str) -> Result<Option<CosignerVerifier<Global>>, AllocError>
+    ensures { IfOk result (λ found. MatchOption found
+        (IsNoVerifierText cosignature_kind text.now)
+        (λ k. IsVerifierText cosignature_kind text.now k)) }
+{
+    match read_verifier_key(alloc, text) {
+        Ok(key) => Ok(Some(key)),
+        Err(KeyFault::OutOfMemory) => Err(AllocError),
+        Err(_) => Ok(None),
+    }
+}
+
+// The verifier's key of the witness at this place.
+fn witness_key(
+    alloc: Global,
+    options: &FetchOptions,
+    place: usize,
+) -> Result<CosignerVerifier<Global>, RunFault>
+    requires { place < length (vec_items options.now.witnesses) }
+    ensures refused { IfErr result (IsKeyFault options.now) }
+{
+    match read_witness(alloc, options.witnesses[place].as_str())? {
+        Some(key) => Ok(key),
+        None => Err(RunFault::Fetch(FetchFault::BadWitness(place as u64))),
+    }
+}
+
+// Fetches with the state in a file, if one is named.
+fn fetch_with_state<H: Files<File = File>, S: ResourceSource, O: Observer, W: Write>(
+    rt: &H,
+    alloc: Global,
+    source: &S,
+    policy: &Policy<'_>,
+    options: &FetchOptions,
+    observer: &mut O,
+    writer: &mut Counted<W>,
+) -> Result<(), RunFault>
+    ensures { RunsUnder (policy_of policy.now.origin.now (map (λ v. key v) policy.now.log.now) (map (λ w. key w) policy.now.witnesses.now) policy.now.need) options.now (passage W.contents writer.old writer.new) result }
+{
+    let wanted = options.wanted;
+    let Some(path) = &options.state else {
+        return fetch_under(
+            alloc,
+            source,
+            policy,
+            wanted,
+            &mut NoState,
+            observer,
+            writer,
+        );
+    };
+    let file = match WholeFile::open(rt, alloc, path.as_str()) {
+        Ok(file) => file,
+        Err(fault) => return Err(file_refusal(fault)),
+    };
+    let mut state = FileState(file);
+    fetch_under(alloc, source, policy, wanted, &mut state, observer, writer)
+}
+
+// Fetches from the source that is named, and before it from the cache of tiles, if one is named.
+fn fetch_as_asked<'s, H: Files<File = File> + Net<Stream = TcpStream> + Clock, W: Write, E: Write>(
+    rt: &'s H,
+    alloc: Global,
+    policy: &Policy<'_>,
+    options: &'s FetchOptions,
+    writer: &mut Counted<W>,
+    errors: &'s mut Counted<E>,
+    is_terminal: bool,
+) -> Result<(), RunFault>
+    ensures { RunsUnder (policy_of policy.now.origin.now (map (λ v. key v) policy.now.log.now) (map (λ w. key w) policy.now.witnesses.now) policy.now.need) options.now (passage W.contents writer.old writer.new) result }
+{
+    let source = match source_of(rt, alloc, options) {
+        Ok(source) => source,
+        Err(fault) => return Err(fault),
+    };
+    let mut progress = Progress::new(alloc, errors, is_terminal);
+    let Some(folder) = &options.cache else {
+        return fetch_with_state(rt, alloc, &source, policy, options, &mut progress, writer);
+    };
+    let folder = folder.as_str();
+    let cache = FolderSource::new(rt, alloc, folder);
+    let mut caching = Caching {
+        alloc,
+        cache: TileCache::new(rt, folder),
+        then: progress,
+    };
+    let source = CachedSource::new(alloc, &cache, &source);
+    fetch_with_state(rt, alloc, &source, policy, options, &mut caching, writer)
+}
+
+// The same, where the policy is the one that the options tell.
+fn fetch_as_told<'s, H: Files<File = File> + Net<Stream = TcpStream> + Clock, W: Write, E: Write>(
+    rt: &'s H,
+    alloc: Global,
+    policy: &Policy<'_>,
+    options: &'s FetchOptions,
+    writer: &mut Counted<W>,
+    errors: &'s mut Counted<E>,
+    is_terminal: bool,
+) -> Result<(), RunFault>
+    requires { (k : PublicKey) × IsVerifierText note_kind (string_bytes options.now.key) k × (policy.now.origin.now ≡ k.name) × (map (λ v. key v) policy.now.log.now ≡ verifier_key k ∷ []) × (policy.now.need ≡ options.now.need) }
+    ensures { RunsFetch options.now (passage W.contents writer.old writer.new) result }
+{
+    match fetch_as_asked(rt, alloc, policy, options, writer, errors, is_terminal) {
+        Ok(()) => Ok(()),
+        Err(fault) => Err(fault),
+    }
+}
+
+/// `fetch`: reads the keys of the log and of the witnesses (C2SP signed-note, "Verifier keys"), and fetches what is
+/// wanted from the folder or over HTTP as `fetch_under` does, of the log with the name of its key. Where `errors` goes
+/// to a terminal, it is told how far the checks are.
+pub fn run_fetch<'s, H: Files<File = File> + Net<Stream = TcpStream> + Clock, W: Write, E: Write>(
+    rt: &'s H,
+    alloc: Global,
+    options: &'s FetchOptions,
+    writer: &mut Counted<W>,
+    errors: &'s mut Counted<E>,
+    is_terminal: bool,
+) -> Result<(), RunFault>
+    ensures { RunsFetch options.now (passage W.contents writer.old writer.new) result }
+{
+    let key = read_log_key(alloc, options.key.as_str())?;
+    let origin = String::from_str(alloc, key.name())?;
+    let log: Box<dyn Verifier> = Box::new(alloc, key)?;
+    let mut witnesses: Vec<Box<dyn Verifier>> = Vec::new(alloc);
+    for place in 0..options.witnesses.len() {
+        let key = witness_key(alloc, options, place)?;
+        witnesses.push(Box::new(alloc, key)?)?;
+    }
+    let policy = Policy {
+        origin: origin.as_str(),
+        log: &[log],
+        witnesses: witnesses.as_slice(),
+        need: options.need,
+    };
+    fetch_as_told(rt, alloc, &policy, options, writer, errors, is_terminal)
+}

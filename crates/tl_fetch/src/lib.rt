@@ -1,0 +1,33 @@
+//! Fetching from a log that isn't trusted: its checkpoint, its entries and proofs of them, each of them checked, and a
+//! state of what was trusted last.
+//!
+//! ```
+//! let head = open_trusted(alloc, &policy, note)?; // signed by the log, and cosigned by enough witnesses
+//! let entry = fetch_entry(alloc, &source, head, 7)?;
+//! ```
+#![tactic(auto)]
+
+mod caching;
+mod command;
+mod entry;
+mod faults;
+mod listing;
+mod observer;
+mod opening;
+mod policy;
+mod printing;
+mod progress;
+mod run;
+mod state;
+mod state_file;
+
+pub use command::run_fetch;
+pub use entry::fetch_entry;
+pub use listing::print_entries;
+pub use observer::Observer;
+pub use opening::{known_head, open_trusted};
+pub use policy::Policy;
+pub use printing::{print_entry, print_head, print_proof};
+pub use run::fetch_under;
+pub use state::{NoState, StateKeeper};
+pub use state_file::FileState;

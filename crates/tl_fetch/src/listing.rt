@@ -1,0 +1,104 @@
+//! Printing entries, a bundle at a time.
+
+ghost use Rattle.std.specs.Prelude.{◌≡◌, ℕ, ◌<◌, ◌≤◌, ◌++◌, ◌/◌, IfErr, IfOk, OnErr, OnOk, map, vec_items};
+ghost use Rattle.tl_command.specs.Lines.{lines_text};
+ghost use Rattle.tl_device.specs.Device.{passage};
+ghost use Rattle.tl_fetch.specs.Entries.{AreLinesBetween, RefusesBundle};
+ghost use Rattle.tl_fetch.specs.Printed.{FailsPrinting, PrintedSome, PrintedWhole, RefusesAll};
+
+use crate::faults::client_refusal;
+use crate::observer::Observer;
+use std::alloc::{AllocError, Allocator};
+use std::io::Write;
+use tl_client::{Head, ResourceSource, read_entries};
+use tl_command::{RunFault, print_text};
+use tl_device::Counted;
+use tl_tile::FetchedTiles;
+
+// Appends entries, one a line.
+fn push_lines<A: Allocator, B: Allocator>(
+    out: &mut Vec<u8, A>,
+    entries: &[Vec<u8, B>],
+) -> Result<(), AllocError>
+    ensures { OnOk result (out.new.items ≡ out.old.items ++ lines_text (map vec_items entries.now)) }
+{
+    for entry in entries {
+        out.extend_from_slice(entry.as_slice())?;
+        out.push(b'\n')?;
+    }
+    Ok(())
+}
+
+// The entries from this index on to the end of its bundle, one a line, and the index after them.
+fn lines_from<S: ResourceSource, A: Allocator + Copy, O: Observer>(
+    alloc: A,
+    source: &S,
+    head: &Head,
+    from: u64,
+    observer: &mut O,
+) -> Result<(Vec<u8, A>, u64), RunFault>
+    requires { from < head.now.size }
+    ensures lines { IfOk result (λ r. AreLinesBetween head.now from r.1 r.0.items) }
+    ensures further { IfOk result (λ r. from < r.1) }
+    ensures within { IfOk result (λ r. r.1 ≤ head.now.size) }
+    ensures refused { IfErr result (FailsPrinting (RefusesBundle (S.may_answer source.now) (S.may_lack source.now) head.now (from / 256))) }
+{
+    let Head { size, root } = *head;
+    let mut fetched = FetchedTiles::new(alloc);
+    let entries = match read_entries(alloc, source, size, root, from / 256, &mut fetched) {
+        Ok(entries) => entries,
+        Err(fault) => return Err(client_refusal(fault)),
+    };
+    let rest = &entries[(from % 256) as usize..];
+    let next = from + rest.len() as u64;
+    let mut text = Vec::new(alloc);
+    push_lines(&mut text, rest)?;
+    observer.checked(head, &fetched, next);
+    Ok((text, next))
+}
+
+// Prints the entries from this index on to the end of its bundle, and gives the index after them.
+fn print_bundle<S: ResourceSource, A: Allocator + Copy, O: Observer, W: Write>(
+    alloc: A,
+    source: &S,
+    head: &Head,
+    from: u64,
+    observer: &mut O,
+    writer: &mut Counted<W>,
+) -> Result<u64, RunFault>
+    requires { from < head.now.size }
+    ensures printed { IfOk result (λ next. PrintedWhole (AreLinesBetween head.now from next) (passage W.contents writer.old writer.new)) }
+    ensures further { IfOk result (λ next. from < next) }
+    ensures within { IfOk result (λ next. next ≤ head.now.size) }
+    ensures part { OnErr result (PrintedSome (λ text. (upto : ℕ) × AreLinesBetween head.now from upto text) (passage W.contents writer.old writer.new)) }
+    ensures refused { IfErr result (FailsPrinting (RefusesBundle (S.may_answer source.now) (S.may_lack source.now) head.now (from / 256))) }
+{
+    let (text, next) = lines_from(alloc, source, head, from, observer)?;
+    print_text(writer, text.as_slice())?;
+    Ok(next)
+}
+
+/// Prints the entries from this index on, counted from 0, up to the end of a log of this size and root, a line each.
+/// Each is checked as by `fetch_entry`, and nothing is printed of a bundle that doesn't pass its check. `BadIndex`
+/// comes where the index is above the size, or the log has more than 2^62 entries.
+pub fn print_entries<S: ResourceSource, A: Allocator + Copy, O: Observer, W: Write>(
+    alloc: A,
+    source: &S,
+    head: &Head,
+    from: u64,
+    observer: &mut O,
+    writer: &mut Counted<W>,
+) -> Result<(), RunFault>
+    ensures printed { OnOk result (PrintedWhole (AreLinesBetween head.now from head.now.size) (passage W.contents writer.old writer.new)) }
+    ensures part { OnErr result (PrintedSome (λ text. (upto : ℕ) × AreLinesBetween head.now from upto text) (passage W.contents writer.old writer.new)) }
+    ensures refused { IfErr result (RefusesAll (S.may_answer source.now) (S.may_lack source.now) head.now from) }
+{
+    if from > head.size {
+        return Err(RunFault::BadIndex);
+    }
+    let mut next = from;
+    while next < head.size {
+        next = print_bundle(alloc, source, head, next, observer, writer)?;
+    }
+    Ok(())
+}

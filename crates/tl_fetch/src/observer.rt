@@ -1,0 +1,16 @@
+//! Who is told of what passed its checks.
+
+use std::alloc::Allocator;
+use tl_client::Head;
+use tl_tile::FetchedTiles;
+
+/// Who is told of what passed its checks: of tiles, and of the entries that were checked by them.
+pub trait Observer {
+    ghost use Rattle.sha2.specs.Sha256.{sha256};
+    ghost use Rattle.tl_tile.specs.Verified.{AreVerified};
+
+    /// These tiles passed all checks against a size and a root, and so did the entries before `next` that were asked
+    /// for.
+    fn checked<A: Allocator>(&mut self, head: &Head, tiles: &FetchedTiles<A>, next: u64)
+        requires { AreVerified sha256 head.now.size head.now.root tiles.now };
+}

@@ -1,0 +1,55 @@
+//! Telling a terminal how far the checks are.
+
+use crate::observer::Observer;
+use std::alloc::{Allocator, Global};
+use std::io::Write;
+use tl_client::Head;
+use tl_command::{RunFault, print_text};
+use tl_device::Counted;
+use tl_tile::FetchedTiles;
+
+/// Standard error, which is told how far the checks are where it is a terminal.
+#[derive(Drop)]
+pub(crate) struct Progress<'e, E> {
+    alloc: Global,
+    errors: &'e mut Counted<E>,
+    is_terminal: bool,
+    tiles: u64,
+}
+
+impl<'e, E: Write> Progress<'e, E> {
+    /// Of no tile yet.
+    pub(crate) fn new(
+        alloc: Global,
+        errors: &'e mut Counted<E>,
+        is_terminal: bool,
+    ) -> Progress<'e, E> {
+        Progress {
+            alloc,
+            errors,
+            is_terminal,
+            tiles: 0,
+        }
+    }
+
+    // Tells how far the checks are, on one line that is written anew.
+    fn tell(&mut self, head: &Head, next: u64) -> Result<(), RunFault> {
+        if !self.is_terminal {
+            return Ok(());
+        }
+        let (tiles, size) = (self.tiles, head.size);
+        let end = if next == size { "\n" } else { "" };
+        let alloc = self.alloc;
+        let line = format!(in alloc;
+            "\r{tiles} tiles fetched, {next} of {size} entries checked{end}"
+        )?;
+        print_text(self.errors, line.as_bytes())
+    }
+}
+
+impl<E: Write> Observer for Progress<'_, E> {
+    fn checked<A: Allocator>(&mut self, head: &Head, tiles: &FetchedTiles<A>, next: u64) {
+        self.tiles = self.tiles.saturating_add(tiles.as_slice().len() as u64);
+        let _ = self.tell(head, next);
+    }
+}

@@ -1,0 +1,207 @@
+//! Fetching from any source, whoever keeps the state.
+
+ghost use Rattle.std.specs.Prelude.{◌≡◌, ◌++◌, IfErr, MatchBool, OnErr, OnOk, map, option_map};
+ghost use Rattle.tl_client.specs.Refused.{RefusesGrowth};
+ghost use Rattle.tl_device.specs.Device.{IsUnwritten, passage};
+ghost use Rattle.tl_fetch.specs.Faults.{IsNoAccusation, after_client};
+ghost use Rattle.tl_fetch.specs.Fetching.{HasFetched, RefusesFetch, evidence_text};
+ghost use Rattle.tl_fetch.specs.Inner.Judging.{IsOfGrowth, RefusesTwo, two_of};
+ghost use Rattle.tl_fetch.specs.Printed.{IsBegun, IsWanted, PrintedSome, PrintedWhole};
+ghost use Rattle.tl_fetch.specs.Trusting.{IsGrown, IsKnown, IsNoteOf, policy_of};
+
+use crate::faults::client_refusal;
+use crate::listing::print_entries;
+use crate::observer::Observer;
+use crate::opening::{known_head, open_trusted, read_note};
+use crate::policy::Policy;
+use crate::printing::{print_entry, print_head, print_proof};
+use crate::state::StateKeeper;
+use std::alloc::Global;
+use std::io::Write;
+use tl_client::{ClientFault, Head, ResourceSource, check_growth};
+use tl_command::{RunFault, Wanted, print_text};
+use tl_device::Counted;
+
+// Checks that a log goes on from what was known, by a consistency proof that is accepted.
+fn check_grown<S: ResourceSource>(
+    alloc: Global,
+    source: &S,
+    old: &Head,
+    new: &Head,
+) -> Result<(), ClientFault>
+    ensures grown { OnOk result (IsGrown old.now new.now) }
+    ensures refused { IfErr result (RefusesGrowth (S.may_answer source.now) (S.may_lack source.now) old.now new.now) }
+{
+    let _proof = check_growth(alloc, source, *old, *new)?;
+    Ok(())
+}
+
+// Prints two texts, one after the other.
+fn print_two<W: Write>(first: &str, second: &str, writer: &mut Counted<W>) -> Result<(), RunFault>
+    ensures printed { OnOk result (PrintedWhole (λ text. text ≡ first.now ++ second.now) (passage W.contents writer.old writer.new)) }
+    ensures part { OnErr result (PrintedSome (λ text. text ≡ first.now ++ second.now) (passage W.contents writer.old writer.new)) }
+    ensures fault { IfErr result (λ fault. fault ≡ RunFault.Write) }
+{
+    print_text(writer, first.as_bytes())?;
+    match print_text(writer, second.as_bytes()) {
+        Ok(()) => Ok(()),
+        Err(fault) => Err(fault),
+    }
+}
+
+// Prints the note that was trusted last, if there is one, and the new one: evidence that a log shrank or forked.
+fn print_evidence<W: Write>(
+    last: Option<&str>,
+    note: &str,
+    writer: &mut Counted<W>,
+) -> Result<(), RunFault>
+    ensures printed { OnOk result (PrintedWhole (λ text. text ≡ evidence_text (option_map (λ s. s.now) last.entry) note.now) (passage W.contents writer.old writer.new)) }
+    ensures part { OnErr result (PrintedSome (λ text. text ≡ evidence_text (option_map (λ s. s.now) last.entry) note.now) (passage W.contents writer.old writer.new)) }
+    ensures fault { IfErr result (λ fault. fault ≡ RunFault.Write) }
+{
+    match last {
+        Some(last) => print_two(last, note, writer),
+        None => print_two("", note, writer),
+    }
+}
+
+// What is wanted of a log of which so many entries were known.
+#[derive(Clone, Copy)]
+struct Asked {
+    wanted: Wanted,
+    known: u64,
+}
+
+// Prints what is asked of the log of a policy.
+fn print_asked<S: ResourceSource, O: Observer, W: Write>(
+    alloc: Global,
+    source: &S,
+    policy: &Policy<'_>,
+    head: &Head,
+    asked: Asked,
+    observer: &mut O,
+    writer: &mut Counted<W>,
+) -> Result<(), RunFault>
+    ensures printed { OnOk result (PrintedWhole (IsWanted policy.now.origin.now asked.known head.now asked.wanted) (passage W.contents writer.old writer.new)) }
+    ensures part { OnErr result (PrintedSome (IsBegun policy.now.origin.now asked.known head.now asked.wanted) (passage W.contents writer.old writer.new)) }
+    ensures fair { IfErr result IsNoAccusation }
+{
+    match asked.wanted {
+        Wanted::Head => print_head(alloc, policy.origin, head, writer),
+        Wanted::Entry(index) => print_entry(alloc, source, head, index, writer),
+        Wanted::All => print_entries(alloc, source, head, asked.known, observer, writer),
+        Wanted::Proof(index) => print_proof(alloc, source, head, index, writer),
+    }
+}
+
+// From what was trusted last to what is trusted now: two notes, and what they say.
+#[derive(Drop)]
+struct Step<'t> {
+    last: Option<&'t str>,
+    old: &'t Head,
+    note: &'t str,
+    new: &'t Head,
+}
+
+// Whether a growth is refused since the log shrank or forked.
+fn is_accusation(fault: &ClientFault) -> bool
+    ensures { MatchBool result (IsOfGrowth fault.now) (IsNoAccusation (after_client fault.now)) }
+{
+    matches!(fault, ClientFault::Shrunk | ClientFault::Forked)
+}
+
+// Checks that the log goes on from what was known. Where it shrank or forked, both notes are printed.
+fn judge<S: ResourceSource, W: Write>(
+    alloc: Global,
+    source: &S,
+    step: &Step<'_>,
+    writer: &mut Counted<W>,
+) -> Result<(), RunFault>
+    ensures grown { OnOk result (IsGrown step.now.old.now step.now.new.now) }
+    ensures silent { OnOk result (IsUnwritten (passage W.contents writer.old writer.new)) }
+    ensures refused { IfErr result (λ fault. RefusesTwo (two_of (option_map (λ s. s.now) step.now.last) step.now.old.now step.now.note.now step.now.new.now) fault (passage W.contents writer.old writer.new)) }
+{
+    let Err(fault) = check_grown(alloc, source, step.old, step.new) else {
+        return Ok(());
+    };
+    if !is_accusation(&fault) {
+        return Err(client_refusal(fault));
+    }
+    match print_evidence(step.last, step.note, writer) {
+        Ok(()) => Err(client_refusal(fault)),
+        Err(fault) => Err(fault),
+    }
+}
+
+// Keeps the new note and prints what is wanted, all entries before it is kept.
+fn print_and_keep<S: ResourceSource, K: StateKeeper, O: Observer, W: Write>(
+    alloc: Global,
+    source: &S,
+    policy: &Policy<'_>,
+    step: &Step<'_>,
+    wanted: Wanted,
+    state: &mut K,
+    observer: &mut O,
+    writer: &mut Counted<W>,
+) -> Result<(), RunFault>
+    requires known { IsKnown (policy_of policy.now.origin.now (map (λ v. key v) policy.now.log.now) (map (λ w. key w) policy.now.witnesses.now) policy.now.need) (option_map (λ s. s.now) step.now.last) step.now.old.now }
+    requires trusted { IsNoteOf (policy_of policy.now.origin.now (map (λ v. key v) policy.now.log.now) (map (λ w. key w) policy.now.witnesses.now) policy.now.need) step.now.note.now step.now.new.now }
+    requires grown { IsGrown step.now.old.now step.now.new.now }
+    ensures printed { OnOk result (PrintedWhole (IsWanted policy.now.origin.now step.now.old.now.size step.now.new.now wanted) (passage W.contents writer.old writer.new)) }
+    ensures part { OnErr result (PrintedSome (IsBegun policy.now.origin.now step.now.old.now.size step.now.new.now wanted) (passage W.contents writer.old writer.new)) }
+    ensures fair { IfErr result IsNoAccusation }
+{
+    let known = step.old.size;
+    if let Wanted::All = wanted {
+        print_entries(alloc, source, step.new, known, observer, writer)?;
+        return state.keep(policy, step.last, step.note);
+    }
+    state.keep(policy, step.last, step.note)?;
+    print_asked(
+        alloc,
+        source,
+        policy,
+        step.new,
+        Asked { wanted, known },
+        observer,
+        writer,
+    )
+}
+
+/// Fetches what is wanted of the log of this policy. The source's checkpoint has to be trusted (`open_trusted`), and
+/// to go on from the state's by a consistency proof that is accepted (`tl_client::check_growth`). It is kept then, and
+/// what is wanted is printed; all entries are printed before it is kept, so that none is lost where that fails. Where
+/// the log shrank or forked, the state's note and the new one are printed.
+pub fn fetch_under<S: ResourceSource, K: StateKeeper, O: Observer, W: Write>(
+    alloc: Global,
+    source: &S,
+    policy: &Policy<'_>,
+    wanted: Wanted,
+    state: &mut K,
+    observer: &mut O,
+    writer: &mut Counted<W>,
+) -> Result<(), RunFault>
+    ensures fetched { OnOk result (HasFetched (K.may_have state.old) (policy_of policy.now.origin.now (map (λ v. key v) policy.now.log.now) (map (λ w. key w) policy.now.witnesses.now) policy.now.need) wanted (passage W.contents writer.old writer.new)) }
+    ensures refused { IfErr result (λ fault. RefusesFetch (K.may_have state.old) (policy_of policy.now.origin.now (map (λ v. key v) policy.now.log.now) (map (λ w. key w) policy.now.witnesses.now) policy.now.need) wanted fault (passage W.contents writer.old writer.new)) }
+{
+    let kept = state.last(alloc)?;
+    let last = kept.as_deref();
+    let old = known_head(alloc, policy, last)?;
+    let note = read_note(alloc, source)?;
+    let new = open_trusted(alloc, policy, note.as_str())?;
+    let step = Step {
+        last,
+        old: &old,
+        note: note.as_str(),
+        new: &new,
+    };
+    if let Err(fault) = judge(alloc, source, &step, writer) {
+        return Err(fault);
+    }
+    match print_and_keep(
+        alloc, source, policy, &step, wanted, state, observer, writer,
+    ) {
+        Ok(()) => Ok(()),
+        Err(fault) => Err(fault),
+    }
+}

@@ -1,0 +1,50 @@
+//! Who keeps the checkpoint that was trusted last.
+
+use crate::policy::Policy;
+use std::alloc::Global;
+use tl_command::RunFault;
+
+/// Who keeps the signed checkpoint of a log that was trusted last.
+pub trait StateKeeper {
+    ghost use Rattle.std.specs.Prelude.{IfErr, IfOk, Option, map, option_map, string_bytes};
+    ghost use Rattle.tl_hash.specs.Bytes.{Bytes};
+    ghost use Rattle.tl_fetch.specs.Faults.{IsNoAccusation};
+    ghost use Rattle.tl_fetch.specs.Trusting.{IsNext, policy_of};
+
+    /// Which note it may have; none before the first one.
+    ghost may_have: { Self → Option Bytes → Type 0 };
+
+    /// The note that was kept last.
+    fn last(&self, alloc: Global) -> Result<Option<String>, RunFault>
+        ensures had { IfOk result (λ note. may_have self.now (option_map string_bytes note)) }
+        ensures fault { IfErr result IsNoAccusation };
+
+    /// Keeps a note in place of the last one. It is only ever asked to where that note is trusted, and its log begins
+    /// with the one that is known by the last note, by a consistency proof that was accepted.
+    fn keep(&mut self, policy: &Policy<'_>, last: Option<&str>, note: &str) -> Result<(), RunFault>
+        requires { IsNext (policy_of policy.now.origin.now (map (λ v. key v) policy.now.log.now) (map (λ w. key w) policy.now.witnesses.now) policy.now.need) (option_map (λ s. s.now) last) note.now }
+        ensures fault { IfErr result IsNoAccusation };
+}
+
+/// No state: nothing was known before, and nothing is kept.
+#[derive(Clone, Copy, Debug, PartialEq, Eq)]
+pub struct NoState;
+
+impl StateKeeper for NoState {
+    ghost use Rattle.std.specs.Prelude.{◌≡◌, None};
+
+    ghost may_have = { λ _ note. note ≡ None };
+
+    fn last(&self, _alloc: Global) -> Result<Option<String>, RunFault> {
+        Ok(None)
+    }
+
+    fn keep(
+        &mut self,
+        _policy: &Policy<'_>,
+        _last: Option<&str>,
+        _note: &str,
+    ) -> Result<(), RunFault> {
+        Ok(())
+    }
+}

@@ -1,0 +1,5 @@
+pub mod Cuts
+pub mod Hosts
+pub mod Urls
+pub mod Askings
+pub mod Bodies

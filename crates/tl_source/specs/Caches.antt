@@ -1,0 +1,26 @@
+-- Caches of tiles.
+use Rattle.std.specs.Prelude.{ℕ, List, ◌⊎◌}
+use Rattle.sha2.specs.Sha256.{sha256}
+use Rattle.tl_hash.specs.Bytes.{Bytes}
+use Rattle.tl_tile.specs.Verified.{AreVerified}
+use Rattle.tl_tile.specs.declared.resource.Tile.{Tile}
+use Rattle.tl_tile.specs.declared.resource.Resource.{Resource}
+use Rattle.tl_tile.specs.declared.resource.Resource.TheVariants as resource
+
+-- tiles that passed all checks against the size and the root of a log
+pub record HavePassed (fetched : List (Tile × Bytes)) : Type 0 where
+  pub size : ℕ
+  pub root : Bytes
+  pub verified : AreVerified sha256 size root fetched
+
+-- what a cache of tiles in front of a source may answer: for a tile what either may, for the rest what the source may
+abbrev pub may_answer_either : (Resource → Bytes → Type 0) → (Resource → Bytes → Type 0) → Resource → Bytes → Type 0
+may_answer_either cache source (resource.Tile t) text = cache (resource.Tile t) text ⊎ source (resource.Tile t) text
+may_answer_either cache source (resource.Entries index width) text = source (resource.Entries index width) text
+may_answer_either cache source resource.Checkpoint text = source resource.Checkpoint text
+
+-- what it may lack: a tile that both may lack, and of the rest what the source may lack
+abbrev pub may_lack_both : (Resource → Type 0) → (Resource → Type 0) → Resource → Type 0
+may_lack_both cache source (resource.Tile t) = cache (resource.Tile t) × source (resource.Tile t)
+may_lack_both cache source (resource.Entries index width) = source (resource.Entries index width)
+may_lack_both cache source resource.Checkpoint = source resource.Checkpoint

@@ -1,0 +1,7 @@
+pub mod Url
+pub mod Limits
+pub mod Places
+pub mod Asking
+pub mod Reading
+pub mod Caches
+pub mod Inner

@@ -1,0 +1,36 @@
+//! A folder or a host as one source.
+
+use crate::folder::FolderSource;
+use crate::http::HttpSource;
+use std::alloc::Allocator;
+use std::fs::Files;
+use std::net::{Net, TcpStream};
+use std::time::Clock;
+use tl_client::ResourceSource;
+use tl_tile::{Resource, SourceFault};
+
+/// Where the resources of a log come from.
+#[derive(Drop)]
+pub enum AnySource<'s, H: Files + Net<Stream = TcpStream> + Clock> {
+    /// The files under a folder.
+    Folder(FolderSource<'s, H>),
+    /// A host that answers over HTTP.
+    Http(HttpSource<'s, H>),
+}
+
+impl<H: Files + Net<Stream = TcpStream> + Clock> ResourceSource for AnySource<'_, H> {
+    ghost use Rattle.std.specs.Prelude.{◌≤◌, length};
+    ghost use Rattle.tl_source.specs.Limits.{most_bytes};
+
+    ghost may_answer = { λ _ r text. length text ≤ most_bytes r };
+
+    ghost may_lack = { λ _ _. Unit {0} };
+
+    /// The bytes that the folder or the host has.
+    fn get<A: Allocator>(&self, alloc: A, resource: &Resource) -> Result<Vec<u8, A>, SourceFault> {
+        match self {
+            AnySource::Folder(source) => source.get(alloc, resource),
+            AnySource::Http(source) => source.get(alloc, resource),
+        }
+    }
+}

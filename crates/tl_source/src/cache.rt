@@ -1,0 +1,111 @@
+//! Tiles of a log that passed all checks, kept in a folder.
+
+ghost use Rattle.std.specs.Prelude.{◌≡◌, ◌↔◌, IsTrue, OnOk};
+ghost use Rattle.std.specs.Io.KnownBytes.{Appends};
+ghost use Rattle.tl_tile.specs.Path.{IsTile};
+ghost use Rattle.tl_source.specs.Caches.{HavePassed};
+
+use crate::place::{beside, path_under};
+use std::alloc::{AllocError, Allocator};
+use std::fs::{File, Files, OpenFile, create_dir_all, remove_file, rename};
+use std::io;
+use std::io::Write;
+use std::marker::Model;
+use std::path::Path;
+use tl_tile::{FetchedTiles, Resource, Tile};
+
+/// A folder for tiles that passed all checks, each in a file at its path (C2SP tlog-tiles). Contracts see the folder's
+/// text.
+#[derive(Drop)]
+pub struct TileCache<'s, H: Files> {
+    files: &'s H,
+    folder: &'s str,
+}
+
+impl<'s, H: Files> Model for TileCache<'s, H> {
+    ghost use Rattle.std.specs.Prelude.{ℕ, List};
+
+    ghost Value = { List ℕ };
+
+    ghost view = { λ c. c.folder.now };
+}
+
+// Whether a log serves this tile under a path.
+fn is_tile(tile: Tile) -> bool
+    ensures { IsTrue result ↔ IsTile tile }
+{
+    tile.level <= 7 && tile.index < 1 << 56 && 0 < tile.width && tile.width <= 256
+}
+
+// Writes all the bytes, and has them outlast a crash.
+fn fill<F: OpenFile + Write>(file: &mut F, bytes: &[u8]) -> io::Result<()>
+    ensures { OnOk result (Appends (F.contents file.old) (F.contents file.new) bytes.now) }
+{
+    file.write_all(bytes)?;
+    file.sync_all()
+}
+
+// Writes a new file, and takes it away again where that fails.
+fn write_new<H: Files>(files: &H, path: &str, bytes: &[u8]) -> io::Result<()> {
+    let mut file = File::create_new(files, path)?;
+    let written = fill(&mut file, bytes);
+    if written.is_err() {
+        let _ = remove_file(files, path);
+    }
+    written
+}
+
+// Puts a file in its place, once all of it was written beside that.
+fn put_file<H: Files>(files: &H, place: &str, beside: &str, bytes: &[u8]) -> io::Result<()> {
+    if let Some(folder) = Path::new(place).parent() {
+        create_dir_all(files, folder)?;
+    }
+    write_new(files, beside, bytes)?;
+    rename(files, beside, place)
+}
+
+impl<'s, H: Files> TileCache<'s, H> {
+    /// The tiles under this folder. Nothing is read or written.
+    pub fn new(files: &'s H, folder: &'s str) -> TileCache<'s, H>
+        ensures { result ≡ folder.now }
+    {
+        TileCache { files, folder }
+    }
+
+    // Writes the file of a tile where there is none.
+    fn keep_tile<B: Allocator + Copy>(
+        &self,
+        alloc: B,
+        tile: Tile,
+        bytes: &[u8],
+    ) -> Result<(), AllocError>
+        requires { IsTile tile }
+    {
+        let place = path_under(alloc, self.folder, &Resource::Tile(tile))?;
+        if Path::new(place.as_str()).exists(self.files) {
+            return Ok(());
+        }
+        let beside = beside(alloc, place.as_str())?;
+        let _ = put_file(self.files, place.as_str(), beside.as_str(), bytes);
+        Ok(())
+    }
+
+    /// Writes each of the tiles, which passed all checks, to its file, where that isn't there. It is written under the
+    /// name with `.new` behind it and then renamed, so that no part of a tile is ever under its path. Where that name
+    /// is taken, as by another process or since a crash, and where a write fails, the cache goes without the tile. It
+    /// fails only where memory is refused.
+    pub fn keep<A: Allocator, B: Allocator + Copy>(
+        &self,
+        alloc: B,
+        tiles: &FetchedTiles<A>,
+    ) -> Result<(), AllocError>
+        requires { HavePassed tiles.now }
+    {
+        for fetched in tiles.as_slice() {
+            if is_tile(fetched.0) {
+                self.keep_tile(alloc, fetched.0, fetched.1.as_slice())?;
+            }
+        }
+        Ok(())
+    }
+}

@@ -1,0 +1,55 @@
+//! A source behind a cache of tiles.
+
+ghost use Rattle.std.specs.Prelude.{◌≡◌};
+ghost use Rattle.tl_tile.specs.Path.{IsResource};
+ghost use Rattle.tl_source.specs.Caches.{may_answer_either, may_lack_both};
+
+use std::alloc::{Allocator, Global};
+use std::marker::Model;
+use tl_client::ResourceSource;
+use tl_tile::{Resource, SourceFault};
+
+/// A source of a log's resources behind a cache of its tiles. Contracts see the cache and the source.
+#[derive(Drop)]
+pub struct CachedSource<'s, C: ResourceSource, S: ResourceSource> {
+    alloc: Global,
+    cache: &'s C,
+    source: &'s S,
+}
+
+impl<'s, C: ResourceSource, S: ResourceSource> Model for CachedSource<'s, C, S> {
+    ghost Value = { C × S };
+
+    ghost view = { λ s. (s.cache.now, s.source.now) };
+}
+
+impl<'s, C: ResourceSource, S: ResourceSource> CachedSource<'s, C, S> {
+    /// What the source has, with this cache of tiles in front of it. Nothing is asked for yet.
+    pub fn new(alloc: Global, cache: &'s C, source: &'s S) -> CachedSource<'s, C, S>
+        ensures { result ≡ (cache.now, source.now) }
+    {
+        CachedSource {
+            alloc,
+            cache,
+            source,
+        }
+    }
+}
+
+impl<C: ResourceSource, S: ResourceSource> ResourceSource for CachedSource<'_, C, S> {
+    ghost may_answer = { λ s. may_answer_either (C.may_answer s.0) (S.may_answer s.1) };
+
+    ghost may_lack = { λ s. may_lack_both (C.may_lack s.0) (S.may_lack s.1) };
+
+    /// A tile from the cache, and where that has it not, from the source; each other resource from the source.
+    fn get<A: Allocator>(&self, alloc: A, resource: &Resource) -> Result<Vec<u8, A>, SourceFault> {
+        match resource {
+            Resource::Tile(_) => match self.cache.get(self.alloc, resource) {
+                Ok(bytes) => Ok(Vec::from_slice(alloc, bytes.as_slice())?),
+                Err(SourceFault::OutOfMemory) => Err(SourceFault::OutOfMemory),
+                Err(SourceFault::Unavailable) => self.source.get(alloc, resource),
+            },
+            _ => self.source.get(alloc, resource),
+        }
+    }
+}

@@ -1,0 +1,32 @@
+//! Where the resources of a log come from: a folder, a host that answers over HTTP, and either of them behind a folder
+//! that keeps the tiles that passed all checks.
+//!
+//! ```
+//! let url = Url::parse("http://log.example/2026/").unwrap();
+//! let source = HttpSource::new(&rt, alloc, url, Duration::from_secs(10));
+//! let cache = FolderSource::new(&rt, alloc, "cache");
+//! let source = CachedSource::new(alloc, &cache, &source);
+//! let mut fetched = FetchedTiles::new(alloc);
+//! let entries = read_entries(alloc, &source, size, root, 0, &mut fetched)?; // all of them are the log's
+//! TileCache::new(&rt, "cache").keep(alloc, &fetched)?; // the next call asks the host for no tile of these
+//! ```
+#![tactic(auto)]
+
+mod any;
+mod asking;
+mod cache;
+mod cached;
+mod folder;
+mod http;
+mod limit;
+mod place;
+mod reading;
+mod url;
+
+pub use any::AnySource;
+pub use cache::TileCache;
+pub use cached::CachedSource;
+pub use folder::FolderSource;
+pub use http::HttpSource;
+pub use limit::most_bytes;
+pub use url::Url;
