@@ -25,7 +25,7 @@ use Rattle.tl_archive.specs.Shelves.{Item, Held, Kept, Between, MayLeave}
 use Rattle.tl_archive.specs.Complete.{text_of, HasAll, IsComplete, IsSafe, KeptSafe}
 use Rattle.tl_archive.specs.Faults.{IsBehind}
 use Rattle.tl_archive.specs.Publishing.{Archived, IsSure, IsArchive, GoesOn, IsArchived}
-use Rattle.tl_archive.specs.Inner.Staged.{Seen, IsAddedItem, IsAdding, IsThere, IsAdded, signed, IsEnding, IsOnWay, IsWritten, Writes}
+use Rattle.tl_archive.specs.Inner.Staged.{Seen, IsAddedItem, IsAdding, IsThere, IsAdded, checkpoint_item, IsEnding, IsOnWay, IsWritten, Writes}
 use Rattle.tl_archive.proofs.Needs.{needed_within, needed_lawful}
 use Rattle.tl_archive.proofs.Stays.{needed_bytes_stay}
 use Rattle.tl_archive.proofs.Lists.{none_has, one_has, all_is, starts_self, starts_on, starts_has, growing_start, last_there, begins_last, later_last, no_last_empty}
@@ -174,18 +174,18 @@ module _ (earlier early seen late : List Prefix) (q : Prefix) (a : Kept) (sure :
 
   module _ (note : List ℕ) (noted : q.note ≡ note) where
     -- what isn't the checkpoint is as it was when all was added
-    others : (first left : Held) → Between first (signed note) left → (r : Resource) → (r ≡ resource.Checkpoint → ⊥) → left r ≡ first r
+    others : (first left : Held) → Between first (checkpoint_item note) left → (r : Resource) → (r ≡ resource.Checkpoint → ⊥) → left r ≡ first r
     others first left between r other =
         elim (between r) as (λ _. left r ≡ first r) [
           | inl same ↦ same
           | inr own ↦ absurd (other (sym (ap (λ (x : Item). x.0) (one_has (resource.Checkpoint, note) (r, own.0) own.2))))
         ]
 
-    all_stays : (first left : Held) → Between first (signed note) left → (entries : List (List ℕ)) → HasAll sha256 entries first → HasAll sha256 entries left
+    all_stays : (first left : Held) → Between first (checkpoint_item note) left → (entries : List (List ℕ)) → HasAll sha256 entries first → HasAll sha256 entries left
     all_stays first left between entries all r has = others first left between r (needed_within (length entries) r has).1 ∙ all r has
 
-    ending_leaves : (k : Kept) (way : IsEnding seen late (needed_resources_since sure (length q.entries)) note a k) (left : Held) → MayLeave k left → Between way.first.held (signed note) left
-    ending_leaves k way left may = between_on way.first.held k.held left (signed note) way.held (between_wide k.held k.staged (signed note) left way.staged may)
+    ending_leaves : (k : Kept) (way : IsEnding seen late (needed_resources_since sure (length q.entries)) note a k) (left : Held) → MayLeave k left → Between way.first.held (checkpoint_item note) left
+    ending_leaves k way left may = between_on way.first.held k.held left (checkpoint_item note) way.held (between_wide k.held k.staged (checkpoint_item note) left way.staged may)
 
     ending_safe : (k : Kept) → IsEnding seen late (needed_resources_since sure (length q.entries)) note a k → IsSafe sha256 (earlier ++ late) k
     ending_safe k way left may =

@@ -13,7 +13,7 @@ use Rattle.tl_publisher.specs.declared.fault.GetFault.{GetFault}
 use Rattle.tl_publisher.specs.declared.fault.GetFault.TheVariants as get
 use Rattle.tl_publisher.specs.Boards.{shown}
 use Rattle.tl_archive.specs.Shelves.{Item, Held, Kept, Between, Stages, Unstages, Settles, Fails}
-use Rattle.tl_archive.specs.Inner.Staged.{Seen, IsAddedItem, IsAdding, Adds, IsStaged, IsThere, IsAdded, Puts, signed, IsEnding, IsOnWay, IsWritten, Writes}
+use Rattle.tl_archive.specs.Inner.Staged.{Seen, IsAddedItem, IsAdding, Adds, IsStaged, IsThere, IsAdded, Puts, checkpoint_item, IsEnding, IsOnWay, IsWritten, Writes}
 use Rattle.tl_archive.proofs.Lists.{none_has, one_has, has_head, all_is, starts_self, starts_on}
 
 -- ---- what is there
@@ -176,8 +176,8 @@ module _ (before after : List Prefix) (resources : List Resource) (note : List �
 
   -- it was staged, and the shelf settled or failed
   module _ (added : IsAdded before after resources a b) (c d : Kept) (meanwhile sees : List Kept) (staged : Stages b c resource.Checkpoint note) (mid : meanwhile ≡ seen ++ c ∷ []) (end : sees ≡ meanwhile ++ d ∷ []) where
-    only : c.staged ≡ signed note
-    only = staged.staged ∙ ap (λ (x : List Item). x ++ signed note) added.rests
+    only : c.staged ≡ checkpoint_item note
+    only = staged.staged ∙ ap (λ (x : List Item). x ++ checkpoint_item note) added.rests
 
     c_way : IsEnding before after resources note a c
     c_way = record { first = b; added = added; held = λ r. inl (ap (λ (h : Held). h r) staged.held); staged = λ item has. subst (λ (x : List Item). Contains x item) only has }
@@ -186,7 +186,7 @@ module _ (before after : List Prefix) (resources : List Resource) (note : List �
     d_way settled = record {
       first = b;
       added = added;
-      held = λ r. subst (λ (h : Held). (d.held r ≡ h r) ⊎ ((bytes : List ℕ) × (d.held r ≡ Some bytes) × Contains (signed note) (r, bytes))) staged.held
+      held = λ r. subst (λ (h : Held). (d.held r ≡ h r) ⊎ ((bytes : List ℕ) × (d.held r ≡ Some bytes) × Contains (checkpoint_item note) (r, bytes))) staged.held
           (subst (λ (x : List Item). (d.held r ≡ c.held r) ⊎ ((bytes : List ℕ) × (d.held r ≡ Some bytes) × Contains x (r, bytes))) only (settled.others r));
       staged = λ item has. absurd (none_has item (subst (λ (x : List Item). Contains x item) settled.staged has));
     }

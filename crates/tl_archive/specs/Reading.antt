@@ -8,7 +8,8 @@ use Rattle.tl_checkpoint.specs.Checkpoint.{Head}
 use Rattle.tl_checkpoint.specs.OpenCheckpoint.{IsSignedCheckpoint, OpensCheckpoint}
 use Rattle.tl_checkpoint.specs.declared.opening.OpenCheckpointFault.{OpenCheckpointFault}
 use Rattle.tl_checkpoint.specs.declared.opening.OpenCheckpointFault.TheVariants as opening
-use Rattle.tl_publisher.specs.Resuming.{bundle_count, bundle_width}
+use Rattle.tl_tile.specs.Needed.{bundle_width}
+use Rattle.tl_publisher.specs.Resuming.{bundle_count}
 use Rattle.tl_archive.specs.Shelves.{Held}
 use Rattle.tl_archive.specs.declared.fault.ReadLogFault.{ReadLogFault}
 use Rattle.tl_archive.specs.declared.fault.ReadLogFault.TheVariants as fault

@@ -14,7 +14,7 @@ use crate::staging::write_all;
 use std::alloc::Allocator;
 use std::marker::Model;
 use tl_publisher::BoardReader;
-use tl_tile::needed_since;
+use tl_tile::added_resources;
 
 // The most entries of a log.
 const MOST_ENTRIES: u64 = 0xFFFF_FFFF;
@@ -84,7 +84,7 @@ impl<S: Shelf> Archive<S> {
         if head.size < self.sure || head.size > MOST_ENTRIES {
             return Err(ArchiveFault::Behind);
         }
-        let added = needed_since(alloc, self.sure, head.size)?;
+        let added = added_resources(alloc, self.sure, head.size)?;
         write_all(
             &mut self.shelf,
             alloc,

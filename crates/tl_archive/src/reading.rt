@@ -2,7 +2,8 @@
 
 ghost use Rattle.std.specs.Prelude.{◌≡◌, ◌<◌, ◌≤◌, ◌-◌, ◌^◌, true, Some, None, IfOk, IfErr, MatchOption, length, map, string_bytes, vec_items};
 ghost use Rattle.tl_tile.specs.declared.resource.Resource.TheVariants as resource;
-ghost use Rattle.tl_publisher.specs.Resuming.{bundle_count, bundle_width};
+ghost use Rattle.tl_tile.specs.Needed.{bundle_width};
+ghost use Rattle.tl_publisher.specs.Resuming.{bundle_count};
 ghost use Rattle.tl_archive.specs.Inner.Bundles.{LacksOne, StatesNone};
 ghost use Rattle.tl_archive.specs.Reading.{AreFound, IsFoundLog, ReadLogFails, StatesSize};
 
@@ -12,7 +13,7 @@ use std::alloc::{Allocator, Global};
 use std::str;
 use tl_checkpoint::{OpenCheckpointFault, open_checkpoint};
 use tl_note::Verifier;
-use tl_tile::Resource;
+use tl_tile::{Resource, bundle_width};
 
 const MOST_ENTRIES: u64 = 0xFFFF_FFFF;
 
@@ -25,20 +26,6 @@ pub struct FoundLog {
     pub size: u64,
     /// Its entry bundles, by index.
     pub bundles: Vec<Vec<u8>>,
-}
-
-// How many entries the bundle at this place has.
-fn width_at(size: u64, place: u64) -> u32
-    requires { place < bundle_count size }
-    ensures value { result ≡ bundle_width size place }
-    ensures some { 0 < result }
-    ensures most { result ≤ 256 }
-{
-    if place < size / 256 {
-        256
-    } else {
-        (size % 256) as u32
-    }
 }
 
 // The bundle at this place of a log of so many entries.
@@ -55,7 +42,7 @@ fn bundle_at<S: Shelf, A: Allocator>(
 {
     let resource = Resource::Entries {
         index: place,
-        width: width_at(size, place),
+        width: bundle_width(size, place),
     };
     match shelf.read(alloc, &resource) {
         Ok(Some(bytes)) => Ok(bytes),

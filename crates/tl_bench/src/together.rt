@@ -6,7 +6,7 @@ use std::alloc::Global;
 use std::io;
 use std::time::{Clock, Instant};
 use tl_hash::{Hash, Sha256Tree, TreeHash, leaf_hash};
-use tl_proof::{Record, check_records, prove_records};
+use tl_proof::{InclusionClaim, check_records, prove_records};
 
 // The places of the proofs in a log of this size.
 fn places(alloc: Global, size: u64) -> Option<Vec<u64>> {
@@ -18,8 +18,8 @@ fn places(alloc: Global, size: u64) -> Option<Vec<u64>> {
 }
 
 // A proof with its place, whose entry is the place itself.
-fn claim(index: u64, proof: &[Hash]) -> Record<'_> {
-    Record {
+fn claim(index: u64, proof: &[Hash]) -> InclusionClaim<'_> {
+    InclusionClaim {
         index,
         leaf: leaf_hash(Sha256Tree, &index.to_be_bytes()),
         proof,

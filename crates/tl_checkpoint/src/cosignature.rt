@@ -47,7 +47,7 @@ pub fn cosignature_bytes<A: Allocator>(
 /// The line by which a witness cosigns the text of a checkpoint at this time, under this name, which is a key's name.
 /// `global` is what the signer takes memory from. It is `Refused` where the signer refuses the message or gives no
 /// bytes.
-pub fn cosign_line_as<A: Allocator + Copy>(
+pub fn cosignature_line_named<A: Allocator + Copy>(
     alloc: A,
     global: Global,
     name: &str,
@@ -84,7 +84,7 @@ pub fn cosign_line<A: Allocator + Copy>(
     if !is_key_name(signer.name()) {
         return Err(NoteFault::BadName(0));
     }
-    match cosign_line_as(alloc, global, signer.name(), signer, time, text) {
+    match cosignature_line_named(alloc, global, signer.name(), signer, time, text) {
         Ok(line) => Ok(line),
         Err(SignFault::Refused) => Err(NoteFault::Sign(0)),
         Err(SignFault::OutOfMemory) => Err(NoteFault::OutOfMemory),

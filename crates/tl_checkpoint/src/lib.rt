@@ -18,10 +18,10 @@ mod writing;
 
 pub use checkpoint::{Checkpoint, CheckpointFault};
 pub use cosignature::{
-    check_cosignature, cosign_line, cosign_line_as, cosign_message, cosignature_bytes,
+    check_cosignature, cosign_line, cosign_message, cosignature_bytes, cosignature_line_named,
 };
 pub use law::{checkpoint_can_be_signed, text_is_one_checkpoint};
 pub use opening::{OpenCheckpointFault, open_checkpoint};
 pub use parsing::parse;
-pub use quorum::{Cosigned, are_apart, first_cosignatures};
+pub use quorum::{Cosigned, cosignatures_by, have_distinct_names};
 pub use writing::write;

@@ -6,7 +6,7 @@ ghost use Rattle.tl_checkpoint.specs.Inner.CutLines.{AreExtensions, AreSome, Cut
 
 use crate::checkpoint::{Checkpoint, CheckpointFault};
 use std::alloc::{AllocError, Allocator};
-use tl_text::{first_line, hash_of, size_of};
+use tl_text::{parse_hash, parse_size, split_line};
 
 // Whether a text is lines, none of which is empty.
 fn are_extensions(text: &str) -> bool
@@ -14,7 +14,7 @@ fn are_extensions(text: &str) -> bool
 {
     let mut left = text;
     while !left.is_empty() {
-        let Some((words, rest)) = first_line(left) else {
+        let Some((words, rest)) = split_line(left) else {
             return false;
         };
         if words.is_empty() {
@@ -38,13 +38,13 @@ struct Parts<'a> {
 fn cut_lines(text: &str) -> Option<Parts<'_>>
     ensures { MatchOption result (IsInNoLines text.now) (CutsLines text.now) }
 {
-    let Some((origin, rest)) = first_line(text) else {
+    let Some((origin, rest)) = split_line(text) else {
         return None;
     };
-    let Some((size, rest)) = first_line(rest) else {
+    let Some((size, rest)) = split_line(rest) else {
         return None;
     };
-    let Some((root, extensions)) = first_line(rest) else {
+    let Some((root, extensions)) = split_line(rest) else {
         return None;
     };
     if !are_extensions(extensions) {
@@ -68,7 +68,7 @@ fn read_extensions<A: Allocator + Copy>(
 {
     let mut lines = Vec::new(alloc);
     let mut left = text;
-    while let Some((words, rest)) = first_line(left) {
+    while let Some((words, rest)) = split_line(left) {
         lines.push(String::from_str(alloc, words)?)?;
         left = rest;
     }
@@ -87,10 +87,10 @@ pub fn parse<A: Allocator + Copy>(alloc: A, text: &str) -> Result<Checkpoint<A>,
     if parts.origin.is_empty() {
         return Err(CheckpointFault::Origin);
     }
-    let Some(size) = size_of(parts.size) else {
+    let Some(size) = parse_size(parts.size) else {
         return Err(CheckpointFault::Size);
     };
-    let Some(root) = hash_of(parts.root) else {
+    let Some(root) = parse_hash(parts.root) else {
         return Err(CheckpointFault::Root);
     };
     let extensions = read_extensions(alloc, parts.extensions)?;

@@ -42,7 +42,7 @@ fn is_repeated(witnesses: &[Box<dyn Verifier>], place: usize) -> bool
 }
 
 /// Whether each witness has another name. It takes no memory.
-pub fn are_apart(witnesses: &[Box<dyn Verifier>]) -> bool
+pub fn have_distinct_names(witnesses: &[Box<dyn Verifier>]) -> bool
     ensures { IsTrue result ↔ AreApart (map (λ witness. key witness) witnesses.now) }
 {
     for place in 0..witnesses.len() {
@@ -115,7 +115,7 @@ fn keep<A: Allocator>(
 /// The first cosignature of the text by each witness, in the order of the lines. Each witness has another name. A line
 /// that is of no witness, or isn't valid for this text, isn't counted, nor is a witness's later line. It fails only
 /// where a growth was refused.
-pub fn first_cosignatures<A: Allocator + Copy>(
+pub fn cosignatures_by<A: Allocator + Copy>(
     alloc: A,
     text: &str,
     lines: &[SigView<'_>],

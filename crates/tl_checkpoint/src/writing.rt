@@ -1,9 +1,10 @@
 //! Writes the text of a checkpoint.
 
-ghost use Rattle.std.specs.Prelude.{◌≡◌, ◌↔◌, ◌++◌, All, IsTrue, OnOk, map, string_bytes};
+ghost use Rattle.std.specs.Prelude.{◌≡◌, ◌↔◌, ◌++◌, All, IsTrue, IfOk, OnOk, map, string_bytes};
 ghost use Rattle.std.specs.List.{flat_map};
+ghost use Rattle.tl_hash.specs.Bytes.{IsHash};
 ghost use Rattle.tl_text.specs.Text.{line, IsOneLine};
-ghost use Rattle.tl_checkpoint.specs.Checkpoint.{head_of};
+ghost use Rattle.tl_checkpoint.specs.Checkpoint.{checkpoint_text, head_of};
 ghost use Rattle.tl_checkpoint.specs.WriteCheckpoint.{WritesCheckpoint};
 
 use crate::checkpoint::{Checkpoint, CheckpointFault};
@@ -37,6 +38,23 @@ fn push_lines<A: Allocator, B: Allocator>(
     Ok(())
 }
 
+// The lines of a checkpoint.
+fn lines_of<A: Allocator + Copy, B: Allocator>(
+    alloc: A,
+    checkpoint: &Checkpoint<B>,
+) -> Result<String<A>, AllocError>
+    ensures text { IfOk result (λ text. string_bytes text ≡ checkpoint_text (head_of checkpoint.now)) }
+    ensures root { IsHash (head_of checkpoint.now).root }
+{
+    let root = STANDARD.encode(alloc, checkpoint.root.as_bytes())?;
+    let mut out = String::new(alloc);
+    push_line(&mut out, &checkpoint.origin)?;
+    push_line(&mut out, Buffer::new().format(checkpoint.size))?;
+    push_line(&mut out, &root)?;
+    push_lines(&mut out, &checkpoint.extensions)?;
+    Ok(out)
+}
+
 /// The text of a checkpoint: the lines origin, size, root and extensions (C2SP tlog-checkpoint, "Note text"). Of what
 /// has no text the first fault is told, in the order extensions, origin, size.
 pub fn write<A: Allocator + Copy, B: Allocator>(
@@ -54,11 +72,5 @@ pub fn write<A: Allocator + Copy, B: Allocator>(
     if checkpoint.size >= 1 << 63 {
         return Err(CheckpointFault::Size);
     }
-    let root = STANDARD.encode(alloc, checkpoint.root.as_bytes())?;
-    let mut out = String::new(alloc);
-    push_line(&mut out, &checkpoint.origin)?;
-    push_line(&mut out, Buffer::new().format(checkpoint.size))?;
-    push_line(&mut out, &root)?;
-    push_lines(&mut out, &checkpoint.extensions)?;
-    Ok(out)
+    Ok(lines_of(alloc, checkpoint)?)
 }

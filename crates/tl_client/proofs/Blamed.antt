@@ -29,7 +29,8 @@ use Rattle.tl_tile.proofs.Levels.{positive_256}
 use Rattle.tl_tile.proofs.NeededLemmas.{next_count}
 use Rattle.tl_tile.proofs.Push.{same_tile-is, same_tile-self}
 use Rattle.tl_client.specs.Blame.{AnswersNoBundle, AreServed, ServesBadTile, WantsTile, leaf_reading}
-use Rattle.tl_client.specs.Bundles.{HasBundle, bundle_width}
+use Rattle.tl_tile.specs.Needed.{bundle_width}
+use Rattle.tl_client.specs.Bundles.{HasBundle}
 use Rattle.tl_client.specs.Faults.{after_prove, after_read}
 use Rattle.tl_client.specs.Refused.{BundleRead, IsBetween, LeafRead, RefusesEntries, RefusesEntry}
 use Rattle.tl_client.specs.Inner.Growing.{RefusesProof}

@@ -13,7 +13,7 @@ use Rattle.tl_tile.specs.Bundle.{AreEntries}
 use Rattle.tl_tile.specs.Fetched.{tiles_of}
 use Rattle.tl_tile.specs.Folds.{TilesCollide}
 use Rattle.tl_tile.specs.TileReader.{AreAuthentic}
-use Rattle.tl_client.specs.Bundles.{bundle_width}
+use Rattle.tl_tile.specs.Needed.{bundle_width}
 use Rattle.tl_client.specs.Checked.{AreCheckedEntries, LeavesCollide}
 use Rattle.tl_client.specs.Blame.{leaf_numbers}
 use Rattle.tl_client.specs.Inner.Leaves.{HaveLeaves}

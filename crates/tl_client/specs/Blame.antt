@@ -34,8 +34,7 @@ leaf_numbers first count = map (λ i. stored_index 0 (first + i)) (range_with_le
 
 -- a read of so many leaves of a log of this size and root, from that of this entry on, and the tiles that were fetched
 abbrev pub leaf_reading : ℕ → Bytes → ℕ → ℕ → List (Tile × Bytes) → Reading
-leaf_reading size root first count fetched =
-    record { size = size; root = root; indexes = leaf_numbers first count; fetched = fetched }
+leaf_reading size root first count fetched = record { size = size; root = root; indexes = leaf_numbers first count; fetched = fetched }
 
 -- tiles of a log of this size, with texts that the source may answer
 abbrev pub AreServed : (Resource → Bytes → Type 0) → ℕ → List (Tile × Bytes) → Type 0

@@ -1,15 +1,12 @@
 -- The entry bundles of a log (C2SP tlog-tiles, "Log Entries").
-use Rattle.std.specs.Prelude.{ℕ, ◌+◌, ◌*◌, ◌/◌, ◌%◌, ◌^◌, ◌<◌, ◌≤◌, List, take, drop, nat_lt, if◌then◌else◌}
+use Rattle.std.specs.Prelude.{ℕ, ◌+◌, ◌*◌, ◌^◌, ◌<◌, ◌≤◌, List, take, drop}
 use Rattle.tl_hash.specs.Bytes.{Bytes}
+use Rattle.tl_tile.specs.Needed.{bundle_width}
 
 -- a log of this size, at most 2 ^ 62, has the bundle with this index
 pub record HasBundle (size bundle : ℕ) : Type 0 where
   pub within : 256 * bundle < size
   pub limit : size ≤ 2 ^ 62
-
--- how many entries it has: 256, or in the last one what is left
-abbrev pub bundle_width : ℕ → ℕ → ℕ
-bundle_width size bundle = if nat_lt bundle (size / 256) then 256 else size % 256
 
 -- its entries, of all entries of a log of this size
 abbrev pub bundle_entries : ℕ → ℕ → List Bytes → List Bytes

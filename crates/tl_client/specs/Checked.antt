@@ -5,7 +5,8 @@ use Rattle.tl_hash.specs.Tree.{leaf_input, tree_hash, inputs}
 use Rattle.tl_hash.specs.Collision.{Collides}
 use Rattle.tl_tile.specs.Bundle.{AreEntries}
 use Rattle.tl_tile.specs.Folds.{Tiles, TilesCollide}
-use Rattle.tl_client.specs.Bundles.{bundle_width, bundle_entries}
+use Rattle.tl_tile.specs.Needed.{bundle_width}
+use Rattle.tl_client.specs.Bundles.{bundle_entries}
 
 -- the string hashed for the leaf of one of these entries, and one hashed for the tree over a list, are different and
 -- have one digest

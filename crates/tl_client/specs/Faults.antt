@@ -1,13 +1,10 @@
 -- Faults of what a client calls, passed on.
-use Rattle.std.specs.Prelude.{ℕ}
 use Rattle.tl_store.specs.declared.reader.ReadFault.{ReadFault}
 use Rattle.tl_store.specs.declared.reader.ReadFault.TheVariants as read
 use Rattle.tl_proof.specs.declared.fault.ProveFault.{ProveFault}
 use Rattle.tl_proof.specs.declared.fault.ProveFault.TheVariants as prove
 use Rattle.tl_tile.specs.declared.source.SourceFault.{SourceFault}
 use Rattle.tl_tile.specs.declared.source.SourceFault.TheVariants as source
-use Rattle.tl_tile.specs.declared.bundle.BundleFault.{BundleFault}
-use Rattle.tl_tile.specs.declared.bundle.BundleFault.TheVariants as bundle
 use Rattle.tl_client.specs.declared.fault.ClientFault.{ClientFault}
 use Rattle.tl_client.specs.declared.fault.ClientFault.TheVariants as client
 
@@ -22,13 +19,6 @@ after_read read.OutOfRange = client.Range
 after_read read.Source = client.Unavailable
 after_read read.OutOfMemory = client.OutOfMemory
 after_read (read.BadTile level index width) = client.BadTile level index width
-
--- a fault of reading the bundle with this index
-abbrev pub after_bundle : ℕ → BundleFault → ClientFault
-after_bundle index bundle.EntryTooLong = client.BadBundle index
-after_bundle index bundle.Truncated = client.BadBundle index
-after_bundle index bundle.Trailing = client.BadBundle index
-after_bundle index bundle.OutOfMemory = client.OutOfMemory
 
 -- a fault of making a proof
 abbrev pub after_prove : ProveFault → ClientFault

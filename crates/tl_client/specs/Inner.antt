@@ -3,3 +3,5 @@ pub
     mod Growing
 pub
     mod Leaves
+pub
+    mod BundleFaults

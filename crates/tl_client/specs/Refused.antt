@@ -13,7 +13,8 @@ use Rattle.tl_tile.specs.Source.{AreAnswers}
 use Rattle.tl_tile.specs.SourceFaults.{IsBadTile}
 use Rattle.tl_tile.specs.TileReader.{Reading}
 use Rattle.tl_tile.specs.Verified.{AreVerified}
-use Rattle.tl_client.specs.Bundles.{HasBundle, IsInBundle, bundle_width}
+use Rattle.tl_tile.specs.Needed.{bundle_width}
+use Rattle.tl_client.specs.Bundles.{HasBundle, IsInBundle}
 use Rattle.tl_client.specs.Blame.{AnswersNoBundle, LacksTile, ServesBadTile, WantsTile, leaf_reading}
 use Rattle.tl_client.specs.declared.fault.ClientFault.{ClientFault}
 use Rattle.tl_client.specs.declared.fault.ClientFault.TheVariants as client

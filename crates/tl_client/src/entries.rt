@@ -6,10 +6,11 @@ ghost use Rattle.tl_tile.specs.Bundle.{AreEntries};
 ghost use Rattle.tl_tile.specs.Fetched.{tiles_of};
 ghost use Rattle.tl_tile.specs.Verified.{AreVerified};
 ghost use Rattle.tl_client.specs.Blame.{AreServed};
-ghost use Rattle.tl_client.specs.Bundles.{HasBundle, bundle_width};
+ghost use Rattle.tl_tile.specs.Needed.{bundle_width};
+ghost use Rattle.tl_client.specs.Bundles.{HasBundle};
 ghost use Rattle.tl_client.specs.Checked.{AreCheckedEntries};
 ghost use Rattle.tl_client.specs.Refused.{RefusesEntries};
-ghost use Rattle.tl_client.specs.Faults.{after_bundle};
+ghost use Rattle.tl_client.specs.Inner.BundleFaults.{after_bundle};
 ghost use Rattle.tl_client.specs.Inner.Leaves.{RefusesBundle};
 
 use crate::fault::ClientFault;
@@ -17,28 +18,13 @@ use crate::leaves::{check_leaves, read_leaves};
 use crate::source::ResourceSource;
 use std::alloc::Allocator;
 use tl_hash::Hash;
-use tl_tile::{BundleFault, FetchedTiles, Resource, read_bundle};
+use tl_tile::{BundleFault, FetchedTiles, Resource, bundle_width, read_bundle};
 
 // Whether a log of this size has the bundle.
 fn has_bundle(size: u64, bundle: u64) -> bool
     ensures { IsTrue result ↔ HasBundle size bundle }
 {
     size <= 1 << 62 && bundle < (size + 255) / 256
-}
-
-// How many entries the bundle has in a log of this size.
-fn width_of(size: u64, bundle: u64) -> u32
-    requires { HasBundle size bundle }
-    ensures value { result ≡ bundle_width size bundle }
-    ensures some { 0 < result }
-    ensures most { result ≤ 256 }
-    ensures inside { 256 * bundle + result ≤ size }
-{
-    if bundle < size / 256 {
-        256
-    } else {
-        (size % 256) as u32
-    }
 }
 
 // A fault of reading the bundle with this index.
@@ -99,7 +85,7 @@ pub fn read_entries<S: ResourceSource, A: Allocator + Copy>(
     if !has_bundle(size, bundle) {
         return Err(ClientFault::Range);
     }
-    let width = width_of(size, bundle);
+    let width = bundle_width(size, bundle);
     let entries = fetch_bundle(alloc, source, bundle, width)?;
     let leaves = read_leaves(alloc, source, size, root, 256 * bundle, width, fetched)?;
     check_leaves(256 * bundle, &entries, &leaves)?;

@@ -46,7 +46,7 @@ fn proof_between<S: ResourceSource, A: Allocator + Copy>(
 /// one, then `Range` where it has more than 2^62 entries; `Unavailable` where the source lacks such a tile or the
 /// proof asks for another; `Forked` where the old root isn't that of the new log's first entries. From no entries, and
 /// between equal sizes, nothing is fetched.
-pub fn check_growth<S: ResourceSource, A: Allocator + Copy>(
+pub fn prove_growth<S: ResourceSource, A: Allocator + Copy>(
     alloc: A,
     source: &S,
     old: Head,

@@ -6,7 +6,7 @@ ghost use Rattle.tl_client.specs.declared.head.HeadFault.TheVariants.{OutOfMemor
 
 use std::alloc::{AllocError, AllocFailed, Allocator};
 use thiserror::Error;
-use tl_checkpoint::{Checkpoint, CheckpointFault, are_apart, first_cosignatures, parse};
+use tl_checkpoint::{Checkpoint, CheckpointFault, cosignatures_by, have_distinct_names, parse};
 use tl_hash::Hash;
 use tl_note::{NoteFault, Verifier, open_note};
 
@@ -78,7 +78,7 @@ impl From<CheckpointFault> for HeadFault {
 /// The checkpoint of a signed note that opens under the log's keys (C2SP tlog-checkpoint), and that at least `need` of
 /// the witnesses cosigned, each of whom has another name (C2SP tlog-cosignature). A line that is of no witness, or
 /// isn't valid for this checkpoint, isn't counted, nor is a witness's second line. `OutOfMemory` is of a note alone.
-pub fn open_head<A: Allocator + Copy>(
+pub fn open_cosigned<A: Allocator + Copy>(
     alloc: A,
     note: &str,
     verifiers: &[Box<dyn Verifier>],
@@ -87,13 +87,13 @@ pub fn open_head<A: Allocator + Copy>(
 ) -> Result<Checkpoint<A>, HeadFault>
     ensures { OpensHead note.now (record { keys = map (λ v. key v) verifiers.now; witnesses = map (λ w. key w) witnesses.now; need = need }) result }
 {
-    if !are_apart(witnesses) {
+    if !have_distinct_names(witnesses) {
         return Err(HeadFault::Twice);
     }
     let opened = open_note(alloc, note, verifiers)?;
     let checkpoint = parse(alloc, opened.note.text)?;
     let lines = opened.note.signatures.as_slice();
-    let found = first_cosignatures(alloc, opened.note.text, lines, witnesses)?;
+    let found = cosignatures_by(alloc, opened.note.text, lines, witnesses)?;
     if (found.len() as u64) < need {
         return Err(HeadFault::TooFew(found.len() as u64));
     }

@@ -3,13 +3,13 @@
 //! tlog-tiles).
 //!
 //! ```
-//! let checkpoint = open_head(alloc, note, &[log], &witnesses, 2)?; // two of the witnesses cosigned it
+//! let checkpoint = open_cosigned(alloc, note, &[log], &witnesses, 2)?; // two of the witnesses cosigned it
 //! let (size, root) = (checkpoint.size, checkpoint.root);
 //! let mut fetched = FetchedTiles::new(alloc);
 //! let entries = read_entries(alloc, &source, size, root, 0, &mut fetched)?; // of the first bundle
 //! let leaf = leaf_hash(Sha256Tree, &entries[0]);
 //! let proof = prove_entry(alloc, &source, size, root, 0, leaf)?;
-//! let proof = check_growth(alloc, &source, Head { size, root }, newer)?;
+//! let proof = prove_growth(alloc, &source, Head { size, root }, newer)?;
 //! ```
 #![tactic(auto)]
 
@@ -24,7 +24,7 @@ mod source;
 
 pub use entries::read_entries;
 pub use fault::ClientFault;
-pub use growth::check_growth;
-pub use head::{Head, HeadFault, open_head};
+pub use growth::prove_growth;
+pub use head::{Head, HeadFault, open_cosigned};
 pub use inclusion::prove_entry;
 pub use source::{ResourceSource, Tiles};

@@ -1,2 +1,5 @@
 pub mod Device
 pub mod ReadWhole
+pub mod Inner
+pub mod Pieces
+pub mod Reading

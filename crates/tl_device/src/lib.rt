@@ -1,5 +1,5 @@
-//! Readers and writers that remember whether they failed: reading a whole input, writing a whole text. Connections that
-//! have to end in time.
+//! Readers and writers that remember whether they failed: reading a whole input, writing a whole text, also
+//! in pieces. Connections that have to end in time.
 //!
 //! ```
 //! let mut reader = Counted::new(b"two\nlines\n".as_slice());
@@ -11,7 +11,9 @@
 #![tactic(auto)]
 
 mod counted;
+mod pieces;
 mod timed;
 
 pub use counted::{Counted, InputFault, WriteFault, read_whole, write_whole};
+pub use pieces::write_pieces;
 pub use timed::Timed;

@@ -3,7 +3,7 @@
 ghost use Rattle.std.specs.Prelude.{◌≡◌, Option};
 ghost use Rattle.std.specs.Str.{bytes_eq};
 ghost use Rattle.tl_ed25519.specs.Curve as curve;
-ghost use Rattle.tl_ed25519.specs.Eddsa.{accepts, expected, has_small_order, is_sound};
+ghost use Rattle.tl_ed25519.specs.Eddsa.{accepts, expected, has_small_order, is_valid_public_key};
 
 use crate::halves::{first_half, second_half};
 use crate::hashing::number_of_three;
@@ -35,7 +35,7 @@ fn equal_bytes(first: &[u8], second: &[u8]) -> bool
 /// Whether a signature of a message stands under a public key (RFC 8032, section 5.1.7, with no cofactor).
 ///
 /// It is false where the key is no point's canonical spelling, where S isn't below L, and where the bytes of R
-/// aren't those of S * B - k * A. It takes keys of small order: `is_sound` tells them.
+/// aren't those of S * B - k * A. It takes keys of small order: `is_valid_public_key` tells them.
 /// Its time depends on what it is given, and all of that is public.
 pub fn verify(key: &[u8; 32], message: &[u8], signature: &[u8; 64]) -> bool
     ensures { result ≡ accepts key.now message.now signature.now }
@@ -69,8 +69,8 @@ fn has_small_order(point: Point) -> bool
 /// It is true where they are the one canonical spelling of a point (RFC 8032, section 5.1.3), and 8, the curve's
 /// cofactor (section 5.1), times that point isn't the neutral point. Under a key of small order anyone can make
 /// signatures that stand.
-pub fn is_sound(key: &[u8; 32]) -> bool
-    ensures { result ≡ is_sound key.now }
+pub fn is_valid_public_key(key: &[u8; 32]) -> bool
+    ensures { result ≡ is_valid_public_key key.now }
 {
     let Some(point) = Point::decode(key) else {
         return false;

@@ -2,7 +2,7 @@
 
 /// What a folder had before its first call, and of which resources a settling that failed replaced the bytes. No call
 /// of a system tells that: what is stated of a folder holds for every disk.
-pub trait Disk {
+pub trait CrashOutcome {
     ghost use Rattle.tl_archive.specs.Shelves.{Held};
     ghost use Rattle.tl_folder.specs.Folders.{Reached};
 
@@ -15,9 +15,9 @@ pub trait Disk {
 
 /// The disk of a program: code over any disk is the same code.
 #[derive(Clone, Copy, Debug)]
-pub struct AnyDisk;
+pub struct AnyOutcome;
 
-impl Disk for AnyDisk {
+impl CrashOutcome for AnyOutcome {
     ghost use Rattle.std.specs.Prelude.{None, false};
 
     ghost held = { λ _. None };

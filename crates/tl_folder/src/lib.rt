@@ -13,10 +13,10 @@ mod shelf;
 mod step;
 mod whole;
 
-pub use disk::{AnyDisk, Disk};
+pub use disk::{AnyOutcome, CrashOutcome};
 pub use fault::FileFault;
-pub use lines::{LineFile, SyncedFile, open_lines};
+pub use lines::{DurableAppend, LineFile, open_lines};
 pub use lock::{FolderLock, lock_folder};
 pub use shelf::FolderShelf;
 pub use step::Step;
-pub use whole::WholeFile;
+pub use whole::AtomicFile;

@@ -17,12 +17,12 @@ use tl_device::{Counted, InputFault, read_whole};
 
 /// A file that is appended to: a write answers once what it took outlasts a crash, as far as the system says.
 #[derive(Drop)]
-pub struct SyncedFile<F> {
+pub struct DurableAppend<F> {
     file: F,
     written: Log<(), u8>,
 }
 
-impl<F: Write + OpenFile> Write for SyncedFile<F> {
+impl<F: Write + OpenFile> Write for DurableAppend<F> {
     ghost use Rattle.std.specs.Prelude.{Some};
     ghost use Rattle.tl_folder.specs.Events.{noted};
 
@@ -46,7 +46,7 @@ pub struct LineFile {
     /// The lines that it had, each with its newline.
     pub lines: Vec<u8>,
     /// The same file, after them.
-    pub end: SyncedFile<File>,
+    pub end: DurableAppend<File>,
 }
 
 // How many of the first bytes are whole lines.
@@ -91,7 +91,7 @@ pub fn open_lines<H: Files<File = File>>(
     lines.truncate(whole);
     file.sync_all()?;
     sync_parent(files, path)?;
-    let end = SyncedFile {
+    let end = DurableAppend {
         file,
         written: Log::new(),
     };

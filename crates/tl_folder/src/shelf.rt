@@ -2,7 +2,7 @@
 
 ghost use Rattle.std.specs.Prelude.{◌≡◌, [], IfOk};
 
-use crate::disk::Disk;
+use crate::disk::CrashOutcome;
 use crate::fault::FileFault;
 use crate::files::FolderFiles;
 use crate::record::Record;
@@ -32,7 +32,7 @@ impl<D, H> Model for FolderShelf<D, H> {
     ghost view = { λ s. record { events = s.calls; failures = s.failures } };
 }
 
-impl<D: Disk + Drop, H: Files + Drop> FolderShelf<D, H> {
+impl<D: CrashOutcome + Drop, H: Files + Drop> FolderShelf<D, H> {
     /// The folder at this path, which is made where it isn't there.
     pub fn open(
         disk: D,
@@ -52,7 +52,7 @@ impl<D: Disk + Drop, H: Files + Drop> FolderShelf<D, H> {
     }
 }
 
-impl<D: Disk, H: Files + Drop> Shelf for FolderShelf<D, H> {
+impl<D: CrashOutcome, H: Files + Drop> Shelf for FolderShelf<D, H> {
     ghost use Rattle.std.specs.Prelude.{false};
     ghost use Rattle.tl_folder.specs.Folders.{after_calls, after_each, at_first};
 

@@ -11,17 +11,21 @@ use std::io::ErrorKind;
 /// A file that one process at a time reads and replaces: at each moment, also where a crash comes, it has its old bytes
 /// or its new ones.
 #[derive(Drop)]
-pub struct WholeFile<'s, H: Files> {
+pub struct AtomicFile<'s, H: Files> {
     files: &'s H,
     path: &'s str,
     beside: String,
     _lock: File,
 }
 
-impl<'s, H: Files<File = File>> WholeFile<'s, H> {
+impl<'s, H: Files<File = File>> AtomicFile<'s, H> {
     /// The file at this path, whether it is there or not. A file beside it, whose name has `.lock` behind, is made and
     /// locked as long as this lasts. `Busy`: another process has that lock.
-    pub fn open(files: &'s H, alloc: Global, path: &'s str) -> Result<WholeFile<'s, H>, FileFault> {
+    pub fn open(
+        files: &'s H,
+        alloc: Global,
+        path: &'s str,
+    ) -> Result<AtomicFile<'s, H>, FileFault> {
         let lock = format!(in alloc; "{path}.lock")?;
         let lock = OpenOptions::new()
             .append(true)
@@ -29,7 +33,7 @@ impl<'s, H: Files<File = File>> WholeFile<'s, H> {
             .open(files, lock.as_str())?;
         lock_file(&lock)?;
         let beside = format!(in alloc; "{path}.new")?;
-        Ok(WholeFile {
+        Ok(AtomicFile {
             files,
             path,
             beside,

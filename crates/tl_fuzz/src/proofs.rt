@@ -7,7 +7,7 @@ use std::str;
 use tl_command::{RunFault, run_check, run_check_about, run_consistency, run_inclusion};
 use tl_device::Counted;
 use tl_hash::Hash;
-use tl_text::hash_of;
+use tl_text::parse_hash;
 
 /// Texts of proofs, with the tree that the last is of and the entry that it shows.
 #[derive(Drop)]
@@ -46,7 +46,7 @@ fn root_in(text: &[u8]) -> Option<Hash> {
     let text = str::from_utf8(text).ok()?;
     for line in text.lines() {
         if let Some(root) = line.strip_prefix("root ") {
-            return hash_of(root);
+            return parse_hash(root);
         }
     }
     None

@@ -3,11 +3,12 @@ use Rattle.std.proofs.Common.{◌≡◌, ◌<◌, ◌≤◌, ℕ, List, [], ◌�
 use Rattle.std.proofs.KnownBytes.{Consumes-trans}
 use Rattle.std.proofs.lemmas.List.{length-take-le}
 use Rattle.std.specs.Io.KnownBytes.{Consumes}
-use Rattle.tl_get.specs.Get.{Gave, Receives}
+use Rattle.tl_device.specs.Reading.{Gave}
+use Rattle.tl_get.specs.Get.{Receives}
 use Rattle.tl_get.specs.Response.{BodyDecides}
 use Rattle.tl_get.specs.Inner.Bodies.{GrownBody, FullBody, SomeBody}
 use Rattle.tl_get.specs.declared.fault.GetFault.TheVariants.{TooLarge}
-use Rattle.tl_get.proofs.SendingLemmas.{over}
+use Rattle.tl_device.proofs.SendingLemmas.{over}
 
 -- bytes were read, and then more
 pub gave_then : (a b c : Option (List ℕ)) (f g h : Bool) (bytes more : List ℕ) (ended : Bool)

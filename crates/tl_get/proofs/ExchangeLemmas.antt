@@ -9,13 +9,13 @@ use Rattle.httparse.specs.Grammar.{ResponseHead, ReadsResponse, status_code}
 use Rattle.httparse.specs.Spans.{IsResponseAt, header_bytes, name_and_value}
 use Rattle.httparse.proofs.GrammarLemmas.{ReadsResponse-append}
 use Rattle.tl_device.specs.Device.{Passage}
-use Rattle.tl_get.specs.Fields.{fields_of}
+use Rattle.tl_http.specs.Fields.{fields_of}
 use Rattle.tl_get.specs.Get.{Came, Receives}
 use Rattle.tl_get.specs.Response.{Begins, BodyDecides, HeadDecides, Outcome, Responds}
 use Rattle.tl_get.specs.Inner.Heads.{Announces, HasNoHead, IsHeaded, IsTaken}
 use Rattle.tl_get.specs.declared.fault.GetFault.{GetFault}
 use Rattle.tl_get.specs.declared.fault.GetFault.TheVariants.{NoHead}
-use Rattle.tl_get.proofs.SendingLemmas.{over}
+use Rattle.tl_device.proofs.SendingLemmas.{over}
 
 -- no head was read
 pub no_head : (i : Passage) (limit : ℕ) → Came HasNoHead i → Receives (Responds limit) i (Err NoHead)

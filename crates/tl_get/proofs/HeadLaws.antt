@@ -4,7 +4,7 @@ use Rattle.std.proofs.lemmas.List.{take-append-le, take-append-drop}
 use Rattle.std.proofs.Math.Seq.{take-append_seam}
 use Rattle.httparse.specs.Grammar.{HasNoResponse, print_response}
 use Rattle.httparse.specs.Spans.{ResponseOverflows}
-use Rattle.tl_get.specs.Get.{MayBe}
+use Rattle.tl_device.specs.Reading.{MayBe}
 use Rattle.tl_get.specs.Inner.Heads.{HasNoHead}
 
 -- no byte is no head

@@ -4,7 +4,7 @@ use Rattle.tl_get.specs.Fields.{AnnouncesLength, IsLength}
 
 -- a text writes one number
 one_number : (text : List ℕ) (m n : ℕ) → IsLength m text → IsLength n text → m ≡ n
-one_number text m n a b = sym a.value ∙ b.value
+one_number text m n a b = sym a.written.value ∙ b.written.value
 
 -- one value more, where the others aren't clear
 pub still_unclear : (text : List ℕ) (values : List (List ℕ)) → ((n : Option ℕ) → ¬ (AnnouncesLength values n)) → (n : Option ℕ) → ¬ (AnnouncesLength (text ∷ values) n)

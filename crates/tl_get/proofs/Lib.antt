@@ -1,9 +1,4 @@
-pub mod SendingLemmas
-pub mod OutcomeLemmas
-pub mod ReadLemmas
 pub mod HeadLaws
-pub mod FieldLemmas
-pub mod NumberLemmas
 pub mod LengthLemmas
 pub mod RequestLemmas
 pub mod BodyLemmas

@@ -1,7 +1,8 @@
 -- The pieces of a request are its text.
 use Rattle.std.proofs.Common.{◌≡◌, ◌∙◌, ◌++◌, ℕ, List, [], ap, append-nil, append_assoc, codes, sym}
 use Rattle.tl_get.specs.Request.{request_text}
-use Rattle.tl_get.specs.Inner.Sending.{pieces_text, request_pieces}
+use Rattle.tl_device.specs.Pieces.{pieces_text}
+use Rattle.tl_get.specs.Inner.Sending.{request_pieces}
 
 joined : (a b c d e : List ℕ) → a ++ (b ++ (c ++ (d ++ (e ++ [])))) ≡ (((a ++ b) ++ c) ++ d) ++ e
 joined a b c d e =

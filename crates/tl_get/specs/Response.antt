@@ -3,7 +3,8 @@ use Rattle.std.specs.Prelude.{◌≡◌, ◌⊎◌, ℕ, ◌<◌, ◌≤◌, Lis
 use Rattle.std.specs.declared.vec.Vec.{Vec}
 use Rattle.httparse.specs.Grammar.{ResponseHead, ReadsResponse, print_response, status_code}
 use Rattle.tl_hash.specs.Bytes.{Bytes}
-use Rattle.tl_get.specs.Fields.{HasLength, IsPlain, fields_of}
+use Rattle.tl_http.specs.Fields.{fields_of}
+use Rattle.tl_get.specs.Fields.{HasLength, IsPlain}
 use Rattle.tl_get.specs.declared.fault.GetFault.{GetFault}
 use Rattle.tl_get.specs.declared.fault.GetFault.TheVariants.{NoHead, Version, Status, Encoded, BadLength, TooLarge, Short, OutOfMemory}
 

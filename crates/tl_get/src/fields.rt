@@ -3,11 +3,13 @@
 ghost use Rattle.std.specs.Prelude.{◌≡◌, ℕ, List, [], ◌∷◌, ◌↔◌, IsTrue, MatchOption, All, codes, length, map};
 ghost use Rattle.httparse.specs.Spans.{IsHeaderWithin, header_bytes};
 ghost use Rattle.tl_hash.specs.Bytes.{Bytes};
-ghost use Rattle.tl_get.specs.Fields.{IsLength, values_of};
+ghost use Rattle.tl_http.specs.Fields.{values_of};
+ghost use Rattle.tl_get.specs.Fields.{IsLength};
 ghost use Rattle.tl_get.specs.Inner.Lengths.{SaysLength};
 
 use crate::fault::GetFault;
 use httparse::spans::HeaderSpan;
+use tl_http::{Values, number_in, values_in};
 
 // The end of what a length may be.
 const END_OF_LENGTHS: u64 = 1 << 63;
@@ -17,37 +19,24 @@ pub(crate) fn lacks_field(buf: &[u8], headers: &[HeaderSpan], name: &[u8]) -> bo
     requires { All (IsHeaderWithin (length buf.now)) headers.now }
     ensures { IsTrue result ↔ (values_of name.now (map (header_bytes buf.now) headers.now) ≡ []) }
 {
-    let [first, rest @ ..] = headers else {
-        return true;
-    };
-    if first.name.of(buf).eq_ignore_ascii_case(name) {
-        return false;
-    }
-    lacks_field(buf, rest, name)
+    matches!(values_in(buf, headers, name), Values::None)
 }
 
 // The number below 2^63 that digits write. None where the text is no digits, or the number is larger.
-fn number_in(text: &[u8]) -> Option<u64>
+fn length_of(text: &[u8]) -> Option<u64>
     ensures { MatchOption result ((n : ℕ) → ¬ (IsLength n text.now)) (λ n. IsLength n text.now) }
 {
-    if text.is_empty() {
-        return None;
+    match number_in(text) {
+        Some(n) if n < END_OF_LENGTHS => Some(n),
+        _ => None,
     }
-    let mut n: u64 = 0;
-    for byte in text {
-        if !byte.is_ascii_digit() {
-            return None;
-        }
-        n = n.saturating_mul(10).saturating_add((*byte - b'0') as u64);
-    }
-    if n < END_OF_LENGTHS { Some(n) } else { None }
 }
 
 // What one value more of Content-Length announces, in front of what the others announce.
 fn with_value(text: &[u8], below: Result<Option<u64>, GetFault>) -> Result<Option<u64>, GetFault>
     ensures { (values : List Bytes) → SaysLength values below → SaysLength (text.now ∷ values) result }
 {
-    let Some(n) = number_in(text) else {
+    let Some(n) = length_of(text) else {
         return Err(GetFault::BadLength);
     };
     let others = match below {

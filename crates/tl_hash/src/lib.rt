@@ -17,6 +17,6 @@ mod tree;
 
 pub use digest::{Sha256Tree, TreeHash};
 pub use hash::Hash;
-pub use nodes::{four_nodes, nodes_over};
+pub use nodes::{hash_four_nodes, hash_level};
 pub use split::split_point;
 pub use tree::{empty_hash, entry_root, leaf_hash, node_hash};

@@ -8,7 +8,7 @@ use crate::hash::Hash;
 
 /// The hashes of four nodes (RFC 6962, section 2.1): node `j` is over hash `j` of `left` and hash `j` of `right`, where
 /// the first is 0.
-pub fn nodes_over<T: TreeHash>(h: T, left: &[Hash; 4], right: &[Hash; 4]) -> [Hash; 4]
+pub fn hash_level<T: TreeHash>(h: T, left: &[Hash; 4], right: &[Hash; 4]) -> [Hash; 4]
     ensures { (j : ℕ) → j < 4 → slice_index_or result j []
         ≡ T.digest_of (node_input (slice_index_or left.now j []) (slice_index_or right.now j [])) }
 {
@@ -20,7 +20,7 @@ pub fn nodes_over<T: TreeHash>(h: T, left: &[Hash; 4], right: &[Hash; 4]) -> [Ha
 
 /// The hashes of the nodes over four pairs of hashes that stand side by side (RFC 6962, section 2.1): node `j` is over
 /// hashes `from + 2 * j` and the one after it, where the first is 0. `level` has at least `from + 8` hashes.
-pub fn four_nodes<T: TreeHash>(h: T, level: &[Hash], from: usize) -> [Hash; 4]
+pub fn hash_four_nodes<T: TreeHash>(h: T, level: &[Hash], from: usize) -> [Hash; 4]
     requires { from + 8 ≤ length level.now }
     ensures { (j : ℕ) → j < 4 → slice_index_or result j []
         ≡ T.digest_of (node_input (slice_index_or level.now (from + 2 * j) []) (slice_index_or level.now (from + 2 * j + 1) [])) }

@@ -6,7 +6,7 @@ ghost use Rattle.tl_hash.specs.Tree.{tree_hash};
 
 use crate::digest::TreeHash;
 use crate::hash::Hash;
-use crate::nodes::nodes_over;
+use crate::nodes::hash_level;
 use crate::split::split_point;
 use crate::tree::node_hash;
 use std::alloc::Allocator;
@@ -35,7 +35,7 @@ pub(crate) fn four_roots<T: TreeHash, A: Allocator>(
     let k = split_point(a.len() as u64) as usize;
     let left = four_roots(h, &a[..k], &b[..k], &c[..k], &d[..k]);
     let right = four_roots(h, &a[k..], &b[k..], &c[k..], &d[k..]);
-    nodes_over(h, &left, &right)
+    hash_level(h, &left, &right)
 }
 
 /// The Merkle tree hash of a list of four times `q` entries (RFC 6962, section 2.1), by its quarters side by side. `q`

@@ -3,7 +3,7 @@ use Rattle.std.proofs.Common.{◌≡◌, ℕ, zero, suc, ◌<◌, List, [], ◌�
 use Rattle.std.specs.Prelude.{◌≢◌, bytes_eq, codes}
 use Rattle.std.proofs.lemmas.Slice.Eq.{bytes_eq-Decides}
 use Rattle.base64.specs.GeneralPurpose.{IsBytes}
-use Rattle.tl_ed25519.specs.Eddsa.{is_sound, public_key}
+use Rattle.tl_ed25519.specs.Eddsa.{is_valid_public_key, public_key}
 use Rattle.tl_key.specs.NoteKey.{PublicKey, SeedKey, key_id}
 use Rattle.tl_key.specs.KeyText.{hex8, key_text, Are32Bytes, IsVerifierText, IsSignerText}
 use Rattle.tl_key.specs.Inner.Parts.{Are33Bytes, HasParts}
@@ -52,12 +52,12 @@ verifier_other_digits kind id text n d b key t k has at id_is test fails is =
     let same = parts_once text n k.name d (hex8 (key_id k.name k.kind k.key)) b (k.kind ∷ k.key) has (verifier_parts kind text k is) in
     wrong_digits n k.name d key k.key kind k.kind id t same.0 (sym is.kind_asked) (at ∙ ap (drop 1) same.2) same.1 id_is test fails
 
-pub verifier_unsound : (kind : ℕ) (text n d b key : List ℕ) (t : Bool) (k : PublicKey) → HasParts text n d b → key ≡ drop 1 b → t ≡ is_sound key → t ≡ false → IsVerifierText kind text k → ⊥
+pub verifier_unsound : (kind : ℕ) (text n d b key : List ℕ) (t : Bool) (k : PublicKey) → HasParts text n d b → key ≡ drop 1 b → t ≡ is_valid_public_key key → t ≡ false → IsVerifierText kind text k → ⊥
 verifier_unsound kind text n d b key t k has at test fails is =
     let same = parts_once text n k.name d (hex8 (key_id k.name k.kind k.key)) b (k.kind ∷ k.key) has (verifier_parts kind text k is) in
     let key_is : key ≡ k.key = at ∙ ap (drop 1) same.2 in
-    let sound : is_sound k.key ≡ true = is.sound in
-    let both : true ≡ false = sym sound ∙ ap is_sound (sym key_is) ∙ sym test ∙ fails in
+    let sound : is_valid_public_key k.key ≡ true = is.sound in
+    let both : true ≡ false = sym sound ∙ ap is_valid_public_key (sym key_is) ∙ sym test ∙ fails in
     cc
 
 pub no_verifier : (kind : ℕ) (text : List ℕ) (k : PublicKey) → ((n d b : List ℕ) → HasParts text n d b → ⊥) → IsVerifierText kind text k → ⊥
@@ -89,7 +89,7 @@ spelled_as : (text n d b key : List ℕ) (kind id : ℕ) → text ≡ key_text n
 spelled_as text n d b key kind id is digits bytes = is ∙ ap (λ (x : List ℕ). key_text n x b) digits ∙ ap (λ (x : List ℕ). key_text n (hex8 id) x) bytes
 
 pub verifier_found : (kind id : ℕ) (text n d b key : List ℕ) (t sound : Bool) → kind < 256 → HasParts text n d b → get_or b 0 0 ≡ kind → key ≡ drop 1 b → id ≡ key_id n kind key
-    → t ≡ bytes_eq d (hex8 id) → t ≡ true → sound ≡ is_sound key → sound ≡ true → IsVerifierText kind text (record { name = n; kind = kind; key = key }) × (id ≡ key_id n kind key)
+    → t ≡ bytes_eq d (hex8 id) → t ≡ true → sound ≡ is_valid_public_key key → sound ≡ true → IsVerifierText kind text (record { name = n; kind = kind; key = key }) × (id ≡ key_id n kind key)
 verifier_found kind id text n d b key t sound small has first at id_is test holds sound_is stands =
     let apart = taken_apart b kind has.fit first in
     let bytes : b ≡ kind ∷ key = apart.0 ∙ ap (λ (x : List ℕ). kind ∷ x) (sym at) in (

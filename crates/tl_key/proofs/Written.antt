@@ -2,7 +2,7 @@
 use Rattle.std.proofs.Common.{◌≡◌, ℕ, suc, ◌<◌, List, ◌∷◌, ◌++◌, refl, ap, subst, ◌∙◌, arith}
 use Rattle.std.specs.Prelude.{codes, IsTrue}
 use Rattle.tl_text.specs.Text.{base64_text}
-use Rattle.tl_ed25519.specs.Eddsa.{is_sound, public_key}
+use Rattle.tl_ed25519.specs.Eddsa.{is_valid_public_key, public_key}
 use Rattle.tl_key.specs.NoteKey.{IsKept, PublicKey, SeedKey, key_id}
 use Rattle.tl_key.specs.KeyText.{hex8, key_text, Are32Bytes, IsVerifierText, IsSignerText}
 use Rattle.tl_key.specs.Inner.Parts.{Are33Bytes}
@@ -18,9 +18,9 @@ behind kind sent id name start key rest text known kept sent_is rest_is start_is
     ∙ ap (λ (n : ℕ). key_text name (hex8 (key_id name kind known)) (n ∷ rest)) sent_is ∙ ap (λ (x : List ℕ). key_text name (hex8 (key_id name kind known)) (kind ∷ x)) rest_is
 
 pub verifier_written : (kind sent id : ℕ) (name word start key text : List ℕ) (k : PublicKey) → record { name = name; kind = kind; key = key } ≡ k → IsKept name kind key id → sent ≡ kind
-    → Are33Bytes (sent ∷ key) → word ≡ name → start ≡ word → text ≡ start ++ 0x2B ∷ (hex8 id ++ 0x2B ∷ base64_text (sent ∷ key)) → IsTrue (is_sound k.key) → IsVerifierText kind text k
+    → Are33Bytes (sent ∷ key) → word ≡ name → start ≡ word → text ≡ start ++ 0x2B ∷ (hex8 id ++ 0x2B ∷ base64_text (sent ∷ key)) → IsTrue (is_valid_public_key k.key) → IsVerifierText kind text k
 verifier_written kind sent id name word start key text k view kept sent_is fit word_is start_is is =
-    subst (λ (x : PublicKey). IsTrue (is_sound x.key) → IsVerifierText kind text x) view (λ sound. record {
+    subst (λ (x : PublicKey). IsTrue (is_valid_public_key x.key) → IsVerifierText kind text x) view (λ sound. record {
       name = kept.lawful;
       kind_asked = refl;
       byte = subst (λ (n : ℕ). n < 256) sent_is (fit.fit 0);

@@ -5,7 +5,7 @@ use Rattle.hex.specs.Hex.{encode_lower}
 use Rattle.base64.specs.GeneralPurpose.{IsBytes}
 use Rattle.tl_hash.specs.Bytes.{Bytes}
 use Rattle.tl_text.specs.Text.{base64_text}
-use Rattle.tl_ed25519.specs.Eddsa.{is_sound, public_key}
+use Rattle.tl_ed25519.specs.Eddsa.{is_valid_public_key, public_key}
 use Rattle.tl_note.specs.Key.{IsKeyName}
 use Rattle.tl_key.specs.NoteKey.{PublicKey, SeedKey, key_id}
 
@@ -37,7 +37,7 @@ pub record IsVerifierText (kind : ℕ) (text : Bytes) (k : PublicKey) : Type 0 w
   pub kind_asked : k.kind ≡ kind
   pub byte : k.kind < 256
   pub key : Are32Bytes k.key
-  pub sound : IsTrue (is_sound k.key)
+  pub sound : IsTrue (is_valid_public_key k.key)
   pub spelled : text ≡ verifier_text k
 
 -- the text is that of this signer's key, which is of the type asked for

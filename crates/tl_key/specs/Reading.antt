@@ -1,7 +1,7 @@
 -- What making a key and reading its text answer.
 use Rattle.std.specs.Prelude.{◌≡◌, ℕ, true, false, Result, Ok, Err}
 use Rattle.tl_hash.specs.Bytes.{Bytes}
-use Rattle.tl_ed25519.specs.Eddsa.{is_sound}
+use Rattle.tl_ed25519.specs.Eddsa.{is_valid_public_key}
 use Rattle.tl_note.specs.Key.{IsKeyName}
 use Rattle.tl_key.specs.declared.fault.KeyFault.{KeyFault}
 use Rattle.tl_key.specs.declared.fault.KeyFault.TheVariants.{Malformed, BadName, Unsound, OutOfMemory}
@@ -32,11 +32,11 @@ ReadsSigner kind text (Err OutOfMemory) = (k : SeedKey) × IsSignerText kind tex
 
 -- the key that was asked for; the name is looked at before the public key, and both before memory is asked for
 abbrev pub MakesVerifier : PublicKey → Result PublicKey KeyFault → Type 0
-MakesVerifier wanted (Ok k) = (k ≡ wanted) × IsKeyName wanted.name × (is_sound wanted.key ≡ true)
+MakesVerifier wanted (Ok k) = (k ≡ wanted) × IsKeyName wanted.name × (is_valid_public_key wanted.key ≡ true)
 MakesVerifier wanted (Err Malformed) = ⊥
 MakesVerifier wanted (Err BadName) = IsKeyName wanted.name → ⊥
-MakesVerifier wanted (Err Unsound) = IsKeyName wanted.name × (is_sound wanted.key ≡ false)
-MakesVerifier wanted (Err OutOfMemory) = IsKeyName wanted.name × (is_sound wanted.key ≡ true)
+MakesVerifier wanted (Err Unsound) = IsKeyName wanted.name × (is_valid_public_key wanted.key ≡ false)
+MakesVerifier wanted (Err OutOfMemory) = IsKeyName wanted.name × (is_valid_public_key wanted.key ≡ true)
 
 abbrev pub MakesSigner : SeedKey → Result SeedKey KeyFault → Type 0
 MakesSigner wanted (Ok k) = (k ≡ wanted) × IsKeyName wanted.name

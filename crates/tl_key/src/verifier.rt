@@ -1,7 +1,7 @@
 //! Verifiers of notes by Ed25519: public keys and their texts.
 
 ghost use Rattle.std.specs.Prelude.{◌≡◌, IfOk, IsTrue, MatchOption, string_bytes};
-ghost use Rattle.tl_ed25519.specs.Eddsa.{is_sound};
+ghost use Rattle.tl_ed25519.specs.Eddsa.{is_valid_public_key};
 ghost use Rattle.tl_key.specs.KeyText.{IsVerifierText, verifier_text};
 ghost use Rattle.tl_key.specs.NoteKey.{IsKept, is_valid, key_id};
 ghost use Rattle.tl_key.specs.Reading.{IsNoVerifierText, MakesVerifier, ReadsVerifier};
@@ -12,7 +12,7 @@ use crate::kind::{Cosignature, KeyKind, Note};
 use crate::parts::{after_kind, push_tail, read_parts};
 use std::alloc::{AllocError, Allocator};
 use std::marker::{Model, PhantomData};
-use tl_ed25519::{is_sound, verify};
+use tl_ed25519::{is_valid_public_key, verify};
 use tl_note::{Verifier, is_key_name};
 
 /// A verifier's key of a type: a name and an Ed25519 public key. A contract sees it as a `PublicKey`.
@@ -43,14 +43,14 @@ impl<K: KeyKind, A: Allocator> Model for VerifierKey<K, A> {
 
 impl<K: KeyKind, A: Allocator> VerifierKey<K, A> {
     /// The key of this name and public key, of 32 bytes. The name is looked at first: `BadName` where it is no key's
-    /// name, then `Unsound` where the public key isn't fit for use (`tl_ed25519::is_sound`).
+    /// name, then `Unsound` where the public key isn't fit for use (`tl_ed25519::is_valid_public_key`).
     pub fn new(alloc: A, name: &str, key: &[u8; 32]) -> Result<VerifierKey<K, A>, KeyFault>
         ensures { MakesVerifier (record { name = name.now; kind = K.KIND; key = key.now }) result }
     {
         if !is_key_name(name) {
             return Err(KeyFault::BadName);
         }
-        if !is_sound(key) {
+        if !is_valid_public_key(key) {
             return Err(KeyFault::Unsound);
         }
         let id = id_of(name, K::KIND, key);
@@ -136,7 +136,7 @@ fn find(kind: u8, text: &str) -> Option<Found<'_>>
     if !are_digits_of(parts.digits, id) {
         return None;
     }
-    if !is_sound(&key) {
+    if !is_valid_public_key(&key) {
         return None;
     }
     Some(Found {
@@ -168,7 +168,7 @@ pub fn write_verifier_key<K: KeyKind, B: Allocator, A: Allocator + Copy>(
     key: &VerifierKey<K, B>,
 ) -> Result<String<A>, AllocError>
     ensures text { IfOk result (λ text. string_bytes text ≡ verifier_text key.now) }
-    ensures lawful { IfOk result (λ text. IsTrue (is_sound key.now.key) → IsVerifierText K.KIND (string_bytes text) key.now) }
+    ensures lawful { IfOk result (λ text. IsTrue (is_valid_public_key key.now.key) → IsVerifierText K.KIND (string_bytes text) key.now) }
 {
     let mut text = String::from_str(alloc, key.name.as_str())?;
     push_tail(alloc, &mut text, key.id, K::KIND, &key.key)?;

@@ -11,7 +11,7 @@ use base64::DecodeAllocError;
 use base64::engine::general_purpose::STANDARD;
 use std::alloc::{AllocError, Allocator};
 use std::marker::Model;
-use tl_text::{BLOCK_LEN, is_base64, read_block};
+use tl_text::{BLOCK_LEN, decode_base64_block, is_base64};
 
 /// A signature line of a note, within the message. A contract sees it as the signature that the line shows: the key's
 /// name, its identifier and the bytes of the signature. Reading alone makes one, so the line is a lawful one.
@@ -140,7 +140,7 @@ pub(crate) fn read_key_id(field: &str) -> Option<u32>
     if text.len() < BLOCK_LEN {
         return None;
     }
-    let Some(block) = read_block(&text[..BLOCK_LEN]) else {
+    let Some(block) = decode_base64_block(&text[..BLOCK_LEN]) else {
         return None;
     };
     if block.count <= KEY_ID_LEN {

@@ -130,7 +130,7 @@ entries_in-more start end entries others order within =
     let over : (list : List (List ℕ)) → entries_in start end list ≡ drop start (take end list) = λ list. sym (drop-take start (end - start) list) ∙ ap (λ (x : ℕ). drop start (take x list)) sum in
     over (entries ++ others) ∙ ap (drop start) (take-append-le end entries others within) ∙ sym (over entries)
 
--- what folds the hashes of a covered part of the entries, as `segment_hash` does
+-- what folds the hashes of a covered part of the entries, as `cover_hash` does
 abbrev pub Folds : (List ℕ → List ℕ) → List (List ℕ) → List ℕ → Type 0
 Folds H hashes result =
     (entries : List (List ℕ)) (start end : ℕ) (indexes : List ℕ) → AreCovering start end indexes → end ≤ length entries → hashes ≡ map (stored_hash H entries) indexes

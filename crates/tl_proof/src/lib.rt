@@ -6,8 +6,8 @@
 //! assert!(!check_tree(Sha256Tree, &proof, 2, root, 1, root));
 //!
 //! let proofs = prove_records(alloc, Sha256Tree, 2, &[0, 1], &store)?; // of both entries, from one read
-//! let cat = Record { index: 0, leaf: cat_hash, proof: &proofs[0] };
-//! let dog = Record { index: 1, leaf: dog_hash, proof: &proofs[1] };
+//! let cat = InclusionClaim { index: 0, leaf: cat_hash, proof: &proofs[0] };
+//! let dog = InclusionClaim { index: 1, leaf: dog_hash, proof: &proofs[1] };
 //! assert!(check_records(Sha256Tree, 2, root, &[cat, dog])); // four proofs at a time
 //! ```
 #![tactic(auto)]
@@ -28,5 +28,5 @@ pub use check::{check_record, check_tree};
 pub use fault::ProveFault;
 pub use link::{HashList, Link};
 pub use prove::{prove_record, prove_records, prove_tree};
-pub use records::{Record, check_records};
+pub use records::{InclusionClaim, check_records};
 pub use verdict::{AuditFault, Verdict};

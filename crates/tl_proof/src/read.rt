@@ -11,7 +11,7 @@ ghost use Rattle.tl_proof.specs.Inner.Segments.{IsSegment, IsNeeded, AreGroups, 
 use crate::plan::Segment;
 use std::alloc::{AllocError, Allocator};
 use tl_hash::{Hash, TreeHash};
-use tl_store::{HashReader, ReadFault, push_segment_indexes, segment_hash};
+use tl_store::{HashReader, ReadFault, cover_hash, cover_indexes};
 
 // How many complete subtrees cover a segment.
 fn subtrees(segment: Segment) -> usize
@@ -44,7 +44,7 @@ fn group_indexes<A: Allocator>(alloc: A, segments: &[Segment]) -> Result<Vec<u64
     let mut indexes = Vec::new(alloc);
     indexes.reserve(all_subtrees(segments))?;
     for segment in segments {
-        push_segment_indexes(&mut indexes, segment.start, segment.end);
+        cover_indexes(&mut indexes, segment.start, segment.end);
     }
     Ok(indexes)
 }
@@ -70,7 +70,7 @@ fn group_hashes<T: TreeHash, A: Allocator>(
     let mut from = 0;
     for segment in segments {
         let to = from + subtrees(*segment);
-        roots.push(segment_hash(h, &hashes[from..to]))?;
+        roots.push(cover_hash(h, &hashes[from..to]))?;
         from = to;
     }
     Ok(roots)

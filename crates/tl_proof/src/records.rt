@@ -6,12 +6,12 @@ ghost use Rattle.tl_proof.specs.Acceptance.{root_from_leaf, AcceptsInclusion};
 ghost use Rattle.tl_proof.specs.Inner.Lanes.{lane_root, node_with};
 
 use crate::check::{check_record, same};
-use tl_hash::{Hash, TreeHash, nodes_over, split_point};
+use tl_hash::{Hash, TreeHash, hash_level, split_point};
 
 /// A claim of inclusion: the entry at `index`, counted from 0, has this leaf hash. Its inclusion proof goes with it
 /// (PATH of RFC 6962, section 2.1.1), the hash nearest to the leaf first.
 #[derive(Clone, Copy)]
-pub struct Record<'a> {
+pub struct InclusionClaim<'a> {
     /// The place of the entry, counted from 0.
     pub index: u64,
     /// The hash of the entry's leaf.
@@ -136,18 +136,18 @@ fn lead_four<T: TreeHash>(
     let b = children(second.on_left, roots[1], b[last]);
     let c = children(third.on_left, roots[2], c[last]);
     let d = children(fourth.on_left, roots[3], d[last]);
-    Some(nodes_over(h, &[a.0, b.0, c.0, d.0], &[a.1, b.1, c.1, d.1]))
+    Some(hash_level(h, &[a.0, b.0, c.0, d.0], &[a.1, b.1, c.1, d.1]))
 }
 
 // Whether the proof of one record is accepted.
-fn accepts_one<T: TreeHash>(h: T, size: u64, root: Hash, claim: &Record<'_>) -> bool
+fn accepts_one<T: TreeHash>(h: T, size: u64, root: Hash, claim: &InclusionClaim<'_>) -> bool
     ensures { IsTrue result ↔ AcceptsInclusion T.digest_of claim.now.proof.now size root claim.now.index claim.now.leaf }
 {
     check_record(h, claim.proof, size, root, claim.index, claim.leaf)
 }
 
 // Whether the proof of each record is accepted, one by one.
-fn accepts_each<T: TreeHash>(h: T, size: u64, root: Hash, records: &[Record<'_>]) -> bool
+fn accepts_each<T: TreeHash>(h: T, size: u64, root: Hash, records: &[InclusionClaim<'_>]) -> bool
     ensures { IsTrue result ↔ All (λ r. AcceptsInclusion T.digest_of r.proof.now size root r.index r.leaf) records.now }
 {
     records
@@ -156,7 +156,7 @@ fn accepts_each<T: TreeHash>(h: T, size: u64, root: Hash, records: &[Record<'_>]
 }
 
 // What one record is followed for.
-fn lane_of(size: u64, claim: &Record<'_>) -> Lane
+fn lane_of(size: u64, claim: &InclusionClaim<'_>) -> Lane
     ensures index { result.index ≡ claim.now.index }
     ensures size { result.size ≡ size }
     ensures leaf { result.leaf ≡ claim.now.leaf }
@@ -172,10 +172,10 @@ fn lane_of(size: u64, claim: &Record<'_>) -> Lane
 fn lead_records<T: TreeHash>(
     h: T,
     size: u64,
-    a: &Record<'_>,
-    b: &Record<'_>,
-    c: &Record<'_>,
-    d: &Record<'_>,
+    a: &InclusionClaim<'_>,
+    b: &InclusionClaim<'_>,
+    c: &InclusionClaim<'_>,
+    d: &InclusionClaim<'_>,
 ) -> Option<[Hash; 4]>
     ensures a { IfSome result (λ roots. root_from_leaf T.digest_of a.now.index size (reverse a.now.proof.now) a.now.leaf ≡ Some (slice_index_or roots 0 [])) }
     ensures b { IfSome result (λ roots. root_from_leaf T.digest_of b.now.index size (reverse b.now.proof.now) b.now.leaf ≡ Some (slice_index_or roots 1 [])) }
@@ -214,10 +214,10 @@ fn accepts_four<T: TreeHash>(
     h: T,
     size: u64,
     root: Hash,
-    a: &Record<'_>,
-    b: &Record<'_>,
-    c: &Record<'_>,
-    d: &Record<'_>,
+    a: &InclusionClaim<'_>,
+    b: &InclusionClaim<'_>,
+    c: &InclusionClaim<'_>,
+    d: &InclusionClaim<'_>,
 ) -> bool
     ensures { IsTrue result ↔ (
         AcceptsInclusion T.digest_of a.now.proof.now size root a.now.index a.now.leaf
@@ -245,7 +245,12 @@ fn accepts_four<T: TreeHash>(
 /// section 2.1.1): what `check_record` says of each. Four proofs of equal length that stand side by side in the list
 /// are followed in step, and their digests taken four at a time. It takes no memory, and no more than 64 calls stand at
 /// once. Where there is no record it is true.
-pub fn check_records<T: TreeHash>(h: T, size: u64, root: Hash, records: &[Record<'_>]) -> bool
+pub fn check_records<T: TreeHash>(
+    h: T,
+    size: u64,
+    root: Hash,
+    records: &[InclusionClaim<'_>],
+) -> bool
     ensures { IsTrue result ↔ All (λ r. AcceptsInclusion T.digest_of r.proof.now size root r.index r.leaf) records.now }
 {
     let mut left = records;

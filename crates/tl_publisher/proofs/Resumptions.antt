@@ -26,7 +26,8 @@ use Rattle.tl_publisher.specs.declared.fault.OperatorFault.TheVariants as operat
 use Rattle.tl_publisher.specs.declared.fault.ResumeFault.{ResumeFault}
 use Rattle.tl_publisher.specs.declared.fault.ResumeFault.TheVariants as resume
 use Rattle.tl_publisher.specs.Publishing.{MayOpenAll, OpenRefusesOperator}
-use Rattle.tl_publisher.specs.Resuming.{bundle_count, bundle_width, Resumption, AreBundlesOf, IsSized, IsBundleAt, IsOfOrigin, IsBase, ResumeRefuses}
+use Rattle.tl_tile.specs.Needed.{bundle_width}
+use Rattle.tl_publisher.specs.Resuming.{bundle_count, Resumption, AreBundlesOf, IsSized, IsBundleAt, IsOfOrigin, IsBase, ResumeRefuses}
 use Rattle.tl_publisher.specs.Inner.Opening.{IsWant}
 use Rattle.tl_publisher.specs.Inner.Resuming.{Refuses, MissesBundle, after_bundle, after_operator, after_sequencer}
 

@@ -1,13 +1,13 @@
 -- A log that goes on from a checkpoint that was published, with the bundles of its entries (C2SP tlog-checkpoint,
 -- tlog-tiles).
-use Rattle.std.specs.Prelude.{◌≡◌, ◌≢◌, ℕ, ◌*◌, ◌/◌, ◌%◌, ◌<◌, ◌≤◌, ◌^◌, List, [], length, take, drop, nat_lt, if◌then◌else◌, slice_index_or, Err}
+use Rattle.std.specs.Prelude.{◌≡◌, ◌≢◌, ℕ, ◌*◌, ◌<◌, ◌≤◌, ◌^◌, List, [], length, take, drop, slice_index_or, Err}
 use Rattle.std.specs.Global.{Global}
 use Rattle.sha2.specs.Sha256.{sha256}
 use Rattle.tl_hash.specs.Tree.{tree_hash}
 use Rattle.tl_note.specs.Key.{Key, SigningKey}
 use Rattle.tl_note.specs.Note.{IsNote}
 use Rattle.tl_tile.specs.Bundle.{bundle_text, AreShortEntries, IsBundle}
-use Rattle.tl_tile.specs.Needed.{pieces}
+use Rattle.tl_tile.specs.Needed.{bundle_width, pieces}
 use Rattle.tl_tile.specs.declared.resource.Resource.TheVariants as resource
 use Rattle.tl_checkpoint.specs.Checkpoint.{Head}
 use Rattle.tl_checkpoint.specs.OpenCheckpoint.{IsSignedCheckpoint, OpensCheckpoint}
@@ -21,10 +21,6 @@ use Rattle.tl_publisher.specs.Publishing.{OpenRefusesOperator}
 -- how many bundles a log of this size needs
 abbrev pub bundle_count : ℕ → ℕ
 bundle_count size = length (pieces resource.Entries size)
-
--- how many entries the bundle at this place has in a log of this size: 256, or what is left
-abbrev pub bundle_width : ℕ → ℕ → ℕ
-bundle_width size place = if nat_lt place (size / 256) then 256 else size % 256
 
 -- what is to go on: the note of its checkpoint with the keys that open it, its bundles, and the origin and limit of the
 -- log

@@ -13,7 +13,7 @@ use crate::operator::{Operator, Shown};
 use crate::published::Published;
 use std::alloc::{AllocError, Global};
 use std::sync::Wait;
-use tl_checkpoint::{Cosigned, first_cosignatures};
+use tl_checkpoint::{Cosigned, cosignatures_by};
 use tl_note::{NoteFault, SigView, parse_signatures};
 
 // The note, and the lines that were found behind its own.
@@ -51,12 +51,7 @@ impl<R: Wait + Drop> Operator<R> {
     {
         let lines = lines_of(self.alloc, lines)?;
         let text = text_of(self.alloc, self.origin.as_str(), self.run.grown())?;
-        let found = first_cosignatures(
-            self.alloc,
-            text.as_str(),
-            &lines,
-            self.witnesses.as_slice(),
-        )?;
+        let found = cosignatures_by(self.alloc, text.as_str(), &lines, self.witnesses.as_slice())?;
         if found.len() < self.need as usize {
             return Err(AttachFault::TooFew(found.len() as u32));
         }

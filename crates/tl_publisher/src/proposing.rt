@@ -10,7 +10,7 @@ use crate::fault::{PublishFault, RequireFault};
 use crate::noting::note_of;
 use crate::operator::{Operator, Shown};
 use std::sync::Wait;
-use tl_checkpoint::are_apart;
+use tl_checkpoint::have_distinct_names;
 use tl_note::{MOST_LINES, Verifier};
 
 /// A checkpoint that the signers signed, for the witnesses: the number of its entries, and its note (C2SP signed-note),
@@ -52,7 +52,7 @@ impl<R: Wait + Drop> Operator<R> {
         if !self.may_need(witnesses, need) {
             return Some(RequireFault::Need);
         }
-        if !are_apart(witnesses) {
+        if !have_distinct_names(witnesses) {
             return Some(RequireFault::Twice);
         }
         None

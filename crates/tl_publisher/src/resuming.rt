@@ -7,7 +7,8 @@ ghost use Rattle.tl_note.specs.Note.{IsNote};
 ghost use Rattle.tl_publisher.specs.Grown.{IsGrown};
 ghost use Rattle.tl_publisher.specs.Inner.Resuming.{MissesBundle, Refuses, after_bundle, after_operator, after_sequencer};
 ghost use Rattle.tl_publisher.specs.Operating.{HaveSeen, IsNew, IsOperating};
-ghost use Rattle.tl_publisher.specs.Resuming.{AreBundlesOf, IsBase, IsBundleAt, IsFirstBad, IsOfOrigin, IsSized, ResumeRefuses, bundle_count, bundle_width};
+ghost use Rattle.tl_publisher.specs.Resuming.{AreBundlesOf, IsBase, IsBundleAt, IsFirstBad, IsOfOrigin, IsSized, ResumeRefuses, bundle_count};
+ghost use Rattle.tl_tile.specs.Needed.{bundle_width};
 ghost use Rattle.tl_tile.specs.Bundle.{AreEntries, bundle_text};
 
 use crate::fault::{OperatorFault, ResumeFault};
@@ -20,7 +21,7 @@ use std::sync::Wait;
 use tl_checkpoint::{Checkpoint, OpenCheckpointFault, open_checkpoint};
 use tl_note::{Signer, Verifier};
 use tl_sequencer::{OpenFault, Submitter, open_from};
-use tl_tile::{BundleFault, read_bundle};
+use tl_tile::{BundleFault, bundle_width, read_bundle};
 
 const MOST_ENTRIES: u64 = 0xFFFF_FFFF;
 
@@ -55,20 +56,6 @@ fn is_sized(size: u64, bundles: usize, limit: u64) -> bool
     bundles as u64 == (size + 255) / 256
 }
 
-// How many entries the bundle at this place has.
-fn width_at(size: u64, place: usize) -> u32
-    requires { place < bundle_count size }
-    ensures value { result ≡ bundle_width size place }
-    ensures some { 0 < result }
-    ensures most { result ≤ 256 }
-{
-    if (place as u64) < size / 256 {
-        256
-    } else {
-        (size % 256) as u32
-    }
-}
-
 // Why the bundle at this place was not read.
 fn bundle_refusal(fault: BundleFault, place: usize) -> ResumeFault
     ensures { result ≡ after_bundle place fault }
@@ -92,7 +79,7 @@ fn read_at(
     ensures text { IfOk result (λ entries. slice_index_or (map vec_items bundles.now) place [] ≡ bundle_text (map vec_items entries.items)) }
     ensures refused { ((i : ℕ) → i < place → IsBundleAt (map vec_items bundles.now) size i) → IfErr result (MissesBundle (map vec_items bundles.now) size) }
 {
-    let width = width_at(size, place);
+    let width = bundle_width(size, place as u64);
     match read_bundle(alloc, &bundles[place], width) {
         Ok(entries) => Ok(entries),
         Err(fault) => Err(bundle_refusal(fault, place)),

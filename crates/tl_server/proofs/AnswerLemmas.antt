@@ -1,7 +1,8 @@
 -- The pieces of an answer are its text.
 use Rattle.std.proofs.Common.{◌≡◌, ◌∙◌, ap, ℕ, List, [], ◌∷◌, ◌++◌, append_assoc, length, codes, decimal, refl}
 use Rattle.tl_server.specs.Answer.{answer_text, phrase, crlf, field_line, type_line}
-use Rattle.tl_server.specs.Inner.Sending.{pieces_text, answer_pieces, beside}
+use Rattle.tl_device.specs.Pieces.{pieces_text}
+use Rattle.tl_server.specs.Inner.Sending.{answer_pieces, beside}
 
 three : (x y z r : List ℕ) → ((x ++ y) ++ z) ++ r ≡ x ++ (y ++ (z ++ r))
 three x y z r = append_assoc (x ++ y) z r ∙ append_assoc x y (z ++ r)

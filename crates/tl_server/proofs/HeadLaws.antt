@@ -5,7 +5,7 @@ use Rattle.std.proofs.Math.Seq.{take-append_seam, take-append-add}
 use Rattle.httparse.specs.Grammar.{HasNoRequest, MayBecomeRequest, ReadsRequest, print_request}
 use Rattle.httparse.specs.Spans.{RequestOverflows}
 use Rattle.tl_server.specs.Inner.Deciding.{HasNoHead, IsWithoutHead}
-use Rattle.tl_server.specs.Serve.{MayBe}
+use Rattle.tl_device.specs.Reading.{MayBe}
 
 -- an error of the parser, with room for 64 fields: no head within the limits, whatever follows
 refused : (buf more : List ℕ) → RequestOverflows 64 buf → HasNoHead (buf ++ more)

@@ -10,15 +10,16 @@ use Rattle.tl_server.specs.Answer.{Answer}
 use Rattle.tl_server.specs.Head.{HasBody}
 use Rattle.tl_server.specs.Exchange.{Begun, Exchange}
 use Rattle.tl_server.specs.Witness.{WitnessAnswers, WitnessDecides}
-use Rattle.tl_server.specs.Serve.{Came, Gave, MayBe, Sends, Sent, Serves}
+use Rattle.tl_device.specs.Reading.{Gave, MayBe}
+use Rattle.tl_server.specs.Serve.{Came, Sends, Sent, Serves}
 use Rattle.tl_server.specs.Inner.AskedOf.{AskedAnswers, AsksWitness}
 use Rattle.tl_server.specs.Inner.Deciding.{IsHeaded, Rest}
 use Rattle.tl_server.specs.declared.asked.Asked.{Asked}
 use Rattle.tl_server.specs.declared.asked.Asked.TheVariants.{NotFound, OtherMethod, Unsized, TooLarge, Decision}
 use Rattle.tl_server.specs.declared.fault.ServeFault.{ServeFault}
 use Rattle.tl_server.specs.declared.fault.ServeFault.TheVariants.{Read, Write}
-use Rattle.tl_server.proofs.SendingLemmas.{over}
-use Rattle.tl_server.proofs.ReadLemmas.{gave_none}
+use Rattle.tl_device.proofs.SendingLemmas.{over}
+use Rattle.tl_device.proofs.ReadLemmas.{gave_none}
 use Rattle.tl_server.proofs.ServeLemmas.{sent_serves, head_in, whole_begins}
 
 -- what a head asks decides as the table does

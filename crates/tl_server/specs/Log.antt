@@ -73,7 +73,8 @@ read_answer r (Ok (Some bytes)) = record { status = 200; allow = []; kind = kind
 read_answer r (Ok None) = bare 404
 read_answer r (Err _) = bare 500
 
--- the answer to one read of a shelf, which gives what is there where the shelf is honest; A is the allocator of the bytes
+-- the answer to one read of a shelf, which gives what is there where the shelf is honest; A is the allocator of its
+-- bytes
 pub record ReadsShelf (A : Type 0) (is_honest : Bool) (held : Held) (r : Resource) (a : Answer) : Type 0 where
   pub read : ShelfRead A
   pub right : is_honest ≡ true → IfOk read (λ found. option_map vec_items found ≡ held r)

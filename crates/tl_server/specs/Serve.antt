@@ -1,23 +1,11 @@
 -- One request over a reader and a writer.
 use Rattle.std.specs.Prelude.{◌≡◌, ℕ, [], ◌++◌, Bool, true, Option, Some, None, Result, Ok, Err}
-use Rattle.std.specs.Io.KnownBytes.{Consumes, IsAtEnd}
-use Rattle.tl_device.specs.Device.{Passage, IsSteady, HasFailed, IsUnwritten, WroteWhole, WrotePart}
+use Rattle.tl_device.specs.Device.{Passage, HasFailed, IsUnwritten, WroteWhole, WrotePart}
+use Rattle.tl_device.specs.Reading.{Gave, MayBe}
 use Rattle.tl_hash.specs.Bytes.{Bytes}
 use Rattle.tl_server.specs.Answer.{Answer, answer_text}
 use Rattle.tl_server.specs.declared.fault.ServeFault.{ServeFault}
 use Rattle.tl_server.specs.declared.fault.ServeFault.TheVariants.{Read, Write}
-
--- the reader gave these bytes; `ended` says that it was seen to be at its end after them
-pub record Gave (i : Passage) (bytes : Bytes) (ended : Bool) : Type 0 where
-  pub consumed : Consumes i.old i.new bytes
-  pub at_end : ended ≡ true → IsAtEnd i.new
-  pub steady : IsSteady i
-
--- the whole input may be this one, of which these bytes were read
-pub record MayBe (bytes : Bytes) (ended : Bool) (input : Bytes) : Type 0 where
-  pub more : Bytes
-  pub joined : input ≡ bytes ++ more
-  pub none : ended ≡ true → more ≡ []
 
 -- this is the answer to what was read, whatever may follow it
 pub record Came (Answers : Bytes → Option Answer → Type 0) (i : Passage) (answer : Option Answer) : Type 0 where

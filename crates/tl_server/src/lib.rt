@@ -1,5 +1,5 @@
-//! One request over HTTP/1.1: to a log, whose resources a reader of its board has or a shelf (C2SP tlog-tiles), and to a
-//! witness (C2SP tlog-witness). After its answer the connection is closed.
+//! One request over HTTP/1.1: to a log, whose resources a reader of its board has or a shelf (C2SP tlog-tiles), and to
+//! a witness (C2SP tlog-witness). After its answer the connection is closed.
 //!
 //! ```
 //! let mut reader = Counted::new(&stream);

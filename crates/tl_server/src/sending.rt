@@ -4,16 +4,13 @@ ghost use Rattle.std.specs.Prelude.{◌≡◌, ◌<◌, ◌≤◌, ◌++◌, ◌
 ghost use Rattle.tl_device.specs.Device.{passage, WroteWhole, WrotePart};
 ghost use Rattle.tl_server.specs.Answer.{phrase, bare, not_allowed};
 ghost use Rattle.tl_server.specs.Serve.{Sends};
-ghost use Rattle.tl_server.specs.Inner.Sending.{pieces_text, PutSome, beside, answer_pieces};
+ghost use Rattle.tl_device.specs.Pieces.{pieces_text};
+ghost use Rattle.tl_server.specs.Inner.Sending.{beside, answer_pieces};
 
 use crate::fault::ServeFault;
-use arrayvec::ArrayVec;
 use itoa::Buffer;
 use std::io::Write;
-use tl_device::{Counted, WriteFault, write_whole};
-
-// How many bytes are kept before they are written.
-const ROOM: usize = 16_384;
+use tl_device::{Counted, WriteFault, write_pieces};
 
 // The reason phrase of a status.
 fn phrase_of(status: u16) -> &'static str
@@ -31,38 +28,6 @@ fn phrase_of(status: u16) -> &'static str
         431 => "Request Header Fields Too Large",
         _ => "Internal Server Error",
     }
-}
-
-// Keeps the bytes where there is room for them. Else what was kept is written, and then they are kept or written.
-fn put<W: Write>(
-    writer: &mut Counted<W>,
-    kept: &mut ArrayVec<u8, ROOM>,
-    bytes: &[u8],
-) -> Result<(), WriteFault>
-    ensures some { OnOk result (PutSome (passage W.contents writer.old writer.new) kept.old.items kept.new.items bytes.now) }
-    ensures part { OnErr result (WrotePart (passage W.contents writer.old writer.new) (kept.old.items ++ bytes.now)) }
-{
-    if kept.try_extend_from_slice(bytes).is_ok() {
-        return Ok(());
-    }
-    write_whole(writer, kept.as_slice())?;
-    kept.clear();
-    if kept.try_extend_from_slice(bytes).is_ok() {
-        return Ok(());
-    }
-    write_whole(writer, bytes)
-}
-
-// Writes the pieces, one after another.
-fn put_all<W: Write>(writer: &mut Counted<W>, pieces: &[&[u8]]) -> Result<(), WriteFault>
-    ensures whole { OnOk result (WroteWhole (passage W.contents writer.old writer.new) (pieces_text (λ p. p.now) pieces.now)) }
-    ensures part { OnErr result (WrotePart (passage W.contents writer.old writer.new) (pieces_text (λ p. p.now) pieces.now)) }
-{
-    let mut kept = ArrayVec::new();
-    for piece in pieces {
-        put(writer, &mut kept, piece)?;
-    }
-    write_whole(writer, kept.as_slice())
 }
 
 // The text, or none where the list is empty.
@@ -104,7 +69,7 @@ fn put_texts<'a, W: Write>(
         version, status, space, reason, line_end, allow_name, allow, allow_end, kind_name,
         kind_text, kind_end, size_name, size, close, body,
     ];
-    put_all(writer, &pieces)
+    write_pieces(writer, &pieces)
 }
 
 /// Writes an answer. It takes no memory.

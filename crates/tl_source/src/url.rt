@@ -6,7 +6,7 @@ ghost use Rattle.tl_source.specs.Url.{IsNamed, IsBracketed, IsAuthority, IsUrl, 
 ghost use Rattle.tl_source.specs.Inner.Authorities.{Lacks, BeginsWith, HasNoPort};
 ghost use Rattle.tl_source.specs.Inner.Authorities.{IsNotNamed, IsNotBracketed, IsNoAuthority};
 
-use tl_text::size_of;
+use tl_text::parse_size;
 
 /// The address of a log over HTTP (RFC 3986, section 3), `http://HOST[:PORT][/PREFIX]`.
 #[derive(Clone, Copy, Debug, PartialEq, Eq)]
@@ -77,7 +77,7 @@ fn port_of(text: &str) -> Option<u16>
     let Some(digits) = text.strip_prefix(':') else {
         return None;
     };
-    let Some(port) = size_of(digits) else {
+    let Some(port) = parse_size(digits) else {
         return None;
     };
     if port < 1 << 16 {

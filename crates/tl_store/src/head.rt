@@ -7,7 +7,7 @@ ghost use Rattle.tl_store.specs.Reader.{readable_size};
 ghost use Rattle.tl_store.specs.Head.{GivesHeadFault};
 
 use crate::reader::{HashReader, ReadFault};
-use crate::segment::{segment_hash, segment_indexes};
+use crate::segment::{cover_hash, segment_indexes};
 use std::alloc::Allocator;
 use tl_hash::{Hash, TreeHash, empty_hash};
 
@@ -35,5 +35,5 @@ pub fn tree_hash<T: TreeHash, R: HashReader, A: Allocator + Copy>(
     }
     let indexes = segment_indexes(alloc, 0, size)?;
     let hashes = reader.read(alloc, &indexes)?;
-    Ok(segment_hash(h, &hashes))
+    Ok(cover_hash(h, &hashes))
 }

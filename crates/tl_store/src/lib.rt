@@ -21,5 +21,5 @@ mod store;
 pub use head::tree_hash;
 pub use index::{split_index, stored_count, stored_index};
 pub use reader::{HashReader, ReadFault};
-pub use segment::{push_segment_indexes, segment_hash, segment_indexes};
+pub use segment::{cover_hash, cover_indexes, segment_indexes};
 pub use store::HashStore;

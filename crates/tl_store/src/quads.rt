@@ -8,7 +8,7 @@ ghost use Rattle.tl_store.specs.Inner.Quads.{quad_of};
 
 use crate::pushes::push_higher;
 use std::alloc::Allocator;
-use tl_hash::{Hash, TreeHash, nodes_over};
+use tl_hash::{Hash, TreeHash, hash_level};
 
 // The hashes of the complete subtrees over four quads, each of four entries: their four leaves, the nodes over the
 // first two and the last two, and the top. Each has one hash for each quad.
@@ -62,9 +62,9 @@ fn four_quads<T: TreeHash, A: Allocator>(
     let second = h.digest_four(0, &a[1], &b[1], &c[1], &d[1]);
     let third = h.digest_four(0, &a[2], &b[2], &c[2], &d[2]);
     let fourth = h.digest_four(0, &a[3], &b[3], &c[3], &d[3]);
-    let left = nodes_over(h, &first, &second);
-    let right = nodes_over(h, &third, &fourth);
-    let top = nodes_over(h, &left, &right);
+    let left = hash_level(h, &first, &second);
+    let right = hash_level(h, &third, &fourth);
+    let top = hash_level(h, &left, &right);
     FourQuads {
         first,
         second,

@@ -15,7 +15,7 @@ use tl_hash::{Hash, TreeHash, empty_hash, node_hash};
 /// largest to the smallest: one for each binary digit 1 of `end - start`. `start` is a multiple of a power of two
 /// that is no less than `end - start`, and `end` is at most 2^62. The list has room for them, and no memory is
 /// asked for.
-pub fn push_segment_indexes<A: Allocator>(indexes: &mut Vec<u64, A>, start: u64, end: u64)
+pub fn cover_indexes<A: Allocator>(indexes: &mut Vec<u64, A>, start: u64, end: u64)
     requires order { start ≤ end }
     requires aligned { IsAligned start end }
     requires small { end ≤ 2 ^ 62 }
@@ -33,7 +33,7 @@ pub fn push_segment_indexes<A: Allocator>(indexes: &mut Vec<u64, A>, start: u64,
     }
 }
 
-/// The numbers of the complete subtrees that cover the entries from `start` up to `end`, as `push_segment_indexes` adds
+/// The numbers of the complete subtrees that cover the entries from `start` up to `end`, as `cover_indexes` adds
 /// them to a list. Memory is asked for once, and not at all where there is no entry.
 pub fn segment_indexes<A: Allocator>(
     alloc: A,
@@ -50,13 +50,13 @@ pub fn segment_indexes<A: Allocator>(
     let count = (end - start).count_ones() as usize;
     let mut indexes = Vec::new(alloc);
     indexes.reserve(count)?;
-    push_segment_indexes(&mut indexes, start, end);
+    cover_indexes(&mut indexes, start, end);
     Ok(indexes)
 }
 
 /// The tree hash (RFC 6962, section 2.1) of entries that are covered by complete subtrees with these hashes, from the
 /// largest to the smallest: each subtree is the left part of a node over all that come after it.
-pub fn segment_hash<T: TreeHash>(h: T, hashes: &[Hash]) -> Hash
+pub fn cover_hash<T: TreeHash>(h: T, hashes: &[Hash]) -> Hash
     ensures { (entries : List Bytes) (start end : ℕ) (indexes : List ℕ)
         → AreCovering start end indexes → end ≤ length entries
         → hashes.now ≡ map (stored_hash T.digest_of entries) indexes

@@ -21,7 +21,7 @@ pub struct Block {
 }
 
 /// Reads a block of at most eight characters, strict base64 (RFC 4648, section 4), padded where its bytes ask for it.
-pub fn read_block(text: &[u8]) -> Option<Block>
+pub fn decode_base64_block(text: &[u8]) -> Option<Block>
     requires { length text.now ≤ 8 }
     ensures { MatchOption result (IsNoBase64 text.now) (λ block. IsRead text.now block.count block.bytes) }
 {
@@ -39,7 +39,7 @@ pub fn is_base64(text: &[u8]) -> bool
     let mut left = text;
     while left.len() > BLOCK_LEN {
         let (front, rest) = left.split_at(BLOCK_LEN);
-        let Some(block) = read_block(front) else {
+        let Some(block) = decode_base64_block(front) else {
             return false;
         };
         if block.count != BLOCK_BYTES {
@@ -47,5 +47,5 @@ pub fn is_base64(text: &[u8]) -> bool
         }
         left = rest;
     }
-    read_block(left).is_some()
+    decode_base64_block(left).is_some()
 }

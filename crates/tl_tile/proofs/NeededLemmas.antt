@@ -7,7 +7,8 @@ use Rattle.std.proofs.lemmas.Grind.{flat_map-append}
 use Rattle.std.proofs.lemmas.List.FromFn.{map-range_with_len_more}
 use Rattle.tl_tile.specs.declared.resource.Resource.{Resource}
 use Rattle.tl_tile.specs.TileText.{level_count}
-use Rattle.tl_tile.specs.Needed.{tile_at, pieces_since}
+use Rattle.tl_tile.specs.Needed.{tile_at, pieces_since, needed_resources_since}
+use Rattle.tl_tile.specs.declared.resource.Resource.TheVariants as resource
 
 -- the full ones from a place on, so many
 abbrev pub full_pieces : (ℕ → ℕ → Resource) → ℕ → ℕ → List Resource
@@ -60,3 +61,9 @@ next_count size level count counted =
     let turned : 256 ^ level * 256 ≡ 256 * 256 ^ level = omega arith in
     ap (λ (n : ℕ). n / 256) counted ∙ div-div-eq-div-mul size (256 ^ level) 256
     ∙ ap (λ (n : ℕ). size / n) (turned ∙ sym (pow-succ' 256 level) ∙ ap (λ (n : ℕ). 256 ^ n) (sym next))
+
+-- the tiles of the eight levels, and then the bundles
+pub all_listed : (from size level : ℕ) (tiles all : List Resource) → level ≡ 8 → tiles ≡ tiles_below from size level
+    → all ≡ tiles ++ pieces_since resource.Entries from size → all ≡ needed_resources_since from size
+all_listed from size level tiles all is_eight listed added =
+    added ∙ ap (λ (t : List Resource). t ++ pieces_since resource.Entries from size) (listed ∙ ap (tiles_below from size) is_eight)

@@ -1,6 +1,6 @@
 -- The resources that a log of a size must serve beside its checkpoint (C2SP tlog-tiles, "Partial Tiles" and "Log
 -- Entries").
-use Rattle.std.specs.Prelude.{ℕ, ◌-◌, ◌/◌, ◌%◌, List, [], ◌∷◌, ◌++◌, map, ◌==◌, ◌||◌, if◌then◌else◌}
+use Rattle.std.specs.Prelude.{ℕ, ◌-◌, ◌/◌, ◌%◌, List, [], ◌∷◌, ◌++◌, map, ◌==◌, ◌||◌, nat_lt, if◌then◌else◌}
 use Rattle.std.specs.List.{flat_map, range_with_len}
 use Rattle.tl_tile.specs.TileText.{level_count}
 use Rattle.tl_tile.specs.declared.resource.Resource.{Resource}
@@ -31,3 +31,7 @@ abbrev pub needed_resources_since : ℕ → ℕ → List Resource
 needed_resources_since from size =
     flat_map (λ level. pieces_since (tile_at level) (level_count from level) (level_count size level)) (range_with_len 0 8)
     ++ pieces_since resource.Entries from size
+
+-- how many entries the bundle with this index has in a log of this size: 256, or in the last one what is left
+abbrev pub bundle_width : ℕ → ℕ → ℕ
+bundle_width size bundle = if nat_lt bundle (size / 256) then 256 else size % 256

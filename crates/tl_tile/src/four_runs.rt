@@ -7,7 +7,7 @@ ghost use Rattle.tl_hash.specs.Tree.{tree_hash};
 ghost use Rattle.tl_tile.specs.Run.{part, Run, IsRun};
 ghost use Rattle.tl_tile.specs.Inner.FoldsTo.{FoldsTo};
 
-use tl_hash::{Hash, TreeHash, node_hash, nodes_over, split_point};
+use tl_hash::{Hash, TreeHash, hash_level, node_hash, split_point};
 
 // What the hashes of four runs of one length fold to: the recursion of `fold_run`, down the four in step.
 fn fold_four<T: TreeHash>(h: T, a: &[Hash], b: &[Hash], c: &[Hash], d: &[Hash]) -> [Hash; 4]
@@ -26,7 +26,7 @@ fn fold_four<T: TreeHash>(h: T, a: &[Hash], b: &[Hash], c: &[Hash], d: &[Hash]) 
     let k = split_point(a.len() as u64) as usize;
     let left = fold_four(h, &a[..k], &b[..k], &c[..k], &d[..k]);
     let right = fold_four(h, &a[k..], &b[k..], &c[k..], &d[k..]);
-    nodes_over(h, &left, &right)
+    hash_level(h, &left, &right)
 }
 
 // What four times `quarter` hashes of a run fold to, by their quarters side by side.

@@ -28,7 +28,7 @@ pub use law::{
     bundle_has_one_reading, checked_tiles_law, filled_tiles_are_new, folded_hashes_law,
     honest_source_law, honest_tiles_law, needed_since_is_new,
 };
-pub use listing::{needed, needed_since};
+pub use listing::{added_resources, bundle_width, needed};
 pub use path::{parse_path, path_of};
 pub use resource::{Resource, Tile};
 pub use source::{SourceFault, TileSource};

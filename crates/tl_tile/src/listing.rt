@@ -1,7 +1,7 @@
 //! Which resources a log of a size serves, and which it began to serve since it had another.
 
-ghost use Rattle.std.specs.Prelude.{◌≡◌, ◌<◌, ◌≤◌, ◌-◌, ◌^◌, ◌++◌, OnOk, OnErr, IfOk};
-ghost use Rattle.tl_tile.specs.Needed.{tile_at, pieces_since, needed_resources, needed_resources_since};
+ghost use Rattle.std.specs.Prelude.{◌≡◌, ◌<◌, ◌≤◌, ◌+◌, ◌-◌, ◌*◌, ◌^◌, ◌++◌, OnOk, OnErr, IfOk};
+ghost use Rattle.tl_tile.specs.Needed.{bundle_width, tile_at, pieces_since, needed_resources, needed_resources_since};
 ghost use Rattle.tl_tile.specs.declared.resource.Resource.TheVariants as resource;
 
 use crate::resource::{Resource, Tile};
@@ -65,13 +65,13 @@ pub fn needed<A: Allocator>(alloc: A, size: u64) -> Result<Vec<Resource, A>, All
     ensures resources { IfOk result (λ resources. resources.items ≡ needed_resources size) }
     ensures memory { OnErr result (0 < size) }
 {
-    needed_since(alloc, 0, size)
+    added_resources(alloc, 0, size)
 }
 
 /// The resources that a log of `size` entries serves and did not serve when it had `from`, at most as many: what a
 /// publication adds. They stand in the order of `needed`, and are found in the time that they take to be written down.
 /// `size` is at most 2^32 - 1. It fails only where memory is refused; where nothing was added it needs none.
-pub fn needed_since<A: Allocator>(
+pub fn added_resources<A: Allocator>(
     alloc: A,
     from: u64,
     size: u64,
@@ -81,14 +81,30 @@ pub fn needed_since<A: Allocator>(
     ensures resources { IfOk result (λ resources. resources.items ≡ needed_resources_since from size) }
     ensures memory { OnErr result (from < size) }
 {
-    let mut resources = Vec::new(alloc);
+    let mut listed = Vec::new(alloc);
     let mut low = from;
     let mut high = size;
     for level in 0..8 {
-        push_tiles(&mut resources, level, low, high)?;
+        push_tiles(&mut listed, level, low, high)?;
         low /= 256;
         high /= 256;
     }
-    push_bundles(&mut resources, from, size)?;
-    Ok(resources)
+    push_bundles(&mut listed, from, size)?;
+    Ok(listed)
+}
+
+/// How many entries the bundle with this index has in a log of `size` entries, which has such a bundle: 256, or in the
+/// last one what is left (C2SP tlog-tiles, "Log Entries").
+pub fn bundle_width(size: u64, bundle: u64) -> u32
+    requires { 256 * bundle < size }
+    ensures value { result ≡ bundle_width size bundle }
+    ensures some { 0 < result }
+    ensures most { result ≤ 256 }
+    ensures inside { 256 * bundle + result ≤ size }
+{
+    if bundle < size / 256 {
+        256
+    } else {
+        (size % 256) as u32
+    }
 }

@@ -11,7 +11,7 @@ use crate::request::MOST_HASHES;
 use std::alloc::{AllocError, Allocator};
 use tl_hash::Hash;
 use tl_proof::HashList;
-use tl_text::{hash_of, is_one_line, size_of};
+use tl_text::{is_one_line, parse_hash, parse_size};
 
 // A number below 2^63 and a space, and what follows.
 fn number_field(text: &str) -> Option<(u64, &str)>
@@ -20,7 +20,7 @@ fn number_field(text: &str) -> Option<(u64, &str)>
     let Some((words, rest)) = text.split_once(' ') else {
         return None;
     };
-    let Some(number) = size_of(words) else {
+    let Some(number) = parse_size(words) else {
         return None;
     };
     Some((number, rest))
@@ -33,7 +33,7 @@ fn hash_field(text: &str) -> Option<(Hash, &str)>
     let Some((words, rest)) = text.split_once(' ') else {
         return None;
     };
-    let Some(hash) = hash_of(words) else {
+    let Some(hash) = parse_hash(words) else {
         return None;
     };
     Some((hash, rest))

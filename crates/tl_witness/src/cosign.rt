@@ -6,7 +6,7 @@ ghost use Rattle.tl_checkpoint.specs.Cosignature.{Cosigns, MayFailToCosign};
 ghost use Rattle.tl_note.specs.Key.{IsKeyName, named_key};
 
 use std::alloc::{AllocError, Allocator, Global};
-use tl_checkpoint::cosign_line_as;
+use tl_checkpoint::cosignature_line_named;
 use tl_hash::TreeHash;
 use tl_note::{SignFault, Signer};
 
@@ -50,7 +50,7 @@ pub(crate) fn cosign<T: TreeHash, A: Allocator + Copy>(
         (MayFailToCosign text.now time (signing_key signer.now))
         (λ line. Cosigns text.now time (named_key (string_bytes name.now.text) (signing_key signer.now)) (string_bytes line))) }
 {
-    match cosign_line_as(
+    match cosignature_line_named(
         tools.alloc,
         tools.global,
         name.text.as_str(),

@@ -13,7 +13,7 @@ use tl_checkpoint::{Checkpoint, CheckpointFault, parse};
 use tl_hash::Hash;
 use tl_note::{NoteFault, NoteView, parse_note};
 use tl_proof::HashList;
-use tl_text::{first_line, hash_of, size_of};
+use tl_text::{parse_hash, parse_size, split_line};
 
 /// No proof between sizes below 2^63 has more hashes.
 pub(crate) const MOST_HASHES: usize = 63;
@@ -65,10 +65,10 @@ fn next_hash(text: &str) -> Option<(Hash, &str)>
     ensures { MatchOption result (HasNoHashLine text.now)
         (λ r. IsHash r.0 × (text.now ≡ line (base64_text r.0) ++ r.1.now) × IsUtf8 r.1.now) }
 {
-    let Some((words, rest)) = first_line(text) else {
+    let Some((words, rest)) = split_line(text) else {
         return None;
     };
-    let Some(hash) = hash_of(words) else {
+    let Some(hash) = parse_hash(words) else {
         return None;
     };
     Some((hash, rest))
@@ -121,13 +121,13 @@ pub fn parse_request<A: Allocator + Copy>(
     let Ok(text) = str::from_utf8(body) else {
         return Err(RequestFault::Malformed);
     };
-    let Some((words, rest)) = first_line(text) else {
+    let Some((words, rest)) = split_line(text) else {
         return Err(RequestFault::Malformed);
     };
     let Some(digits) = words.strip_prefix("old ") else {
         return Err(RequestFault::Malformed);
     };
-    let Some(old) = size_of(digits) else {
+    let Some(old) = parse_size(digits) else {
         return Err(RequestFault::Malformed);
     };
     let Some((count, note)) = cut_proof(rest) else {

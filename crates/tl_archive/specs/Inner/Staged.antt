@@ -68,15 +68,15 @@ pub record Puts (before after : List Prefix) (resources : List Resource) (a b : 
   pub rests : b.staged ≡ []
 
 -- the checkpoint, as an item
-abbrev pub signed : List ℕ → List Item
-signed note = (resource.Checkpoint, note) ∷ []
+abbrev pub checkpoint_item : List ℕ → List Item
+checkpoint_item note = (resource.Checkpoint, note) ∷ []
 
 -- all that was added is there, and the checkpoint may be there or staged
 pub record IsEnding (before after : List Prefix) (resources : List Resource) (note : List ℕ) (a k : Kept) : Type 0 where
   pub first : Kept
   pub added : IsAdded before after resources a first
-  pub held : Between first.held (signed note) k.held
-  pub staged : (item : Item) → Contains k.staged item → Contains (signed note) item
+  pub held : Between first.held (checkpoint_item note) k.held
+  pub staged : (item : Item) → Contains k.staged item → Contains (checkpoint_item note) item
 
 -- on its way, first what is added and then the checkpoint
 abbrev pub IsOnWay : List Prefix → List Prefix → List Resource → List ℕ → Kept → Kept → Type 0

@@ -2,7 +2,7 @@
 use Rattle.std.specs.Prelude.{◌≡◌, ℕ, ◌<◌, [], ◌++◌, ◌∷◌, true, false, Bool, Option, Some, None, length, drop, vec_items}
 use Rattle.tl_device.specs.Device.{Passage, HasFailed}
 use Rattle.tl_hash.specs.Bytes.{Bytes}
-use Rattle.tl_get.specs.Get.{Gave}
+use Rattle.tl_device.specs.Reading.{Gave}
 use Rattle.tl_get.specs.declared.body.Body.{Body}
 use Rattle.tl_get.specs.declared.body.Body.TheVariants.{Failed, NoMemory, Ended, Full}
 

@@ -7,7 +7,8 @@ use Rattle.httparse.specs.Grammar.{HasNoResponse}
 use Rattle.tl_device.specs.Device.{Passage, HasFailed}
 use Rattle.tl_hash.specs.Bytes.{Bytes}
 use Rattle.tl_get.specs.Fields.{HasLength, IsPlain}
-use Rattle.tl_get.specs.Get.{Came, Gave}
+use Rattle.tl_device.specs.Reading.{Gave}
+use Rattle.tl_get.specs.Get.{Came}
 use Rattle.tl_get.specs.Response.{Begins, Begun, HeadDecides}
 use Rattle.tl_get.specs.declared.fault.GetFault.{GetFault}
 use Rattle.tl_get.specs.declared.head.Parsed.{Parsed}

@@ -3,7 +3,7 @@ use Rattle.std.specs.Prelude.{◌≡◌, ℕ, ◌<◌, [], ◌++◌, true, false
 use Rattle.tl_device.specs.Device.{Passage, HasFailed}
 use Rattle.tl_hash.specs.Bytes.{Bytes}
 use Rattle.tl_server.specs.Head.{HasBody}
-use Rattle.tl_server.specs.Serve.{Gave}
+use Rattle.tl_device.specs.Reading.{Gave}
 use Rattle.tl_server.specs.declared.body.Body.{Body}
 use Rattle.tl_server.specs.declared.body.Body.TheVariants as body
 use Rattle.tl_server.specs.declared.body.Filled.{Filled}

@@ -9,7 +9,8 @@ use Rattle.tl_hash.specs.Bytes.{Bytes}
 use Rattle.tl_server.specs.Answer.{Answer}
 use Rattle.tl_server.specs.Exchange.{IsHeadless}
 use Rattle.tl_server.specs.Head.{HasHead}
-use Rattle.tl_server.specs.Serve.{Sends, Gave, MayBe}
+use Rattle.tl_device.specs.Reading.{Gave, MayBe}
+use Rattle.tl_server.specs.Serve.{Sends}
 use Rattle.tl_server.specs.declared.fault.ServeFault.{ServeFault}
 use Rattle.tl_server.specs.declared.head.Parsed.{Parsed}
 use Rattle.tl_server.specs.declared.head.Parsed.TheVariants.{Whole, Partial, Refused}

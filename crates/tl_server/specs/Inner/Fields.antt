@@ -1,17 +1,9 @@
 -- The steps of finding a body's length.
-use Rattle.std.specs.Prelude.{◌≡◌, ℕ, ◌<◌, ◌≤◌, List, [], ◌∷◌, length}
+use Rattle.std.specs.Prelude.{ℕ, ◌≤◌, List}
 use Rattle.tl_hash.specs.Bytes.{Bytes}
 use Rattle.tl_server.specs.Head.{IsSized}
-use Rattle.tl_server.specs.declared.fields.Values.{Values}
-use Rattle.tl_server.specs.declared.fields.Values.TheVariants as values
 use Rattle.tl_server.specs.declared.fields.Length.{Length}
 use Rattle.tl_server.specs.declared.fields.Length.TheVariants as lengths
-
--- the values are none, this one, or several
-abbrev pub AreValues : List Bytes → Values → Type 0
-AreValues all values.None = all ≡ []
-AreValues all (values.One value) = all ≡ value.now ∷ []
-AreValues all values.More = 1 < length all
 
 -- what fields say of the length of a body
 abbrev pub SizesBody : List (Bytes × Bytes) → Length → Type 0

@@ -7,7 +7,7 @@ ghost use Rattle.tl_tile.specs.Inner.TileTree.{IsTileTree, IsTreeSoFar};
 
 use crate::tile_reader::hashes::hash_in;
 use std::alloc::{AllocError, Allocator};
-use tl_hash::{Hash, TreeHash, four_nodes, node_hash};
+use tl_hash::{Hash, TreeHash, hash_four_nodes, node_hash};
 
 // The hashes of a full tile.
 fn own_hashes<A: Allocator>(alloc: A, text: &[u8]) -> Result<Vec<Hash, A>, AllocError>
@@ -33,7 +33,7 @@ fn push_four<T: TreeHash, A: Allocator>(
     ensures { (text : Bytes) → IsTreeSoFar T.digest_of text (256 + 4 * four) hashes.old.items
         → OnOk result (IsTreeSoFar T.digest_of text (256 + 4 * (four + 1)) hashes.new.items) }
 {
-    let nodes = four_nodes(h, hashes, 8 * four);
+    let nodes = hash_four_nodes(h, hashes, 8 * four);
     hashes.extend_from_slice(&nodes)?;
     Ok(())
 }

@@ -5,7 +5,7 @@ ghost use Rattle.std.specs.Int.{IsPowerOfTwo};
 ghost use Rattle.tl_tile.specs.Folds.{IsHashAt};
 ghost use Rattle.tl_tile.specs.Inner.EdgeRoot.{Part};
 
-use tl_hash::{Hash, TreeHash, node_hash, nodes_over, split_point};
+use tl_hash::{Hash, TreeHash, hash_level, node_hash, split_point};
 
 // The hash with this number in a tile's text.
 pub(crate) fn hash_in(text: &[u8], number: usize) -> Hash
@@ -44,7 +44,7 @@ fn fold_four_parts<T: TreeHash>(
     let k = split_point(count as u64) as usize;
     let left = fold_four_parts(h, text, start, apart, k);
     let right = fold_four_parts(h, text, start + k, apart, count - k);
-    nodes_over(h, &left, &right)
+    hash_level(h, &left, &right)
 }
 
 // What four times so many hashes of a tile fold to, from this one on, by their quarters side by side.

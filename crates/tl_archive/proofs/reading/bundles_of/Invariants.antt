@@ -1,7 +1,7 @@
 use Rattle.std.proofs.Common.{◌≡◌, ℕ, ◌<◌, true, [], length, map, vec_items}
 use Rattle.std.specs.Prelude.{Some, slice_index_or}
 use Rattle.tl_tile.specs.declared.resource.Resource.TheVariants as resource
-use Rattle.tl_publisher.specs.Resuming.{bundle_width}
+use Rattle.tl_tile.specs.Needed.{bundle_width}
 use Rattle.tl_archive.proofs.reading.bundles_of.Given as goal
 
 abbrev pub invariant-loop-place : goal.invariant-loop-place

@@ -17,4 +17,4 @@ loop-words-preserved g c =
     subst (λ (ls : List (List ℕ)). HasRead c.args.text.now ls c.in-Some.rest.now) (sym texts) read
 
 pub returns : goal.returns
-returns g c = reads_whole c.args.text.now c.loop-words.left.now (map string_bytes (vec_items c.loop-words.lines)) c.loop-words.invariant c.requires (rw c.in_default.is at c.first_line.ensures)
+returns g c = reads_whole c.args.text.now c.loop-words.left.now (map string_bytes (vec_items c.loop-words.lines)) c.loop-words.invariant c.requires (rw c.in_default.is at c.split_line.ensures)

@@ -8,8 +8,8 @@ use Rattle.tl_client.proofs.entries.read_entries.Goals as goal
 
 pub returns-clause-entries : goal.returns-clause-entries
 returns-clause-entries g c =
-    checked_entries sha256 c.width_of-width.result c.args.size c.args.bundle c.args.root c.read_leaves.new.fetched _ c.in_ok-leaves.leaves.items
-    c.width_of-width.ensures.value c.width_of-width.ensures.inside c.in_ok-entries.ensures.entries c.in_ok-leaves.ensures.authentic
+    checked_entries sha256 c.bundle_width-width.result c.args.size c.args.bundle c.args.root c.read_leaves.new.fetched _ c.in_ok-leaves.leaves.items
+    c.bundle_width-width.ensures.value c.bundle_width-width.ensures.inside c.in_ok-entries.ensures.entries c.in_ok-leaves.ensures.authentic
     (rw (c.deref.ensures.value, c.deref-2.ensures.value) at c.in_ok-check_leaves.ensures.leaves)
 
 pub returns-in_err-entries-clause-refused : goal.returns-in_err-entries-clause-refused
@@ -17,14 +17,14 @@ returns-in_err-entries-clause-refused g c =
     let p = err_from_is_err_and c.from_residual.result c.from_residual.ensures.1 in
     rw (p.1, p.2)
     (bundle_refused (g.S.ResourceSource.may_answer c.args.source.now) (g.S.ResourceSource.may_lack c.args.source.now)
-    (record { size = c.args.size; root = c.args.root; bundle = c.args.bundle; fetched = c.new.result }) c.width_of-width.result c.in_err-entries.field-0.0
-    (c.if-not-has_bundle.ensures.0 refl) c.width_of-width.ensures.value c.in_err-entries.ensures.refused)
+    (record { size = c.args.size; root = c.args.root; bundle = c.args.bundle; fetched = c.new.result }) c.bundle_width-width.result c.in_err-entries.field-0.0
+    (c.if-not-has_bundle.ensures.0 refl) c.bundle_width-width.ensures.value c.in_err-entries.ensures.refused)
 
 pub returns-in_err-check_leaves-clause-refused : goal.returns-in_err-check_leaves-clause-refused
 returns-in_err-check_leaves-clause-refused g c =
     let p = err_from_is_err_and c.from_residual-in_err-check_leaves.result c.from_residual-in_err-check_leaves.ensures.1 in
     rw (p.1, p.2)
     (other_refused (g.S.ResourceSource.may_answer c.args.source.now) (g.S.ResourceSource.may_lack c.args.source.now)
-    (record { size = c.args.size; root = c.args.root; bundle = c.args.bundle; fetched = c.read_leaves.new.fetched }) c.width_of-width.result (length c.in_ok-entries.entries.items) c.in_err-check_leaves.field-0.0
-    (c.if-not-has_bundle.ensures.0 refl) c.width_of-width.ensures.value (omega (arith, length-map c.in_ok-entries.entries.items vec_items, c.in_ok-entries.ensures.entries.count)) c.in_ok-leaves.ensures.verified
+    (record { size = c.args.size; root = c.args.root; bundle = c.args.bundle; fetched = c.read_leaves.new.fetched }) c.bundle_width-width.result (length c.in_ok-entries.entries.items) c.in_err-check_leaves.field-0.0
+    (c.if-not-has_bundle.ensures.0 refl) c.bundle_width-width.ensures.value (omega (arith, length-map c.in_ok-entries.entries.items vec_items, c.in_ok-entries.ensures.entries.count)) c.in_ok-leaves.ensures.verified
     (rw (c.deref.ensures.value) at c.in_err-check_leaves.ensures.fault))

@@ -1,5 +1,5 @@
 use Rattle.std.proofs.Common.{[], arith, false, inl, inr, refl}
-use Rattle.tl_get.proofs.ReadLemmas.{gave_none}
+use Rattle.tl_device.proofs.ReadLemmas.{gave_none}
 use Rattle.tl_get.proofs.body.read_body.Goals as goal
 
 pub returns-in-Some : goal.returns-in-Some

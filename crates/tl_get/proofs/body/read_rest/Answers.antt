@@ -1,6 +1,6 @@
 use Rattle.std.proofs.Common.{[], false, inr}
 use Rattle.tl_get.proofs.BodyLemmas.{begun_past, rest_past}
-use Rattle.tl_get.proofs.ReadLemmas.{gave_none}
+use Rattle.tl_device.proofs.ReadLemmas.{gave_none}
 use Rattle.tl_get.proofs.body.read_rest.Goals as goal
 
 pub returns-then-begun-limit : goal.returns-then-begun-limit

@@ -1,7 +1,7 @@
 use Rattle.std.proofs.Common.{take, true, false, arith}
 use Rattle.std.proofs.lemmas.List.{length-take-le}
 use Rattle.tl_get.proofs.HeadLaws.{no_response, refused_input, ended_input, long_input}
-use Rattle.tl_get.proofs.ReadLemmas.{gave_more, gave_end, gave_none}
+use Rattle.tl_device.proofs.ReadLemmas.{gave_more, gave_end, gave_none}
 use Rattle.tl_get.proofs.head.read_head.Goals as goal
 
 pub loop-len-init : goal.loop-len-init

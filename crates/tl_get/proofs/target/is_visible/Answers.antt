@@ -1,7 +1,7 @@
 use Rattle.std.proofs.Common.{◌≤◌, All, List, ℕ, arith, refl, subst}
 use Rattle.std.proofs.lemmas.Bool.Decides.{nat_tests}
 use Rattle.std.proofs.lemmas.List.{take_all}
-use Rattle.tl_get.proofs.NumberLemmas.{passes_more}
+use Rattle.tl_http.proofs.NumberLemmas.{passes_more}
 use Rattle.tl_get.proofs.target.is_visible.Goals as goal
 
 pub loop-byte-preserved : goal.loop-byte-preserved

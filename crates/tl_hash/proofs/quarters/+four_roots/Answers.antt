@@ -32,25 +32,25 @@ returns-clause-a g t c =
     let k = c.split_point-k.result in
     let left = c.four_roots-left.ensures.a in
     let right = rw (take_rest c.args.a.now k) at c.four_roots-right.ensures.a in
-    tree_hash-of_parts vec_items g.T.TreeHash.digest_of k c.args.a.now _ _ _ c.split_point-k.ensures left right (c.nodes_over.ensures 0 (omega arith))
+    tree_hash-of_parts vec_items g.T.TreeHash.digest_of k c.args.a.now _ _ _ c.split_point-k.ensures left right (c.hash_level.ensures 0 (omega arith))
 
 pub returns-clause-b : goal.returns-clause-b
 returns-clause-b g t c =
     let k = c.split_point-k.result in
     let left = c.four_roots-left.ensures.b in
     let right = rw (take_rest c.args.b.now k) at c.four_roots-right.ensures.b in
-    tree_hash-of_parts vec_items g.T.TreeHash.digest_of k c.args.b.now _ _ _ (rw c.requires.b c.split_point-k.ensures) left right (c.nodes_over.ensures 1 (omega arith))
+    tree_hash-of_parts vec_items g.T.TreeHash.digest_of k c.args.b.now _ _ _ (rw c.requires.b c.split_point-k.ensures) left right (c.hash_level.ensures 1 (omega arith))
 
 pub returns-clause-c : goal.returns-clause-c
 returns-clause-c g t c =
     let k = c.split_point-k.result in
     let left = c.four_roots-left.ensures.c in
     let right = rw (take_rest c.args.c.now k) at c.four_roots-right.ensures.c in
-    tree_hash-of_parts vec_items g.T.TreeHash.digest_of k c.args.c.now _ _ _ (rw c.requires.c c.split_point-k.ensures) left right (c.nodes_over.ensures 2 (omega arith))
+    tree_hash-of_parts vec_items g.T.TreeHash.digest_of k c.args.c.now _ _ _ (rw c.requires.c c.split_point-k.ensures) left right (c.hash_level.ensures 2 (omega arith))
 
 pub returns-clause-d : goal.returns-clause-d
 returns-clause-d g t c =
     let k = c.split_point-k.result in
     let left = c.four_roots-left.ensures.d in
     let right = rw (take_rest c.args.d.now k) at c.four_roots-right.ensures.d in
-    tree_hash-of_parts vec_items g.T.TreeHash.digest_of k c.args.d.now _ _ _ (rw c.requires.d c.split_point-k.ensures) left right (c.nodes_over.ensures 3 (omega arith))
+    tree_hash-of_parts vec_items g.T.TreeHash.digest_of k c.args.d.now _ _ _ (rw c.requires.d c.split_point-k.ensures) left right (c.hash_level.ensures 3 (omega arith))

@@ -7,7 +7,7 @@ pub returns-then-text-lt-BLOCK_LEN : goal.returns-then-text-lt-BLOCK_LEN
 returns-then-text-lt-BLOCK_LEN c = λ s is e. no_short_field c.args.field.now s (omega arith) is e
 
 pub returns-in_default : goal.returns-in_default
-returns-in_default c = λ s is e. no_field_block c.args.field.now _ s (ap (take 8) c.as_bytes-text.ensures.value) (rw c.in_default.is at c.read_block.ensures) is e
+returns-in_default c = λ s is e. no_field_block c.args.field.now _ s (ap (take 8) c.as_bytes-text.ensures.value) (rw c.in_default.is at c.decode_base64_block.ensures) is e
 
 pub returns-then-block-le-KEY_ID_LEN : goal.returns-then-block-le-KEY_ID_LEN
 returns-then-block-le-KEY_ID_LEN c = λ s is e. no_field_few c.args.field.now _ c.in-Some.block.bytes c.in-Some.block.count s (ap (take 8) c.as_bytes-text.ensures.value) c.in-Some.ensures (omega arith) is e

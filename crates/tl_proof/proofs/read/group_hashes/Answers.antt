@@ -8,12 +8,12 @@ loop-segment-init g c = roots-init g.T.TreeHash.digest_of c.args.segments.now c.
 pub loop-segment-preserved : goal.loop-segment-preserved
 loop-segment-preserved g c =
     let s = slice_index_or c.args.segments.now c.loop-segment.segment-index no_segment in
-    roots-more g.T.TreeHash.digest_of c.args.segments.now c.args.hashes.now c.loop-segment.segment-index c.loop-segment.from c.subtrees.result c.loop-segment.roots.items c.push.new.self.items no_segment s c.segment_hash.result
+    roots-more g.T.TreeHash.digest_of c.args.segments.now c.args.hashes.now c.loop-segment.segment-index c.loop-segment.from c.subtrees.result c.loop-segment.roots.items c.push.new.self.items no_segment s c.cover_hash.result
     c.loop-segment-test.true refl (segment-at c.args.segments.now c.loop-segment.segment-index no_segment s c.loop-segment-test.true refl c.requires.parts)
-    c.subtrees.ensures c.segment_hash.ensures c.in_ok-push.ensures.items c.loop-segment.invariant
+    c.subtrees.ensures c.cover_hash.ensures c.in_ok-push.ensures.items c.loop-segment.invariant
 
-pub slice_bounds-segment_hash-end : goal.slice_bounds-segment_hash-end
-slice_bounds-segment_hash-end g c =
+pub slice_bounds-cover_hash-end : goal.slice_bounds-cover_hash-end
+slice_bounds-cover_hash-end g c =
     roots-enough g.T.TreeHash.digest_of c.args.segments.now c.args.hashes.now c.loop-segment.segment-index c.loop-segment.from c.subtrees.result c.loop-segment.roots.items no_segment (slice_index_or c.args.segments.now c.loop-segment.segment-index no_segment)
     c.loop-segment-test.true refl c.subtrees.ensures c.loop-segment.invariant
 

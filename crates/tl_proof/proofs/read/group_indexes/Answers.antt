@@ -7,7 +7,7 @@ returns-clause-groups g c = groups-all c.args.segments.now c.loop-segment.segmen
 
 pub loop-segment-preserved : goal.loop-segment-preserved
 loop-segment-preserved g c =
-    reserved-more c.args.segments.now c.loop-segment.segment-index c.loop-segment.indexes.items c.push_segment_indexes.new.indexes.items
-    (vec_len c.loop-segment.indexes) (vec_capacity c.loop-segment.indexes) (vec_len c.push_segment_indexes.new.indexes) (vec_capacity c.push_segment_indexes.new.indexes)
+    reserved-more c.args.segments.now c.loop-segment.segment-index c.loop-segment.indexes.items c.cover_indexes.new.indexes.items
+    (vec_len c.loop-segment.indexes) (vec_capacity c.loop-segment.indexes) (vec_len c.cover_indexes.new.indexes) (vec_capacity c.cover_indexes.new.indexes)
     no_segment (slice_index_or c.args.segments.now c.loop-segment.segment-index no_segment)
-    c.loop-segment-test.true refl c.push_segment_indexes.ensures.covering c.push_segment_indexes.ensures.count c.push_segment_indexes.ensures.capacity c.loop-segment.invariant
+    c.loop-segment-test.true refl c.cover_indexes.ensures.covering c.cover_indexes.ensures.count c.cover_indexes.ensures.capacity c.loop-segment.invariant

@@ -1,5 +1,6 @@
 use Rattle.std.proofs.Common.{◌≤◌, ◌-◌, length, refl, take, arith}
-use Rattle.tl_server.proofs.ReadLemmas.{grown_none, grown_more, grown_short, grown_whole, gave_end, take_read}
+use Rattle.tl_device.proofs.ReadLemmas.{gave_end, take_read}
+use Rattle.tl_server.proofs.ReadLemmas.{grown_none, grown_more, grown_short, grown_whole}
 use Rattle.tl_server.proofs.body.fill.Goals as goal
 
 pub loop-len-init : goal.loop-len-init

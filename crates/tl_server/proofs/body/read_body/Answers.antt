@@ -1,6 +1,6 @@
 use Rattle.std.proofs.Common.{[], ◌≤◌, ◌∙◌, arith, length}
 use Rattle.tl_server.proofs.BodyLemmas.{copied, copied_length, cut_body, no_bytes, whole_body}
-use Rattle.tl_server.proofs.ReadLemmas.{gave_none}
+use Rattle.tl_device.proofs.ReadLemmas.{gave_none}
 use Rattle.tl_server.proofs.body.read_body.Goals as goal
 
 pub returns-then-most-eq0 : goal.returns-then-most-eq0

@@ -2,7 +2,7 @@ use borrow.Rule.Slice.PartMut.{put_mid}
 use Rattle.std.proofs.Common.{◌≡◌, ◌+◌, ◌-◌, ◌≤◌, length, length-append, take, true, false, arith}
 use Rattle.std.proofs.lemmas.List.{length-take-le}
 use Rattle.tl_server.proofs.HeadLaws.{no_request, refused_input, ended_input, long_input}
-use Rattle.tl_server.proofs.ReadLemmas.{gave_more, gave_end, gave_none, take_read}
+use Rattle.tl_device.proofs.ReadLemmas.{gave_more, gave_end, gave_none, take_read}
 use Rattle.tl_server.proofs.head.read_head.Goals as goal
 
 pub loop-len-init : goal.loop-len-init

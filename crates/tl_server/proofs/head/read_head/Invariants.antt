@@ -1,7 +1,7 @@
 use Rattle.std.proofs.Common.{◌<◌, ◌≤◌, ◌-◌, take, false}
 use Rattle.httparse.specs.Grammar.{HasNoRequest, MayBecomeRequest}
 use Rattle.tl_device.specs.Device.{passage}
-use Rattle.tl_server.specs.Serve.{Gave}
+use Rattle.tl_device.specs.Reading.{Gave}
 use Rattle.tl_server.proofs.head.read_head.Given as goal
 
 -- the first bytes of the buffer were read, and begin with no head

@@ -8,7 +8,7 @@ returns-clause-whole g c =
       c.beside-kind_name.ensures,
       c.beside-kind_text.ensures,
       c.beside-kind_end.ensures,
-    ) at c.put_all.ensures.whole
+    ) at c.write_pieces.ensures.whole
 
 pub returns-clause-part : goal.returns-clause-part
 returns-clause-part g c =
@@ -18,4 +18,4 @@ returns-clause-part g c =
       c.beside-kind_name.ensures,
       c.beside-kind_text.ensures,
       c.beside-kind_end.ensures,
-    ) at c.put_all.ensures.part
+    ) at c.write_pieces.ensures.part

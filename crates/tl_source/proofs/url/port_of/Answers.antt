@@ -11,6 +11,6 @@ returns-in_default c =
 
 pub returns-else-port : goal.returns-else-port
 returns-else-port c =
-    large_port c.args.text.now c.in-Some.digits.now c.in-Some-size_of.port
+    large_port c.args.text.now c.in-Some.digits.now c.in-Some-parse_size.port
     (strip_prefix_char 58 c.args.text.now (Some c.in-Some.digits) c.in-Some.ensures.cases (omega arith))
-    c.in-Some-size_of.ensures.1 c.in-Some-size_of.ensures.0 (omega (arith, c.if-port.false))
+    c.in-Some-parse_size.ensures.1 c.in-Some-parse_size.ensures.0 (omega (arith, c.if-port.false))

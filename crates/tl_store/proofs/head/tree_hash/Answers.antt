@@ -18,9 +18,9 @@ pub returns-clause-root : goal.returns-clause-root
 returns-clause-root g c entries stands =
     let within = covering-within 0 c.args.size c.in_ok-indexes.indexes.items (readable_size (g.R.HashReader.size c.args.reader.now)) c.in_ok-indexes.ensures.covering (omega (arith, c.if-size-eq0.false)) (rw c.deref.ensures.value at c.in_ok-hashes.ensures.in_range) in
     let hashes = rw c.deref.ensures.value at c.in_ok-hashes.ensures.hashes g.T.TreeHash.digest_of entries stands in
-    root_is g.T.TreeHash.digest_of entries c.args.size c.in_ok-indexes.indexes.items c.deref-2.result.now c.segment_hash.result c.in_ok-indexes.ensures.covering
+    root_is g.T.TreeHash.digest_of entries c.args.size c.in_ok-indexes.indexes.items c.deref-2.result.now c.cover_hash.result c.in_ok-indexes.ensures.covering
     (size_within (g.R.HashReader.size c.args.reader.now) c.args.size entries (g.met.R.HashReader.stands_size c.args.reader.now g.T.TreeHash.digest_of entries stands) within)
-    (c.deref-2.ensures.value ∙ hashes) c.segment_hash.ensures
+    (c.deref-2.ensures.value ∙ hashes) c.cover_hash.ensures
 
 pub returns-clause-in_range : goal.returns-clause-in_range
 returns-clause-in_range g c =

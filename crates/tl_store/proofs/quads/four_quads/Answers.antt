@@ -10,7 +10,7 @@ returns-clause-a g c =
     let fourth = rw c.deref-13.ensures.value at c.digest_four-fourth.ensures.a in
     quad_is vec_items g.T.TreeHash.digest_of c.args.a.now c.index-a-0.result c.index-a-1.result c.index-a-2.result c.index-a-3.result _ _ _ _ _ _ _
     c.requires.a c.index-a-0.is c.index-a-1.is c.index-a-2.is c.index-a-3.is
-    first second third fourth (c.nodes_over-left.ensures 0 (omega arith)) (c.nodes_over-right.ensures 0 (omega arith)) (c.nodes_over-top.ensures 0 (omega arith))
+    first second third fourth (c.hash_level-left.ensures 0 (omega arith)) (c.hash_level-right.ensures 0 (omega arith)) (c.hash_level-top.ensures 0 (omega arith))
 
 pub returns-clause-b : goal.returns-clause-b
 returns-clause-b g c =
@@ -20,7 +20,7 @@ returns-clause-b g c =
     let fourth = rw c.deref-14.ensures.value at c.digest_four-fourth.ensures.b in
     quad_is vec_items g.T.TreeHash.digest_of c.args.b.now c.index-b-0.result c.index-b-1.result c.index-b-2.result c.index-b-3.result _ _ _ _ _ _ _
     c.requires.b c.index-b-0.is c.index-b-1.is c.index-b-2.is c.index-b-3.is
-    first second third fourth (c.nodes_over-left.ensures 1 (omega arith)) (c.nodes_over-right.ensures 1 (omega arith)) (c.nodes_over-top.ensures 1 (omega arith))
+    first second third fourth (c.hash_level-left.ensures 1 (omega arith)) (c.hash_level-right.ensures 1 (omega arith)) (c.hash_level-top.ensures 1 (omega arith))
 
 pub returns-clause-c : goal.returns-clause-c
 returns-clause-c g c =
@@ -30,7 +30,7 @@ returns-clause-c g c =
     let fourth = rw c.deref-15.ensures.value at c.digest_four-fourth.ensures.c in
     quad_is vec_items g.T.TreeHash.digest_of c.args.c.now c.index-c-0.result c.index-c-1.result c.index-c-2.result c.index-c-3.result _ _ _ _ _ _ _
     c.requires.c c.index-c-0.is c.index-c-1.is c.index-c-2.is c.index-c-3.is
-    first second third fourth (c.nodes_over-left.ensures 2 (omega arith)) (c.nodes_over-right.ensures 2 (omega arith)) (c.nodes_over-top.ensures 2 (omega arith))
+    first second third fourth (c.hash_level-left.ensures 2 (omega arith)) (c.hash_level-right.ensures 2 (omega arith)) (c.hash_level-top.ensures 2 (omega arith))
 
 pub returns-clause-d : goal.returns-clause-d
 returns-clause-d g c =
@@ -40,4 +40,4 @@ returns-clause-d g c =
     let fourth = rw c.deref-16.ensures.value at c.digest_four-fourth.ensures.d in
     quad_is vec_items g.T.TreeHash.digest_of c.args.d.now c.index-d-0.result c.index-d-1.result c.index-d-2.result c.index-d-3.result _ _ _ _ _ _ _
     c.requires.d c.index-d-0.is c.index-d-1.is c.index-d-2.is c.index-d-3.is
-    first second third fourth (c.nodes_over-left.ensures 3 (omega arith)) (c.nodes_over-right.ensures 3 (omega arith)) (c.nodes_over-top.ensures 3 (omega arith))
+    first second third fourth (c.hash_level-left.ensures 3 (omega arith)) (c.hash_level-right.ensures 3 (omega arith)) (c.hash_level-top.ensures 3 (omega arith))

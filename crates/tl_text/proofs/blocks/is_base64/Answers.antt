@@ -5,7 +5,7 @@ use Rattle.tl_text.proofs.Base64Lemmas.{ReadsOn, no_block, short_block, last_blo
 use Rattle.tl_text.proofs.blocks.is_base64.Goals as goal
 
 pub returns-in_default : goal.returns-in_default
-returns-in_default c = is_refused (no_block c.args.text.now c.loop-left.left.now c.split_at.result.0.now c.loop-left.invariant c.split_at.ensures.front (rw c.in_default.is at c.read_block.ensures))
+returns-in_default c = is_refused (no_block c.args.text.now c.loop-left.left.now c.split_at.result.0.now c.loop-left.invariant c.split_at.ensures.front (rw c.in_default.is at c.decode_base64_block.ensures))
 
 pub returns-then-block-ne-BLOCK_BYTES : goal.returns-then-block-ne-BLOCK_BYTES
 returns-then-block-ne-BLOCK_BYTES c =
@@ -26,4 +26,4 @@ loop-left-preserved c =
     subst (ReadsOn c.args.text.now) (sym c.split_at.ensures.back) (reads_block c.args.text.now left bytes c.loop-left.invariant long front six)
 
 pub returns : goal.returns
-returns c = rw c.is_some.ensures (last_block c.args.text.now c.loop-left.left.now c.read_block-2.result c.loop-left.invariant c.read_block-2.ensures)
+returns c = rw c.is_some.ensures (last_block c.args.text.now c.loop-left.left.now c.decode_base64_block-2.result c.loop-left.invariant c.decode_base64_block-2.ensures)

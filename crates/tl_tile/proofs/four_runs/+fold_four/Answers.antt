@@ -17,20 +17,20 @@ returns-then-a-eq1-clause-d g t c = folds-single g.T.TreeHash.digest_of c.args.d
 
 pub returns-clause-a : goal.returns-clause-a
 returns-clause-a g t c =
-    folds-parts g.T.TreeHash.digest_of 0 c.split_point-k.result c.args.a.now c.fold_four-left.result c.fold_four-right.result c.nodes_over.result c.split_point-k.ensures
-    c.fold_four-left.ensures.a (rw take_rest at c.fold_four-right.ensures.a) (c.nodes_over.ensures 0 (omega arith))
+    folds-parts g.T.TreeHash.digest_of 0 c.split_point-k.result c.args.a.now c.fold_four-left.result c.fold_four-right.result c.hash_level.result c.split_point-k.ensures
+    c.fold_four-left.ensures.a (rw take_rest at c.fold_four-right.ensures.a) (c.hash_level.ensures 0 (omega arith))
 
 pub returns-clause-b : goal.returns-clause-b
 returns-clause-b g t c =
-    folds-parts g.T.TreeHash.digest_of 1 c.split_point-k.result c.args.b.now c.fold_four-left.result c.fold_four-right.result c.nodes_over.result (rw c.requires.b c.split_point-k.ensures)
-    c.fold_four-left.ensures.b (rw take_rest at c.fold_four-right.ensures.b) (c.nodes_over.ensures 1 (omega arith))
+    folds-parts g.T.TreeHash.digest_of 1 c.split_point-k.result c.args.b.now c.fold_four-left.result c.fold_four-right.result c.hash_level.result (rw c.requires.b c.split_point-k.ensures)
+    c.fold_four-left.ensures.b (rw take_rest at c.fold_four-right.ensures.b) (c.hash_level.ensures 1 (omega arith))
 
 pub returns-clause-c : goal.returns-clause-c
 returns-clause-c g t c =
-    folds-parts g.T.TreeHash.digest_of 2 c.split_point-k.result c.args.c.now c.fold_four-left.result c.fold_four-right.result c.nodes_over.result (rw c.requires.c c.split_point-k.ensures)
-    c.fold_four-left.ensures.c (rw take_rest at c.fold_four-right.ensures.c) (c.nodes_over.ensures 2 (omega arith))
+    folds-parts g.T.TreeHash.digest_of 2 c.split_point-k.result c.args.c.now c.fold_four-left.result c.fold_four-right.result c.hash_level.result (rw c.requires.c c.split_point-k.ensures)
+    c.fold_four-left.ensures.c (rw take_rest at c.fold_four-right.ensures.c) (c.hash_level.ensures 2 (omega arith))
 
 pub returns-clause-d : goal.returns-clause-d
 returns-clause-d g t c =
-    folds-parts g.T.TreeHash.digest_of 3 c.split_point-k.result c.args.d.now c.fold_four-left.result c.fold_four-right.result c.nodes_over.result (rw c.requires.d c.split_point-k.ensures)
-    c.fold_four-left.ensures.d (rw take_rest at c.fold_four-right.ensures.d) (c.nodes_over.ensures 3 (omega arith))
+    folds-parts g.T.TreeHash.digest_of 3 c.split_point-k.result c.args.d.now c.fold_four-left.result c.fold_four-right.result c.hash_level.result (rw c.requires.d c.split_point-k.ensures)
+    c.fold_four-left.ensures.d (rw take_rest at c.fold_four-right.ensures.d) (c.hash_level.ensures 3 (omega arith))

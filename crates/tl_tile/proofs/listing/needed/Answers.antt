@@ -5,4 +5,4 @@ use Rattle.tl_tile.proofs.listing.needed.Goals as goal
 
 pub returns-clause-resources : goal.returns-clause-resources
 returns-clause-resources g c =
-    subst (λ (xs : List Resource). IfOk c.needed_since.result (λ resources. resources.items ≡ xs)) (since_nothing c.args.size) c.needed_since.ensures.resources
+    subst (λ (xs : List Resource). IfOk c.added_resources.result (λ resources. resources.items ≡ xs)) (since_nothing c.args.size) c.added_resources.ensures.resources

@@ -4,5 +4,5 @@ use Rattle.tl_witness.proofs.chain_fields.hash_field.Goals as goal
 pub returns-in_default : goal.returns-in_default
 returns-in_default c = no_hash_field c.args.text.now c.in_default.ensures.cases
 
-pub returns-in_default-hash_of : goal.returns-in_default-hash_of
-returns-in_default-hash_of c = no_hash c.args.text.now c.in-Some.words c.in-Some.rest c.in-Some.ensures.cases c.in_default-hash_of.ensures
+pub returns-in_default-parse_hash : goal.returns-in_default-parse_hash
+returns-in_default-parse_hash c = no_hash c.args.text.now c.in-Some.words c.in-Some.rest c.in-Some.ensures.cases c.in_default-parse_hash.ensures

@@ -4,5 +4,5 @@ use Rattle.tl_witness.proofs.chain_fields.number_field.Goals as goal
 pub returns-in_default : goal.returns-in_default
 returns-in_default c = no_number_field c.args.text.now c.in_default.ensures.cases
 
-pub returns-in_default-size_of : goal.returns-in_default-size_of
-returns-in_default-size_of c = no_number c.args.text.now c.in-Some.words c.in-Some.rest c.in-Some.ensures.cases c.in_default-size_of.ensures
+pub returns-in_default-parse_size : goal.returns-in_default-parse_size
+returns-in_default-parse_size c = no_number c.args.text.now c.in-Some.words c.in-Some.rest c.in-Some.ensures.cases c.in_default-parse_size.ensures

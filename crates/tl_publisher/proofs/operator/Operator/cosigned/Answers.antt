@@ -12,8 +12,8 @@ use Rattle.tl_publisher.specs.Inner.Attaching.{HasBehind}
 use Rattle.tl_publisher.proofs.Cosigners.{lines_within, proposed_entries, cosigns_note}
 use Rattle.tl_publisher.proofs.operator.Operator.cosigned.Goals as goal
 
-pub first_cosignatures-requires : goal.first_cosignatures-requires
-first_cosignatures-requires g c = rw c.as_slice.ensures.value c.requires.apart
+pub cosignatures_by-requires : goal.cosignatures_by-requires
+cosignatures_by-requires g c = rw c.as_slice.ensures.value c.requires.apart
 
 pub with_lines-requires : goal.with_lines-requires
 with_lines-requires g c =

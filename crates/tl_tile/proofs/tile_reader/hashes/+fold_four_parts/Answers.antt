@@ -17,25 +17,25 @@ returns-then-count-eq1-clause-d g t c = part-one g.T.TreeHash.digest_of c.args.t
 pub returns-clause-a : goal.returns-clause-a
 returns-clause-a g t c =
     part-split g.T.TreeHash.digest_of c.args.text.now _ c.args.count c.split_point-k.result _ _ _
-    c.split_point-k.ensures c.fold_four_parts-left.ensures.a c.fold_four_parts-right.ensures.a (c.nodes_over.ensures 0 (omega arith))
+    c.split_point-k.ensures c.fold_four_parts-left.ensures.a c.fold_four_parts-right.ensures.a (c.hash_level.ensures 0 (omega arith))
 
 pub returns-clause-b : goal.returns-clause-b
 returns-clause-b g t c =
     part-split g.T.TreeHash.digest_of c.args.text.now _ c.args.count c.split_point-k.result _ _ _
     c.split_point-k.ensures c.fold_four_parts-left.ensures.b
     (part-same g.T.TreeHash.digest_of c.args.text.now _ (c.args.start + c.args.apart + c.split_point-k.result) _ _ _ (omega arith) refl c.fold_four_parts-right.ensures.b)
-    (c.nodes_over.ensures 1 (omega arith))
+    (c.hash_level.ensures 1 (omega arith))
 
 pub returns-clause-c : goal.returns-clause-c
 returns-clause-c g t c =
     part-split g.T.TreeHash.digest_of c.args.text.now _ c.args.count c.split_point-k.result _ _ _
     c.split_point-k.ensures c.fold_four_parts-left.ensures.c
     (part-same g.T.TreeHash.digest_of c.args.text.now _ (c.args.start + 2 * c.args.apart + c.split_point-k.result) _ _ _ (omega arith) refl c.fold_four_parts-right.ensures.c)
-    (c.nodes_over.ensures 2 (omega arith))
+    (c.hash_level.ensures 2 (omega arith))
 
 pub returns-clause-d : goal.returns-clause-d
 returns-clause-d g t c =
     part-split g.T.TreeHash.digest_of c.args.text.now _ c.args.count c.split_point-k.result _ _ _
     c.split_point-k.ensures c.fold_four_parts-left.ensures.d
     (part-same g.T.TreeHash.digest_of c.args.text.now _ (c.args.start + 3 * c.args.apart + c.split_point-k.result) _ _ _ (omega arith) refl c.fold_four_parts-right.ensures.d)
-    (c.nodes_over.ensures 3 (omega arith))
+    (c.hash_level.ensures 3 (omega arith))

@@ -1,9 +1,0 @@
-use Rattle.std.proofs.Common.{List, map}
-use Rattle.tl_note.specs.Key.{Key}
-use Rattle.tl_checkpoint.proofs.Quorums.{next_line}
-use Rattle.tl_checkpoint.proofs.quorum.first_cosignatures.Goals as goal
-
-pub loop-place-preserved : goal.loop-place-preserved
-loop-place-preserved g c =
-    let keys : List Key = map (λ b. (goal.Verifier-dyn g (b.vtable, b.value)).key b.value) c.args.witnesses.now in
-    next_line c.args.text.now keys c.args.lines.now c.loop-place.place c.loop-place.found.items c.keep.new.found.items c.in_ok-cosigned.cosigned c.requires c.loop-place.invariant c.in_ok-cosigned.ensures c.in_ok-keep.ensures
