@@ -10,3 +10,14 @@ pub mod CountedLines
 pub mod GrowingLemmas
 pub mod WholeLines
 pub mod Filling
+pub mod NoteBytes
+pub mod NoCheckpoints
+pub mod Runs
+pub mod KeyRuns
+pub mod NeededParts
+pub mod Bundles
+pub mod Lengths
+pub mod TileHashes
+pub mod Names
+pub mod Wanted
+pub mod SignedRuns

@@ -2,43 +2,44 @@
 use Rattle.std.specs.Prelude.{ℕ, ◌++◌, codes, Option, Some, None}
 use Rattle.tl_hash.specs.Bytes.{Bytes}
 use Rattle.tl_text.specs.Text.{number_text}
-use Rattle.tl_command.specs.FetchFaults.{fetch_text}
-use Rattle.tl_command.specs.declared.fetch_fault.FetchFault.TheVariants.{Unavailable}
 use Rattle.tl_command.specs.declared.fault.RunFault.{RunFault}
-use Rattle.tl_command.specs.declared.fault.RunFault.TheVariants.{Refused, Read, Write, TooLarge, EntryTooLong, BadOrigin, BadIndex, BadOld, BadPath, NotThere, Malformed, Chain, Sign, Operator, Listen, Accept, OutOfMemory, BadName, BadKey, BadCheckpoint, WrongSignature, Unverified, Busy, Fetch}
+use Rattle.tl_command.specs.declared.fault.RunFault.TheVariants.{Refused, Read, Write, TooLarge, EntryTooLong, BadOrigin, BadIndex, BadOld, BadPath, NotThere, Malformed, Chain, Sign, Operator, Listen, Accept, OutOfMemory, BadName, BadKey, BadCheckpoint, WrongSignature, Unverified, Busy}
+
+-- what it says
+abbrev pub fault_words : RunFault → Bytes
+fault_words Refused = codes "refused"
+fault_words Read = codes "read failed"
+fault_words Write = codes "write failed"
+fault_words TooLarge = codes "input too large"
+fault_words (EntryTooLong place) = codes "entry " ++ number_text place ++ codes " too long"
+fault_words BadOrigin = codes "bad origin"
+fault_words BadIndex = codes "bad index"
+fault_words BadOld = codes "bad old size"
+fault_words BadPath = codes "bad path"
+fault_words NotThere = codes "not there"
+fault_words Malformed = codes "malformed input"
+fault_words (Chain place) = codes "chain " ++ number_text place ++ codes " refused"
+fault_words Sign = codes "signing failed"
+fault_words Operator = codes "operator refused"
+fault_words Listen = codes "listen failed"
+fault_words Accept = codes "accept failed"
+fault_words OutOfMemory = codes "out of memory"
+fault_words BadName = codes "bad name"
+fault_words BadKey = codes "bad key"
+fault_words BadCheckpoint = codes "bad checkpoint"
+fault_words (WrongSignature place) = codes "signature " ++ number_text place ++ codes " wrong"
+fault_words Unverified = codes "no known signature"
+fault_words Busy = codes "in use"
 
 -- the line on standard error, without its newline; a refusal has none, since its answer is on standard output
 abbrev pub fault_text : RunFault → Option Bytes
 fault_text Refused = None
-fault_text Read = Some (codes "tlog: read failed")
-fault_text Write = Some (codes "tlog: write failed")
-fault_text TooLarge = Some (codes "tlog: input too large")
-fault_text (EntryTooLong place) = Some (codes "tlog: entry " ++ number_text place ++ codes " too long")
-fault_text BadOrigin = Some (codes "tlog: bad origin")
-fault_text BadIndex = Some (codes "tlog: bad index")
-fault_text BadOld = Some (codes "tlog: bad old size")
-fault_text BadPath = Some (codes "tlog: bad path")
-fault_text NotThere = Some (codes "tlog: not there")
-fault_text Malformed = Some (codes "tlog: malformed input")
-fault_text (Chain place) = Some (codes "tlog: chain " ++ number_text place ++ codes " refused")
-fault_text Sign = Some (codes "tlog: signing failed")
-fault_text Operator = Some (codes "tlog: operator refused")
-fault_text Listen = Some (codes "tlog: listen failed")
-fault_text Accept = Some (codes "tlog: accept failed")
-fault_text OutOfMemory = Some (codes "tlog: out of memory")
-fault_text BadName = Some (codes "tlog: bad name")
-fault_text BadKey = Some (codes "tlog: bad key")
-fault_text BadCheckpoint = Some (codes "tlog: bad checkpoint")
-fault_text (WrongSignature place) = Some (codes "tlog: signature " ++ number_text place ++ codes " wrong")
-fault_text Unverified = Some (codes "tlog: no known signature")
-fault_text Busy = Some (codes "tlog: in use")
-fault_text (Fetch fault) = Some (fetch_text fault)
+fault_text fault = Some (codes "tlog: " ++ fault_words fault)
 
--- the exit status: 3 where a device failed or a source didn't answer, else 1
+-- the exit status: 3 where a device failed, else 1
 abbrev pub exit_status : RunFault → ℕ
 exit_status Read = 3
 exit_status Write = 3
 exit_status Listen = 3
 exit_status Accept = 3
-exit_status (Fetch Unavailable) = 3
 exit_status _ = 1

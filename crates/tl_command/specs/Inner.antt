@@ -7,3 +7,9 @@ pub
     mod Shown
 pub
     mod Growing
+pub
+    mod Texts
+pub
+    mod Notes
+pub
+    mod Steps

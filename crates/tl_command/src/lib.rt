@@ -1,10 +1,17 @@
-//! The commands of the program `tlog`, over any reader and writer.
+//! The commands of the program `tlog` that no network and no thread is needed for, over any reader and writer.
 //!
 //! ```
 //! let mut reader = Counted::new(b"a cat\na dog\n".as_slice());
 //! let mut writer = Counted::new(Vec::new(alloc));
 //! run_head(&rt, alloc, alloc, 4, "example.com/log", &mut reader, &mut writer)?;
 //! assert!(writer.into_inner().starts_with(b"example.com/log\n2\n"));
+//!
+//! let key = HmacLogSigner::new("example.com/log", b"a secret");
+//! run_build(alloc, alloc, &key, Some("tile/entries/000.p/2"), &mut reader, &mut writer)?;
+//! assert_eq!(writer.into_inner().as_slice(), b"\0\x05a cat\0\x05a dog");
+//!
+//! let mut reader = Counted::new(note.as_bytes());
+//! run_open(alloc, "example.com/log+530ac4f8+AQ8e..", &mut reader, &mut writer)?;
 //! ```
 #![tactic(auto)]
 
@@ -12,27 +19,26 @@ mod audit_text;
 mod commands;
 mod entries;
 mod fault;
-mod fetch_fault;
 mod growing;
+mod keys;
 mod lines;
-mod options;
 mod proof_text;
 mod stored;
 mod streams;
 mod whole_lines;
-mod words;
 
 pub use commands::audit::run_audit;
+pub use commands::build::log_signer::{HmacLogSigner, LogSigner};
+pub use commands::build::run_build;
+pub use commands::build::signed::run_build_signed;
 pub use commands::check::{run_check, run_check_about};
+pub use commands::checking::{CheckOptions, run_check_opened};
 pub use commands::head::{checkpoint_of, run_head};
+pub use commands::keygen::run_keygen;
+pub use commands::opening::{note_refusal, run_open};
 pub use commands::proving::{run_consistency, run_inclusion};
 pub use entries::read_entries;
 pub use fault::{RunFault, exit_of, fault_line};
-pub use fetch_fault::FetchFault;
-pub use options::{
-    AppendOptions, CheckOptions, CosignerKey, FetchOptions, KnownKey, ListenOptions, LogKey,
-    ServeOptions, Wanted, WitnessOptions,
-};
+pub use keys::{read_file, read_log_key, read_private_key};
 pub use proof_text::{InclusionProof, inclusion_bytes};
 pub use streams::{MOST_INPUT, print_text, read_input};
-pub use words::{Job, WordsFault, read_words};

@@ -10,7 +10,7 @@ use crate::entries::split_entries;
 use std::alloc::{AllocError, Allocator};
 use std::str;
 use tl_hash::Hash;
-use tl_text::{hash_of, size_of};
+use tl_text::{parse_hash, parse_size};
 
 // Whether a text is lines, each ended by its newline.
 fn is_lines(text: &[u8]) -> bool
@@ -58,7 +58,7 @@ pub(crate) fn number_after(line: &[u8], word: &[u8]) -> Option<u64>
     let Some(text) = text_after(line, word) else {
         return None;
     };
-    size_of(text)
+    parse_size(text)
 }
 
 /// The hash that follows a word in a line, in base64.
@@ -70,7 +70,47 @@ pub(crate) fn hash_after(line: &[u8], word: &[u8]) -> Option<Hash>
     let Some(text) = text_after(line, word) else {
         return None;
     };
-    hash_of(text)
+    parse_hash(text)
+}
+
+/// The numbers below 2^63 that follow their words in two lines.
+pub(crate) fn two_numbers(
+    first: &[u8],
+    word: &[u8],
+    second: &[u8],
+    other: &[u8],
+) -> Option<(u64, u64)>
+    ensures { MatchOption result
+        ((m n : ℕ) → IsSize m → IsSize n → first.now ≡ word.now ++ number_text m → second.now ≢ other.now ++ number_text n)
+        (λ r. IsSize r.0 × (first.now ≡ word.now ++ number_text r.0) × IsSize r.1 × (second.now ≡ other.now ++ number_text r.1)) }
+{
+    let Some(m) = number_after(first, word) else {
+        return None;
+    };
+    let Some(n) = number_after(second, other) else {
+        return None;
+    };
+    Some((m, n))
+}
+
+/// The hashes that follow their words in two lines, in base64.
+pub(crate) fn two_hashes(
+    first: &[u8],
+    word: &[u8],
+    second: &[u8],
+    other: &[u8],
+) -> Option<(Hash, Hash)>
+    ensures { MatchOption result
+        ((g h : Bytes) → IsHash g → IsHash h → first.now ≡ word.now ++ base64_text g → second.now ≢ other.now ++ base64_text h)
+        (λ r. IsHash r.0 × (first.now ≡ word.now ++ base64_text r.0) × IsHash r.1 × (second.now ≡ other.now ++ base64_text r.1)) }
+{
+    let Some(g) = hash_after(first, word) else {
+        return None;
+    };
+    let Some(h) = hash_after(second, other) else {
+        return None;
+    };
+    Some((g, h))
 }
 
 /// The hashes that lines have, one each, in base64.

@@ -1,13 +1,14 @@
 //! Inclusion and consistency proofs with what they are about, as their texts have them.
 
-ghost use Rattle.std.specs.Prelude.{◌≡◌, ◌≢◌, ◌<◌, length, map, vec_items, IfOk, OnErr, MatchOption, ◌++◌, OnOk};
+ghost use Rattle.std.specs.Prelude.{◌≡◌, ◌≢◌, ◌<◌, ◌∷◌, ◌++◌, length, map, vec_items, IfOk, IfSome, OnErr, OnOk, MatchOption};
 ghost use Rattle.tl_command.specs.ProofText.{Inclusion, IsInclusion, inclusion_lines, Consistency, IsConsistency, consistency_lines, inclusion_text, consistency_text};
-ghost use Rattle.tl_command.specs.ProofShown.{inclusion_shown, consistency_shown};
+ghost use Rattle.tl_command.specs.Inner.Shown.{consistency_shown};
+ghost use Rattle.tl_command.specs.ProofShown.{inclusion_shown};
 ghost use Rattle.std.specs.List.{flat_map};
 ghost use Rattle.tl_text.specs.Text.{line, number_text, base64_text};
 ghost use Rattle.tl_command.specs.Lines.{lines_text};
 
-use crate::lines::{hash_after, hashes_of, number_after};
+use crate::lines::{hashes_of, two_hashes, two_numbers};
 use base64::engine::general_purpose::STANDARD;
 use itoa::Buffer;
 use std::alloc::{AllocError, Allocator};
@@ -38,6 +39,36 @@ pub(crate) struct ConsistencyProof<A: Allocator> {
     pub(crate) proof: Vec<Hash, A>,
 }
 
+// The lines of a proof's text: its kind, four of what it is about, and those after them.
+#[derive(Drop)]
+struct ProofLines<'a, B: Allocator> {
+    kind: &'a [u8],
+    first: &'a [u8],
+    second: &'a [u8],
+    third: &'a [u8],
+    fourth: &'a [u8],
+    hashes: &'a [Vec<u8, B>],
+}
+
+// These lines as those of a proof's text, where there are so many.
+fn proof_lines_of<'a, B: Allocator>(lines: &'a [Vec<u8, B>]) -> Option<ProofLines<'a, B>>
+    ensures parts { MatchOption result (length lines.now < 5) (λ p. map vec_items lines.now
+        ≡ p.kind.now ∷ p.first.now ∷ p.second.now ∷ p.third.now ∷ p.fourth.now ∷ map vec_items p.hashes.now) }
+    ensures some { IfSome result (λ p. 0 < length lines.now) }
+{
+    let [kind, first, second, third, fourth, hashes @ ..] = lines else {
+        return None;
+    };
+    Some(ProofLines {
+        kind: kind.as_slice(),
+        first: first.as_slice(),
+        second: second.as_slice(),
+        third: third.as_slice(),
+        fourth: fourth.as_slice(),
+        hashes,
+    })
+}
+
 /// The inclusion proof of which these are the lines.
 pub(crate) fn read_inclusion<A: Allocator + Copy, B: Allocator>(
     alloc: A,
@@ -48,25 +79,19 @@ pub(crate) fn read_inclusion<A: Allocator + Copy, B: Allocator>(
         (λ p. IsInclusion (inclusion_shown p) × (map vec_items lines.now ≡ inclusion_lines (inclusion_shown p)))) }
     ensures memory { OnErr result (0 < length lines.now) }
 {
-    let [kind, index, size, leaf, root, proof @ ..] = lines else {
+    let Some(parts) = proof_lines_of(lines) else {
         return Ok(None);
     };
-    if kind.as_slice() != b"inclusion".as_slice() {
+    if parts.kind != b"inclusion".as_slice() {
         return Ok(None);
     }
-    let Some(index) = number_after(index.as_slice(), b"index ") else {
+    let Some((index, size)) = two_numbers(parts.first, b"index ", parts.second, b"size ") else {
         return Ok(None);
     };
-    let Some(size) = number_after(size.as_slice(), b"size ") else {
+    let Some((leaf, root)) = two_hashes(parts.third, b"leaf ", parts.fourth, b"root ") else {
         return Ok(None);
     };
-    let Some(leaf) = hash_after(leaf.as_slice(), b"leaf ") else {
-        return Ok(None);
-    };
-    let Some(root) = hash_after(root.as_slice(), b"root ") else {
-        return Ok(None);
-    };
-    let Some(proof) = hashes_of(alloc, proof)? else {
+    let Some(proof) = hashes_of(alloc, parts.hashes)? else {
         return Ok(None);
     };
     Ok(Some(InclusionProof {
@@ -88,25 +113,20 @@ pub(crate) fn read_consistency<A: Allocator + Copy, B: Allocator>(
         (λ p. IsConsistency (consistency_shown p) × (map vec_items lines.now ≡ consistency_lines (consistency_shown p)))) }
     ensures memory { OnErr result (0 < length lines.now) }
 {
-    let [kind, old, old_root, size, root, proof @ ..] = lines else {
+    let Some(parts) = proof_lines_of(lines) else {
         return Ok(None);
     };
-    if kind.as_slice() != b"consistency".as_slice() {
+    if parts.kind != b"consistency".as_slice() {
         return Ok(None);
     }
-    let Some(old) = number_after(old.as_slice(), b"old ") else {
+    let Some((old, size)) = two_numbers(parts.first, b"old ", parts.third, b"size ") else {
         return Ok(None);
     };
-    let Some(old_root) = hash_after(old_root.as_slice(), b"oldroot ") else {
+    let Some((old_root, root)) = two_hashes(parts.second, b"oldroot ", parts.fourth, b"root ")
+    else {
         return Ok(None);
     };
-    let Some(size) = number_after(size.as_slice(), b"size ") else {
-        return Ok(None);
-    };
-    let Some(root) = hash_after(root.as_slice(), b"root ") else {
-        return Ok(None);
-    };
-    let Some(proof) = hashes_of(alloc, proof)? else {
+    let Some(proof) = hashes_of(alloc, parts.hashes)? else {
         return Ok(None);
     };
     Ok(Some(ConsistencyProof {
@@ -168,8 +188,8 @@ fn push_hashes<A: Allocator + Copy>(
     Ok(())
 }
 
-/// The text of an inclusion proof (RFC 6962, section 2.1.1), as `tlog check` reads it: a line `inclusion`, lines of what
-/// it is about, and its hashes, one a line. It fails only where a growth was refused.
+/// The text of an inclusion proof (RFC 6962, section 2.1.1), as `tlog check` reads it: a line `inclusion`, lines of
+/// what it is about, and its hashes, one a line. It fails only where a growth was refused.
 pub fn inclusion_bytes<A: Allocator + Copy, B: Allocator>(
     alloc: A,
     p: &InclusionProof<B>,

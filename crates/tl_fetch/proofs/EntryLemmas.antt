@@ -5,7 +5,8 @@ use Rattle.tl_hash.specs.Bytes.{Bytes, Digest}
 use Rattle.tl_tile.specs.declared.resource.Tile.{Tile}
 use Rattle.tl_tile.specs.Fetched.{tiles_of}
 use Rattle.tl_tile.specs.Verified.{AreVerified}
-use Rattle.tl_client.specs.Bundles.{HasBundle, bundle_width}
+use Rattle.tl_client.specs.Bundles.{HasBundle}
+use Rattle.tl_tile.specs.Needed.{bundle_width}
 use Rattle.tl_client.specs.Checked.{AreCheckedEntries}
 use Rattle.tl_client.specs.declared.head.Head.{Head}
 use Rattle.tl_fetch.specs.Entries.{IsCheckedEntry}

@@ -9,9 +9,9 @@ use Rattle.tl_client.specs.Refused.{RefusesGrowth}
 use Rattle.tl_client.specs.declared.fault.ClientFault.{ClientFault}
 use Rattle.tl_client.specs.declared.fault.ClientFault.TheVariants as client
 use Rattle.tl_client.specs.declared.head.Head.{Head}
-use Rattle.tl_command.specs.declared.fault.RunFault.{RunFault}
-use Rattle.tl_command.specs.declared.options.Wanted.{Wanted}
-use Rattle.tl_command.specs.declared.options.Wanted.TheVariants as wanted
+use Rattle.tl_fetch.specs.declared.fault.FetchFault.{FetchFault}
+use Rattle.tl_fetch.specs.declared.options.FetchRequest.{FetchRequest}
+use Rattle.tl_fetch.specs.declared.options.FetchRequest.TheVariants as wanted
 use Rattle.tl_fetch.specs.Faults.{IsNoAccusation, after_client}
 use Rattle.tl_fetch.specs.Inner.Judging.{IsOfGrowth, RefusesTwo, two_of}
 use Rattle.tl_fetch.specs.Fetching.{AreTwo, HasFetched, MayPrint, RefusesFetch, Two, evidence_text}
@@ -28,13 +28,13 @@ accused answers lacks two fault o (inr forked) refused printed =
     inl (inr (ap after_client forked, subst (λ (f : ClientFault). RefusesGrowth answers lacks two.old two.new f) forked refused), printed)
 
 -- all that is wanted is a beginning of it
-pub whole_begun : (origin : Bytes) (known : ℕ) (head : Head) (what : Wanted) (text : Bytes) → IsWanted origin known head what text → IsBegun origin known head what text
+pub whole_begun : (origin : Bytes) (known : ℕ) (head : Head) (what : FetchRequest) (text : Bytes) → IsWanted origin known head what text → IsBegun origin known head what text
 whole_begun origin known head wanted.Head text is = is
 whole_begun origin known head (wanted.Entry index) text is = is
 whole_begun origin known head wanted.All text is = (head.size, is)
 whole_begun origin known head (wanted.Proof index) text is = is
 
-pub some_of_whole : (origin : Bytes) (known : ℕ) (head : Head) (what : Wanted) (o : Passage) → PrintedWhole (IsWanted origin known head what) o → PrintedSome (IsBegun origin known head what) o
+pub some_of_whole : (origin : Bytes) (known : ℕ) (head : Head) (what : FetchRequest) (o : Passage) → PrintedWhole (IsWanted origin known head what) o → PrintedSome (IsBegun origin known head what) o
 some_of_whole origin known head what o (text, is, wrote) =
     inr (text, whole_begun origin known head what text is, length text, subst (λ (t : Bytes). Appends o.old o.new t) (sym (take-length text)) wrote.appended)
 
@@ -49,30 +49,30 @@ after_check Why client.Shrunk shrunk forked so = absurd (shrunk so)
 after_check Why client.Forked shrunk forked so = absurd (forked so)
 after_check Why client.OutOfMemory shrunk forked so = tt
 
-pub fair_printing : (Why : ClientFault → Type 0) (fault : RunFault) → (Why client.Shrunk → ⊥) → (Why client.Forked → ⊥) → FailsPrinting Why fault → IsNoAccusation fault
+pub fair_printing : (Why : ClientFault → Type 0) (fault : FetchFault) → (Why client.Shrunk → ⊥) → (Why client.Forked → ⊥) → FailsPrinting Why fault → IsNoAccusation fault
 fair_printing Why fault shrunk forked (inl write) = subst IsNoAccusation (sym write) tt
 fair_printing Why fault shrunk forked (inr (inl memory)) = subst IsNoAccusation (sym memory) tt
 fair_printing Why fault shrunk forked (inr (inr (why, so, told))) = subst IsNoAccusation (sym told) (after_check Why why shrunk forked so)
 
 -- the same of a whole result
-pub fair_result : {X : Type 0} (Why : ClientFault → Type 0) (r : Result X RunFault) → (Why client.Shrunk → ⊥) → (Why client.Forked → ⊥) → IfErr r (FailsPrinting Why) → IfErr r IsNoAccusation
+pub fair_result : {X : Type 0} (Why : ClientFault → Type 0) (r : Result X FetchFault) → (Why client.Shrunk → ⊥) → (Why client.Forked → ⊥) → IfErr r (FailsPrinting Why) → IfErr r IsNoAccusation
 fair_result Why (Ok done) shrunk forked fails = tt
 fair_result Why (Err fault) shrunk forked fails = fair_printing Why fault shrunk forked fails
 
 -- a log that is refused by its two checkpoints
-pub refused_two : (may_have : Option Bytes → Type 0) (policy : Policy) (what : Wanted) (two : Two) (fault : RunFault) (o : Passage) → AreTwo may_have policy two
+pub refused_two : (may_have : Option Bytes → Type 0) (policy : Policy) (what : FetchRequest) (two : Two) (fault : FetchFault) (o : Passage) → AreTwo may_have policy two
     → RefusesTwo two fault o → RefusesFetch may_have policy what fault o
 refused_two may_have policy what two fault o are (inl (so, printed)) = inl (record { two = two; are = are; so = so; printed = printed })
 refused_two may_have policy what two fault o are (inr (fair, printed)) =
     inr (fair, some_map (λ text. text ≡ evidence_text two.last two.note) (MayPrint may_have policy what) o (λ t is. (two, are, inr is)) printed)
 
 -- what is printed of a log that goes on, after nothing was
-pub fetched_two : (may_have : Option Bytes → Type 0) (policy : Policy) (what : Wanted) (two : Two) (o p : Passage) → AreTwo may_have policy two → IsGrown two.old two.new
+pub fetched_two : (may_have : Option Bytes → Type 0) (policy : Policy) (what : FetchRequest) (two : Two) (o p : Passage) → AreTwo may_have policy two → IsGrown two.old two.new
     → GoesOn o p → IsUnwritten o → PrintedWhole (IsWanted policy.origin two.old.size two.new what) p → HasFetched may_have policy what (joined o p)
 fetched_two may_have policy what two o p are grown on none printed =
     record { two = two; are = are; grown = grown; printed = silent_whole (IsWanted policy.origin two.old.size two.new what) o p on none printed }
 
-pub begun_two : (may_have : Option Bytes → Type 0) (policy : Policy) (what : Wanted) (two : Two) (fault : RunFault) (o p : Passage) → AreTwo may_have policy two
+pub begun_two : (may_have : Option Bytes → Type 0) (policy : Policy) (what : FetchRequest) (two : Two) (fault : FetchFault) (o p : Passage) → AreTwo may_have policy two
     → IsGrown two.old two.new → GoesOn o p → IsUnwritten o → IsNoAccusation fault → PrintedSome (IsBegun policy.origin two.old.size two.new what) p
     → RefusesFetch may_have policy what fault (joined o p)
 begun_two may_have policy what two fault o p are grown on none fair printed =

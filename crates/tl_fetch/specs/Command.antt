@@ -6,9 +6,10 @@ use Rattle.tl_key.specs.NoteKey.{PublicKey, note_kind, cosignature_kind, verifie
 use Rattle.tl_key.specs.Reading.{IsNoVerifierText}
 use Rattle.tl_device.specs.Device.{Passage, IsUnwritten}
 use Rattle.tl_command.specs.declared.fault.RunFault.{RunFault}
-use Rattle.tl_command.specs.declared.fault.RunFault.TheVariants.{OutOfMemory, BadKey, Fetch}
-use Rattle.tl_command.specs.declared.fetch_fault.FetchFault.TheVariants.{BadWitness}
-use Rattle.tl_command.specs.declared.options.FetchOptions.{FetchOptions}
+use Rattle.tl_command.specs.declared.fault.RunFault.TheVariants.{OutOfMemory, BadKey}
+use Rattle.tl_fetch.specs.declared.fault.FetchFault.{FetchFault}
+use Rattle.tl_fetch.specs.declared.fault.FetchFault.TheVariants.{Run, BadWitness}
+use Rattle.tl_fetch.specs.declared.options.FetchOptions.{FetchOptions}
 use Rattle.tl_fetch.specs.Trusting.{Policy}
 use Rattle.tl_fetch.specs.Fetching.{HasFetched, RefusesFetch}
 
@@ -33,23 +34,28 @@ may_have None had = had ≡ None
 may_have (Some path) had = Unit {0}
 
 -- a run under a policy
-abbrev pub RunsUnder : Policy → FetchOptions → Passage → Result (Unit {0}) RunFault → Type 0
+abbrev pub RunsUnder : Policy → FetchOptions → Passage → Result (Unit {0}) FetchFault → Type 0
 RunsUnder policy options o (Ok done) = HasFetched (may_have options.state) policy options.wanted o
 RunsUnder policy options o (Err fault) = RefusesFetch (may_have options.state) policy options.wanted fault o
 
+-- reading the log's key fails: the text is of no key, or memory ran out
+abbrev pub IsLogKeyFault : FetchOptions → RunFault → Type 0
+IsLogKeyFault options BadKey = IsNoVerifierText note_kind (string_bytes options.key)
+IsLogKeyFault options OutOfMemory = Unit {0}
+IsLogKeyFault options fault = ⊥
+
 -- a fault that comes before there is a policy: a text is of no key, or memory ran out
-abbrev pub IsKeyFault : FetchOptions → RunFault → Type 0
-IsKeyFault options BadKey = IsNoVerifierText note_kind (string_bytes options.key)
-IsKeyFault options (Fetch (BadWitness place)) =
+abbrev pub IsKeyFault : FetchOptions → FetchFault → Type 0
+IsKeyFault options (Run fault) = IsLogKeyFault options fault
+IsKeyFault options (BadWitness place) =
     IsNoVerifierText cosignature_kind (witness_text options place)
-IsKeyFault options OutOfMemory = Unit {0}
 IsKeyFault options fault = ⊥
 
 -- a run under the policy that the options tell
-abbrev pub RunsAsTold : FetchOptions → Passage → Result (Unit {0}) RunFault → Type 0
+abbrev pub RunsAsTold : FetchOptions → Passage → Result (Unit {0}) FetchFault → Type 0
 RunsAsTold options o result = (policy : Policy) × IsPolicyOf options policy × RunsUnder policy options o result
 
 -- a run: where a text is of no key, nothing is printed
-abbrev pub RunsFetch : FetchOptions → Passage → Result (Unit {0}) RunFault → Type 0
+abbrev pub RunsFetch : FetchOptions → Passage → Result (Unit {0}) FetchFault → Type 0
 RunsFetch options o (Ok done) = RunsAsTold options o (Ok done)
 RunsFetch options o (Err fault) = RunsAsTold options o (Err fault) ⊎ (IsKeyFault options fault × IsUnwritten o)

@@ -3,10 +3,9 @@ use Rattle.std.specs.Prelude.{◌≡◌, ◌⊎◌, ◌++◌, ◌<◌, Option, S
 use Rattle.sha2.specs.Sha256.{sha256}
 use Rattle.tl_hash.specs.Bytes.{Bytes}
 use Rattle.tl_device.specs.Device.{Passage}
-use Rattle.tl_command.specs.declared.fault.RunFault.{RunFault}
-use Rattle.tl_command.specs.declared.fault.RunFault.TheVariants.{Fetch}
-use Rattle.tl_command.specs.declared.fetch_fault.FetchFault.TheVariants.{Shrunk, Forked}
-use Rattle.tl_command.specs.declared.options.Wanted.{Wanted}
+use Rattle.tl_fetch.specs.declared.fault.FetchFault.{FetchFault}
+use Rattle.tl_fetch.specs.declared.fault.FetchFault.TheVariants.{Shrunk, Forked}
+use Rattle.tl_fetch.specs.declared.options.FetchRequest.{FetchRequest}
 use Rattle.tl_client.specs.Refused.{IsFork}
 use Rattle.tl_client.specs.declared.head.Head.{Head}
 use Rattle.tl_fetch.specs.Faults.{IsNoAccusation}
@@ -32,7 +31,7 @@ evidence_text None note = note
 evidence_text (Some last) note = last ++ note
 
 -- what is wanted was printed of a log that is trusted, and that goes on from what was known
-pub record HasFetched (may_have : Option Bytes → Type 0) (policy : Policy) (what : Wanted) (o : Passage) : Type 0 where
+pub record HasFetched (may_have : Option Bytes → Type 0) (policy : Policy) (what : FetchRequest) (o : Passage) : Type 0 where
   pub two : Two
   pub are : AreTwo may_have policy two
   pub grown : IsGrown two.old two.new
@@ -41,12 +40,12 @@ pub record HasFetched (may_have : Option Bytes → Type 0) (policy : Policy) (wh
 -- ---- why nothing is fetched, or not all
 
 -- the log is smaller than it was, or the old root isn't that of its first entries
-abbrev pub IsAccused : Two → RunFault → Type 0
+abbrev pub IsAccused : Two → FetchFault → Type 0
 IsAccused two fault =
-    ((fault ≡ Fetch Shrunk) × (two.new.size < two.old.size)) ⊎ ((fault ≡ Fetch Forked) × IsFork sha256 two.old two.new)
+    ((fault ≡ Shrunk) × (two.new.size < two.old.size)) ⊎ ((fault ≡ Forked) × IsFork sha256 two.old two.new)
 
 -- the log is accused, and both notes were printed
-pub record HasAccused (may_have : Option Bytes → Type 0) (policy : Policy) (fault : RunFault) (o : Passage) : Type 0 where
+pub record HasAccused (may_have : Option Bytes → Type 0) (policy : Policy) (fault : FetchFault) (o : Passage) : Type 0 where
   pub two : Two
   pub are : AreTwo may_have policy two
   pub so : IsAccused two fault
@@ -54,12 +53,12 @@ pub record HasAccused (may_have : Option Bytes → Type 0) (policy : Policy) (fa
 
 -- a text that may be printed before another fault comes: of what is wanted of a log that goes on from what was known,
 -- or the evidence against it
-abbrev pub MayPrint : (Option Bytes → Type 0) → Policy → Wanted → Bytes → Type 0
+abbrev pub MayPrint : (Option Bytes → Type 0) → Policy → FetchRequest → Bytes → Type 0
 MayPrint may_have policy what text =
     (two : Two) × AreTwo may_have policy two
     × ((IsGrown two.old two.new × IsBegun policy.origin two.old.size two.new what text) ⊎ (text ≡ evidence_text two.last two.note))
 
 -- the log is accused, or another fault came and no more than such a text was printed
-abbrev pub RefusesFetch : (Option Bytes → Type 0) → Policy → Wanted → RunFault → Passage → Type 0
+abbrev pub RefusesFetch : (Option Bytes → Type 0) → Policy → FetchRequest → FetchFault → Passage → Type 0
 RefusesFetch may_have policy what fault o =
     HasAccused may_have policy fault o ⊎ (IsNoAccusation fault × PrintedSome (MayPrint may_have policy what) o)

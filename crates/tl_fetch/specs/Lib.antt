@@ -1,4 +1,5 @@
 -- The definitions of fetching from a log that isn't trusted.
+pub mod FaultWords
 pub mod Faults
 pub mod Trusting
 pub mod Opening

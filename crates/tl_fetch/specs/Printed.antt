@@ -8,10 +8,11 @@ use Rattle.tl_text.specs.Text.{line, number_text, base64_text}
 use Rattle.tl_device.specs.Device.{Passage, IsUnwritten, WroteWhole}
 use Rattle.tl_proof.specs.Acceptance.{AcceptsInclusion}
 use Rattle.tl_command.specs.ProofText.{Inclusion, inclusion_text}
-use Rattle.tl_command.specs.declared.fault.RunFault.{RunFault}
+use Rattle.tl_fetch.specs.declared.fault.FetchFault.{FetchFault}
+use Rattle.tl_fetch.specs.declared.fault.FetchFault.TheVariants.{Run}
 use Rattle.tl_command.specs.declared.fault.RunFault.TheVariants.{Write, BadIndex, OutOfMemory}
-use Rattle.tl_command.specs.declared.options.Wanted.{Wanted}
-use Rattle.tl_command.specs.declared.options.Wanted.TheVariants as wanted
+use Rattle.tl_fetch.specs.declared.options.FetchRequest.{FetchRequest}
+use Rattle.tl_fetch.specs.declared.options.FetchRequest.TheVariants as wanted
 use Rattle.tl_tile.specs.declared.resource.Resource.{Resource}
 use Rattle.tl_client.specs.declared.fault.ClientFault.{ClientFault}
 use Rattle.tl_client.specs.declared.head.Head.{Head}
@@ -44,14 +45,14 @@ pub record IsProofText (head : Head) (index : ℕ) (text : Bytes) : Type 0 where
 
 -- what is wanted of a log of this name and head, of which so many entries were known: of all entries those from there
 -- on
-abbrev pub IsWanted : Bytes → ℕ → Head → Wanted → Bytes → Type 0
+abbrev pub IsWanted : Bytes → ℕ → Head → FetchRequest → Bytes → Type 0
 IsWanted origin known head wanted.Head text = text ≡ head_text origin head
 IsWanted origin known head (wanted.Entry index) text = IsEntryText head index text
 IsWanted origin known head wanted.All text = AreLinesBetween head known head.size text
 IsWanted origin known head (wanted.Proof index) text = IsProofText head index text
 
 -- what may be printed of it before a fault comes: of all entries some of the first
-abbrev pub IsBegun : Bytes → ℕ → Head → Wanted → Bytes → Type 0
+abbrev pub IsBegun : Bytes → ℕ → Head → FetchRequest → Bytes → Type 0
 IsBegun origin known head wanted.All text = (upto : ℕ) × AreLinesBetween head known upto text
 IsBegun origin known head what text = IsWanted origin known head what text
 
@@ -66,11 +67,11 @@ PrintedSome Is o = IsUnwritten o ⊎ ((text : Bytes) × Is text × (count : ℕ)
 -- ---- why not all of it was printed
 
 -- the writer failed, memory ran out, or a check refused for such a reason, which is told
-abbrev pub FailsPrinting : (ClientFault → Type 0) → RunFault → Type 0
+abbrev pub FailsPrinting : (ClientFault → Type 0) → FetchFault → Type 0
 FailsPrinting Why fault =
-    (fault ≡ Write) ⊎ ((fault ≡ OutOfMemory) ⊎ ((why : ClientFault) × Why why × (fault ≡ after_client why)))
+    (fault ≡ Run Write) ⊎ ((fault ≡ Run OutOfMemory) ⊎ ((why : ClientFault) × Why why × (fault ≡ after_client why)))
 
 -- not all entries from this index on are printed: it is above the size, or a bundle isn't read
-abbrev pub RefusesAll : (Resource → Bytes → Type 0) → (Resource → Type 0) → Head → ℕ → RunFault → Type 0
+abbrev pub RefusesAll : (Resource → Bytes → Type 0) → (Resource → Type 0) → Head → ℕ → FetchFault → Type 0
 RefusesAll answers lacks head from fault =
-    ((head.size < from) × (fault ≡ BadIndex)) ⊎ FailsPrinting (λ why. (bundle : ℕ) × RefusesBundle answers lacks head bundle why) fault
+    ((head.size < from) × (fault ≡ Run BadIndex)) ⊎ FailsPrinting (λ why. (bundle : ℕ) × RefusesBundle answers lacks head bundle why) fault

@@ -10,7 +10,9 @@ ghost use Rattle.tl_fetch.specs.Faults.{IsNoAccusation};
 ghost use Rattle.tl_fetch.specs.Trusting.{policy_of};
 
 use crate::caching::Caching;
+use crate::fault::FetchFault;
 use crate::observer::Observer;
+use crate::options::FetchOptions;
 use crate::policy::Policy;
 use crate::progress::Progress;
 use crate::run::fetch_under;
@@ -22,12 +24,11 @@ use std::io::Write;
 use std::net::{Net, TcpStream};
 use std::time::{Clock, Duration};
 use tl_client::ResourceSource;
-use tl_command::{FetchFault, FetchOptions, RunFault};
+use tl_command::read_log_key;
 use tl_device::Counted;
-use tl_folder::WholeFile;
+use tl_folder::AtomicFile;
 use tl_key::{CosignerVerifier, KeyFault, read_verifier_key};
 use tl_note::Verifier;
-use tl_open::read_log_key;
 use tl_source::{AnySource, CachedSource, FolderSource, HttpSource, TileCache, Url};
 
 // The source that the options name: what has a scheme is an address, and all else a folder.
@@ -35,7 +36,7 @@ fn source_of<'s, H: Files + Net<Stream = TcpStream> + Clock>(
     rt: &'s H,
     alloc: Global,
     options: &'s FetchOptions,
-) -> Result<AnySource<'s, H>, RunFault>
+) -> Result<AnySource<'s, H>, FetchFault>
     ensures { IfErr result IsNoAccusation }
 {
     let from = options.from.as_str();
@@ -43,7 +44,7 @@ fn source_of<'s, H: Files + Net<Stream = TcpStream> + Clock>(
         return Ok(AnySource::Folder(FolderSource::new(rt, alloc, from)));
     }
     let Some(url) = Url::parse(from) else {
-        return Err(RunFault::Fetch(FetchFault::BadAddress));
+        return Err(FetchFault::BadAddress);
     };
     let limit = Duration::from_secs(options.timeout);
     Ok(AnySource::Http(HttpSource::new(rt, alloc, url, limit)))
@@ -67,13 +68,13 @@ fn witness_key(
     alloc: Global,
     options: &FetchOptions,
     place: usize,
-) -> Result<CosignerVerifier<Global>, RunFault>
+) -> Result<CosignerVerifier<Global>, FetchFault>
     requires { place < length (vec_items options.now.witnesses) }
     ensures refused { IfErr result (IsKeyFault options.now) }
 {
     match read_witness(alloc, options.witnesses[place].as_str())? {
         Some(key) => Ok(key),
-        None => Err(RunFault::Fetch(FetchFault::BadWitness(place as u64))),
+        None => Err(FetchFault::BadWitness(place as u64)),
     }
 }
 
@@ -86,7 +87,7 @@ fn fetch_with_state<H: Files<File = File>, S: ResourceSource, O: Observer, W: Wr
     options: &FetchOptions,
     observer: &mut O,
     writer: &mut Counted<W>,
-) -> Result<(), RunFault>
+) -> Result<(), FetchFault>
     ensures { RunsUnder (policy_of policy.now.origin.now (map (λ v. key v) policy.now.log.now) (map (λ w. key w) policy.now.witnesses.now) policy.now.need) options.now (passage W.contents writer.old writer.new) result }
 {
     let wanted = options.wanted;
@@ -101,7 +102,7 @@ fn fetch_with_state<H: Files<File = File>, S: ResourceSource, O: Observer, W: Wr
             writer,
         );
     };
-    let file = match WholeFile::open(rt, alloc, path.as_str()) {
+    let file = match AtomicFile::open(rt, alloc, path.as_str()) {
         Ok(file) => file,
         Err(fault) => return Err(file_refusal(fault)),
     };
@@ -118,7 +119,7 @@ fn fetch_as_asked<'s, H: Files<File = File> + Net<Stream = TcpStream> + Clock, W
     writer: &mut Counted<W>,
     errors: &'s mut Counted<E>,
     is_terminal: bool,
-) -> Result<(), RunFault>
+) -> Result<(), FetchFault>
     ensures { RunsUnder (policy_of policy.now.origin.now (map (λ v. key v) policy.now.log.now) (map (λ w. key w) policy.now.witnesses.now) policy.now.need) options.now (passage W.contents writer.old writer.new) result }
 {
     let source = match source_of(rt, alloc, options) {
@@ -149,7 +150,7 @@ fn fetch_as_told<'s, H: Files<File = File> + Net<Stream = TcpStream> + Clock, W:
     writer: &mut Counted<W>,
     errors: &'s mut Counted<E>,
     is_terminal: bool,
-) -> Result<(), RunFault>
+) -> Result<(), FetchFault>
     requires { (k : PublicKey) × IsVerifierText note_kind (string_bytes options.now.key) k × (policy.now.origin.now ≡ k.name) × (map (λ v. key v) policy.now.log.now ≡ verifier_key k ∷ []) × (policy.now.need ≡ options.now.need) }
     ensures { RunsFetch options.now (passage W.contents writer.old writer.new) result }
 {
@@ -169,7 +170,7 @@ pub fn run_fetch<'s, H: Files<File = File> + Net<Stream = TcpStream> + Clock, W:
     writer: &mut Counted<W>,
     errors: &'s mut Counted<E>,
     is_terminal: bool,
-) -> Result<(), RunFault>
+) -> Result<(), FetchFault>
     ensures { RunsFetch options.now (passage W.contents writer.old writer.new) result }
 {
     let key = read_log_key(alloc, options.key.as_str())?;

@@ -3,46 +3,46 @@
 ghost use Rattle.std.specs.Prelude.{◌≡◌};
 ghost use Rattle.tl_fetch.specs.Faults.{IsNoAccusation, after_client, after_head};
 
+use crate::fault::FetchFault;
 use tl_client::{ClientFault, HeadFault};
-use tl_command::{FetchFault, RunFault};
+use tl_command::{RunFault, note_refusal};
 use tl_note::NoteFault;
-use tl_open::note_refusal;
 
 /// Why a check refused.
-pub(crate) fn client_refusal(fault: ClientFault) -> RunFault
+pub(crate) fn client_refusal(fault: ClientFault) -> FetchFault
     ensures { result ≡ after_client fault }
 {
     match fault {
-        ClientFault::Range => RunFault::BadIndex,
-        ClientFault::Unavailable => RunFault::Fetch(FetchFault::Unavailable),
+        ClientFault::Range => FetchFault::Run(RunFault::BadIndex),
+        ClientFault::Unavailable => FetchFault::Unavailable,
         ClientFault::BadTile {
             level,
             index,
             width,
-        } => RunFault::Fetch(FetchFault::BadTile {
+        } => FetchFault::BadTile {
             level,
             index,
             width,
-        }),
-        ClientFault::BadBundle(bundle) => RunFault::Fetch(FetchFault::BadBundle(bundle)),
-        ClientFault::BadEntry(index) => RunFault::Fetch(FetchFault::BadEntry(index)),
-        ClientFault::Shrunk => RunFault::Fetch(FetchFault::Shrunk),
-        ClientFault::Forked => RunFault::Fetch(FetchFault::Forked),
-        ClientFault::OutOfMemory => RunFault::OutOfMemory,
+        },
+        ClientFault::BadBundle(bundle) => FetchFault::BadBundle(bundle),
+        ClientFault::BadEntry(index) => FetchFault::BadEntry(index),
+        ClientFault::Shrunk => FetchFault::Shrunk,
+        ClientFault::Forked => FetchFault::Forked,
+        ClientFault::OutOfMemory => FetchFault::Run(RunFault::OutOfMemory),
     }
 }
 
 /// Why a checkpoint isn't trusted.
-pub(crate) fn head_refusal(fault: HeadFault) -> RunFault
+pub(crate) fn head_refusal(fault: HeadFault) -> FetchFault
     ensures value { result ≡ after_head fault }
     ensures fair { IsNoAccusation result }
 {
     match fault {
-        HeadFault::Twice => RunFault::Fetch(FetchFault::Twice),
-        HeadFault::Unopened(NoteFault::Malformed) => RunFault::BadCheckpoint,
-        HeadFault::Unopened(fault) => note_refusal(fault),
-        HeadFault::NoCheckpoint(_) => RunFault::BadCheckpoint,
-        HeadFault::TooFew(count) => RunFault::Fetch(FetchFault::TooFew(count)),
-        HeadFault::OutOfMemory => RunFault::OutOfMemory,
+        HeadFault::Twice => FetchFault::Twice,
+        HeadFault::Unopened(NoteFault::Malformed) => FetchFault::Run(RunFault::BadCheckpoint),
+        HeadFault::Unopened(fault) => FetchFault::Run(note_refusal(fault)),
+        HeadFault::NoCheckpoint(_) => FetchFault::Run(RunFault::BadCheckpoint),
+        HeadFault::TooFew(count) => FetchFault::TooFew(count),
+        HeadFault::OutOfMemory => FetchFault::Run(RunFault::OutOfMemory),
     }
 }

@@ -10,10 +10,12 @@
 mod caching;
 mod command;
 mod entry;
+mod fault;
 mod faults;
 mod listing;
 mod observer;
 mod opening;
+mod options;
 mod policy;
 mod printing;
 mod progress;
@@ -23,11 +25,13 @@ mod state_file;
 
 pub use command::run_fetch;
 pub use entry::fetch_entry;
+pub use fault::{FetchFault, fetch_exit_of, fetch_fault_line};
 pub use listing::print_entries;
 pub use observer::Observer;
-pub use opening::{known_head, open_trusted};
+pub use opening::{open_trusted, trusted_head};
+pub use options::{FetchOptions, FetchRequest};
 pub use policy::Policy;
 pub use printing::{print_entry, print_head, print_proof};
 pub use run::fetch_under;
-pub use state::{NoState, StateKeeper};
+pub use state::{NoState, TrustStore};
 pub use state_file::FileState;

@@ -6,6 +6,7 @@ ghost use Rattle.tl_device.specs.Device.{passage};
 ghost use Rattle.tl_fetch.specs.Entries.{AreLinesBetween, RefusesBundle};
 ghost use Rattle.tl_fetch.specs.Printed.{FailsPrinting, PrintedSome, PrintedWhole, RefusesAll};
 
+use crate::fault::FetchFault;
 use crate::faults::client_refusal;
 use crate::observer::Observer;
 use std::alloc::{AllocError, Allocator};
@@ -36,7 +37,7 @@ fn lines_from<S: ResourceSource, A: Allocator + Copy, O: Observer>(
     head: &Head,
     from: u64,
     observer: &mut O,
-) -> Result<(Vec<u8, A>, u64), RunFault>
+) -> Result<(Vec<u8, A>, u64), FetchFault>
     requires { from < head.now.size }
     ensures lines { IfOk result (λ r. AreLinesBetween head.now from r.1 r.0.items) }
     ensures further { IfOk result (λ r. from < r.1) }
@@ -65,7 +66,7 @@ fn print_bundle<S: ResourceSource, A: Allocator + Copy, O: Observer, W: Write>(
     from: u64,
     observer: &mut O,
     writer: &mut Counted<W>,
-) -> Result<u64, RunFault>
+) -> Result<u64, FetchFault>
     requires { from < head.now.size }
     ensures printed { IfOk result (λ next. PrintedWhole (AreLinesBetween head.now from next) (passage W.contents writer.old writer.new)) }
     ensures further { IfOk result (λ next. from < next) }
@@ -88,13 +89,13 @@ pub fn print_entries<S: ResourceSource, A: Allocator + Copy, O: Observer, W: Wri
     from: u64,
     observer: &mut O,
     writer: &mut Counted<W>,
-) -> Result<(), RunFault>
+) -> Result<(), FetchFault>
     ensures printed { OnOk result (PrintedWhole (AreLinesBetween head.now from head.now.size) (passage W.contents writer.old writer.new)) }
     ensures part { OnErr result (PrintedSome (λ text. (upto : ℕ) × AreLinesBetween head.now from upto text) (passage W.contents writer.old writer.new)) }
     ensures refused { IfErr result (RefusesAll (S.may_answer source.now) (S.may_lack source.now) head.now from) }
 {
     if from > head.size {
-        return Err(RunFault::BadIndex);
+        return Err(FetchFault::Run(RunFault::BadIndex));
     }
     let mut next = from;
     while next < head.size {

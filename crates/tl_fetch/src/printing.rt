@@ -7,6 +7,7 @@ ghost use Rattle.tl_fetch.specs.Entries.{RefusesLeaf, RefusesOne, RefusesProof};
 ghost use Rattle.tl_fetch.specs.Printed.{FailsPrinting, IsEntryText, IsProofOf, IsProofText, PrintedSome, PrintedWhole, head_text};
 
 use crate::entry::fetch_entry;
+use crate::fault::FetchFault;
 use crate::faults::client_refusal;
 use base64::engine::general_purpose::STANDARD;
 use itoa::Buffer;
@@ -40,10 +41,10 @@ pub fn print_head<A: Allocator + Copy, W: Write>(
     origin: &str,
     head: &Head,
     writer: &mut Counted<W>,
-) -> Result<(), RunFault>
+) -> Result<(), FetchFault>
     ensures printed { OnOk result (PrintedWhole (λ text. text ≡ head_text origin.now head.now) (passage W.contents writer.old writer.new)) }
     ensures part { OnErr result (PrintedSome (λ text. text ≡ head_text origin.now head.now) (passage W.contents writer.old writer.new)) }
-    ensures refused { IfErr result (λ fault. (fault ≡ RunFault.Write) ⊎ (fault ≡ RunFault.OutOfMemory)) }
+    ensures refused { IfErr result (λ fault. (fault ≡ FetchFault.Run RunFault.Write) ⊎ (fault ≡ FetchFault.Run RunFault.OutOfMemory)) }
 {
     let text = head_lines(alloc, origin, head)?;
     print_text(writer, text.as_bytes())?;
@@ -58,7 +59,7 @@ pub fn print_entry<S: ResourceSource, A: Allocator + Copy, W: Write>(
     head: &Head,
     index: u64,
     writer: &mut Counted<W>,
-) -> Result<(), RunFault>
+) -> Result<(), FetchFault>
     ensures printed { OnOk result (PrintedWhole (IsEntryText head.now index) (passage W.contents writer.old writer.new)) }
     ensures part { OnErr result (PrintedSome (IsEntryText head.now index) (passage W.contents writer.old writer.new)) }
     ensures refused { IfErr result (FailsPrinting (RefusesOne (S.may_answer source.now) (S.may_lack source.now) head.now index)) }
@@ -79,7 +80,7 @@ fn proof_of<S: ResourceSource, A: Allocator + Copy>(
     head: &Head,
     index: u64,
     entry: &[u8],
-) -> Result<InclusionProof<A>, RunFault>
+) -> Result<InclusionProof<A>, FetchFault>
     ensures proof { IfOk result (λ p. IsProofOf head.now index entry.now (inclusion_shown p)) }
     ensures refused { IfErr result (FailsPrinting (RefusesLeaf (S.may_answer source.now) (S.may_lack source.now) head.now index)) }
 {
@@ -103,7 +104,7 @@ fn proof_text<S: ResourceSource, A: Allocator + Copy>(
     source: &S,
     head: &Head,
     index: u64,
-) -> Result<Vec<u8, A>, RunFault>
+) -> Result<Vec<u8, A>, FetchFault>
     ensures text { IfOk result (λ text. IsProofText head.now index text.items) }
     ensures refused { IfErr result (FailsPrinting (RefusesProof (S.may_answer source.now) (S.may_lack source.now) head.now index)) }
 {
@@ -124,7 +125,7 @@ pub fn print_proof<S: ResourceSource, A: Allocator + Copy, W: Write>(
     head: &Head,
     index: u64,
     writer: &mut Counted<W>,
-) -> Result<(), RunFault>
+) -> Result<(), FetchFault>
     ensures printed { OnOk result (PrintedWhole (IsProofText head.now index) (passage W.contents writer.old writer.new)) }
     ensures part { OnErr result (PrintedSome (IsProofText head.now index) (passage W.contents writer.old writer.new)) }
     ensures refused { IfErr result (FailsPrinting (RefusesProof (S.may_answer source.now) (S.may_lack source.now) head.now index)) }

@@ -9,17 +9,19 @@ ghost use Rattle.tl_fetch.specs.Inner.Judging.{IsOfGrowth, RefusesTwo, two_of};
 ghost use Rattle.tl_fetch.specs.Printed.{IsBegun, IsWanted, PrintedSome, PrintedWhole};
 ghost use Rattle.tl_fetch.specs.Trusting.{IsGrown, IsKnown, IsNoteOf, policy_of};
 
+use crate::fault::FetchFault;
 use crate::faults::client_refusal;
 use crate::listing::print_entries;
 use crate::observer::Observer;
-use crate::opening::{known_head, open_trusted, read_note};
+use crate::opening::{open_trusted, read_note, trusted_head};
+use crate::options::FetchRequest;
 use crate::policy::Policy;
 use crate::printing::{print_entry, print_head, print_proof};
-use crate::state::StateKeeper;
+use crate::state::TrustStore;
 use std::alloc::Global;
 use std::io::Write;
-use tl_client::{ClientFault, Head, ResourceSource, check_growth};
-use tl_command::{RunFault, Wanted, print_text};
+use tl_client::{ClientFault, Head, ResourceSource, prove_growth};
+use tl_command::{RunFault, print_text};
 use tl_device::Counted;
 
 // Checks that a log goes on from what was known, by a consistency proof that is accepted.
@@ -32,20 +34,20 @@ fn check_grown<S: ResourceSource>(
     ensures grown { OnOk result (IsGrown old.now new.now) }
     ensures refused { IfErr result (RefusesGrowth (S.may_answer source.now) (S.may_lack source.now) old.now new.now) }
 {
-    let _proof = check_growth(alloc, source, *old, *new)?;
+    let _proof = prove_growth(alloc, source, *old, *new)?;
     Ok(())
 }
 
 // Prints two texts, one after the other.
-fn print_two<W: Write>(first: &str, second: &str, writer: &mut Counted<W>) -> Result<(), RunFault>
+fn print_two<W: Write>(first: &str, second: &str, writer: &mut Counted<W>) -> Result<(), FetchFault>
     ensures printed { OnOk result (PrintedWhole (λ text. text ≡ first.now ++ second.now) (passage W.contents writer.old writer.new)) }
     ensures part { OnErr result (PrintedSome (λ text. text ≡ first.now ++ second.now) (passage W.contents writer.old writer.new)) }
-    ensures fault { IfErr result (λ fault. fault ≡ RunFault.Write) }
+    ensures fault { IfErr result (λ fault. fault ≡ FetchFault.Run RunFault.Write) }
 {
     print_text(writer, first.as_bytes())?;
     match print_text(writer, second.as_bytes()) {
         Ok(()) => Ok(()),
-        Err(fault) => Err(fault),
+        Err(fault) => Err(FetchFault::Run(fault)),
     }
 }
 
@@ -54,10 +56,10 @@ fn print_evidence<W: Write>(
     last: Option<&str>,
     note: &str,
     writer: &mut Counted<W>,
-) -> Result<(), RunFault>
+) -> Result<(), FetchFault>
     ensures printed { OnOk result (PrintedWhole (λ text. text ≡ evidence_text (option_map (λ s. s.now) last.entry) note.now) (passage W.contents writer.old writer.new)) }
     ensures part { OnErr result (PrintedSome (λ text. text ≡ evidence_text (option_map (λ s. s.now) last.entry) note.now) (passage W.contents writer.old writer.new)) }
-    ensures fault { IfErr result (λ fault. fault ≡ RunFault.Write) }
+    ensures fault { IfErr result (λ fault. fault ≡ FetchFault.Run RunFault.Write) }
 {
     match last {
         Some(last) => print_two(last, note, writer),
@@ -68,7 +70,7 @@ fn print_evidence<W: Write>(
 // What is wanted of a log of which so many entries were known.
 #[derive(Clone, Copy)]
 struct Asked {
-    wanted: Wanted,
+    wanted: FetchRequest,
     known: u64,
 }
 
@@ -81,16 +83,16 @@ fn print_asked<S: ResourceSource, O: Observer, W: Write>(
     asked: Asked,
     observer: &mut O,
     writer: &mut Counted<W>,
-) -> Result<(), RunFault>
+) -> Result<(), FetchFault>
     ensures printed { OnOk result (PrintedWhole (IsWanted policy.now.origin.now asked.known head.now asked.wanted) (passage W.contents writer.old writer.new)) }
     ensures part { OnErr result (PrintedSome (IsBegun policy.now.origin.now asked.known head.now asked.wanted) (passage W.contents writer.old writer.new)) }
     ensures fair { IfErr result IsNoAccusation }
 {
     match asked.wanted {
-        Wanted::Head => print_head(alloc, policy.origin, head, writer),
-        Wanted::Entry(index) => print_entry(alloc, source, head, index, writer),
-        Wanted::All => print_entries(alloc, source, head, asked.known, observer, writer),
-        Wanted::Proof(index) => print_proof(alloc, source, head, index, writer),
+        FetchRequest::Head => print_head(alloc, policy.origin, head, writer),
+        FetchRequest::Entry(index) => print_entry(alloc, source, head, index, writer),
+        FetchRequest::All => print_entries(alloc, source, head, asked.known, observer, writer),
+        FetchRequest::Proof(index) => print_proof(alloc, source, head, index, writer),
     }
 }
 
@@ -116,7 +118,7 @@ fn judge<S: ResourceSource, W: Write>(
     source: &S,
     step: &Step<'_>,
     writer: &mut Counted<W>,
-) -> Result<(), RunFault>
+) -> Result<(), FetchFault>
     ensures grown { OnOk result (IsGrown step.now.old.now step.now.new.now) }
     ensures silent { OnOk result (IsUnwritten (passage W.contents writer.old writer.new)) }
     ensures refused { IfErr result (λ fault. RefusesTwo (two_of (option_map (λ s. s.now) step.now.last) step.now.old.now step.now.note.now step.now.new.now) fault (passage W.contents writer.old writer.new)) }
@@ -134,16 +136,16 @@ fn judge<S: ResourceSource, W: Write>(
 }
 
 // Keeps the new note and prints what is wanted, all entries before it is kept.
-fn print_and_keep<S: ResourceSource, K: StateKeeper, O: Observer, W: Write>(
+fn print_and_keep<S: ResourceSource, K: TrustStore, O: Observer, W: Write>(
     alloc: Global,
     source: &S,
     policy: &Policy<'_>,
     step: &Step<'_>,
-    wanted: Wanted,
+    wanted: FetchRequest,
     state: &mut K,
     observer: &mut O,
     writer: &mut Counted<W>,
-) -> Result<(), RunFault>
+) -> Result<(), FetchFault>
     requires known { IsKnown (policy_of policy.now.origin.now (map (λ v. key v) policy.now.log.now) (map (λ w. key w) policy.now.witnesses.now) policy.now.need) (option_map (λ s. s.now) step.now.last) step.now.old.now }
     requires trusted { IsNoteOf (policy_of policy.now.origin.now (map (λ v. key v) policy.now.log.now) (map (λ w. key w) policy.now.witnesses.now) policy.now.need) step.now.note.now step.now.new.now }
     requires grown { IsGrown step.now.old.now step.now.new.now }
@@ -152,7 +154,7 @@ fn print_and_keep<S: ResourceSource, K: StateKeeper, O: Observer, W: Write>(
     ensures fair { IfErr result IsNoAccusation }
 {
     let known = step.old.size;
-    if let Wanted::All = wanted {
+    if let FetchRequest::All = wanted {
         print_entries(alloc, source, step.new, known, observer, writer)?;
         return state.keep(policy, step.last, step.note);
     }
@@ -169,24 +171,24 @@ fn print_and_keep<S: ResourceSource, K: StateKeeper, O: Observer, W: Write>(
 }
 
 /// Fetches what is wanted of the log of this policy. The source's checkpoint has to be trusted (`open_trusted`), and
-/// to go on from the state's by a consistency proof that is accepted (`tl_client::check_growth`). It is kept then, and
+/// to go on from the state's by a consistency proof that is accepted (`tl_client::prove_growth`). It is kept then, and
 /// what is wanted is printed; all entries are printed before it is kept, so that none is lost where that fails. Where
 /// the log shrank or forked, the state's note and the new one are printed.
-pub fn fetch_under<S: ResourceSource, K: StateKeeper, O: Observer, W: Write>(
+pub fn fetch_under<S: ResourceSource, K: TrustStore, O: Observer, W: Write>(
     alloc: Global,
     source: &S,
     policy: &Policy<'_>,
-    wanted: Wanted,
+    wanted: FetchRequest,
     state: &mut K,
     observer: &mut O,
     writer: &mut Counted<W>,
-) -> Result<(), RunFault>
+) -> Result<(), FetchFault>
     ensures fetched { OnOk result (HasFetched (K.may_have state.old) (policy_of policy.now.origin.now (map (λ v. key v) policy.now.log.now) (map (λ w. key w) policy.now.witnesses.now) policy.now.need) wanted (passage W.contents writer.old writer.new)) }
     ensures refused { IfErr result (λ fault. RefusesFetch (K.may_have state.old) (policy_of policy.now.origin.now (map (λ v. key v) policy.now.log.now) (map (λ w. key w) policy.now.witnesses.now) policy.now.need) wanted fault (passage W.contents writer.old writer.new)) }
 {
     let kept = state.last(alloc)?;
     let last = kept.as_deref();
-    let old = known_head(alloc, policy, last)?;
+    let old = trusted_head(alloc, policy, last)?;
     let note = read_note(alloc, source)?;
     let new = open_trusted(alloc, policy, note.as_str())?;
     let step = Step {

@@ -1,11 +1,11 @@
 //! Who keeps the checkpoint that was trusted last.
 
+use crate::fault::FetchFault;
 use crate::policy::Policy;
 use std::alloc::Global;
-use tl_command::RunFault;
 
 /// Who keeps the signed checkpoint of a log that was trusted last.
-pub trait StateKeeper {
+pub trait TrustStore {
     ghost use Rattle.std.specs.Prelude.{IfErr, IfOk, Option, map, option_map, string_bytes};
     ghost use Rattle.tl_hash.specs.Bytes.{Bytes};
     ghost use Rattle.tl_fetch.specs.Faults.{IsNoAccusation};
@@ -15,13 +15,18 @@ pub trait StateKeeper {
     ghost may_have: { Self → Option Bytes → Type 0 };
 
     /// The note that was kept last.
-    fn last(&self, alloc: Global) -> Result<Option<String>, RunFault>
+    fn last(&self, alloc: Global) -> Result<Option<String>, FetchFault>
         ensures had { IfOk result (λ note. may_have self.now (option_map string_bytes note)) }
         ensures fault { IfErr result IsNoAccusation };
 
     /// Keeps a note in place of the last one. It is only ever asked to where that note is trusted, and its log begins
     /// with the one that is known by the last note, by a consistency proof that was accepted.
-    fn keep(&mut self, policy: &Policy<'_>, last: Option<&str>, note: &str) -> Result<(), RunFault>
+    fn keep(
+        &mut self,
+        policy: &Policy<'_>,
+        last: Option<&str>,
+        note: &str,
+    ) -> Result<(), FetchFault>
         requires { IsNext (policy_of policy.now.origin.now (map (λ v. key v) policy.now.log.now) (map (λ w. key w) policy.now.witnesses.now) policy.now.need) (option_map (λ s. s.now) last) note.now }
         ensures fault { IfErr result IsNoAccusation };
 }
@@ -30,12 +35,12 @@ pub trait StateKeeper {
 #[derive(Clone, Copy, Debug, PartialEq, Eq)]
 pub struct NoState;
 
-impl StateKeeper for NoState {
+impl TrustStore for NoState {
     ghost use Rattle.std.specs.Prelude.{◌≡◌, None};
 
     ghost may_have = { λ _ note. note ≡ None };
 
-    fn last(&self, _alloc: Global) -> Result<Option<String>, RunFault> {
+    fn last(&self, _alloc: Global) -> Result<Option<String>, FetchFault> {
         Ok(None)
     }
 
@@ -44,7 +49,7 @@ impl StateKeeper for NoState {
         _policy: &Policy<'_>,
         _last: Option<&str>,
         _note: &str,
-    ) -> Result<(), RunFault> {
+    ) -> Result<(), FetchFault> {
         Ok(())
     }
 }

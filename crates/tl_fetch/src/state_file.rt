@@ -2,36 +2,37 @@
 
 ghost use Rattle.tl_fetch.specs.Faults.{IsNoAccusation};
 
+use crate::fault::FetchFault;
 use crate::policy::Policy;
-use crate::state::StateKeeper;
+use crate::state::TrustStore;
 use std::alloc::Global;
 use std::fs::{File, Files};
-use tl_command::{FetchFault, RunFault};
-use tl_folder::{FileFault, WholeFile};
+use tl_command::RunFault;
+use tl_folder::{AtomicFile, FileFault};
 
 // The most bytes of a note.
 const MOST: u64 = 65_536;
 
 /// Why the file of a state was not opened or read.
-pub(crate) fn file_refusal(fault: FileFault) -> RunFault
+pub(crate) fn file_refusal(fault: FileFault) -> FetchFault
     ensures { IsNoAccusation result }
 {
     match fault {
-        FileFault::System => RunFault::Read,
-        FileFault::Busy => RunFault::Busy,
-        FileFault::TooLarge => RunFault::TooLarge,
-        FileFault::OutOfMemory => RunFault::OutOfMemory,
+        FileFault::System => FetchFault::Run(RunFault::Read),
+        FileFault::Busy => FetchFault::Run(RunFault::Busy),
+        FileFault::TooLarge => FetchFault::Run(RunFault::TooLarge),
+        FileFault::OutOfMemory => FetchFault::Run(RunFault::OutOfMemory),
     }
 }
 
 /// A state in a file, which has the note.
 #[derive(Drop)]
-pub struct FileState<'s, H: Files>(pub WholeFile<'s, H>);
+pub struct FileState<'s, H: Files>(pub AtomicFile<'s, H>);
 
-impl<H: Files<File = File>> StateKeeper for FileState<'_, H> {
+impl<H: Files<File = File>> TrustStore for FileState<'_, H> {
     ghost may_have = { λ _ note. Unit {0} };
 
-    fn last(&self, alloc: Global) -> Result<Option<String>, RunFault> {
+    fn last(&self, alloc: Global) -> Result<Option<String>, FetchFault> {
         let bytes = match self.0.read(alloc, MOST) {
             Ok(Some(bytes)) => bytes,
             Ok(None) => return Ok(None),
@@ -39,7 +40,7 @@ impl<H: Files<File = File>> StateKeeper for FileState<'_, H> {
         };
         match String::from_utf8(bytes) {
             Ok(note) => Ok(Some(note)),
-            Err(_) => Err(RunFault::Fetch(FetchFault::BadState)),
+            Err(_) => Err(FetchFault::BadState),
         }
     }
 
@@ -48,10 +49,10 @@ impl<H: Files<File = File>> StateKeeper for FileState<'_, H> {
         _policy: &Policy<'_>,
         _last: Option<&str>,
         note: &str,
-    ) -> Result<(), RunFault> {
+    ) -> Result<(), FetchFault> {
         match self.0.replace(note.as_bytes()) {
             Ok(()) => Ok(()),
-            Err(_) => Err(RunFault::Write),
+            Err(_) => Err(FetchFault::Run(RunFault::Write)),
         }
     }
 }

@@ -1,12 +1,13 @@
 //! The door of a server, from which its threads take connections.
 
+use crate::options::ListenOptions;
 use std::alloc::Global;
 use std::io::{ErrorKind, Write};
 use std::net::{Net, SocketAddr, TcpListener, TcpStream};
 use std::sync::atomic::{AtomicU64, Ordering};
 use std::time::{Clock, Duration};
 use std::{io, thread};
-use tl_command::{ListenOptions, RunFault, print_text};
+use tl_command::{RunFault, print_text};
 use tl_device::Counted;
 
 // How often an accept is tried again, and how many milliseconds are waited in between.

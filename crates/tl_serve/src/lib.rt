@@ -19,6 +19,7 @@ mod lanes;
 mod live_log;
 mod log_keys;
 mod opening;
+mod options;
 mod pages;
 mod running;
 mod saver;
@@ -31,6 +32,10 @@ mod witness;
 pub use append::run_append;
 pub use gate::Gate;
 pub use host::Host;
+pub use options::{
+    AppendOptions, ListenOptions, LogKey, LogVerifierKey, ServeOptions, WitnessOptions,
+    WitnessSignerKey,
+};
 pub use saver::LineSaver;
 pub use serve::{run_serve, serve_gated, threads_of};
 pub use serve_shelf::run_serve_shelf;

@@ -1,11 +1,11 @@
 //! The keys of a log.
 
+use crate::options::LogKey;
 use std::alloc::Global;
 use std::fs::Files;
-use tl_command::{LogKey, RunFault};
+use tl_command::{RunFault, read_file, read_private_key};
 use tl_key::{DemoKey, Note, SignerKey, VerifierKey, demo_key};
 use tl_note::{NoteFault, Signer};
-use tl_open::{read_file, read_private_key};
 
 /// The keys of a log: one that signs, and one that opens what it signed.
 #[derive(Drop)]

@@ -4,10 +4,11 @@ ghost use Rattle.std.specs.Prelude.{◌≡◌, IfOk, map};
 
 use crate::following::Lines;
 use crate::lanes::Lane;
+use crate::options::ServeOptions;
 use std::alloc::{AllocError, Global};
 use std::io::Read;
 use tl_checkpoint::open_checkpoint;
-use tl_command::{MOST_INPUT, RunFault, ServeOptions, read_entries};
+use tl_command::{MOST_INPUT, RunFault, read_entries};
 use tl_device::Counted;
 use tl_note::Verifier;
 use tl_sequencer::Submitter;
@@ -27,7 +28,7 @@ pub(crate) fn bundles_of(alloc: Global, entries: &[Vec<u8>]) -> Result<Vec<Vec<u
 }
 
 /// A note with its last newline, which a shell takes off.
-pub(crate) fn whole_note(alloc: Global, note: &str) -> Result<String, AllocError> {
+pub(crate) fn with_newline(alloc: Global, note: &str) -> Result<String, AllocError> {
     let mut whole = String::from_str(alloc, note)?;
     if !note.ends_with('\n') {
         whole.push_str("\n")?;

@@ -14,6 +14,7 @@ use crate::host::Host;
 use crate::keeping::{Keeper, Kept};
 use crate::lanes::{AllSent, Lane, LaneThread, join_lanes, start_lanes};
 use crate::live_log::LiveLog;
+use crate::options::ServeOptions;
 use crate::pages::Pages;
 use crate::taking::{Rounds, take_all};
 use crate::telling::tell_closed;
@@ -23,7 +24,7 @@ use std::net::{Net, TcpListener, TcpStream};
 use std::thread;
 use std::thread::{JoinHandle, Scope, Threads};
 use std::time::Clock;
-use tl_command::{RunFault, ServeOptions};
+use tl_command::RunFault;
 use tl_device::Counted;
 use tl_sequencer::Ended;
 

@@ -15,7 +15,8 @@ use crate::keeping::{InMemory, Keeper, Kept};
 use crate::lanes::Lane;
 use crate::live_log::{LiveLog, MOST_ENTRIES};
 use crate::log_keys::{LogKeys, keys_of};
-use crate::opening::{bundles_of, lanes_of, read_plan, size_of, whole_note};
+use crate::opening::{bundles_of, lanes_of, read_plan, size_of, with_newline};
+use crate::options::ServeOptions;
 use crate::pages::Pages;
 use crate::running::run_log;
 use std::alloc::Global;
@@ -23,7 +24,7 @@ use std::io::{Read, Write};
 use std::net::{Net, TcpListener, TcpStream};
 use std::sync::Arc;
 use std::thread::{Threads, available_parallelism};
-use tl_command::{RunFault, ServeOptions};
+use tl_command::RunFault;
 use tl_device::Counted;
 use tl_note::{Signer, Verifier, is_key_name};
 use tl_publisher::{BoardReader, Operator, OperatorFault, Published, ResumeFault};
@@ -236,7 +237,7 @@ pub fn serve_gated<
     };
     match &options.note {
         Some(note) => {
-            let note = whole_note(alloc, note)?;
+            let note = with_newline(alloc, note)?;
             server.serve_resumed(signers, &opens, note.as_str(), reader, log)
         }
         None => server.serve_new(signers, reader, log),

@@ -7,6 +7,7 @@ ghost use Rattle.tl_serve.specs.Serving.{RefusesOrigin};
 use crate::answering::answer_witness;
 use crate::door::Door;
 use crate::host::Host;
+use crate::options::{LogVerifierKey, WitnessOptions, WitnessSignerKey};
 use crate::serve::threads_of;
 use std::alloc::Global;
 use std::fs::Files;
@@ -15,12 +16,11 @@ use std::net::{Net, TcpListener, TcpStream};
 use std::sync::Mutex;
 use std::thread;
 use std::thread::Scope;
-use tl_command::{CosignerKey, KnownKey, MOST_INPUT, RunFault, WitnessOptions, read_input};
+use tl_command::{MOST_INPUT, RunFault, read_file, read_input, read_log_key, read_private_key};
 use tl_device::Counted;
 use tl_hash::Sha256Tree;
 use tl_key::{Cosignature, DemoKey, Note, SignerKey, VerifierKey, demo_key};
 use tl_note::{NoteFault, Signer, Verifier, is_key_name};
-use tl_open::{read_file, read_log_key, read_private_key};
 use tl_proof::Link;
 use tl_server::Witness;
 use tl_witness::{Book, BookFault, ChainFault, SharedWitness, Trust, read_chain};
@@ -181,11 +181,11 @@ enum Known {
 fn known_key(alloc: Global, options: &WitnessOptions) -> Result<Known, RunFault> {
     let origin = options.origin.as_str();
     match &options.log_key {
-        KnownKey::Secret(secret) => {
+        LogVerifierKey::Secret(secret) => {
             let key = demonstration(alloc, origin, secret, RunFault::BadOrigin)?;
             Ok(Known::Demonstration(key))
         }
-        KnownKey::Text(text) => {
+        LogVerifierKey::Text(text) => {
             let key = read_log_key(alloc, text)?;
             if key.name() != origin {
                 return Err(RunFault::BadOrigin);
@@ -205,11 +205,11 @@ enum Own {
 // The key that the options name for the witness.
 fn own_key<H: Files>(rt: &H, alloc: Global, options: &WitnessOptions) -> Result<Own, RunFault> {
     match &options.key {
-        CosignerKey::Secret(name, secret) => {
+        WitnessSignerKey::Secret(name, secret) => {
             let key = demonstration(alloc, name, secret, RunFault::Sign)?;
             Ok(Own::Demonstration(key))
         }
-        CosignerKey::File(path) => {
+        WitnessSignerKey::File(path) => {
             let bytes = read_file(rt, alloc, path)?;
             let key = read_private_key::<Cosignature>(alloc, bytes.as_slice())?;
             Ok(Own::Private(key))

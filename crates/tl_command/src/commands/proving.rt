@@ -2,7 +2,9 @@
 
 ghost use Rattle.std.specs.Prelude.{◌≡◌, ◌<◌, ◌≤◌, ◌^◌, length, map, vec_items, IfOk, IfErr};
 ghost use Rattle.tl_device.specs.Device.{passage};
-ghost use Rattle.tl_command.specs.ProofShown.{inclusion_shown, consistency_shown};
+ghost use Rattle.tl_command.specs.Inner.Shown.{consistency_shown};
+ghost use Rattle.tl_command.specs.ProofShown.{inclusion_shown};
+ghost use Rattle.tl_command.specs.ProofText.{inclusion_text, consistency_text};
 ghost use Rattle.tl_command.specs.ProofCommands.{inclusion_of, InclusionComes, consistency_of, ConsistencyComes};
 ghost use Rattle.tl_command.specs.Run.{Runs};
 
@@ -32,8 +34,7 @@ pub fn run_inclusion<A: Allocator + Copy, R: Read, W: Write>(
     if index >= entries.len() as u64 {
         return Err(RunFault::BadIndex);
     }
-    let proof = inclusion_over(alloc, index, entries.as_slice())?;
-    let text = inclusion_bytes(alloc, &proof)?;
+    let text = inclusion_text_over(alloc, index, entries.as_slice())?;
     print_text(writer, text.as_slice())?;
     Ok(())
 }
@@ -53,10 +54,39 @@ pub fn run_consistency<A: Allocator + Copy, R: Read, W: Write>(
     if old > entries.len() as u64 {
         return Err(RunFault::BadOld);
     }
-    let proof = consistency_over(alloc, old, entries.as_slice())?;
-    let text = consistency_bytes(alloc, &proof)?;
+    let text = consistency_text_over(alloc, old, entries.as_slice())?;
     print_text(writer, text.as_slice())?;
     Ok(())
+}
+
+// The text of the inclusion proof of the entry at this index.
+fn inclusion_text_over<A: Allocator + Copy>(
+    alloc: A,
+    index: u64,
+    entries: &[Vec<u8, A>],
+) -> Result<Vec<u8, A>, RunFault>
+    requires index { index < length entries.now }
+    requires few { length entries.now < 2 ^ 32 }
+    ensures text { IfOk result (λ text. text.items ≡ inclusion_text (inclusion_of index (map vec_items entries.now))) }
+    ensures fault { IfErr result (λ fault. fault ≡ RunFault.OutOfMemory) }
+{
+    let proof = inclusion_over(alloc, index, entries)?;
+    Ok(inclusion_bytes(alloc, &proof)?)
+}
+
+// The text of the consistency proof for the first `old` entries.
+fn consistency_text_over<A: Allocator + Copy>(
+    alloc: A,
+    old: u64,
+    entries: &[Vec<u8, A>],
+) -> Result<Vec<u8, A>, RunFault>
+    requires old { old ≤ length entries.now }
+    requires few { length entries.now < 2 ^ 32 }
+    ensures text { IfOk result (λ text. text.items ≡ consistency_text (consistency_of old (map vec_items entries.now))) }
+    ensures fault { IfErr result (λ fault. fault ≡ RunFault.OutOfMemory) }
+{
+    let proof = consistency_over(alloc, old, entries)?;
+    Ok(consistency_bytes(alloc, &proof)?)
 }
 
 // The inclusion proof of the entry at this index.

@@ -5,7 +5,7 @@ use Rattle.tl_device.specs.Device.{Passage}
 use Rattle.tl_client.specs.declared.fault.ClientFault.{ClientFault}
 use Rattle.tl_client.specs.declared.fault.ClientFault.TheVariants as client
 use Rattle.tl_client.specs.declared.head.Head.{Head}
-use Rattle.tl_command.specs.declared.fault.RunFault.{RunFault}
+use Rattle.tl_fetch.specs.declared.fault.FetchFault.{FetchFault}
 use Rattle.tl_fetch.specs.Faults.{IsNoAccusation}
 use Rattle.tl_fetch.specs.Fetching.{IsAccused, Two, evidence_text}
 use Rattle.tl_fetch.specs.Printed.{PrintedSome, PrintedWhole}
@@ -18,7 +18,7 @@ abbrev pub IsOfGrowth : ClientFault → Type 0
 IsOfGrowth fault = (fault ≡ client.Shrunk) ⊎ (fault ≡ client.Forked)
 
 -- the growth from one to the other is refused: the log is accused and both notes were printed, or another fault came
-abbrev pub RefusesTwo : Two → RunFault → Passage → Type 0
+abbrev pub RefusesTwo : Two → FetchFault → Passage → Type 0
 RefusesTwo two fault o =
     (IsAccused two fault × PrintedWhole (λ text. text ≡ evidence_text two.last two.note) o)
     ⊎ (IsNoAccusation fault × PrintedSome (λ text. text ≡ evidence_text two.last two.note) o)

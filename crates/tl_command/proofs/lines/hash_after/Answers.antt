@@ -7,4 +7,4 @@ pub returns-in_default : goal.returns-in_default
 returns-in_default c = λ hash lawful e. c.in_default.ensures (base64_text hash) (hash_utf8 hash) e
 
 pub returns : goal.returns
-returns c = after_word IsHash base64_text c.args.line.now c.args.word.now c.in-Some.text.now c.in-Some.ensures c.hash_of.result c.hash_of.ensures
+returns c = after_word IsHash base64_text c.args.line.now c.args.word.now c.in-Some.text.now c.in-Some.ensures c.parse_hash.result c.parse_hash.ensures

@@ -6,4 +6,4 @@ pub returns-in_default : goal.returns-in_default
 returns-in_default c = λ n small e. c.in_default.ensures (number_text n) (number_utf8 n small) e
 
 pub returns : goal.returns
-returns c = after_word IsSize number_text c.args.line.now c.args.word.now c.in-Some.text.now c.in-Some.ensures c.size_of.result c.size_of.ensures
+returns c = after_word IsSize number_text c.args.line.now c.args.word.now c.in-Some.text.now c.in-Some.ensures c.parse_size.result c.parse_size.ensures

@@ -1,6 +1,6 @@
 use Rattle.std.proofs.Common.{subst, sym}
 use Rattle.tl_device.specs.Device.{passage}
-use Rattle.tl_command.specs.declared.options.Wanted.{Wanted}
+use Rattle.tl_fetch.specs.declared.options.FetchRequest.{FetchRequest}
 use Rattle.tl_fetch.specs.Printed.{IsWanted, PrintedWhole}
 use Rattle.tl_fetch.proofs.Passages.{on_err}
 use Rattle.tl_fetch.proofs.RunLemmas.{some_of_whole}
@@ -13,4 +13,4 @@ returns-in-All-clause-part g c =
     let head = c.args.step.now.new.now in
     let o = passage g.W.Write.contents c.args.writer.now c.print_entries.new.writer in
     on_err _ (some_of_whole origin known head c.args.wanted o
-    (subst (λ (w : Wanted). PrintedWhole (IsWanted origin known head w) o) (sym c.in-All.is) c.in_ok-print_entries.ensures.printed))
+    (subst (λ (w : FetchRequest). PrintedWhole (IsWanted origin known head w) o) (sym c.in-All.is) c.in_ok-print_entries.ensures.printed))

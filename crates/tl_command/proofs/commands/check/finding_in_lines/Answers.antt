@@ -1,5 +1,6 @@
 use Rattle.tl_command.specs.ProofText.{Included, Consistent}
-use Rattle.tl_command.specs.ProofShown.{inclusion_shown, consistency_shown}
+use Rattle.tl_command.specs.Inner.Shown.{consistency_shown}
+use Rattle.tl_command.specs.ProofShown.{inclusion_shown}
 use Rattle.tl_command.proofs.commands.check.finding_in_lines.Goals as goal
 
 pub returns-in-Some-clause-answer : goal.returns-in-Some-clause-answer

@@ -1,6 +1,0 @@
-use Rattle.std.proofs.Common.{rules}
-use Rattle.tl_build.proofs.SignedRuns.{runs_signed}
-use Rattle.tl_build.proofs.signed.run_build_signed.Goals as goal
-
-pub returns : goal.returns
-returns g c = runs_signed c.args.origin.now c.args.bytes.now _ c.in-Ok.key _ _ c.run_build.result c.in-Ok.ensures (search rules) c.run_build.ensures

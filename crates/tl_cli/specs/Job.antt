@@ -1,0 +1,97 @@
+-- What the program does with a job: which command runs, with which options, and how the run ends.
+use Rattle.std.specs.Prelude.{◌≡◌, ◌⊎◌, ℕ, Bool, true, false, List, Option, Result, Ok, Err, string_bytes, option_map}
+use Rattle.sha2.specs.Sha256.{sha256}
+use Rattle.tl_device.specs.Device.{Passage, IsUnread, IsUnwritten}
+use Rattle.tl_command.specs.Run.{Runs}
+use Rattle.tl_command.specs.Head.{RunsHead}
+use Rattle.tl_command.specs.ProofCommands.{InclusionComes, ConsistencyComes, CheckComes}
+use Rattle.tl_command.specs.AuditCommand.{AuditComes}
+use Rattle.tl_command.specs.declared.fault.RunFault.{RunFault}
+use Rattle.tl_cli.specs.declared.job.Job.{Job}
+use Rattle.tl_cli.specs.declared.job.Job.TheVariants.{Head, Build, BuildSigned, Append, Inclusion, Consistency, Check, CheckUnder, Keygen, Open, Audit, Serve, Witness, Fetch, Version}
+use Rattle.tl_command.specs.Mirror.{demo_log_key}
+use Rattle.tl_command.specs.Build.{RunsBuild}
+use Rattle.tl_command.specs.Signed.{RunsSigned}
+use Rattle.tl_key.specs.NoteKey.{note_kind, cosignature_kind}
+use Rattle.tl_command.specs.CheckOpened.{IsIdle, RunsCheckOpened}
+use Rattle.tl_command.specs.Keys.{IsFileFault}
+use Rattle.tl_command.specs.Keygen.{GivesKey}
+use Rattle.tl_command.specs.Open.{RunsOpen}
+use Rattle.tl_fetch.specs.Command.{RunsFetch}
+use Rattle.tl_serve.specs.Serving.{RefusesOrigin}
+use Rattle.tl_hash.specs.Bytes.{Bytes}
+use Rattle.tl_fetch.specs.declared.fault.FetchFault.{FetchFault}
+use Rattle.tl_cli.specs.declared.fault.CommandFault.{CommandFault}
+use Rattle.tl_cli.specs.Ending.{by_fetch, by_run, status_of, told_of, Told}
+use Rattle.tl_cli.specs.Version.{PrintsVersion}
+
+-- the result is such a fault
+abbrev pub IsUnopened : Result (Unit {0}) RunFault → Type 0
+IsUnopened (Ok done) = ⊥
+IsUnopened (Err fault) = IsFileFault fault
+
+-- a run against the checkpoint in a file: its bytes decide, or it can't be read, and then nothing else is done
+abbrev pub ChecksFile : Bytes → Option Bytes → Passage → Passage → Result (Unit {0}) RunFault → Type 0
+ChecksFile key entry i o result =
+    ((bytes : Bytes) × RunsCheckOpened key bytes entry i o result) ⊎ (IsUnopened result × IsIdle i o)
+
+-- a run signed by the demonstration key of an origin and a secret
+abbrev pub BuildsDemo : Bytes → Bytes → Option Bytes → Passage → Passage → Result (Unit {0}) RunFault → Type 0
+BuildsDemo origin secret get = RunsBuild (demo_log_key (record { name = origin; secret = secret })) get
+
+-- a run signed by the key in a file, likewise
+abbrev pub BuildsSigned : Bytes → Option Bytes → Passage → Passage → Result (Unit {0}) RunFault → Type 0
+BuildsSigned origin get i o result =
+    ((bytes : Bytes) × RunsSigned origin bytes get i o result) ⊎ (IsUnopened result × IsIdle i o)
+
+-- the type of a witness's key, and of a log's
+abbrev pub key_kind : Bool → ℕ
+key_kind true = cosignature_kind
+key_kind false = note_kind
+
+-- how a command ended of which this is known, and how `fetch` ended
+abbrev pub IsRun : (Result (Unit {0}) RunFault → Type 0) → Result (Unit {0}) CommandFault → Type 0
+IsRun Is result = (outcome : Result (Unit {0}) RunFault) × Is outcome × (result ≡ by_run outcome)
+
+abbrev pub IsFetched : (Result (Unit {0}) FetchFault → Type 0) → Result (Unit {0}) CommandFault → Type 0
+IsFetched Is result = (outcome : Result (Unit {0}) FetchFault) × Is outcome × (result ≡ by_fetch outcome)
+
+-- a run of a job's command: i is its reader, o its writer, and e standard error, to which keygen, fetch and the servers
+-- alone write
+abbrev pub RunsJob : Job → Passage → Passage → Passage → Result (Unit {0}) CommandFault → Type 0
+RunsJob (Head origin threads) i o e result = IsRun (RunsHead (string_bytes origin) i o) result × IsUnwritten e
+RunsJob (Build origin secret get) i o e result =
+    IsRun (BuildsDemo (string_bytes origin) (string_bytes secret) (option_map string_bytes get) i o) result × IsUnwritten e
+RunsJob (BuildSigned origin key get) i o e result =
+    IsRun (BuildsSigned (string_bytes origin) (option_map string_bytes get) i o) result × IsUnwritten e
+RunsJob (Append options) i o e result = IsRun (RefusesOrigin (string_bytes options.origin) i) result × IsUnwritten e
+RunsJob (Inclusion index) i o e result = IsRun (Runs (InclusionComes index) i o) result × IsUnwritten e
+RunsJob (Consistency old) i o e result = IsRun (Runs (ConsistencyComes old) i o) result × IsUnwritten e
+RunsJob Check i o e result = IsRun (Runs CheckComes i o) result × IsUnwritten e
+RunsJob (CheckUnder options) i o e result =
+    IsRun (ChecksFile (string_bytes options.key) (option_map string_bytes options.entry) i o) result × IsUnwritten e
+RunsJob (Keygen name is_cosigner) i o e result = IsRun (GivesKey (string_bytes name) (key_kind is_cosigner) o e) result × IsUnread i
+RunsJob (Open key) i o e result = IsRun (RunsOpen (string_bytes key) i o) result × IsUnwritten e
+RunsJob Audit i o e result = IsRun (Runs (AuditComes sha256) i o) result × IsUnwritten e
+RunsJob (Serve options) i o e result = IsUnwritten o
+RunsJob (Witness options) i o e result = Unit {0}
+RunsJob (Fetch options) i o e result = IsFetched (RunsFetch options o) result × IsUnread i
+RunsJob Version i o e result = IsRun (PrintsVersion o) result × IsUnread i × IsUnwritten e
+
+-- the job's command ran, its fault was told, and the exit status says how it ended. In between standard error held
+-- these bytes, or had failed
+pub record EndsJob (job : Job) (i o e : Passage) (status : ℕ) : Type 0 where
+  pub bytes : Option (List ℕ)
+  pub failed : Bool
+  pub result : Result (Unit {0}) CommandFault
+  pub runs : RunsJob job i o (record { old = e.old; new = bytes; had_failed = e.had_failed; has_failed = failed }) result
+  pub ended : status ≡ status_of result
+  pub told : Told (told_of result) (record { old = bytes; new = e.new; had_failed = failed; has_failed = e.has_failed })
+
+-- nothing was read and nothing was written, and the exit status is this
+abbrev pub EndsBefore : Passage → Passage → ℕ → ℕ → Type 0
+EndsBefore i o wanted status = IsUnread i × IsUnwritten o × (status ≡ wanted)
+
+-- the words name a job, whose command ran; or they name none, and the status is 2; or memory was refused, and it is 1
+abbrev pub EndsWords : Passage → Passage → Passage → ℕ → Type 0
+EndsWords i o e status = ((job : Job) × EndsJob job i o e status) ⊎ (EndsBefore i o 2 status ⊎ EndsBefore i o 1 status)

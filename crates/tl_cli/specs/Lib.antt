@@ -1,0 +1,4 @@
+-- The definitions of what the program does with its words.
+pub mod Ending
+pub mod Version
+pub mod Job

@@ -1,0 +1,21 @@
+//! What the program does with its words: it runs the command that they name, tells a fault on standard error, and
+//! ends with a status.
+//!
+//! ```
+//! // tlog inclusion --index 7, of an input of two lines
+//! let status = run_words(&rt, alloc, &words, &mut reader, &mut writer, &mut errors);
+//! assert_eq!(status, 1);
+//! ```
+#![tactic(auto)]
+
+mod fault;
+mod job;
+mod lasting;
+mod running;
+mod version;
+mod words;
+
+pub use fault::CommandFault;
+pub use job::Job;
+pub use running::{end_run, run_job, run_words};
+pub use words::{WordsFault, read_words};

@@ -1,0 +1,256 @@
+//! From words to the command that they name, and from how it ended to an exit status.
+
+ghost use Rattle.std.specs.Prelude.{◌≡◌, option_map, string_bytes};
+ghost use Rattle.tl_device.specs.Device.{passage};
+ghost use Rattle.tl_command.specs.Head.{RunsHead};
+ghost use Rattle.tl_cli.specs.Job.{BuildsDemo, BuildsSigned, ChecksFile, EndsWords, RunsJob, key_kind};
+ghost use Rattle.tl_command.specs.Keygen.{GivesKey};
+ghost use Rattle.tl_cli.specs.Ending.{Told, status_of, told_of};
+
+use crate::fault::{CommandFault, after_fetch, after_run, command_exit_of, command_fault_line};
+use crate::job::Job;
+use crate::lasting::{append, serve, witness};
+use crate::version::print_version;
+use crate::words::{WordsFault, read_words};
+use std::alloc::{Allocator, Global};
+use std::fs::{File, Files};
+use std::io::{Read, Write};
+use std::net::{Net, TcpListener, TcpStream};
+use std::random::RandomSource;
+use std::thread::{Threads, available_parallelism};
+use tl_command::{
+    CheckOptions, HmacLogSigner, RunFault, read_file, run_audit, run_build, run_build_signed,
+    run_check, run_check_opened, run_consistency, run_head, run_inclusion, run_keygen, run_open,
+};
+use tl_device::{Counted, write_whole};
+use tl_fetch::run_fetch;
+use tl_hash::Sha256Tree;
+use tl_key::{Cosignature, Note};
+use tl_serve::Host;
+
+// How many threads hash at once: as many as are asked for, or else as the machine has.
+fn threads_of<H: Threads>(rt: &H, asked: Option<u16>) -> usize {
+    if let Some(count) = asked {
+        return usize::from(count);
+    }
+    match available_parallelism(rt) {
+        Ok(count) => count.get(),
+        Err(_) => 1,
+    }
+}
+
+// Hashes the input's lines with so many threads.
+fn head<H: Threads + Sync, R: Read, W: Write>(
+    rt: &H,
+    alloc: Global,
+    origin: &str,
+    threads: Option<u16>,
+    reader: &mut Counted<R>,
+    writer: &mut Counted<W>,
+) -> Result<(), RunFault>
+    ensures { RunsHead origin.now (passage R.remaining reader.old reader.new) (passage W.contents writer.old writer.new) result }
+{
+    let threads = threads_of(rt, threads);
+    run_head(rt, alloc, alloc, threads, origin, reader, writer)
+}
+
+// Makes a key of a witness or of a log.
+fn key<H: RandomSource, W: Write, E: Write>(
+    rt: &H,
+    alloc: Global,
+    name: &str,
+    is_cosigner: bool,
+    writer: &mut Counted<W>,
+    errors: &mut Counted<E>,
+) -> Result<(), RunFault>
+    ensures { GivesKey name.now (key_kind is_cosigner) (passage W.contents writer.old writer.new) (passage E.contents errors.old errors.new) result }
+{
+    if is_cosigner {
+        return run_keygen::<Cosignature, H, W, E>(rt, alloc, name, writer, errors);
+    }
+    run_keygen::<Note, H, W, E>(rt, alloc, name, writer, errors)
+}
+
+// Builds a mirror that is signed by the demonstration key of this secret.
+fn build<R: Read, W: Write>(
+    alloc: Global,
+    origin: &str,
+    secret: &str,
+    get: Option<&str>,
+    reader: &mut Counted<R>,
+    writer: &mut Counted<W>,
+) -> Result<(), RunFault>
+    ensures { BuildsDemo origin.now secret.now (option_map (λ path. path.now) get.entry) (passage R.remaining reader.old reader.new) (passage W.contents writer.old writer.new) result }
+{
+    let key = HmacLogSigner::new(origin, secret.as_bytes());
+    run_build(alloc, alloc, &key, get, reader, writer)
+}
+
+// Builds a mirror that is signed by the key in a file.
+fn build_signed<H: Files, R: Read, W: Write>(
+    rt: &H,
+    alloc: Global,
+    origin: &str,
+    key: &str,
+    get: Option<&str>,
+    reader: &mut Counted<R>,
+    writer: &mut Counted<W>,
+) -> Result<(), RunFault>
+    ensures { BuildsSigned origin.now (option_map (λ path. path.now) get.entry) (passage R.remaining reader.old reader.new) (passage W.contents writer.old writer.new) result }
+{
+    let bytes = match read_file(rt, alloc, key) {
+        Ok(bytes) => bytes,
+        Err(fault) => return Err(fault),
+    };
+    run_build_signed(alloc, alloc, origin, bytes.as_slice(), get, reader, writer)
+}
+
+// Checks the proof of the input against the checkpoint in a file.
+fn check_under<H: Files, R: Read, W: Write>(
+    rt: &H,
+    alloc: Global,
+    checkpoint: &str,
+    key: &str,
+    entry: Option<&str>,
+    reader: &mut Counted<R>,
+    writer: &mut Counted<W>,
+) -> Result<(), RunFault>
+    ensures { ChecksFile key.now (option_map (λ e. e.now) entry.entry) (passage R.remaining reader.old reader.new) (passage W.contents writer.old writer.new) result }
+{
+    let bytes = match read_file(rt, alloc, checkpoint) {
+        Ok(bytes) => bytes,
+        Err(fault) => return Err(fault),
+    };
+    let entry = entry.map(|entry| entry.as_bytes());
+    run_check_opened(alloc, key, bytes.as_slice(), entry, reader, writer)
+}
+
+// The same with its options as they were given.
+fn check_as_asked<H: Files, R: Read, W: Write>(
+    rt: &H,
+    alloc: Global,
+    options: CheckOptions,
+    reader: &mut Counted<R>,
+    writer: &mut Counted<W>,
+) -> Result<(), RunFault>
+    ensures { ChecksFile (string_bytes options.key) (option_map string_bytes options.entry) (passage R.remaining reader.old reader.new) (passage W.contents writer.old writer.new) result }
+{
+    let CheckOptions {
+        checkpoint,
+        key,
+        entry,
+    } = options;
+    let entry = entry.as_deref();
+    check_under(rt, alloc, &checkpoint, &key, entry, reader, writer)
+}
+
+/// Runs the command of a job with its options: each job its own command, which reads the reader and writes the writer.
+/// `keygen`, `serve` and `witness` write to `errors` too, and so does `fetch` where that is a terminal. The servers may
+/// wait.
+pub fn run_job<
+    H: Host
+        + Files<File = File, Dir: Send + Sync>
+        + Net<Listener = TcpListener, Stream = TcpStream>
+        + RandomSource,
+    R: Read + Send,
+    W: Write + Send,
+    E: Write,
+>(
+    rt: &H,
+    alloc: Global,
+    job: Job,
+    is_terminal: bool,
+    reader: &mut Counted<R>,
+    writer: &mut Counted<W>,
+    errors: &mut Counted<E>,
+) -> Result<(), CommandFault>
+    ensures { RunsJob job (passage R.remaining reader.old reader.new) (passage W.contents writer.old writer.new) (passage E.contents errors.old errors.new) result }
+{
+    match job {
+        Job::Head { origin, threads } => {
+            after_run(head(rt, alloc, &origin, threads, reader, writer))
+        }
+        Job::Build {
+            origin,
+            secret,
+            get,
+        } => after_run(build(alloc, &origin, &secret, get.as_deref(), reader, writer)),
+        Job::BuildSigned { origin, key, get } => {
+            after_run(build_signed(rt, alloc, &origin, &key, get.as_deref(), reader, writer))
+        }
+        Job::Append(options) => after_run(append(rt, alloc, &options, reader, writer)),
+        Job::Inclusion { index } => after_run(run_inclusion(alloc, index, reader, writer)),
+        Job::Consistency { old } => after_run(run_consistency(alloc, old, reader, writer)),
+        Job::Check => after_run(run_check(alloc, reader, writer)),
+        Job::CheckUnder(options) => after_run(check_as_asked(rt, alloc, options, reader, writer)),
+        Job::Keygen { name, is_cosigner } => {
+            after_run(key(rt, alloc, &name, is_cosigner, writer, errors))
+        }
+        Job::Open { key } => after_run(run_open(alloc, &key, reader, writer)),
+        Job::Audit => after_run(run_audit(alloc, Sha256Tree, reader, writer)),
+        Job::Serve(options) => after_run(serve(rt, alloc, &options, reader, errors)),
+        Job::Witness(options) => after_run(witness(rt, alloc, &options, reader, writer, errors)),
+        Job::Fetch(options) => {
+            after_fetch(run_fetch(rt, alloc, &options, writer, errors, is_terminal))
+        }
+        Job::Version => after_run(print_version(writer)),
+    }
+}
+
+/// Runs the command that the words name, the program's own name first, and answers the exit status. `is_terminal` says
+/// whether `errors` goes to one. Where the words name none, the text on how to call the program is written to `errors`,
+/// the status is 2, and nothing is read or written else.
+pub fn run_words<
+    H: Host
+        + Files<File = File, Dir: Send + Sync>
+        + Net<Listener = TcpListener, Stream = TcpStream>
+        + RandomSource,
+    R: Read + Send,
+    W: Write + Send,
+    E: Write,
+>(
+    rt: &H,
+    alloc: Global,
+    words: &[String],
+    is_terminal: bool,
+    reader: &mut Counted<R>,
+    writer: &mut Counted<W>,
+    errors: &mut Counted<E>,
+) -> u8
+    ensures { EndsWords (passage R.remaining reader.old reader.new) (passage W.contents writer.old writer.new) (passage E.contents errors.old errors.new) result }
+{
+    match read_words(alloc, words) {
+        Ok(job) => {
+            let outcome = run_job(rt, alloc, job, is_terminal, reader, writer, errors);
+            end_run(alloc, outcome, errors)
+        }
+        Err(WordsFault::Usage(text)) => {
+            let _ = write_whole(errors, text.as_bytes());
+            2
+        }
+        Err(WordsFault::OutOfMemory) => {
+            end_run(alloc, Err(CommandFault::Run(RunFault::OutOfMemory)), errors)
+        }
+    }
+}
+
+/// Ends a run of a command: a fault's line is written to `errors`, if it has one and there is memory for it, and the
+/// answer is the exit status: 0 where all was done, and else the fault's.
+pub fn end_run<A: Allocator, E: Write>(
+    alloc: A,
+    outcome: Result<(), CommandFault>,
+    errors: &mut Counted<E>,
+) -> u8
+    ensures status { result ≡ status_of outcome }
+    ensures told { Told (told_of outcome) (passage E.contents errors.old errors.new) }
+{
+    let Err(fault) = outcome else {
+        return 0;
+    };
+    if let Ok(Some(mut line)) = command_fault_line(alloc, &fault) {
+        if line.push_str("\n").is_ok() {
+            let _ = write_whole(errors, line.as_bytes());
+        }
+    }
+    command_exit_of(&fault)
+}

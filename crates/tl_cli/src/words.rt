@@ -1,0 +1,180 @@
+//! The command line: from words to a job.
+
+use crate::job::Job;
+use clap::error::ErrorKind;
+use clap::{ArgMatches, Command, Error as ClapError};
+use std::alloc::{AllocError, Global};
+use thiserror::Error;
+
+// The words of a command, one a row: its name, what help calls its value, what stands behind it, and its help.
+macro_rules! words {
+    ($($name:literal $value:literal $kind:expr => $help:expr;)*) => {
+        &[$(Word { name: $name, value: $value, kind: $kind, help: $help }),*]
+    };
+}
+
+mod building;
+mod fetching;
+mod given;
+mod proving;
+mod serving;
+mod table;
+mod texts;
+
+use table::{Words, command_of};
+
+// What is said where not one of two options is given.
+const EITHER_KEY: &str = "either --secret or --key is given";
+
+// What is said of the option that takes the text of a log's verifier key.
+const LOG_KEY: &str = "The log's verifier key";
+
+// The seconds of a time limit that is left out.
+const TIMEOUT: u64 = 10;
+
+// The program's version. The formats that it reads and writes have versions of their own.
+const VERSION: &str = "0.1.0";
+
+/// Why a command line gives no job.
+#[derive(Debug, Drop, Error)]
+pub enum WordsFault {
+    /// The words aren't understood, or ask for help: the text to show.
+    #[error("{0}")]
+    Usage(String),
+    /// A growth was refused.
+    #[error("out of memory")]
+    OutOfMemory,
+}
+
+impl From<AllocError> for WordsFault {
+    fn from(_fault: AllocError) -> WordsFault {
+        WordsFault::OutOfMemory
+    }
+}
+
+// The fault of a command line that was not understood.
+fn fault_of(alloc: Global, error: ClapError) -> WordsFault {
+    if matches!(error.kind(), ErrorKind::OutOfMemory) {
+        return WordsFault::OutOfMemory;
+    }
+    match error.to_string(alloc) {
+        Ok(text) => WordsFault::Usage(text),
+        Err(_) => WordsFault::OutOfMemory,
+    }
+}
+
+// The program without its commands.
+fn program<'a>(alloc: Global) -> Command<'a> {
+    Command::new(alloc, "tlog")
+        .version(VERSION)
+        .about("A transparency log: a public list that only grows, under the root of a Merkle tree")
+        .after_help(texts::STATUSES)
+        .subcommand_required(true)
+        .disable_help_subcommand(true)
+}
+
+// A command of the program.
+#[derive(Clone, Copy)]
+enum Named {
+    Head,
+    Build,
+    Append,
+    Inclusion,
+    Consistency,
+    Check,
+    Keygen,
+    Open,
+    Audit,
+    Serve,
+    Witness,
+    Fetch,
+}
+
+// The commands in the order in which help lists them.
+const COMMANDS: [Named; 12] = [
+    Named::Head,
+    Named::Build,
+    Named::Append,
+    Named::Inclusion,
+    Named::Consistency,
+    Named::Check,
+    Named::Keygen,
+    Named::Open,
+    Named::Audit,
+    Named::Serve,
+    Named::Witness,
+    Named::Fetch,
+];
+
+// The words of a command.
+fn words_of(command: Named) -> &'static Words {
+    match command {
+        Named::Head => proving::head(),
+        Named::Build => building::build(),
+        Named::Append => building::append(),
+        Named::Inclusion => proving::inclusion(),
+        Named::Consistency => proving::consistency(),
+        Named::Check => proving::check(),
+        Named::Keygen => proving::keygen(),
+        Named::Open => proving::open(),
+        Named::Audit => proving::audit(),
+        Named::Serve => serving::serve(),
+        Named::Witness => serving::witness(),
+        Named::Fetch => fetching::fetch(),
+    }
+}
+
+// The program with its commands.
+fn with_commands<'a>(alloc: Global) -> Result<Command<'a>, AllocError> {
+    let mut program = program(alloc);
+    for command in COMMANDS {
+        program = program.subcommand(command_of(alloc, words_of(command))?)?;
+    }
+    Ok(program)
+}
+
+// The job of a command with these options.
+fn job_of(alloc: Global, command: &str, options: &ArgMatches<'_>) -> Result<Job, WordsFault> {
+    match command {
+        "head" => Ok(Job::Head {
+            origin: given::text_of(alloc, options, "origin")?,
+            threads: options.get_one::<u16>("threads"),
+        }),
+        "build" => building::build_job(alloc, options),
+        "append" => building::append_job(alloc, options),
+        "inclusion" => Ok(Job::Inclusion {
+            index: given::number_of(alloc, options, "index")?,
+        }),
+        "consistency" => Ok(Job::Consistency {
+            old: given::number_of(alloc, options, "old")?,
+        }),
+        "check" => proving::checking_job(alloc, options),
+        "keygen" => Ok(Job::Keygen {
+            name: given::text_of(alloc, options, "name")?,
+            is_cosigner: options.get_flag("cosigner"),
+        }),
+        "open" => Ok(Job::Open {
+            key: given::text_of(alloc, options, "key")?,
+        }),
+        "audit" => Ok(Job::Audit),
+        "serve" => serving::serve_job(alloc, options),
+        "witness" => serving::witness_job(alloc, options),
+        "fetch" => fetching::fetch_job(alloc, options),
+        _ => Err(given::no_word(alloc)),
+    }
+}
+
+/// The job that the words ask for, the first of which is the program's name; `--version` is a job, too. Words that are
+/// no command of the program with its options, and a call for help, are `Usage`.
+pub fn read_words(alloc: Global, words: &[String]) -> Result<Job, WordsFault> {
+    let program = with_commands(alloc)?;
+    let matches = match program.try_get_matches_from(words) {
+        Ok(matches) => matches,
+        Err(error) if matches!(error.kind(), ErrorKind::DisplayVersion) => return Ok(Job::Version),
+        Err(error) => return Err(fault_of(alloc, error)),
+    };
+    match matches.subcommand() {
+        Some((command, options)) => job_of(alloc, command, options),
+        None => Err(given::no_word(alloc)),
+    }
+}

@@ -1,0 +1,93 @@
+//! The words of the command `fetch`.
+
+use super::given::{text_if_given, text_of, usage_error};
+use super::table::{Kind, Word, Words};
+use super::{LOG_KEY, TIMEOUT, WordsFault, texts};
+use crate::job::Job;
+use clap::ArgMatches;
+use std::alloc::{AllocError, Global};
+use tl_fetch::{FetchOptions, FetchRequest};
+
+// What is said where not one of the four is given.
+const ONE_WANTED: &str = "one of --head, --index, --all and --prove is given";
+
+// What is said where more cosignatures are needed than there are witnesses.
+const FEWER: &str = "--need is at most the number of --witness";
+
+const FETCH: Words = Words {
+    name: "fetch",
+    about: "Prints what a log has that isn't trusted, once it is checked",
+    after_help: texts::FETCH,
+    words: &[words![
+        "from" "FROM" Kind::RequiredText
+            => "The folder of the log, or its address, http://HOST[:PORT][/PATH]";
+        "key" "VKEY" Kind::RequiredText => LOG_KEY;
+        "witness" "VKEY" Kind::Texts => "The verifier key of a witness";
+        "need" "N" Kind::Number(0, u64::MAX) => "How many of the witnesses must have cosigned";
+        "state" "FILE" Kind::Text => "The file with the checkpoint that was trusted last";
+        "cache" "DIR" Kind::Text => "The folder where tiles are kept that were checked";
+        "timeout" "N" Kind::Number(1, 86_400) => "How many seconds one answer may take";
+        "head" "" Kind::Flag => "Print the log's name, size and root";
+        "index" "N" Kind::Number(0, u64::MAX) => "Print the entry with this index";
+        "all" "" Kind::Flag => "Print every entry that the state doesn't count yet";
+        "prove" "N" Kind::Number(0, u64::MAX) => "Print the inclusion proof of this entry";
+    ]],
+};
+
+/// The words of `fetch`.
+pub(super) fn fetch() -> &'static Words {
+    &FETCH
+}
+
+// What is wanted: none unless one of the four is given.
+fn wanted_if_one(options: &ArgMatches<'_>) -> Option<FetchRequest> {
+    let index = options.get_one::<u64>("index");
+    let proof = options.get_one::<u64>("prove");
+    match (
+        options.get_flag("head"),
+        index,
+        options.get_flag("all"),
+        proof,
+    ) {
+        (true, None, false, None) => Some(FetchRequest::Head),
+        (false, Some(index), false, None) => Some(FetchRequest::Entry(index)),
+        (false, None, true, None) => Some(FetchRequest::All),
+        (false, None, false, Some(index)) => Some(FetchRequest::Proof(index)),
+        _ => None,
+    }
+}
+
+// The texts of the witnesses' keys, in order.
+fn witnesses(alloc: Global, options: &ArgMatches<'_>) -> Result<Vec<String>, AllocError> {
+    let mut keys = Vec::new(alloc);
+    let Some(texts) = options.get_strs("witness") else {
+        return Ok(keys);
+    };
+    for text in texts {
+        keys.push(String::from_str(alloc, text)?)?;
+    }
+    Ok(keys)
+}
+
+// The job of `fetch`: one of the four is given, and no more cosignatures are needed than there are witnesses.
+pub(super) fn fetch_job(alloc: Global, options: &ArgMatches<'_>) -> Result<Job, WordsFault> {
+    let Some(wanted) = wanted_if_one(options) else {
+        return Err(usage_error(alloc, fetch(), ONE_WANTED));
+    };
+    let witnesses = witnesses(alloc, options)?;
+    let all = witnesses.len() as u64;
+    let need = options.get_one::<u64>("need").unwrap_or(all);
+    if need > all {
+        return Err(usage_error(alloc, fetch(), FEWER));
+    }
+    Ok(Job::Fetch(FetchOptions {
+        from: text_of(alloc, options, "from")?,
+        key: text_of(alloc, options, "key")?,
+        witnesses,
+        need,
+        state: text_if_given(alloc, options, "state")?,
+        cache: text_if_given(alloc, options, "cache")?,
+        timeout: options.get_one::<u64>("timeout").unwrap_or(TIMEOUT),
+        wanted,
+    }))
+}

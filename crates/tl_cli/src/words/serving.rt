@@ -1,0 +1,153 @@
+//! The words of the commands that serve.
+
+use super::building::LOG;
+use super::given::{log_key_if_one, text_if_given, text_of, usage_error};
+use super::table::{Kind, Word, Words};
+use super::{EITHER_KEY, LOG_KEY, TIMEOUT, WordsFault, texts};
+use crate::job::Job;
+use clap::ArgMatches;
+use std::alloc::Global;
+use tl_serve::{ListenOptions, LogVerifierKey, ServeOptions, WitnessOptions, WitnessSignerKey};
+
+// What an option is where it is left out.
+const LANES: u64 = 1;
+
+const CAPACITY: u64 = 256;
+
+const BATCH: u64 = 256;
+
+// What is said where a note and a folder are given.
+const ONE_BASE: &str = "--note and --dir are not given together";
+
+// What is said where not one key of the log is given to a witness.
+const ONE_LOG_KEY: &str = "either --secret or --log-key is given";
+
+// What is said where not one key of the witness is given.
+const ONE_WITNESS_KEY: &str = "either --name and --witness-secret or --key is given";
+
+// The words that the servers share.
+const SERVER: &[Word] = words![
+    "listen" "ADDRESS" Kind::RequiredText => "The address to listen at";
+    "connections" "N" Kind::Number(0, 0xFFFF_FFFF) => "End after so many connections";
+    "threads" "N" Kind::Number(1, 63) => "How many threads answer at once";
+    "timeout" "N" Kind::Number(1, 86_400) => "How many seconds one connection may take in all";
+    "quiet" "" Kind::Flag => "Tell the address alone";
+];
+
+const SERVE: Words = Words {
+    name: "serve",
+    about: "Serves the log whose entries are the lines of standard input",
+    after_help: texts::SERVE,
+    words: &[
+        LOG,
+        words![
+            "lanes" "N" Kind::Number(0, u64::MAX) => "How many lanes the entries come in by";
+            "capacity" "N" Kind::Number(0, u64::MAX) => "For how many entries a lane has room";
+            "batch" "N" Kind::Number(1, 65_536) => "How many entries of a lane are taken at once";
+            "note" "NOTE" Kind::Text => "The signed checkpoint that the log goes on from";
+            "dir" "DIR" Kind::Text => "The folder of the log, which goes on from what is there";
+            "follow" "" Kind::Flag => "Publish lines as they come";
+        ],
+        SERVER,
+    ],
+};
+
+/// The words of `serve`.
+pub(super) fn serve() -> &'static Words {
+    &SERVE
+}
+
+const WITNESS: Words = Words {
+    name: "witness",
+    about: "Serves a witness, which cosigns each checkpoint of a log that extends the last one",
+    after_help: texts::WITNESS,
+    words: &[
+        words![
+            "origin" "NAME" Kind::RequiredText => "The name of the log, a key's name";
+            "secret" "SECRET" Kind::Text => "The secret of the log's demonstration key";
+            "log-key" "VKEY" Kind::Text => LOG_KEY;
+            "name" "NAME" Kind::Text => "The name of the witness's demonstration key";
+            "witness-secret" "SECRET" Kind::Text => "The secret of that key";
+            "key" "FILE" Kind::Text => "The file with the witness's private key";
+            "time" "N" Kind::Number(0, u64::MAX)
+                => "The seconds since 1970 to cosign with, in place of the machine's clock";
+            "state" "FILE" Kind::Text
+                => "The file of what it cosigned, in place of standard input and output";
+        ],
+        SERVER,
+    ],
+};
+
+/// The words of `witness`.
+pub(super) fn witness() -> &'static Words {
+    &WITNESS
+}
+
+// What is given of the words that the servers share.
+fn listen_options(alloc: Global, options: &ArgMatches<'_>) -> Result<ListenOptions, WordsFault> {
+    Ok(ListenOptions {
+        listen: text_of(alloc, options, "listen")?,
+        connections: options.get_one::<u64>("connections"),
+        threads: options.get_one::<u64>("threads"),
+        timeout: options.get_one::<u64>("timeout").unwrap_or(TIMEOUT),
+        quiet: options.get_flag("quiet"),
+    })
+}
+
+// The job of `serve`: not both a note and a folder are given.
+pub(super) fn serve_job(alloc: Global, options: &ArgMatches<'_>) -> Result<Job, WordsFault> {
+    let Some(key) = log_key_if_one(alloc, options)? else {
+        return Err(usage_error(alloc, serve(), EITHER_KEY));
+    };
+    let note = text_if_given(alloc, options, "note")?;
+    let dir = text_if_given(alloc, options, "dir")?;
+    if note.is_some() && dir.is_some() {
+        return Err(usage_error(alloc, serve(), ONE_BASE));
+    }
+    Ok(Job::Serve(ServeOptions {
+        origin: text_of(alloc, options, "origin")?,
+        key,
+        server: listen_options(alloc, options)?,
+        lanes: options.get_one::<u64>("lanes").unwrap_or(LANES),
+        capacity: options.get_one::<u64>("capacity").unwrap_or(CAPACITY),
+        batch: options.get_one::<u64>("batch").unwrap_or(BATCH),
+        note,
+        dir,
+        follow: options.get_flag("follow"),
+    }))
+}
+
+// The key by which a witness knows its log: of the secret and the text one is given.
+fn known_key(alloc: Global, options: &ArgMatches<'_>) -> Result<LogVerifierKey, WordsFault> {
+    let secret = text_if_given(alloc, options, "secret")?;
+    let key = text_if_given(alloc, options, "log-key")?;
+    match (secret, key) {
+        (Some(secret), None) => Ok(LogVerifierKey::Secret(secret)),
+        (None, Some(text)) => Ok(LogVerifierKey::Text(text)),
+        _ => Err(usage_error(alloc, witness(), ONE_LOG_KEY)),
+    }
+}
+
+// The key of a witness: a name and its secret, or a file.
+fn cosigner_key(alloc: Global, options: &ArgMatches<'_>) -> Result<WitnessSignerKey, WordsFault> {
+    let name = text_if_given(alloc, options, "name")?;
+    let secret = text_if_given(alloc, options, "witness-secret")?;
+    let key = text_if_given(alloc, options, "key")?;
+    match (name, secret, key) {
+        (Some(name), Some(secret), None) => Ok(WitnessSignerKey::Secret(name, secret)),
+        (None, None, Some(file)) => Ok(WitnessSignerKey::File(file)),
+        _ => Err(usage_error(alloc, witness(), ONE_WITNESS_KEY)),
+    }
+}
+
+// The job of `witness`.
+pub(super) fn witness_job(alloc: Global, options: &ArgMatches<'_>) -> Result<Job, WordsFault> {
+    Ok(Job::Witness(WitnessOptions {
+        origin: text_of(alloc, options, "origin")?,
+        log_key: known_key(alloc, options)?,
+        key: cosigner_key(alloc, options)?,
+        time: options.get_one::<u64>("time"),
+        state: text_if_given(alloc, options, "state")?,
+        server: listen_options(alloc, options)?,
+    }))
+}

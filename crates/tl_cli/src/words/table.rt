@@ -1,0 +1,87 @@
+//! Tables of the words that commands take, and the commands of `clap` that are made of them.
+
+use clap::builder::ValueParser;
+use clap::{Arg, ArgAction, Command};
+use std::alloc::{AllocError, Global};
+
+/// What stands behind a word.
+#[derive(Clone, Copy)]
+pub(super) enum Kind {
+    /// Nothing.
+    Flag,
+    /// A text.
+    Text,
+    /// A text; the word has to be given.
+    RequiredText,
+    /// A text; the word may be given more than once.
+    Texts,
+    /// A number that isn't below the first and not above the second.
+    Number(u64, u64),
+    /// A number; the word has to be given.
+    RequiredNumber,
+    /// A number from 1 to 65,535.
+    Short,
+}
+
+/// A word of a command, which stands behind two hyphens.
+pub(super) struct Word {
+    pub(super) name: &'static str,
+    /// What help calls the value.
+    pub(super) value: &'static str,
+    pub(super) kind: Kind,
+    pub(super) help: &'static str,
+}
+
+/// A command: its name, what help says of it, and its words, by subjects.
+pub(super) struct Words {
+    pub(super) name: &'static str,
+    pub(super) about: &'static str,
+    pub(super) after_help: &'static str,
+    pub(super) words: &'static [&'static [Word]],
+}
+
+// The parser of a number that isn't below the first and not above the second.
+fn between<'a>(arg: Arg<'a>, least: u64, most: u64) -> Arg<'a> {
+    arg.value_parser(ValueParser::unsigned(least, most))
+}
+
+// A word as an argument.
+fn argument<'a>(alloc: Global, word: &Word) -> Arg<'a> {
+    let arg = Arg::new(alloc, word.name).long(word.name).help(word.help);
+    if matches!(word.kind, Kind::Flag) {
+        return arg.action(ArgAction::SetTrue);
+    }
+    let arg = arg.value_name(word.value).action(ArgAction::Set);
+    match word.kind {
+        Kind::Flag | Kind::Text => arg,
+        Kind::RequiredText => arg.required(true),
+        Kind::Texts => arg.action(ArgAction::Append),
+        Kind::Number(least, most) => between(arg, least, most),
+        Kind::RequiredNumber => between(arg, 0, u64::MAX).required(true),
+        Kind::Short => arg.value_parser(ValueParser::signed(1, 65_535)),
+    }
+}
+
+// The command with these words, too.
+fn with_words<'a>(
+    alloc: Global,
+    command: Command<'a>,
+    words: &[Word],
+) -> Result<Command<'a>, AllocError> {
+    let mut command = command;
+    for word in words {
+        command = command.arg(argument(alloc, word))?;
+    }
+    Ok(command)
+}
+
+/// A command with all its words.
+pub(super) fn command_of<'a>(alloc: Global, row: &Words) -> Result<Command<'a>, AllocError> {
+    let mut command = Command::new(alloc, row.name)
+        .about(row.about)
+        .after_help(row.after_help);
+    for words in row.words {
+        command = with_words(alloc, command, words)?;
+    }
+    Ok(command)
+}

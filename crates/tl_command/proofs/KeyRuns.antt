@@ -1,0 +1,31 @@
+-- Runs of `keygen`, from the key that was made.
+use Rattle.std.proofs.Common.{◌≡◌, ℕ, inl, inr, List, sym, ap, subst}
+use Rattle.std.specs.Prelude.{Result, Ok, Err, OnOk, OnErr, IfErr}
+use Rattle.tl_text.specs.Text.{line}
+use Rattle.tl_note.specs.Key.{IsKeyName}
+use Rattle.tl_device.specs.Device.{Passage, IsUnwritten, WroteWhole, WrotePart}
+use Rattle.tl_key.specs.KeyText.{IsSignerText, private_text, verifier_text}
+use Rattle.tl_key.specs.NoteKey.{SeedKey, public_of}
+use Rattle.tl_command.specs.declared.fault.RunFault.{RunFault}
+use Rattle.tl_command.specs.declared.fault.RunFault.TheVariants.{Write}
+use Rattle.tl_command.specs.Keygen.{IsKeyOf, GivesKey}
+
+is_key_of : (name seed : List ℕ) (kind : ℕ) (k : SeedKey) → (k ≡ record { name = name; kind = kind; seed = seed }) × IsKeyName name → IsSignerText kind (private_text k) k → IsKeyOf name kind k
+is_key_of name seed kind k made text = record { lawful = made.1; name_is = ap (λ (s : SeedKey). s.name) made.0; kind_is = text.kind_asked; seed = text.seed }
+
+-- standard error failed
+pub gives_part : (name seed : List ℕ) (kind : ℕ) (k : SeedKey) (o e : Passage) (verifier : List ℕ) (fault : RunFault) → (k ≡ record { name = name; kind = kind; seed = seed }) × IsKeyName name
+    → IsSignerText kind (private_text k) k → verifier ≡ line (verifier_text (public_of k)) → IsUnwritten o → fault ≡ Write → WrotePart e verifier → GivesKey name kind o e (Err fault)
+gives_part name seed kind k o e verifier fault made text spelled none failed part =
+    subst (λ (f : RunFault). GivesKey name kind o e (Err f)) (sym failed)
+    (record { key = k; of = is_key_of name seed kind k made text; part = inl (subst (WrotePart e) spelled part, none) })
+
+-- standard error has the verifier's text
+pub gives : (name seed : List ℕ) (kind : ℕ) (k : SeedKey) (o e : Passage) (verifier private : List ℕ) (r : Result (Unit {0}) RunFault) → (k ≡ record { name = name; kind = kind; seed = seed }) × IsKeyName name
+    → IsSignerText kind (private_text k) k → verifier ≡ line (verifier_text (public_of k)) → private ≡ line (private_text k) → WroteWhole e verifier
+    → OnOk r (WroteWhole o private) → IfErr r (λ fault. fault ≡ Write) → OnErr r (WrotePart o private) → GivesKey name kind o e r
+gives name seed kind k o e verifier private (Ok done) made text spelled written told whole failed part =
+    record { key = k; of = is_key_of name seed kind k made text; private = subst (WroteWhole o) written whole; verifier = subst (WroteWhole e) spelled told }
+gives name seed kind k o e verifier private (Err fault) made text spelled written told whole failed part =
+    subst (λ (f : RunFault). GivesKey name kind o e (Err f)) (sym failed)
+    (record { key = k; of = is_key_of name seed kind k made text; part = inr (subst (WroteWhole e) spelled told, subst (WrotePart o) written part) })

@@ -1,0 +1,67 @@
+-- The command `open`: the text of a note that a key signed (C2SP signed-note, "Verification").
+use Rattle.std.specs.Prelude.{◌≡◌, ℕ, List, [], ◌∷◌, Some, Result, Err}
+use Rattle.tl_hash.specs.Bytes.{Bytes}
+use Rattle.tl_note.specs.Key.{Key}
+use Rattle.tl_note.specs.Note.{Signature, Note, HasNoNote}
+use Rattle.tl_note.specs.declared.fault.NoteFault.{NoteFault}
+use Rattle.tl_note.specs.declared.fault.NoteFault.TheVariants as note
+use Rattle.tl_note.specs.Open.{Placed, Opened, counting_lines, first_wrong}
+use Rattle.tl_device.specs.Device.{Passage, IsSteady, IsUnread, IsUnwritten}
+use Rattle.tl_key.specs.NoteKey.{PublicKey, note_kind, verifier_key}
+use Rattle.tl_key.specs.KeyText.{IsVerifierText}
+use Rattle.tl_command.specs.Run.{Output, Prints, PrintsRefusal, Fails, Runs}
+use Rattle.tl_command.specs.declared.fault.RunFault.{RunFault}
+use Rattle.tl_command.specs.declared.fault.RunFault.TheVariants.{Malformed, BadKey, WrongSignature, Unverified, OutOfMemory}
+use Rattle.tl_command.specs.Keys.{IsNoKey}
+
+-- a fault of opening a note, as one of the command
+abbrev pub after_note : NoteFault → RunFault
+after_note (note.Ambiguous place) = WrongSignature place
+after_note (note.InvalidSignature place) = WrongSignature place
+after_note note.Unverified = Unverified
+after_note note.OutOfMemory = OutOfMemory
+after_note fault = Malformed
+
+-- the bytes are a note of this text, which opens
+pub record IsOpened (keys : List Key) (bytes text : Bytes) : Type 0 where
+  pub lines : List Signature
+  pub noted : Note bytes text lines
+  pub opens : Opened keys text lines
+
+-- they are a note whose first wrong line that counts is at this place
+pub record IsWrongNote (keys : List Key) (bytes : Bytes) (place : ℕ) : Type 0 where
+  pub text : Bytes
+  pub lines : List Signature
+  pub noted : Note bytes text lines
+  pub wrong : Placed
+  pub first : first_wrong keys text lines ≡ Some wrong
+  pub place_is : wrong.0 ≡ place
+
+-- they are a note of which no line counts
+pub record IsUnknownNote (keys : List Key) (bytes : Bytes) : Type 0 where
+  pub text : Bytes
+  pub lines : List Signature
+  pub noted : Note bytes text lines
+  pub none : counting_lines keys lines ≡ []
+
+-- what comes of an input: the text of a note that opens, or why there is none
+abbrev pub OpenComes : List Key → Bytes → Output → Type 0
+OpenComes keys input (Prints text) = IsOpened keys input text
+OpenComes keys input (PrintsRefusal text) = ⊥
+OpenComes keys input (Fails Malformed) = HasNoNote input
+OpenComes keys input (Fails (WrongSignature place)) = IsWrongNote keys input place
+OpenComes keys input (Fails Unverified) = IsUnknownNote keys input
+OpenComes keys input (Fails fault) = ⊥
+
+-- the text is that of a verifier's key of a log, of which this holds
+pub record IsKeyWith (text : Bytes) (Fact : PublicKey → Type 0) : Type 0 where
+  pub key : PublicKey
+  pub spelled : IsVerifierText note_kind text key
+  pub fact : Fact key
+
+-- a run with the text of a verifier's key: what is no such text is refused before anything is read. Memory is asked for
+-- the key, too
+abbrev pub RunsOpen : Bytes → Passage → Passage → Result (Unit {0}) RunFault → Type 0
+RunsOpen text i o (Err BadKey) = IsNoKey text × IsUnread i × IsUnwritten o
+RunsOpen text i o (Err OutOfMemory) = IsKeyWith text (λ k. IsSteady i × IsUnwritten o)
+RunsOpen text i o result = IsKeyWith text (λ k. Runs (OpenComes (verifier_key k ∷ [])) i o result)

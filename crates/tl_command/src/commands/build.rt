@@ -1,0 +1,165 @@
+//! The command `build`: what a static mirror of the log of the lines of the input serves.
+
+ghost use Rattle.std.specs.Prelude.{◌≡◌, ◌<◌, ◌^◌, ◌↔◌, ◌⊎◌, IsTrue, IfErr, IfOk, MatchBool, Contains, length, map, vec_items, option_map};
+ghost use Rattle.tl_note.specs.Key.{IsKeyName};
+ghost use Rattle.tl_tile.specs.Bundle.{AreShortEntries};
+ghost use Rattle.tl_device.specs.Device.{passage};
+ghost use Rattle.tl_command.specs.Run.{Runs};
+ghost use Rattle.tl_command.specs.Mirror.{checkpoint_note, mirrored, resource_text};
+ghost use Rattle.tl_command.specs.Build.{RunsBuild};
+ghost use Rattle.tl_command.specs.Inner.Steps.{ReadsPath, IsServed, AnswersWanted, WantedComes};
+
+pub(crate) mod checkpoint_note;
+pub(crate) mod listing;
+pub(crate) mod log_signer;
+pub(crate) mod resource_bytes;
+pub(crate) mod signed;
+
+use crate::entries::read_entries;
+use crate::fault::RunFault;
+use crate::streams::{MOST_INPUT, print_text};
+use checkpoint_note::checkpoint_note_of;
+use listing::{listing_of, mirrored_of};
+use log_signer::LogSigner;
+use resource_bytes::{bundle_of, tile_of};
+use std::alloc::{Allocator, Global};
+use std::io::{Read, Write};
+use tl_device::Counted;
+use tl_note::is_key_name;
+use tl_tile::{Resource, parse_path};
+
+// The resource with the path that is asked for.
+fn wanted_of(get: Option<&str>) -> Result<Option<Resource>, RunFault>
+    ensures { ReadsPath (option_map (λ path. path.now) get.entry) result }
+{
+    let Some(path) = get else {
+        return Ok(None);
+    };
+    match parse_path(path) {
+        Some(resource) => Ok(Some(resource)),
+        None => Err(RunFault::BadPath),
+    }
+}
+
+// Whether these resources have the one that is wanted, if one is.
+fn is_served(resources: &[Resource], wanted: Option<Resource>) -> bool
+    ensures { IsTrue result ↔ IsServed resources.now wanted }
+{
+    match wanted {
+        Some(resource) => resources.contains(&resource),
+        None => true,
+    }
+}
+
+// Whether a log of so many entries has none, and a tile or an entry bundle is wanted of it.
+fn is_of_no_entry(count: usize, wanted: Option<Resource>) -> bool
+    ensures { MatchBool result
+        ((count ≡ 0) × ¬ (IsServed (mirrored 0) wanted))
+        ((0 < count) ⊎ IsServed (mirrored 0) wanted) }
+{
+    if count > 0 {
+        return false;
+    }
+    match wanted {
+        Some(Resource::Tile(_)) => true,
+        Some(Resource::Entries { .. }) => true,
+        _ => false,
+    }
+}
+
+// The bytes of a resource that the log of these entries has. No more is made than it needs: a tile hashes the entries
+// under it and no others, a bundle hashes nothing, and neither signs.
+fn wanted_bytes<K: LogSigner, A: Allocator + Copy>(
+    alloc: A,
+    global: Global,
+    key: &K,
+    resource: Resource,
+    entries: &[Vec<u8, A>],
+) -> Result<Vec<u8, A>, RunFault>
+    requires origin { IsKeyName (K.log_key key.now).name }
+    requires served { Contains (mirrored (length entries.now)) resource }
+    requires few { length entries.now < 2 ^ 32 }
+    requires short { AreShortEntries (map vec_items entries.now) }
+    ensures text { IfOk result (λ bytes. bytes.items ≡ resource_text (checkpoint_note (K.log_key key.now) (map vec_items entries.now)) (map vec_items entries.now) resource) }
+    ensures fault { IfErr result (λ fault. fault ≡ RunFault.OutOfMemory) }
+{
+    match resource {
+        Resource::Tile(tile) => Ok(tile_of(alloc, tile, entries)?),
+        Resource::Entries { index, width } => bundle_of(alloc, index, width, entries),
+        Resource::Checkpoint => {
+            let note = checkpoint_note_of(alloc, global, key, entries)?;
+            Ok(note.into_bytes())
+        }
+    }
+}
+
+// The listing of the log of these entries, or the bytes of the resource that is wanted.
+fn answer_of<K: LogSigner, A: Allocator + Copy>(
+    alloc: A,
+    global: Global,
+    key: &K,
+    wanted: Option<Resource>,
+    entries: &[Vec<u8, A>],
+) -> Result<Vec<u8, A>, RunFault>
+    requires origin { IsKeyName (K.log_key key.now).name }
+    requires few { length entries.now < 2 ^ 32 }
+    requires short { AreShortEntries (map vec_items entries.now) }
+    ensures { AnswersWanted (checkpoint_note (K.log_key key.now) (map vec_items entries.now)) (map vec_items entries.now) wanted result }
+{
+    let resources = mirrored_of(alloc, entries.len() as u64)?;
+    if !is_served(resources.as_slice(), wanted) {
+        return Err(RunFault::NotThere);
+    }
+    if let Some(resource) = wanted {
+        return wanted_bytes(alloc, global, key, resource, entries);
+    }
+    let note = checkpoint_note_of(alloc, global, key, entries)?;
+    let listing = listing_of(alloc, resources.as_slice(), entries, note.as_str())?;
+    Ok(listing.into_bytes())
+}
+
+// Reads the whole input and writes what is wanted of the log of its lines.
+fn build<K: LogSigner, A: Allocator + Copy, R: Read, W: Write>(
+    alloc: A,
+    global: Global,
+    key: &K,
+    wanted: Option<Resource>,
+    reader: &mut Counted<R>,
+    writer: &mut Counted<W>,
+) -> Result<(), RunFault>
+    requires { IsKeyName (K.log_key key.now).name }
+    ensures { Runs (WantedComes (K.log_key key.now) wanted) (passage R.remaining reader.old reader.new) (passage W.contents writer.old writer.new) result }
+{
+    let entries = read_entries(alloc, reader, MOST_INPUT)?;
+    if is_of_no_entry(entries.len(), wanted) {
+        return Err(RunFault::NotThere);
+    }
+    let answer = match answer_of(alloc, global, key, wanted, entries.as_slice()) {
+        Ok(answer) => answer,
+        Err(fault) => return Err(fault),
+    };
+    print_text(writer, answer.as_slice())?;
+    Ok(())
+}
+
+/// Reads the whole input and writes what a static mirror of the log of its lines serves (C2SP tlog-tiles): with no path
+/// a line `path length` for each resource, tiles by level and index, bundles, the checkpoint; with a path its bytes.
+/// The checkpoint is a note by the log's key, whose name is the log's. A name that is no key's is `BadOrigin`, a path
+/// of no resource `BadPath`, both before anything is read; what the log hasn't got is `NotThere`. The key takes its
+/// memory from `global`.
+pub fn run_build<K: LogSigner, A: Allocator + Copy, R: Read, W: Write>(
+    alloc: A,
+    global: Global,
+    key: &K,
+    get: Option<&str>,
+    reader: &mut Counted<R>,
+    writer: &mut Counted<W>,
+) -> Result<(), RunFault>
+    ensures { RunsBuild (K.log_key key.now) (option_map (λ path. path.now) get.entry) (passage R.remaining reader.old reader.new) (passage W.contents writer.old writer.new) result }
+{
+    if !is_key_name(key.origin()) {
+        return Err(RunFault::BadOrigin);
+    }
+    let wanted = wanted_of(get)?;
+    build(alloc, global, key, wanted, reader, writer)
+}

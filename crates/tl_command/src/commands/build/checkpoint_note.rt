@@ -1,0 +1,32 @@
+//! The checkpoint of a log as a note, signed by the log's key.
+
+ghost use Rattle.std.specs.Prelude.{◌≡◌, ◌<◌, ◌^◌, length, map, vec_items, string_bytes, IfOk, IfErr};
+ghost use Rattle.tl_note.specs.Key.{IsKeyName};
+ghost use Rattle.tl_command.specs.Mirror.{checkpoint_note};
+
+use crate::commands::build::log_signer::LogSigner;
+use crate::commands::head::checkpoint_of;
+use crate::fault::RunFault;
+use std::alloc::{Allocator, Global};
+use tl_hash::{Sha256Tree, entry_root};
+
+/// The note of the checkpoint of the log of these entries (C2SP tlog-checkpoint, signed-note), signed by the log's key.
+/// `global` is what the key takes its memory from.
+pub(crate) fn checkpoint_note_of<K: LogSigner, A: Allocator + Copy>(
+    alloc: A,
+    global: Global,
+    key: &K,
+    entries: &[Vec<u8, A>],
+) -> Result<String<A>, RunFault>
+    requires origin { IsKeyName (K.log_key key.now).name }
+    requires few { length entries.now < 2 ^ 32 }
+    ensures note { IfOk result (λ note. string_bytes note ≡ checkpoint_note (K.log_key key.now) (map vec_items entries.now)) }
+    ensures fault { IfErr result (λ fault. fault ≡ RunFault.OutOfMemory) }
+{
+    let root = entry_root(Sha256Tree, entries);
+    let mut note = checkpoint_of(alloc, key.origin(), entries.len() as u64, root)?;
+    let line = key.line(alloc, global, note.as_str())?;
+    note.push_str("\n")?;
+    note.push_str(line.as_str())?;
+    Ok(note)
+}

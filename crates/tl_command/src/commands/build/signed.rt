@@ -1,0 +1,38 @@
+//! The command `build` with a private key.
+
+ghost use Rattle.std.specs.Prelude.{option_map};
+ghost use Rattle.tl_device.specs.Device.{passage};
+ghost use Rattle.tl_command.specs.Signed.{RunsSigned};
+
+use crate::commands::build::log_signer::LogSigner;
+use crate::commands::build::run_build;
+use crate::fault::RunFault;
+use crate::keys::read_private_key;
+use std::alloc::{Allocator, Global};
+use std::io::{Read, Write};
+use tl_device::Counted;
+use tl_key::Note;
+
+/// `build`, signed by the private key whose text the bytes are (`tl_key::read_signer_key`), with a newline after it or
+/// without: a key of notes, whose name is the origin. Bytes of no such key are `BadKey`, a key of another name is
+/// `BadOrigin`, both before anything is read.
+pub fn run_build_signed<A: Allocator + Copy, R: Read, W: Write>(
+    alloc: A,
+    global: Global,
+    origin: &str,
+    bytes: &[u8],
+    get: Option<&str>,
+    reader: &mut Counted<R>,
+    writer: &mut Counted<W>,
+) -> Result<(), RunFault>
+    ensures { RunsSigned origin.now bytes.now (option_map (λ path. path.now) get.entry) (passage R.remaining reader.old reader.new) (passage W.contents writer.old writer.new) result }
+{
+    let key = match read_private_key::<Note>(global, bytes) {
+        Ok(key) => key,
+        Err(fault) => return Err(fault),
+    };
+    if key.origin() != origin {
+        return Err(RunFault::BadOrigin);
+    }
+    run_build(alloc, global, &key, get, reader, writer)
+}

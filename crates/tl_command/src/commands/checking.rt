@@ -1,0 +1,118 @@
+//! The command `check` against a signed checkpoint.
+
+ghost use Rattle.std.specs.Prelude.{◌≡◌, ◌∷◌, [], map, option_map};
+ghost use Rattle.tl_checkpoint.specs.Checkpoint.{head_of};
+ghost use Rattle.tl_device.specs.Device.{passage};
+ghost use Rattle.tl_key.specs.KeyText.{IsVerifierText};
+ghost use Rattle.tl_key.specs.NoteKey.{PublicKey, note_kind, verifier_key};
+ghost use Rattle.tl_command.specs.CheckOpened.{RunsCheckOpened, RunsUnder};
+ghost use Rattle.tl_command.specs.Inner.Notes.{OpensBytes, after_opening};
+
+use crate::commands::check::run_check_about;
+use crate::commands::opening::note_refusal;
+use crate::fault::RunFault;
+use crate::keys::read_log_key;
+use std::alloc::Global;
+use std::io::{Read, Write};
+use std::str;
+use tl_checkpoint::{Checkpoint, OpenCheckpointFault, open_checkpoint};
+use tl_device::Counted;
+use tl_note::{NoteFault, Verifier};
+
+/// The options of `check` against a signed checkpoint.
+#[derive(Debug, Drop)]
+pub struct CheckOptions {
+    /// The file with the checkpoint.
+    pub checkpoint: String,
+    /// The text of the log's verifier key.
+    pub key: String,
+    /// The entry that an inclusion proof is to show; without it any.
+    pub entry: Option<String>,
+}
+
+// Why bytes are no signed checkpoint that opens.
+fn checkpoint_refusal(fault: OpenCheckpointFault) -> RunFault
+    ensures { result ≡ after_opening fault }
+{
+    match fault {
+        OpenCheckpointFault::Unopened(NoteFault::Malformed) => RunFault::BadCheckpoint,
+        OpenCheckpointFault::Unopened(fault) => note_refusal(fault),
+        OpenCheckpointFault::NoCheckpoint(_) => RunFault::BadCheckpoint,
+        OpenCheckpointFault::OutOfMemory => RunFault::OutOfMemory,
+    }
+}
+
+// The signed checkpoint that these bytes are, where it opens under these keys.
+fn checkpoint_of(
+    alloc: Global,
+    bytes: &[u8],
+    verifiers: &[Box<dyn Verifier>],
+) -> Result<Checkpoint<Global>, RunFault>
+    ensures { OpensBytes bytes.now (map (λ verifier. key verifier) verifiers.now) result }
+{
+    let Ok(note) = str::from_utf8(bytes) else {
+        return Err(RunFault::BadCheckpoint);
+    };
+    match open_checkpoint(alloc, note, verifiers) {
+        Ok(checkpoint) => Ok(checkpoint),
+        Err(fault) => Err(checkpoint_refusal(fault)),
+    }
+}
+
+// Checks the proof of the input against the checkpoint, where it opens under these keys.
+fn check_under<R: Read, W: Write>(
+    alloc: Global,
+    verifiers: &[Box<dyn Verifier>],
+    bytes: &[u8],
+    entry: Option<&[u8]>,
+    reader: &mut Counted<R>,
+    writer: &mut Counted<W>,
+) -> Result<(), RunFault>
+    ensures { RunsUnder bytes.now (map (λ verifier. key verifier) verifiers.now) (option_map (λ e. e.now) entry.entry) (passage R.remaining reader.old reader.new) (passage W.contents writer.old writer.new) result }
+{
+    let checkpoint = checkpoint_of(alloc, bytes, verifiers)?;
+    run_check_about(
+        alloc,
+        checkpoint.size,
+        checkpoint.root,
+        entry,
+        reader,
+        writer,
+    )
+}
+
+// The same, where the one key is that of which this is the text.
+fn check_by<R: Read, W: Write>(
+    alloc: Global,
+    text: &str,
+    verifiers: &[Box<dyn Verifier>],
+    bytes: &[u8],
+    entry: Option<&[u8]>,
+    reader: &mut Counted<R>,
+    writer: &mut Counted<W>,
+) -> Result<(), RunFault>
+    requires { (k : PublicKey) × IsVerifierText note_kind text.now k × (map (λ verifier. key verifier) verifiers.now ≡ verifier_key k ∷ []) }
+    ensures { RunsCheckOpened text.now bytes.now (option_map (λ e. e.now) entry.entry) (passage R.remaining reader.old reader.new) (passage W.contents writer.old writer.new) result }
+{
+    check_under(alloc, verifiers, bytes, entry, reader, writer)
+}
+
+/// `check` against a signed checkpoint: the bytes of a note that opens under the key that `text` is of (as for
+/// `run_open`) and whose text is a checkpoint (C2SP tlog-checkpoint). Then `accepted` is written where the proof is
+/// accepted and is about the checkpoint's tree, of a consistency proof the new one, and with an entry only where it is
+/// an inclusion proof of that entry. A text of no such key is `BadKey`, and what is no checkpoint that opens
+/// `BadCheckpoint`, `WrongSignature` or `Unverified`, all before anything is read.
+pub fn run_check_opened<R: Read, W: Write>(
+    alloc: Global,
+    text: &str,
+    bytes: &[u8],
+    entry: Option<&[u8]>,
+    reader: &mut Counted<R>,
+    writer: &mut Counted<W>,
+) -> Result<(), RunFault>
+    ensures { RunsCheckOpened text.now bytes.now (option_map (λ e. e.now) entry.entry) (passage R.remaining reader.old reader.new) (passage W.contents writer.old writer.new) result }
+{
+    let key = read_log_key(alloc, text)?;
+    let verifier: Box<dyn Verifier> = Box::new(alloc, key)?;
+    check_by(alloc, text, &[verifier], bytes, entry, reader, writer)
+}

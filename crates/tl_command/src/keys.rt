@@ -1,0 +1,57 @@
+//! Keys that a command is told.
+
+ghost use Rattle.tl_key.specs.Reading.{ReadsSigner, ReadsVerifier};
+ghost use Rattle.tl_command.specs.Keys.{ReadsFile, ReadsKey, ReadsPrivate};
+
+use crate::fault::RunFault;
+use crate::streams::{MOST_INPUT, read_input};
+use std::alloc::Global;
+use std::fs::{Files, OpenOptions};
+use std::str;
+use tl_device::Counted;
+use tl_key::{KeyFault, KeyKind, NoteVerifier, SignerKey, read_signer_key, read_verifier_key};
+
+/// The verifier's key of a log that a text is of (C2SP signed-note, "Verifier keys"). `BadKey`: the text is of none.
+pub fn read_log_key(alloc: Global, text: &str) -> Result<NoteVerifier<Global>, RunFault>
+    ensures { ReadsKey text.now result }
+{
+    match read_verifier_key(alloc, text) {
+        Ok(key) => Ok(key),
+        Err(KeyFault::OutOfMemory) => Err(RunFault::OutOfMemory),
+        Err(_) => Err(RunFault::BadKey),
+    }
+}
+
+/// The private key whose text the bytes of a file are, with a newline after it or without (`tl_key::read_signer_key`).
+/// Bytes of no key of the type asked for are `BadKey`.
+pub fn read_private_key<K: KeyKind>(
+    alloc: Global,
+    bytes: &[u8],
+) -> Result<SignerKey<K, Global>, RunFault>
+    ensures { ReadsPrivate K.KIND bytes.now result }
+{
+    let Ok(text) = str::from_utf8(bytes) else {
+        return Err(RunFault::BadKey);
+    };
+    let read = match text.strip_suffix("\n") {
+        Some(line) => read_signer_key(alloc, line),
+        None => read_signer_key(alloc, text),
+    };
+    match read {
+        Ok(key) => Ok(key),
+        Err(KeyFault::OutOfMemory) => Err(RunFault::OutOfMemory),
+        Err(_) => Err(RunFault::BadKey),
+    }
+}
+
+/// The bytes of the file at this path, at most as many as an input may have. `Read`: it can't be read. `TooLarge`: it
+/// has more.
+pub fn read_file<H: Files>(files: &H, alloc: Global, path: &str) -> Result<Vec<u8>, RunFault>
+    ensures { ReadsFile result }
+{
+    let Ok(file) = OpenOptions::new().read(true).open(files, path) else {
+        return Err(RunFault::Read);
+    };
+    let mut reader = Counted::new(file);
+    read_input(alloc, &mut reader, MOST_INPUT)
+}

@@ -1,0 +1,35 @@
+-- What a fault of the command `fetch` prints, and its exit status.
+use Rattle.std.specs.Prelude.{ℕ, ◌++◌, codes, Option, Some}
+use Rattle.tl_hash.specs.Bytes.{Bytes}
+use Rattle.tl_text.specs.Text.{number_text}
+use Rattle.tl_command.specs.Faults.{exit_status, fault_text, fault_words}
+use Rattle.tl_fetch.specs.declared.fault.FetchFault.{FetchFault}
+use Rattle.tl_fetch.specs.declared.fault.FetchFault.TheVariants.{Run, BadAddress, BadWitness, Twice, Unavailable, OtherLog, TooFew, BadTile, BadBundle, BadEntry, Shrunk, Forked, BadState}
+
+-- what it says
+abbrev pub fetch_words : FetchFault → Bytes
+fetch_words (Run fault) = fault_words fault
+fetch_words BadAddress = codes "bad address"
+fetch_words (BadWitness place) = codes "bad key of witness " ++ number_text place
+fetch_words Twice = codes "two witnesses have one name"
+fetch_words Unavailable = codes "not available"
+fetch_words OtherLog = codes "checkpoint of another log"
+fetch_words (TooFew count) = codes "cosigned by " ++ number_text count ++ codes " witnesses"
+fetch_words (BadTile level index width) =
+    codes "tile " ++ number_text level ++ codes " " ++ number_text index ++ codes " " ++ number_text width ++ codes " wrong"
+fetch_words (BadBundle index) = codes "entry bundle " ++ number_text index ++ codes " malformed"
+fetch_words (BadEntry index) = codes "entry " ++ number_text index ++ codes " wrong"
+fetch_words Shrunk = codes "log shrank"
+fetch_words Forked = codes "log forked"
+fetch_words BadState = codes "bad state"
+
+-- the line on standard error, without its newline, if there is one
+abbrev pub fetch_text : FetchFault → Option Bytes
+fetch_text (Run fault) = fault_text fault
+fetch_text fault = Some (codes "tlog: " ++ fetch_words fault)
+
+-- the exit status: 3 where a device failed or a source didn't answer, else 1
+abbrev pub fetch_status : FetchFault → ℕ
+fetch_status (Run fault) = exit_status fault
+fetch_status Unavailable = 3
+fetch_status _ = 1

@@ -1,0 +1,133 @@
+//! Faults of the command `fetch`.
+
+ghost use Rattle.std.specs.Prelude.{◌≡◌, IfOk, Some, option_map, string_bytes};
+ghost use Rattle.tl_fetch.specs.FaultWords.{fetch_status, fetch_text};
+
+use std::alloc::{AllocError, AllocFailed, Allocator};
+use std::error::Error;
+use std::fmt::{self, Display, Formatter};
+use tl_command::{RunFault, exit_of, fault_line};
+
+/// Why nothing, or not all, is fetched of a log that isn't trusted.
+#[derive(Clone, Copy, Debug, PartialEq, Eq)]
+pub enum FetchFault {
+    /// A fault as other commands have it, too.
+    Run(RunFault),
+    /// The address is none over HTTP.
+    BadAddress,
+    /// The text at this place, counted from 0, is the key of no witness.
+    BadWitness(u64),
+    /// Two witnesses have one name.
+    Twice,
+    /// The source has not got a resource, or not in time.
+    Unavailable,
+    /// The checkpoint is signed, and names another log.
+    OtherLog,
+    /// Only so many witnesses cosigned the checkpoint.
+    TooFew(u64),
+    /// This tile is not the one that the root was made with.
+    BadTile {
+        /// Its level.
+        level: u32,
+        /// Its index.
+        index: u64,
+        /// How many hashes it has.
+        width: u32,
+    },
+    /// The bytes of the entry bundle with this index are none of its width.
+    BadBundle(u64),
+    /// The entry with this index is not the one that the root was made with.
+    BadEntry(u64),
+    /// The log is smaller than the one that was trusted last.
+    Shrunk,
+    /// The log is no continuation of the one that was trusted last.
+    Forked,
+    /// The state is no checkpoint of the log.
+    BadState,
+}
+
+impl Display for FetchFault {
+    ghost use Rattle.tl_fetch.specs.FaultWords.{fetch_words};
+
+    ghost output = { λ fault. Some (fetch_words fault) };
+
+    fn fmt<W: fmt::Write>(&self, f: &mut Formatter<W>) -> fmt::Result {
+        match self {
+            FetchFault::Run(fault) => fault.fmt(f),
+            FetchFault::BadAddress => f.write_str("bad address"),
+            FetchFault::BadWitness(k) => write!(f, "bad key of witness {k}"),
+            FetchFault::Twice => f.write_str("two witnesses have one name"),
+            FetchFault::Unavailable => f.write_str("not available"),
+            FetchFault::OtherLog => f.write_str("checkpoint of another log"),
+            FetchFault::TooFew(n) => write!(f, "cosigned by {n} witnesses"),
+            FetchFault::BadTile {
+                level,
+                index,
+                width,
+            } => write!(f, "tile {level} {index} {width} wrong"),
+            FetchFault::BadBundle(i) => write!(f, "entry bundle {i} malformed"),
+            FetchFault::BadEntry(i) => write!(f, "entry {i} wrong"),
+            FetchFault::Shrunk => f.write_str("log shrank"),
+            FetchFault::Forked => f.write_str("log forked"),
+            FetchFault::BadState => f.write_str("bad state"),
+        }
+    }
+}
+
+impl Error for FetchFault {}
+
+impl From<RunFault> for FetchFault {
+    ghost use Rattle.tl_fetch.specs.declared.fault.FetchFault.TheVariants.{Run};
+
+    ghost from_gives = { λ run fault. fault ≡ Run run };
+
+    fn from(fault: RunFault) -> FetchFault {
+        FetchFault::Run(fault)
+    }
+}
+
+impl From<AllocError> for FetchFault {
+    ghost use Rattle.tl_command.specs.declared.fault.RunFault.TheVariants.{OutOfMemory};
+    ghost use Rattle.tl_fetch.specs.declared.fault.FetchFault.TheVariants.{Run};
+
+    ghost from_gives = { λ _ fault. fault ≡ Run OutOfMemory };
+
+    fn from(_fault: AllocError) -> FetchFault {
+        FetchFault::Run(RunFault::OutOfMemory)
+    }
+}
+
+impl<X: Drop> From<AllocFailed<X>> for FetchFault {
+    ghost use Rattle.tl_command.specs.declared.fault.RunFault.TheVariants.{OutOfMemory};
+    ghost use Rattle.tl_fetch.specs.declared.fault.FetchFault.TheVariants.{Run};
+
+    ghost from_gives = { λ _ fault. fault ≡ Run OutOfMemory };
+
+    fn from(_fault: AllocFailed<X>) -> FetchFault {
+        FetchFault::Run(RunFault::OutOfMemory)
+    }
+}
+
+/// The exit status of a fault: 3 where a device failed or a source didn't answer, else 1. It takes no memory.
+pub fn fetch_exit_of(fault: &FetchFault) -> u8
+    ensures { result ≡ fetch_status fault.now }
+{
+    match fault {
+        FetchFault::Run(fault) => exit_of(fault),
+        FetchFault::Unavailable => 3,
+        _ => 1,
+    }
+}
+
+/// The line of a fault on standard error, without its newline, if it has one. It fails for want of memory alone.
+pub fn fetch_fault_line<A: Allocator>(
+    alloc: A,
+    fault: &FetchFault,
+) -> Result<Option<String<A>>, AllocError>
+    ensures { IfOk result (λ line. option_map string_bytes line ≡ fetch_text fault.now) }
+{
+    match fault {
+        FetchFault::Run(fault) => fault_line(alloc, fault),
+        _ => Ok(Some(format!(in alloc; "tlog: {fault}")?)),
+    }
+}

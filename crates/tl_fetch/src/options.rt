@@ -1,0 +1,35 @@
+//! Options of the command `fetch`.
+
+/// What is wanted of a log that isn't trusted.
+#[derive(Clone, Copy, Debug, PartialEq, Eq)]
+pub enum FetchRequest {
+    /// Its name, size and root, a line each.
+    Head,
+    /// The entry with this index, counted from 0.
+    Entry(u64),
+    /// Every entry that the state doesn't count yet, a line each.
+    All,
+    /// The text of an inclusion proof of the entry with this index.
+    Proof(u64),
+}
+
+/// The options of `fetch`.
+#[derive(Debug, Drop)]
+pub struct FetchOptions {
+    /// The folder of the log, or its address, which begins with `http://`.
+    pub from: String,
+    /// The text of the log's verifier key.
+    pub key: String,
+    /// The texts of the witnesses' verifier keys.
+    pub witnesses: Vec<String>,
+    /// How many of the witnesses must have cosigned a checkpoint.
+    pub need: u64,
+    /// The file with the checkpoint that was trusted last; without it, none was.
+    pub state: Option<String>,
+    /// The folder where tiles are kept that were checked; without it, none are.
+    pub cache: Option<String>,
+    /// How many seconds one answer may take, at least 1.
+    pub timeout: u64,
+    /// What is printed.
+    pub wanted: FetchRequest,
+}

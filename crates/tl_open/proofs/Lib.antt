@@ -1,4 +1,0 @@
-pub mod NoteBytes
-pub mod NoCheckpoints
-pub mod Runs
-pub mod KeyRuns

@@ -1,0 +1,98 @@
+//! Options of the commands `append`, `serve` and `witness`.
+
+/// By which key a log is signed.
+#[derive(Debug, Drop)]
+pub enum LogKey {
+    /// The demonstration key of the log's name and this secret.
+    Secret(String),
+    /// The private key whose text is in this file.
+    File(String),
+}
+
+/// The options of `append`, and of `build` into a folder.
+#[derive(Debug, Drop)]
+pub struct AppendOptions {
+    /// The folder of the log.
+    pub dir: String,
+    /// The name of the log, a key's name.
+    pub origin: String,
+    /// The log's key.
+    pub key: LogKey,
+    /// After how many entries it is published, at least 1; without it at the end alone.
+    pub batch: Option<u64>,
+    /// Whether the folder may have no log yet.
+    pub is_new: bool,
+}
+
+/// By which key a witness knows a log.
+#[derive(Debug, Drop)]
+pub enum LogVerifierKey {
+    /// The demonstration key of the log's name and this secret.
+    Secret(String),
+    /// The verifier key of this text.
+    Text(String),
+}
+
+/// By which key a witness cosigns.
+#[derive(Debug, Drop)]
+pub enum WitnessSignerKey {
+    /// The demonstration key of this name and this secret.
+    Secret(String, String),
+    /// The private key whose text is in this file.
+    File(String),
+}
+
+/// What is common to the servers.
+#[derive(Debug, Drop)]
+pub struct ListenOptions {
+    /// The address to listen at, an IP address or a host's name, and a port.
+    pub listen: String,
+    /// After how many connections the server ends; without it, when it is told to stop.
+    pub connections: Option<u64>,
+    /// How many threads answer, 1 to 63; without it, as many as the machine has.
+    pub threads: Option<u64>,
+    /// How many seconds one connection may take in all, at least 1.
+    pub timeout: u64,
+    /// Whether only the address is told.
+    pub quiet: bool,
+}
+
+/// The options of `serve`.
+#[derive(Debug, Drop)]
+pub struct ServeOptions {
+    /// The name of the log, a key's name.
+    pub origin: String,
+    /// The log's key.
+    pub key: LogKey,
+    /// Where and how long it listens.
+    pub server: ListenOptions,
+    /// How many lanes the entries come in by, 1 to 64.
+    pub lanes: u64,
+    /// For how many entries a lane has room, 1 to 65,536.
+    pub capacity: u64,
+    /// How many entries of a lane are taken at once, 1 to 65,536.
+    pub batch: u64,
+    /// The signed note of the checkpoint that the log goes on from, in memory.
+    pub note: Option<String>,
+    /// The folder of the log; without it, the log is in memory.
+    pub dir: Option<String>,
+    /// Whether lines are published as they come.
+    pub follow: bool,
+}
+
+/// The options of `witness`.
+#[derive(Debug, Drop)]
+pub struct WitnessOptions {
+    /// The name of the log, a key's name.
+    pub origin: String,
+    /// The log's key.
+    pub log_key: LogVerifierKey,
+    /// The witness's key.
+    pub key: WitnessSignerKey,
+    /// The seconds since 1970 that it cosigns with; without it, those of the machine's clock.
+    pub time: Option<u64>,
+    /// The file of what it cosigned; without it, standard input and output.
+    pub state: Option<String>,
+    /// Where and how long it listens.
+    pub server: ListenOptions,
+}
