@@ -1,16 +1,8 @@
-//! The demonstration key, and HMAC against the vectors of RFC 4231.
+//! HMAC against the vectors of RFC 4231.
 
-use crate::builds::verifiers;
-use std::alloc::{AllocError, Global};
 use std::test::Fail;
-use tl_key::{demo_key, hmac};
-use tl_note::{NoteFault, Signer, open_note, sign_note};
-use tl_testing::Refusing;
-use tl_testing::texts::NO_ENTRY;
+use tl_key::hmac;
 use tl_testing::vectors::in_hex;
-
-// More requests than any of the calls makes.
-const MOST: u64 = 1000;
 
 // The bytes from 1 to 25, a secret of the vectors.
 const COUNTING: [u8; 25] = [
@@ -55,64 +47,5 @@ fn hmac_of_the_vectors(rt: HostRuntime) -> Result<(), Fail> {
         let tag = in_hex(rt.alloc(), hmac(secret, message))?;
         assert!(rt; tag.as_str() == want);
     }
-    Ok(())
-}
-
-// Its signer.
-fn signers(alloc: Global, secret: &[u8]) -> Result<Vec<Box<dyn Signer>>, NoteFault> {
-    let mut signers: Vec<Box<dyn Signer>> = Vec::new(alloc);
-    signers.push(Box::new(alloc, demo_key(alloc, "example.com/log", secret)?)?)?;
-    Ok(signers)
-}
-
-#[test]
-fn what_the_key_signs_opens_with_the_same_secret_alone(rt: HostRuntime) -> Result<(), Fail> {
-    let alloc = rt.alloc();
-    let signers = signers(alloc, b"s3cret")?;
-    let note = sign_note(alloc, alloc, NO_ENTRY, signers.as_slice())?;
-    let own = verifiers(alloc, b"s3cret")?;
-    let opened = open_note(alloc, note.as_str(), own.as_slice())?;
-    assert!(rt; opened.verified.as_slice() == [0].as_slice());
-    let other = verifiers(alloc, b"another")?;
-    let fault = open_note(alloc, note.as_str(), other.as_slice());
-    assert!(rt; fault.err() == Some(NoteFault::Unverified));
-    Ok(())
-}
-
-// The identifier of the key of this name and secret.
-fn id_of(alloc: Global, name: &str, secret: &[u8]) -> Result<u32, NoteFault> {
-    let key: Box<dyn Signer> = Box::new(alloc, demo_key(alloc, name, secret)?)?;
-    Ok(key.key_id())
-}
-
-#[test]
-fn identifiers_and_names(rt: HostRuntime) -> Result<(), Fail> {
-    let alloc = rt.alloc();
-    assert!(rt; id_of(alloc, "example.com/log", b"s3cret")? == 0x53B39C85);
-    assert!(rt; id_of(alloc, "a b", b"").err() == Some(NoteFault::BadName(0)));
-    Ok(())
-}
-
-// Whether a key was made with this heap, or the fault.
-fn made_on(heap: &Refusing<Global>) -> Result<bool, NoteFault> {
-    let _key = demo_key(heap, "example.com/log", b"s3cret")?;
-    Ok(true)
-}
-
-#[test]
-fn demo_key_answers_out_of_memory(rt: HostRuntime) -> Result<(), AllocError> {
-    for turn in 1..MOST {
-        let heap = Refusing::in_turn(rt.alloc(), turn);
-        let answer = made_on(&heap);
-        if !heap.refused() {
-            assert!(rt; turn > 4);
-            assert!(rt; answer == Ok(true));
-            return Ok(());
-        }
-        assert!(rt; answer == Err(NoteFault::OutOfMemory));
-        heap.lift();
-        assert!(rt; made_on(&heap) == Ok(true));
-    }
-    assert!(rt; false, "each run was refused");
     Ok(())
 }

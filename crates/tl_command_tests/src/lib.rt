@@ -1,24 +1,26 @@
-//! Worked examples of the commands and the demonstration key, mirrors read by their clients, growths refused in turn,
-//! and devices that fail. It has tests alone.
+//! Commands, servers and a client whose growths are refused in turn, whose devices fail at each call, or whose digest
+//! is weak. What the program itself shows is in the scripts of `tests/`. It has tests alone.
 #![tactic(auto)]
 
 #[cfg(test)]
-mod audits;
+mod appended;
 #[cfg(test)]
-mod builds;
+mod devices;
 #[cfg(test)]
-mod heads;
+mod failing;
+#[cfg(test)]
+mod gates;
 #[cfg(test)]
 mod keys;
 #[cfg(test)]
-mod large;
-#[cfg(test)]
-mod proof_texts;
+mod options;
 #[cfg(test)]
 mod refusals;
 #[cfg(test)]
+mod responses;
+#[cfg(test)]
+mod room;
+#[cfg(test)]
 mod runs;
 #[cfg(test)]
-mod signed;
-#[cfg(test)]
-mod words;
+mod served;

@@ -7,7 +7,7 @@ use crate::scripts::{Sight, Step, run, run_opened};
 use std::alloc::{AllocError, Global};
 use std::sync::Wait;
 use std::test::Fail;
-use tl_note::{NoteFault, Verifier, parse_signatures};
+use tl_note::Verifier;
 use tl_publisher::{
     AttachFault, Operator, OperatorFault, PublishFault, RequireBack, RequireFault, Shown,
 };
@@ -195,39 +195,5 @@ fn requirement_is_too_late_after_a_publication(rt: HostRuntime) -> Result<(), Fa
     let witness = verifiers(alloc, WITNESS, WITNESS_ID)?;
     let late = Some((RequireFault::Late, 1));
     assert!(rt; refused(&mut operator, witness, 0) == late);
-    Ok(())
-}
-
-// So many signature lines.
-fn lines(alloc: Global, count: u32) -> Result<String, AllocError> {
-    let mut text = String::new(alloc);
-    for _ in 0..count {
-        text.push_str(WRONG)?;
-    }
-    Ok(text)
-}
-
-#[test]
-fn up_to_a_hundred_lines_are_read(rt: HostRuntime) -> Result<(), Fail> {
-    for count in [0u32, 1, 2, 99, 100] {
-        let text = lines(rt.alloc(), count)?;
-        let found = parse_signatures(rt.alloc(), text.as_str())?;
-        assert!(rt; found.len() as u32 == count);
-    }
-    Ok(())
-}
-
-#[test]
-fn more_lines_and_other_texts_are_malformed(rt: HostRuntime) -> Result<(), Fail> {
-    let text = lines(rt.alloc(), 101)?;
-    for wrong in [
-        text.as_str(),
-        "\n",
-        "x",
-        "— witness.example CgsMDQAAAABlU/EAAAAAAAAAAF8=",
-    ] {
-        let found = parse_signatures(rt.alloc(), wrong);
-        assert!(rt; found.err() == Some(NoteFault::Malformed));
-    }
     Ok(())
 }

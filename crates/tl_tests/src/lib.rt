@@ -1,25 +1,16 @@
-//! Worked examples of the libraries that cross crates, and growths refused in turn. It has tests alone.
+//! What a row of `tl_rows` can't show: growths refused in turn, threads, sources that fail, how often is read. It has
+//! tests alone.
 #![tactic(auto)]
 
 #[cfg(test)]
-mod audits;
-#[cfg(test)]
-mod checkpoints;
-#[cfg(test)]
-mod large;
+mod edges;
 #[cfg(test)]
 mod notes;
 #[cfg(test)]
-mod proofs;
-#[cfg(test)]
 mod readers;
 #[cfg(test)]
-mod records;
+mod refused;
 #[cfg(test)]
 mod sequencer;
 #[cfg(test)]
-mod store;
-#[cfg(test)]
-mod tiles;
-#[cfg(test)]
-mod trees;
+mod stores;

@@ -10,9 +10,9 @@ use std::fs::{File, Files};
 use std::net::{Net, TcpListener, TcpStream};
 use std::random::RandomSource;
 use std::{io, str};
+use tl_cli::run_words;
 use tl_command::{MOST_INPUT, read_entries};
 use tl_device::Counted;
-use tl_job::run_words;
 use tl_serve::Host;
 
 // One run: its command line and its input.

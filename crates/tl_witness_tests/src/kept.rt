@@ -85,20 +85,7 @@ fn chain_of<R: Wait>(rt: &R, witness: &Witness, origin: &str) -> Result<Vec<Link
     }
 }
 
-// Whether a log's origin is at this size, by as many links.
-fn is_at<R: Wait>(
-    rt: &R,
-    alloc: Global,
-    witness: &Witness,
-    log: &Log,
-    size: u64,
-) -> Result<bool, Fail> {
-    let root = log.root(alloc, size)?;
-    let links = chain_of(rt, witness, log.origin)?;
-    Ok(links.len() as u64 == size && witness.head(rt, log.origin) == Some((size, root)))
-}
-
-// Whether a request from this size to 40 is cosigned, and adds one link to those before.
+// Whether a request from this size to 19 is cosigned, and adds one link to those before, which the head then is of.
 fn is_grown<R: Wait>(
     rt: &R,
     alloc: Global,
@@ -107,41 +94,17 @@ fn is_grown<R: Wait>(
     size: u64,
 ) -> Result<bool, Fail> {
     let before = chain_of(rt, witness, log.origin)?;
-    let body = log.body(alloc, size, 40)?;
+    let is_at_size = before.len() as u64 == size
+        && witness.head(rt, log.origin) == Some((size, log.root(alloc, size)?));
+    let body = log.body(alloc, size, 19)?;
     let reply = post(rt, alloc, witness, body.as_str());
     let after = chain_of(rt, witness, log.origin)?;
     Ok(
-        is_cosigned_by(&reply, log.cosigner)
+        is_at_size
+            && is_cosigned_by(&reply, log.cosigner)
             && are_first(before.as_slice(), after.as_slice(), before.len())
             && after.len() as u64 == size.saturating_add(1),
     )
-}
-
-#[test]
-fn each_origin_keeps_its_key_its_cosigner_and_its_links(rt: HostRuntime) -> Result<(), Fail> {
-    let alloc = rt.alloc();
-    let logs = [beta(alloc, 40)?, alpha(alloc, 40)?];
-    let witness = shared(alloc, &logs, &[12, 5])?;
-    for (log, last) in logs.iter().zip([12u64, 5]) {
-        assert!(rt; is_at(&rt, alloc, &witness, log, last)?);
-        assert!(rt; is_grown(&rt, alloc, &witness, log, last)?);
-    }
-    assert!(rt; witness.chain(&rt, "c.example")?.is_none());
-    assert!(rt; witness.head(&rt, "c.example").is_none());
-    Ok(())
-}
-
-#[test]
-fn the_key_of_another_origin_is_refused(rt: HostRuntime) -> Result<(), Fail> {
-    let alloc = rt.alloc();
-    let logs = [alpha(alloc, 20)?, beta(alloc, 20)?];
-    let forged = Log::of_size(alloc, "a.example", 2, 20)?;
-    let witness = shared(alloc, &logs, &[5, 12])?;
-    for (log, status) in [(&forged, 403), (&logs[0], 200)] {
-        let body = log.body(alloc, 5, 20)?;
-        assert!(rt; post(&rt, alloc, &witness, body.as_str()).status == status);
-    }
-    Ok(())
 }
 
 // How many links an origin has from this place on, at most so many, and the size of the first.
@@ -170,38 +133,40 @@ const PARTS: [(u64, u64, usize, Option<u64>); 8] = [
     (2, u64::MAX, 10, Some(3)),
 ];
 
-#[test]
-fn links_from_a_place_on(rt: HostRuntime) -> Result<(), Fail> {
-    let alloc = rt.alloc();
-    let logs = [alpha(alloc, 20)?, beta(alloc, 20)?];
-    let witness = shared(alloc, &logs, &[5, 12])?;
+// Whether an origin has the links of each part.
+fn are_parts<R: Wait>(rt: &R, witness: &Witness, origin: &str) -> Result<bool, Fail> {
     for (from, most, count, size) in PARTS {
-        let part = part_of(&rt, &witness, logs[1].origin, from, most)?;
-        assert!(rt; part == Some((count, size)), "from {from}, at most {most}");
+        if part_of(rt, witness, origin, from, most)? != Some((count, size)) {
+            return Ok(false);
+        }
     }
-    assert!(rt; part_of(&rt, &witness, "c.example", 0, 1)? == None);
-    Ok(())
+    Ok(true)
 }
 
-// Whether a book's chain of an origin is this one.
-fn has_chain(book: &Book<Sha256Tree, Global>, origin: &str, whole: &[Link<Global>]) -> bool {
-    match book.chain(origin) {
-        Some(links) => are_first(links, whole, whole.len()),
-        None => false,
-    }
+// Whether a witness knows nothing of an origin.
+fn is_unknown<R: Wait>(rt: &R, witness: &Witness, origin: &str) -> Result<bool, Fail> {
+    Ok(
+        witness.chain(rt, origin)?.is_none()
+            && witness.head(rt, origin).is_none()
+            && part_of(rt, witness, origin, 0, 1)? == None,
+    )
 }
 
-// Whether a book cosigns for a log from this size to 20.
-fn is_cosigned_again(
+// Whether a book has this chain of a log's origin, and cosigns from size 19 to 20.
+fn is_gone_on_with(
     alloc: Global,
     book: &mut Book<Sha256Tree, Global>,
     log: &Log,
-    old: u64,
+    whole: &[Link<Global>],
 ) -> Result<bool, Fail> {
+    let Some(links) = book.chain(log.origin) else {
+        return Ok(false);
+    };
+    let has_chain = are_first(links, whole, whole.len());
     let mut saver = KeepingSaver::new(alloc);
-    let body = log.body(alloc, old, 20)?;
+    let body = log.body(alloc, 19, 20)?;
     let reply = book.add(body.as_bytes(), TIME, &mut saver);
-    Ok(is_cosigned_by(&reply, log.cosigner))
+    Ok(has_chain && is_cosigned_by(&reply, log.cosigner))
 }
 
 // The book of a witness.
@@ -213,18 +178,41 @@ fn back(witness: Witness, rt: &impl Wait) -> Result<Book<Sha256Tree, Global>, Fa
 }
 
 #[test]
+fn each_origin_keeps_its_key_its_cosigner_and_its_links(rt: HostRuntime) -> Result<(), Fail> {
+    let alloc = rt.alloc();
+    let logs = [beta(alloc, 20)?, alpha(alloc, 20)?];
+    let witness = shared(alloc, &logs, &[12, 5])?;
+    assert!(rt; are_parts(&rt, &witness, logs[0].origin)?);
+    let forged = Log::of_size(alloc, "a.example", 2, 20)?.body(alloc, 5, 20)?;
+    assert!(rt; post(&rt, alloc, &witness, forged.as_str()).status == 403);
+    for (log, last) in logs.iter().zip([12u64, 5]) {
+        assert!(rt;
+            is_grown(&rt, alloc, &witness, log, last)?,
+            "{}",
+            log.origin
+        );
+    }
+    assert!(rt; is_unknown(&rt, &witness, "c.example")?);
+    Ok(())
+}
+
+#[test]
 fn a_book_again_with_what_was_accepted(rt: HostRuntime) -> Result<(), Fail> {
     let alloc = rt.alloc();
     let logs = [alpha(alloc, 20)?, beta(alloc, 20)?];
     let witness = shared(alloc, &logs, &[5, 12])?;
-    let body = logs[1].body(alloc, 12, 19)?;
-    assert!(rt; post(&rt, alloc, &witness, body.as_str()).status == 200);
-    let whole = chain_of(&rt, &witness, logs[1].origin)?;
+    let mut chains = Vec::new(alloc);
+    for (log, last) in logs.iter().zip([5u64, 12]) {
+        assert!(rt;
+            is_grown(&rt, alloc, &witness, log, last)?,
+            "{}",
+            log.origin
+        );
+        chains.push(chain_of(&rt, &witness, log.origin)?)?;
+    }
     let mut book = back(witness, &rt)?;
-    assert!(rt; whole.len() == 13 && has_chain(&book, logs[1].origin, whole.as_slice()));
-    assert!(rt; book.chain(logs[0].origin).map(|links| links.len()) == Some(5));
-    for (log, old) in logs.iter().zip([5u64, 19]) {
-        assert!(rt; is_cosigned_again(alloc, &mut book, log, old)?);
+    for (log, whole) in logs.iter().zip(chains.iter()) {
+        assert!(rt; is_gone_on_with(alloc, &mut book, log, whole.as_slice())?);
     }
     Ok(())
 }

@@ -1,14 +1,19 @@
-//! Worked examples of a witness. It has tests alone.
+//! Witnesses whose growths are refused in turn, whose saver fails, that have several origins or are asked by threads,
+//! and servers over devices that fail. What the program itself shows is in the scripts of `tests/`. It has tests alone.
 #![tactic(auto)]
 
 #[cfg(test)]
-mod books;
+mod boards;
+#[cfg(test)]
+mod devices;
 #[cfg(test)]
 mod kept;
 #[cfg(test)]
-mod large;
+mod lines;
 #[cfg(test)]
 mod logs;
+#[cfg(test)]
+mod origins;
 #[cfg(test)]
 mod posts;
 #[cfg(test)]
@@ -16,12 +21,12 @@ mod quorums;
 #[cfg(test)]
 mod races;
 #[cfg(test)]
-mod reading;
-#[cfg(test)]
 mod refusals;
 #[cfg(test)]
 mod savers;
 #[cfg(test)]
 mod sequence;
+#[cfg(test)]
+mod served;
 #[cfg(test)]
 mod steps;

@@ -9,7 +9,7 @@ use tl_note::{Signer, sign_note};
 use tl_proof::{HashList, Link, prove_tree};
 use tl_store::{HashStore, tree_hash};
 use tl_testing::LengthKey;
-use tl_text::hash_of;
+use tl_text::parse_hash;
 use tl_witness::{Book, BookFault, Trust};
 
 /// More entries than any of the logs has.
@@ -139,7 +139,7 @@ pub fn open_book(
 
 /// The hash that a text is in base64, or one of zeros where it is none.
 pub fn hash(text: &str) -> Hash {
-    hash_of(text).unwrap_or(Hash::from_bytes([0; 32]))
+    parse_hash(text).unwrap_or(Hash::from_bytes([0; 32]))
 }
 
 // The link to this size, with a proof of these hashes.

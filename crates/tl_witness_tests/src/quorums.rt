@@ -10,7 +10,7 @@ use std::alloc::{AllocError, Global};
 use std::str;
 use std::sync::Wait;
 use std::test::Fail;
-use tl_checkpoint::{are_apart, first_cosignatures};
+use tl_checkpoint::{cosignatures_by, have_distinct_names};
 use tl_hash::Sha256Tree;
 use tl_note::{Signer, Verifier, open_note, parse_note};
 use tl_publisher::{AttachFault, BoardReader, Operator, Proposal, Shown};
@@ -230,10 +230,10 @@ fn signed_count(alloc: Global, note: &str) -> Result<usize, Fail> {
 fn cosigned_count(alloc: Global, note: &str) -> Result<usize, Fail> {
     let view = parse_note(alloc, note)?;
     let witnesses = keys(alloc)?;
-    if !are_apart(witnesses.as_slice()) {
+    if !have_distinct_names(witnesses.as_slice()) {
         return Err(Fail::from("two witnesses have one name"));
     }
-    let found = first_cosignatures(
+    let found = cosignatures_by(
         alloc,
         view.text,
         view.signatures.as_slice(),

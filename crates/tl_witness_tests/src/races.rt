@@ -1,10 +1,10 @@
-//! Two threads that post at once, to one origin and to two, and threads that wait for one another.
+//! Threads that post to two origins at once, one of which waits.
 
-use crate::logs::{are_first, first_link_and, two_links};
-use crate::posts::{COSIGNATURE, E1, E2, F1, ORIGIN, TIME, body, fresh_book, signed_body};
+use crate::logs::{are_first, two_links};
+use crate::posts::{E1, F1, TIME, fresh_book, signed_body};
 use crate::savers::KeepingSaver;
 use std::alloc::{AllocError, Allocator, Global};
-use std::sync::atomic::{AtomicBool, AtomicU64, Ordering};
+use std::sync::atomic::{AtomicBool, Ordering};
 use std::sync::{Arc, Wait};
 use std::test::Fail;
 use std::thread;
@@ -15,125 +15,12 @@ use tl_witness::{Reply, SaveFault, Saver, SharedWitness};
 
 type Witness = SharedWitness<Sha256Tree, Global>;
 
-// The root of an empty entry, the byte 0 and the byte 16.
-const E3: &str = "rra8/idLcKFPsGel5VeCZNsPqbUa9eC6FZFY8yngbnc=";
-
-// The leaf hash of the byte 16.
-const F2: &str = "ApjRIpBtz8EIkstTpzmS/FufST6kybrbJ7eRtBJ6f+c=";
-
-// The reply to a request, which is posted when another thread is here too.
-fn reply_together<R: Wait>(
-    rt: &R,
-    alloc: Global,
-    witness: &SharedWitness<Sha256Tree, Global>,
-    arrived: &AtomicU64,
-    body: &str,
-) -> (bool, Reply<Global>) {
-    let met = meet(arrived);
-    let mut saver = KeepingSaver::new(alloc);
-    (met, witness.add(rt, body.as_bytes(), TIME, &mut saver))
-}
-
-// The replies to two requests that two threads post at once, and whether they did.
-fn replies<R: Threads + Wait + Sync>(
-    rt: &R,
-    alloc: Global,
-    witness: &SharedWitness<Sha256Tree, Global>,
-    one: &str,
-    other: &str,
-) -> (bool, Reply<Global>, Reply<Global>) {
-    let arrived = AtomicU64::new(0);
-    let here = &arrived;
-    let ((here_first, first), (here_second, second)) = thread::join(
-        rt,
-        move || reply_together(rt, alloc, witness, here, one),
-        move || reply_together(rt, alloc, witness, here, other),
-    );
-    (here_first && here_second, first, second)
-}
-
-// Whether the first request was taken, and the second is told of this size in place of its own.
-fn is_decided(taken: &Reply<Global>, refused: &Reply<Global>, size: &str) -> bool {
-    taken.status == 200
-        && taken.body.as_slice() == COSIGNATURE.as_bytes()
-        && refused.status == 409
-        && refused.body.as_slice() == size.as_bytes()
-}
-
 // A witness of these origins.
 fn shared(alloc: Global, origins: &[&str]) -> Result<Witness, Fail> {
     match SharedWitness::new(fresh_book(alloc, alloc, origins)?) {
         Ok(witness) => Ok(witness),
         Err(_) => Err(Fail::new("out of memory")),
     }
-}
-
-// The status of the reply to a request.
-fn status_of<R: Wait>(rt: &R, alloc: Global, witness: &Witness, body: &str) -> u16 {
-    let mut saver = KeepingSaver::new(alloc);
-    witness.add(rt, body.as_bytes(), TIME, &mut saver).status
-}
-
-// The requests from size 1 to 2 and to 3, and the chain that each leaves.
-#[derive(Drop)]
-struct Rivals {
-    bodies: [String; 2],
-    chains: [Vec<Link<Global>>; 2],
-}
-
-fn both_rivals(alloc: Global) -> Result<Rivals, AllocError> {
-    let to_two = body(alloc, 1, format!(in alloc; "{F1}\n")?.as_str(), 2, E2)?;
-    let to_three = body(alloc, 1, format!(in alloc; "{F1}\n{F2}\n")?.as_str(), 3, E3)?;
-    let with_two = two_links(alloc, F1)?;
-    let with_three = first_link_and(alloc, 3, E3, &[F1, F2])?;
-    Ok(Rivals {
-        bodies: [to_two, to_three],
-        chains: [with_two, with_three],
-    })
-}
-
-// Whether one of two replies is of a request that was taken, whose chain is there, and the other is told of it.
-fn is_one_taken(
-    two: &Reply<Global>,
-    three: &Reply<Global>,
-    links: &[Link<Global>],
-    chains: &[Vec<Link<Global>>; 2],
-) -> bool {
-    if two.status == 200 {
-        is_decided(two, three, "2\n") && are_first(links, chains[0].as_slice(), 2)
-    } else {
-        is_decided(three, two, "3\n") && are_first(links, chains[1].as_slice(), 2)
-    }
-}
-
-// Whether one of two rivals that post at once is taken, and none of them later.
-fn is_one_decided<R: Threads + Wait + Sync>(
-    rt: &R,
-    alloc: Global,
-    witness: &Witness,
-    rivals: &Rivals,
-) -> Result<bool, Fail> {
-    let [one, other] = &rivals.bodies;
-    let (met, two, three) = replies(rt, alloc, witness, one.as_str(), other.as_str());
-    let links = witness.chain(rt, ORIGIN)?.ok_or("no chain")?;
-    Ok(
-        met && is_one_taken(&two, &three, links.as_slice(), &rivals.chains)
-            && status_of(rt, alloc, witness, one.as_str()) == 409
-            && status_of(rt, alloc, witness, other.as_str()) == 409,
-    )
-}
-
-#[test]
-fn one_of_two_requests_is_taken(rt: HostRuntime) -> Result<(), Fail> {
-    let alloc = rt.alloc();
-    let first = body(alloc, 0, "", 1, E1)?;
-    let rivals = both_rivals(alloc)?;
-    for _ in 0..100 {
-        let witness = shared(alloc, &[ORIGIN])?;
-        assert!(rt; status_of(&rt, alloc, &witness, first.as_str()) == 200);
-        assert!(rt; is_one_decided(&rt, alloc, &witness, &rivals)?);
-    }
-    Ok(())
 }
 
 const ORIGINS: [&str; 2] = ["example.com/a", "example.com/b"];
@@ -254,18 +141,6 @@ fn a_request_waits_for_no_other_origin(rt: HostRuntime) -> Result<(), Fail> {
 
 // How often a thread looks before it gives up.
 const TURNS: u64 = 10_000_000;
-
-/// Waits until two threads are here. False where the other never came.
-pub fn meet(arrived: &AtomicU64) -> bool {
-    arrived.fetch_add(1, Ordering::SeqCst);
-    for _ in 0..TURNS {
-        if arrived.load(Ordering::SeqCst) >= 2 {
-            return true;
-        }
-        thread::yield_now();
-    }
-    false
-}
 
 /// Waits until the flag is raised. False where it never was.
 pub fn is_raised(flag: &AtomicBool) -> bool {

@@ -1,6 +1,6 @@
 //! Calls with their first request for memory refused, then their second, and so on, until none is refused.
 
-use crate::logs::{are_first, two_links};
+use crate::logs::{are_first, hash, two_links};
 use crate::posts::{E2, F1, ORIGIN, TIME, body, fresh_book, trust};
 use crate::savers::KeepingSaver;
 use crate::steps::{LINES, MOST, Step, is_due, steps};
@@ -10,7 +10,9 @@ use std::test::Fail;
 use tl_hash::Sha256Tree;
 use tl_proof::Link;
 use tl_testing::Refusing;
-use tl_witness::{Book, BookFault, RequestFault, SharedWitness, parse_request};
+use tl_witness::{
+    Book, BookFault, ChainFault, RequestFault, SharedWitness, parse_request, read_chain,
+};
 
 // A book of one origin and its chain of two links. What is handed in is made on another heap.
 fn saved_book<'h>(
@@ -50,22 +52,85 @@ fn opened_on(
     }
 }
 
-#[test]
-fn opening_answers_out_of_memory(rt: HostRuntime) -> Result<(), Fail> {
-    let alloc = rt.alloc();
+// A call that asks for memory.
+#[derive(Clone, Copy, Debug)]
+enum Call {
+    // A book of one origin and its chain of two links is opened.
+    Open,
+    // The request for size 2 is read.
+    Parse,
+    // The lines of the two links are read.
+    Read,
+}
+
+// Whether the body of the request for size 2 is read as that. None: out of memory.
+fn is_parsed(alloc: Global, heap: &Refusing<Global>) -> Result<Option<bool>, AllocError> {
+    let text = body(alloc, 1, format!(in alloc; "{F1}\n")?.as_str(), 2, E2)?;
+    match parse_request(heap, text.as_bytes()) {
+        Ok(request) => Ok(Some(
+            request.old == 1
+                && request.proof.as_slice() == [hash(F1)].as_slice()
+                && request.note.len() == 101
+                && text.ends_with(request.note),
+        )),
+        Err(RequestFault::OutOfMemory) => Ok(None),
+        Err(_) => Ok(Some(false)),
+    }
+}
+
+// Whether a call with this heap comes to what it is to come to. None: out of memory.
+fn is_right(
+    alloc: Global,
+    calm: &Refusing<Global>,
+    heap: &Refusing<Global>,
+    call: Call,
+) -> Result<Option<bool>, AllocError> {
+    match call {
+        Call::Open => match opened_on(alloc, calm, heap)? {
+            Ok(is_whole) => Ok(Some(is_whole)),
+            Err(BookFault::OutOfMemory) => Ok(None),
+            Err(_) => Ok(Some(false)),
+        },
+        Call::Parse => is_parsed(alloc, heap),
+        Call::Read => match read_chain(heap, LINES.as_bytes()) {
+            Ok(chains) => Ok(Some(chains.len() == 1)),
+            Err(ChainFault::OutOfMemory) => Ok(None),
+            Err(_) => Ok(Some(false)),
+        },
+    }
+}
+
+// Whether a call is out of memory where a growth is refused, of which there are some, and else comes to what it is to.
+fn is_refused_in_turn(alloc: Global, call: Call) -> Result<bool, AllocError> {
     let calm = Refusing::at(alloc, 0);
     for turn in 1..MOST {
         let heap = Refusing::in_turn(alloc, turn);
-        let answer = opened_on(alloc, &calm, &heap)?;
+        let answer = is_right(alloc, &calm, &heap, call)?;
         if !heap.refused() {
-            assert!(rt; turn > 4 && answer == Ok(true));
-            return Ok(());
+            return Ok(turn > 2 && answer == Some(true));
         }
-        assert!(rt; answer == Err(BookFault::OutOfMemory));
         heap.lift();
-        assert!(rt; opened_on(alloc, &calm, &heap)? == Ok(true));
+        if answer != None || is_right(alloc, &calm, &heap, call)? != Some(true) {
+            return Ok(false);
+        }
     }
-    Err(Fail::new("each opening was refused"))
+    Ok(false)
+}
+
+#[test]
+fn opening_and_reading_answer_out_of_memory(rt: HostRuntime) -> Result<(), Fail> {
+    let alloc = rt.alloc();
+    for call in [Call::Open, Call::Parse, Call::Read] {
+        assert!(rt; is_refused_in_turn(alloc, call)?, "{call:?}");
+    }
+    let whole = two_links(alloc, F1)?;
+    let heap = Refusing::at(alloc, 0);
+    let book = saved_book(alloc, &heap, &heap)??;
+    heap.refuse();
+    assert!(rt; has_links(&book, whole.as_slice(), 2));
+    assert!(rt; book.chain("example.com/c").is_none());
+    assert!(rt; !heap.refused());
+    Ok(())
 }
 
 // Puts a request to a book, once more where memory was refused. Whether each reply is the one that is due, and a
@@ -134,45 +199,6 @@ fn a_book_answers_500(rt: HostRuntime) -> Result<(), Fail> {
         }
     }
     Err(Fail::new("each run was refused"))
-}
-
-// Whether a body is read as a request for size 2 with this proof, or OutOfMemory comes where memory was refused.
-fn is_read(heap: &Refusing<Global>, body: &str, link: &Link<Global>) -> bool {
-    match parse_request(heap, body.as_bytes()) {
-        Ok(request) => {
-            request.old == 1
-                && request.proof.as_slice() == link.proof.as_slice()
-                && request.note.len() == 101
-                && body.ends_with(request.note)
-        }
-        Err(fault) => fault == RequestFault::OutOfMemory && heap.refused(),
-    }
-}
-
-// Whether the body of the second link is read on this heap, or there is no memory for it.
-fn is_second_read(alloc: Global, heap: &Refusing<Global>, body: &str) -> Result<bool, AllocError> {
-    let whole = two_links(alloc, F1)?;
-    match whole.last() {
-        Some(link) => Ok(is_read(heap, body, link)),
-        None => Ok(false),
-    }
-}
-
-#[test]
-fn parse_request_answers_out_of_memory(rt: HostRuntime) -> Result<(), Fail> {
-    let alloc = rt.alloc();
-    let request = body(alloc, 1, format!(in alloc; "{F1}\n")?.as_str(), 2, E2)?;
-    for turn in 1..MOST {
-        let heap = Refusing::in_turn(alloc, turn);
-        assert!(rt; is_second_read(alloc, &heap, request.as_str())?);
-        if !heap.refused() {
-            assert!(rt; turn > 2);
-            return Ok(());
-        }
-        let calm = Refusing::at(alloc, 0);
-        assert!(rt; is_second_read(alloc, &calm, request.as_str())?);
-    }
-    Err(Fail::new("each reading was refused"))
 }
 
 type Heap<'h> = &'h Refusing<Global>;
@@ -301,17 +327,4 @@ fn a_shared_witness_answers_500(rt: HostRuntime) -> Result<(), Fail> {
         }
     }
     Err(Fail::new("each run was refused"))
-}
-
-#[test]
-fn links_of_an_origin_take_no_memory(rt: HostRuntime) -> Result<(), Fail> {
-    let alloc = rt.alloc();
-    let whole = two_links(alloc, F1)?;
-    let heap = Refusing::at(alloc, 0);
-    let book = saved_book(alloc, &heap, &heap)??;
-    heap.refuse();
-    assert!(rt; has_links(&book, whole.as_slice(), 2));
-    assert!(rt; book.chain("example.com/c").is_none());
-    assert!(rt; !heap.refused());
-    Ok(())
 }

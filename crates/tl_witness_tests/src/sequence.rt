@@ -1,15 +1,14 @@
-//! Requests in order, to a book and to a witness that threads share.
+//! Requests in order to a book, each of whose saves fails once.
 
 use crate::logs::{are_first, two_links};
 use crate::posts::{F1, ORIGIN, TIME, fresh_book};
 use crate::savers::KeepingSaver;
 use crate::steps::{LINES, Step, is_due, steps};
 use std::alloc::Global;
-use std::sync::Wait;
 use std::test::Fail;
 use tl_hash::Sha256Tree;
 use tl_proof::Link;
-use tl_witness::{Book, SharedWitness};
+use tl_witness::Book;
 
 // Puts a request to a book. Whether the reply is the one that is due, and the links are the first of a chain.
 fn is_answered(
@@ -29,54 +28,6 @@ fn has_links(book: &Book<Sha256Tree, Global>, whole: &[Link<Global>], count: usi
         Some(links) => are_first(links, whole, count),
         None => false,
     }
-}
-
-// The same of a witness.
-fn is_answered_shared<R: Wait>(
-    rt: &R,
-    witness: &SharedWitness<Sha256Tree, Global>,
-    saver: &mut KeepingSaver,
-    step: &Step,
-    whole: &[Link<Global>],
-) -> bool {
-    saver.fails = step.save_fails;
-    let reply = witness.add(rt, step.body.as_bytes(), TIME, saver);
-    match witness.chain(rt, ORIGIN) {
-        Ok(Some(links)) => is_due(&reply, step) && are_first(links.as_slice(), whole, step.links),
-        _ => false,
-    }
-}
-
-#[test]
-fn replies_and_links_of_a_book(rt: HostRuntime) -> Result<(), Fail> {
-    let alloc = rt.alloc();
-    let mut book = fresh_book(alloc, alloc, &[ORIGIN])?;
-    let whole = two_links(alloc, F1)?;
-    let mut saver = KeepingSaver::new(alloc);
-    for step in steps(alloc)? {
-        let is_right = is_answered(&mut book, &mut saver, &step, whole.as_slice());
-        assert!(rt; is_right, "to {}", step.body);
-    }
-    assert!(rt; book.chain("example.com/x").is_none());
-    assert!(rt; saver.calls == 3 && saver.lines.as_str() == LINES);
-    Ok(())
-}
-
-#[test]
-fn the_same_replies_and_links_of_a_shared_witness(rt: HostRuntime) -> Result<(), Fail> {
-    let alloc = rt.alloc();
-    let Ok(witness) = SharedWitness::new(fresh_book(alloc, alloc, &[ORIGIN])?) else {
-        return Err(Fail::new("out of memory"));
-    };
-    let whole = two_links(alloc, F1)?;
-    let mut saver = KeepingSaver::new(alloc);
-    for step in steps(alloc)? {
-        let is_right = is_answered_shared(&rt, &witness, &mut saver, &step, whole.as_slice());
-        assert!(rt; is_right, "to {}", step.body);
-    }
-    assert!(rt; witness.chain(&rt, "example.com/x")?.is_none());
-    assert!(rt; saver.calls == 3 && saver.lines.as_str() == LINES);
-    Ok(())
 }
 
 // Puts a request to a book whose saver fails, and once more where that was asked. Whether the failure left the book as

@@ -1,0 +1,71 @@
+//! Lanes that wait for one another before they send.
+
+use crate::options::serve_options;
+use std::alloc::Global;
+use std::net::{Net, TcpListener, TcpStream};
+use std::sync::Arc;
+use std::sync::atomic::{AtomicBool, AtomicU64, Ordering};
+use std::test::Fail;
+use std::thread;
+use tl_device::Counted;
+use tl_serve::{Gate, Host, serve_gated};
+
+// How often a lane looks for the other.
+const TURNS: u64 = 10_000_000;
+
+// A gate at which each of two lanes waits for the other, and how many saw the other.
+#[derive(Drop)]
+struct Meeting {
+    first: AtomicBool,
+    second: AtomicBool,
+    met: AtomicU64,
+}
+
+impl Gate for Meeting {
+    fn pass(&self, lane: u32) {
+        let (own, other) = if lane == 0 {
+            (&self.first, &self.second)
+        } else {
+            (&self.second, &self.first)
+        };
+        own.store(true, Ordering::SeqCst);
+        for _turn in 0..TURNS {
+            if other.load(Ordering::SeqCst) {
+                self.met.fetch_add(1, Ordering::SeqCst);
+                return;
+            }
+            thread::yield_now();
+        }
+    }
+}
+
+// Serves a log of two lanes that meet. Whether both saw the other, and the log ended well.
+fn is_met<H: Host + Net<Listener = TcpListener, Stream = TcpStream>>(
+    rt: &H,
+    alloc: Global,
+) -> Result<bool, Fail> {
+    let meeting = Arc::new(
+        alloc,
+        Meeting {
+            first: AtomicBool::new(false),
+            second: AtomicBool::new(false),
+            met: AtomicU64::new(0),
+        },
+    )?;
+    let gate = Arc::try_clone(&meeting)?;
+    let mut options = serve_options(alloc, None, 0)?;
+    options.lanes = 2;
+    let input: &[u8] = b"a\nb\n";
+    let mut reader = Counted::new(input);
+    let mut log = Counted::new(Vec::new(alloc));
+    let ended = serve_gated(rt, alloc, &options, &mut reader, &mut log, gate);
+    Ok(ended.is_ok() && meeting.met.load(Ordering::SeqCst) == 2)
+}
+
+#[test]
+fn each_lane_has_a_thread(rt: HostRuntime) -> Result<(), Fail> {
+    for _ in 0..100 {
+        assert!(rt; is_met(&rt, rt.alloc())?);
+    }
+    Ok(())
+}
