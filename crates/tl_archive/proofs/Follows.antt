@@ -16,7 +16,7 @@ use Rattle.tl_tile.proofs.NeededSince.{since_is_new}
 use Rattle.tl_publisher.specs.Answers.{AnswersLatest, head_and_note}
 use Rattle.tl_publisher.specs.declared.fault.GetFault.{GetFault}
 use Rattle.tl_publisher.specs.declared.fault.GetFault.TheVariants as get
-use Rattle.tl_publisher.specs.declared.reader.Head.{Head}
+use Rattle.tl_hash.specs.declared.head.Head.{Head}
 use Rattle.tl_publisher.specs.Histories.{Prefix, Past, Grew, last_of, sizes_of, StartsWith, Begins}
 use Rattle.tl_publisher.specs.Boards.{same_resource, needs, was_needed, tile_if, bundle_if, shown, latest_if}
 use Rattle.tl_publisher.proofs.Needs.{same_self}

@@ -10,7 +10,7 @@ use Rattle.tl_tile.specs.Bundle.{bundle_text}
 use Rattle.tl_tile.proofs.TileTexts.{scaled_le}
 use Rattle.tl_archive.specs.Inner.Pieces.{LiesWithin}
 use Rattle.tl_archive.specs.Complete.{text_of}
-use Rattle.tl_archive.specs.Laws.{NeededBytesStay}
+use Rattle.tl_archive.specs.Inner.Laws.{NeededBytesStay}
 use Rattle.tl_archive.proofs.Needs.{needed_within}
 
 part_stays : (entries more : List (List ℕ)) (n from : ℕ) → from + n ≤ length entries → take n (drop from (entries ++ more)) ≡ take n (drop from entries)

@@ -5,3 +5,5 @@ pub
     mod Pieces
 pub
     mod Staged
+pub
+    mod Laws

@@ -4,5 +4,4 @@ pub mod Exact
 pub mod Faults
 pub mod Publishing
 pub mod Reading
-pub mod Laws
 pub mod Inner

@@ -64,19 +64,20 @@ impl<S: Shelf> Archive<S> {
         ensures kept { (earlier : List Prefix) → GoesOn earlier board.new.log
             → IsArchive sha256 (earlier ++ board.old.log) (S.kept self.old.shelf) self.old.sure
             → IsArchive sha256 (earlier ++ board.new.log) (S.kept self.new.shelf) self.new.sure }
-        ensures safe { (earlier : List Prefix) → GoesOn earlier board.new.log
-            → IsArchive sha256 (earlier ++ board.old.log) (S.kept self.old.shelf) self.old.sure
-            → KeptSafe sha256 (earlier ++ board.new.log) (S.trace self.old.shelf) (S.trace self.new.shelf) }
+        ensures safe { (earlier : List Prefix) → GoesOn earlier board.new.log → IsArchive sha256
+            (earlier ++ board.old.log) (S.kept self.old.shelf) self.old.sure → KeptSafe sha256
+            (earlier ++ board.new.log) (S.trace self.old.shelf) (S.trace self.new.shelf) }
         ensures archived { (earlier : List Prefix) → GoesOn earlier board.new.log
             → IsArchive sha256 (earlier ++ board.old.log) (S.kept self.old.shelf) self.old.sure
             → ArchivesLast sha256 board.old.log board.new.log (S.kept self.new.shelf).held result }
-        ensures exact { (history log : List Prefix) → IsNext history log → StartsWith board.new.log log
-            → IsGrowing board.new.log → AnswersLast log result
-            → IsExact sha256 history (S.kept self.old.shelf) self.old.sure
+        ensures exact { (history log : List Prefix)
+            → IsNext history log → StartsWith board.new.log log → IsGrowing board.new.log
+            → AnswersLast log result → IsExact sha256 history (S.kept self.old.shelf) self.old.sure
             → IsExact sha256 log (S.kept self.new.shelf) self.new.sure }
         ensures sure { self.new.sure ≡ sure_after self.old.sure result }
         ensures unfailed { OnOk result (S.faults self.new.shelf ≡ S.faults self.old.shelf) }
-        ensures failed { IfErr result (ArchiveFails board.old.log board.new.log self.old.sure (S.faults self.old.shelf) (S.faults self.new.shelf)) }
+        ensures failed { IfErr result (ArchiveFails board.old.log board.new.log self.old.sure
+            (S.faults self.old.shelf) (S.faults self.new.shelf)) }
     {
         let Some((head, note)) = board.latest(alloc)? else {
             return Ok(None);

@@ -37,7 +37,8 @@ fn bundle_at<S: Shelf, A: Allocator>(
 ) -> Result<Vec<u8, A>, ReadLogFault>
     requires within { place < bundle_count size }
     requires limit { size ≤ 2 ^ 32 - 1 }
-    ensures there { S.is_honest ≡ true → IfOk result (λ bundle. (S.kept shelf.now).held (resource.Entries place (bundle_width size place)) ≡ Some bundle.items) }
+    ensures there { S.is_honest ≡ true → IfOk result (λ bundle. (S.kept shelf.now).held
+        (resource.Entries place (bundle_width size place)) ≡ Some bundle.items) }
     ensures missing { S.is_honest ≡ true → IfErr result (LacksOne (S.kept shelf.now).held size) }
 {
     let resource = Resource::Entries {
@@ -54,7 +55,8 @@ fn bundle_at<S: Shelf, A: Allocator>(
 // All bundles of a log of so many entries.
 fn bundles_of<S: Shelf>(shelf: &S, alloc: Global, size: u64) -> Result<Vec<Vec<u8>>, ReadLogFault>
     requires { size ≤ 2 ^ 32 - 1 }
-    ensures all { S.is_honest ≡ true → IfOk result (λ bundles. AreFound (S.kept shelf.now).held size (map vec_items bundles.items)) }
+    ensures all { S.is_honest ≡ true → IfOk result
+        (λ bundles. AreFound (S.kept shelf.now).held size (map vec_items bundles.items)) }
     ensures missing { S.is_honest ≡ true → IfErr result (LacksOne (S.kept shelf.now).held size) }
 {
     let mut bundles = Vec::new(alloc);
@@ -67,7 +69,8 @@ fn bundles_of<S: Shelf>(shelf: &S, alloc: Global, size: u64) -> Result<Vec<Vec<u
 
 // The size that the checkpoint of a note states.
 fn size_of(alloc: Global, note: &str, verifiers: &[Box<dyn Verifier>]) -> Result<u64, ReadLogFault>
-    ensures states { IfOk result (λ size. StatesSize note.now (map (λ v. key v) verifiers.now) size) }
+    ensures states { IfOk result
+        (λ size. StatesSize note.now (map (λ v. key v) verifiers.now) size) }
     ensures limit { IfOk result (λ size. size ≤ 2 ^ 32 - 1) }
     ensures refused { IfErr result (StatesNone note.now (map (λ v. key v) verifiers.now)) }
 {
@@ -91,8 +94,12 @@ pub fn read_log<S: Shelf>(
     alloc: Global,
     verifiers: &[Box<dyn Verifier>],
 ) -> Result<Option<FoundLog>, ReadLogFault>
-    ensures found { S.is_honest ≡ true → IfOk result (λ found. MatchOption found ((S.kept shelf.now).held resource.Checkpoint ≡ None) (λ log. IsFoundLog (S.kept shelf.now).held (map (λ v. key v) verifiers.now) (string_bytes log.note) log.size (map vec_items log.bundles.items))) }
-    ensures refused { S.is_honest ≡ true → IfErr result (ReadLogFails (S.kept shelf.now).held (map (λ v. key v) verifiers.now)) }
+    ensures found { S.is_honest ≡ true → IfOk result
+        (λ found. MatchOption found ((S.kept shelf.now).held resource.Checkpoint ≡ None)
+        (λ log. IsFoundLog (S.kept shelf.now).held (map (λ v. key v) verifiers.now)
+        (string_bytes log.note) log.size (map vec_items log.bundles.items))) }
+    ensures refused { S.is_honest ≡ true
+        → IfErr result (ReadLogFails (S.kept shelf.now).held (map (λ v. key v) verifiers.now)) }
 {
     let bytes = match shelf.read(alloc, &Resource::Checkpoint) {
         Ok(Some(bytes)) => bytes,

@@ -26,7 +26,8 @@ pub trait Shelf {
     /// Stages the bytes, which are to replace those of the resource. At a failure nothing is staged.
     fn stage(&mut self, resource: &Resource, bytes: &[u8]) -> Result<(), ShelfFault>
         requires { IsResource resource.now }
-        ensures staged { OnOk result (Stages (kept self.old) (kept self.new) resource.now bytes.now) }
+        ensures staged { OnOk result
+            (Stages (kept self.old) (kept self.new) resource.now bytes.now) }
         ensures unstaged { OnErr result (kept self.new ≡ kept self.old) }
         ensures unfailed { OnOk result (faults self.new ≡ faults self.old) }
         ensures failed { OnErr result (Fails (faults self.old) (faults self.new)) }
@@ -49,5 +50,6 @@ pub trait Shelf {
         resource: &Resource,
     ) -> Result<Option<Vec<u8, A>>, ShelfReadFault>
         requires { IsResource resource.now }
-        ensures { is_honest ≡ true → IfOk result (λ found. option_map vec_items found ≡ (kept self.now).held resource.now) };
+        ensures { is_honest ≡ true → IfOk result
+            (λ found. option_map vec_items found ≡ (kept self.now).held resource.now) };
 }

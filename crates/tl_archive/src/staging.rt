@@ -21,8 +21,10 @@ fn stage_all<S: Shelf, A: Allocator, B: Allocator + Copy>(
 ) -> Result<(), ArchiveFault>
     requires { All IsResource resources.now }
     ensures grew { Grew board.old board.new }
-    ensures adds { Adds board.old.log board.new.log resources.now (S.kept shelf.old) (S.kept shelf.new) (S.trace shelf.old) (S.trace shelf.new) }
-    ensures all { OnOk result (All (IsStaged board.old.log board.new.log (S.kept shelf.new)) resources.now) }
+    ensures adds { Adds board.old.log board.new.log resources.now
+        (S.kept shelf.old) (S.kept shelf.new) (S.trace shelf.old) (S.trace shelf.new) }
+    ensures all { OnOk result
+        (All (IsStaged board.old.log board.new.log (S.kept shelf.new)) resources.now) }
     ensures unfailed { OnOk result (S.faults shelf.new ≡ S.faults shelf.old) }
     ensures failed { IfErr result (StagingFails (S.faults shelf.old) (S.faults shelf.new)) }
 {
@@ -43,8 +45,10 @@ fn put_all<S: Shelf, A: Allocator, B: Allocator + Copy>(
 ) -> Result<(), ArchiveFault>
     requires { All IsResource resources.now }
     ensures grew { Grew board.old board.new }
-    ensures puts { Puts board.old.log board.new.log resources.now (S.kept shelf.old) (S.kept shelf.new) (S.trace shelf.old) (S.trace shelf.new) }
-    ensures all { OnOk result (IsAdded board.old.log board.new.log resources.now (S.kept shelf.old) (S.kept shelf.new)) }
+    ensures puts { Puts board.old.log board.new.log resources.now
+        (S.kept shelf.old) (S.kept shelf.new) (S.trace shelf.old) (S.trace shelf.new) }
+    ensures all { OnOk result
+        (IsAdded board.old.log board.new.log resources.now (S.kept shelf.old) (S.kept shelf.new)) }
     ensures unfailed { OnOk result (S.faults shelf.new ≡ S.faults shelf.old) }
     ensures failed { IfErr result (StagingFails (S.faults shelf.old) (S.faults shelf.new)) }
 {
@@ -66,8 +70,10 @@ pub(crate) fn write_all<S: Shelf, A: Allocator, B: Allocator + Copy>(
 ) -> Result<(), ArchiveFault>
     requires { All IsResource resources.now }
     ensures grew { Grew board.old board.new }
-    ensures writes { Writes board.old.log board.new.log resources.now note.now (S.kept shelf.old) (S.kept shelf.new) (S.trace shelf.old) (S.trace shelf.new) }
-    ensures written { OnOk result (IsWritten board.old.log board.new.log resources.now note.now (S.kept shelf.old) (S.kept shelf.new)) }
+    ensures writes { Writes board.old.log board.new.log resources.now note.now
+        (S.kept shelf.old) (S.kept shelf.new) (S.trace shelf.old) (S.trace shelf.new) }
+    ensures written { OnOk result (IsWritten board.old.log board.new.log resources.now note.now
+        (S.kept shelf.old) (S.kept shelf.new)) }
     ensures unfailed { OnOk result (S.faults shelf.new ≡ S.faults shelf.old) }
     ensures failed { IfErr result (StagingFails (S.faults shelf.old) (S.faults shelf.new)) }
 {

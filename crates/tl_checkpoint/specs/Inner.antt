@@ -6,4 +6,4 @@ pub
 pub
     mod Keeping
 pub
-    mod Opening
+    mod Law

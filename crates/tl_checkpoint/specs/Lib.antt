@@ -2,8 +2,8 @@
 pub mod Checkpoint
 pub mod WriteCheckpoint
 pub mod ParseCheckpoint
+pub mod OpenFaults
 pub mod OpenCheckpoint
 pub mod Cosignature
 pub mod Quorum
-pub mod Law
 pub mod Inner

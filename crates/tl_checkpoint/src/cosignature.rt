@@ -56,8 +56,10 @@ pub fn cosignature_line_named<A: Allocator + Copy>(
     text: &str,
 ) -> Result<String<A>, SignFault>
     requires { IsKeyName name.now }
-    ensures line { IfOk result (λ line. Cosigns text.now time (named_key name.now (signing_key signer.now)) (string_bytes line)) }
-    ensures refused { IsErrOf result SignFault.Refused → MayFailToCosign text.now time (signing_key signer.now) }
+    ensures line { IfOk result (λ line.
+        Cosigns text.now time (named_key name.now (signing_key signer.now)) (string_bytes line)) }
+    ensures refused { IsErrOf result SignFault.Refused
+        → MayFailToCosign text.now time (signing_key signer.now) }
 {
     let message = cosign_message(alloc, time, text)?;
     let signature = match signature_of(global, signer, message.as_bytes()) {
@@ -100,7 +102,8 @@ fn is_of(line: &SigView<'_>, verifier: &dyn Verifier) -> bool
 
 // The time and the signature that the bytes of a cosignature hold.
 fn read_cosignature(bytes: &[u8]) -> Option<(u64, &[u8])>
-    ensures { MatchOption result (IsNoCosignature bytes.now) (λ r. (r.0 < 2 ^ 64) × (bytes.now ≡ cosignature r.0 r.1.now)) }
+    ensures { MatchOption result (IsNoCosignature bytes.now)
+        (λ r. (r.0 < 2 ^ 64) × (bytes.now ≡ cosignature r.0 r.1.now)) }
 {
     let [a, b, c, d, e, f, g, h, signature @ ..] = bytes else {
         return None;

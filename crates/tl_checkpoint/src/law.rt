@@ -1,13 +1,15 @@
 //! Laws of checkpoints: they hold of the definitions alone.
 
-ghost use Rattle.tl_checkpoint.specs.Law.{CheckpointIsNoteText, CheckpointIsOne};
+ghost use Rattle.std.specs.Prelude.{◌≡◌, IsUtf8};
+ghost use Rattle.tl_checkpoint.specs.Checkpoint.{Head, IsHead, checkpoint_text};
+ghost use Rattle.tl_note.specs.Note.{IsNoteText};
 
 /// No text is that of two checkpoints, so `parse` gives the one that `write` was given.
 pub fn text_is_one_checkpoint()
-    ensures { CheckpointIsOne }
+    ensures { (c d : Head) → IsHead c → IsHead d → checkpoint_text c ≡ checkpoint_text d → c ≡ d }
 {}
 
 /// The text of a checkpoint is the text of a note, so it can be signed (C2SP signed-note, "Format").
 pub fn checkpoint_can_be_signed()
-    ensures { CheckpointIsNoteText }
+    ensures { (c : Head) → IsHead c → IsUtf8 (checkpoint_text c) → IsNoteText (checkpoint_text c) }
 {}

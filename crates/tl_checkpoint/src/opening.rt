@@ -24,7 +24,7 @@ pub enum OpenCheckpointFault {
 }
 
 impl From<NoteFault> for OpenCheckpointFault {
-    ghost use Rattle.tl_checkpoint.specs.Inner.Opening.{after_note};
+    ghost use Rattle.tl_checkpoint.specs.OpenFaults.{after_note};
     ghost use Rattle.std.specs.Prelude.{◌≡◌};
 
     ghost from_gives = { λ fault result. result ≡ after_note fault };
@@ -38,7 +38,7 @@ impl From<NoteFault> for OpenCheckpointFault {
 }
 
 impl From<CheckpointFault> for OpenCheckpointFault {
-    ghost use Rattle.tl_checkpoint.specs.Inner.Opening.{after_text};
+    ghost use Rattle.tl_checkpoint.specs.OpenFaults.{after_text};
     ghost use Rattle.std.specs.Prelude.{◌≡◌};
 
     ghost from_gives = { λ fault result. result ≡ after_text fault };

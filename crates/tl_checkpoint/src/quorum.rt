@@ -74,7 +74,10 @@ fn cosigned_at<A: Allocator + Copy>(
     witnesses: &[Box<dyn Verifier>],
 ) -> Result<Option<Cosigned>, AllocError>
     requires { place < length lines.now }
-    ensures { IfOk result (λ found. (line : Signature) × (slice_get lines.now place ≡ Some line) × MatchOption found (IsOfNone text.now (map (λ witness. key witness) witnesses.now) line) (λ c. (c.line ≡ place) × IsOfSome text.now (map (λ witness. key witness) witnesses.now) line c.witness c.time)) }
+    ensures { IfOk result
+        (λ found. (line : Signature) × (slice_get lines.now place ≡ Some line) × MatchOption found
+        (IsOfNone text.now (map (λ witness. key witness) witnesses.now) line) (λ c. (c.line ≡ place)
+        × IsOfSome text.now (map (λ witness. key witness) witnesses.now) line c.witness c.time)) }
 {
     let line = &lines[place];
     for witness in 0..witnesses.len() {
@@ -122,7 +125,8 @@ pub fn cosignatures_by<A: Allocator + Copy>(
     witnesses: &[Box<dyn Verifier>],
 ) -> Result<Vec<Cosigned, A>, AllocError>
     requires { AreApart (map (λ witness. key witness) witnesses.now) }
-    ensures { IfOk result (λ found. AreFirst text.now (map (λ witness. key witness) witnesses.now) lines.now found.items) }
+    ensures { IfOk result (λ found.
+        AreFirst text.now (map (λ witness. key witness) witnesses.now) lines.now found.items) }
 {
     let mut found = Vec::new(alloc);
     for place in 0..lines.len() {

@@ -30,7 +30,8 @@ fn push_lines<A: Allocator, B: Allocator>(
     out: &mut String<A>,
     texts: &[String<B>],
 ) -> Result<(), AllocError>
-    ensures { OnOk result (string_bytes out.new ≡ string_bytes out.old ++ flat_map line (map string_bytes texts.now)) }
+    ensures { OnOk result (string_bytes out.new
+        ≡ string_bytes out.old ++ flat_map line (map string_bytes texts.now)) }
 {
     for text in texts {
         push_line(out, text)?;
@@ -43,7 +44,8 @@ fn lines_of<A: Allocator + Copy, B: Allocator>(
     alloc: A,
     checkpoint: &Checkpoint<B>,
 ) -> Result<String<A>, AllocError>
-    ensures text { IfOk result (λ text. string_bytes text ≡ checkpoint_text (head_of checkpoint.now)) }
+    ensures text { IfOk result
+        (λ text. string_bytes text ≡ checkpoint_text (head_of checkpoint.now)) }
     ensures root { IsHash (head_of checkpoint.now).root }
 {
     let root = STANDARD.encode(alloc, checkpoint.root.as_bytes())?;

@@ -59,18 +59,20 @@ IsFetched Is result = (outcome : Result (Unit {0}) FetchFault) × Is outcome × 
 -- a run of a job's command: i is its reader, o its writer, and e standard error, to which keygen, fetch and the servers
 -- alone write
 abbrev pub RunsJob : Job → Passage → Passage → Passage → Result (Unit {0}) CommandFault → Type 0
-RunsJob (Head origin threads) i o e result = IsRun (RunsHead (string_bytes origin) i o) result × IsUnwritten e
-RunsJob (Build origin secret get) i o e result =
-    IsRun (BuildsDemo (string_bytes origin) (string_bytes secret) (option_map string_bytes get) i o) result × IsUnwritten e
-RunsJob (BuildSigned origin key get) i o e result =
-    IsRun (BuildsSigned (string_bytes origin) (option_map string_bytes get) i o) result × IsUnwritten e
+RunsJob (Head options) i o e result = IsRun (RunsHead (string_bytes options.origin) i o) result × IsUnwritten e
+RunsJob (Build options) i o e result =
+    IsRun (BuildsDemo (string_bytes options.origin) (string_bytes options.secret) (option_map string_bytes options.get) i o) result
+    × IsUnwritten e
+RunsJob (BuildSigned options) i o e result =
+    IsRun (BuildsSigned (string_bytes options.origin) (option_map string_bytes options.get) i o) result × IsUnwritten e
 RunsJob (Append options) i o e result = IsRun (RefusesOrigin (string_bytes options.origin) i) result × IsUnwritten e
 RunsJob (Inclusion index) i o e result = IsRun (Runs (InclusionComes index) i o) result × IsUnwritten e
 RunsJob (Consistency old) i o e result = IsRun (Runs (ConsistencyComes old) i o) result × IsUnwritten e
 RunsJob Check i o e result = IsRun (Runs CheckComes i o) result × IsUnwritten e
 RunsJob (CheckUnder options) i o e result =
     IsRun (ChecksFile (string_bytes options.key) (option_map string_bytes options.entry) i o) result × IsUnwritten e
-RunsJob (Keygen name is_cosigner) i o e result = IsRun (GivesKey (string_bytes name) (key_kind is_cosigner) o e) result × IsUnread i
+RunsJob (Keygen options) i o e result =
+    IsRun (GivesKey (string_bytes options.name) (key_kind options.is_cosigner) o e) result × IsUnread i
 RunsJob (Open key) i o e result = IsRun (RunsOpen (string_bytes key) i o) result × IsUnwritten e
 RunsJob Audit i o e result = IsRun (Runs (AuditComes sha256) i o) result × IsUnwritten e
 RunsJob (Serve options) i o e result = IsUnwritten o

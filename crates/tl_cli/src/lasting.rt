@@ -47,7 +47,8 @@ pub(crate) fn append<H: Host + Files<File = File>, R: Read, W: Write>(
     reader: &mut Counted<R>,
     writer: &mut Counted<W>,
 ) -> Result<(), RunFault>
-    ensures { RefusesOrigin (string_bytes options.now.origin) (passage R.remaining reader.old reader.new) result }
+    ensures { RefusesOrigin
+        (string_bytes options.now.origin) (passage R.remaining reader.old reader.new) result }
 {
     if !is_key_name(options.origin.as_str()) {
         return Err(RunFault::BadOrigin);
@@ -75,7 +76,8 @@ pub(crate) fn serve<
     reader: &mut Counted<R>,
     errors: &mut Counted<E>,
 ) -> Result<(), RunFault>
-    ensures { RefusesOrigin (string_bytes options.now.origin) (passage R.remaining reader.old reader.new) result }
+    ensures { RefusesOrigin
+        (string_bytes options.now.origin) (passage R.remaining reader.old reader.new) result }
 {
     let Some(dir) = &options.dir else {
         return run_serve(rt, alloc, options, reader, errors);
@@ -110,7 +112,8 @@ pub(crate) fn witness<
     writer: &mut Counted<W>,
     errors: &mut Counted<E>,
 ) -> Result<(), RunFault>
-    ensures { RefusesOrigin (string_bytes options.now.origin) (passage R.remaining reader.old reader.new) result }
+    ensures { RefusesOrigin
+        (string_bytes options.now.origin) (passage R.remaining reader.old reader.new) result }
 {
     let Some(path) = &options.state else {
         return run_witness(rt, alloc, options, reader, writer, errors);

@@ -19,8 +19,9 @@ use std::net::{Net, TcpListener, TcpStream};
 use std::random::RandomSource;
 use std::thread::{Threads, available_parallelism};
 use tl_command::{
-    CheckOptions, HmacLogSigner, RunFault, read_file, run_audit, run_build, run_build_signed,
-    run_check, run_check_opened, run_consistency, run_head, run_inclusion, run_keygen, run_open,
+    BuildOptions, CheckOptions, HeadOptions, HmacLogSigner, KeygenOptions, RunFault, SignedOptions,
+    read_file, run_audit, run_build, run_build_signed, run_check, run_check_opened,
+    run_consistency, run_head, run_inclusion, run_keygen, run_open,
 };
 use tl_device::{Counted, write_whole};
 use tl_fetch::run_fetch;
@@ -39,18 +40,18 @@ fn threads_of<H: Threads>(rt: &H, asked: Option<u16>) -> usize {
     }
 }
 
-// Hashes the input's lines with so many threads.
+// Hashes the input's lines.
 fn head<H: Threads + Sync, R: Read, W: Write>(
     rt: &H,
     alloc: Global,
-    origin: &str,
-    threads: Option<u16>,
+    options: &HeadOptions,
     reader: &mut Counted<R>,
     writer: &mut Counted<W>,
 ) -> Result<(), RunFault>
-    ensures { RunsHead origin.now (passage R.remaining reader.old reader.new) (passage W.contents writer.old writer.new) result }
+    ensures { RunsHead (string_bytes options.now.origin) (passage R.remaining reader.old reader.new)
+        (passage W.contents writer.old writer.new) result }
 {
-    let threads = threads_of(rt, threads);
+    let (threads, origin) = (threads_of(rt, options.threads), options.origin.as_str());
     run_head(rt, alloc, alloc, threads, origin, reader, writer)
 }
 
@@ -58,31 +59,33 @@ fn head<H: Threads + Sync, R: Read, W: Write>(
 fn key<H: RandomSource, W: Write, E: Write>(
     rt: &H,
     alloc: Global,
-    name: &str,
-    is_cosigner: bool,
+    options: &KeygenOptions,
     writer: &mut Counted<W>,
     errors: &mut Counted<E>,
 ) -> Result<(), RunFault>
-    ensures { GivesKey name.now (key_kind is_cosigner) (passage W.contents writer.old writer.new) (passage E.contents errors.old errors.new) result }
+    ensures { GivesKey (string_bytes options.now.name) (key_kind options.now.is_cosigner) (passage
+        W.contents writer.old writer.new) (passage E.contents errors.old errors.new) result }
 {
-    if is_cosigner {
+    let name = options.name.as_str();
+    if options.is_cosigner {
         return run_keygen::<Cosignature, H, W, E>(rt, alloc, name, writer, errors);
     }
     run_keygen::<Note, H, W, E>(rt, alloc, name, writer, errors)
 }
 
-// Builds a mirror that is signed by the demonstration key of this secret.
+// Builds a mirror that is signed by the demonstration key of a secret.
 fn build<R: Read, W: Write>(
     alloc: Global,
-    origin: &str,
-    secret: &str,
-    get: Option<&str>,
+    options: &BuildOptions,
     reader: &mut Counted<R>,
     writer: &mut Counted<W>,
 ) -> Result<(), RunFault>
-    ensures { BuildsDemo origin.now secret.now (option_map (λ path. path.now) get.entry) (passage R.remaining reader.old reader.new) (passage W.contents writer.old writer.new) result }
+    ensures { BuildsDemo (string_bytes options.now.origin) (string_bytes options.now.secret)
+        (option_map string_bytes options.now.get) (passage R.remaining reader.old reader.new)
+        (passage W.contents writer.old writer.new) result }
 {
-    let key = HmacLogSigner::new(origin, secret.as_bytes());
+    let key = HmacLogSigner::new(options.origin.as_str(), options.secret.as_bytes());
+    let get = options.get.as_deref();
     run_build(alloc, alloc, &key, get, reader, writer)
 }
 
@@ -90,18 +93,19 @@ fn build<R: Read, W: Write>(
 fn build_signed<H: Files, R: Read, W: Write>(
     rt: &H,
     alloc: Global,
-    origin: &str,
-    key: &str,
-    get: Option<&str>,
+    options: &SignedOptions,
     reader: &mut Counted<R>,
     writer: &mut Counted<W>,
 ) -> Result<(), RunFault>
-    ensures { BuildsSigned origin.now (option_map (λ path. path.now) get.entry) (passage R.remaining reader.old reader.new) (passage W.contents writer.old writer.new) result }
+    ensures { BuildsSigned (string_bytes options.now.origin)
+        (option_map string_bytes options.now.get) (passage R.remaining reader.old reader.new)
+        (passage W.contents writer.old writer.new) result }
 {
-    let bytes = match read_file(rt, alloc, key) {
+    let bytes = match read_file(rt, alloc, options.key.as_str()) {
         Ok(bytes) => bytes,
         Err(fault) => return Err(fault),
     };
+    let (origin, get) = (options.origin.as_str(), options.get.as_deref());
     run_build_signed(alloc, alloc, origin, bytes.as_slice(), get, reader, writer)
 }
 
@@ -109,39 +113,28 @@ fn build_signed<H: Files, R: Read, W: Write>(
 fn check_under<H: Files, R: Read, W: Write>(
     rt: &H,
     alloc: Global,
-    checkpoint: &str,
-    key: &str,
-    entry: Option<&str>,
+    options: &CheckOptions,
     reader: &mut Counted<R>,
     writer: &mut Counted<W>,
 ) -> Result<(), RunFault>
-    ensures { ChecksFile key.now (option_map (λ e. e.now) entry.entry) (passage R.remaining reader.old reader.new) (passage W.contents writer.old writer.new) result }
+    ensures { ChecksFile (string_bytes options.now.key)
+        (option_map string_bytes options.now.entry) (passage R.remaining reader.old reader.new)
+        (passage W.contents writer.old writer.new) result }
 {
-    let bytes = match read_file(rt, alloc, checkpoint) {
+    let bytes = match read_file(rt, alloc, options.checkpoint.as_str()) {
         Ok(bytes) => bytes,
         Err(fault) => return Err(fault),
     };
+    let entry = options.entry.as_deref();
     let entry = entry.map(|entry| entry.as_bytes());
-    run_check_opened(alloc, key, bytes.as_slice(), entry, reader, writer)
-}
-
-// The same with its options as they were given.
-fn check_as_asked<H: Files, R: Read, W: Write>(
-    rt: &H,
-    alloc: Global,
-    options: CheckOptions,
-    reader: &mut Counted<R>,
-    writer: &mut Counted<W>,
-) -> Result<(), RunFault>
-    ensures { ChecksFile (string_bytes options.key) (option_map string_bytes options.entry) (passage R.remaining reader.old reader.new) (passage W.contents writer.old writer.new) result }
-{
-    let CheckOptions {
-        checkpoint,
-        key,
+    run_check_opened(
+        alloc,
+        options.key.as_str(),
+        bytes.as_slice(),
         entry,
-    } = options;
-    let entry = entry.as_deref();
-    check_under(rt, alloc, &checkpoint, &key, entry, reader, writer)
+        reader,
+        writer,
+    )
 }
 
 /// Runs the command of a job with its options: each job its own command, which reads the reader and writes the writer.
@@ -164,28 +157,19 @@ pub fn run_job<
     writer: &mut Counted<W>,
     errors: &mut Counted<E>,
 ) -> Result<(), CommandFault>
-    ensures { RunsJob job (passage R.remaining reader.old reader.new) (passage W.contents writer.old writer.new) (passage E.contents errors.old errors.new) result }
+    ensures { RunsJob job (passage R.remaining reader.old reader.new) (passage
+        W.contents writer.old writer.new) (passage E.contents errors.old errors.new) result }
 {
     match job {
-        Job::Head { origin, threads } => {
-            after_run(head(rt, alloc, &origin, threads, reader, writer))
-        }
-        Job::Build {
-            origin,
-            secret,
-            get,
-        } => after_run(build(alloc, &origin, &secret, get.as_deref(), reader, writer)),
-        Job::BuildSigned { origin, key, get } => {
-            after_run(build_signed(rt, alloc, &origin, &key, get.as_deref(), reader, writer))
-        }
+        Job::Head(options) => after_run(head(rt, alloc, &options, reader, writer)),
+        Job::Build(options) => after_run(build(alloc, &options, reader, writer)),
+        Job::BuildSigned(options) => after_run(build_signed(rt, alloc, &options, reader, writer)),
         Job::Append(options) => after_run(append(rt, alloc, &options, reader, writer)),
         Job::Inclusion { index } => after_run(run_inclusion(alloc, index, reader, writer)),
         Job::Consistency { old } => after_run(run_consistency(alloc, old, reader, writer)),
         Job::Check => after_run(run_check(alloc, reader, writer)),
-        Job::CheckUnder(options) => after_run(check_as_asked(rt, alloc, options, reader, writer)),
-        Job::Keygen { name, is_cosigner } => {
-            after_run(key(rt, alloc, &name, is_cosigner, writer, errors))
-        }
+        Job::CheckUnder(options) => after_run(check_under(rt, alloc, &options, reader, writer)),
+        Job::Keygen(options) => after_run(key(rt, alloc, &options, writer, errors)),
         Job::Open { key } => after_run(run_open(alloc, &key, reader, writer)),
         Job::Audit => after_run(run_audit(alloc, Sha256Tree, reader, writer)),
         Job::Serve(options) => after_run(serve(rt, alloc, &options, reader, errors)),
@@ -217,7 +201,8 @@ pub fn run_words<
     writer: &mut Counted<W>,
     errors: &mut Counted<E>,
 ) -> u8
-    ensures { EndsWords (passage R.remaining reader.old reader.new) (passage W.contents writer.old writer.new) (passage E.contents errors.old errors.new) result }
+    ensures { EndsWords (passage R.remaining reader.old reader.new) (passage
+        W.contents writer.old writer.new) (passage E.contents errors.old errors.new) result }
 {
     match read_words(alloc, words) {
         Ok(job) => {

@@ -5,6 +5,7 @@ use clap::error::ErrorKind;
 use clap::{ArgMatches, Command, Error as ClapError};
 use std::alloc::{AllocError, Global};
 use thiserror::Error;
+use tl_command::{HeadOptions, KeygenOptions};
 
 // The words of a command, one a row: its name, what help calls its value, what stands behind it, and its help.
 macro_rules! words {
@@ -136,10 +137,10 @@ fn with_commands<'a>(alloc: Global) -> Result<Command<'a>, AllocError> {
 // The job of a command with these options.
 fn job_of(alloc: Global, command: &str, options: &ArgMatches<'_>) -> Result<Job, WordsFault> {
     match command {
-        "head" => Ok(Job::Head {
+        "head" => Ok(Job::Head(HeadOptions {
             origin: given::text_of(alloc, options, "origin")?,
             threads: options.get_one::<u16>("threads"),
-        }),
+        })),
         "build" => building::build_job(alloc, options),
         "append" => building::append_job(alloc, options),
         "inclusion" => Ok(Job::Inclusion {
@@ -149,10 +150,10 @@ fn job_of(alloc: Global, command: &str, options: &ArgMatches<'_>) -> Result<Job,
             old: given::number_of(alloc, options, "old")?,
         }),
         "check" => proving::checking_job(alloc, options),
-        "keygen" => Ok(Job::Keygen {
+        "keygen" => Ok(Job::Keygen(KeygenOptions {
             name: given::text_of(alloc, options, "name")?,
             is_cosigner: options.get_flag("cosigner"),
-        }),
+        })),
         "open" => Ok(Job::Open {
             key: given::text_of(alloc, options, "key")?,
         }),

@@ -7,7 +7,7 @@ use Rattle.tl_proof.specs.Proofs.{consistency_proof}
 use Rattle.tl_proof.proofs.Consistency.{consistency_is_accepted}
 use Rattle.tl_client.specs.Refused.{IsBetween, IsFork}
 use Rattle.tl_client.specs.Inner.Growing.{IsMadeProof}
-use Rattle.tl_client.specs.declared.head.Head.{Head}
+use Rattle.tl_hash.specs.declared.head.Head.{Head}
 
 accepted_of : (H : Digest) (all : List (List ℕ)) (old size : ℕ) (root old_root : List ℕ) (proof : List (List ℕ)) → old ≤ size → length all ≡ size
     → tree_hash H all ≡ root → tree_hash H (take old all) ≡ old_root → proof ≡ consistency_proof H old all

@@ -18,7 +18,7 @@ use Rattle.tl_client.specs.Bundles.{HasBundle, IsInBundle}
 use Rattle.tl_client.specs.Blame.{AnswersNoBundle, LacksTile, ServesBadTile, WantsTile, leaf_reading}
 use Rattle.tl_client.specs.declared.fault.ClientFault.{ClientFault}
 use Rattle.tl_client.specs.declared.fault.ClientFault.TheVariants as client
-use Rattle.tl_client.specs.declared.head.Head.{Head}
+use Rattle.tl_hash.specs.declared.head.Head.{Head}
 
 -- a read of the entries of a bundle: what they are checked against, and the tiles that were fetched
 pub record BundleRead : Type 0 where

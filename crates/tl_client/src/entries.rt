@@ -48,7 +48,8 @@ fn fetch_bundle<S: ResourceSource, A: Allocator + Copy>(
     requires some { 0 < width }
     requires most { width ≤ 256 }
     ensures entries { IfOk result (λ entries. AreEntries width (map vec_items entries.items)) }
-    ensures refused { IfErr result (RefusesBundle (S.may_answer source.now) (S.may_lack source.now) bundle width) }
+    ensures refused { IfErr result
+        (RefusesBundle (S.may_answer source.now) (S.may_lack source.now) bundle width) }
 {
     let resource = Resource::Entries {
         index: bundle,
@@ -74,7 +75,8 @@ pub fn read_entries<S: ResourceSource, A: Allocator + Copy>(
     bundle: u64,
     fetched: &mut FetchedTiles<A>,
 ) -> Result<Vec<Vec<u8, A>, A>, ClientFault>
-    ensures entries { IfOk result (λ entries. AreCheckedEntries sha256 (tiles_of fetched.new) size root bundle (map vec_items entries.items)) }
+    ensures entries { IfOk result (λ entries. AreCheckedEntries sha256
+        (tiles_of fetched.new) size root bundle (map vec_items entries.items)) }
     ensures verified { OnOk result (AreVerified sha256 size root fetched.new) }
     ensures within { OnOk result (HasBundle size bundle) }
     ensures served { AreServed (S.may_answer source.now) size fetched.new }

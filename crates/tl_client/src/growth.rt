@@ -7,12 +7,11 @@ ghost use Rattle.tl_client.specs.Refused.{IsBetween, RefusesGrowth};
 ghost use Rattle.tl_client.specs.Inner.Growing.{IsMadeProof, RefusesProof};
 
 use crate::fault::ClientFault;
-use crate::head::Head;
-use crate::kept::Kept;
+use crate::kept::FetchedSource;
 use crate::leaves::read_leaves;
 use crate::source::ResourceSource;
 use std::alloc::Allocator;
-use tl_hash::{Hash, Sha256Tree};
+use tl_hash::{Hash, Head, Sha256Tree};
 use tl_proof::{check_tree, prove_tree};
 use tl_tile::{FetchedTiles, TileHashReader};
 
@@ -28,15 +27,17 @@ fn proof_between<S: ResourceSource, A: Allocator + Copy>(
     requires order { old ≤ size }
     requires limit { size ≤ 2 ^ 62 }
     ensures empty { IfOk result (λ proof. (old ≡ 0) ⊎ (old ≡ size) → proof.items ≡ []) }
-    ensures made { IfOk result (λ proof. IsBetween old size → IsMadeProof sha256 old size root proof.items) }
-    ensures refused { IfErr result (RefusesProof (S.may_answer source.now) (S.may_lack source.now) old size root) }
+    ensures made { IfOk result
+        (λ proof. IsBetween old size → IsMadeProof sha256 old size root proof.items) }
+    ensures refused { IfErr result
+        (RefusesProof (S.may_answer source.now) (S.may_lack source.now) old size root) }
 {
     if old == 0 || old == size {
         return Ok(Vec::new(alloc));
     }
     let mut fetched = FetchedTiles::new(alloc);
     let _leaf = read_leaves(alloc, source, size, root, old - 1, 1, &mut fetched)?;
-    let reader = TileHashReader::new(alloc, Sha256Tree, size, root, Kept(&fetched));
+    let reader = TileHashReader::new(alloc, Sha256Tree, size, root, FetchedSource(&fetched));
     let proof = prove_tree(alloc, Sha256Tree, size, old, &reader)?;
     Ok(proof)
 }
@@ -52,8 +53,10 @@ pub fn prove_growth<S: ResourceSource, A: Allocator + Copy>(
     old: Head,
     new: Head,
 ) -> Result<Vec<Hash, A>, ClientFault>
-    ensures accepted { IfOk result (λ proof. AcceptsConsistency sha256 proof.items new.size new.root old.size old.root) }
-    ensures refused { IfErr result (RefusesGrowth (S.may_answer source.now) (S.may_lack source.now) old new) }
+    ensures accepted { IfOk result
+        (λ proof. AcceptsConsistency sha256 proof.items new.size new.root old.size old.root) }
+    ensures refused { IfErr result
+        (RefusesGrowth (S.may_answer source.now) (S.may_lack source.now) old new) }
 {
     let Head {
         size: old_size,

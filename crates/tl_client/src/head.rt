@@ -7,15 +7,7 @@ ghost use Rattle.tl_client.specs.declared.head.HeadFault.TheVariants.{OutOfMemor
 use std::alloc::{AllocError, AllocFailed, Allocator};
 use thiserror::Error;
 use tl_checkpoint::{Checkpoint, CheckpointFault, cosignatures_by, have_distinct_names, parse};
-use tl_hash::Hash;
 use tl_note::{NoteFault, Verifier, open_note};
-
-/// A size of a log, and the root of the tree over so many entries.
-#[derive(Clone, Copy, Debug, PartialEq, Eq)]
-pub struct Head {
-    pub size: u64,
-    pub root: Hash,
-}
 
 /// Why a checkpoint isn't trusted, in the order in which it is found.
 #[derive(Clone, Copy, Debug, PartialEq, Eq, Error)]
@@ -85,7 +77,8 @@ pub fn open_cosigned<A: Allocator + Copy>(
     witnesses: &[Box<dyn Verifier>],
     need: u64,
 ) -> Result<Checkpoint<A>, HeadFault>
-    ensures { OpensHead note.now (record { keys = map (λ v. key v) verifiers.now; witnesses = map (λ w. key w) witnesses.now; need = need }) result }
+    ensures { OpensHead note.now (record { keys = map (λ v. key v) verifiers.now; witnesses = map
+        (λ w. key w) witnesses.now; need = need; }) result }
 {
     if !have_distinct_names(witnesses) {
         return Err(HeadFault::Twice);

@@ -7,7 +7,7 @@ ghost use Rattle.tl_proof.specs.ProveFaults.{IsIndex};
 ghost use Rattle.tl_client.specs.Refused.{RefusesEntry};
 
 use crate::fault::ClientFault;
-use crate::kept::Kept;
+use crate::kept::FetchedSource;
 use crate::leaves::read_leaves;
 use crate::source::ResourceSource;
 use std::alloc::Allocator;
@@ -34,7 +34,8 @@ pub fn prove_entry<S: ResourceSource, A: Allocator + Copy>(
     index: u64,
     leaf: Hash,
 ) -> Result<Vec<Hash, A>, ClientFault>
-    ensures accepted { IfOk result (λ proof. AcceptsInclusion sha256 proof.items size root index leaf) }
+    ensures accepted { IfOk result
+        (λ proof. AcceptsInclusion sha256 proof.items size root index leaf) }
     ensures refused { IfErr result (RefusesEntry (S.may_answer source.now) (S.may_lack source.now)
         (record { size = size; root = root; index = index; leaf = leaf })) }
 {
@@ -43,7 +44,7 @@ pub fn prove_entry<S: ResourceSource, A: Allocator + Copy>(
     }
     let mut fetched = FetchedTiles::new(alloc);
     let _leaf = read_leaves(alloc, source, size, root, index, 1, &mut fetched)?;
-    let reader = TileHashReader::new(alloc, Sha256Tree, size, root, Kept(&fetched));
+    let reader = TileHashReader::new(alloc, Sha256Tree, size, root, FetchedSource(&fetched));
     let proof = prove_record(alloc, Sha256Tree, size, index, &reader)?;
     if !check_record(Sha256Tree, &proof, size, root, index, leaf) {
         return Err(ClientFault::BadEntry(index));

@@ -9,9 +9,9 @@ use tl_tile::{FetchedTiles, SourceFault, Tile, TileSource};
 /// A source that has the tiles that were fetched, and no others: another is `Unavailable`. That a proof asks for none
 /// but the tiles over its leaf, no clause of a prover says: tests alone show it.
 #[derive(Clone, Copy, Drop)]
-pub(crate) struct Kept<'f, F: Allocator>(pub(crate) &'f FetchedTiles<F>);
+pub(crate) struct FetchedSource<'f, F: Allocator>(pub(crate) &'f FetchedTiles<F>);
 
-impl<F: Allocator> TileSource for Kept<'_, F> {
+impl<F: Allocator> TileSource for FetchedSource<'_, F> {
     ghost may_answer = { λ s t text. tiles_of s.0.now t ≡ Some text };
 
     ghost may_lack = { λ s t. tiles_of s.0.now t ≡ None };

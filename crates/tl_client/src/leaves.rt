@@ -42,7 +42,8 @@ pub(crate) fn read_leaves<S: ResourceSource, A: Allocator + Copy>(
     requires inside { first + count ≤ size }
     requires limit { size ≤ 2 ^ 62 }
     requires none { fetched.old ≡ [] }
-    ensures authentic { IfOk result (λ leaves. AreAuthentic sha256 (leaf_reading size root first count fetched.new) leaves.items) }
+    ensures authentic { IfOk result (λ leaves.
+        AreAuthentic sha256 (leaf_reading size root first count fetched.new) leaves.items) }
     ensures verified { OnOk result (AreVerified sha256 size root fetched.new) }
     ensures count { IfOk result (λ leaves. length leaves.items ≡ count) }
     ensures served { AreServed (S.may_answer source.now) size fetched.new }

@@ -25,6 +25,7 @@ mod source;
 pub use entries::read_entries;
 pub use fault::ClientFault;
 pub use growth::prove_growth;
-pub use head::{Head, HeadFault, open_cosigned};
+pub use head::{HeadFault, open_cosigned};
 pub use inclusion::prove_entry;
 pub use source::{ResourceSource, Tiles};
+pub use tl_hash::Head;

@@ -24,7 +24,8 @@ pub trait ResourceSource {
     fn get<A: Allocator>(&self, alloc: A, resource: &Resource) -> Result<Vec<u8, A>, SourceFault>
         requires { IsResource resource.now }
         ensures text { IfOk result (λ text. may_answer self.now resource.now text.items) }
-        ensures lacks { IfErr result (λ fault. fault ≡ Unavailable → may_lack self.now resource.now) };
+        ensures lacks { IfErr result
+            (λ fault. fault ≡ Unavailable → may_lack self.now resource.now) };
 }
 
 /// The tiles of a source of resources.

@@ -24,11 +24,12 @@ fn counted<'a, B: Allocator>(
     word: &[u8],
 ) -> Option<(&'a [Vec<u8, B>], &'a [Vec<u8, B>])>
     ensures count { IfSome result (λ r. IsSize (length r.0.now)) }
-    ensures found { IfSome result (λ r. map vec_items lines.now ≡ counted_lines word.now (map vec_items r.0.now) ++ map vec_items r.1.now) }
+    ensures found { IfSome result (λ r. map vec_items lines.now
+        ≡ counted_lines word.now (map vec_items r.0.now) ++ map vec_items r.1.now) }
     ensures some { IfSome result (λ r. length r.1.now < length lines.now) }
     ensures only { (entries others : List Bytes) → IsSize (length entries)
-        → map vec_items lines.now ≡ counted_lines word.now entries ++ others
-        → MatchOption result ⊥ (λ r. (map vec_items r.0.now ≡ entries) × (map vec_items r.1.now ≡ others)) }
+        → map vec_items lines.now ≡ counted_lines word.now entries ++ others → MatchOption result ⊥
+        (λ r. (map vec_items r.0.now ≡ entries) × (map vec_items r.1.now ≡ others)) }
 {
     let [first, rest @ ..] = lines else {
         return None;
@@ -48,8 +49,8 @@ pub(crate) fn read_audit<'a, A: Allocator + Copy, B: Allocator>(
     lines: &'a [Vec<u8, B>],
 ) -> Result<Option<AuditParts<'a, A, B>>, AllocError>
     ensures audit { IfOk result (λ found. MatchOption found
-        ((a : Audit) → IsAudit a → map vec_items lines.now ≢ audit_lines a)
-        (λ parts. IsAuditRead (audit_shown parts) × (map vec_items lines.now ≡ audit_lines (audit_shown parts)))) }
+        ((a : Audit) → IsAudit a → map vec_items lines.now ≢ audit_lines a) (λ parts. IsAuditRead
+        (audit_shown parts) × (map vec_items lines.now ≡ audit_lines (audit_shown parts)))) }
     ensures memory { OnErr result (0 < length lines.now) }
 {
     let Some((old, rest)) = counted(lines, b"old ") else {

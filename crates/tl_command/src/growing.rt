@@ -45,7 +45,8 @@ impl<A: Allocator + Copy> Growing<A> {
     fn extend(&mut self, part: &[u8]) -> Result<(), AllocError>
         requires { HasNoNewline part.now }
         ensures size { OnOk result (self.new.edge.size ≡ self.old.edge.size) }
-        ensures grows { (input : Bytes) → IsGrowing self.old input → OnOk result (IsGrowing self.new (input ++ part.now)) }
+        ensures grows { (input : Bytes)
+            → IsGrowing self.old input → OnOk result (IsGrowing self.new (input ++ part.now)) }
     {
         let room = MOST_KEPT.saturating_sub(self.line.len());
         self.line.extend_from_slice(&part[..room.min(part.len())])?;
@@ -58,8 +59,8 @@ impl<A: Allocator + Copy> Growing<A> {
         requires none { self.old.too_long ≡ None }
         ensures size { OnOk result (self.new.edge.size ≤ self.old.edge.size + 1) }
         ensures line { OnOk result (self.new.line ≡ self.old.line) }
-        ensures told { (lines : List Bytes) (last : Bytes) → IsTold self.old lines → vec_items self.old.line ≡ take 65536 last
-            → OnOk result (IsTold self.new (lines ++ last ∷ [])) }
+        ensures told { (lines : List Bytes) (last : Bytes) → IsTold self.old lines → vec_items
+            self.old.line ≡ take 65536 last → OnOk result (IsTold self.new (lines ++ last ∷ [])) }
     {
         if self.line.len() == MOST_KEPT {
             self.too_long = Some(self.edge.size());
@@ -74,7 +75,8 @@ impl<A: Allocator + Copy> Growing<A> {
         requires { self.old.edge.size < 2 ^ 32 - 1 }
         ensures size { OnOk result (self.new.edge.size ≤ self.old.edge.size + 1) }
         ensures ended { OnOk result (vec_items self.new.line ≡ []) }
-        ensures grows { (input : Bytes) → IsGrowing self.old input → OnOk result (IsGrowing self.new (input ++ 10 ∷ [])) }
+        ensures grows { (input : Bytes)
+            → IsGrowing self.old input → OnOk result (IsGrowing self.new (input ++ 10 ∷ [])) }
     {
         if self.too_long.is_some() {
             self.line.clear();
@@ -91,7 +93,8 @@ impl<A: Allocator + Copy> Growing<A> {
         requires { self.old.edge.size + length piece.now < 2 ^ 32 }
         ensures within { IfOk result (λ taken. taken ≤ length piece.now) }
         ensures size { IfOk result (λ taken. self.new.edge.size ≤ self.old.edge.size + taken) }
-        ensures grows { (input : Bytes) → IsGrowing self.old input → IfOk result (λ taken. IsGrowing self.new (input ++ take taken piece.now)) }
+        ensures grows { (input : Bytes) → IsGrowing self.old input
+            → IfOk result (λ taken. IsGrowing self.new (input ++ take taken piece.now)) }
     {
         if !self.line.is_empty() || self.too_long.is_some() {
             return Ok(0);
@@ -111,7 +114,8 @@ impl<A: Allocator + Copy> Growing<A> {
         ensures some { 0 < length piece.now → IfOk result (λ taken. 0 < taken) }
         ensures within { IfOk result (λ taken. taken ≤ length piece.now) }
         ensures size { IfOk result (λ taken. self.new.edge.size ≤ self.old.edge.size + taken) }
-        ensures grows { (input : Bytes) → IsGrowing self.old input → IfOk result (λ taken. IsGrowing self.new (input ++ take taken piece.now)) }
+        ensures grows { (input : Bytes) → IsGrowing self.old input
+            → IfOk result (λ taken. IsGrowing self.new (input ++ take taken piece.now)) }
     {
         let taken = self.take_four(piece)?;
         if taken > 0 {
@@ -130,7 +134,8 @@ impl<A: Allocator + Copy> Growing<A> {
     fn take(&mut self, piece: &[u8]) -> Result<(), AllocError>
         requires { self.old.edge.size + length piece.now < 2 ^ 32 }
         ensures size { OnOk result (self.new.edge.size ≤ self.old.edge.size + length piece.now) }
-        ensures grows { (input : Bytes) → IsGrowing self.old input → OnOk result (IsGrowing self.new (input ++ piece.now)) }
+        ensures grows { (input : Bytes)
+            → IsGrowing self.old input → OnOk result (IsGrowing self.new (input ++ piece.now)) }
     {
         let mut at = 0;
         while at < piece.len() {

@@ -29,12 +29,12 @@ mod whole_lines;
 
 pub use commands::audit::run_audit;
 pub use commands::build::log_signer::{HmacLogSigner, LogSigner};
-pub use commands::build::run_build;
-pub use commands::build::signed::run_build_signed;
+pub use commands::build::signed::{SignedOptions, run_build_signed};
+pub use commands::build::{BuildOptions, run_build};
 pub use commands::check::{run_check, run_check_about};
 pub use commands::checking::{CheckOptions, run_check_opened};
-pub use commands::head::{checkpoint_of, run_head};
-pub use commands::keygen::run_keygen;
+pub use commands::head::{HeadOptions, checkpoint_of, run_head};
+pub use commands::keygen::{KeygenOptions, run_keygen};
 pub use commands::opening::{note_refusal, run_open};
 pub use commands::proving::{run_consistency, run_inclusion};
 pub use entries::read_entries;

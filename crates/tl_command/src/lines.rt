@@ -14,7 +14,8 @@ use tl_text::{parse_hash, parse_size};
 
 // Whether a text is lines, each ended by its newline.
 fn is_lines(text: &[u8]) -> bool
-    ensures { MatchBool result (text.now ≡ lines_text (entries_of text.now)) ((lines : List Bytes) → text.now ≢ lines_text lines) }
+    ensures { MatchBool result (text.now ≡ lines_text (entries_of text.now))
+        ((lines : List Bytes) → text.now ≢ lines_text lines) }
 {
     match text.last() {
         Some(byte) => *byte == b'\n',
@@ -27,9 +28,9 @@ pub(crate) fn lines_of<A: Allocator + Copy>(
     alloc: A,
     text: &[u8],
 ) -> Result<Option<Vec<Vec<u8, A>, A>>, AllocError>
-    ensures lines { IfOk result (λ found. MatchOption found
-        ((lines : List Bytes) → All HasNoNewline lines → text.now ≢ lines_text lines)
-        (λ lines. (map vec_items lines.items ≡ entries_of text.now) × (text.now ≡ lines_text (entries_of text.now)))) }
+    ensures lines { IfOk result (λ found. MatchOption found ((lines : List Bytes)
+        → All HasNoNewline lines → text.now ≢ lines_text lines) (λ lines. (map vec_items lines.items
+        ≡ entries_of text.now) × (text.now ≡ lines_text (entries_of text.now)))) }
     ensures memory { OnErr result (0 < length text.now) }
 {
     if !is_lines(text) {
@@ -40,7 +41,8 @@ pub(crate) fn lines_of<A: Allocator + Copy>(
 
 // What follows a word in a line.
 fn text_after<'a>(line: &'a [u8], word: &[u8]) -> Option<&'a str>
-    ensures { MatchOption result ((text : Bytes) → IsUtf8 text → line.now ≢ word.now ++ text) (λ text. line.now ≡ word.now ++ text.now) }
+    ensures { MatchOption result ((text : Bytes) → IsUtf8 text → line.now ≢ word.now ++ text)
+        (λ text. line.now ≡ word.now ++ text.now) }
 {
     let Some(rest) = line.strip_prefix(word) else {
         return None;
@@ -53,7 +55,8 @@ fn text_after<'a>(line: &'a [u8], word: &[u8]) -> Option<&'a str>
 
 /// The number below 2^63 that follows a word in a line.
 pub(crate) fn number_after(line: &[u8], word: &[u8]) -> Option<u64>
-    ensures { MatchOption result ((n : ℕ) → IsSize n → line.now ≢ word.now ++ number_text n) (λ n. (n < 2 ^ 63) × (line.now ≡ word.now ++ number_text n)) }
+    ensures { MatchOption result ((n : ℕ) → IsSize n → line.now ≢ word.now ++ number_text n)
+        (λ n. (n < 2 ^ 63) × (line.now ≡ word.now ++ number_text n)) }
 {
     let Some(text) = text_after(line, word) else {
         return None;
@@ -80,9 +83,10 @@ pub(crate) fn two_numbers(
     second: &[u8],
     other: &[u8],
 ) -> Option<(u64, u64)>
-    ensures { MatchOption result
-        ((m n : ℕ) → IsSize m → IsSize n → first.now ≡ word.now ++ number_text m → second.now ≢ other.now ++ number_text n)
-        (λ r. IsSize r.0 × (first.now ≡ word.now ++ number_text r.0) × IsSize r.1 × (second.now ≡ other.now ++ number_text r.1)) }
+    ensures { MatchOption result ((m n : ℕ) → IsSize m → IsSize n
+        → first.now ≡ word.now ++ number_text m → second.now ≢ other.now ++ number_text n)
+        (λ r. IsSize r.0 × (first.now ≡ word.now ++ number_text r.0)
+        × IsSize r.1 × (second.now ≡ other.now ++ number_text r.1)) }
 {
     let Some(m) = number_after(first, word) else {
         return None;
@@ -100,9 +104,10 @@ pub(crate) fn two_hashes(
     second: &[u8],
     other: &[u8],
 ) -> Option<(Hash, Hash)>
-    ensures { MatchOption result
-        ((g h : Bytes) → IsHash g → IsHash h → first.now ≡ word.now ++ base64_text g → second.now ≢ other.now ++ base64_text h)
-        (λ r. IsHash r.0 × (first.now ≡ word.now ++ base64_text r.0) × IsHash r.1 × (second.now ≡ other.now ++ base64_text r.1)) }
+    ensures { MatchOption result ((g h : Bytes) → IsHash g → IsHash h
+        → first.now ≡ word.now ++ base64_text g → second.now ≢ other.now ++ base64_text h)
+        (λ r. IsHash r.0 × (first.now ≡ word.now ++ base64_text r.0)
+        × IsHash r.1 × (second.now ≡ other.now ++ base64_text r.1)) }
 {
     let Some(g) = hash_after(first, word) else {
         return None;
@@ -118,9 +123,9 @@ pub(crate) fn hashes_of<A: Allocator + Copy, B: Allocator>(
     alloc: A,
     lines: &[Vec<u8, B>],
 ) -> Result<Option<Vec<Hash, A>>, AllocError>
-    ensures hashes { IfOk result (λ found. MatchOption found
-        ((hashes : List Bytes) → All IsHash hashes → map vec_items lines.now ≢ map base64_text hashes)
-        (λ hashes. All IsHash hashes.items × (map vec_items lines.now ≡ map base64_text hashes.items))) }
+    ensures hashes { IfOk result (λ found. MatchOption found ((hashes : List Bytes)
+        → All IsHash hashes → map vec_items lines.now ≢ map base64_text hashes) (λ hashes.
+        All IsHash hashes.items × (map vec_items lines.now ≡ map base64_text hashes.items))) }
     ensures memory { OnErr result (0 < length lines.now) }
 {
     let mut hashes = Vec::new(alloc);

@@ -52,8 +52,9 @@ struct ProofLines<'a, B: Allocator> {
 
 // These lines as those of a proof's text, where there are so many.
 fn proof_lines_of<'a, B: Allocator>(lines: &'a [Vec<u8, B>]) -> Option<ProofLines<'a, B>>
-    ensures parts { MatchOption result (length lines.now < 5) (λ p. map vec_items lines.now
-        ≡ p.kind.now ∷ p.first.now ∷ p.second.now ∷ p.third.now ∷ p.fourth.now ∷ map vec_items p.hashes.now) }
+    ensures parts { MatchOption result (length lines.now < 5)
+        (λ p. map vec_items lines.now ≡ p.kind.now
+        ∷ p.first.now ∷ p.second.now ∷ p.third.now ∷ p.fourth.now ∷ map vec_items p.hashes.now) }
     ensures some { IfSome result (λ p. 0 < length lines.now) }
 {
     let [kind, first, second, third, fourth, hashes @ ..] = lines else {
@@ -74,9 +75,9 @@ pub(crate) fn read_inclusion<A: Allocator + Copy, B: Allocator>(
     alloc: A,
     lines: &[Vec<u8, B>],
 ) -> Result<Option<InclusionProof<A>>, AllocError>
-    ensures proof { IfOk result (λ found. MatchOption found
-        ((p : Inclusion) → IsInclusion p → map vec_items lines.now ≢ inclusion_lines p)
-        (λ p. IsInclusion (inclusion_shown p) × (map vec_items lines.now ≡ inclusion_lines (inclusion_shown p)))) }
+    ensures proof { IfOk result (λ found. MatchOption found ((p : Inclusion) → IsInclusion p
+        → map vec_items lines.now ≢ inclusion_lines p) (λ p. IsInclusion (inclusion_shown p)
+        × (map vec_items lines.now ≡ inclusion_lines (inclusion_shown p)))) }
     ensures memory { OnErr result (0 < length lines.now) }
 {
     let Some(parts) = proof_lines_of(lines) else {
@@ -108,9 +109,9 @@ pub(crate) fn read_consistency<A: Allocator + Copy, B: Allocator>(
     alloc: A,
     lines: &[Vec<u8, B>],
 ) -> Result<Option<ConsistencyProof<A>>, AllocError>
-    ensures proof { IfOk result (λ found. MatchOption found
-        ((p : Consistency) → IsConsistency p → map vec_items lines.now ≢ consistency_lines p)
-        (λ p. IsConsistency (consistency_shown p) × (map vec_items lines.now ≡ consistency_lines (consistency_shown p)))) }
+    ensures proof { IfOk result (λ found. MatchOption found ((p : Consistency) → IsConsistency p
+        → map vec_items lines.now ≢ consistency_lines p) (λ p. IsConsistency (consistency_shown p)
+        × (map vec_items lines.now ≡ consistency_lines (consistency_shown p)))) }
     ensures memory { OnErr result (0 < length lines.now) }
 {
     let Some(parts) = proof_lines_of(lines) else {
@@ -180,7 +181,8 @@ fn push_hashes<A: Allocator + Copy>(
     out: &mut Vec<u8, A>,
     hashes: &[Hash],
 ) -> Result<(), AllocError>
-    ensures { OnOk result (out.new.items ≡ out.old.items ++ lines_text (map base64_text hashes.now)) }
+    ensures { OnOk result
+        (out.new.items ≡ out.old.items ++ lines_text (map base64_text hashes.now)) }
 {
     for hash in hashes {
         push_hash(alloc, out, "", *hash)?;

@@ -29,8 +29,8 @@ fn cut_line(piece: &[u8]) -> Option<(&[u8], &[u8])>
 
 /// The first four lines of a piece, where four whole lines stand there and none of them is too long.
 pub(crate) fn cut_four(piece: &[u8]) -> Option<FourLines<'_>>
-    ensures { IfSome result (λ four.
-        BeginsWith piece.entry.now (four.first.now ∷ four.second.now ∷ four.third.now ∷ four.fourth.now ∷ []) four.rest.now) }
+    ensures { IfSome result (λ four. BeginsWith piece.entry.now
+        (four.first.now ∷ four.second.now ∷ four.third.now ∷ four.fourth.now ∷ []) four.rest.now) }
 {
     let (first, rest) = cut_line(piece)?;
     let (second, rest) = cut_line(rest)?;

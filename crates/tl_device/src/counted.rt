@@ -75,8 +75,10 @@ impl<R: Read> Counted<R> {
     /// the device is a failure.
     pub fn read_some(&mut self, buf: &mut [u8]) -> Option<usize>
         ensures bound { IfSome result (λ n. n ≤ length buf.new) }
-        ensures consumed { IfSome result (λ n. Consumes (R.remaining self.old.device) (R.remaining self.new.device) (take n buf.new)) }
-        ensures ended { IfSome result (λ n. n ≡ 0 → 0 < length buf.new → IsAtEnd (R.remaining self.new.device)) }
+        ensures consumed { IfSome result (λ n.
+            Consumes (R.remaining self.old.device) (R.remaining self.new.device) (take n buf.new)) }
+        ensures ended { IfSome result
+            (λ n. n ≡ 0 → 0 < length buf.new → IsAtEnd (R.remaining self.new.device)) }
         ensures steady { OnSome result (self.new.failed ≡ self.old.failed) }
         ensures failed { IfNone result (self.new.failed ≡ true) }
     {
@@ -126,10 +128,12 @@ impl<W: Write> Counted<W> {
     pub fn write_some(&mut self, bytes: &[u8]) -> Option<usize>
         requires { 0 < length bytes.now }
         ensures bound { IfSome result (λ n. (0 < n) × (n ≤ length bytes.now)) }
-        ensures appended { IfSome result (λ n. Appends (W.contents self.old.device) (W.contents self.new.device) (take n bytes.now)) }
+        ensures appended { IfSome result (λ n.
+            Appends (W.contents self.old.device) (W.contents self.new.device) (take n bytes.now)) }
         ensures steady { OnSome result (self.new.failed ≡ self.old.failed) }
         ensures failed { IfNone result (self.new.failed ≡ true) }
-        ensures kept { IfNone result (Keeps (W.contents self.old.device) (W.contents self.new.device)) }
+        ensures kept { IfNone result
+            (Keeps (W.contents self.old.device) (W.contents self.new.device)) }
     {
         match self.device.write(bytes) {
             Ok(n) if n > 0 => Some(n),

@@ -18,8 +18,10 @@ fn put<W: Write>(
     kept: &mut ArrayVec<u8, ROOM>,
     bytes: &[u8],
 ) -> Result<(), WriteFault>
-    ensures some { OnOk result (PutSome (passage W.contents writer.old writer.new) kept.old.items kept.new.items bytes.now) }
-    ensures part { OnErr result (WrotePart (passage W.contents writer.old writer.new) (kept.old.items ++ bytes.now)) }
+    ensures some { OnOk result (PutSome
+        (passage W.contents writer.old writer.new) kept.old.items kept.new.items bytes.now) }
+    ensures part { OnErr result
+        (WrotePart (passage W.contents writer.old writer.new) (kept.old.items ++ bytes.now)) }
 {
     if kept.try_extend_from_slice(bytes).is_ok() {
         return Ok(());
@@ -35,8 +37,10 @@ fn put<W: Write>(
 /// Writes the pieces, one after another, in one write where they fit into 16,384 bytes of stack. It takes no memory. It
 /// fails where a write did, or took no byte; then some of the pieces' first bytes were written.
 pub fn write_pieces<W: Write>(writer: &mut Counted<W>, pieces: &[&[u8]]) -> Result<(), WriteFault>
-    ensures whole { OnOk result (WroteWhole (passage W.contents writer.old writer.new) (pieces_text (λ p. p.now) pieces.now)) }
-    ensures part { OnErr result (WrotePart (passage W.contents writer.old writer.new) (pieces_text (λ p. p.now) pieces.now)) }
+    ensures whole { OnOk result (WroteWhole
+        (passage W.contents writer.old writer.new) (pieces_text (λ p. p.now) pieces.now)) }
+    ensures part { OnErr result (WrotePart
+        (passage W.contents writer.old writer.new) (pieces_text (λ p. p.now) pieces.now)) }
 {
     let mut kept = ArrayVec::new();
     for piece in pieces {

@@ -2,8 +2,8 @@
 use Rattle.std.proofs.Common.{◌≡◌, ℕ, ◌+◌, ◌*◌, ◌/◌, ◌%◌, ◌^◌, ◌<◌, List, Bool, true, false, Option, Some, None, nat_lt, ◌==◌, if◌then◌else◌, refl, ap, arith, ◌∙◌, sym, lit<}
 use Rattle.std.proofs.lemmas.Bool.{ltb-true}
 use Rattle.std.proofs.lemmas.Nat.{mod_below}
-use Rattle.tl_ed25519.specs.Field.{prime, add, sub, mul, power, inverse, curve_d, root_of_minus_one}
-use Rattle.tl_ed25519.specs.Curve.{Point, affine, little_endian, bytes_of, encode, root, with_sign, at_y, signed, x_squared, decode_from, decode}
+use Rattle.tl_ed25519.specs.Field.{prime, add, sub, mul, power, inverse, curve_d, root, root_of_minus_one}
+use Rattle.tl_ed25519.specs.Curve.{Point, affine, little_endian, bytes_of, encode, with_sign, at_y, signed, x_squared, decode_from, decode}
 use Rattle.tl_ed25519.proofs.Choices.{if_true, if_false, if_same, if_other}
 use Rattle.tl_ed25519.proofs.Points.{made}
 

@@ -34,7 +34,8 @@ impl Model for SecretKey {
 
     ghost view = { λ k. k.seed };
 
-    ghost invariant = { λ k. (k.number ≡ secret k.seed) × (k.prefix ≡ drop 32 (sha512 k.seed)) × (k.public ≡ public_key k.seed) };
+    ghost invariant = { λ k. (k.number ≡ secret k.seed)
+        × (k.prefix ≡ drop 32 (sha512 k.seed)) × (k.public ≡ public_key k.seed) };
 }
 
 // The secret number of a seed's digest.

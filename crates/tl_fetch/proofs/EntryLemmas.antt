@@ -8,7 +8,7 @@ use Rattle.tl_tile.specs.Verified.{AreVerified}
 use Rattle.tl_client.specs.Bundles.{HasBundle}
 use Rattle.tl_tile.specs.Needed.{bundle_width}
 use Rattle.tl_client.specs.Checked.{AreCheckedEntries}
-use Rattle.tl_client.specs.declared.head.Head.{Head}
+use Rattle.tl_hash.specs.declared.head.Head.{Head}
 use Rattle.tl_fetch.specs.Entries.{IsCheckedEntry}
 
 -- an entry of the log has a place in its bundle

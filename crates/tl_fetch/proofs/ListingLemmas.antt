@@ -12,7 +12,7 @@ use Rattle.tl_text.specs.Text.{line}
 use Rattle.tl_device.specs.Device.{Passage}
 use Rattle.tl_command.specs.Lines.{lines_text}
 use Rattle.tl_tile.specs.Needed.{bundle_width}
-use Rattle.tl_client.specs.declared.head.Head.{Head}
+use Rattle.tl_hash.specs.declared.head.Head.{Head}
 use Rattle.tl_fetch.specs.Entries.{IsCheckedBundle, IsCheckedEntry, AreEntriesBetween, AreLinesBetween}
 use Rattle.tl_fetch.specs.Printed.{PrintedSome, PrintedWhole}
 use Rattle.tl_fetch.proofs.Passages.{GoesOn, joined}

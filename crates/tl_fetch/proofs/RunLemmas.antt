@@ -8,7 +8,7 @@ use Rattle.tl_device.specs.Device.{Passage, IsUnwritten}
 use Rattle.tl_client.specs.Refused.{RefusesGrowth}
 use Rattle.tl_client.specs.declared.fault.ClientFault.{ClientFault}
 use Rattle.tl_client.specs.declared.fault.ClientFault.TheVariants as client
-use Rattle.tl_client.specs.declared.head.Head.{Head}
+use Rattle.tl_hash.specs.declared.head.Head.{Head}
 use Rattle.tl_fetch.specs.declared.fault.FetchFault.{FetchFault}
 use Rattle.tl_fetch.specs.declared.options.FetchRequest.{FetchRequest}
 use Rattle.tl_fetch.specs.declared.options.FetchRequest.TheVariants as wanted

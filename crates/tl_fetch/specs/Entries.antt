@@ -11,7 +11,7 @@ use Rattle.tl_client.specs.Bundles.{HasBundle}
 use Rattle.tl_client.specs.Refused.{RefusesEntries, RefusesEntry}
 use Rattle.tl_client.specs.declared.fault.ClientFault.{ClientFault}
 use Rattle.tl_client.specs.declared.fault.ClientFault.TheVariants.{Range}
-use Rattle.tl_client.specs.declared.head.Head.{Head}
+use Rattle.tl_hash.specs.declared.head.Head.{Head}
 use Rattle.tl_tile.specs.declared.resource.Resource.{Resource}
 
 -- entries of a bundle of a log of this size and root, checked with tiles that passed all checks

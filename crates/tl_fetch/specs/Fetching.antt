@@ -7,7 +7,7 @@ use Rattle.tl_fetch.specs.declared.fault.FetchFault.{FetchFault}
 use Rattle.tl_fetch.specs.declared.fault.FetchFault.TheVariants.{Shrunk, Forked}
 use Rattle.tl_fetch.specs.declared.options.FetchRequest.{FetchRequest}
 use Rattle.tl_client.specs.Refused.{IsFork}
-use Rattle.tl_client.specs.declared.head.Head.{Head}
+use Rattle.tl_hash.specs.declared.head.Head.{Head}
 use Rattle.tl_fetch.specs.Faults.{IsNoAccusation}
 use Rattle.tl_fetch.specs.Trusting.{Policy, IsKnown, IsNoteOf, IsGrown}
 use Rattle.tl_fetch.specs.Printed.{IsWanted, IsBegun, PrintedSome, PrintedWhole}

@@ -15,7 +15,7 @@ use Rattle.tl_fetch.specs.declared.options.FetchRequest.{FetchRequest}
 use Rattle.tl_fetch.specs.declared.options.FetchRequest.TheVariants as wanted
 use Rattle.tl_tile.specs.declared.resource.Resource.{Resource}
 use Rattle.tl_client.specs.declared.fault.ClientFault.{ClientFault}
-use Rattle.tl_client.specs.declared.head.Head.{Head}
+use Rattle.tl_hash.specs.declared.head.Head.{Head}
 use Rattle.tl_fetch.specs.Faults.{after_client}
 use Rattle.tl_fetch.specs.Entries.{IsCheckedEntry, AreLinesBetween, RefusesBundle}
 

@@ -7,7 +7,7 @@ use Rattle.tl_note.specs.Key.{Key}
 use Rattle.tl_proof.specs.Acceptance.{AcceptsConsistency}
 use Rattle.tl_checkpoint.specs.Checkpoint as checkpoint
 use Rattle.tl_client.specs.Trusted.{Trust, IsTrusted}
-use Rattle.tl_client.specs.declared.head.Head.{Head}
+use Rattle.tl_hash.specs.declared.head.Head.{Head}
 
 -- whose checkpoints are trusted: the log's name and keys, and so many of these witnesses
 pub record Policy : Type 0 where

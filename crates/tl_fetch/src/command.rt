@@ -88,7 +88,9 @@ fn fetch_with_state<H: Files<File = File>, S: ResourceSource, O: Observer, W: Wr
     observer: &mut O,
     writer: &mut Counted<W>,
 ) -> Result<(), FetchFault>
-    ensures { RunsUnder (policy_of policy.now.origin.now (map (λ v. key v) policy.now.log.now) (map (λ w. key w) policy.now.witnesses.now) policy.now.need) options.now (passage W.contents writer.old writer.new) result }
+    ensures { RunsUnder (policy_of policy.now.origin.now (map (λ v. key v) policy.now.log.now)
+        (map (λ w. key w) policy.now.witnesses.now) policy.now.need) options.now
+        (passage W.contents writer.old writer.new) result }
 {
     let wanted = options.wanted;
     let Some(path) = &options.state else {
@@ -120,7 +122,9 @@ fn fetch_as_asked<'s, H: Files<File = File> + Net<Stream = TcpStream> + Clock, W
     errors: &'s mut Counted<E>,
     is_terminal: bool,
 ) -> Result<(), FetchFault>
-    ensures { RunsUnder (policy_of policy.now.origin.now (map (λ v. key v) policy.now.log.now) (map (λ w. key w) policy.now.witnesses.now) policy.now.need) options.now (passage W.contents writer.old writer.new) result }
+    ensures { RunsUnder (policy_of policy.now.origin.now (map (λ v. key v) policy.now.log.now)
+        (map (λ w. key w) policy.now.witnesses.now) policy.now.need) options.now
+        (passage W.contents writer.old writer.new) result }
 {
     let source = match source_of(rt, alloc, options) {
         Ok(source) => source,
@@ -151,7 +155,9 @@ fn fetch_as_told<'s, H: Files<File = File> + Net<Stream = TcpStream> + Clock, W:
     errors: &'s mut Counted<E>,
     is_terminal: bool,
 ) -> Result<(), FetchFault>
-    requires { (k : PublicKey) × IsVerifierText note_kind (string_bytes options.now.key) k × (policy.now.origin.now ≡ k.name) × (map (λ v. key v) policy.now.log.now ≡ verifier_key k ∷ []) × (policy.now.need ≡ options.now.need) }
+    requires { (k : PublicKey) × IsVerifierText note_kind (string_bytes options.now.key) k
+        × (policy.now.origin.now ≡ k.name) × (map (λ v. key v) policy.now.log.now
+        ≡ verifier_key k ∷ []) × (policy.now.need ≡ options.now.need) }
     ensures { RunsFetch options.now (passage W.contents writer.old writer.new) result }
 {
     match fetch_as_asked(rt, alloc, policy, options, writer, errors, is_terminal) {

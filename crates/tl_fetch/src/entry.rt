@@ -18,7 +18,8 @@ pub fn fetch_entry<S: ResourceSource, A: Allocator + Copy>(
     index: u64,
 ) -> Result<Vec<u8, A>, ClientFault>
     ensures entry { IfOk result (λ entry. IsCheckedEntry sha256 head.now index entry.items) }
-    ensures refused { IfErr result (RefusesOne (S.may_answer source.now) (S.may_lack source.now) head.now index) }
+    ensures refused { IfErr result
+        (RefusesOne (S.may_answer source.now) (S.may_lack source.now) head.now index) }
 {
     let Head { size, root } = *head;
     if index >= size {

@@ -21,7 +21,8 @@ fn push_lines<A: Allocator, B: Allocator>(
     out: &mut Vec<u8, A>,
     entries: &[Vec<u8, B>],
 ) -> Result<(), AllocError>
-    ensures { OnOk result (out.new.items ≡ out.old.items ++ lines_text (map vec_items entries.now)) }
+    ensures { OnOk result
+        (out.new.items ≡ out.old.items ++ lines_text (map vec_items entries.now)) }
 {
     for entry in entries {
         out.extend_from_slice(entry.as_slice())?;
@@ -42,7 +43,8 @@ fn lines_from<S: ResourceSource, A: Allocator + Copy, O: Observer>(
     ensures lines { IfOk result (λ r. AreLinesBetween head.now from r.1 r.0.items) }
     ensures further { IfOk result (λ r. from < r.1) }
     ensures within { IfOk result (λ r. r.1 ≤ head.now.size) }
-    ensures refused { IfErr result (FailsPrinting (RefusesBundle (S.may_answer source.now) (S.may_lack source.now) head.now (from / 256))) }
+    ensures refused { IfErr result (FailsPrinting
+        (RefusesBundle (S.may_answer source.now) (S.may_lack source.now) head.now (from / 256))) }
 {
     let Head { size, root } = *head;
     let mut fetched = FetchedTiles::new(alloc);
@@ -68,11 +70,14 @@ fn print_bundle<S: ResourceSource, A: Allocator + Copy, O: Observer, W: Write>(
     writer: &mut Counted<W>,
 ) -> Result<u64, FetchFault>
     requires { from < head.now.size }
-    ensures printed { IfOk result (λ next. PrintedWhole (AreLinesBetween head.now from next) (passage W.contents writer.old writer.new)) }
+    ensures printed { IfOk result (λ next. PrintedWhole
+        (AreLinesBetween head.now from next) (passage W.contents writer.old writer.new)) }
     ensures further { IfOk result (λ next. from < next) }
     ensures within { IfOk result (λ next. next ≤ head.now.size) }
-    ensures part { OnErr result (PrintedSome (λ text. (upto : ℕ) × AreLinesBetween head.now from upto text) (passage W.contents writer.old writer.new)) }
-    ensures refused { IfErr result (FailsPrinting (RefusesBundle (S.may_answer source.now) (S.may_lack source.now) head.now (from / 256))) }
+    ensures part { OnErr result (PrintedSome (λ text. (upto : ℕ)
+        × AreLinesBetween head.now from upto text) (passage W.contents writer.old writer.new)) }
+    ensures refused { IfErr result (FailsPrinting
+        (RefusesBundle (S.may_answer source.now) (S.may_lack source.now) head.now (from / 256))) }
 {
     let (text, next) = lines_from(alloc, source, head, from, observer)?;
     print_text(writer, text.as_slice())?;
@@ -90,9 +95,12 @@ pub fn print_entries<S: ResourceSource, A: Allocator + Copy, O: Observer, W: Wri
     observer: &mut O,
     writer: &mut Counted<W>,
 ) -> Result<(), FetchFault>
-    ensures printed { OnOk result (PrintedWhole (AreLinesBetween head.now from head.now.size) (passage W.contents writer.old writer.new)) }
-    ensures part { OnErr result (PrintedSome (λ text. (upto : ℕ) × AreLinesBetween head.now from upto text) (passage W.contents writer.old writer.new)) }
-    ensures refused { IfErr result (RefusesAll (S.may_answer source.now) (S.may_lack source.now) head.now from) }
+    ensures printed { OnOk result (PrintedWhole
+        (AreLinesBetween head.now from head.now.size) (passage W.contents writer.old writer.new)) }
+    ensures part { OnErr result (PrintedSome (λ text. (upto : ℕ)
+        × AreLinesBetween head.now from upto text) (passage W.contents writer.old writer.new)) }
+    ensures refused { IfErr result
+        (RefusesAll (S.may_answer source.now) (S.may_lack source.now) head.now from) }
 {
     if from > head.size {
         return Err(FetchFault::Run(RunFault::BadIndex));

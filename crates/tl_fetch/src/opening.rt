@@ -33,9 +33,12 @@ pub(crate) fn read_note<S: ResourceSource>(alloc: Global, source: &S) -> Result<
 /// (C2SP tlog-checkpoint) that enough of the witnesses cosigned (C2SP tlog-cosignature), and names the log. `OtherLog`:
 /// it is trusted, and names another.
 pub fn open_trusted(alloc: Global, policy: &Policy<'_>, note: &str) -> Result<Head, FetchFault>
-    ensures trusted { IfOk result (λ head. IsNoteOf (policy_of policy.now.origin.now (map (λ v. key v) policy.now.log.now) (map (λ w. key w) policy.now.witnesses.now) policy.now.need) note.now head) }
+    ensures trusted { IfOk result
+        (λ head. IsNoteOf (policy_of policy.now.origin.now (map (λ v. key v) policy.now.log.now)
+        (map (λ w. key w) policy.now.witnesses.now) policy.now.need) note.now head) }
     ensures fair { IfErr result IsNoAccusation }
-    ensures refused { IfErr result (RefusesNote (policy_of policy.now.origin.now (map (λ v. key v) policy.now.log.now) (map (λ w. key w) policy.now.witnesses.now) policy.now.need) note.now) }
+    ensures refused { IfErr result (RefusesNote (policy_of policy.now.origin.now (map (λ v. key v)
+        policy.now.log.now) (map (λ w. key w) policy.now.witnesses.now) policy.now.need) note.now) }
 {
     let opened = open_cosigned(alloc, note, policy.log, policy.witnesses, policy.need);
     let checkpoint = match opened {
@@ -58,7 +61,9 @@ pub fn trusted_head(
     policy: &Policy<'_>,
     last: Option<&str>,
 ) -> Result<Head, FetchFault>
-    ensures known { IfOk result (λ head. IsKnown (policy_of policy.now.origin.now (map (λ v. key v) policy.now.log.now) (map (λ w. key w) policy.now.witnesses.now) policy.now.need) (option_map (λ s. s.now) last.entry) head) }
+    ensures known { IfOk result (λ head. IsKnown (policy_of policy.now.origin.now (map (λ v.
+        key v) policy.now.log.now) (map (λ w. key w) policy.now.witnesses.now) policy.now.need)
+        (option_map (λ s. s.now) last.entry) head) }
     ensures fair { IfErr result IsNoAccusation }
     ensures refused { IfErr result RefusesState }
 {

@@ -42,9 +42,12 @@ pub fn print_head<A: Allocator + Copy, W: Write>(
     head: &Head,
     writer: &mut Counted<W>,
 ) -> Result<(), FetchFault>
-    ensures printed { OnOk result (PrintedWhole (λ text. text ≡ head_text origin.now head.now) (passage W.contents writer.old writer.new)) }
-    ensures part { OnErr result (PrintedSome (λ text. text ≡ head_text origin.now head.now) (passage W.contents writer.old writer.new)) }
-    ensures refused { IfErr result (λ fault. (fault ≡ FetchFault.Run RunFault.Write) ⊎ (fault ≡ FetchFault.Run RunFault.OutOfMemory)) }
+    ensures printed { OnOk result (PrintedWhole
+        (λ text. text ≡ head_text origin.now head.now) (passage W.contents writer.old writer.new)) }
+    ensures part { OnErr result (PrintedSome
+        (λ text. text ≡ head_text origin.now head.now) (passage W.contents writer.old writer.new)) }
+    ensures refused { IfErr result (λ fault.
+        (fault ≡ FetchFault.Run RunFault.Write) ⊎ (fault ≡ FetchFault.Run RunFault.OutOfMemory)) }
 {
     let text = head_lines(alloc, origin, head)?;
     print_text(writer, text.as_bytes())?;
@@ -60,9 +63,12 @@ pub fn print_entry<S: ResourceSource, A: Allocator + Copy, W: Write>(
     index: u64,
     writer: &mut Counted<W>,
 ) -> Result<(), FetchFault>
-    ensures printed { OnOk result (PrintedWhole (IsEntryText head.now index) (passage W.contents writer.old writer.new)) }
-    ensures part { OnErr result (PrintedSome (IsEntryText head.now index) (passage W.contents writer.old writer.new)) }
-    ensures refused { IfErr result (FailsPrinting (RefusesOne (S.may_answer source.now) (S.may_lack source.now) head.now index)) }
+    ensures printed { OnOk result
+        (PrintedWhole (IsEntryText head.now index) (passage W.contents writer.old writer.new)) }
+    ensures part { OnErr result
+        (PrintedSome (IsEntryText head.now index) (passage W.contents writer.old writer.new)) }
+    ensures refused { IfErr result (FailsPrinting
+        (RefusesOne (S.may_answer source.now) (S.may_lack source.now) head.now index)) }
 {
     let mut text = match fetch_entry(alloc, source, head, index) {
         Ok(entry) => entry,
@@ -82,7 +88,8 @@ fn proof_of<S: ResourceSource, A: Allocator + Copy>(
     entry: &[u8],
 ) -> Result<InclusionProof<A>, FetchFault>
     ensures proof { IfOk result (λ p. IsProofOf head.now index entry.now (inclusion_shown p)) }
-    ensures refused { IfErr result (FailsPrinting (RefusesLeaf (S.may_answer source.now) (S.may_lack source.now) head.now index)) }
+    ensures refused { IfErr result (FailsPrinting
+        (RefusesLeaf (S.may_answer source.now) (S.may_lack source.now) head.now index)) }
 {
     let leaf = leaf_hash(Sha256Tree, entry);
     let Head { size, root } = *head;
@@ -106,7 +113,8 @@ fn proof_text<S: ResourceSource, A: Allocator + Copy>(
     index: u64,
 ) -> Result<Vec<u8, A>, FetchFault>
     ensures text { IfOk result (λ text. IsProofText head.now index text.items) }
-    ensures refused { IfErr result (FailsPrinting (RefusesProof (S.may_answer source.now) (S.may_lack source.now) head.now index)) }
+    ensures refused { IfErr result (FailsPrinting
+        (RefusesProof (S.may_answer source.now) (S.may_lack source.now) head.now index)) }
 {
     let entry = match fetch_entry(alloc, source, head, index) {
         Ok(entry) => entry,
@@ -126,9 +134,12 @@ pub fn print_proof<S: ResourceSource, A: Allocator + Copy, W: Write>(
     index: u64,
     writer: &mut Counted<W>,
 ) -> Result<(), FetchFault>
-    ensures printed { OnOk result (PrintedWhole (IsProofText head.now index) (passage W.contents writer.old writer.new)) }
-    ensures part { OnErr result (PrintedSome (IsProofText head.now index) (passage W.contents writer.old writer.new)) }
-    ensures refused { IfErr result (FailsPrinting (RefusesProof (S.may_answer source.now) (S.may_lack source.now) head.now index)) }
+    ensures printed { OnOk result
+        (PrintedWhole (IsProofText head.now index) (passage W.contents writer.old writer.new)) }
+    ensures part { OnErr result
+        (PrintedSome (IsProofText head.now index) (passage W.contents writer.old writer.new)) }
+    ensures refused { IfErr result (FailsPrinting
+        (RefusesProof (S.may_answer source.now) (S.may_lack source.now) head.now index)) }
 {
     let text = proof_text(alloc, source, head, index)?;
     print_text(writer, text.as_slice())?;

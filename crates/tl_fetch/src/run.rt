@@ -32,7 +32,8 @@ fn check_grown<S: ResourceSource>(
     new: &Head,
 ) -> Result<(), ClientFault>
     ensures grown { OnOk result (IsGrown old.now new.now) }
-    ensures refused { IfErr result (RefusesGrowth (S.may_answer source.now) (S.may_lack source.now) old.now new.now) }
+    ensures refused { IfErr result
+        (RefusesGrowth (S.may_answer source.now) (S.may_lack source.now) old.now new.now) }
 {
     let _proof = prove_growth(alloc, source, *old, *new)?;
     Ok(())
@@ -40,8 +41,10 @@ fn check_grown<S: ResourceSource>(
 
 // Prints two texts, one after the other.
 fn print_two<W: Write>(first: &str, second: &str, writer: &mut Counted<W>) -> Result<(), FetchFault>
-    ensures printed { OnOk result (PrintedWhole (λ text. text ≡ first.now ++ second.now) (passage W.contents writer.old writer.new)) }
-    ensures part { OnErr result (PrintedSome (λ text. text ≡ first.now ++ second.now) (passage W.contents writer.old writer.new)) }
+    ensures printed { OnOk result (PrintedWhole
+        (λ text. text ≡ first.now ++ second.now) (passage W.contents writer.old writer.new)) }
+    ensures part { OnErr result (PrintedSome
+        (λ text. text ≡ first.now ++ second.now) (passage W.contents writer.old writer.new)) }
     ensures fault { IfErr result (λ fault. fault ≡ FetchFault.Run RunFault.Write) }
 {
     print_text(writer, first.as_bytes())?;
@@ -57,8 +60,10 @@ fn print_evidence<W: Write>(
     note: &str,
     writer: &mut Counted<W>,
 ) -> Result<(), FetchFault>
-    ensures printed { OnOk result (PrintedWhole (λ text. text ≡ evidence_text (option_map (λ s. s.now) last.entry) note.now) (passage W.contents writer.old writer.new)) }
-    ensures part { OnErr result (PrintedSome (λ text. text ≡ evidence_text (option_map (λ s. s.now) last.entry) note.now) (passage W.contents writer.old writer.new)) }
+    ensures printed { OnOk result (PrintedWhole (λ text. text ≡ evidence_text
+        (option_map (λ s. s.now) last.entry) note.now) (passage W.contents writer.old writer.new)) }
+    ensures part { OnErr result (PrintedSome (λ text. text ≡ evidence_text
+        (option_map (λ s. s.now) last.entry) note.now) (passage W.contents writer.old writer.new)) }
     ensures fault { IfErr result (λ fault. fault ≡ FetchFault.Run RunFault.Write) }
 {
     match last {
@@ -69,7 +74,7 @@ fn print_evidence<W: Write>(
 
 // What is wanted of a log of which so many entries were known.
 #[derive(Clone, Copy)]
-struct Asked {
+struct Task {
     wanted: FetchRequest,
     known: u64,
 }
@@ -80,12 +85,14 @@ fn print_asked<S: ResourceSource, O: Observer, W: Write>(
     source: &S,
     policy: &Policy<'_>,
     head: &Head,
-    asked: Asked,
+    asked: Task,
     observer: &mut O,
     writer: &mut Counted<W>,
 ) -> Result<(), FetchFault>
-    ensures printed { OnOk result (PrintedWhole (IsWanted policy.now.origin.now asked.known head.now asked.wanted) (passage W.contents writer.old writer.new)) }
-    ensures part { OnErr result (PrintedSome (IsBegun policy.now.origin.now asked.known head.now asked.wanted) (passage W.contents writer.old writer.new)) }
+    ensures printed { OnOk result (PrintedWhole (IsWanted policy.now.origin.now
+        asked.known head.now asked.wanted) (passage W.contents writer.old writer.new)) }
+    ensures part { OnErr result (PrintedSome (IsBegun policy.now.origin.now
+        asked.known head.now asked.wanted) (passage W.contents writer.old writer.new)) }
     ensures fair { IfErr result IsNoAccusation }
 {
     match asked.wanted {
@@ -98,7 +105,7 @@ fn print_asked<S: ResourceSource, O: Observer, W: Write>(
 
 // From what was trusted last to what is trusted now: two notes, and what they say.
 #[derive(Drop)]
-struct Step<'t> {
+struct Update<'t> {
     last: Option<&'t str>,
     old: &'t Head,
     note: &'t str,
@@ -116,12 +123,14 @@ fn is_accusation(fault: &ClientFault) -> bool
 fn judge<S: ResourceSource, W: Write>(
     alloc: Global,
     source: &S,
-    step: &Step<'_>,
+    step: &Update<'_>,
     writer: &mut Counted<W>,
 ) -> Result<(), FetchFault>
     ensures grown { OnOk result (IsGrown step.now.old.now step.now.new.now) }
     ensures silent { OnOk result (IsUnwritten (passage W.contents writer.old writer.new)) }
-    ensures refused { IfErr result (λ fault. RefusesTwo (two_of (option_map (λ s. s.now) step.now.last) step.now.old.now step.now.note.now step.now.new.now) fault (passage W.contents writer.old writer.new)) }
+    ensures refused { IfErr result
+        (λ fault. RefusesTwo (two_of (option_map (λ s. s.now) step.now.last) step.now.old.now
+        step.now.note.now step.now.new.now) fault (passage W.contents writer.old writer.new)) }
 {
     let Err(fault) = check_grown(alloc, source, step.old, step.new) else {
         return Ok(());
@@ -140,17 +149,23 @@ fn print_and_keep<S: ResourceSource, K: TrustStore, O: Observer, W: Write>(
     alloc: Global,
     source: &S,
     policy: &Policy<'_>,
-    step: &Step<'_>,
+    step: &Update<'_>,
     wanted: FetchRequest,
     state: &mut K,
     observer: &mut O,
     writer: &mut Counted<W>,
 ) -> Result<(), FetchFault>
-    requires known { IsKnown (policy_of policy.now.origin.now (map (λ v. key v) policy.now.log.now) (map (λ w. key w) policy.now.witnesses.now) policy.now.need) (option_map (λ s. s.now) step.now.last) step.now.old.now }
-    requires trusted { IsNoteOf (policy_of policy.now.origin.now (map (λ v. key v) policy.now.log.now) (map (λ w. key w) policy.now.witnesses.now) policy.now.need) step.now.note.now step.now.new.now }
+    requires known { IsKnown (policy_of policy.now.origin.now (map (λ v. key v) policy.now.log.now)
+        (map (λ w. key w) policy.now.witnesses.now) policy.now.need)
+        (option_map (λ s. s.now) step.now.last) step.now.old.now }
+    requires trusted { IsNoteOf
+        (policy_of policy.now.origin.now (map (λ v. key v) policy.now.log.now) (map
+        (λ w. key w) policy.now.witnesses.now) policy.now.need) step.now.note.now step.now.new.now }
     requires grown { IsGrown step.now.old.now step.now.new.now }
-    ensures printed { OnOk result (PrintedWhole (IsWanted policy.now.origin.now step.now.old.now.size step.now.new.now wanted) (passage W.contents writer.old writer.new)) }
-    ensures part { OnErr result (PrintedSome (IsBegun policy.now.origin.now step.now.old.now.size step.now.new.now wanted) (passage W.contents writer.old writer.new)) }
+    ensures printed { OnOk result (PrintedWhole (IsWanted policy.now.origin.now
+        step.now.old.now.size step.now.new.now wanted) (passage W.contents writer.old writer.new)) }
+    ensures part { OnErr result (PrintedSome (IsBegun policy.now.origin.now
+        step.now.old.now.size step.now.new.now wanted) (passage W.contents writer.old writer.new)) }
     ensures fair { IfErr result IsNoAccusation }
 {
     let known = step.old.size;
@@ -164,7 +179,7 @@ fn print_and_keep<S: ResourceSource, K: TrustStore, O: Observer, W: Write>(
         source,
         policy,
         step.new,
-        Asked { wanted, known },
+        Task { wanted, known },
         observer,
         writer,
     )
@@ -183,15 +198,21 @@ pub fn fetch_under<S: ResourceSource, K: TrustStore, O: Observer, W: Write>(
     observer: &mut O,
     writer: &mut Counted<W>,
 ) -> Result<(), FetchFault>
-    ensures fetched { OnOk result (HasFetched (K.may_have state.old) (policy_of policy.now.origin.now (map (λ v. key v) policy.now.log.now) (map (λ w. key w) policy.now.witnesses.now) policy.now.need) wanted (passage W.contents writer.old writer.new)) }
-    ensures refused { IfErr result (λ fault. RefusesFetch (K.may_have state.old) (policy_of policy.now.origin.now (map (λ v. key v) policy.now.log.now) (map (λ w. key w) policy.now.witnesses.now) policy.now.need) wanted fault (passage W.contents writer.old writer.new)) }
+    ensures fetched { OnOk result (HasFetched (K.may_have state.old)
+        (policy_of policy.now.origin.now (map (λ v. key v) policy.now.log.now)
+        (map (λ w. key w) policy.now.witnesses.now) policy.now.need) wanted
+        (passage W.contents writer.old writer.new)) }
+    ensures refused { IfErr result (λ fault. RefusesFetch (K.may_have state.old)
+        (policy_of policy.now.origin.now (map (λ v. key v) policy.now.log.now)
+        (map (λ w. key w) policy.now.witnesses.now) policy.now.need) wanted fault
+        (passage W.contents writer.old writer.new)) }
 {
     let kept = state.last(alloc)?;
     let last = kept.as_deref();
     let old = trusted_head(alloc, policy, last)?;
     let note = read_note(alloc, source)?;
     let new = open_trusted(alloc, policy, note.as_str())?;
-    let step = Step {
+    let step = Update {
         last,
         old: &old,
         note: note.as_str(),

@@ -27,7 +27,9 @@ pub trait TrustStore {
         last: Option<&str>,
         note: &str,
     ) -> Result<(), FetchFault>
-        requires { IsNext (policy_of policy.now.origin.now (map (λ v. key v) policy.now.log.now) (map (λ w. key w) policy.now.witnesses.now) policy.now.need) (option_map (λ s. s.now) last) note.now }
+        requires { IsNext (policy_of policy.now.origin.now (map (λ v. key v) policy.now.log.now)
+            (map (λ w. key w) policy.now.witnesses.now) policy.now.need)
+            (option_map (λ s. s.now) last) note.now }
         ensures fault { IfErr result IsNoAccusation };
 }
 

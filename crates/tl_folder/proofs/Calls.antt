@@ -3,7 +3,7 @@ use Rattle.std.proofs.Common.{◌≡◌, ℕ, ◌+◌, true, false, inl, ◌⊎�
 use Rattle.std.specs.Prelude.{Bool, Contains, if◌then◌else◌}
 use Rattle.tl_tile.specs.declared.resource.Resource.{Resource}
 use Rattle.tl_archive.specs.Shelves.{Kept, Stages, Unstages, Settles}
-use Rattle.tl_folder.specs.declared.step.Step.TheVariants as step
+use Rattle.tl_folder.specs.declared.call_outcome.CallOutcome.TheVariants as call
 use Rattle.tl_folder.specs.Events.{Event}
 use Rattle.tl_folder.specs.Folders.{Reached, Calls, put, after_call, after_calls, after_each}
 use Rattle.tl_folder.proofs.Puts.{put_between, put_there}
@@ -30,27 +30,27 @@ part true kept r = put_between kept.staged kept.held r
 part false kept r = inl refl
 
 pub staged_after : (reached : Reached) (events : List Event) (r : Resource) (bytes : List ℕ) (kept : Kept)
-    → Stages (after_calls reached 0 events kept) (after_calls reached 0 (events ++ (step.Staged r, bytes) ∷ []) kept) r bytes
+    → Stages (after_calls reached 0 events kept) (after_calls reached 0 (events ++ (call.Staged r, bytes) ∷ []) kept) r bytes
 staged_after reached events r bytes kept =
     let a : Kept = after_calls reached 0 events kept in
-    subst (λ (b : Kept). Stages a b r bytes) (sym (calls_more reached 0 events (step.Staged r, bytes) kept)) (record { held = refl; staged = refl })
+    subst (λ (b : Kept). Stages a b r bytes) (sym (calls_more reached 0 events (call.Staged r, bytes) kept)) (record { held = refl; staged = refl })
 
 pub failed_after : (reached : Reached) (events : List Event) (bytes : List ℕ) (kept : Kept)
-    → after_calls reached 0 (events ++ (step.Failed, bytes) ∷ []) kept ≡ after_calls reached 0 events kept
-failed_after reached events bytes kept = calls_more reached 0 events (step.Failed, bytes) kept
+    → after_calls reached 0 (events ++ (call.Failed, bytes) ∷ []) kept ≡ after_calls reached 0 events kept
+failed_after reached events bytes kept = calls_more reached 0 events (call.Failed, bytes) kept
 
 pub settled_after : (reached : Reached) (events : List Event) (bytes : List ℕ) (kept : Kept)
-    → Settles (after_calls reached 0 events kept) (after_calls reached 0 (events ++ (step.Settled, bytes) ∷ []) kept)
+    → Settles (after_calls reached 0 events kept) (after_calls reached 0 (events ++ (call.Settled, bytes) ∷ []) kept)
 settled_after reached events bytes kept =
     let a : Kept = after_calls reached 0 events kept in
-    subst (λ (b : Kept). Settles a b) (sym (calls_more reached 0 events (step.Settled, bytes) kept))
+    subst (λ (b : Kept). Settles a b) (sym (calls_more reached 0 events (call.Settled, bytes) kept))
     (record { unstages = record { others = put_between a.staged a.held; staged = refl }; there = put_there a.staged a.held })
 
 pub cut_after : (reached : Reached) (events : List Event) (bytes : List ℕ) (kept : Kept)
-    → Unstages (after_calls reached 0 events kept) (after_calls reached 0 (events ++ (step.Cut, bytes) ∷ []) kept)
+    → Unstages (after_calls reached 0 events kept) (after_calls reached 0 (events ++ (call.Cut, bytes) ∷ []) kept)
 cut_after reached events bytes kept =
     let a : Kept = after_calls reached 0 events kept in
-    subst (λ (b : Kept). Unstages a b) (sym (calls_more reached 0 events (step.Cut, bytes) kept))
+    subst (λ (b : Kept). Unstages a b) (sym (calls_more reached 0 events (call.Cut, bytes) kept))
     (record { others = λ r. part (reached (0 + length events) r) a r; staged = refl })
 
 -- ---- the same of a folder: what it noted before, and with the call
@@ -58,27 +58,27 @@ cut_after reached events bytes kept =
 joined : (inside events now : List Event) (event : Event) → inside ≡ events → now ≡ inside ++ event ∷ [] → now ≡ events ++ event ∷ []
 joined inside events now event same is = is ∙ ap (λ (x : List Event). x ++ event ∷ []) same
 
-pub now_staged : (reached : Reached) (inside events now : List Event) (r : Resource) (bytes : List ℕ) (kept : Kept) → inside ≡ events → now ≡ inside ++ (step.Staged r, bytes) ∷ []
+pub now_staged : (reached : Reached) (inside events now : List Event) (r : Resource) (bytes : List ℕ) (kept : Kept) → inside ≡ events → now ≡ inside ++ (call.Staged r, bytes) ∷ []
     → Stages (after_calls reached 0 events kept) (after_calls reached 0 now kept) r bytes
 now_staged reached inside events now r bytes kept same is =
-    subst (λ (x : List Event). Stages (after_calls reached 0 events kept) (after_calls reached 0 x kept) r bytes) (sym (joined inside events now (step.Staged r, bytes) same is))
+    subst (λ (x : List Event). Stages (after_calls reached 0 events kept) (after_calls reached 0 x kept) r bytes) (sym (joined inside events now (call.Staged r, bytes) same is))
     (staged_after reached events r bytes kept)
 
-pub now_failed : (reached : Reached) (inside events now : List Event) (bytes : List ℕ) (kept : Kept) → inside ≡ events → now ≡ inside ++ (step.Failed, bytes) ∷ []
+pub now_failed : (reached : Reached) (inside events now : List Event) (bytes : List ℕ) (kept : Kept) → inside ≡ events → now ≡ inside ++ (call.Failed, bytes) ∷ []
     → after_calls reached 0 now kept ≡ after_calls reached 0 events kept
 now_failed reached inside events now bytes kept same is =
-    ap (λ (x : List Event). after_calls reached 0 x kept) (joined inside events now (step.Failed, bytes) same is) ∙ failed_after reached events bytes kept
+    ap (λ (x : List Event). after_calls reached 0 x kept) (joined inside events now (call.Failed, bytes) same is) ∙ failed_after reached events bytes kept
 
-pub now_settled : (reached : Reached) (inside events now : List Event) (bytes : List ℕ) (kept : Kept) → inside ≡ events → now ≡ inside ++ (step.Settled, bytes) ∷ []
+pub now_settled : (reached : Reached) (inside events now : List Event) (bytes : List ℕ) (kept : Kept) → inside ≡ events → now ≡ inside ++ (call.Settled, bytes) ∷ []
     → Settles (after_calls reached 0 events kept) (after_calls reached 0 now kept)
 now_settled reached inside events now bytes kept same is =
-    subst (λ (x : List Event). Settles (after_calls reached 0 events kept) (after_calls reached 0 x kept)) (sym (joined inside events now (step.Settled, bytes) same is))
+    subst (λ (x : List Event). Settles (after_calls reached 0 events kept) (after_calls reached 0 x kept)) (sym (joined inside events now (call.Settled, bytes) same is))
     (settled_after reached events bytes kept)
 
-pub now_cut : (reached : Reached) (inside events now : List Event) (bytes : List ℕ) (kept : Kept) → inside ≡ events → now ≡ inside ++ (step.Cut, bytes) ∷ []
+pub now_cut : (reached : Reached) (inside events now : List Event) (bytes : List ℕ) (kept : Kept) → inside ≡ events → now ≡ inside ++ (call.Cut, bytes) ∷ []
     → Unstages (after_calls reached 0 events kept) (after_calls reached 0 now kept)
 now_cut reached inside events now bytes kept same is =
-    subst (λ (x : List Event). Unstages (after_calls reached 0 events kept) (after_calls reached 0 x kept)) (sym (joined inside events now (step.Cut, bytes) same is))
+    subst (λ (x : List Event). Unstages (after_calls reached 0 events kept) (after_calls reached 0 x kept)) (sym (joined inside events now (call.Cut, bytes) same is))
     (cut_after reached events bytes kept)
 
 pub each_now : (reached : Reached) (inside events now : List Event) (event : Event) (kept : Kept) → inside ≡ events → now ≡ inside ++ event ∷ []

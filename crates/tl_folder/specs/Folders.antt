@@ -3,7 +3,7 @@ use Rattle.std.specs.Prelude.{ℕ, ◌+◌, Bool, true, false, List, [], ◌∷�
 use Rattle.tl_tile.specs.declared.resource.Resource.{Resource}
 use Rattle.tl_tile.specs.declared.resource.Resource.TheVariants as resource
 use Rattle.tl_archive.specs.Shelves.{Item, Held, Kept}
-use Rattle.tl_folder.specs.declared.step.Step.TheVariants as step
+use Rattle.tl_folder.specs.declared.call_outcome.CallOutcome.TheVariants as call
 use Rattle.tl_folder.specs.Events.{Event}
 
 -- whether two resources are the same
@@ -29,10 +29,10 @@ Reached = ℕ → Resource → Bool
 
 -- what the n-th call made of it
 abbrev pub after_call : Reached → ℕ → Event → Kept → Kept
-after_call reached n (step.Staged r, bytes) kept = record { held = kept.held; staged = kept.staged ++ (r, bytes) ∷ [] }
-after_call reached n (step.Settled, bytes) kept = record { held = put kept.staged kept.held; staged = [] }
-after_call reached n (step.Cut, bytes) kept = record { held = (λ r. if reached n r then put kept.staged kept.held r else kept.held r); staged = [] }
-after_call reached n (step.Failed, bytes) kept = kept
+after_call reached n (call.Staged r, bytes) kept = record { held = kept.held; staged = kept.staged ++ (r, bytes) ∷ [] }
+after_call reached n (call.Settled, bytes) kept = record { held = put kept.staged kept.held; staged = [] }
+after_call reached n (call.Cut, bytes) kept = record { held = (λ r. if reached n r then put kept.staged kept.held r else kept.held r); staged = [] }
+after_call reached n (call.Failed, bytes) kept = kept
 
 -- what the calls made of it, of which the first is the n-th
 abbrev pub after_calls : Reached → ℕ → List Event → Kept → Kept

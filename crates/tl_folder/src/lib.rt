@@ -3,6 +3,7 @@
 //! of them.
 #![tactic(auto)]
 
+mod call_outcome;
 mod disk;
 mod fault;
 mod files;
@@ -10,13 +11,12 @@ mod lines;
 mod lock;
 mod record;
 mod shelf;
-mod step;
 mod whole;
 
+pub use call_outcome::CallOutcome;
 pub use disk::{AnyOutcome, CrashOutcome};
 pub use fault::FileFault;
 pub use lines::{DurableAppend, LineFile, open_lines};
 pub use lock::{FolderLock, lock_folder};
 pub use shelf::FolderShelf;
-pub use step::Step;
 pub use whole::AtomicFile;

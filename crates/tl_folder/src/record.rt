@@ -3,14 +3,14 @@
 ghost use Rattle.std.specs.Prelude.{◌≡◌, [], ◌∷◌, ◌++◌, map};
 ghost use Rattle.tl_folder.specs.Events.{noted};
 
-use crate::step::Step;
+use crate::call_outcome::CallOutcome;
 use http_server::Log;
 use std::marker::Model;
 
 /// What came of each call so far. It takes no memory.
 #[derive(Drop)]
 pub(crate) struct Record {
-    log: Log<Step, Log<(), u8>>,
+    log: Log<CallOutcome, Log<(), u8>>,
 }
 
 impl Model for Record {
@@ -40,7 +40,7 @@ impl Record {
     }
 
     /// Notes what came of a call, and the bytes that it staged.
-    pub(crate) fn note(&mut self, step: Step, bytes: &[u8])
+    pub(crate) fn note(&mut self, step: CallOutcome, bytes: &[u8])
         ensures { self.new ≡ self.old ++ (step, bytes.now) ∷ [] }
     {
         let mut note = Log::new();

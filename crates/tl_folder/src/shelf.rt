@@ -2,11 +2,11 @@
 
 ghost use Rattle.std.specs.Prelude.{◌≡◌, [], IfOk};
 
+use crate::call_outcome::CallOutcome;
 use crate::disk::CrashOutcome;
 use crate::fault::FileFault;
 use crate::files::FolderFiles;
 use crate::record::Record;
-use crate::step::Step;
 use std::alloc::{Allocator, Global};
 use std::fs::Files;
 use std::marker::Model;
@@ -67,11 +67,11 @@ impl<D: CrashOutcome, H: Files + Drop> Shelf for FolderShelf<D, H> {
     fn stage(&mut self, resource: &Resource, bytes: &[u8]) -> Result<(), ShelfFault> {
         match self.files.stage(resource, bytes) {
             Ok(()) => {
-                self.calls.note(Step::Staged(*resource), bytes);
+                self.calls.note(CallOutcome::Staged(*resource), bytes);
                 Ok(())
             }
             Err(_) => {
-                self.calls.note(Step::Failed, &[]);
+                self.calls.note(CallOutcome::Failed, &[]);
                 self.failures = self.failures.saturating_add(1);
                 Err(ShelfFault)
             }
@@ -81,11 +81,11 @@ impl<D: CrashOutcome, H: Files + Drop> Shelf for FolderShelf<D, H> {
     fn settle(&mut self) -> Result<(), ShelfFault> {
         match self.files.settle() {
             Ok(()) => {
-                self.calls.note(Step::Settled, &[]);
+                self.calls.note(CallOutcome::Settled, &[]);
                 Ok(())
             }
             Err(_) => {
-                self.calls.note(Step::Cut, &[]);
+                self.calls.note(CallOutcome::Cut, &[]);
                 self.failures = self.failures.saturating_add(1);
                 Err(ShelfFault)
             }

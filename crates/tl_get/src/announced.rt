@@ -15,7 +15,8 @@ pub(crate) fn announced(
     spans: ResponseSpans,
 ) -> Result<Option<u64>, GetFault>
     requires { IsResponseWithin bytes.now headers.now spans }
-    ensures { Announces spans.version spans.code (map (header_bytes bytes.now) (take spans.headers headers.now)) result }
+    ensures { Announces spans.version spans.code
+        (map (header_bytes bytes.now) (take spans.headers headers.now)) result }
 {
     if spans.version != 1 {
         return Err(GetFault::Version);

@@ -21,7 +21,8 @@ fn read_response<A: Allocator + Copy, I: Read>(
     reader: &mut Counted<I>,
     limit: usize,
 ) -> Result<Vec<u8, A>, GetFault>
-    ensures { Receives (Responds limit) (passage I.remaining reader.old reader.new) (outcome result) }
+    ensures { Receives
+        (Responds limit) (passage I.remaining reader.old reader.new) (outcome result) }
 {
     let mut buf = [0u8; MOST_HEAD];
     let mut headers = [EMPTY_HEADER_SPAN; MOST_FIELDS];
@@ -51,8 +52,8 @@ pub fn get<A: Allocator + Copy, I: Read, O: Write>(
     target: &str,
     limit: usize,
 ) -> Result<Vec<u8, A>, GetFault>
-    ensures { Gets host.now target.now limit
-        (passage I.remaining reader.old reader.new) (passage O.contents writer.old writer.new) (outcome result) }
+    ensures { Gets host.now target.now limit (passage I.remaining reader.old reader.new)
+        (passage O.contents writer.old writer.new) (outcome result) }
 {
     let host = host.as_bytes();
     let target = target.as_bytes();

@@ -34,7 +34,8 @@ fn length_of(text: &[u8]) -> Option<u64>
 
 // What one value more of Content-Length announces, in front of what the others announce.
 fn with_value(text: &[u8], below: Result<Option<u64>, GetFault>) -> Result<Option<u64>, GetFault>
-    ensures { (values : List Bytes) → SaysLength values below → SaysLength (text.now ∷ values) result }
+    ensures { (values : List Bytes)
+        → SaysLength values below → SaysLength (text.now ∷ values) result }
 {
     let Some(n) = length_of(text) else {
         return Err(GetFault::BadLength);
@@ -58,7 +59,8 @@ fn with_value(text: &[u8], below: Result<Option<u64>, GetFault>) -> Result<Optio
 /// The length of the body that the fields announce, or none where no field does. `BadLength` where they aren't clear.
 pub(crate) fn length_in(buf: &[u8], headers: &[HeaderSpan]) -> Result<Option<u64>, GetFault>
     requires { All (IsHeaderWithin (length buf.now)) headers.now }
-    ensures { SaysLength (values_of (codes "Content-Length") (map (header_bytes buf.now) headers.now)) result }
+    ensures { SaysLength
+        (values_of (codes "Content-Length") (map (header_bytes buf.now) headers.now)) result }
 {
     let [first, rest @ ..] = headers else {
         return Ok(None);

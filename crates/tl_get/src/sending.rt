@@ -13,8 +13,10 @@ pub(crate) fn send_request<'a, W: Write>(
     host: &'a [u8],
     target: &'a [u8],
 ) -> Result<(), WriteFault>
-    ensures whole { OnOk result (WroteWhole (passage W.contents writer.old writer.new) (request_text host.now target.now)) }
-    ensures part { OnErr result (WrotePart (passage W.contents writer.old writer.new) (request_text host.now target.now)) }
+    ensures whole { OnOk result
+        (WroteWhole (passage W.contents writer.old writer.new) (request_text host.now target.now)) }
+    ensures part { OnErr result
+        (WrotePart (passage W.contents writer.old writer.new) (request_text host.now target.now)) }
 {
     let method: &'a [u8] = b"GET ";
     let version: &'a [u8] = b" HTTP/1.1\r\nHost: ";

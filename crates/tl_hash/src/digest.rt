@@ -37,8 +37,8 @@ pub trait TreeHash: Copy {
     /// The digests of four messages of 65 bytes: digest `j` is of the byte `tag`, then hash `2 * j` and then hash
     /// `2 * j + 1`, where the first hash is 0. A type can take them side by side, as in `digest_four`.
     fn digest_pairs(&self, tag: u8, hashes: &[Hash; 8]) -> [Hash; 4]
-        ensures pairs { (j : ℕ) → j < 4 → slice_index_or result j []
-            ≡ digest_of (tag ∷ (slice_index_or hashes.now (2 * j) [] ++ slice_index_or hashes.now (2 * j + 1) [])) }
+        ensures pairs { (j : ℕ) → j < 4 → slice_index_or result j [] ≡ digest_of (tag
+            ∷ (slice_index_or hashes.now (2 * j) [] ++ slice_index_or hashes.now (2 * j + 1) [])) }
     {
         [
             self.digest(&[tag], hashes[0].as_bytes(), hashes[1].as_bytes()),

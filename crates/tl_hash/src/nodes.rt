@@ -23,7 +23,8 @@ pub fn hash_level<T: TreeHash>(h: T, left: &[Hash; 4], right: &[Hash; 4]) -> [Ha
 pub fn hash_four_nodes<T: TreeHash>(h: T, level: &[Hash], from: usize) -> [Hash; 4]
     requires { from + 8 ≤ length level.now }
     ensures { (j : ℕ) → j < 4 → slice_index_or result j []
-        ≡ T.digest_of (node_input (slice_index_or level.now (from + 2 * j) []) (slice_index_or level.now (from + 2 * j + 1) [])) }
+        ≡ T.digest_of (node_input (slice_index_or level.now (from + 2 * j) [])
+        (slice_index_or level.now (from + 2 * j + 1) [])) }
 {
     let eight = [
         level[from],

@@ -7,7 +7,7 @@ use Rattle.tl_ed25519.specs.Eddsa.{is_valid_public_key, public_key}
 use Rattle.tl_key.specs.NoteKey.{PublicKey, SeedKey, key_id}
 use Rattle.tl_key.specs.KeyText.{hex8, key_text, Are32Bytes, IsVerifierText, IsSignerText}
 use Rattle.tl_key.specs.Inner.Parts.{Are33Bytes, HasParts}
-use Rattle.tl_key.specs.Law.{VerifierTextIsOne, SignerTextIsOne}
+use Rattle.tl_key.specs.Inner.Law.{VerifierTextIsOne, SignerTextIsOne}
 use Rattle.tl_key.proofs.PartsLemmas.{parts_once, length-hex8}
 
 -- ---- the type and 32 bytes

@@ -3,5 +3,4 @@ pub mod DemoKey
 pub mod NoteKey
 pub mod KeyText
 pub mod Reading
-pub mod Law
 pub mod Inner

@@ -14,7 +14,8 @@ use tl_note::{NoteFault, SignFault, Signer, Verifier, is_key_name};
 
 // The digest of a key's name, its kind and its secret's digest.
 fn key_digest(name: &str, secret_digest: Hash) -> Hash
-    ensures { result ≡ sha256 (name.now ++ (0x0A ∷ 0xFF ∷ codes "tlog-demo-hmac-sha256") ++ secret_digest) }
+    ensures { result
+        ≡ sha256 (name.now ++ (0x0A ∷ 0xFF ∷ codes "tlog-demo-hmac-sha256") ++ secret_digest) }
 {
     Sha256Tree.digest(
         name.as_bytes(),
@@ -56,8 +57,10 @@ pub fn demo_key<A: Allocator + Copy>(
     name: &str,
     secret: &[u8],
 ) -> Result<DemoKey<A>, NoteFault>
-    ensures key { IfOk result (λ k. (k ≡ record { name = name.now; secret = secret.now }) × IsKeyName name.now) }
-    ensures fault { IfErr result (λ fault. ((fault ≡ NoteFault.BadName 0) × ¬ (IsKeyName name.now)) ⊎ (fault ≡ NoteFault.OutOfMemory)) }
+    ensures key { IfOk result
+        (λ k. (k ≡ record { name = name.now; secret = secret.now }) × IsKeyName name.now) }
+    ensures fault { IfErr result (λ fault. ((fault ≡ NoteFault.BadName 0) × ¬ (IsKeyName name.now))
+        ⊎ (fault ≡ NoteFault.OutOfMemory)) }
 {
     if !is_key_name(name) {
         return Err(NoteFault::BadName(0));

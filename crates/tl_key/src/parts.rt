@@ -46,7 +46,8 @@ fn read_field(field: &[u8]) -> Option<[u8; 33]>
 
 // The digits and the bytes that follow a name and a plus sign.
 fn read_tail(rest: &[u8]) -> Option<Tail<'_>>
-    ensures { MatchOption result (IsNoTail rest.now) (λ tail. IsTail rest.now tail.digits.now tail.bytes) }
+    ensures { MatchOption result (IsNoTail rest.now)
+        (λ tail. IsTail rest.now tail.digits.now tail.bytes) }
 {
     if rest.len() <= DIGITS {
         return None;
@@ -65,7 +66,8 @@ fn read_tail(rest: &[u8]) -> Option<Tail<'_>>
 
 // The parts of a key's text. No memory is asked for.
 pub(crate) fn read_parts(text: &str) -> Option<Parts<'_>>
-    ensures { MatchOption result (HasNoParts text.now) (λ parts. HasParts text.now parts.name.now parts.digits.now parts.bytes) }
+    ensures { MatchOption result (HasNoParts text.now)
+        (λ parts. HasParts text.now parts.name.now parts.digits.now parts.bytes) }
 {
     let Some((name, rest)) = text.split_once('+') else {
         return None;
@@ -110,7 +112,8 @@ pub(crate) fn push_tail<A: Allocator + Copy>(
     kind: u8,
     rest: &[u8; 32],
 ) -> Result<(), AllocError>
-    ensures text { OnOk result (string_bytes text.new ≡ string_bytes text.old ++ 0x2B ∷ (hex8 id ++ 0x2B ∷ base64_text (kind ∷ rest.now))) }
+    ensures text { OnOk result (string_bytes text.new
+        ≡ string_bytes text.old ++ 0x2B ∷ (hex8 id ++ 0x2B ∷ base64_text (kind ∷ rest.now))) }
     ensures fit { Are33Bytes (kind ∷ rest.now) }
 {
     let bytes = with_kind(kind, rest);

@@ -112,7 +112,9 @@ struct Found<'t> {
 
 // Reads the text of a signer's key of this type. No memory is asked for.
 fn find(kind: u8, text: &str) -> Option<Found<'_>>
-    ensures { MatchOption result (IsNoSignerText kind text.now) (λ found. IsSignerText kind text.now (record { name = found.name.now; kind = kind; seed = found.secret }) × (found.id ≡ key_id found.name.now kind (public_key found.secret))) }
+    ensures { MatchOption result (IsNoSignerText kind text.now) (λ found. IsSignerText kind text.now
+        (record { name = found.name.now; kind = kind; seed = found.secret })
+        × (found.id ≡ key_id found.name.now kind (public_key found.secret))) }
 {
     let Some(public) = text.strip_prefix("PRIVATE+KEY+") else {
         return None;

@@ -123,7 +123,9 @@ struct Found<'t> {
 
 // Reads the text of a verifier's key of this type. No memory is asked for.
 fn find(kind: u8, text: &str) -> Option<Found<'_>>
-    ensures { MatchOption result (IsNoVerifierText kind text.now) (λ found. IsVerifierText kind text.now (record { name = found.name.now; kind = kind; key = found.key }) × (found.id ≡ key_id found.name.now kind found.key)) }
+    ensures { MatchOption result (IsNoVerifierText kind text.now) (λ found. IsVerifierText
+        kind text.now (record { name = found.name.now; kind = kind; key = found.key; })
+        × (found.id ≡ key_id found.name.now kind found.key)) }
 {
     let Some(parts) = read_parts(text) else {
         return None;
@@ -168,7 +170,8 @@ pub fn write_verifier_key<K: KeyKind, B: Allocator, A: Allocator + Copy>(
     key: &VerifierKey<K, B>,
 ) -> Result<String<A>, AllocError>
     ensures text { IfOk result (λ text. string_bytes text ≡ verifier_text key.now) }
-    ensures lawful { IfOk result (λ text. IsTrue (is_valid_public_key key.now.key) → IsVerifierText K.KIND (string_bytes text) key.now) }
+    ensures lawful { IfOk result (λ text. IsTrue (is_valid_public_key key.now.key)
+        → IsVerifierText K.KIND (string_bytes text) key.now) }
 {
     let mut text = String::from_str(alloc, key.name.as_str())?;
     push_tail(alloc, &mut text, key.id, K::KIND, &key.key)?;

@@ -20,7 +20,8 @@ fn word_from(block: &[u8; 64], at: usize) -> u32
 #[inline(always)]
 fn gather(blocks: &[[u8; 64]; 4], k: usize) -> u32x4
     requires { k < 16 }
-    ensures { (j : ℕ) → j < 4 → slice_index result j ≡ word_at (slice_index_or blocks.now j []) (4 * k) }
+    ensures { (j : ℕ)
+        → j < 4 → slice_index result j ≡ word_at (slice_index_or blocks.now j []) (4 * k) }
 {
     u32x4::from_array([
         word_from(&blocks[0], 4 * k),
@@ -33,7 +34,8 @@ fn gather(blocks: &[[u8; 64]; 4], k: usize) -> u32x4
 // Takes a block of each message in.
 #[inline(always)]
 fn take_in(state: &mut [u32x4; 8], blocks: &[[u8; 64]; 4])
-    ensures { (j : ℕ) → j < 4 → lane j state.new ≡ compress (lane j state.old) (slice_index_or blocks.now j []) }
+    ensures { (j : ℕ)
+        → j < 4 → lane j state.new ≡ compress (lane j state.old) (slice_index_or blocks.now j []) }
 {
     let mut words = [u32x4::splat(0); 16];
     'gathered: for k in 0..16 {
@@ -133,8 +135,8 @@ fn joined(left: &[u8; 32], right: &[u8; 32]) -> [u8; 64]
 /// hash `2 * j` and then hash `2 * j + 1`, where the first hash is 0.
 #[inline(never)]
 pub fn digest_pairs4(tag: u8, hashes: &[[u8; 32]; 8]) -> [[u8; 32]; 4]
-    ensures { (j : ℕ) → j < 4 → slice_index_or result j []
-        ≡ sha256 (tag ∷ (slice_index_or hashes.now (2 * j) [] ++ slice_index_or hashes.now (2 * j + 1) [])) }
+    ensures { (j : ℕ) → j < 4 → slice_index_or result j [] ≡ sha256
+        (tag ∷ (slice_index_or hashes.now (2 * j) [] ++ slice_index_or hashes.now (2 * j + 1) [])) }
 {
     let a = joined(&hashes[0], &hashes[1]);
     let b = joined(&hashes[2], &hashes[3]);

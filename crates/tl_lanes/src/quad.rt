@@ -65,7 +65,8 @@ fn rotr(x: u32x4, k: u32) -> u32x4
 // Ch, by three operations. The standard's form has four, one of them a complement.
 #[inline(always)]
 fn choose(x: u32x4, y: u32x4, z: u32x4) -> u32x4
-    ensures { (j : ℕ) → j < 4 → slice_index result j ≡ ch (slice_index x j) (slice_index y j) (slice_index z j) }
+    ensures { (j : ℕ)
+        → j < 4 → slice_index result j ≡ ch (slice_index x j) (slice_index y j) (slice_index z j) }
 {
     xor(z, and(x, xor(y, z)))
 }
@@ -74,7 +75,8 @@ fn choose(x: u32x4, y: u32x4, z: u32x4) -> u32x4
 // in the round before. So the compiler can reuse that round's `xor(x, y)` as this one's `xor(y, z)`, and three remain.
 #[inline(always)]
 fn majority(x: u32x4, y: u32x4, z: u32x4) -> u32x4
-    ensures { (j : ℕ) → j < 4 → slice_index result j ≡ maj (slice_index x j) (slice_index y j) (slice_index z j) }
+    ensures { (j : ℕ)
+        → j < 4 → slice_index result j ≡ maj (slice_index x j) (slice_index y j) (slice_index z j) }
 {
     xor(y, and(xor(x, y), xor(y, z)))
 }
@@ -137,8 +139,9 @@ fn after_round(vars: [u32x4; 8], k: u32, word: u32x4) -> [u32x4; 8]
 #[inline(always)]
 fn early_round(ring: &[u32x4; 16], vars: [u32x4; 8], t: usize) -> [u32x4; 8]
     requires { t < 16 }
-    ensures { (j : ℕ) → j < 4 → (b h : List ℕ) → IsWindow (column j ring.now) (schedule b 48) 16
-        → lane j vars ≡ rounds h (schedule b 48) t → lane j result ≡ rounds h (schedule b 48) (t + 1) }
+    ensures { (j : ℕ) → j < 4 → (b h : List ℕ)
+        → IsWindow (column j ring.now) (schedule b 48) 16 → lane j vars ≡ rounds h (schedule b 48) t
+        → lane j result ≡ rounds h (schedule b 48) (t + 1) }
 {
     after_round(vars, ROUND_CONSTANTS[t], ring[t])
 }
@@ -146,8 +149,9 @@ fn early_round(ring: &[u32x4; 16], vars: [u32x4; 8], t: usize) -> [u32x4; 8]
 #[inline(always)]
 fn four_early(ring: &[u32x4; 16], vars: [u32x4; 8], t: usize) -> [u32x4; 8]
     requires { t + 4 ≤ 16 }
-    ensures { (j : ℕ) → j < 4 → (b h : List ℕ) → IsWindow (column j ring.now) (schedule b 48) 16
-        → lane j vars ≡ rounds h (schedule b 48) t → lane j result ≡ rounds h (schedule b 48) (t + 4) }
+    ensures { (j : ℕ) → j < 4 → (b h : List ℕ)
+        → IsWindow (column j ring.now) (schedule b 48) 16 → lane j vars ≡ rounds h (schedule b 48) t
+        → lane j result ≡ rounds h (schedule b 48) (t + 4) }
 {
     let first = early_round(ring, vars, t);
     let second = early_round(ring, first, t + 1);
@@ -180,7 +184,8 @@ fn extend(ring: &mut [u32x4; 16], place: usize) -> u32x4
 fn late_round(ring: &mut [u32x4; 16], vars: [u32x4; 8], turn: usize, place: usize) -> [u32x4; 8]
     requires turn { (0 < turn) × (turn ≤ 3) }
     requires place { place < 16 }
-    ensures { (j : ℕ) → j < 4 → (b h : List ℕ) → IsRoundsAt b h (column j ring.old) (lane j vars) (16 * turn + place)
+    ensures { (j : ℕ) → j < 4
+        → (b h : List ℕ) → IsRoundsAt b h (column j ring.old) (lane j vars) (16 * turn + place)
         → IsRoundsAt b h (column j ring.new) (lane j result) (16 * turn + (place + 1)) }
 {
     let word = extend(ring, place);
@@ -191,7 +196,8 @@ fn late_round(ring: &mut [u32x4; 16], vars: [u32x4; 8], turn: usize, place: usiz
 fn four_late(ring: &mut [u32x4; 16], vars: [u32x4; 8], turn: usize, place: usize) -> [u32x4; 8]
     requires turn { (0 < turn) × (turn ≤ 3) }
     requires place { place + 4 ≤ 16 }
-    ensures { (j : ℕ) → j < 4 → (b h : List ℕ) → IsRoundsAt b h (column j ring.old) (lane j vars) (16 * turn + place)
+    ensures { (j : ℕ) → j < 4
+        → (b h : List ℕ) → IsRoundsAt b h (column j ring.old) (lane j vars) (16 * turn + place)
         → IsRoundsAt b h (column j ring.new) (lane j result) (16 * turn + (place + 4)) }
 {
     let first = late_round(ring, vars, turn, place);
@@ -205,7 +211,8 @@ fn four_late(ring: &mut [u32x4; 16], vars: [u32x4; 8], turn: usize, place: usize
 /// that bytes `4 * k` to `4 * k + 3` of the blocks are, the first byte the highest.
 #[inline(never)]
 pub fn compress4(state: &mut [u32x4; 8], words: [u32x4; 16])
-    ensures { (j : ℕ) → j < 4 → (b : List ℕ) → ((k : ℕ) → k < 16 → lane_at words k j ≡ word_at b (4 * k))
+    ensures { (j : ℕ)
+        → j < 4 → (b : List ℕ) → ((k : ℕ) → k < 16 → lane_at words k j ≡ word_at b (4 * k))
         → lane j state.new ≡ compress (lane j state.old) b }
 {
     let mut ring = words;

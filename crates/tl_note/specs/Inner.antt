@@ -7,3 +7,5 @@ pub
     mod Signing
 pub
     mod Reading
+pub
+    mod Law

@@ -5,5 +5,4 @@ pub mod View
 pub mod Open
 pub mod OpenNote
 pub mod SignNote
-pub mod Law
 pub mod Inner

@@ -3,7 +3,7 @@ use Rattle.std.specs.Prelude.{◌≡◌, ℕ, drop}
 use Rattle.base64.specs.GeneralPurpose.{decoded_bytes_of}
 use Rattle.base64.specs.Engines.{standard}
 use Rattle.tl_hash.specs.Bytes.{Bytes}
-use Rattle.tl_note.specs.Note.{Signature, IsSignature, signature_field, signature_words}
+use Rattle.tl_note.specs.Note.{Signature, IsSignature, signature_field}
 
 -- the bytes in a field, after the identifier
 abbrev pub field_signature : Bytes → Bytes
@@ -17,7 +17,3 @@ shown name id field = record { name = name; id = id; bytes = field_signature fie
 pub record ShowsLine (name : Bytes) (id : ℕ) (field : Bytes) : Type 0 where
   pub lawful : IsSignature (shown name id field)
   pub spelled : field ≡ signature_field (shown name id field)
-
--- the text is no signature line
-abbrev pub IsNoLine : Bytes → Type 0
-IsNoLine text = (s : Signature) → IsSignature s → text ≡ signature_words s → ⊥

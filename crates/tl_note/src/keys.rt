@@ -44,8 +44,10 @@ pub trait Signer: Send + Sync + Drop {
     /// A signature of the message. It is refused only where the key may refuse the message, or where memory was
     /// refused.
     fn sign(&self, alloc: Global, message: &[u8]) -> Result<Vec<u8>, SignFault>
-        ensures given { IfOk result (λ signature. IsTrue ((signing_key self.now).may_give message.now signature.items)) }
-        ensures refused { IsErrOf result SignFault.Refused → IsTrue ((signing_key self.now).may_refuse message.now) };
+        ensures given { IfOk result
+            (λ signature. IsTrue ((signing_key self.now).may_give message.now signature.items)) }
+        ensures refused { IsErrOf result SignFault.Refused
+            → IsTrue ((signing_key self.now).may_refuse message.now) };
 }
 
 /// Who tells the valid signatures of a message from others. Its meaning is a `Key`: a name, an identifier, and which

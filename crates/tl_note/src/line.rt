@@ -3,7 +3,7 @@
 ghost use Rattle.std.specs.Prelude.{◌≡◌, ◌++◌, MatchOption, IfOk, OnOk, ◌<◌, length, string_bytes};
 ghost use Rattle.tl_note.specs.Key.{IsKeyName};
 ghost use Rattle.tl_note.specs.Note.{IsSignature, signature_field, signature_line, signature_words};
-ghost use Rattle.tl_note.specs.Line.{IsNoLine};
+ghost use Rattle.tl_note.specs.Inner.Reading.{IsNoLine};
 ghost use Rattle.tl_note.specs.Inner.LineField.{IsNoField, ShowsField};
 
 use crate::keys::is_key_name;
@@ -74,7 +74,8 @@ impl<'m> SigView<'m> {
     /// Puts the line, with the newline that ends it, behind a text (C2SP signed-note, "Format"). It fails only where a
     /// request for memory is refused.
     pub fn push_to<A: Allocator>(&self, text: &mut String<A>) -> Result<(), AllocError>
-        ensures { OnOk result (string_bytes text.new ≡ string_bytes text.old ++ signature_line self.now) }
+        ensures { OnOk result
+            (string_bytes text.new ≡ string_bytes text.old ++ signature_line self.now) }
     {
         text.push_str("— ")?;
         text.push_str(self.name)?;
@@ -85,7 +86,8 @@ impl<'m> SigView<'m> {
 
     /// Reads a signature line, without its newline.
     pub(crate) fn read(line: &'m str) -> Option<SigView<'m>>
-        ensures { MatchOption result (IsNoLine line.now) (λ view. IsSignature view × (line.now ≡ signature_words view)) }
+        ensures { MatchOption result (IsNoLine line.now)
+            (λ view. IsSignature view × (line.now ≡ signature_words view)) }
     {
         let Some(words) = line.strip_prefix("— ") else {
             return None;
@@ -116,8 +118,10 @@ pub fn write_signature_line<A: Allocator + Copy>(
     key_id: u32,
     signature: &[u8],
 ) -> Result<String<A>, AllocError>
-    ensures text { IfOk result (λ line. string_bytes line ≡ signature_line (record { name = name.now; id = key_id; bytes = signature.now })) }
-    ensures lawful { IsKeyName name.now → 0 < length signature.now → IsSignature (record { name = name.now; id = key_id; bytes = signature.now }) }
+    ensures text { IfOk result (λ line. string_bytes line
+        ≡ signature_line (record { name = name.now; id = key_id; bytes = signature.now })) }
+    ensures lawful { IsKeyName name.now → 0 < length signature.now
+        → IsSignature (record { name = name.now; id = key_id; bytes = signature.now }) }
 {
     let mut field = Vec::from_slice(alloc, &key_id.to_be_bytes())?;
     field.extend_from_slice(signature)?;

@@ -61,7 +61,8 @@ pub fn verify_note<'m, A: Allocator + Copy>(
     note: NoteView<'m, A>,
     verifiers: &[Box<dyn Verifier>],
 ) -> Result<OpenedNote<'m, A>, NoteFault>
-    ensures { VerifiesNote (map (λ verifier. key verifier) verifiers.now) note.entry.text.now note.entry.signatures.items result }
+    ensures { VerifiesNote (map (λ verifier. key verifier) verifiers.now)
+        note.entry.text.now note.entry.signatures.items result }
 {
     let (verified, unverified) = sort_lines(
         alloc,
@@ -109,7 +110,8 @@ fn judge_line<A: Allocator>(
     verifiers: &[Box<dyn Verifier>],
 ) -> Result<Standing, NoteFault>
     requires { place < length lines.now }
-    ensures { (line : Signature) × (slice_get lines.now place ≡ Some line) × JudgesLine (map (λ verifier. key verifier) verifiers.now) text.now lines.now (place, line) result }
+    ensures { (line : Signature) × (slice_get lines.now place ≡ Some line) × JudgesLine
+        (map (λ verifier. key verifier) verifiers.now) text.now lines.now (place, line) result }
 {
     let line = &lines[place];
     if !is_known(verifiers, line) {

@@ -77,7 +77,8 @@ pub(crate) fn is_note_text(text: &str) -> bool
 
 // The text, and what follows the empty line: it is cut at the last place where two newlines meet.
 fn cut_text(message: &str) -> Option<(&str, &str)>
-    ensures { MatchOption result (HasNoNote message.now) (λ parts. CutsText message.now parts.0.now parts.1.now) }
+    ensures { MatchOption result (HasNoNote message.now)
+        (λ parts. CutsText message.now parts.0.now parts.1.now) }
 {
     let Some((front, lines)) = message.rsplit_once("\n\n") else {
         return None;
@@ -87,7 +88,8 @@ fn cut_text(message: &str) -> Option<(&str, &str)>
 
 // The first signature line of a text, and what follows it.
 fn cut_line(text: &str) -> Option<(SigView<'_>, &str)>
-    ensures { MatchOption result (IsNoFirstLine text.now) (λ parts. CutsLine text.now parts.0 parts.1.now × IsUtf8 parts.1.now) }
+    ensures { MatchOption result (IsNoFirstLine text.now)
+        (λ parts. CutsLine text.now parts.0 parts.1.now × IsUtf8 parts.1.now) }
 {
     let Some((words, rest)) = text.split_once('\n') else {
         return None;

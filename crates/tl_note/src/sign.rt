@@ -45,8 +45,10 @@ pub fn signature_of(
     message: &[u8],
 ) -> Result<Vec<u8>, SignFault>
     ensures some { IfOk result (λ signature. 0 < length signature.items) }
-    ensures given { IfOk result (λ signature. IsTrue ((signing_key signer.now).may_give message.now signature.items)) }
-    ensures refused { IsErrOf result SignFault.Refused → MayGiveNone (signing_key signer.now) message.now }
+    ensures given { IfOk result
+        (λ signature. IsTrue ((signing_key signer.now).may_give message.now signature.items)) }
+    ensures refused { IsErrOf result SignFault.Refused
+        → MayGiveNone (signing_key signer.now) message.now }
 {
     let signature = match signer.sign(global, message) {
         Ok(signature) => signature,
@@ -76,7 +78,9 @@ fn key_id_of(signer: &Box<dyn Signer>) -> u32
 /// The place of the first signer whose name is no key's name (C2SP signed-note, "Format"), and None where each name is
 /// one: whether a note can be signed by them, before there is a text.
 pub fn first_bad_name(signers: &[Box<dyn Signer>]) -> Option<usize>
-    ensures { MatchOption result (All (λ k. IsKeyName k.name) (map (λ signer. signing_key signer) signers.now)) (IsFirstBadName (map (λ signer. signing_key signer) signers.now)) }
+    ensures { MatchOption result
+        (All (λ k. IsKeyName k.name) (map (λ signer. signing_key signer) signers.now))
+        (IsFirstBadName (map (λ signer. signing_key signer) signers.now)) }
 {
     for place in 0..signers.len() {
         if !is_key_name(name_of(&signers[place])) {
@@ -95,7 +99,8 @@ fn push_lines<A: Allocator + Copy>(
     note: &mut String<A>,
 ) -> Result<(), NoteFault>
     requires { All (λ k. IsKeyName k.name) (map (λ signer. signing_key signer) signers.now) }
-    ensures { SignsLines text.now (map (λ signer. signing_key signer) signers.now) (string_bytes note.old) (string_bytes note.new) result }
+    ensures { SignsLines text.now (map (λ signer. signing_key signer) signers.now)
+        (string_bytes note.old) (string_bytes note.new) result }
 {
     for place in 0..signers.len() {
         push_line(alloc, global, text, place, &signers[place], note)?;
@@ -113,7 +118,8 @@ fn push_line<A: Allocator + Copy>(
     note: &mut String<A>,
 ) -> Result<(), NoteFault>
     requires { IsKeyName (signing_key signer.now).name }
-    ensures { SignsLine text.now (signing_key signer.now) place (string_bytes note.old) (string_bytes note.new) result }
+    ensures { SignsLine text.now
+        (signing_key signer.now) place (string_bytes note.old) (string_bytes note.new) result }
 {
     let signature = sign_text(global, text, place, signer)?;
     let line = write_signature_line(

@@ -36,7 +36,8 @@ pub(crate) fn is_known(verifiers: &[Box<dyn Verifier>], line: &SigView<'_>) -> b
 
 // How many verifiers have the line's key.
 fn count_known(verifiers: &[Box<dyn Verifier>], line: &SigView<'_>) -> usize
-    ensures count { result ≡ count_by (is_of line.now) (map (λ verifier. key verifier) verifiers.now) }
+    ensures count { result
+        ≡ count_by (is_of line.now) (map (λ verifier. key verifier) verifiers.now) }
     ensures bound { result ≤ length verifiers.now }
 {
     match verifiers {
@@ -59,7 +60,8 @@ fn is_accepted(
     message: &[u8],
     signature: &[u8],
 ) -> bool
-    ensures { result ≡ list_all (λ key. key.accepts message.now signature.now) (filter (is_of line.now) (map (λ verifier. key verifier) verifiers.now)) }
+    ensures { result ≡ list_all (λ key. key.accepts message.now signature.now)
+        (filter (is_of line.now) (map (λ verifier. key verifier) verifiers.now)) }
 {
     match verifiers {
         [] => true,
@@ -80,7 +82,8 @@ pub(crate) fn verify_line<A: Allocator>(
     place: usize,
     verifiers: &[Box<dyn Verifier>],
 ) -> Result<(), NoteFault>
-    ensures { VerifiesLine (map (λ verifier. key verifier) verifiers.now) text.now (place, line.now) result }
+    ensures { VerifiesLine
+        (map (λ verifier. key verifier) verifiers.now) text.now (place, line.now) result }
 {
     if count_known(verifiers, line) > 1 {
         return Err(NoteFault::Ambiguous(place));

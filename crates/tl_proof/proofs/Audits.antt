@@ -9,7 +9,8 @@ use Rattle.tl_hash.specs.Tree.{tree_hash, inputs}
 use Rattle.tl_hash.proofs.TreeLemmas.{tree_hash-none, length-tree_hash}
 use Rattle.tl_proof.specs.Acceptance.{AcceptsConsistency, Step, Linked, EndsWith}
 use Rattle.tl_proof.specs.Collisions.{IsPrefix, fold_inputs, fold_inputs_from, step_inputs, audit_inputs}
-use Rattle.tl_proof.specs.Laws.{HasHashLength, MadeOfHashes, LinksExtendOrCollide}
+use Rattle.tl_proof.specs.Laws.{HasHashLength, MadeOfHashes}
+use Rattle.tl_proof.specs.Inner.Laws.{LinksExtendOrCollide}
 use Rattle.tl_hash.proofs.SameSize.{Collision, Collision-among, same_or_collide}
 use Rattle.tl_proof.proofs.Folds.{roots_meet}
 

@@ -5,19 +5,19 @@ use Rattle.tl_hash.specs.Bytes.{Digest}
 use Rattle.tl_hash.specs.Tree.{node_input}
 use Rattle.tl_proof.specs.Acceptance.{root_from_leaf, AcceptsInclusion}
 use Rattle.tl_proof.specs.Inner.Lanes.{lane_root, node_with}
-use Rattle.tl_proof.specs.declared.records.Lane.{Lane}
+use Rattle.tl_proof.specs.declared.records.ClaimWalk.{ClaimWalk}
 use Rattle.std.proofs.lemmas.List.{get_or_default}
 use Rattle.std.proofs.lemmas.List.Elements.{All-cons, All-head, All-tail}
 use Rattle.tl_proof.proofs.Folds.{Some-injective}
 use Rattle.tl_proof.proofs.Checks.{reverse_last}
 
 -- the leaf of a whole tree
-pub lane-leaf : (H : Digest) (lane : Lane) → lane.size ≡ 1 → lane_root H lane [] ≡ Some lane.leaf
+pub lane-leaf : (H : Digest) (lane : ClaimWalk) → lane.size ≡ 1 → lane_root H lane [] ≡ Some lane.leaf
 unfolding root_from_leaf
 lane-leaf H lane one = rw (eq-eqb lane.size 1 one) refl
 
 -- the root of a tree, from that of its part below
-pub lane-up : (H : Digest) (lane below : Lane) (on_left : Bool) (n : ℕ) (xs : List (List ℕ)) (x left right root node : List ℕ) → length xs ≡ n → n ≢ 0 → x ≡ get_or xs (n - 1) x
+pub lane-up : (H : Digest) (lane below : ClaimWalk) (on_left : Bool) (n : ℕ) (xs : List (List ℕ)) (x left right root node : List ℕ) → length xs ≡ n → n ≢ 0 → x ≡ get_or xs (n - 1) x
     → ((last : List ℕ) (others : List (List ℕ)) → lane_root H lane (last ∷ others) ≡ option_map (node_with H on_left last) (lane_root H below others))
     → lane_root H below (reverse (take (n - 1) xs)) ≡ Some root
     → left ≡ (if on_left then root else x) → right ≡ (if on_left then x else root) → node ≡ H (node_input left right)

@@ -12,7 +12,8 @@ use Rattle.tl_hash.proofs.SplitLemmas.{split_point_is, split_point-splits}
 use Rattle.tl_hash.proofs.TreeLemmas.{length_first, length_rest, tree_hash-one}
 use Rattle.tl_proof.specs.Acceptance.{root_from_leaf, AcceptsInclusion, input_on_left, input_on_right}
 use Rattle.tl_proof.specs.Collisions.{path_inputs_from, path_inputs}
-use Rattle.tl_proof.specs.Laws.{HasHashLength, InclusionShowsEntry}
+use Rattle.tl_proof.specs.Laws.{HasHashLength}
+use Rattle.tl_proof.specs.Inner.Laws.{InclusionShowsEntry}
 use Rattle.tl_hash.proofs.Bytes.{cases_bytes}
 use Rattle.tl_proof.proofs.AuditAnswers.{inputs-leaf}
 use Rattle.tl_proof.proofs.Audits.{reversed_hashes}

@@ -7,3 +7,5 @@ pub
     mod ManyPaths
 pub
     mod Segments
+pub
+    mod Laws

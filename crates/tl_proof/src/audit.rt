@@ -12,7 +12,7 @@
 
 ghost use Rattle.std.specs.Prelude.{◌≤◌, ◌∷◌, [], List, length, map, vec_items};
 ghost use Rattle.tl_hash.specs.Tree.{tree_hash};
-ghost use Rattle.tl_proof.specs.Acceptance.{Step, step_of};
+ghost use Rattle.tl_proof.specs.Acceptance.{Step, step_of, step_to};
 ghost use Rattle.tl_proof.specs.Inner.Forks.{DifferAt, LinksFork, ForksAt, ShowsFork};
 ghost use Rattle.tl_proof.specs.Audit.{AreAccepted, Audits};
 
@@ -99,9 +99,8 @@ pub fn audit_tree<T: TreeHash, A: Allocator + Copy, B: Allocator>(
     new: &[Vec<u8, B>],
     proof: &[Hash],
 ) -> Result<Verdict<A>, AuditFault>
-    ensures { Audits T.digest_of (map vec_items old.now) (map vec_items new.now)
-        (record { size = length new.now; root = tree_hash T.digest_of (map vec_items new.now); proof = proof.now } ∷ [])
-        result }
+    ensures { Audits T.digest_of (map vec_items old.now) (map vec_items new.now) (step_to
+        (length new.now) (tree_hash T.digest_of (map vec_items new.now)) proof.now ∷ []) result }
 {
     let root = entry_root(h, old);
     let new_root = entry_root(h, new);
@@ -128,7 +127,8 @@ pub fn audit_chain<T: TreeHash, A: Allocator + Copy, B: Allocator, C: Allocator>
     new: &[Vec<u8, B>],
     links: &[Link<C>],
 ) -> Result<Verdict<A>, AuditFault>
-    ensures { Audits T.digest_of (map vec_items old.now) (map vec_items new.now) (map step_of links.now) result }
+    ensures { Audits T.digest_of
+        (map vec_items old.now) (map vec_items new.now) (map step_of links.now) result }
 {
     let size = old.len() as u64;
     let root = entry_root(h, old);

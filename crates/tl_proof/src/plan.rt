@@ -26,7 +26,8 @@ fn push_path<A: Allocator>(
 ) -> Result<(), AllocError>
     requires first { start ≤ index }
     requires last { index < end }
-    ensures added { OnOk result (GrowsBy (IsPathPlan index start end) segments.old.items segments.new.items) }
+    ensures added { OnOk result
+        (GrowsBy (IsPathPlan index start end) segments.old.items segments.new.items) }
     ensures some { OnErr result (1 < end - start) }
 {
     if end - start == 1 {
@@ -72,7 +73,8 @@ pub(crate) fn paths_segments<A: Allocator + Copy>(
     indexes: &[u64],
 ) -> Result<PathsPlan<A>, AllocError>
     requires { All (IsIndex size) indexes.now }
-    ensures { IfOk result (λ plan. IsPathsPlan size indexes.now plan.segments.items plan.counts.items) }
+    ensures { IfOk result
+        (λ plan. IsPathsPlan size indexes.now plan.segments.items plan.counts.items) }
 {
     let mut segments = Vec::new(alloc);
     let mut counts = Vec::new(alloc);
@@ -96,7 +98,8 @@ fn push_proof<A: Allocator>(
 ) -> Result<(), AllocError>
     requires first { start < old }
     requires last { old ≤ end }
-    ensures { OnOk result (GrowsBy (IsProofPlan old start end known) segments.old.items segments.new.items) }
+    ensures { OnOk result
+        (GrowsBy (IsProofPlan old start end known) segments.old.items segments.new.items) }
 {
     if old == end {
         if !known {

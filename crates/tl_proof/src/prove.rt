@@ -27,11 +27,11 @@ pub fn prove_record<T: TreeHash, R: HashReader, A: Allocator + Copy>(
     index: u64,
     reader: &R,
 ) -> Result<Vec<Hash, A>, ProveFault>
-    ensures path { (entries more : List Bytes)
-        → R.stands_for reader.now T.digest_of entries
-        → size ≤ length (entries ++ more)
-        → IfOk result (λ proof. proof.items ≡ inclusion_proof T.digest_of index (take size (entries ++ more))) }
-    ensures in_range { OnOk result (IsIndex size index × (inclusion_needs size index ≤ readable_size (R.size reader.now))) }
+    ensures path { (entries more : List Bytes) → R.stands_for reader.now T.digest_of entries
+        → size ≤ length (entries ++ more) → IfOk result
+        (λ proof. proof.items ≡ inclusion_proof T.digest_of index (take size (entries ++ more))) }
+    ensures in_range { OnOk result
+        (IsIndex size index × (inclusion_needs size index ≤ readable_size (R.size reader.now))) }
     ensures faults { IfErr result (GivesProveFault (IsIndex size index)
         (R.size reader.now) (R.may_fail reader.now) (inclusion_needs size index)) }
 {
@@ -63,7 +63,8 @@ fn cut_hashes<A: Allocator + Copy>(
     hashes: &[Hash],
 ) -> Result<Vec<Vec<Hash, A>, A>, AllocError>
     requires { sum counts.now ≤ length hashes.now }
-    ensures lists { IfOk result (λ lists. map vec_items lists.items ≡ cut_into counts.now hashes.now) }
+    ensures lists { IfOk result
+        (λ lists. map vec_items lists.items ≡ cut_into counts.now hashes.now) }
     ensures count { IfOk result (λ lists. length lists.items ≡ length counts.now) }
 {
     let mut lists = Vec::new(alloc);
@@ -87,14 +88,14 @@ pub fn prove_records<T: TreeHash, R: HashReader, A: Allocator + Copy>(
     indexes: &[u64],
     reader: &R,
 ) -> Result<Vec<Vec<Hash, A>, A>, ProveFault>
-    ensures paths { (entries more : List Bytes)
-        → R.stands_for reader.now T.digest_of entries
-        → size ≤ length (entries ++ more)
-        → IfOk result (λ proofs. map vec_items proofs.items ≡ map (λ index. inclusion_proof T.digest_of index (take size (entries ++ more))) indexes.now) }
+    ensures paths { (entries more : List Bytes) → R.stands_for reader.now T.digest_of entries
+        → size ≤ length (entries ++ more) → IfOk result (λ proofs. map vec_items proofs.items ≡ map
+        (λ index. inclusion_proof T.digest_of index (take size (entries ++ more))) indexes.now) }
     ensures count { IfOk result (λ proofs. length proofs.items ≡ length indexes.now) }
-    ensures in_range { OnOk result (All (IsIndex size) indexes.now × (records_need size indexes.now ≤ readable_size (R.size reader.now))) }
-    ensures faults { IfErr result (GivesProofsFault (All (IsIndex size) indexes.now) (length indexes.now)
-        (R.size reader.now) (R.may_fail reader.now) (records_need size indexes.now)) }
+    ensures in_range { OnOk result (All (IsIndex size) indexes.now
+        × (records_need size indexes.now ≤ readable_size (R.size reader.now))) }
+    ensures faults { IfErr result (GivesProofsFault (All (IsIndex size) indexes.now) (length
+        indexes.now) (R.size reader.now) (R.may_fail reader.now) (records_need size indexes.now)) }
 {
     if indexes.is_empty() {
         return Ok(Vec::new(alloc));
@@ -118,11 +119,11 @@ pub fn prove_tree<T: TreeHash, R: HashReader, A: Allocator + Copy>(
     old: u64,
     reader: &R,
 ) -> Result<Vec<Hash, A>, ProveFault>
-    ensures proof { (entries more : List Bytes)
-        → R.stands_for reader.now T.digest_of entries
-        → size ≤ length (entries ++ more)
-        → IfOk result (λ proof. proof.items ≡ consistency_proof T.digest_of old (take size (entries ++ more))) }
-    ensures in_range { OnOk result (IsOldSize size old × (consistency_needs size old ≤ readable_size (R.size reader.now))) }
+    ensures proof { (entries more : List Bytes) → R.stands_for reader.now T.digest_of entries
+        → size ≤ length (entries ++ more) → IfOk result
+        (λ proof. proof.items ≡ consistency_proof T.digest_of old (take size (entries ++ more))) }
+    ensures in_range { OnOk result
+        (IsOldSize size old × (consistency_needs size old ≤ readable_size (R.size reader.now))) }
     ensures faults { IfErr result (GivesProveFault (IsOldSize size old)
         (R.size reader.now) (R.may_fail reader.now) (consistency_needs size old)) }
 {

@@ -59,10 +59,9 @@ fn group_hashes<T: TreeHash, A: Allocator>(
     requires parts { All IsSegment segments.now }
     requires count { length hashes.now ≡ subtree_count segments.now }
     ensures hashes { (entries more : List Bytes) (indexes : List ℕ)
-        → AreGroups segments.now indexes
-        → All (λ s. s.end ≤ length entries) segments.now
-        → hashes.now ≡ map (stored_hash T.digest_of entries) indexes
-        → IfOk result (λ roots. roots.items ≡ map (segment_root T.digest_of (entries ++ more)) segments.now) }
+        → AreGroups segments.now indexes → All (λ s. s.end ≤ length entries) segments.now
+        → hashes.now ≡ map (stored_hash T.digest_of entries) indexes → IfOk result
+        (λ roots. roots.items ≡ map (segment_root T.digest_of (entries ++ more)) segments.now) }
     ensures count { IfOk result (λ roots. length roots.items ≡ length segments.now) }
     ensures some { OnErr result (0 < length segments.now) }
 {
@@ -87,8 +86,8 @@ pub(crate) fn read_segments<T: TreeHash, R: HashReader, A: Allocator + Copy>(
     requires parts { All IsSegment segments.now }
     requires small { All (λ s. s.end ≤ 2 ^ 62) segments.now }
     ensures hashes { (entries more : List Bytes)
-        → R.stands_for reader.now T.digest_of entries
-        → IfOk result (λ proof. proof.items ≡ map (segment_root T.digest_of (entries ++ more)) segments.now) }
+        → R.stands_for reader.now T.digest_of entries → IfOk result
+        (λ proof. proof.items ≡ map (segment_root T.digest_of (entries ++ more)) segments.now) }
     ensures count { IfOk result (λ proof. length proof.items ≡ length segments.now) }
     ensures in_range { (needed : ℕ) → IsNeeded 0 needed segments.now
         → OnOk result (needed ≤ readable_size (R.size reader.now)) }

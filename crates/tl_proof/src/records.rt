@@ -3,7 +3,7 @@
 ghost use Rattle.std.specs.Prelude.{◌≡◌, ◌<◌, ◌↔◌, IsTrue, IfSome, All, Some, reverse, length, option_map, slice_index_or, if◌then◌else◌, [], ◌∷◌, List};
 ghost use Rattle.tl_hash.specs.Bytes.{Bytes, Digest};
 ghost use Rattle.tl_proof.specs.Acceptance.{root_from_leaf, AcceptsInclusion};
-ghost use Rattle.tl_proof.specs.Inner.Lanes.{lane_root, node_with};
+ghost use Rattle.tl_proof.specs.Inner.Lanes.{LeadsTo, lane_root, node_with};
 
 use crate::check::{check_record, same};
 use tl_hash::{Hash, TreeHash, hash_level, split_point};
@@ -22,7 +22,7 @@ pub struct InclusionClaim<'a> {
 
 // The place of a leaf in a tree of `size` leaves, and its hash: what one of four proofs is followed for.
 #[derive(Clone, Copy)]
-struct Lane {
+struct ClaimWalk {
     index: u64,
     size: u64,
     leaf: Hash,
@@ -31,25 +31,29 @@ struct Lane {
 // What four proofs are followed for.
 #[derive(Clone, Copy)]
 struct Lanes {
-    a: Lane,
-    b: Lane,
-    c: Lane,
-    d: Lane,
+    a: ClaimWalk,
+    b: ClaimWalk,
+    c: ClaimWalk,
+    d: ClaimWalk,
 }
 
 // The step from a root down to the part of the tree where the leaf lies: the left part or the right one.
 #[derive(Clone, Copy)]
 struct Turn {
-    below: Lane,
+    below: ClaimWalk,
     on_left: bool,
 }
 
 // The leaves, where each is a whole tree.
 fn only_leaves(lanes: Lanes) -> Option<[Hash; 4]>
-    ensures a { IfSome result (λ roots. (H : Digest) → lane_root H lanes.a [] ≡ Some (slice_index_or roots 0 [])) }
-    ensures b { IfSome result (λ roots. (H : Digest) → lane_root H lanes.b [] ≡ Some (slice_index_or roots 1 [])) }
-    ensures c { IfSome result (λ roots. (H : Digest) → lane_root H lanes.c [] ≡ Some (slice_index_or roots 2 [])) }
-    ensures d { IfSome result (λ roots. (H : Digest) → lane_root H lanes.d [] ≡ Some (slice_index_or roots 3 [])) }
+    ensures a { IfSome result
+        (λ roots. (H : Digest) → lane_root H lanes.a [] ≡ Some (slice_index_or roots 0 [])) }
+    ensures b { IfSome result
+        (λ roots. (H : Digest) → lane_root H lanes.b [] ≡ Some (slice_index_or roots 1 [])) }
+    ensures c { IfSome result
+        (λ roots. (H : Digest) → lane_root H lanes.c [] ≡ Some (slice_index_or roots 2 [])) }
+    ensures d { IfSome result
+        (λ roots. (H : Digest) → lane_root H lanes.d [] ≡ Some (slice_index_or roots 3 [])) }
 {
     if lanes.a.size == 1 && lanes.b.size == 1 && lanes.c.size == 1 && lanes.d.size == 1 {
         Some([lanes.a.leaf, lanes.b.leaf, lanes.c.leaf, lanes.d.leaf])
@@ -59,22 +63,23 @@ fn only_leaves(lanes: Lanes) -> Option<[Hash; 4]>
 }
 
 // The step from the root of a tree that has parts.
-fn last_turn(lane: Lane) -> Option<Turn>
-    ensures { IfSome result (λ turn. (H : Digest) (last : Bytes) (others : List Bytes)
-        → lane_root H lane (last ∷ others) ≡ option_map (node_with H turn.on_left last) (lane_root H turn.below others)) }
+fn last_turn(lane: ClaimWalk) -> Option<Turn>
+    ensures { IfSome result (λ turn.
+        (H : Digest) (last : Bytes) (others : List Bytes) → lane_root H lane (last ∷ others)
+        ≡ option_map (node_with H turn.on_left last) (lane_root H turn.below others)) }
 {
     if lane.size <= 1 {
         return None;
     }
     let k = split_point(lane.size);
     if lane.index < k {
-        let below = Lane { size: k, ..lane };
+        let below = ClaimWalk { size: k, ..lane };
         Some(Turn {
             below,
             on_left: true,
         })
     } else {
-        let below = Lane {
+        let below = ClaimWalk {
             index: lane.index - k,
             size: lane.size - k,
             ..lane
@@ -111,10 +116,10 @@ fn lead_four<T: TreeHash>(
     requires b { length b.now ≡ length a.now }
     requires c { length c.now ≡ length a.now }
     requires d { length d.now ≡ length a.now }
-    ensures a { IfSome result (λ roots. lane_root T.digest_of lanes.a (reverse a.now) ≡ Some (slice_index_or roots 0 [])) }
-    ensures b { IfSome result (λ roots. lane_root T.digest_of lanes.b (reverse b.now) ≡ Some (slice_index_or roots 1 [])) }
-    ensures c { IfSome result (λ roots. lane_root T.digest_of lanes.c (reverse c.now) ≡ Some (slice_index_or roots 2 [])) }
-    ensures d { IfSome result (λ roots. lane_root T.digest_of lanes.d (reverse d.now) ≡ Some (slice_index_or roots 3 [])) }
+    ensures a { IfSome result (λ r. LeadsTo T.digest_of lanes.a a.now (slice_index_or r 0 [])) }
+    ensures b { IfSome result (λ r. LeadsTo T.digest_of lanes.b b.now (slice_index_or r 1 [])) }
+    ensures c { IfSome result (λ r. LeadsTo T.digest_of lanes.c c.now (slice_index_or r 2 [])) }
+    ensures d { IfSome result (λ r. LeadsTo T.digest_of lanes.d d.now (slice_index_or r 3 [])) }
 {
     let n = a.len();
     if n == 0 {
@@ -141,14 +146,16 @@ fn lead_four<T: TreeHash>(
 
 // Whether the proof of one record is accepted.
 fn accepts_one<T: TreeHash>(h: T, size: u64, root: Hash, claim: &InclusionClaim<'_>) -> bool
-    ensures { IsTrue result ↔ AcceptsInclusion T.digest_of claim.now.proof.now size root claim.now.index claim.now.leaf }
+    ensures { IsTrue result ↔ AcceptsInclusion
+        T.digest_of claim.now.proof.now size root claim.now.index claim.now.leaf }
 {
     check_record(h, claim.proof, size, root, claim.index, claim.leaf)
 }
 
 // Whether the proof of each record is accepted, one by one.
 fn accepts_each<T: TreeHash>(h: T, size: u64, root: Hash, records: &[InclusionClaim<'_>]) -> bool
-    ensures { IsTrue result ↔ All (λ r. AcceptsInclusion T.digest_of r.proof.now size root r.index r.leaf) records.now }
+    ensures { IsTrue result
+        ↔ All (λ r. AcceptsInclusion T.digest_of r.proof.now size root r.index r.leaf) records.now }
 {
     records
         .iter()
@@ -156,12 +163,12 @@ fn accepts_each<T: TreeHash>(h: T, size: u64, root: Hash, records: &[InclusionCl
 }
 
 // What one record is followed for.
-fn lane_of(size: u64, claim: &InclusionClaim<'_>) -> Lane
+fn lane_of(size: u64, claim: &InclusionClaim<'_>) -> ClaimWalk
     ensures index { result.index ≡ claim.now.index }
     ensures size { result.size ≡ size }
     ensures leaf { result.leaf ≡ claim.now.leaf }
 {
-    Lane {
+    ClaimWalk {
         index: claim.index,
         size,
         leaf: claim.leaf,
@@ -177,10 +184,14 @@ fn lead_records<T: TreeHash>(
     c: &InclusionClaim<'_>,
     d: &InclusionClaim<'_>,
 ) -> Option<[Hash; 4]>
-    ensures a { IfSome result (λ roots. root_from_leaf T.digest_of a.now.index size (reverse a.now.proof.now) a.now.leaf ≡ Some (slice_index_or roots 0 [])) }
-    ensures b { IfSome result (λ roots. root_from_leaf T.digest_of b.now.index size (reverse b.now.proof.now) b.now.leaf ≡ Some (slice_index_or roots 1 [])) }
-    ensures c { IfSome result (λ roots. root_from_leaf T.digest_of c.now.index size (reverse c.now.proof.now) c.now.leaf ≡ Some (slice_index_or roots 2 [])) }
-    ensures d { IfSome result (λ roots. root_from_leaf T.digest_of d.now.index size (reverse d.now.proof.now) d.now.leaf ≡ Some (slice_index_or roots 3 [])) }
+    ensures a { IfSome result (λ roots. root_from_leaf T.digest_of a.now.index size
+        (reverse a.now.proof.now) a.now.leaf ≡ Some (slice_index_or roots 0 [])) }
+    ensures b { IfSome result (λ roots. root_from_leaf T.digest_of b.now.index size
+        (reverse b.now.proof.now) b.now.leaf ≡ Some (slice_index_or roots 1 [])) }
+    ensures c { IfSome result (λ roots. root_from_leaf T.digest_of c.now.index size
+        (reverse c.now.proof.now) c.now.leaf ≡ Some (slice_index_or roots 2 [])) }
+    ensures d { IfSome result (λ roots. root_from_leaf T.digest_of d.now.index size
+        (reverse d.now.proof.now) d.now.leaf ≡ Some (slice_index_or roots 3 [])) }
 {
     let n = a.proof.len();
     if b.proof.len() != n || c.proof.len() != n || d.proof.len() != n {
@@ -251,7 +262,8 @@ pub fn check_records<T: TreeHash>(
     root: Hash,
     records: &[InclusionClaim<'_>],
 ) -> bool
-    ensures { IsTrue result ↔ All (λ r. AcceptsInclusion T.digest_of r.proof.now size root r.index r.leaf) records.now }
+    ensures { IsTrue result
+        ↔ All (λ r. AcceptsInclusion T.digest_of r.proof.now size root r.index r.leaf) records.now }
 {
     let mut left = records;
     while let [first, second, third, fourth, rest @ ..] = left {

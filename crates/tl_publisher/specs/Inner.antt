@@ -6,6 +6,10 @@ pub
 pub
     mod Opening
 pub
+    mod Publications
+pub
+    mod Requiring
+pub
     mod Resuming
 pub
     mod Attaching

@@ -3,7 +3,7 @@ use Rattle.std.specs.Prelude.{◌≡◌, ℕ, ◌+◌, ◌≤◌, List, [], leng
 use Rattle.std.specs.List.{All}
 use Rattle.tl_note.specs.Key.{SigningKey}
 use Rattle.tl_text.specs.Text.{IsOneLine}
-use Rattle.tl_sequencer.specs.Log.{Log, Sender, entries_of}
+use Rattle.tl_sequencer.specs.Log.{Log, Sender, entries_of, rings_of}
 use Rattle.tl_sequencer.specs.Merge.{IsMerge}
 use Rattle.tl_sequencer.specs.Opened.{IsOpened}
 use Rattle.tl_sequencer.specs.Steps.{IsComplete, sent_of}
@@ -59,6 +59,13 @@ pub record IsOfSame {A : Type 0} (a b : Operated A) : Type 0 where
   pub origin : b.origin ≡ a.origin
   pub signers : b.signers ≡ a.signers
   pub quorum : b.quorum ≡ a.quorum
+
+-- all but the log's entries stays: its keys, what is proposed and what is published, and the lanes' submitters
+pub record LeavesAllElse {A : Type 0} (a b : Operated A) : Type 0 where
+  pub keys : IsOfSame a b
+  pub proposal : b.proposal ≡ a.proposal
+  pub past : b.past ≡ a.past
+  pub rings : rings_of b.log ≡ rings_of a.log
 
 -- each reader has seen this history, and there are so many
 pub record HaveSeen (past : Past) (count : ℕ) (readers : List Past) : Type 0 where

@@ -31,6 +31,10 @@ pub record Resumption : Type 0 where
   pub origin : List ℕ
   pub limit : ℕ
 
+abbrev pub resumption : List ℕ → List Key → List (List ℕ) → List ℕ → ℕ → Resumption
+resumption note keys bundles origin limit =
+    record { note = note; keys = keys; bundles = bundles; origin = origin; limit = limit }
+
 -- the bundles are those of the entries
 pub record AreBundlesOf (entries bundles : List (List ℕ)) : Type 0 where
   pub short : AreShortEntries entries

@@ -9,8 +9,9 @@ ghost use Rattle.tl_publisher.specs.Proposing.{Attaches};
 
 use crate::fault::AttachFault;
 use crate::noting::text_of;
-use crate::operator::{Operator, Shown};
+use crate::operator::Operator;
 use crate::published::Published;
+use crate::running_log::RunningLog;
 use std::alloc::{AllocError, Global};
 use std::sync::Wait;
 use tl_checkpoint::{Cosigned, cosignatures_by};
@@ -23,7 +24,8 @@ fn with_lines(
     found: &[Cosigned],
 ) -> Result<String, AllocError>
     requires { All (λ c. c.line < length lines.now) found.now }
-    ensures { IfOk result (λ whole. HasBehind (string_bytes note.now) lines.now found.now (string_bytes whole)) }
+    ensures { IfOk result
+        (λ whole. HasBehind (string_bytes note.now) lines.now found.now (string_bytes whole)) }
 {
     let mut whole = note.clone()?;
     for cosigned in found {
@@ -46,8 +48,10 @@ fn lines_of(alloc: Global, text: &str) -> Result<Vec<SigView<'_>>, AttachFault>
 impl<R: Wait + Drop> Operator<R> {
     // The note of what is proposed with the lines of enough witnesses behind its own.
     fn cosigned(&self, note: &String, lines: &str) -> Result<Vec<u8>, AttachFault>
-        requires { IsOperating (⟦<Operator<R> as Shown>⟧.shown self.now) }
-        ensures { (q : Prefix) → (⟦<Operator<R> as Shown>⟧.shown self.now).proposal ≡ Some q → q.note ≡ string_bytes note.now → CosignsNote lines.now (⟦<Operator<R> as Shown>⟧.shown self.now) q result }
+        requires { IsOperating (⟦<Operator<R> as RunningLog>⟧.state self.now) }
+        ensures { (q : Prefix) → (⟦<Operator<R> as RunningLog>⟧.state self.now).proposal ≡ Some q
+            → q.note ≡ string_bytes note.now
+            → CosignsNote lines.now (⟦<Operator<R> as RunningLog>⟧.state self.now) q result }
     {
         let lines = lines_of(self.alloc, lines)?;
         let text = text_of(self.alloc, self.origin.as_str(), self.run.grown())?;
@@ -60,10 +64,12 @@ impl<R: Wait + Drop> Operator<R> {
     }
 
     // Publishes what was proposed, where these are the lines of enough witnesses.
-    fn attach_lines(&mut self, lines: &str) -> Result<Published, AttachFault>
-        requires { IsOperating (⟦<Operator<R> as Shown>⟧.shown self.old) }
-        ensures keys { IsOfSame (⟦<Operator<R> as Shown>⟧.shown self.old) (⟦<Operator<R> as Shown>⟧.shown self.new) }
-        ensures attached { Attaches lines.now (⟦<Operator<R> as Shown>⟧.shown self.old) (⟦<Operator<R> as Shown>⟧.shown self.new) result }
+    pub(crate) fn attach_lines(&mut self, lines: &str) -> Result<Published, AttachFault>
+        requires { IsOperating (⟦<Operator<R> as RunningLog>⟧.state self.old) }
+        ensures keys { IsOfSame (⟦<Operator<R> as RunningLog>⟧.state self.old)
+            (⟦<Operator<R> as RunningLog>⟧.state self.new) }
+        ensures attached { Attaches lines.now (⟦<Operator<R> as RunningLog>⟧.state self.old)
+            (⟦<Operator<R> as RunningLog>⟧.state self.new) result }
     {
         let Some(note) = &self.proposal else {
             return Err(AttachFault::NoProposal);
@@ -72,19 +78,5 @@ impl<R: Wait + Drop> Operator<R> {
         let published = self.run.show(whole)?;
         self.proposal = None;
         Ok(published)
-    }
-
-    /// Publishes what was proposed in one step, once enough witnesses have cosigned it: its checkpoint has the signers'
-    /// lines and then the first valid line of each witness, in the order of these lines, which are what witnesses
-    /// answer (C2SP tlog-witness). All other lines are left out. Entries taken since then wait. `TooFew`: so many
-    /// witnesses have a valid line. A call that is refused keeps the proposal. It waits until no reader looks at what
-    /// is replaced.
-    pub fn attach(&mut self, lines: &str) -> Result<Published, AttachFault>
-        requires { IsOperating (⟦<Operator<R> as Shown>⟧.shown self.old) }
-        ensures operating { IsOperating (⟦<Operator<R> as Shown>⟧.shown self.new) }
-        ensures keys { IsOfSame (⟦<Operator<R> as Shown>⟧.shown self.old) (⟦<Operator<R> as Shown>⟧.shown self.new) }
-        ensures attached { Attaches lines.now (⟦<Operator<R> as Shown>⟧.shown self.old) (⟦<Operator<R> as Shown>⟧.shown self.new) result }
-    {
-        self.attach_lines(lines)
     }
 }

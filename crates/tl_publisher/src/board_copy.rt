@@ -8,11 +8,11 @@ ghost use Rattle.tl_publisher.specs.Inner.Needs.{IsRising};
 use crate::face::{Face, Sheet};
 use crate::lookup::{bundle_of, front, front_len, had_bundle, had_tile, tile_of};
 use crate::past::Past;
-use crate::reader::Head;
 use crate::text::{Text, copied};
 use left_right::Absorb;
 use std::alloc::{AllocError, Allocator};
 use std::marker::Model;
+use tl_hash::Head;
 use tl_tile::{Resource, Tile};
 
 /// One of the two versions of a board. The first `count` texts and the first `turns` sizes are shown, with the face;
@@ -34,7 +34,15 @@ impl<A: Allocator> Model for BoardCopy<A> {
 
     ghost Value = { stages.Held };
 
-    ghost view = { λ s. record { items = s.items.items; count = s.count; sizes = s.sizes.items; turns = s.turns; face = s.face; next = s.next; past = s.past } };
+    ghost view = { λ s. record {
+      items = s.items.items;
+      count = s.count;
+      sizes = s.sizes.items;
+      turns = s.turns;
+      face = s.face;
+      next = s.next;
+      past = s.past;
+    } };
 
     ghost invariant = { λ s. (s.count ≤ length s.items.items) × (s.turns ≤ length s.sizes.items) };
 }
@@ -85,7 +93,9 @@ fn found_tile<'a, A: Allocator>(
     tile: Tile,
 ) -> Option<&'a [u8]>
     requires { IsRising sizes.now }
-    ensures { option_map (λ t. t.now) result ≡ if boards.was_needed (resource.Tile tile) sizes.now then Some (take (32 * tile.width) (boards.tile_around items.now sheet.now tile.level tile.index)) else None }
+    ensures { option_map (λ t. t.now) result ≡ if boards.was_needed (resource.Tile tile) sizes.now
+        then Some (take (32 * tile.width)
+        (boards.tile_around items.now sheet.now tile.level tile.index)) else None }
 {
     if !had_tile(sizes, tile) {
         return None;
@@ -103,7 +113,10 @@ fn found_bundle<'a, A: Allocator>(
     width: u32,
 ) -> Option<&'a [u8]>
     requires { IsRising sizes.now }
-    ensures { option_map (λ t. t.now) result ≡ if boards.was_needed (resource.Entries index width) sizes.now then Some (take (boards.front_length width (boards.bundle_around items.now sheet.now index)) (boards.bundle_around items.now sheet.now index)) else None }
+    ensures { option_map
+        (λ t. t.now) result ≡ if boards.was_needed (resource.Entries index width) sizes.now
+        then Some (take (boards.front_length width (boards.bundle_around items.now sheet.now index))
+        (boards.bundle_around items.now sheet.now index)) else None }
 {
     if !had_bundle(sizes, index, width) {
         return None;
@@ -155,7 +168,16 @@ impl<A: Allocator> BoardCopy<A> {
     pub(crate) fn empty(alloc: A, past: &Past) -> BoardCopy<A>
     where
         A: Copy,
-        ensures { result ≡ record { items = []; count = 0; sizes = []; turns = 0; face = None; next = None; past = past.now } }
+        ensures { result ≡ record {
+          items
+              = [];
+          count = 0;
+          sizes = [];
+          turns = 0;
+          face = None;
+          next = None;
+          past = past.now;
+        } }
     {
         BoardCopy {
             items: Vec::new(alloc),

@@ -5,17 +5,19 @@ ghost use Rattle.sha2.specs.Sha256.{sha256};
 ghost use Rattle.tl_sequencer.specs.Log.{entries_of};
 ghost use Rattle.tl_publisher.specs.Boards as boards;
 ghost use Rattle.tl_publisher.specs.Histories as histories;
+ghost use Rattle.tl_publisher.specs.Inner.Publications.{published_as};
 ghost use Rattle.tl_publisher.specs.Stages as stages;
 ghost use Rattle.tl_publisher.specs.Rules.{knows};
 
 use crate::board_copy::{BoardCopy, Change, Step};
 use crate::past::{HistoryWriter, Next, Past};
-use crate::reader::{BoardReader, Head, bytes_of};
+use crate::reader::{BoardReader, bytes_of};
 use crate::rule::{CopyWriter, Name, Note, Show};
 use core::mem::replace_with;
 use std::alloc::{AllocError, Allocator, Global};
 use std::marker::{Brand, Model};
 use std::sync::Wait;
+use tl_hash::Head;
 use tl_sequencer::Sequencer;
 use tl_tile::Resource;
 
@@ -39,7 +41,9 @@ impl<R: Wait + Drop> Model for BoardWriter<R> {
 
     ghost view = { λ p. stages.visible p.writer.desk.shown.value };
 
-    ghost invariant = { λ p. (p.writer.desk.shown.value.past ≡ p.history.past) × (sides.view p.writer.desk.place ≡ knows p.history.past.book) × stages.Rests sha256 p.writer.desk.shown.value (drop p.writer.behind p.writer.log.items) };
+    ghost invariant = { λ p. (p.writer.desk.shown.value.past ≡ p.history.past)
+        × (sides.view p.writer.desk.place ≡ knows p.history.past.book)
+        × stages.Rests sha256 p.writer.desk.shown.value (drop p.writer.behind p.writer.log.items) };
 }
 
 // Adds a publication to the book. No one else adds to it, so the loop is never reached.
@@ -59,7 +63,8 @@ fn added<N: Next, R: Wait>(rt: &R, history: HistoryWriter) -> HistoryWriter
 // Logs a step. The log has room for it, so the first round ends the loop.
 fn logged<R: Wait>(rt: &R, writer: CopyWriter, step: Step<Global>) -> CopyWriter
     ensures desk { result.desk ≡ writer.desk }
-    ensures pending { drop result.behind result.log.items ≡ drop writer.behind writer.log.items ++ step ∷ [] }
+    ensures pending { drop result.behind result.log.items
+        ≡ drop writer.behind writer.log.items ++ step ∷ [] }
 {
     let mut writer = writer;
     let mut step = step;
@@ -74,9 +79,12 @@ fn logged<R: Wait>(rt: &R, writer: CopyWriter, step: Step<Global>) -> CopyWriter
 
 // Shows what was laid down and logged. It takes no memory, so the first round ends the loop.
 fn shown<R: Wait>(rt: &R, writer: CopyWriter) -> CopyWriter
-    requires shown { stages.IsShown sha256 (stages.visible (fold stages.moved writer.desk.shown.value (drop writer.behind writer.log.items))) }
-    requires book { (fold stages.moved writer.desk.shown.value (drop writer.behind writer.log.items)).past.book ≡ writer.desk.shown.value.past.book }
-    ensures value { result.desk.shown.value ≡ fold stages.moved writer.desk.shown.value (drop writer.behind writer.log.items) }
+    requires shown { stages.IsShown sha256 (stages.visible
+        (fold stages.moved writer.desk.shown.value (drop writer.behind writer.log.items))) }
+    requires book { (fold stages.moved writer.desk.shown.value
+        (drop writer.behind writer.log.items)).past.book ≡ writer.desk.shown.value.past.book }
+    ensures value { result.desk.shown.value
+        ≡ fold stages.moved writer.desk.shown.value (drop writer.behind writer.log.items) }
     ensures view { view result.desk.place ≡ view writer.desk.place }
     ensures pending { drop result.behind result.log.items ≡ [] }
 {
@@ -94,9 +102,13 @@ fn shown<R: Wait>(rt: &R, writer: CopyWriter) -> CopyWriter
 // Brings what is pending into one copy. What is shown stays.
 fn tried<R: Wait>(rt: &R, writer: CopyWriter) -> (CopyWriter, Result<(), AllocError>)
     requires { stages.Rests sha256 writer.desk.shown.value (drop writer.behind writer.log.items) }
-    ensures rests { stages.Rests sha256 result.0.desk.shown.value (drop result.0.behind result.0.log.items) }
-    ensures visible { stages.visible result.0.desk.shown.value ≡ stages.visible writer.desk.shown.value }
-    ensures ok { OnOk result.1 ((result.0.desk.shown.value ≡ fold stages.moved writer.desk.shown.value (drop writer.behind writer.log.items)) × (drop result.0.behind result.0.log.items ≡ [])) }
+    ensures rests { stages.Rests sha256 result.0.desk.shown.value
+        (drop result.0.behind result.0.log.items) }
+    ensures visible { stages.visible result.0.desk.shown.value
+        ≡ stages.visible writer.desk.shown.value }
+    ensures ok { OnOk result.1
+        ((result.0.desk.shown.value ≡ fold stages.moved writer.desk.shown.value
+        (drop writer.behind writer.log.items)) × (drop result.0.behind result.0.log.items ≡ [])) }
     ensures view { view result.0.desk.place ≡ view writer.desk.place }
 {
     writer.publish_as::<Show, R>(rt)
@@ -105,9 +117,13 @@ fn tried<R: Wait>(rt: &R, writer: CopyWriter) -> (CopyWriter, Result<(), AllocEr
 // Brings what is pending into both copies. What is shown stays.
 fn settled<R: Wait>(rt: &R, writer: CopyWriter) -> (CopyWriter, Result<(), AllocError>)
     requires { stages.Rests sha256 writer.desk.shown.value (drop writer.behind writer.log.items) }
-    ensures rests { stages.Rests sha256 result.0.desk.shown.value (drop result.0.behind result.0.log.items) }
-    ensures visible { stages.visible result.0.desk.shown.value ≡ stages.visible writer.desk.shown.value }
-    ensures ok { OnOk result.1 ((result.0.desk.shown.value ≡ fold stages.moved writer.desk.shown.value (drop writer.behind writer.log.items)) × (drop result.0.behind result.0.log.items ≡ [])) }
+    ensures rests { stages.Rests sha256 result.0.desk.shown.value
+        (drop result.0.behind result.0.log.items) }
+    ensures visible { stages.visible result.0.desk.shown.value
+        ≡ stages.visible writer.desk.shown.value }
+    ensures ok { OnOk result.1
+        ((result.0.desk.shown.value ≡ fold stages.moved writer.desk.shown.value
+        (drop writer.behind writer.log.items)) × (drop result.0.behind result.0.log.items ≡ [])) }
     ensures view { view result.0.desk.place ≡ view writer.desk.place }
 {
     let (writer, first) = tried(rt, writer);
@@ -123,11 +139,16 @@ fn lay<R: Wait>(
     writer: CopyWriter,
     step: Step<Global>,
 ) -> (CopyWriter, Result<(), AllocError>)
-    requires rests { stages.Rests sha256 writer.desk.shown.value (drop writer.behind writer.log.items) }
+    requires rests { stages.Rests sha256 writer.desk.shown.value
+        (drop writer.behind writer.log.items) }
     requires laid { stages.IsLaid step }
-    ensures rests { stages.Rests sha256 result.0.desk.shown.value (drop result.0.behind result.0.log.items) }
-    ensures visible { stages.visible result.0.desk.shown.value ≡ stages.visible writer.desk.shown.value }
-    ensures ok { OnOk result.1 ((result.0.desk.shown.value ≡ stages.moved writer.desk.shown.value step) × (drop result.0.behind result.0.log.items ≡ [])) }
+    ensures rests { stages.Rests sha256 result.0.desk.shown.value
+        (drop result.0.behind result.0.log.items) }
+    ensures visible { stages.visible result.0.desk.shown.value
+        ≡ stages.visible writer.desk.shown.value }
+    ensures ok { OnOk result.1
+        ((result.0.desk.shown.value ≡ stages.moved writer.desk.shown.value step)
+        × (drop result.0.behind result.0.log.items ≡ [])) }
     ensures view { view result.0.desk.place ≡ view writer.desk.place }
 {
     let mut writer = writer;
@@ -148,7 +169,8 @@ impl<R: Wait + Drop> BoardWriter<R> {
         requires room { length self.past.log < 2 ^ 62 }
         requires change { stages.IsChangeFor sha256 self.past.log N.next change }
         ensures book { result.0.past.book ≡ self.past.book }
-        ensures published { IfOk result.1 (λ p. (result.0.past.log ≡ self.past.log ++ N.next ∷ []) × (p ≡ result.0.past)) }
+        ensures published { IfOk result.1
+            (λ p. (result.0.past.log ≡ self.past.log ++ N.next ∷ []) × (p ≡ result.0.past)) }
         ensures refused { OnErr result.1 (result.0 ≡ self) }
     {
         let Self {
@@ -184,9 +206,12 @@ impl<R: Wait + Drop> BoardWriter<R> {
         ask: (Change<Global>, &Sequencer<E, Global>, u64),
     ) -> (BoardWriter<R>, Result<Past, AllocError>)
         requires room { length self.past.log < 2 ^ 62 }
-        requires change { stages.IsChangeFor sha256 self.past.log (record { entries = take ask.2 (entries_of ask.1.now); note = ask.0.face.note }) ask.0 }
+        requires change { stages.IsChangeFor sha256 self.past.log
+            (published_as (take ask.2 (entries_of ask.1.now)) ask.0.face.note) ask.0 }
         ensures book { result.0.past.book ≡ self.past.book }
-        ensures published { IfOk result.1 (λ p. (result.0.past.log ≡ self.past.log ++ record { entries = take ask.entry.2 (entries_of ask.entry.1.now); note = ask.entry.0.face.note } ∷ []) × (p ≡ result.0.past)) }
+        ensures published { IfOk result.1 (λ p. (result.0.past.log ≡ self.past.log ++ published_as
+            (take ask.entry.2 (entries_of ask.entry.1.now)) ask.entry.0.face.note ∷ [])
+            × (p ≡ result.0.past)) }
         ensures refused { OnErr result.1 (result.0 ≡ self) }
     {
         let (change, log, size) = ask;
@@ -201,9 +226,12 @@ impl<R: Wait + Drop> BoardWriter<R> {
         size: u64,
     ) -> Result<Past, AllocError>
         requires room { length self.old.past.log < 2 ^ 62 }
-        requires change { stages.IsChangeFor sha256 self.old.past.log (record { entries = take size (entries_of log.now); note = change.face.note }) change }
+        requires change { stages.IsChangeFor sha256 self.old.past.log
+            (published_as (take size (entries_of log.now)) change.face.note) change }
         ensures book { self.new.past.book ≡ self.old.past.book }
-        ensures published { IfOk result (λ p. (self.new.past.log ≡ self.old.past.log ++ record { entries = take size (entries_of log.now); note = change.face.note } ∷ []) × (p ≡ self.new.past)) }
+        ensures published { IfOk result (λ p. (self.new.past.log ≡ self.old.past.log
+            ++ published_as (take size (entries_of log.now)) change.face.note ∷ [])
+            × (p ≡ self.new.past)) }
         ensures refused { OnErr result (self.new ≡ self.old) }
     {
         replace_with(self, (change, log, size), BoardWriter::<R>::show_log::<E>)
@@ -225,7 +253,8 @@ impl<R: Wait + Drop> BoardWriter<R> {
         alloc: B,
         resource: Resource,
     ) -> Result<Option<Vec<u8, B>>, AllocError>
-        ensures { IfOk result (λ r. option_map (λ v. v.items) r ≡ boards.shown sha256 resource self.now.past.log) }
+        ensures { IfOk result
+            (λ r. option_map (λ v. v.items) r ≡ boards.shown sha256 resource self.now.past.log) }
     {
         bytes_of(self.writer.published(), alloc, resource)
     }

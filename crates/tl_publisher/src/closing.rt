@@ -9,11 +9,12 @@ ghost use Rattle.tl_sequencer.specs.Steps.{IsFirstOpen};
 
 use crate::board_writer::BoardWriter;
 use crate::fault::GetFault;
-use crate::operator::{Operator, Shown};
-use crate::reader::Head;
+use crate::operator::Operator;
+use crate::running_log::RunningLog;
 use std::alloc::{Allocator, Global};
 use std::marker::Model;
 use std::sync::Wait;
+use tl_hash::Head;
 use tl_sequencer::Complete;
 use tl_tile::Resource;
 
@@ -30,10 +31,12 @@ impl<R: Wait + Drop> Operator<R> {
     /// Closes the log. Where the end of each lane was taken in it is complete: it has all that was submitted, and the
     /// board keeps what was published last; a proposal is dropped. Else the operator comes back as it was.
     pub fn close(self) -> Result<(Complete<Global, Global>, Board<R>), OperatorBack<R>>
-        requires { IsOperating (⟦<Operator<R> as Shown>⟧.shown self) }
-        ensures closed { IfOk result (λ r. IsClosed (⟦<Operator<R> as Shown>⟧.shown self) r.0 r.1) }
+        requires { IsOperating (⟦<Operator<R> as RunningLog>⟧.state self) }
+        ensures closed { IfOk result
+            (λ r. IsClosed (⟦<Operator<R> as RunningLog>⟧.state self) r.0 r.1) }
         ensures back { IfErr result (λ r. r.operator ≡ self) }
-        ensures lane { IfErr result (λ r. IsFirstOpen (⟦<Operator<R> as Shown>⟧.shown self).log r.lane) }
+        ensures lane { IfErr result
+            (λ r. IsFirstOpen (⟦<Operator<R> as RunningLog>⟧.state self).log r.lane) }
     {
         let Operator {
             alloc,
@@ -86,7 +89,8 @@ impl<R: Wait + Drop> Board<R> {
         resource: &Resource,
     ) -> Result<Option<Vec<u8, B>>, GetFault>
         ensures same { self.new ≡ self.old }
-        ensures answer { IfOk result (λ r. option_map vec_items r ≡ boards.shown sha256 resource.now self.old.log) }
+        ensures answer { IfOk result
+            (λ r. option_map vec_items r ≡ boards.shown sha256 resource.now self.old.log) }
         ensures memory { IfErr result (λ fault. fault ≡ GetFault.OutOfMemory) }
     {
         let found = self.writer.get(alloc, *resource)?;
@@ -96,7 +100,8 @@ impl<R: Wait + Drop> Board<R> {
     /// Size and root of the last publication, None where nothing was published. It never fails.
     pub fn head(&mut self) -> Result<Option<Head>, GetFault>
         ensures same { self.new ≡ self.old }
-        ensures answer { IfOk result (λ r. option_map (λ h. (h.size, h.root)) r ≡ boards.head_if sha256 (histories.last_of self.old.log)) }
+        ensures answer { IfOk result (λ r. option_map
+            (λ h. (h.size, h.root)) r ≡ boards.head_if sha256 (histories.last_of self.old.log)) }
         ensures never { IfErr result (λ _. ⊥) }
     {
         Ok(self.writer.head())

@@ -11,12 +11,11 @@ ghost use Rattle.tl_publisher.specs.Grown.{IsGrown, texts_of};
 
 use crate::board_copy::Change;
 use crate::face::{Face, Sheet};
-use crate::reader::Head;
 use crate::text::Text;
 use std::alloc::{AllocError, Allocator};
 use std::marker::Model;
 use std::mem;
-use tl_hash::Sha256Tree;
+use tl_hash::{Head, Sha256Tree};
 use tl_tile::{Edge, Tile, push_entry};
 
 /// A full bundle, and the full tiles that its last entry completed.
@@ -47,7 +46,8 @@ impl<A: Allocator> Model for Growth<A> {
 
     ghost Value = { Grown };
 
-    ghost view = { λ g. record { edge = g.edge; bundle = g.bundle.items; waiting = g.waiting.items } };
+    ghost view = { λ g.
+        record { edge = g.edge; bundle = g.bundle.items; waiting = g.waiting.items } };
 }
 
 // Puts an entry behind a bundle that has room for it.
@@ -96,7 +96,8 @@ impl<A: Allocator + Copy> Growth<A> {
     pub(crate) fn append(&mut self, entry: &[u8]) -> Result<(), AllocError>
         requires room { self.old.edge.size < 2 ^ 32 - 1 }
         requires short { IsShortEntry entry.now }
-        ensures grown { (start : ℕ) (entries : List (List ℕ)) → IsGrown sha256 start entries self.old → OnOk result (IsGrown sha256 start (entries ++ entry.now ∷ []) self.new) }
+        ensures grown { (start : ℕ) (entries : List (List ℕ)) → IsGrown sha256 start entries
+            self.old → OnOk result (IsGrown sha256 start (entries ++ entry.now ∷ []) self.new) }
         ensures size { OnOk result (self.new.edge.size ≡ self.old.edge.size + 1) }
         ensures unchanged { OnErr result (self.new ≡ self.old) }
     {
@@ -115,7 +116,8 @@ impl<A: Allocator + Copy> Growth<A> {
     /// Size and tree hash of the entries.
     pub(crate) fn head(&self) -> Head
         ensures size { result.size ≡ self.now.edge.size }
-        ensures root { (start : ℕ) (entries : List (List ℕ)) → IsGrown sha256 start entries self.now → result.root ≡ tree_hash sha256 entries }
+        ensures root { (start : ℕ) (entries : List (List ℕ))
+            → IsGrown sha256 start entries self.now → result.root ≡ tree_hash sha256 entries }
     {
         Head {
             size: self.edge.size(),
@@ -125,7 +127,8 @@ impl<A: Allocator + Copy> Growth<A> {
 
     /// A growth that goes on from these entries, which has filled nothing yet.
     pub(crate) fn fork(&self) -> Result<Growth<A>, AllocError>
-        ensures grown { (start : ℕ) (entries : List (List ℕ)) → IsGrown sha256 start entries self.now → IfOk result (IsGrown sha256 (length entries) entries) }
+        ensures grown { (start : ℕ) (entries : List (List ℕ)) → IsGrown
+            sha256 start entries self.now → IfOk result (IsGrown sha256 (length entries) entries) }
         ensures size { IfOk result (λ g. g.edge.size ≡ self.now.edge.size) }
     {
         let alloc = *self.bundle.allocator();
@@ -138,7 +141,9 @@ impl<A: Allocator + Copy> Growth<A> {
 
     /// Takes in what a growth that went on from here has taken in. Where memory is refused nothing changes.
     pub(crate) fn join(&mut self, next: Growth<A>) -> Result<(), AllocError>
-        ensures grown { (start : ℕ) (entries more : List (List ℕ)) → IsGrown sha256 start entries self.old → IsGrown sha256 (length entries) (entries ++ more) next → OnOk result (IsGrown sha256 start (entries ++ more) self.new) }
+        ensures grown { (start : ℕ) (entries more : List (List ℕ))
+            → IsGrown sha256 start entries self.old → IsGrown sha256 (length entries)
+            (entries ++ more) next → OnOk result (IsGrown sha256 start (entries ++ more) self.new) }
         ensures size { OnOk result (self.new.edge.size ≡ next.edge.size) }
         ensures unchanged { OnErr result (self.new ≡ self.old) }
     {
@@ -155,7 +160,8 @@ impl<A: Allocator + Copy> Growth<A> {
 
     /// What waits was published.
     pub(crate) fn settle(&mut self)
-        ensures settled { (start : ℕ) (entries : List (List ℕ)) → IsGrown sha256 start entries self.old → IsGrown sha256 (length entries) entries self.new }
+        ensures settled { (start : ℕ) (entries : List (List ℕ)) → IsGrown
+            sha256 start entries self.old → IsGrown sha256 (length entries) entries self.new }
         ensures size { self.new.edge.size ≡ self.old.edge.size }
     {
         self.waiting.clear();
@@ -176,7 +182,8 @@ fn put_tiles<A: Allocator + Copy>(
     tiles: &Vec<(Tile, Vec<u8, A>), A>,
     out: &mut Vec<Text<A>, A>,
 ) -> Result<(), AllocError>
-    ensures { OnOk result (out.new.items ≡ out.old.items ++ map (λ t. vec_items t.1) tiles.now.items) }
+    ensures { OnOk result
+        (out.new.items ≡ out.old.items ++ map (λ t. vec_items t.1) tiles.now.items) }
 {
     for tile in tiles {
         out.push(shared(alloc, &tile.1)?)?;
@@ -216,7 +223,8 @@ fn partial_bytes<A: Allocator + Copy>(
     level: u32,
 ) -> Result<Vec<u8, A>, AllocError>
     requires { level < 8 }
-    ensures { (entries : List (List ℕ)) → IsEdgeOf edge.now sha256 entries → IfOk result (λ bytes. bytes.items ≡ tile_text sha256 (partial_tile (length entries) level) entries) }
+    ensures { (entries : List (List ℕ)) → IsEdgeOf edge.now sha256 entries → IfOk result
+        (λ bytes. bytes.items ≡ tile_text sha256 (partial_tile (length entries) level) entries) }
 {
     match edge.partial(level)? {
         Some((_tile, bytes)) => Ok(bytes),
@@ -229,8 +237,9 @@ fn partial_tiles<A: Allocator + Copy>(
     alloc: A,
     edge: &Edge<Sha256Tree, A>,
 ) -> Result<Vec<Vec<u8, A>, A>, AllocError>
-    ensures { (entries : List (List ℕ)) → IsEdgeOf edge.now sha256 entries
-        → IfOk result (λ tiles. (level : ℕ) → level < 8 → slice_index_or (map vec_items tiles.items) level [] ≡ tile_text sha256 (partial_tile (length entries) level) entries) }
+    ensures { (entries : List (List ℕ)) → IsEdgeOf edge.now sha256 entries → IfOk result
+        (λ tiles. (level : ℕ) → level < 8 → slice_index_or (map vec_items tiles.items) level []
+        ≡ tile_text sha256 (partial_tile (length entries) level) entries) }
 {
     let mut tiles = Vec::new(alloc);
     for level in 0..8u32 {
@@ -242,7 +251,10 @@ fn partial_tiles<A: Allocator + Copy>(
 impl<A: Allocator + Copy> Growth<A> {
     /// What a publication of its entries adds, with this note.
     pub(crate) fn change(&self, note: Vec<u8, A>) -> Result<Change<A>, AllocError>
-        ensures { (start : ℕ) (entries : List (List ℕ)) → IsGrown sha256 start entries self.now → IfOk result (λ c. (c.added ≡ filled_from sha256 entries start (length entries - start)) × IsFaceOf sha256 (record { entries = entries; note = note.items }) c.face) }
+        ensures { (start : ℕ) (entries : List (List ℕ))
+            → IsGrown sha256 start entries self.now → IfOk result
+            (λ c. (c.added ≡ filled_from sha256 entries start (length entries - start))
+            × IsFaceOf sha256 (record { entries = entries; note = note.items }) c.face) }
     {
         let alloc = *self.bundle.allocator();
         let added = texts_in(alloc, &self.waiting)?;

@@ -7,9 +7,9 @@ ghost use Rattle.tl_publisher.specs.Inner.Noting.{AsPublishFault, IsSignFault, N
 ghost use Rattle.tl_publisher.specs.Signed.{AreSigners};
 
 use crate::fault::PublishFault;
-use crate::reader::Head;
 use std::alloc::{AllocError, Global};
 use tl_checkpoint::{Checkpoint, CheckpointFault, write};
+use tl_hash::Head;
 use tl_note::{NoteFault, Signer, sign_note};
 
 // Why there is no note: lawful signers of a lawful text refuse, or memory does.
@@ -28,7 +28,8 @@ fn refusal(fault: NoteFault) -> PublishFault
 pub(crate) fn text_of(alloc: Global, origin: &str, head: Head) -> Result<String, AllocError>
     requires origin { IsOneLine origin.now }
     requires size { IsSize head.size }
-    ensures text { IfOk result (λ text. string_bytes text ≡ text_of_head origin.now head.size head.root) }
+    ensures text { IfOk result
+        (λ text. string_bytes text ≡ text_of_head origin.now head.size head.root) }
     ensures note { IfOk result (λ text. IsNoteText (string_bytes text)) }
 {
     let checkpoint = Checkpoint {
@@ -54,7 +55,8 @@ pub(crate) fn note_of(
     requires origin { IsOneLine origin.now }
     requires signers { AreSigners (map (λ s. signing_key s) signers.now) }
     requires size { IsSize head.size }
-    ensures { NotesHead origin.now (map (λ s. signing_key s) signers.now) head.size head.root result }
+    ensures { NotesHead origin.now
+        (map (λ s. signing_key s) signers.now) head.size head.root result }
 {
     let text = text_of(alloc, origin, head)?;
     match sign_note(alloc, alloc, text.as_str(), signers) {

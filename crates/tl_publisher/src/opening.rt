@@ -12,13 +12,14 @@ ghost use Rattle.tl_text.specs.Text.{IsOneLine};
 
 use crate::fault::OperatorFault;
 use crate::growth::Growth;
-use crate::operator::{Operator, Shown};
+use crate::operator::{OpenedLog, Operator};
 use crate::reader::BoardReader;
 use crate::run::Run;
+use crate::running_log::RunningLog;
 use std::alloc::Global;
 use std::sync::Wait;
 use tl_note::{Signer, first_bad_name};
-use tl_sequencer::{OpenFault, Sequencer, Submitter};
+use tl_sequencer::{OpenFault, Sequencer};
 use tl_text::is_one_line;
 
 const MOST_SIGNERS: usize = 100;
@@ -45,8 +46,10 @@ pub(crate) fn first_wrong(
     signers: &[Box<dyn Signer>],
     readers: u32,
 ) -> Option<OperatorFault>
-    ensures { MatchOption result (MayOpenAll origin.now (map (λ s. signing_key s) signers.now) readers)
-        (λ fault. (lanes capacity limit : ℕ) → OpenRefusesOperator origin.now (map (λ s. signing_key s) signers.now) lanes capacity limit readers fault) }
+    ensures { MatchOption result
+        (MayOpenAll origin.now (map (λ s. signing_key s) signers.now) readers)
+        (λ fault. (lanes capacity limit : ℕ) → OpenRefusesOperator origin.now
+        (map (λ s. signing_key s) signers.now) lanes capacity limit readers fault) }
 {
     if !is_one_line(origin) {
         return Some(OperatorFault::Origin);
@@ -95,10 +98,12 @@ pub(crate) fn begin<R: Wait + Drop>(
     requires grown { IsGrown sha256 0 (entries_of log) growth }
     requires few { log.limit < 2 ^ 32 }
     requires readers { (1 ≤ readers) × (readers ≤ 64) }
-    ensures log { IfOk result (λ r. (⟦<Operator<R> as Shown>⟧.shown r.0).log ≡ log) }
-    ensures begun { IfOk result (λ r. IsBegun origin.now (map (λ s. signing_key s) signers.items) (⟦<Operator<R> as Shown>⟧.shown r.0)) }
-    ensures operating { IfOk result (λ r. IsOperating (⟦<Operator<R> as Shown>⟧.shown r.0)) }
-    ensures readers { IfOk result (λ r. HaveSeen (⟦<Operator<R> as Shown>⟧.shown r.0).past readers r.1.items) }
+    ensures log { IfOk result (λ r. (⟦<Operator<R> as RunningLog>⟧.state r.0).log ≡ log) }
+    ensures begun { IfOk result (λ r. IsBegun origin.now
+        (map (λ s. signing_key s) signers.items) (⟦<Operator<R> as RunningLog>⟧.state r.0)) }
+    ensures operating { IfOk result (λ r. IsOperating (⟦<Operator<R> as RunningLog>⟧.state r.0)) }
+    ensures readers { IfOk result
+        (λ r. HaveSeen (⟦<Operator<R> as RunningLog>⟧.state r.0).past readers r.1.items) }
     ensures refused { IfErr result IsWant }
 {
     let origin = String::from_str(alloc, origin)?;
@@ -131,18 +136,15 @@ impl<R: Wait + Drop> Operator<R> {
         capacity: usize,
         limit: u64,
         readers: u32,
-    ) -> Result<
-        (
-            Operator<R>,
-            Vec<Submitter<Global, Global>>,
-            Vec<BoardReader<Global>>,
-        ),
-        OperatorFault,
-    >
-        ensures opened { IfOk result (λ r. IsNew origin.now (map (λ s. signing_key s) signers.items) [] lanes capacity limit (⟦<Operator<R> as Shown>⟧.shown r.0) r.1.items) }
-        ensures operating { IfOk result (λ r. IsOperating (⟦<Operator<R> as Shown>⟧.shown r.0)) }
-        ensures readers { IfOk result (λ r. HaveSeen (⟦<Operator<R> as Shown>⟧.shown r.0).past readers r.2.items) }
-        ensures refused { IfErr result (λ fault. OpenRefusesOperator origin.now (map (λ s. signing_key s) signers.items) lanes capacity limit readers fault) }
+    ) -> Result<OpenedLog<R>, OperatorFault>
+        ensures opened { IfOk result (λ r. IsNew origin.now (map (λ s. signing_key s) signers.items)
+            [] lanes capacity limit (⟦<Operator<R> as RunningLog>⟧.state r.0) r.1.items) }
+        ensures operating { IfOk result
+            (λ r. IsOperating (⟦<Operator<R> as RunningLog>⟧.state r.0)) }
+        ensures readers { IfOk result
+            (λ r. HaveSeen (⟦<Operator<R> as RunningLog>⟧.state r.0).past readers r.2.items) }
+        ensures refused { IfErr result (λ fault. OpenRefusesOperator origin.now
+            (map (λ s. signing_key s) signers.items) lanes capacity limit readers fault) }
     {
         if let Some(fault) = first_wrong(origin, signers.as_slice(), readers) {
             return Err(fault);

@@ -123,7 +123,8 @@ impl Past {
     /// Goes on to what another has seen, unless that is less.
     pub(crate) fn follow(&mut self, other: &Past) -> bool
         requires { other.now.book ≡ self.old.book }
-        ensures { MatchBool result ((self.new ≡ other.now) × Grew self.old self.new) (self.new ≡ self.old) }
+        ensures { MatchBool result
+            ((self.new ≡ other.now) × Grew self.old self.new) (self.new ≡ self.old) }
     {
         let mut both = self.seen.again();
         both.learn(&other.seen);
@@ -167,7 +168,8 @@ impl HistoryWriter {
     pub(crate) fn add<N: Next>(&mut self) -> bool
         requires room { length self.old.past.log < 2 ^ 62 }
         ensures book { self.new.past.book ≡ self.old.past.book }
-        ensures added { MatchBool result (self.new.past.log ≡ self.old.past.log ++ N.next ∷ []) (Unit {0}) }
+        ensures added { MatchBool result
+            (self.new.past.log ≡ self.old.past.log ++ N.next ∷ []) (Unit {0}) }
     {
         self.past.add::<N>(&self.head)
     }

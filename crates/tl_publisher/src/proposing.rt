@@ -1,14 +1,13 @@
 //! Who must cosign a checkpoint before it is shown, and what is proposed to them.
 
-ghost use Rattle.std.specs.Prelude.{◌≡◌, ◌↔◌, IfErr, IfOk, IsTrue, MatchOption, map, string_bytes};
-ghost use Rattle.tl_checkpoint.specs.Quorum.{AreApart};
-ghost use Rattle.tl_publisher.specs.Operating.{IsOfSame, IsOperating};
-ghost use Rattle.tl_publisher.specs.Proposing.{IsEarly, IsProposed, IsRequired, MayNeed, ProposeRefuses, RequireRefuses};
-ghost use Rattle.tl_publisher.specs.Publishing.{IsSame};
+ghost use Rattle.std.specs.Prelude.{◌≡◌, ◌↔◌, IfErr, IfOk, IsTrue, MatchOption, map};
+ghost use Rattle.tl_publisher.specs.Inner.Requiring.{MayRequire};
+ghost use Rattle.tl_publisher.specs.Operating.{IsOperating};
+ghost use Rattle.tl_publisher.specs.Proposing.{IsRequired, MayNeed, RequireRefuses};
 
-use crate::fault::{PublishFault, RequireFault};
-use crate::noting::note_of;
-use crate::operator::{Operator, Shown};
+use crate::fault::RequireFault;
+use crate::operator::Operator;
+use crate::running_log::RunningLog;
 use std::sync::Wait;
 use tl_checkpoint::have_distinct_names;
 use tl_note::{MOST_LINES, Verifier};
@@ -32,7 +31,8 @@ pub struct RequireBack {
 impl<R: Wait + Drop> Operator<R> {
     // Whether so many of these witnesses can be required.
     fn may_need(&self, witnesses: &[Box<dyn Verifier>], need: u32) -> bool
-        ensures { IsTrue result ↔ MayNeed (⟦<Operator<R> as Shown>⟧.shown self.now) (record { witnesses = map (λ w. key w) witnesses.now; need = need }) }
+        ensures { IsTrue result ↔ MayNeed (⟦<Operator<R> as RunningLog>⟧.state self.now)
+            (record { witnesses = map (λ w. key w) witnesses.now; need = need }) }
     {
         if need < 1 || need as usize > witnesses.len() {
             return false;
@@ -43,8 +43,10 @@ impl<R: Wait + Drop> Operator<R> {
     // Why these witnesses can't be required.
     fn refusal(&self, witnesses: &[Box<dyn Verifier>], need: u32) -> Option<RequireFault>
         ensures { MatchOption result
-            (IsEarly (⟦<Operator<R> as Shown>⟧.shown self.now) × MayNeed (⟦<Operator<R> as Shown>⟧.shown self.now) (record { witnesses = map (λ w. key w) witnesses.now; need = need }) × AreApart (map (λ w. key w) witnesses.now))
-            (RequireRefuses (⟦<Operator<R> as Shown>⟧.shown self.now) (record { witnesses = map (λ w. key w) witnesses.now; need = need })) }
+            (MayRequire (⟦<Operator<R> as RunningLog>⟧.state self.now)
+            (record { witnesses = map (λ w. key w) witnesses.now; need = need }))
+            (RequireRefuses (⟦<Operator<R> as RunningLog>⟧.state self.now)
+            (record { witnesses = map (λ w. key w) witnesses.now; need = need })) }
     {
         if self.need > 0 || !self.run.is_unpublished() {
             return Some(RequireFault::Late);
@@ -66,12 +68,18 @@ impl<R: Wait + Drop> Operator<R> {
         witnesses: Vec<Box<dyn Verifier>>,
         need: u32,
     ) -> Result<(), RequireBack>
-        requires { IsOperating (⟦<Operator<R> as Shown>⟧.shown self.old) }
-        ensures operating { IsOperating (⟦<Operator<R> as Shown>⟧.shown self.new) }
-        ensures required { IfOk result (λ _. IsRequired (⟦<Operator<R> as Shown>⟧.shown self.old) (⟦<Operator<R> as Shown>⟧.shown self.new) (record { witnesses = map (λ w. key w) witnesses.items; need = need })) }
-        ensures same { IfErr result (λ _. ⟦<Operator<R> as Shown>⟧.shown self.new ≡ ⟦<Operator<R> as Shown>⟧.shown self.old) }
+        requires { IsOperating (⟦<Operator<R> as RunningLog>⟧.state self.old) }
+        ensures operating { IsOperating (⟦<Operator<R> as RunningLog>⟧.state self.new) }
+        ensures required { IfOk result
+            (λ _. IsRequired (⟦<Operator<R> as RunningLog>⟧.state self.old)
+            (⟦<Operator<R> as RunningLog>⟧.state self.new)
+            (record { witnesses = map (λ w. key w) witnesses.items; need = need })) }
+        ensures same { IfErr result (λ _. ⟦<Operator<R> as RunningLog>⟧.state self.new
+            ≡ ⟦<Operator<R> as RunningLog>⟧.state self.old) }
         ensures back { IfErr result (λ back. back.witnesses ≡ witnesses) }
-        ensures why { IfErr result (λ back. RequireRefuses (⟦<Operator<R> as Shown>⟧.shown self.old) (record { witnesses = map (λ w. key w) witnesses.items; need = need }) back.why) }
+        ensures why { IfErr result
+            (λ back. RequireRefuses (⟦<Operator<R> as RunningLog>⟧.state self.old)
+            (record { witnesses = map (λ w. key w) witnesses.items; need = need }) back.why) }
     {
         if let Some(why) = self.refusal(witnesses.as_slice(), need) {
             return Err(RequireBack { witnesses, why });
@@ -79,37 +87,5 @@ impl<R: Wait + Drop> Operator<R> {
         self.witnesses = witnesses;
         self.need = need;
         Ok(())
-    }
-
-    /// Signs the checkpoint of the log as it is, for the witnesses, and keeps it as what is proposed, in place of what
-    /// was before. Nothing is shown yet. `Quorum`: no witness is required. `NothingNew`: the last publication is of the
-    /// whole log. `Sign`: a signer gave no signature. A call that is refused changes nothing, and what was proposed
-    /// before stays. It doesn't wait.
-    pub fn propose(&mut self) -> Result<Proposal, PublishFault>
-        requires { IsOperating (⟦<Operator<R> as Shown>⟧.shown self.old) }
-        ensures operating { IsOperating (⟦<Operator<R> as Shown>⟧.shown self.new) }
-        ensures keys { IsOfSame (⟦<Operator<R> as Shown>⟧.shown self.old) (⟦<Operator<R> as Shown>⟧.shown self.new) }
-        ensures proposed { IfOk result (λ p. IsProposed (⟦<Operator<R> as Shown>⟧.shown self.old) (⟦<Operator<R> as Shown>⟧.shown self.new) p.size (string_bytes p.note)) }
-        ensures same { IfErr result (λ _. IsSame (⟦<Operator<R> as Shown>⟧.shown self.old) (⟦<Operator<R> as Shown>⟧.shown self.new)) }
-        ensures why { IfErr result (λ fault. ProposeRefuses (⟦<Operator<R> as Shown>⟧.shown self.old) fault) }
-    {
-        if self.need == 0 {
-            return Err(PublishFault::Quorum);
-        }
-        if self.run.is_published() {
-            return Err(PublishFault::NothingNew);
-        }
-        let next = self.run.next()?;
-        let note = note_of(
-            self.alloc,
-            self.origin.as_str(),
-            self.signers.as_slice(),
-            next.head(),
-        )?;
-        let copy = String::from_str(self.alloc, note.as_str())?;
-        let size = next.size();
-        self.run.adopt(next)?;
-        self.proposal = Some(note);
-        Ok(Proposal { size, note: copy })
     }
 }

@@ -16,15 +16,8 @@ use crate::rule::{CopyReader, Look};
 use core::mem::replace_with;
 use std::alloc::{AllocError, Allocator};
 use std::marker::Model;
-use tl_hash::Hash;
+use tl_hash::Head;
 use tl_tile::Resource;
-
-/// The size of a publication, and the tree hash of its entries.
-#[derive(Clone, Copy, Debug, PartialEq, Eq)]
-pub struct Head {
-    pub size: u64,
-    pub root: Hash,
-}
 
 /// Reads the board, and never waits. Contracts see what it has seen of the history of publications.
 #[derive(Drop)]
@@ -53,7 +46,8 @@ pub(crate) fn bytes_of<A: Allocator, B: Allocator>(
     resource: Resource,
 ) -> Result<Option<Vec<u8, B>>, AllocError>
     requires { stages.IsShown sha256 (stages.visible copy.now) }
-    ensures { IfOk result (λ r. option_map (λ v. v.items) r ≡ boards.shown sha256 resource copy.now.past.log) }
+    ensures { IfOk result
+        (λ r. option_map (λ v. v.items) r ≡ boards.shown sha256 resource copy.now.past.log) }
 {
     match copy.found(resource) {
         Some(bytes) => Ok(Some(Vec::from_slice(alloc, bytes)?)),
@@ -67,7 +61,8 @@ fn latest_of<A: Allocator, B: Allocator>(
     alloc: B,
 ) -> Result<Option<(Head, Vec<u8, B>)>, AllocError>
     requires { stages.IsShown sha256 (stages.visible copy.now) }
-    ensures { IfOk result (λ r. option_map head_and_note r ≡ boards.latest_if sha256 (last_of copy.now.past.log)) }
+    ensures { IfOk result
+        (λ r. option_map head_and_note r ≡ boards.latest_if sha256 (last_of copy.now.past.log)) }
 {
     let Some(head) = copy.head() else {
         return Ok(None);
@@ -141,7 +136,8 @@ fn look_at_latest<A: Allocator, B: Allocator>(
     reader: BoardReader<A>,
     alloc: B,
 ) -> (BoardReader<A>, Result<Option<(Head, Vec<u8, B>)>, GetFault>)
-    ensures { AnswersLatest (boards.latest_if sha256 (last_of result.0.log)) reader result.0 result.1 }
+    ensures { AnswersLatest
+        (boards.latest_if sha256 (last_of result.0.log)) reader result.0 result.1 }
 {
     let BoardReader { reader, past } = reader;
     let mut past = past;
@@ -180,14 +176,16 @@ impl<A: Allocator> BoardReader<A> {
         alloc: B,
         resource: &Resource,
     ) -> Result<Option<Vec<u8, B>>, GetFault>
-        ensures { AnswersBytes (boards.shown sha256 resource.now self.new.log) self.old self.new result }
+        ensures { AnswersBytes
+            (boards.shown sha256 resource.now self.new.log) self.old self.new result }
     {
         replace_with(self, (alloc, *resource), look)
     }
 
     /// Size and root of the last publication. It takes no memory.
     pub fn head(&mut self) -> Result<Option<Head>, GetFault>
-        ensures { AnswersHead (boards.head_if sha256 (last_of self.new.log)) self.old self.new result }
+        ensures { AnswersHead
+            (boards.head_if sha256 (last_of self.new.log)) self.old self.new result }
     {
         replace_with(self, (), look_ahead)
     }
@@ -195,7 +193,8 @@ impl<A: Allocator> BoardReader<A> {
     /// Size and root of the last publication together with its note: those of one publication, whatever is published
     /// meanwhile.
     pub fn latest<B: Allocator>(&mut self, alloc: B) -> Result<Option<(Head, Vec<u8, B>)>, GetFault>
-        ensures { AnswersLatest (boards.latest_if sha256 (last_of self.new.log)) self.old self.new result }
+        ensures { AnswersLatest
+            (boards.latest_if sha256 (last_of self.new.log)) self.old self.new result }
     {
         replace_with(self, alloc, look_at_latest)
     }

@@ -7,20 +7,20 @@ ghost use Rattle.tl_note.specs.Note.{IsNote};
 ghost use Rattle.tl_publisher.specs.Grown.{IsGrown};
 ghost use Rattle.tl_publisher.specs.Inner.Resuming.{MissesBundle, Refuses, after_bundle, after_operator, after_sequencer};
 ghost use Rattle.tl_publisher.specs.Operating.{HaveSeen, IsNew, IsOperating};
-ghost use Rattle.tl_publisher.specs.Resuming.{AreBundlesOf, IsBase, IsBundleAt, IsFirstBad, IsOfOrigin, IsSized, ResumeRefuses, bundle_count};
+ghost use Rattle.tl_publisher.specs.Resuming.{resumption, AreBundlesOf, IsBase, IsBundleAt, IsFirstBad, IsOfOrigin, IsSized, ResumeRefuses, bundle_count};
 ghost use Rattle.tl_tile.specs.Needed.{bundle_width};
 ghost use Rattle.tl_tile.specs.Bundle.{AreEntries, bundle_text};
 
 use crate::fault::{OperatorFault, ResumeFault};
 use crate::growth::Growth;
 use crate::opening::{begin, first_wrong};
-use crate::operator::{Operator, Shown};
-use crate::reader::BoardReader;
+use crate::operator::{OpenedLog, Operator};
+use crate::running_log::RunningLog;
 use std::alloc::Global;
 use std::sync::Wait;
 use tl_checkpoint::{Checkpoint, OpenCheckpointFault, open_checkpoint};
 use tl_note::{Signer, Verifier};
-use tl_sequencer::{OpenFault, Submitter, open_from};
+use tl_sequencer::{OpenFault, open_from};
 use tl_tile::{BundleFault, bundle_width, read_bundle};
 
 const MOST_ENTRIES: u64 = 0xFFFF_FFFF;
@@ -32,8 +32,11 @@ fn checkpoint_of(
     verifiers: &[Box<dyn Verifier>],
     origin: &str,
 ) -> Result<Checkpoint<Global>, ResumeFault>
-    ensures checkpoint { (bundles : List (List ℕ)) (limit : ℕ) → IfOk result (λ c. IsOfOrigin (record { note = note.now; keys = map (λ v. key v) verifiers.now; bundles = bundles; origin = origin.now; limit = limit }) (head_of c)) }
-    ensures refused { (bundles : List (List ℕ)) (limit : ℕ) → IfErr result (Refuses (record { note = note.now; keys = map (λ v. key v) verifiers.now; bundles = bundles; origin = origin.now; limit = limit })) }
+    ensures checkpoint { (bundles : List (List ℕ)) (limit : ℕ) → IfOk result (λ c.
+        IsOfOrigin (resumption note.now (map (λ v. key v) verifiers.now) bundles origin.now limit)
+        (head_of c)) }
+    ensures refused { (bundles : List (List ℕ)) (limit : ℕ) → IfErr result
+        (Refuses (resumption note.now (map (λ v. key v) verifiers.now) bundles origin.now limit)) }
 {
     let checkpoint = match open_checkpoint(alloc, note, verifiers) {
         Ok(checkpoint) => checkpoint,
@@ -75,9 +78,12 @@ fn read_at(
 ) -> Result<Vec<Vec<u8>>, ResumeFault>
     requires within { place < length bundles.now }
     requires counted { length bundles.now ≡ bundle_count size }
-    ensures entries { IfOk result (λ entries. AreEntries (bundle_width size place) (map vec_items entries.items)) }
-    ensures text { IfOk result (λ entries. slice_index_or (map vec_items bundles.now) place [] ≡ bundle_text (map vec_items entries.items)) }
-    ensures refused { ((i : ℕ) → i < place → IsBundleAt (map vec_items bundles.now) size i) → IfErr result (MissesBundle (map vec_items bundles.now) size) }
+    ensures entries { IfOk result
+        (λ entries. AreEntries (bundle_width size place) (map vec_items entries.items)) }
+    ensures text { IfOk result (λ entries. slice_index_or (map vec_items bundles.now) place []
+        ≡ bundle_text (map vec_items entries.items)) }
+    ensures refused { ((i : ℕ) → i < place → IsBundleAt (map vec_items bundles.now) size i)
+        → IfErr result (MissesBundle (map vec_items bundles.now) size) }
 {
     let width = bundle_width(size, place as u64);
     match read_bundle(alloc, &bundles[place], width) {
@@ -90,7 +96,8 @@ fn read_at(
 fn read_all(alloc: Global, bundles: &[Vec<u8>], size: u64) -> Result<Vec<Vec<u8>>, ResumeFault>
     requires { length bundles.now ≡ bundle_count size }
     ensures length { IfOk result (λ base. length base.items ≡ size) }
-    ensures entries { IfOk result (λ base. AreBundlesOf (map vec_items base.items) (map vec_items bundles.now)) }
+    ensures entries { IfOk result
+        (λ base. AreBundlesOf (map vec_items base.items) (map vec_items bundles.now)) }
     ensures refused { IfErr result (MissesBundle (map vec_items bundles.now) size) }
 {
     let mut base = Vec::new(alloc);
@@ -110,9 +117,11 @@ fn base_of(
     origin: &str,
     limit: u64,
 ) -> Result<(Vec<Vec<u8>>, Growth<Global>), ResumeFault>
-    ensures base { IfOk result (λ r. IsBase (record { note = note.now; keys = map (λ v. key v) verifiers.now; bundles = map vec_items bundles.now; origin = origin.now; limit = limit }) (map vec_items r.0.items)) }
+    ensures base { IfOk result (λ r. IsBase (resumption note.now (map (λ v. key v) verifiers.now)
+        (map vec_items bundles.now) origin.now limit) (map vec_items r.0.items)) }
     ensures grown { IfOk result (λ r. IsGrown sha256 0 (map vec_items r.0.items) r.1) }
-    ensures refused { IfErr result (Refuses (record { note = note.now; keys = map (λ v. key v) verifiers.now; bundles = map vec_items bundles.now; origin = origin.now; limit = limit })) }
+    ensures refused { IfErr result (Refuses (resumption note.now
+        (map (λ v. key v) verifiers.now) (map vec_items bundles.now) origin.now limit)) }
 {
     let checkpoint = checkpoint_of(alloc, note, verifiers, origin)?;
     if !is_sized(checkpoint.size, bundles.len(), limit) {
@@ -166,18 +175,18 @@ impl<R: Wait + Drop> Operator<R> {
         readers: u32,
         note: &str,
         bundles: &[Vec<u8>],
-    ) -> Result<
-        (
-            Operator<R>,
-            Vec<Submitter<Global, Global>>,
-            Vec<BoardReader<Global>>,
-        ),
-        ResumeFault,
-    >
-        ensures resumed { IfOk result (λ r. (base : List (List ℕ)) × IsBase (record { note = note.now; keys = map (λ v. key v) verifiers.now; bundles = map vec_items bundles.now; origin = origin.now; limit = limit }) base × IsNew origin.now (map (λ s. signing_key s) signers.items) base lanes capacity limit (⟦<Operator<R> as Shown>⟧.shown r.0) r.1.items) }
-        ensures operating { IfOk result (λ r. IsOperating (⟦<Operator<R> as Shown>⟧.shown r.0)) }
-        ensures readers { IfOk result (λ r. HaveSeen (⟦<Operator<R> as Shown>⟧.shown r.0).past readers r.2.items) }
-        ensures refused { IfErr result (λ fault. ResumeRefuses (record { note = note.now; keys = map (λ v. key v) verifiers.now; bundles = map vec_items bundles.now; origin = origin.now; limit = limit }) (map (λ s. signing_key s) signers.items) lanes capacity readers fault) }
+    ) -> Result<OpenedLog<R>, ResumeFault>
+        ensures resumed { IfOk result (λ r. (base : List (List ℕ)) × IsBase (resumption note.now
+            (map (λ v. key v) verifiers.now) (map vec_items bundles.now) origin.now limit) base
+            × IsNew origin.now (map (λ s. signing_key s) signers.items) base lanes capacity limit
+            (⟦<Operator<R> as RunningLog>⟧.state r.0) r.1.items) }
+        ensures operating { IfOk result
+            (λ r. IsOperating (⟦<Operator<R> as RunningLog>⟧.state r.0)) }
+        ensures readers { IfOk result
+            (λ r. HaveSeen (⟦<Operator<R> as RunningLog>⟧.state r.0).past readers r.2.items) }
+        ensures refused { IfErr result (λ fault. ResumeRefuses (resumption note.now
+            (map (λ v. key v) verifiers.now) (map vec_items bundles.now) origin.now limit)
+            (map (λ s. signing_key s) signers.items) lanes capacity readers fault) }
     {
         let (base, growth) = base_of(alloc, note, verifiers, bundles, origin, limit)?;
         if let Some(fault) = first_wrong(origin, signers.as_slice(), readers) {

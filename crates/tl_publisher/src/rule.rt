@@ -1,5 +1,5 @@
 //! The rule of the board.
-ghost use Rattle.tl_publisher.specs.Rules.{Kept, Looks, Names, Stays, second, newcomer};
+ghost use Rattle.tl_publisher.specs.Rules.{AllKnow, Looks, Names, Stays, second, newcomer};
 
 use crate::board_copy::{BoardCopy, Step};
 use atomic_table::{Join, Split};
@@ -24,7 +24,7 @@ impl Model for Known {
 pub struct BoardRule;
 
 impl<A: Allocator> Protocol<BoardCopy<A>, Known> for BoardRule {
-    ghost holds = { Kept };
+    ghost holds = { AllKnow };
 
     ghost first = { newcomer };
 }

@@ -7,6 +7,7 @@ ghost use Rattle.tl_sequencer.specs.Log.{entries_of, rings_of, IsEndOf};
 ghost use Rattle.tl_sequencer.specs.Merge.{IsMerge};
 ghost use Rattle.tl_sequencer.specs.Steps.{Takes, Closes, IsComplete, IsFirstOpen, sent_of};
 ghost use Rattle.tl_publisher.specs.Histories.{last_of};
+ghost use Rattle.tl_publisher.specs.Inner.Publications.{published_as};
 ghost use Rattle.tl_sequencer.specs.Faults.{MayTake, TakeRefuses, RestFits, EndRefuses};
 ghost use Rattle.tl_publisher.specs.Grown.{IsGrown};
 ghost use Rattle.tl_publisher.specs.Stages as stages;
@@ -15,10 +16,11 @@ ghost use Rattle.tl_publisher.specs.Publishing.{EndsWith};
 use crate::board_writer::BoardWriter;
 use crate::growth::Growth;
 use crate::published::Published;
-use crate::reader::{BoardReader, Head};
+use crate::reader::BoardReader;
 use std::alloc::{AllocError, Global};
 use std::marker::Model;
 use std::sync::Wait;
+use tl_hash::Head;
 use tl_sequencer::{Complete, EndRefused, Ended, Incomplete, Sequencer, TakeFault};
 
 /// A log, the growth of its tiles, and the board that shows it. Contracts see the log, how many of its entries the
@@ -45,7 +47,9 @@ impl<R: Wait + Drop> Model for Run<R> {
 fn take_in(growth: &mut Growth<Global>, log: &Sequencer<Global, Global>) -> Result<(), AllocError>
     requires few { log.now.limit < 2 ^ 32 }
     requires within { growth.old.edge.size ≤ length (entries_of log.now) }
-    ensures grown { (start : ℕ) → IsGrown sha256 start (take growth.old.edge.size (entries_of log.now)) growth.old → IsGrown sha256 start (take growth.new.edge.size (entries_of log.now)) growth.new }
+    ensures grown { (start : ℕ)
+        → IsGrown sha256 start (take growth.old.edge.size (entries_of log.now)) growth.old
+        → IsGrown sha256 start (take growth.new.edge.size (entries_of log.now)) growth.new }
     ensures within { growth.new.edge.size ≤ length (entries_of log.now) }
     ensures all { OnOk result (growth.new.edge.size ≡ length (entries_of log.now)) }
 {
@@ -62,7 +66,8 @@ impl<R: Wait + Drop> Run<R> {
     /// Takes up to `max` entries of a lane, as `Sequencer::take` does.
     pub(crate) fn take(&mut self, lane: u32, max: u64) -> Result<u64, TakeFault>
         ensures past { self.new.past ≡ self.old.past }
-        ensures grown { take self.new.grown (entries_of self.new.log) ≡ take self.old.grown (entries_of self.old.log) }
+        ensures grown { take self.new.grown (entries_of self.new.log)
+            ≡ take self.old.grown (entries_of self.old.log) }
         ensures rings { rings_of self.new.log ≡ rings_of self.old.log }
         ensures most { IfOk result (λ n. n ≤ max) }
         ensures may { IfOk result (λ _. MayTake self.old.log lane max) }
@@ -80,7 +85,8 @@ impl<R: Wait + Drop> Run<R> {
     ) -> Result<u64, EndRefused<Global, Global>>
         requires { IsEndOf ended self.old.log }
         ensures past { self.new.past ≡ self.old.past }
-        ensures grown { take self.new.grown (entries_of self.new.log) ≡ take self.old.grown (entries_of self.old.log) }
+        ensures grown { take self.new.grown (entries_of self.new.log)
+            ≡ take self.old.grown (entries_of self.old.log) }
         ensures rings { rings_of self.new.log ≡ rings_of self.old.log }
         ensures may { IfOk result (λ _. RestFits self.old.log ended) }
         ensures taken { IfOk result (λ n. Closes ended n self.old.log self.new.log) }
@@ -106,7 +112,8 @@ impl<R: Wait + Drop> Run<R> {
         ensures same { (self.new.log ≡ self.old.log) × (self.new.past ≡ self.old.past) }
         ensures grown { IfOk result (λ _. self.new.grown ≡ length (entries_of self.old.log)) }
         ensures small { IfOk result (λ h. h.size < 2 ^ 32) }
-        ensures head { IfOk result (λ h. (h.size ≡ length (entries_of self.old.log)) × (h.root ≡ tree_hash sha256 (entries_of self.old.log))) }
+        ensures head { IfOk result (λ h. (h.size ≡ length (entries_of self.old.log))
+            × (h.root ≡ tree_hash sha256 (entries_of self.old.log))) }
     {
         take_in(&mut self.growth, &self.log)?;
         Ok(self.growth.head())
@@ -126,7 +133,8 @@ impl<R: Wait + Drop> Run<R> {
     pub(crate) fn grown(&self) -> Head
         ensures size { result.size ≡ length (take self.now.grown (entries_of self.now.log)) }
         ensures small { result.size < 2 ^ 32 }
-        ensures root { result.root ≡ tree_hash sha256 (take self.now.grown (entries_of self.now.log)) }
+        ensures root { result.root
+            ≡ tree_hash sha256 (take self.now.grown (entries_of self.now.log)) }
     {
         self.growth.head()
     }
@@ -152,10 +160,13 @@ impl<R: Wait + Drop> Run<R> {
 
     /// Publishes what the growth has taken in, under this note.
     pub(crate) fn show(&mut self, note: Vec<u8>) -> Result<Published, AllocError>
-        requires { stages.IsNextOf (last_of self.old.past.log) (record { entries = take self.old.grown (entries_of self.old.log); note = note.items }) }
+        requires { stages.IsNextOf (last_of self.old.past.log)
+            (published_as (take self.old.grown (entries_of self.old.log)) note.items) }
         ensures log { (self.new.log ≡ self.old.log) × (self.new.grown ≡ self.old.grown) }
         ensures book { self.new.past.book ≡ self.old.past.book }
-        ensures published { IfOk result (λ p. (self.new.past.log ≡ self.old.past.log ++ record { entries = take self.old.grown (entries_of self.old.log); note = note.items } ∷ []) × (p ≡ self.new.past)) }
+        ensures published { IfOk result (λ p. (self.new.past.log ≡ self.old.past.log
+            ++ published_as (take self.old.grown (entries_of self.old.log)) note.items ∷ [])
+            × (p ≡ self.new.past)) }
         ensures refused { OnErr result (self.new ≡ self.old) }
     {
         let _shown = self.board.head();

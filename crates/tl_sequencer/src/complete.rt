@@ -67,8 +67,10 @@ impl<E: Allocator, A: Allocator> Complete<E, A> {
 
     /// The place of a lane's entry of this number, as its submitter counts, from 0. `None` where none was sent.
     pub fn place_of(&self, lane: u32, number: u64) -> Option<u64>
-        ensures place { MatchOption result (count_by (λ w. w == lane) self.now.who ≤ number) (IsPlaceOf self.now lane number) }
-        ensures entry { IfSome result (λ place. slice_get (entries_of self.now) place ≡ slice_get (of_lane lane self.now.who self.now.taken) number) }
+        ensures place { MatchOption result
+            (count_by (λ w. w == lane) self.now.who ≤ number) (IsPlaceOf self.now lane number) }
+        ensures entry { IfSome result (λ place. slice_get (entries_of self.now) place
+            ≡ slice_get (of_lane lane self.now.who self.now.taken) number) }
     {
         self.log.place_of(lane, number)
     }

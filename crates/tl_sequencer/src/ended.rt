@@ -23,12 +23,17 @@ impl<E: Allocator, A: Allocator> Model for Ended<E, A> {
 
     ghost Value = { End A };
 
-    ghost view = { λ e. record { ring = ring_of e.entries.end; lane = e.lane; sent = map vec_items (all_sent e.entries) } };
+    ghost view = { λ e. record {
+      ring = ring_of e.entries.end;
+      lane = e.lane;
+      sent = map vec_items (all_sent e.entries);
+    } };
 }
 
 impl<E: Allocator, A: Allocator> Ended<E, A> {
     pub(crate) fn new(entries: Finished<Vec<u8, E>, A, ShortEntries>, lane: u32) -> Ended<E, A>
-        ensures { result ≡ record { ring = ring_of entries.end; lane = lane; sent = map vec_items (all_sent entries) } }
+        ensures { result ≡ record
+            { ring = ring_of entries.end; lane = lane; sent = map vec_items (all_sent entries); } }
     {
         Ended { entries, lane }
     }

@@ -36,7 +36,12 @@ impl<E: Allocator, A: Allocator> Model for Lane<E, A> {
 
     ghost Value = { log.Lane A };
 
-    ghost view = { λ l. record { ring = ring_of l.entries.end; given = map vec_items (received l.entries); sent = if l.ended then Some (map vec_items (received l.entries)) else None } };
+    ghost view = { λ l.
+        record {
+          ring = ring_of l.entries.end;
+          given = map vec_items (received l.entries);
+          sent = if l.ended then Some (map vec_items (received l.entries)) else None;
+        } };
 }
 
 // Pops so many entries to the end of a log, and keeps their places.
@@ -52,8 +57,10 @@ fn pour<E: Allocator, A: Allocator>(
     requires entries { vec_len entries.old + count ≤ vec_capacity entries.old }
     requires who { vec_len who.old + count ≤ vec_capacity who.old }
     requires places { vec_len places.old + count ≤ vec_capacity places.old }
-    ensures poured { Pours count lane ring.old ring.new entries.old.items entries.new.items who.old.items who.new.items }
-    ensures placed { places.new.items ≡ places.old.items ++ range_with_len (length entries.old.items) count }
+    ensures poured { Pours count
+        lane ring.old ring.new entries.old.items entries.new.items who.old.items who.new.items }
+    ensures placed { places.new.items
+        ≡ places.old.items ++ range_with_len (length entries.old.items) count }
 {
     for _ in 0..count {
         places.push_reserved(entries.len() as u64);
@@ -90,10 +97,13 @@ impl<E: Allocator, A: Allocator> Lane<E, A> {
     ) -> Result<u64, AllocError>
         ensures ring { self.new.ring ≡ self.old.ring }
         ensures most { IfOk result (λ n. n ≤ most) }
-        ensures taken { IfOk result (λ n. Gives n lane self.old self.new entries.old.items entries.new.items who.old.items who.new.items) }
-        ensures placed { IfOk result (λ n. places.new.items ≡ places.old.items ++ range_with_len (length entries.old.items) n) }
+        ensures taken { IfOk result (λ n. Gives n lane
+            self.old self.new entries.old.items entries.new.items who.old.items who.new.items) }
+        ensures placed { IfOk result (λ n.
+            places.new.items ≡ places.old.items ++ range_with_len (length entries.old.items) n) }
         ensures some { OnErr result ((0 < most) × (self.old.sent ≡ None)) }
-        ensures err { OnErr result ((self.new ≡ self.old) × (entries.new.items ≡ entries.old.items) × (who.new.items ≡ who.old.items)) }
+        ensures err { OnErr result ((self.new ≡ self.old)
+            × (entries.new.items ≡ entries.old.items) × (who.new.items ≡ who.old.items)) }
         ensures kept { OnErr result (places.new.items ≡ places.old.items) }
     {
         if self.ended {
@@ -129,9 +139,12 @@ impl<E: Allocator, A: Allocator> Lane<E, A> {
         ensures ring { self.new.ring ≡ self.old.ring }
         ensures same { ended.new ≡ ended.old }
         ensures room { IfOk result (λ n. n ≤ room) }
-        ensures taken { IfOk result (λ n. Ends ended.old n lane self.old self.new entries.old.items entries.new.items who.old.items who.new.items) }
-        ensures placed { IfOk result (λ n. places.new.items ≡ places.old.items ++ range_with_len (length entries.old.items) n) }
-        ensures err { IfErr result (λ _. (self.new ≡ self.old) × (entries.new.items ≡ entries.old.items) × (who.new.items ≡ who.old.items)) }
+        ensures taken { IfOk result (λ n. Ends ended.old n lane
+            self.old self.new entries.old.items entries.new.items who.old.items who.new.items) }
+        ensures placed { IfOk result (λ n.
+            places.new.items ≡ places.old.items ++ range_with_len (length entries.old.items) n) }
+        ensures err { IfErr result (λ _. (self.new ≡ self.old)
+            × (entries.new.items ≡ entries.old.items) × (who.new.items ≡ who.old.items)) }
         ensures kept { IfErr result (λ _. places.new.items ≡ places.old.items) }
         ensures why { IfErr result (λ why. LaneRefuses room self.old.given ended.old.sent why) }
     {

@@ -116,7 +116,8 @@ pub fn open_from<E: Allocator, A: Allocator + Copy>(
 ) -> Result<(Sequencer<E, A>, Vec<Submitter<E, A>, A>), BaseBack<E, A>>
     requires fits { vec_len base ≤ limit }
     requires short { All IsShort (map vec_items base.items) }
-    ensures opened { IfOk result (λ r. IsOpened (map vec_items base.items) lanes capacity limit r.0 r.1.items) }
+    ensures opened { IfOk result
+        (λ r. IsOpened (map vec_items base.items) lanes capacity limit r.0 r.1.items) }
     ensures bounds { IfOk result (λ _. MayOpen lanes capacity limit) }
     ensures refused { IfErr result (λ back. OpenRefuses lanes capacity limit back.why) }
     ensures back { IfErr result (λ back. back.base ≡ base) }

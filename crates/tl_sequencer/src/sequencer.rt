@@ -35,7 +35,8 @@ impl<E: Allocator, A: Allocator> Model for Sequencer<E, A> {
 
     ghost view = { λ s. log_of s.base.items s.taken.items s.who.items s.limit s.lanes.items };
 
-    ghost invariant = { λ s. IsKept s.base.items s.taken.items s.who.items s.places.items s.limit s.lanes.items };
+    ghost invariant = { λ s.
+        IsKept s.base.items s.taken.items s.who.items s.places.items s.limit s.lanes.items };
 }
 
 /// An end that was not taken in, and why.
@@ -62,7 +63,8 @@ impl<E: Allocator, A: Allocator> Sequencer<E, A> {
         requires short { All IsShort (map vec_items base.items) }
         requires lanes { All (λ l. (l.given ≡ []) × (l.sent ≡ None)) lanes.items }
         requires places { map vec_items places.items ≡ replicate (vec_len lanes) [] }
-        ensures { result ≡ record { base = map vec_items base.items; taken = []; who = []; limit = limit; lanes = lanes.items } }
+        ensures { result ≡ record { base = map
+            vec_items base.items; taken = []; who = []; limit = limit; lanes = lanes.items; } }
     {
         Sequencer {
             base,
@@ -165,8 +167,10 @@ impl<E: Allocator, A: Allocator> Sequencer<E, A> {
 
     /// The place of a lane's entry of this number, as its submitter counts, from 0. `None` where it was not taken yet.
     pub fn place_of(&self, lane: u32, number: u64) -> Option<u64>
-        ensures place { MatchOption result (count_by (λ w. w == lane) self.now.who ≤ number) (IsPlaceOf self.now lane number) }
-        ensures entry { IfSome result (λ place. slice_get (entries_of self.now) place ≡ slice_get (of_lane lane self.now.who self.now.taken) number) }
+        ensures place { MatchOption result
+            (count_by (λ w. w == lane) self.now.who ≤ number) (IsPlaceOf self.now lane number) }
+        ensures entry { IfSome result (λ place. slice_get (entries_of self.now) place
+            ≡ slice_get (of_lane lane self.now.who self.now.taken) number) }
     {
         let Some(places) = self.places.get(lane as usize) else {
             return None;
@@ -179,7 +183,8 @@ impl<E: Allocator, A: Allocator> Sequencer<E, A> {
 
     // The smallest lane that was not ended.
     fn open_lane(&self) -> Option<u32>
-        ensures first { MatchOption result (All (λ l. IsSome l.sent) self.now.lanes) (IsFirstOpen self.now) }
+        ensures first { MatchOption result
+            (All (λ l. IsSome l.sent) self.now.lanes) (IsFirstOpen self.now) }
         ensures kept { IsLog self.now }
     {
         for lane in 0..self.lanes.len() {

@@ -28,7 +28,13 @@ impl<E: Allocator, A: Allocator> Model for Submitter<E, A> {
 
     ghost Value = { Sender A };
 
-    ghost view = { λ s. record { ring = ring_of s.entries.end; lane = s.lane; sent = map vec_items (sent s.entries); limit = s.limit; room = known_free s.entries } };
+    ghost view = { λ s. record {
+      ring = ring_of s.entries.end;
+      lane = s.lane;
+      sent = map vec_items (sent s.entries);
+      limit = s.limit;
+      room = known_free s.entries;
+    } };
 
     ghost invariant = { λ s. s.given ≡ length (sent s.entries) };
 }
@@ -49,7 +55,8 @@ impl<E: Allocator, A: Allocator> Submitter<E, A> {
         limit: u64,
     ) -> Submitter<E, A>
         requires { sent entries ≡ [] }
-        ensures { result ≡ record { ring = ring_of entries.end; lane = lane; sent = []; limit = limit; room = known_free entries } }
+        ensures { result ≡ record { ring = ring_of
+            entries.end; lane = lane; sent = []; limit = limit; room = known_free entries; } }
     {
         Submitter {
             entries,
@@ -62,7 +69,8 @@ impl<E: Allocator, A: Allocator> Submitter<E, A> {
     /// Sends an entry of at most 65,535 bytes, and answers its number in this submitter, from 0.
     /// An entry that is refused comes back as it was, and nothing was sent. It takes no memory and doesn't wait.
     pub fn submit(&mut self, entry: Vec<u8, E>) -> Result<u64, Refused<E>>
-        ensures lane { (self.new.ring ≡ self.old.ring) × (self.new.lane ≡ self.old.lane) × (self.new.limit ≡ self.old.limit) }
+        ensures lane { (self.new.ring ≡ self.old.ring)
+            × (self.new.lane ≡ self.old.lane) × (self.new.limit ≡ self.old.limit) }
         ensures number { IfOk result (λ n. (n ≡ length self.old.sent) × (n < self.old.limit)) }
         ensures short { IfOk result (λ _. length entry.items ≤ 65535) }
         ensures sent { IfOk result (λ _. self.new.sent ≡ self.old.sent ++ entry.items ∷ []) }

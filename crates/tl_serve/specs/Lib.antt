@@ -1,3 +1,4 @@
 -- The definitions of the commands that serve.
-pub mod Kept
+pub mod LogKeys
 pub mod Serving
+pub mod Inner

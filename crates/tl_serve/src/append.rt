@@ -3,7 +3,7 @@
 ghost use Rattle.std.specs.Prelude.{string_bytes};
 ghost use Rattle.tl_device.specs.Device.{passage};
 ghost use Rattle.tl_publisher.specs.Operating.{IsOperating};
-ghost use Rattle.tl_serve.specs.Kept.{IsKept};
+ghost use Rattle.tl_serve.specs.Inner.Running.{StaysOperating};
 ghost use Rattle.tl_serve.specs.Serving.{RefusesOrigin};
 
 use crate::following::Lines;
@@ -38,8 +38,8 @@ pub(crate) fn unread(fault: ReadLogFault) -> RunFault {
 
 // Takes in all that the lane has room for.
 fn take_in_all<O: LiveLog>(log: &mut O) -> Result<(), RunFault>
-    requires { IsOperating (O.shown log.old) }
-    ensures { IsKept (O.shown log.old) (O.shown log.new) }
+    requires { IsOperating (O.state log.old) }
+    ensures { StaysOperating (O.state log.old) (O.state log.new) }
 {
     match log.take_in(0, ROOM as u64) {
         Ok(_taken) => Ok(()),
@@ -53,8 +53,8 @@ fn send<O: LiveLog>(
     submitter: &mut Submitter<Global, Global>,
     entry: Vec<u8>,
 ) -> Result<(), RunFault>
-    requires { IsOperating (O.shown log.old) }
-    ensures { IsKept (O.shown log.old) (O.shown log.new) }
+    requires { IsOperating (O.state log.old) }
+    ensures { StaysOperating (O.state log.old) (O.state log.new) }
 {
     let entry = match submitter.submit(entry) {
         Ok(_number) => return Ok(()),
@@ -77,8 +77,8 @@ fn take_lines<O: LiveLog, R: Read>(
     reader: &mut Counted<R>,
     most: u64,
 ) -> Result<bool, RunFault>
-    requires { IsOperating (O.shown log.old) }
-    ensures { IsKept (O.shown log.old) (O.shown log.new) }
+    requires { IsOperating (O.state log.old) }
+    ensures { StaysOperating (O.state log.old) (O.state log.new) }
 {
     let mut is_end = false;
     for _ in 0..most {
@@ -103,8 +103,8 @@ fn publish<O: LiveLog, K: Keeper, W: Write>(
     board: &mut BoardReader<Global>,
     writer: &mut Counted<W>,
 ) -> Result<(), RunFault>
-    requires { IsOperating (O.shown log.old) }
-    ensures { IsKept (O.shown log.old) (O.shown log.new) }
+    requires { IsOperating (O.state log.old) }
+    ensures { StaysOperating (O.state log.old) (O.state log.new) }
 {
     match log.show() {
         Ok(Some(_published)) => {}
@@ -127,7 +127,7 @@ fn append_lines<O: LiveLog, S: Shelf + Drop, R: Read, W: Write>(
     reader: &mut Counted<R>,
     writer: &mut Counted<W>,
 ) -> Result<(), RunFault>
-    requires { IsOperating (O.shown log) }
+    requires { IsOperating (O.state log) }
 {
     let (mut log, mut submitters, mut readers, mut archive) = (log, submitters, readers, archive);
     let (Some(mut submitter), Some(mut board)) = (submitters.pop(), readers.pop()) else {
@@ -218,19 +218,17 @@ pub fn run_append<H: Host, S: Shelf + Drop, R: Read, W: Write>(
     reader: &mut Counted<R>,
     writer: &mut Counted<W>,
 ) -> Result<(), RunFault>
-    ensures { RefusesOrigin (string_bytes options.now.origin) (passage R.remaining reader.old reader.new) result }
+    ensures { RefusesOrigin
+        (string_bytes options.now.origin) (passage R.remaining reader.old reader.new) result }
 {
     let origin = options.origin.as_str();
     if !is_key_name(origin) {
         return Err(RunFault::BadOrigin);
     }
-    let keys = keys_of(rt, alloc, origin, &options.key)?;
-    let (signer, verifier): (Box<dyn Signer>, Box<dyn Verifier>) = match keys {
-        LogKeys::Demonstration(a, b) => (Box::new(alloc, a)?, Box::new(alloc, b)?),
-        LogKeys::Private(a, b) => (Box::new(alloc, a)?, Box::new(alloc, b)?),
-    };
-    let (mut signers, opens) = (Vec::new(alloc), [verifier]);
-    signers.push(signer)?;
+    let LogKeys { signer, verifier } = keys_of(rt, alloc, origin, &options.key)?;
+    let opens: [Box<dyn Verifier>; 1] = [Box::new(alloc, verifier)?];
+    let mut signers: Vec<Box<dyn Signer>> = Vec::new(alloc);
+    signers.push(Box::new(alloc, signer)?)?;
     match read_log(&shelf, alloc, &opens) {
         Ok(Some(_)) if options.is_new => Err(RunFault::Operator),
         Ok(Some(found)) => {

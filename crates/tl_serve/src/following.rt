@@ -3,7 +3,7 @@
 ghost use Rattle.std.specs.Prelude.{◌≡◌, IfOk, IfSome};
 
 use crate::flags::Flags;
-use crate::lanes::{EndOf, Lane, LaneThread, Sent, send_one};
+use crate::lanes::{EndOf, LaneThread, Sending, Sent, send_one};
 use memchr::memchr;
 use std::alloc::{AllocError, Global};
 use std::io::Read;
@@ -134,7 +134,8 @@ fn send_lines<S: Source>(
     submitter: &mut Submitter<Global, Global>,
     flags: &Flags,
 ) -> Result<(), RunFault>
-    ensures { (submitter.new.ring ≡ submitter.old.ring) × (submitter.new.lane ≡ submitter.old.lane) }
+    ensures { (submitter.new.ring ≡ submitter.old.ring)
+        × (submitter.new.lane ≡ submitter.old.lane) }
 {
     for _ in 0..u64::MAX {
         match source.next_line(alloc) {
@@ -151,10 +152,11 @@ fn send_lines<S: Source>(
 }
 
 // Sends each line as it comes, and closes the submitter at the end.
-fn follow<S: Source>(alloc: Global, source: S, lane: Lane, flags: &Flags) -> Sent
-    ensures { IfSome result.ended (λ e. (e.ring ≡ lane.submitter.ring) × (e.lane ≡ lane.submitter.lane)) }
+fn follow<S: Source>(alloc: Global, source: S, lane: Sending, flags: &Flags) -> Sent
+    ensures { IfSome result.ended
+        (λ e. (e.ring ≡ lane.submitter.ring) × (e.lane ≡ lane.submitter.lane)) }
 {
-    let Lane { submitter, .. } = lane;
+    let Sending { submitter, .. } = lane;
     let mut submitter = submitter;
     let mut source = source;
     let outcome = send_lines(alloc, &mut source, &mut submitter, flags);
@@ -170,14 +172,15 @@ pub(crate) fn start_following<'s, E, S: Source + 's>(
     scope: &'s Scope<'s, E>,
     alloc: Global,
     source: S,
-    lane: Lane,
+    lane: Sending,
     flags: &'s Flags,
 ) -> Result<LaneThread, RunFault>
     ensures { IfOk result (λ h. h.promise.0.value ≡ lane.submitter) }
 {
     let promise = EndOf(Snapshot::of(&lane.submitter));
     let job = move || -> Sent
-        ensures { IfSome result.ended (λ e. (e.ring ≡ lane.submitter.ring) × (e.lane ≡ lane.submitter.lane)) }
+        ensures { IfSome result.ended
+            (λ e. (e.ring ≡ lane.submitter.ring) × (e.lane ≡ lane.submitter.lane)) }
     { follow(alloc, source, lane, flags) };
     flags.begin_sending();
     match scope.spawn_with(promise, job) {

@@ -41,12 +41,12 @@ impl<S: Shelf + Drop> Keeper for Archive<S> {
 
 /// Who keeps what a log publishes, and the reader of its board by which that is kept and told.
 #[derive(Drop)]
-pub(crate) struct Kept<K> {
+pub(crate) struct Archiving<K> {
     pub(crate) keeper: K,
     pub(crate) board: BoardReader<Global>,
 }
 
-impl<K: Keeper> Kept<K> {
+impl<K: Keeper> Archiving<K> {
     /// Has the last publication outlast a crash, where those of the log are to.
     pub(crate) fn keep(&mut self, alloc: Global) -> Result<(), RunFault> {
         self.keeper.keep(alloc, &mut self.board)

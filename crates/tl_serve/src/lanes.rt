@@ -15,7 +15,7 @@ use tl_sequencer::{Ended, Submitter, Why};
 
 /// A submitter, and what it is to send.
 #[derive(Drop)]
-pub(crate) struct Lane {
+pub(crate) struct Sending {
     pub(crate) submitter: Submitter<Global, Global>,
     pub(crate) entries: Vec<Vec<u8>>,
 }
@@ -34,7 +34,8 @@ pub(crate) struct EndOf(pub(crate) Snapshot<Submitter<Global, Global>>);
 impl Promise<Sent> for EndOf {
     ghost use Rattle.std.specs.Prelude.{◌≡◌, IfSome};
 
-    ghost kept_by = { λ p r. IfSome r.ended (λ e. (e.ring ≡ p.0.value.ring) × (e.lane ≡ p.0.value.lane)) };
+    ghost kept_by = { λ p r.
+        IfSome r.ended (λ e. (e.ring ≡ p.0.value.ring) × (e.lane ≡ p.0.value.lane)) };
 }
 
 /// The thread of a lane.
@@ -46,7 +47,8 @@ pub(crate) fn send_one(
     entry: Vec<u8>,
     flags: &Flags,
 ) -> bool
-    ensures { (submitter.new.ring ≡ submitter.old.ring) × (submitter.new.lane ≡ submitter.old.lane) }
+    ensures { (submitter.new.ring ≡ submitter.old.ring)
+        × (submitter.new.lane ≡ submitter.old.lane) }
 {
     let mut entry = entry;
     for _ in 0..u64::MAX {
@@ -82,10 +84,11 @@ fn send_all(
 }
 
 // Passes the gate, and then sends the entries of a lane.
-fn send_lane<G: Gate>(gate: &G, lane: Lane, flags: &Flags) -> Sent
-    ensures { IfSome result.ended (λ e. (e.ring ≡ lane.submitter.ring) × (e.lane ≡ lane.submitter.lane)) }
+fn send_lane<G: Gate>(gate: &G, lane: Sending, flags: &Flags) -> Sent
+    ensures { IfSome result.ended
+        (λ e. (e.ring ≡ lane.submitter.ring) × (e.lane ≡ lane.submitter.lane)) }
 {
-    let Lane { submitter, entries } = lane;
+    let Sending { submitter, entries } = lane;
     gate.pass(submitter.lane());
     let ended = send_all(submitter, entries, flags);
     flags.end_sending();
@@ -99,14 +102,15 @@ fn send_lane<G: Gate>(gate: &G, lane: Lane, flags: &Flags) -> Sent
 fn start_lane<'s, E, G: Gate>(
     scope: &'s Scope<'s, E>,
     gate: &'s G,
-    lane: Lane,
+    lane: Sending,
     flags: &'s Flags,
 ) -> Result<LaneThread, RunFault>
     ensures { IfOk result (λ h. h.promise.0.value ≡ lane.submitter) }
 {
     let promise = EndOf(Snapshot::of(&lane.submitter));
     let job = move || -> Sent
-        ensures { IfSome result.ended (λ e. (e.ring ≡ lane.submitter.ring) × (e.lane ≡ lane.submitter.lane)) }
+        ensures { IfSome result.ended
+            (λ e. (e.ring ≡ lane.submitter.ring) × (e.lane ≡ lane.submitter.lane)) }
     { send_lane(gate, lane, flags) };
     flags.begin_sending();
     match scope.spawn_with(promise, job) {
@@ -120,10 +124,11 @@ pub(crate) fn start_lanes<'s, E, G: Gate>(
     scope: &'s Scope<'s, E>,
     alloc: Global,
     gate: &'s G,
-    lanes: Vec<Lane>,
+    lanes: Vec<Sending>,
     flags: &'s Flags,
 ) -> Result<Vec<LaneThread>, RunFault>
-    ensures { (log : Log GlobalValue) → All (λ l. IsSenderOf l.submitter log) lanes.items → IfOk result (λ threads. All (λ h. IsSenderOf h.promise.0.value log) threads.items) }
+    ensures { (log : Log GlobalValue) → All (λ l. IsSenderOf l.submitter log) lanes.items
+        → IfOk result (λ threads. All (λ h. IsSenderOf h.promise.0.value log) threads.items) }
 {
     let mut threads = Vec::new(alloc);
     for lane in lanes {
@@ -146,7 +151,8 @@ pub(crate) fn join_lanes<T: Threads>(
     alloc: Global,
     threads: Vec<LaneThread>,
 ) -> Result<AllSent, RunFault>
-    ensures { (log : Log GlobalValue) → All (λ h. IsSenderOf h.promise.0.value log) threads.items → IfOk result (λ sent. All (λ e. IsEndOf e log) sent.ends.items) }
+    ensures { (log : Log GlobalValue) → All (λ h. IsSenderOf h.promise.0.value log) threads.items
+        → IfOk result (λ sent. All (λ e. IsEndOf e log) sent.ends.items) }
 {
     let mut ends = Vec::new(alloc);
     let mut outcome = Ok(());

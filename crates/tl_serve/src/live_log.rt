@@ -3,39 +3,40 @@
 ghost use Rattle.std.specs.Prelude.{◌≡◌, IfOk, IfSome};
 ghost use Rattle.tl_publisher.specs.Operating.{IsOperating};
 ghost use Rattle.tl_sequencer.specs.Log.{IsEndOf};
-ghost use Rattle.tl_serve.specs.Kept.{IsKept};
+ghost use Rattle.tl_serve.specs.Inner.Running.{StaysOperating};
 
 use crate::host::Host;
 use std::alloc::Global;
 use tl_command::RunFault;
-use tl_publisher::{Operator, PublishFault, Published, Shown};
+use tl_publisher::{Operator, PublishFault, Published, RunningLog};
 use tl_sequencer::{Ended, TakeFault};
 
 /// The most entries of a log.
 pub(crate) const MOST_ENTRIES: u64 = 0xFFFF_FFFF;
 
 /// A log that runs: entries are taken in from its lanes, and published, until it is closed.
-pub(crate) trait LiveLog: Shown + Drop {
+pub(crate) trait LiveLog: RunningLog + Drop {
     /// Takes in at most so many entries of a lane: how many it took.
     fn take_in(&mut self, lane: u32, most: u64) -> Result<u64, RunFault>
-        requires { IsOperating (Self.shown self.old) }
-        ensures { IsKept (Self.shown self.old) (Self.shown self.new) };
+        requires { IsOperating (Self.state self.old) }
+        ensures { StaysOperating (Self.state self.old) (Self.state self.new) };
 
     /// Publishes what was taken in; none where it is published already.
     fn show(&mut self) -> Result<Option<Published>, RunFault>
-        requires { IsOperating (Self.shown self.old) }
-        ensures kept { IsKept (Self.shown self.old) (Self.shown self.new) }
-        ensures book { IfOk result (λ shown. IfSome shown (λ p. p.book ≡ (Self.shown self.old).past.book)) };
+        requires { IsOperating (Self.state self.old) }
+        ensures kept { StaysOperating (Self.state self.old) (Self.state self.new) }
+        ensures book { IfOk result
+            (λ shown. IfSome shown (λ p. p.book ≡ (Self.state self.old).past.book)) };
 
     /// Takes in all that is left of the lane of an end.
     fn end_lane(&mut self, ended: Ended<Global, Global>) -> Result<(), RunFault>
-        requires operating { IsOperating (Self.shown self.old) }
-        requires end { IsEndOf ended (Self.shown self.old).log }
-        ensures { IsKept (Self.shown self.old) (Self.shown self.new) };
+        requires operating { IsOperating (Self.state self.old) }
+        requires end { IsEndOf ended (Self.state self.old).log }
+        ensures { StaysOperating (Self.state self.old) (Self.state self.new) };
 
     /// Closes the log: how many entries it has.
     fn finish(self) -> Result<u64, RunFault>
-        requires { IsOperating (Self.shown self) };
+        requires { IsOperating (Self.state self) };
 }
 
 // Why nothing was taken.

@@ -3,7 +3,7 @@
 ghost use Rattle.std.specs.Prelude.{◌≡◌, IfOk, map};
 
 use crate::following::Lines;
-use crate::lanes::Lane;
+use crate::lanes::Sending;
 use crate::options::ServeOptions;
 use std::alloc::{AllocError, Global};
 use std::io::Read;
@@ -139,14 +139,14 @@ pub(crate) fn lanes_of(
     alloc: Global,
     submitters: Vec<Submitter<Global, Global>>,
     entries: Vec<Vec<u8>>,
-) -> Result<Vec<Lane>, AllocError>
+) -> Result<Vec<Sending>, AllocError>
     ensures { IfOk result (λ lanes. map (λ l. l.submitter) lanes.items ≡ submitters.items) }
 {
     let mut shares = deal(alloc, entries, submitters.len())?.into_iter();
     let mut lanes = Vec::new(alloc);
     for submitter in submitters {
         let entries = shares.next().unwrap_or(Vec::new(alloc));
-        lanes.push(Lane { submitter, entries })?;
+        lanes.push(Sending { submitter, entries })?;
     }
     Ok(lanes)
 }

@@ -11,8 +11,8 @@ use crate::flags::Flags;
 use crate::following::{Source, start_following};
 use crate::gate::Gate;
 use crate::host::Host;
-use crate::keeping::{Keeper, Kept};
-use crate::lanes::{AllSent, Lane, LaneThread, join_lanes, start_lanes};
+use crate::keeping::{Archiving, Keeper};
+use crate::lanes::{AllSent, LaneThread, Sending, join_lanes, start_lanes};
 use crate::live_log::LiveLog;
 use crate::options::ServeOptions;
 use crate::pages::Pages;
@@ -42,11 +42,11 @@ fn rounds_of(options: &ServeOptions, lanes: usize) -> Rounds {
 fn close_log<O: LiveLog, K: Keeper>(
     alloc: Global,
     operator: O,
-    kept: &mut Kept<K>,
+    kept: &mut Archiving<K>,
     ends: Vec<Ended<Global, Global>>,
 ) -> Result<u64, RunFault>
-    requires operating { IsOperating (O.shown operator) }
-    requires ends { All (λ e. IsEndOf e (O.shown operator).log) ends.items }
+    requires operating { IsOperating (O.state operator) }
+    requires ends { All (λ e. IsEndOf e (O.state operator).log) ends.items }
 {
     let mut operator = operator;
     for ended in ends {
@@ -100,12 +100,13 @@ fn start_answering<'s, E, H: Host + Net<Listener = TcpListener, Stream = TcpStre
 fn start_sending<'s, E, S: Source + 's, G: Gate>(
     scope: &'s Scope<'s, E>,
     alloc: Global,
-    lanes: Vec<Lane>,
+    lanes: Vec<Sending>,
     followed: Option<S>,
     gate: &'s G,
     flags: &'s Flags,
 ) -> Result<Vec<LaneThread>, RunFault>
-    ensures { (log : Log GlobalValue) → All (λ l. IsSenderOf l.submitter log) lanes.items → IfOk result (λ threads. All (λ h. IsSenderOf h.promise.0.value log) threads.items) }
+    ensures { (log : Log GlobalValue) → All (λ l. IsSenderOf l.submitter log) lanes.items
+        → IfOk result (λ threads. All (λ h. IsSenderOf h.promise.0.value log) threads.items) }
 {
     let Some(source) = followed else {
         return start_lanes(scope, alloc, gate, lanes, flags);
@@ -128,7 +129,8 @@ fn join_all<T: Threads>(
     answering: Vec<JoinHandle<Result<(), RunFault>>>,
     sending: Vec<LaneThread>,
 ) -> Result<Vec<Ended<Global, Global>>, RunFault>
-    ensures { (log : Log GlobalValue) → All (λ h. IsSenderOf h.promise.0.value log) sending.items → IfOk result (λ ends. All (λ e. IsEndOf e log) ends.items) }
+    ensures { (log : Log GlobalValue) → All (λ h. IsSenderOf h.promise.0.value log) sending.items
+        → IfOk result (λ ends. All (λ e. IsEndOf e log) ends.items) }
 {
     let mut answered = Ok(());
     for thread in answering {
@@ -154,7 +156,7 @@ fn run_sending<
     rt: &'s H,
     alloc: Global,
     operator: O,
-    kept: Kept<K>,
+    kept: Archiving<K>,
     pages: Vec<P>,
     sending: Vec<LaneThread>,
     door: &'s Door,
@@ -162,8 +164,9 @@ fn run_sending<
     rounds: Rounds,
     flags: &'s Flags,
 ) -> Result<u64, RunFault>
-    requires operating { IsOperating (O.shown operator) }
-    requires senders { All (λ h. IsSenderOf h.promise.0.value (O.shown operator).log) sending.items }
+    requires operating { IsOperating (O.state operator) }
+    requires senders { All
+        (λ h. IsSenderOf h.promise.0.value (O.state operator).log) sending.items }
 {
     let (mut operator, mut kept) = (operator, kept);
     let threads = start_answering(scope, rt, alloc, door, pages, flags)?;
@@ -192,8 +195,8 @@ fn run_in<
     rt: &'s H,
     alloc: Global,
     operator: O,
-    lanes: Vec<Lane>,
-    kept: Kept<K>,
+    lanes: Vec<Sending>,
+    kept: Archiving<K>,
     pages: Vec<P>,
     followed: Option<S>,
     door: &'s Door,
@@ -202,8 +205,8 @@ fn run_in<
     gate: &'s G,
     flags: &'s Flags,
 ) -> Result<u64, RunFault>
-    requires operating { IsOperating (O.shown operator) }
-    requires senders { All (λ l. IsSenderOf l.submitter (O.shown operator).log) lanes.items }
+    requires operating { IsOperating (O.state operator) }
+    requires senders { All (λ l. IsSenderOf l.submitter (O.state operator).log) lanes.items }
 {
     let sending = start_sending(scope, alloc, lanes, followed, gate, flags);
     let closed = match sending {
@@ -246,24 +249,25 @@ pub(crate) fn run_log<
     alloc: Global,
     options: &ServeOptions,
     operator: O,
-    lanes: Vec<Lane>,
-    kept: Kept<K>,
+    lanes: Vec<Sending>,
+    kept: Archiving<K>,
     pages: Vec<P>,
     followed: Option<S>,
     door: &Door,
     log: &mut Counted<L>,
     gate: &G,
 ) -> Result<(), RunFault>
-    requires operating { IsOperating (O.shown operator) }
-    requires senders { All (λ l. IsSenderOf l.submitter (O.shown operator).log) lanes.items }
+    requires operating { IsOperating (O.state operator) }
+    requires senders { All (λ l. IsSenderOf l.submitter (O.state operator).log) lanes.items }
 {
     let (flags, rounds) = (Flags::new(), rounds_of(options, lanes.len()));
     let closed = thread::scope(
         thread::scope_env(),
         rt,
         |scope|
-            requires operating { IsOperating (O.shown operator) }
-            requires senders { All (λ l. IsSenderOf l.submitter (O.shown operator).log) lanes.items }
+            requires operating { IsOperating (O.state operator) }
+            requires senders { All
+                (λ l. IsSenderOf l.submitter (O.state operator).log) lanes.items }
         {
             run_in(
                 scope, rt, alloc, operator, lanes, kept, pages, followed, door, log, rounds, gate,

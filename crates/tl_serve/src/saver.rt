@@ -50,7 +50,8 @@ impl<'a, 'w, H: Wait, O: Write> LineSaver<'a, 'w, H, O> {
     // One failure more.
     fn fail(&mut self) -> Result<(), SaveFault>
         ensures failed { IsErr result }
-        ensures counted { (self.old.failures < self.new.failures) ⊎ (self.old.failures ≡ 2 ^ 64 - 1) }
+        ensures counted { (self.old.failures < self.new.failures)
+            ⊎ (self.old.failures ≡ 2 ^ 64 - 1) }
         ensures links { self.new.links ≡ self.old.links }
     {
         self.failures = self.failures.saturating_add(1);
@@ -66,7 +67,8 @@ fn print_line<A: Allocator, O: Write>(
     link: &Link<A>,
 ) -> Result<(), SaveFault>
     requires { IsChainLine (record { origin = origin.now; step = step_of link.now }) }
-    ensures { OnOk result (WroteWhole (passage O.contents out.old out.new) (chain_line (record { origin = origin.now; step = step_of link.now }))) }
+    ensures { OnOk result (WroteWhole (passage O.contents out.old out.new)
+        (chain_line (record { origin = origin.now; step = step_of link.now }))) }
 {
     if out.failed() {
         return Err(SaveFault);
@@ -86,7 +88,8 @@ fn copied<A: Allocator>(
     origin: &str,
     link: &Link<A>,
 ) -> Result<(String, Link<Global>), AllocError>
-    ensures { IfOk result (λ kept. (string_bytes kept.0 ≡ origin.now) × (step_of kept.1 ≡ step_of link.now)) }
+    ensures { IfOk result
+        (λ kept. (string_bytes kept.0 ≡ origin.now) × (step_of kept.1 ≡ step_of link.now)) }
 {
     Ok((
         String::from_str(alloc, origin)?,
@@ -98,7 +101,10 @@ impl<'a, 'w, H: Wait, O: Write> Saver for LineSaver<'a, 'w, H, O> {
     ghost use Rattle.std.specs.Prelude.{map, string_bytes};
     ghost use Rattle.tl_proof.specs.Acceptance.{step_of};
 
-    ghost saved = { λ s. record { failures = s.failures; links = map (λ p. (string_bytes p.0, step_of p.1)) s.links.items } };
+    ghost saved = { λ s. record {
+      failures = s.failures;
+      links = map (λ p. (string_bytes p.0, step_of p.1)) s.links.items;
+    } };
 
     fn save<A: Allocator>(&mut self, origin: &str, link: &Link<A>) -> Result<(), SaveFault> {
         let Ok(kept) = copied(self.alloc, origin, link) else {

@@ -4,15 +4,15 @@ ghost use Rattle.std.specs.Prelude.{◌≡◌, ◌≤◌, All, string_bytes};
 ghost use Rattle.tl_device.specs.Device.{passage};
 ghost use Rattle.tl_publisher.specs.Operating.{IsOperating};
 ghost use Rattle.tl_sequencer.specs.Log.{IsSenderOf};
-ghost use Rattle.tl_serve.specs.Kept.{IsKept};
+ghost use Rattle.tl_serve.specs.Inner.Running.{StaysOperating};
 ghost use Rattle.tl_serve.specs.Serving.{RefusesOrigin};
 
 use crate::door::Door;
 use crate::following::{Followed, Lines};
 use crate::gate::{Gate, OpenGate};
 use crate::host::Host;
-use crate::keeping::{InMemory, Keeper, Kept};
-use crate::lanes::Lane;
+use crate::keeping::{Archiving, InMemory, Keeper};
+use crate::lanes::Sending;
 use crate::live_log::{LiveLog, MOST_ENTRIES};
 use crate::log_keys::{LogKeys, keys_of};
 use crate::opening::{bundles_of, lanes_of, read_plan, size_of, with_newline};
@@ -66,9 +66,9 @@ pub(crate) fn publish_first<O: LiveLog>(
     log: &mut O,
     readers: Vec<BoardReader<Global>>,
 ) -> Result<Vec<BoardReader<Global>>, RunFault>
-    requires operating { IsOperating (O.shown log.old) }
-    requires seen { All (λ w. w ≡ (O.shown log.old).past) readers.items }
-    ensures { IsKept (O.shown log.old) (O.shown log.new) }
+    requires operating { IsOperating (O.state log.old) }
+    requires seen { All (λ w. w ≡ (O.state log.old).past) readers.items }
+    ensures { StaysOperating (O.state log.old) (O.state log.new) }
 {
     match log.show() {
         Ok(Some(published)) => Ok(learn(readers, &published)),
@@ -96,15 +96,15 @@ impl<H: Host + Net<Listener = TcpListener, Stream = TcpStream>, G: Gate> Server<
     pub(crate) fn serve_published<O: LiveLog, K: Keeper, P: Pages, R: Read + Send, L: Write>(
         &self,
         operator: O,
-        lanes: Vec<Lane>,
-        kept: Kept<K>,
+        lanes: Vec<Sending>,
+        kept: Archiving<K>,
         pages: Vec<P>,
         lines: Lines,
         reader: &mut Counted<R>,
         log: &mut Counted<L>,
     ) -> Result<(), RunFault>
-        requires operating { IsOperating (O.shown operator) }
-        requires senders { All (λ l. IsSenderOf l.submitter (O.shown operator).log) lanes.items }
+        requires operating { IsOperating (O.state operator) }
+        requires senders { All (λ l. IsSenderOf l.submitter (O.state operator).log) lanes.items }
     {
         let (rt, alloc, options) = (self.rt, self.alloc, self.options);
         let threads = u32::try_from(pages.len()).unwrap_or(u32::MAX);
@@ -130,9 +130,9 @@ impl<H: Host + Net<Listener = TcpListener, Stream = TcpStream>, G: Gate> Server<
         reader: &mut Counted<R>,
         log: &mut Counted<L>,
     ) -> Result<(), RunFault>
-        requires operating { IsOperating (O.shown opened) }
-        requires senders { All (λ s. IsSenderOf s (O.shown opened).log) submitters.items }
-        requires seen { All (λ w. w ≡ (O.shown opened).past) readers.items }
+        requires operating { IsOperating (O.state opened) }
+        requires senders { All (λ s. IsSenderOf s (O.state opened).log) submitters.items }
+        requires seen { All (λ w. w ≡ (O.state opened).past) readers.items }
     {
         let mut operator = opened;
         let lanes = lanes_of(self.alloc, submitters, entries)?;
@@ -141,7 +141,7 @@ impl<H: Host + Net<Listener = TcpListener, Stream = TcpStream>, G: Gate> Server<
             return Err(RunFault::Operator);
         };
         let keeper = InMemory;
-        let kept = Kept { keeper, board };
+        let kept = Archiving { keeper, board };
         self.serve_published(operator, lanes, kept, pages, lines, reader, log)
     }
 
@@ -215,20 +215,18 @@ pub fn serve_gated<
     log: &mut Counted<L>,
     gate: Arc<G>,
 ) -> Result<(), RunFault>
-    ensures { RefusesOrigin (string_bytes options.now.origin) (passage R.remaining reader.old reader.new) result }
+    ensures { RefusesOrigin
+        (string_bytes options.now.origin) (passage R.remaining reader.old reader.new) result }
 {
     let origin = options.origin.as_str();
     if !is_key_name(origin) {
         return Err(RunFault::BadOrigin);
     }
     let gate: &G = &gate;
-    let keys = keys_of(rt, alloc, origin, &options.key)?;
-    let (signer, verifier): (Box<dyn Signer>, Box<dyn Verifier>) = match keys {
-        LogKeys::Demonstration(a, b) => (Box::new(alloc, a)?, Box::new(alloc, b)?),
-        LogKeys::Private(a, b) => (Box::new(alloc, a)?, Box::new(alloc, b)?),
-    };
-    let (mut signers, opens) = (Vec::new(alloc), [verifier]);
-    signers.push(signer)?;
+    let LogKeys { signer, verifier } = keys_of(rt, alloc, origin, &options.key)?;
+    let opens: [Box<dyn Verifier>; 1] = [Box::new(alloc, verifier)?];
+    let mut signers: Vec<Box<dyn Signer>> = Vec::new(alloc);
+    signers.push(Box::new(alloc, signer)?)?;
     let server = Server {
         rt,
         alloc,
@@ -258,7 +256,8 @@ pub fn run_serve<
     reader: &mut Counted<R>,
     log: &mut Counted<L>,
 ) -> Result<(), RunFault>
-    ensures { RefusesOrigin (string_bytes options.now.origin) (passage R.remaining reader.old reader.new) result }
+    ensures { RefusesOrigin
+        (string_bytes options.now.origin) (passage R.remaining reader.old reader.new) result }
 {
     if !is_key_name(options.origin.as_str()) {
         return Err(RunFault::BadOrigin);

@@ -9,7 +9,7 @@ ghost use Rattle.tl_serve.specs.Serving.{RefusesOrigin};
 use crate::append::unread;
 use crate::gate::OpenGate;
 use crate::host::Host;
-use crate::keeping::Kept;
+use crate::keeping::Archiving;
 use crate::live_log::{LiveLog, MOST_ENTRIES};
 use crate::log_keys::{LogKeys, keys_of};
 use crate::opening::{Plan, lanes_of, read_plan};
@@ -61,9 +61,9 @@ fn serve_opened<
     reader: &mut Counted<R>,
     log: &mut Counted<L>,
 ) -> Result<(), RunFault>
-    requires operating { IsOperating (O.shown opened) }
-    requires senders { All (λ s. IsSenderOf s (O.shown opened).log) submitters.items }
-    requires seen { All (λ w. w ≡ (O.shown opened).past) readers.items }
+    requires operating { IsOperating (O.state opened) }
+    requires senders { All (λ s. IsSenderOf s (O.state opened).log) submitters.items }
+    requires seen { All (λ w. w ≡ (O.state opened).past) readers.items }
 {
     let mut operator = opened;
     let lanes = lanes_of(server.alloc, submitters, plan.entries)?;
@@ -72,7 +72,7 @@ fn serve_opened<
         return Err(RunFault::Operator);
     };
     let keeper = Archive::new(shelves.shelf, sure);
-    let mut kept = Kept { keeper, board };
+    let mut kept = Archiving { keeper, board };
     kept.keep(server.alloc)?;
     let pages = pages_of(server.alloc, shelves.shown)?;
     server.serve_published(operator, lanes, kept, pages, plan.lines, reader, log)
@@ -164,19 +164,17 @@ pub fn run_serve_shelf<
     reader: &mut Counted<R>,
     log: &mut Counted<L>,
 ) -> Result<(), RunFault>
-    ensures { RefusesOrigin (string_bytes options.now.origin) (passage R.remaining reader.old reader.new) result }
+    ensures { RefusesOrigin
+        (string_bytes options.now.origin) (passage R.remaining reader.old reader.new) result }
 {
     let origin = options.origin.as_str();
     if !is_key_name(origin) {
         return Err(RunFault::BadOrigin);
     }
-    let keys = keys_of(rt, alloc, origin, &options.key)?;
-    let (signer, verifier): (Box<dyn Signer>, Box<dyn Verifier>) = match keys {
-        LogKeys::Demonstration(a, b) => (Box::new(alloc, a)?, Box::new(alloc, b)?),
-        LogKeys::Private(a, b) => (Box::new(alloc, a)?, Box::new(alloc, b)?),
-    };
-    let (mut signers, opens) = (Vec::new(alloc), [verifier]);
-    signers.push(signer)?;
+    let LogKeys { signer, verifier } = keys_of(rt, alloc, origin, &options.key)?;
+    let opens: [Box<dyn Verifier>; 1] = [Box::new(alloc, verifier)?];
+    let mut signers: Vec<Box<dyn Signer>> = Vec::new(alloc);
+    signers.push(Box::new(alloc, signer)?)?;
     let server = Server {
         rt,
         alloc,

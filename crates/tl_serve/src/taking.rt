@@ -1,10 +1,10 @@
 //! How what comes in is taken, and published.
 
 ghost use Rattle.tl_publisher.specs.Operating.{IsOperating};
-ghost use Rattle.tl_serve.specs.Kept.{IsKept};
+ghost use Rattle.tl_serve.specs.Inner.Running.{StaysOperating};
 
 use crate::flags::Flags;
-use crate::keeping::{Keeper, Kept};
+use crate::keeping::{Archiving, Keeper};
 use crate::live_log::LiveLog;
 use crate::telling::tell_head;
 use std::alloc::Global;
@@ -35,8 +35,8 @@ pub(crate) struct Rounds {
 
 // Takes from each lane in turn: how many entries in all.
 fn take_round<O: LiveLog>(operator: &mut O, rounds: Rounds) -> Result<u64, RunFault>
-    requires { IsOperating (O.shown operator.old) }
-    ensures { IsKept (O.shown operator.old) (O.shown operator.new) }
+    requires { IsOperating (O.state operator.old) }
+    ensures { StaysOperating (O.state operator.old) (O.state operator.new) }
 {
     let mut count = 0u64;
     for lane in 0..rounds.lanes {
@@ -48,8 +48,8 @@ fn take_round<O: LiveLog>(operator: &mut O, rounds: Rounds) -> Result<u64, RunFa
 
 // Takes what is to be published together: how many entries.
 fn gather<O: LiveLog>(operator: &mut O, rounds: Rounds) -> Result<u64, RunFault>
-    requires { IsOperating (O.shown operator.old) }
-    ensures { IsKept (O.shown operator.old) (O.shown operator.new) }
+    requires { IsOperating (O.state operator.old) }
+    ensures { StaysOperating (O.state operator.old) (O.state operator.new) }
 {
     let mut count = 0u64;
     for _round in 0..u64::MAX {
@@ -66,12 +66,12 @@ fn gather<O: LiveLog>(operator: &mut O, rounds: Rounds) -> Result<u64, RunFault>
 fn take_and_show<O: LiveLog, K: Keeper, L: Write>(
     alloc: Global,
     operator: &mut O,
-    kept: &mut Kept<K>,
+    kept: &mut Archiving<K>,
     log: &mut Counted<L>,
     rounds: Rounds,
 ) -> Result<u64, RunFault>
-    requires { IsOperating (O.shown operator.old) }
-    ensures { IsKept (O.shown operator.old) (O.shown operator.new) }
+    requires { IsOperating (O.state operator.old) }
+    ensures { StaysOperating (O.state operator.old) (O.state operator.new) }
 {
     let taken = gather(operator, rounds)?;
     if taken == 0 {
@@ -90,13 +90,13 @@ fn take_rounds<H: Clock, O: LiveLog, K: Keeper, L: Write>(
     rt: &H,
     alloc: Global,
     operator: &mut O,
-    kept: &mut Kept<K>,
+    kept: &mut Archiving<K>,
     log: &mut Counted<L>,
     rounds: Rounds,
     flags: &Flags,
 ) -> Result<(), RunFault>
-    requires { IsOperating (O.shown operator.old) }
-    ensures { IsKept (O.shown operator.old) (O.shown operator.new) }
+    requires { IsOperating (O.state operator.old) }
+    ensures { StaysOperating (O.state operator.old) (O.state operator.new) }
 {
     for _turn in 0..u64::MAX {
         if flags.are_done() {
@@ -115,13 +115,13 @@ pub(crate) fn take_all<H: Clock, O: LiveLog, K: Keeper, L: Write>(
     rt: &H,
     alloc: Global,
     operator: &mut O,
-    kept: &mut Kept<K>,
+    kept: &mut Archiving<K>,
     log: &mut Counted<L>,
     rounds: Rounds,
     flags: &Flags,
 ) -> Result<(), RunFault>
-    requires { IsOperating (O.shown operator.old) }
-    ensures { IsKept (O.shown operator.old) (O.shown operator.new) }
+    requires { IsOperating (O.state operator.old) }
+    ensures { StaysOperating (O.state operator.old) (O.state operator.new) }
 {
     if !rounds.is_quiet {
         if let Err(fault) = tell_head(alloc, log, &mut kept.board, PUBLISHED) {

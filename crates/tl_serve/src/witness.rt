@@ -233,7 +233,8 @@ pub fn run_witness<
     writer: &mut Counted<O>,
     log: &mut Counted<L>,
 ) -> Result<(), RunFault>
-    ensures { RefusesOrigin (string_bytes options.now.origin) (passage R.remaining reader.old reader.new) result }
+    ensures { RefusesOrigin
+        (string_bytes options.now.origin) (passage R.remaining reader.old reader.new) result }
 {
     let origin = options.origin.as_str();
     if !is_key_name(origin) {

@@ -14,8 +14,8 @@ use Rattle.tl_device.specs.Reading.{Gave, MayBe}
 use Rattle.tl_server.specs.Serve.{Came, Sends, Sent, Serves}
 use Rattle.tl_server.specs.Inner.AskedOf.{AskedAnswers, AsksWitness}
 use Rattle.tl_server.specs.Inner.Deciding.{IsHeaded, Rest}
-use Rattle.tl_server.specs.declared.asked.Asked.{Asked}
-use Rattle.tl_server.specs.declared.asked.Asked.TheVariants.{NotFound, OtherMethod, Unsized, TooLarge, Decision}
+use Rattle.tl_server.specs.declared.asked.Target.{Target}
+use Rattle.tl_server.specs.declared.asked.Target.TheVariants.{NotFound, OtherMethod, Unsized, TooLarge, Decision}
 use Rattle.tl_server.specs.declared.fault.ServeFault.{ServeFault}
 use Rattle.tl_server.specs.declared.fault.ServeFault.TheVariants.{Read, Write}
 use Rattle.tl_device.proofs.SendingLemmas.{over}
@@ -23,7 +23,7 @@ use Rattle.tl_device.proofs.ReadLemmas.{gave_none}
 use Rattle.tl_server.proofs.ServeLemmas.{sent_serves, head_in, whole_begins}
 
 -- what a head asks decides as the table does
-pub asked_decides : (Idle : Type 0) (R : List ℕ → Answer → Type 0) (method target : List ℕ) (fields : List (List ℕ × List ℕ)) (asked : Asked) (part rest : List ℕ) (a : Answer)
+pub asked_decides : (Idle : Type 0) (R : List ℕ → Answer → Type 0) (method target : List ℕ) (fields : List (List ℕ × List ℕ)) (asked : Target) (part rest : List ℕ) (a : Answer)
     → AsksWitness method target fields asked → AskedAnswers Idle R asked part rest a → WitnessAnswers Idle R method target fields (part ++ rest) a
 asked_decides Idle R method target fields NotFound part rest a asks is = inl (asks, is)
 asked_decides Idle R method target fields OtherMethod part rest a asks is = inr (asks.0, inl (asks.1, is))
@@ -32,9 +32,9 @@ asked_decides Idle R method target fields TooLarge part rest a asks is = inr (as
 asked_decides Idle R method target fields (Decision n) part rest a asks is = inr (asks.0.0, inr (asks.0.1, inr (n, asks.1, inr (asks.2, is))))
 
 -- what was asked is this
-pub answers_as : (Idle : Type 0) (R : List ℕ → Answer → Type 0) (asked : Asked) (part rest : List ℕ) (a : Answer) (other : Asked)
+pub answers_as : (Idle : Type 0) (R : List ℕ → Answer → Type 0) (asked : Target) (part rest : List ℕ) (a : Answer) (other : Target)
     → asked ≡ other → AskedAnswers Idle R other part rest a → AskedAnswers Idle R asked part rest a
-answers_as Idle R asked part rest a other same is = subst (λ (x : Asked). AskedAnswers Idle R x part rest a) (sym same) is
+answers_as Idle R asked part rest a other same is = subst (λ (x : Target). AskedAnswers Idle R x part rest a) (sym same) is
 
 -- there is no answer where no answer is
 no_answer : (Answers : List ℕ → Answer → Type 0) (i : Passage) → Came (Rest Answers) i None → ⊥
@@ -126,7 +126,7 @@ body_stays part bytes rest body n has may = record {
 
 -- what the head that was read asks decides as the table does
 pub head_asks : (Idle : Type 0) (R : List ℕ → Answer → Type 0) (i : Passage) (buf : List ℕ) (headers : List HeaderSpan) (len : ℕ) (spans : RequestSpans)
-    (is : IsHeaded i buf headers len spans) (asked : Asked) (rest : List ℕ) (answer : Answer)
+    (is : IsHeaded i buf headers len spans) (asked : Target) (rest : List ℕ) (answer : Answer)
     → AsksWitness (span_bytes (take len buf) spans.method) (span_bytes (take len buf) spans.path) (map (header_bytes (take len buf)) (take spans.headers headers)) asked
     → AskedAnswers Idle R asked (take (length (take len buf) - spans.len) (drop spans.len (take len buf))) rest answer
     → WitnessDecides Idle R (record { head = head_in i buf headers len spans is; rest = drop spans.len (take len buf) ++ rest }) answer

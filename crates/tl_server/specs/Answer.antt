@@ -18,16 +18,6 @@ bare status = record { status = status; allow = []; kind = []; body = [] }
 abbrev pub not_allowed : Bytes → Answer
 not_allowed method = record { status = 405; allow = method; kind = []; body = [] }
 
--- types of bodies (C2SP tlog-tiles, tlog-witness)
-abbrev pub plain_text : Bytes
-plain_text = codes "text/plain; charset=utf-8"
-
-abbrev pub octets : Bytes
-octets = codes "application/octet-stream"
-
-abbrev pub log_size : Bytes
-log_size = codes "text/x.tlog.size"
-
 -- the reason phrase of a status (RFC 9110, section 15; RFC 6585, section 5)
 abbrev pub phrase : ℕ → Bytes
 phrase status =
@@ -55,6 +45,16 @@ field_line name (b ∷ value) = name ++ (b ∷ value) ++ crlf
 abbrev pub type_line : Bytes → Bytes → Bytes
 type_line kind [] = []
 type_line kind (b ∷ body) = codes "Content-Type: " ++ kind ++ crlf
+
+-- types of bodies (C2SP tlog-tiles, tlog-witness)
+abbrev pub plain_text : Bytes
+plain_text = codes "text/plain; charset=utf-8"
+
+abbrev pub octets : Bytes
+octets = codes "application/octet-stream"
+
+abbrev pub log_size : Bytes
+log_size = codes "text/x.tlog.size"
 
 -- the bytes of an answer, piece by piece: the status line, the fields, an empty line, the body
 unfoldable pub answer_text : Answer → Bytes

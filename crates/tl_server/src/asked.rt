@@ -10,7 +10,7 @@ use httparse::spans::{HeaderSpan, RequestSpans};
 
 /// What the head of a request asks of a witness.
 #[derive(Clone, Copy)]
-pub(crate) enum Asked {
+pub(crate) enum Target {
     /// Another target.
     NotFound,
     /// Another method.
@@ -24,20 +24,20 @@ pub(crate) enum Asked {
 }
 
 /// What the head at the front of these bytes asks, whose parts are there.
-pub(crate) fn asked_of(bytes: &[u8], headers: &[HeaderSpan], spans: RequestSpans) -> Asked
+pub(crate) fn asked_of(bytes: &[u8], headers: &[HeaderSpan], spans: RequestSpans) -> Target
     requires { IsRequestWithin bytes.now headers.now spans }
     ensures { AsksWitness (span_bytes bytes.now spans.method) (span_bytes bytes.now spans.path)
         (map (header_bytes bytes.now) (take spans.headers headers.now)) result }
 {
     if !is_text(spans.path.of(bytes), b"/add-checkpoint") {
-        return Asked::NotFound;
+        return Target::NotFound;
     }
     if !is_text(spans.method.of(bytes), b"POST") {
-        return Asked::OtherMethod;
+        return Target::OtherMethod;
     }
     match length_in(bytes, &headers[..spans.headers]) {
-        Length::Unknown => Asked::Unsized,
-        Length::TooLarge => Asked::TooLarge,
-        Length::Is(n) => Asked::Decision(n),
+        Length::Unknown => Target::Unsized,
+        Length::TooLarge => Target::TooLarge,
+        Length::Is(n) => Target::Decision(n),
     }
 }

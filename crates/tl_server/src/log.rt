@@ -49,7 +49,8 @@ fn answer_look<A: Allocator, O: Write>(
     resource: &Resource,
     look: Result<Option<Vec<u8, A>>, GetFault>,
 ) -> Result<Option<u16>, ServeFault>
-    ensures { Sends (look_answer resource.now look) (passage O.contents writer.old writer.new) result }
+    ensures { Sends
+        (look_answer resource.now look) (passage O.contents writer.old writer.new) result }
 {
     match look {
         Ok(Some(bytes)) => send(writer, 200, b"", type_of(resource), bytes.as_slice()),
@@ -68,7 +69,8 @@ fn answer_log<A: Allocator, B: Allocator, O: Write>(
     target: &[u8],
 ) -> Result<Option<u16>, ServeFault>
     requires { IsUtf8 target.now }
-    ensures { Answered (LogAnswers A board.old board.new method.now target.now) (passage O.contents writer.old writer.new) result }
+    ensures { Answered (LogAnswers A board.old board.new method.now target.now)
+        (passage O.contents writer.old writer.new) result }
 {
     let Some(resource) = resource_of(target) else {
         return refuse(writer, 404);
@@ -89,9 +91,9 @@ pub fn serve_log<A: Allocator, B: Allocator, I: Read, O: Write>(
     writer: &mut Counted<O>,
     board: &mut BoardReader<B>,
 ) -> Result<Option<u16>, ServeFault>
-    ensures { Serves (board.new ≡ board.old)
-        (Exchange (board.new ≡ board.old) (LogDecides A board.old board.new))
-        (passage I.remaining reader.old reader.new) (passage O.contents writer.old writer.new) result }
+    ensures { Serves (board.new ≡ board.old) (Exchange (board.new ≡ board.old)
+        (LogDecides A board.old board.new)) (passage I.remaining reader.old reader.new)
+        (passage O.contents writer.old writer.new) result }
 {
     let mut buf = [0u8; MOST_HEAD];
     let mut headers = [EMPTY_HEADER_SPAN; MOST_FIELDS];

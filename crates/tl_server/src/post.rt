@@ -8,7 +8,7 @@ ghost use Rattle.tl_server.specs.Inner.Deciding.{Rest};
 ghost use Rattle.tl_server.specs.Serve.{Sends, Serves};
 ghost use Rattle.tl_server.specs.Witness.{Replies, WitnessDecides, reply_answer, reply_kind};
 
-use crate::asked::{Asked, asked_of};
+use crate::asked::{Target, asked_of};
 use crate::body::{Body, read_body};
 use crate::fault::ServeFault;
 use crate::head::{HeadRead, MOST_FIELDS, MOST_HEAD, read_head};
@@ -38,7 +38,8 @@ fn send_reply<O: Write>(
     status: u16,
     body: &[u8],
 ) -> Result<Option<u16>, ServeFault>
-    ensures { Sends (reply_answer status body.now) (passage O.contents writer.old writer.new) result }
+    ensures { Sends
+        (reply_answer status body.now) (passage O.contents writer.old writer.new) result }
 {
     send(writer, status, b"", type_of(status), body)
 }
@@ -52,20 +53,21 @@ fn answer_asked<R: Wait, A: Allocator, I: Read, O: Write, W: Witness<A>, S: Save
     witness: &W,
     time: u64,
     saver: &mut S,
-    asked: Asked,
+    asked: Target,
     part: &[u8],
 ) -> Result<Option<u16>, ServeFault>
     ensures { Serves (S.saved saver.new ≡ S.saved saver.old)
-        (Rest (AskedAnswers (S.saved saver.new ≡ S.saved saver.old)
-        (Replies W.digest (W.shown witness.now) time (S.saved saver.old) (S.saved saver.new)) asked part.now))
-        (passage I.remaining reader.old reader.new) (passage O.contents writer.old writer.new) result }
+        (Rest (AskedAnswers (S.saved saver.new ≡ S.saved saver.old) (Replies W.digest
+        (W.shown witness.now) time (S.saved saver.old) (S.saved saver.new)) asked part.now))
+        (passage I.remaining reader.old reader.new)
+        (passage O.contents writer.old writer.new) result }
 {
     let most = match asked {
-        Asked::NotFound => return refuse(writer, 404),
-        Asked::OtherMethod => return refuse_method(writer, b"POST"),
-        Asked::Unsized => return refuse(writer, 400),
-        Asked::TooLarge => return refuse(writer, 413),
-        Asked::Decision(most) => most,
+        Target::NotFound => return refuse(writer, 404),
+        Target::OtherMethod => return refuse_method(writer, b"POST"),
+        Target::Unsized => return refuse(writer, 400),
+        Target::TooLarge => return refuse(writer, 413),
+        Target::Decision(most) => most,
     };
     match read_body(alloc, reader, part, most as usize) {
         Body::Failed => Err(ServeFault::Read),
@@ -91,11 +93,11 @@ pub fn serve_witness<R: Wait, A: Allocator, I: Read, O: Write, W: Witness<A>, S:
     time: u64,
     saver: &mut S,
 ) -> Result<Option<u16>, ServeFault>
-    ensures { Serves (S.saved saver.new ≡ S.saved saver.old)
-        (Exchange (S.saved saver.new ≡ S.saved saver.old)
-        (WitnessDecides (S.saved saver.new ≡ S.saved saver.old)
+    ensures { Serves (S.saved saver.new ≡ S.saved saver.old) (Exchange (S.saved saver.new
+        ≡ S.saved saver.old) (WitnessDecides (S.saved saver.new ≡ S.saved saver.old)
         (Replies W.digest (W.shown witness.now) time (S.saved saver.old) (S.saved saver.new))))
-        (passage I.remaining reader.old reader.new) (passage O.contents writer.old writer.new) result }
+        (passage I.remaining reader.old reader.new)
+        (passage O.contents writer.old writer.new) result }
 {
     let mut buf = [0u8; MOST_HEAD];
     let mut headers = [EMPTY_HEADER_SPAN; MOST_FIELDS];

@@ -50,10 +50,10 @@ fn put_texts<'a, W: Write>(
     size: &'a [u8],
     body: &'a [u8],
 ) -> Result<(), WriteFault>
-    ensures whole { OnOk result (WroteWhole (passage W.contents writer.old writer.new)
-        (pieces_text (λ p. p) (answer_pieces status.now reason.now allow.now kind.now size.now body.now))) }
-    ensures part { OnErr result (WrotePart (passage W.contents writer.old writer.new)
-        (pieces_text (λ p. p) (answer_pieces status.now reason.now allow.now kind.now size.now body.now))) }
+    ensures whole { OnOk result (WroteWhole (passage W.contents writer.old writer.new) (pieces_text
+        (λ p. p) (answer_pieces status.now reason.now allow.now kind.now size.now body.now))) }
+    ensures part { OnErr result (WrotePart (passage W.contents writer.old writer.new) (pieces_text
+        (λ p. p) (answer_pieces status.now reason.now allow.now kind.now size.now body.now))) }
 {
     let version: &'a [u8] = b"HTTP/1.1 ";
     let space: &'a [u8] = b" ";
@@ -80,7 +80,8 @@ pub(crate) fn send<W: Write>(
     kind: &[u8],
     body: &[u8],
 ) -> Result<Option<u16>, ServeFault>
-    ensures { Sends (record { status = status; allow = allow.now; kind = kind.now; body = body.now })
+    ensures { Sends
+        (record { status = status; allow = allow.now; kind = kind.now; body = body.now; })
         (passage W.contents writer.old writer.new) result }
 {
     let mut status_digits = Buffer::new();

@@ -10,7 +10,8 @@ use Rattle.tl_tile.specs.declared.source.SourceFault.{SourceFault}
 use Rattle.tl_tile.specs.declared.source.SourceFault.TheVariants as source
 use Rattle.tl_source.specs.Limits.{most_bytes}
 use Rattle.tl_source.specs.Places.{place_text}
-use Rattle.tl_source.specs.Asking.{IsFront, GivesNoBody, after_get}
+use Rattle.tl_source.specs.Asking.{IsFront}
+use Rattle.tl_source.specs.Inner.Asking.{GivesNoBody, after_get}
 
 other_than_memory : (why : GetFault) (fault : SourceFault) → fault ≡ after_get why → fault ≡ source.Unavailable → why ≢ get.OutOfMemory
 other_than_memory why fault after is e =

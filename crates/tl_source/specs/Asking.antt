@@ -1,14 +1,10 @@
 -- One request for a resource under an address.
-use Rattle.std.specs.Prelude.{◌≡◌, ◌≢◌, ◌⊎◌, ◌++◌, Err, codes}
+use Rattle.std.specs.Prelude.{◌≡◌, ◌⊎◌, ◌++◌, ◌≤◌, length, Ok, codes}
 use Rattle.tl_hash.specs.Bytes.{Bytes}
 use Rattle.tl_device.specs.Device.{Passage}
 use Rattle.tl_get.specs.Get.{Gets}
 use Rattle.tl_get.specs.Response.{Outcome}
 use Rattle.tl_tile.specs.declared.resource.Resource.{Resource}
-use Rattle.tl_tile.specs.declared.source.SourceFault.{SourceFault}
-use Rattle.tl_tile.specs.declared.source.SourceFault.TheVariants as source
-use Rattle.tl_get.specs.declared.fault.GetFault.{GetFault}
-use Rattle.tl_get.specs.declared.fault.GetFault.TheVariants as get
 use Rattle.tl_source.specs.Limits.{most_bytes}
 use Rattle.tl_source.specs.Places.{place_text}
 
@@ -32,11 +28,9 @@ pub record Asks (authority prefix : Bytes) (resource : Resource) (i o : Passage)
   pub target_is : IsTarget prefix resource target
   pub gets : Gets authority target (most_bytes resource) i o r
 
--- such a request gave no body, and not for want of memory
-abbrev pub GivesNoBody : Bytes → Bytes → Resource → Passage → Passage → Type 0
-GivesNoBody authority prefix resource i o = (why : GetFault) × (why ≢ get.OutOfMemory) × Asks authority prefix resource i o (Err why)
-
--- why a source hasn't a resource, after the fault of a request
-abbrev pub after_get : GetFault → SourceFault
-after_get get.OutOfMemory = source.OutOfMemory
-after_get other = source.Unavailable
+-- one request for it may give these bytes: some response with status 200 has them as its body, and they aren't too many
+pub record MayGive (authority prefix : Bytes) (resource : Resource) (body : Bytes) : Type 0 where
+  pub reader : Passage
+  pub writer : Passage
+  pub asks : Asks authority prefix resource reader writer (Ok body)
+  pub short : length body ≤ most_bytes resource

@@ -1,3 +1,7 @@
 -- Private words: what contracts of private functions and proofs need.
 pub
+    mod Asking
+pub
     mod Authorities
+pub
+    mod Besides

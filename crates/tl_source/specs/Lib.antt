@@ -2,6 +2,5 @@ pub mod Url
 pub mod Limits
 pub mod Places
 pub mod Asking
-pub mod Reading
 pub mod Caches
 pub mod Inner

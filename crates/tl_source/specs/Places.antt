@@ -7,7 +7,3 @@ use Rattle.tl_tile.specs.Path.{path_text}
 -- a text, a slash and the path of a resource
 abbrev pub place_text : Bytes → Resource → Bytes
 place_text front resource = front ++ codes "/" ++ path_text resource
-
--- where the file with this place is written before it is put there
-abbrev pub beside_text : Bytes → Bytes
-beside_text place = place ++ codes ".new"

@@ -5,7 +5,8 @@ ghost use Rattle.tl_device.specs.Device.{passage};
 ghost use Rattle.tl_tile.specs.Path.{IsResource};
 ghost use Rattle.tl_tile.specs.declared.source.SourceFault.TheVariants.{Unavailable};
 ghost use Rattle.tl_source.specs.Limits.{most_bytes};
-ghost use Rattle.tl_source.specs.Asking.{IsFront, Asks, GivesNoBody, after_get};
+ghost use Rattle.tl_source.specs.Asking.{IsFront, Asks};
+ghost use Rattle.tl_source.specs.Inner.Asking.{GivesNoBody, after_get};
 
 use crate::limit::most_bytes;
 use crate::place::path_under;
@@ -47,7 +48,8 @@ pub(crate) fn ask<I: Read, O: Write>(
 ) -> Result<Vec<u8>, SourceFault>
     requires { IsResource resource.now }
     ensures body { IfOk result (λ body. Asks url.now.authority.now url.now.prefix.now resource.now
-        (passage I.remaining reader.old reader.new) (passage O.contents writer.old writer.new) (Ok body.items)) }
+        (passage I.remaining reader.old reader.new)
+        (passage O.contents writer.old writer.new) (Ok body.items)) }
     ensures short { IfOk result (λ body. length body.items ≤ most_bytes resource.now) }
     ensures unavailable { IfErr result (λ fault. fault ≡ Unavailable →
         GivesNoBody url.now.authority.now url.now.prefix.now resource.now

@@ -1,8 +1,8 @@
 //! The resources of a log over HTTP.
 
-ghost use Rattle.std.specs.Prelude.{◌≡◌, ◌≤◌, length, IfOk};
+ghost use Rattle.std.specs.Prelude.{◌≡◌, IfOk};
 ghost use Rattle.tl_tile.specs.Path.{IsResource};
-ghost use Rattle.tl_source.specs.Limits.{most_bytes};
+ghost use Rattle.tl_source.specs.Asking.{MayGive};
 
 use crate::asking::ask;
 use crate::url::Url;
@@ -71,7 +71,8 @@ impl<'s, H: Net<Stream = TcpStream> + Clock> HttpSource<'s, H> {
     // The body that the host answers with for a resource.
     fn body_of(&self, resource: &Resource) -> Result<Vec<u8>, SourceFault>
         requires { IsResource resource.now }
-        ensures { IfOk result (λ body. length body.items ≤ most_bytes resource.now) }
+        ensures { IfOk result (λ body.
+            MayGive self.now.authority.now self.now.prefix.now resource.now body.items) }
     {
         let Ok(start) = Instant::now(self.rt) else {
             return Err(SourceFault::Unavailable);
@@ -86,7 +87,7 @@ impl<'s, H: Net<Stream = TcpStream> + Clock> HttpSource<'s, H> {
 }
 
 impl<H: Net<Stream = TcpStream> + Clock> ResourceSource for HttpSource<'_, H> {
-    ghost may_answer = { λ _ r text. length text ≤ most_bytes r };
+    ghost may_answer = { λ s r text. MayGive s.authority.now s.prefix.now r text };
 
     ghost may_lack = { λ _ _. Unit {0} };
 

@@ -2,7 +2,8 @@
 
 ghost use Rattle.std.specs.Prelude.{◌≡◌, string_bytes, IfOk};
 ghost use Rattle.tl_tile.specs.Path.{IsResource};
-ghost use Rattle.tl_source.specs.Places.{place_text, beside_text};
+ghost use Rattle.tl_source.specs.Places.{place_text};
+ghost use Rattle.tl_source.specs.Inner.Besides.{beside_text};
 
 use std::alloc::{AllocError, Allocator};
 use tl_tile::{Resource, path_of};

@@ -4,7 +4,7 @@ ghost use Rattle.std.specs.Prelude.{◌≡◌, IfOk, IfErr};
 ghost use Rattle.tl_device.specs.Device.{passage, IsSteady, ReadWhole, GaveSome};
 ghost use Rattle.tl_tile.specs.declared.source.SourceFault.TheVariants.{Unavailable, OutOfMemory};
 ghost use Rattle.tl_source.specs.Limits.{most_bytes};
-ghost use Rattle.tl_source.specs.Reading.{IsUnreadable};
+ghost use Rattle.tl_source.specs.Inner.Asking.{IsUnreadable};
 
 use crate::limit::most_bytes;
 use std::alloc::Allocator;
@@ -19,12 +19,13 @@ pub(crate) fn read_resource<A: Allocator, R: Read>(
     reader: &mut Counted<R>,
     resource: &Resource,
 ) -> Result<Vec<u8, A>, SourceFault>
-    ensures whole { IfOk result (λ bytes.
-        ReadWhole (passage R.remaining reader.old reader.new) (most_bytes resource.now) bytes.items) }
+    ensures whole { IfOk result (λ bytes. ReadWhole
+        (passage R.remaining reader.old reader.new) (most_bytes resource.now) bytes.items) }
     ensures unavailable { IfErr result (λ fault. fault ≡ Unavailable →
         IsUnreadable (passage R.remaining reader.old reader.new) (most_bytes resource.now)) }
-    ensures memory { IfErr result (λ fault. fault ≡ OutOfMemory →
-        IsSteady (passage R.remaining reader.old reader.new) × GaveSome (passage R.remaining reader.old reader.new)) }
+    ensures memory { IfErr result
+        (λ fault. fault ≡ OutOfMemory → IsSteady (passage R.remaining reader.old reader.new)
+        × GaveSome (passage R.remaining reader.old reader.new)) }
 {
     match read_whole(alloc, reader, most_bytes(resource)) {
         Ok(bytes) => Ok(bytes),

@@ -89,7 +89,8 @@ fn port_of(text: &str) -> Option<u16>
 
 // The host and the port of an authority that names its host.
 fn named(authority: &str) -> Option<(&str, u16)>
-    ensures { MatchOption result (IsNotNamed authority.now) (λ r. IsNamed authority.now r.0.now r.1) }
+    ensures { MatchOption result (IsNotNamed authority.now)
+        (λ r. IsNamed authority.now r.0.now r.1) }
 {
     let (host, rest) = cut_at(authority, ':');
     let Some(port) = port_of(rest) else {
@@ -104,7 +105,8 @@ fn named(authority: &str) -> Option<(&str, u16)>
 
 // The host and the port of an authority with an IPv6 address, without the bracket that it begins with.
 fn bracketed(authority: &str) -> Option<(&str, u16)>
-    ensures { MatchOption result (IsNotBracketed authority.now) (λ r. IsBracketed (91 ∷ authority.now) r.0.now r.1) }
+    ensures { MatchOption result (IsNotBracketed authority.now)
+        (λ r. IsBracketed (91 ∷ authority.now) r.0.now r.1) }
 {
     let Some((host, rest)) = authority.split_once(']') else {
         return None;
@@ -121,7 +123,8 @@ fn bracketed(authority: &str) -> Option<(&str, u16)>
 
 // The host and the port of an authority.
 fn host_of(authority: &str) -> Option<(&str, u16)>
-    ensures { MatchOption result (IsNoAuthority authority.now) (λ r. IsAuthority authority.now r.0.now r.1) }
+    ensures { MatchOption result (IsNoAuthority authority.now)
+        (λ r. IsAuthority authority.now r.0.now r.1) }
 {
     match authority.strip_prefix('[') {
         Some(rest) => bracketed(rest),

@@ -25,7 +25,8 @@ pub fn tree_hash<T: TreeHash, R: HashReader, A: Allocator + Copy>(
         → IfOk result (λ root. root ≡ tree_hash_of T.digest_of (take size entries)) }
     ensures empty { size ≡ 0 → result ≡ Ok (T.digest_of []) }
     ensures in_range { OnOk result (size ≤ readable_size (R.size reader.now)) }
-    ensures faults { IfErr result (GivesHeadFault (R.size reader.now) (R.may_fail reader.now) size) }
+    ensures faults { IfErr result
+        (GivesHeadFault (R.size reader.now) (R.may_fail reader.now) size) }
 {
     if size == 0 {
         return Ok(empty_hash(h));

@@ -63,7 +63,8 @@ pub(crate) fn push_entry<T: TreeHash, A: Allocator>(
     requires small { size + 1 < 2 ^ 32 }
     requires counted { length hashes.old.items ≡ stored_count size }
     requires room { stored_count (size + 1) ≤ vec_capacity hashes.old }
-    ensures added { AddsEntries T.digest_of size (entry.now ∷ []) hashes.old.items hashes.new.items }
+    ensures added { AddsEntries T.digest_of size
+        (entry.now ∷ []) hashes.old.items hashes.new.items }
     ensures capacity { vec_capacity hashes.new ≡ vec_capacity hashes.old }
 {
     let leaf = leaf_hash(h, entry);
@@ -81,7 +82,8 @@ fn push_singly<T: TreeHash, A: Allocator, B: Allocator>(
     requires small { size + length entries.now < 2 ^ 32 }
     requires counted { length hashes.old.items ≡ stored_count size }
     requires room { stored_count (size + length entries.now) ≤ vec_capacity hashes.old }
-    ensures added { AddsEntries T.digest_of size (map vec_items entries.now) hashes.old.items hashes.new.items }
+    ensures added { AddsEntries T.digest_of size
+        (map vec_items entries.now) hashes.old.items hashes.new.items }
     ensures capacity { vec_capacity hashes.new ≡ vec_capacity hashes.old }
 {
     for (before, entry) in entries.iter().enumerate() {
@@ -99,7 +101,8 @@ fn push_sixteens<T: TreeHash, A: Allocator, B: Allocator>(
     requires small { size + length entries.now < 2 ^ 32 }
     requires counted { length hashes.old.items ≡ stored_count size }
     requires room { stored_count (size + length entries.now) ≤ vec_capacity hashes.old }
-    ensures added { AddsEntries T.digest_of size (map vec_items entries.now) hashes.old.items hashes.new.items }
+    ensures added { AddsEntries T.digest_of size
+        (map vec_items entries.now) hashes.old.items hashes.new.items }
     ensures capacity { vec_capacity hashes.new ≡ vec_capacity hashes.old }
 {
     let mut count = size;
@@ -123,7 +126,8 @@ pub(crate) fn push_entries<T: TreeHash, A: Allocator, B: Allocator>(
     requires small { size + length entries.now < 2 ^ 32 }
     requires counted { length hashes.old.items ≡ stored_count size }
     requires room { stored_count (size + length entries.now) ≤ vec_capacity hashes.old }
-    ensures added { AddsEntries T.digest_of size (map vec_items entries.now) hashes.old.items hashes.new.items }
+    ensures added { AddsEntries T.digest_of size
+        (map vec_items entries.now) hashes.old.items hashes.new.items }
     ensures capacity { vec_capacity hashes.new ≡ vec_capacity hashes.old }
 {
     let before = entries.len().min((4 - size % 4) as usize % 4);

@@ -123,7 +123,8 @@ pub(crate) fn push_sixteen<T: TreeHash, A: Allocator, B: Allocator>(
     requires small { size + 16 < 2 ^ 32 }
     requires counted { length hashes.old.items ≡ stored_count size }
     requires room { stored_count (size + 16) ≤ vec_capacity hashes.old }
-    ensures added { AddsEntries T.digest_of size (map vec_items entries.now) hashes.old.items hashes.new.items }
+    ensures added { AddsEntries T.digest_of size
+        (map vec_items entries.now) hashes.old.items hashes.new.items }
     ensures capacity { vec_capacity hashes.new ≡ vec_capacity hashes.old }
 {
     let (left, right) = entries.split_at(8);

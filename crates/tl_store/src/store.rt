@@ -27,7 +27,8 @@ impl<T: TreeHash, A: Allocator> Model for HashStore<T, A> {
 
     ghost Value = { Contents };
 
-    ghost view = { λ s. record { size = s.size; hashes = s.hashes.items; room = vec_capacity s.hashes } };
+    ghost view = { λ s.
+        record { size = s.size; hashes = s.hashes.items; room = vec_capacity s.hashes } };
 
     ghost invariant = { λ s. (length s.hashes.items ≡ stored_count s.size) × (s.size ≤ 2 ^ 62) };
 }
@@ -74,7 +75,8 @@ impl<T: TreeHash, A: Allocator> HashStore<T, A> {
             → OnOk result (StandsFor self.new T.digest_of (before ++ map vec_items entries.now)) }
         ensures size { OnOk result (self.new.size ≡ self.old.size + length entries.now) }
         ensures unchanged { OnErr result (self.new ≡ self.old) }
-        ensures full { OnErr result (self.old.room < stored_count (self.old.size + length entries.now)) }
+        ensures full { OnErr result
+            (self.old.room < stored_count (self.old.size + length entries.now)) }
     {
         let count = self.size + entries.len() as u64;
         reserve_up_to(&mut self.hashes, stored_count(count) as usize)?;

@@ -1,4 +1,4 @@
 pub mod Text
 pub mod Pieces
 pub mod Base64
-pub mod Law
+pub mod Inner

@@ -23,7 +23,8 @@ pub struct Block {
 /// Reads a block of at most eight characters, strict base64 (RFC 4648, section 4), padded where its bytes ask for it.
 pub fn decode_base64_block(text: &[u8]) -> Option<Block>
     requires { length text.now ≤ 8 }
-    ensures { MatchOption result (IsNoBase64 text.now) (λ block. IsRead text.now block.count block.bytes) }
+    ensures { MatchOption result (IsNoBase64 text.now)
+        (λ block. IsRead text.now block.count block.bytes) }
 {
     let mut bytes = [0; BLOCK_BYTES];
     match STANDARD.decode_slice(text, &mut bytes) {

@@ -1,18 +1,23 @@
 //! Laws of texts: each has one reading.
 
-ghost use Rattle.tl_text.specs.Law.{BytesHaveOneText, LinesHaveOneText, NumbersHaveOneText};
+ghost use Rattle.std.specs.Prelude.{◌≡◌, ℕ, List, All};
+ghost use Rattle.tl_text.specs.Text.{number_text, IsSize, base64_text, line, HasNoControl};
+ghost use Rattle.base64.specs.GeneralPurpose.{IsBytes};
+ghost use Rattle.tl_hash.specs.Bytes.{Bytes};
+ghost use Rattle.std.specs.List.{flat_map};
 
 /// A text is that of one number below 2^63.
 pub fn numbers_have_one_text()
-    ensures { NumbersHaveOneText }
+    ensures { (m n : ℕ) → IsSize m → IsSize n → number_text m ≡ number_text n → m ≡ n }
 {}
 
 /// A text is padded base64 (RFC 4648, section 4) of one string of bytes.
 pub fn bytes_have_one_text()
-    ensures { BytesHaveOneText }
+    ensures { (a b : Bytes) → IsBytes a → IsBytes b → base64_text a ≡ base64_text b → a ≡ b }
 {}
 
 /// A text is one list of lines without control characters.
 pub fn lines_have_one_text()
-    ensures { LinesHaveOneText }
+    ensures { (xs ys : List Bytes) → All HasNoControl xs
+        → All HasNoControl ys → flat_map line xs ≡ flat_map line ys → xs ≡ ys }
 {}

@@ -28,7 +28,8 @@ pub fn is_one_line(text: &str) -> bool
 /// The first line of a text, without its newline, and what follows it. A line ends with a newline and has no other
 /// character below 0x20.
 pub fn split_line(text: &str) -> Option<(&str, &str)>
-    ensures { MatchOption result (IsNoLine text.now) (λ r. HasNoControl r.0.now × (text.now ≡ line r.0.now ++ r.1.now) × IsUtf8 r.1.now) }
+    ensures { MatchOption result (IsNoLine text.now)
+        (λ r. HasNoControl r.0.now × (text.now ≡ line r.0.now ++ r.1.now) × IsUtf8 r.1.now) }
 {
     let Some((words, rest)) = text.split_once('\n') else {
         return None;
@@ -41,7 +42,8 @@ pub fn split_line(text: &str) -> Option<(&str, &str)>
 
 /// The number below 2^63 that a text is, in decimal without sign or leading zeros.
 pub fn parse_size(text: &str) -> Option<u64>
-    ensures { MatchOption result (IsNoSize text.now) (λ size. (size < 2 ^ 63) × (text.now ≡ number_text size)) }
+    ensures { MatchOption result (IsNoSize text.now)
+        (λ size. (size < 2 ^ 63) × (text.now ≡ number_text size)) }
 {
     let Ok(size) = text.parse::<u64>() else {
         return None;
@@ -60,7 +62,8 @@ const HASH_ROOM: usize = 33;
 
 /// The hash that a text is, in padded base64 of 32 bytes. No memory is asked for.
 pub fn parse_hash(text: &str) -> Option<Hash>
-    ensures { MatchOption result (IsNoHash text.now) (λ hash. IsHash hash × (text.now ≡ base64_text hash)) }
+    ensures { MatchOption result (IsNoHash text.now)
+        (λ hash. IsHash hash × (text.now ≡ base64_text hash)) }
 {
     let mut bytes = [0; HASH_ROOM];
     let Ok(count) = STANDARD.decode_slice(text.as_bytes(), &mut bytes) else {

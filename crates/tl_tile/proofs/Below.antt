@@ -9,7 +9,7 @@ use Rattle.tl_hash.specs.Tree.{tree_hash}
 use Rattle.tl_hash.proofs.TreeLemmas.{tree_hash-none}
 use Rattle.tl_tile.specs.declared.resource.Tile.{Tile}
 use Rattle.tl_tile.specs.TileText.{level_count, partial_tile, tile_text}
-use Rattle.tl_tile.specs.Run.{part}
+use Rattle.tl_tile.specs.Inner.Run.{part}
 use Rattle.tl_tile.specs.Inner.Rest.{IsRest}
 use Rattle.tl_tile.specs.RightEdge.{shown_partial, hashes_below, count_below}
 use Rattle.tl_tile.specs.Inner.PartialHashes.{hash_at, partial_hashes}

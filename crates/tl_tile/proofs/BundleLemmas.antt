@@ -9,7 +9,7 @@ use Rattle.std.proofs.lemmas.Nat.{be_bytes_2, from_be_bytes-to_be_bytes_2}
 use Rattle.std.proofs.lemmas.Grind.{flat_map-append}
 use Rattle.std.proofs.lemmas.List.Concat.{flat_map-cons}
 use Rattle.std.proofs.lemmas.List.Elements.{All-append, All-cons, All-replicate, All-nil, All-push, All-head, All-tail}
-use Rattle.tl_tile.specs.Law.{BundlesAreOne, BundleFaultsApart}
+use Rattle.tl_tile.specs.Inner.Law.{BundlesAreOne, BundleFaultsApart}
 use Rattle.tl_tile.specs.Bundle.{most_entry, bundled_entry, bundle_text, IsShortEntry, AreShortEntries, AreEntries, IsPartialEntry, IsBundle, IsTruncated, HasTrailing}
 
 abbrev pub IsBytes : List ℕ → Type 0

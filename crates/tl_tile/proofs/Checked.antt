@@ -12,7 +12,7 @@ use Rattle.tl_tile.proofs.TileTexts.{pow_of_256}
 use Rattle.tl_tile.proofs.Segments.{HasHashLength, segment, power_of_256, segment-of_rest, scaled_le}
 use Rattle.tl_tile.specs.TileText.{level_count, entries_under, full_tile, partial_tile, tile_with}
 use Rattle.tl_tile.specs.Folds.{Tiles, IsHashAt, IsOwnHash, FoldsToAbove, AreChecked, IsPartHash, TilesCollide}
-use Rattle.tl_tile.specs.TileLaws.{CheckedTilesHaveStoredHashes}
+use Rattle.tl_tile.specs.Inner.TileLaws.{CheckedTilesHaveStoredHashes}
 use Rattle.tl_tile.proofs.Walks.{IsTarget, walk, fold_of_right}
 use Rattle.tl_tile.proofs.Subtrees.{inputs-subtree}
 use Rattle.tl_tile.proofs.Edges.{IsHashAt-one, positive_256, under_within, tiles_collide, edge_right}

@@ -10,7 +10,7 @@ use Rattle.tl_tile.specs.declared.resource.Resource.TheVariants as resource
 use Rattle.tl_tile.specs.TileText.{level_count, full_tile}
 use Rattle.tl_tile.specs.Needed.{tile_at, pieces, needed_resources}
 use Rattle.tl_tile.specs.RightEdge.{filled_levels, filled_tiles}
-use Rattle.tl_tile.specs.Law.{FilledTilesAreNew}
+use Rattle.tl_tile.specs.Inner.Law.{FilledTilesAreNew}
 use Rattle.tl_tile.proofs.NeededLemmas.{next_count}
 use Rattle.tl_tile.proofs.Levels.{level_parts}
 use Rattle.tl_tile.proofs.Fills.{IsFilled, before_count, same_count}

@@ -7,7 +7,7 @@ use Rattle.tl_hash.specs.Bytes.{Digest}
 use Rattle.tl_hash.specs.Split.{IsSplit}
 use Rattle.tl_hash.specs.Tree.{tree_hash, node_input}
 use Rattle.tl_hash.proofs.SplitLemmas.{IsPowerOfTwo-twice, IsSplit-positive, IsSplit-twice}
-use Rattle.tl_tile.specs.Run.{part}
+use Rattle.tl_tile.specs.Inner.Run.{part}
 use Rattle.tl_tile.specs.Inner.FoldsTo.{FoldsTo}
 use Rattle.tl_tile.proofs.Runs.{run_of, run-left, run-right, run-node}
 

@@ -11,7 +11,8 @@ use Rattle.tl_tile.proofs.Segments.{HasHashLength, segment, segment-all, power_o
 use Rattle.tl_tile.specs.declared.resource.Tile.{Tile}
 use Rattle.tl_tile.specs.TileText.{level_count, entries_under, tile_text, full_tile, partial_tile, tile_with}
 use Rattle.tl_tile.specs.Folds.{Tiles, IsHashAt, IsEdgeHash, IsOwnHash, IsTileHash}
-use Rattle.tl_tile.specs.TileLaws.{AreHonest, HonestTilesFoldToRoot, HonestTilesFoldToAbove, FoldedHashesAreOne}
+use Rattle.tl_tile.specs.TileLaws.{AreHonest}
+use Rattle.tl_tile.specs.Inner.TileLaws.{HonestTilesFoldToRoot, HonestTilesFoldToAbove, FoldedHashesAreOne}
 use Rattle.tl_tile.proofs.Walks.{fold_of_right, IsFold-unique}
 use Rattle.tl_tile.proofs.Edges.{IsHashAt-one, edge_target, under_within}
 use Rattle.tl_tile.proofs.Checked.{tile_with-full, tile_with-partial, under_tile, under_place}

@@ -7,7 +7,8 @@ use Rattle.tl_hash.specs.Tree.{tree_hash}
 use Rattle.tl_store.proofs.StoredLemmas.{index_is_place}
 use Rattle.tl_tile.specs.TileText.{level_count, tile_with}
 use Rattle.tl_tile.specs.Folds.{Tiles, IsHashAt, IsOwnHash, IsPartHash}
-use Rattle.tl_tile.specs.TileLaws.{AreHonest, HonestTilesHaveStoredHashes}
+use Rattle.tl_tile.specs.TileLaws.{AreHonest}
+use Rattle.tl_tile.specs.Inner.TileLaws.{HonestTilesHaveStoredHashes}
 use Rattle.tl_tile.proofs.Segments.{segment, power_of_256, segment-of_rest, HasHashLength}
 use Rattle.tl_tile.proofs.Walks.{fold_of_right}
 use Rattle.tl_tile.proofs.Edges.{positive_256}

@@ -9,7 +9,7 @@ use Rattle.std.proofs.lemmas.List.FromFn.{length-map-range_with_len}
 use Rattle.tl_hash.specs.Bytes.{Digest}
 use Rattle.tl_hash.specs.Tree.{tree_hash}
 use Rattle.tl_tile.specs.TileText.{level_count}
-use Rattle.tl_tile.specs.Run.{part, place_hash, Run, IsRun}
+use Rattle.tl_tile.specs.Inner.Run.{part, place_hash, Run, IsRun}
 use Rattle.tl_tile.specs.Inner.Rest.{IsRest}
 use Rattle.tl_tile.specs.Inner.PartialHashes.{hash_at, partial_hashes}
 use Rattle.tl_tile.proofs.NeededLemmas.{next_count}

@@ -9,7 +9,7 @@ use Rattle.tl_tile.specs.declared.resource.Resource.{Resource}
 use Rattle.tl_tile.specs.declared.resource.Resource.TheVariants as resource
 use Rattle.tl_tile.specs.TileText.{level_count}
 use Rattle.tl_tile.specs.Needed.{tile_at, pieces, pieces_since, needed_resources, needed_resources_since}
-use Rattle.tl_tile.specs.Law.{NeededSinceIsNew}
+use Rattle.tl_tile.specs.Inner.Law.{NeededSinceIsNew}
 use Rattle.tl_tile.proofs.Members.{map_has, has_map, range_has, has_range, flat_map_has, has_flat_map}
 use Rattle.tl_tile.proofs.TileTexts.{scaled_le}
 use Rattle.tl_tile.proofs.Levels.{level_parts}

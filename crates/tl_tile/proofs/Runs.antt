@@ -10,7 +10,7 @@ use Rattle.tl_hash.specs.Split.{IsSplit}
 use Rattle.tl_hash.specs.Tree.{tree_hash, node_input}
 use Rattle.tl_hash.proofs.SplitLemmas.{IsSplit-narrow, IsSplit-positive}
 use Rattle.tl_hash.proofs.TreeLemmas.{tree_hash-split}
-use Rattle.tl_tile.specs.Run.{part, place_hash, Run, IsRun}
+use Rattle.tl_tile.specs.Inner.Run.{part, place_hash, Run, IsRun}
 use Rattle.tl_tile.proofs.TileTexts.{scaled_le}
 
 -- a split scales

@@ -8,6 +8,8 @@ pub
 pub
     mod Rest
 pub
+    mod Run
+pub
     mod Steps
 pub
     mod PartialHashes
@@ -21,3 +23,7 @@ pub
     mod Adds
 pub
     mod PlaceAfter
+pub
+    mod Law
+pub
+    mod TileLaws

@@ -1,12 +1,10 @@
 -- What holds of the definitions alone.
-use Rattle.std.specs.Prelude.{◌≡◌, ℕ, ◌+◌, ◌≤◌, ◌⊎◌, List, Contains, ◌↔◌}
+use Rattle.std.specs.Prelude.{◌≡◌, ℕ, ◌⊎◌, List, Contains}
 use Rattle.tl_hash.specs.Bytes.{Bytes}
-use Rattle.tl_tile.specs.declared.resource.Tile.{Tile}
 use Rattle.tl_tile.specs.declared.resource.Resource.{Resource}
-use Rattle.tl_tile.specs.declared.resource.Resource.TheVariants as resource
 use Rattle.tl_tile.specs.Needed.{needed_resources, needed_resources_since}
-use Rattle.tl_tile.specs.RightEdge.{filled_tiles}
 use Rattle.tl_tile.specs.Bundle.{AreEntries, bundle_text, IsTruncated, HasTrailing}
+use Rattle.tl_tile.specs.declared.resource.Resource.TheVariants as resource
 
 -- bytes are at most one bundle of a width; then they don't end too soon, and have nothing behind
 pub record BundleIsOne (bytes : Bytes) (width : ℕ) (entries : List Bytes) : Type 0 where
@@ -14,26 +12,9 @@ pub record BundleIsOne (bytes : Bytes) (width : ℕ) (entries : List Bytes) : Ty
   pub whole : IsTruncated bytes width → ⊥
   pub ended : HasTrailing bytes width → ⊥
 
-abbrev pub BundlesAreOne : Type 0
-BundlesAreOne = (bytes : Bytes) (width : ℕ) (entries : List Bytes) → AreEntries width entries → bytes ≡ bundle_text entries → BundleIsOne bytes width entries
-
--- no bytes both end within a bundle and go on past one
-abbrev pub BundleFaultsApart : Type 0
-BundleFaultsApart = (bytes : Bytes) (width : ℕ) → IsTruncated bytes width → HasTrailing bytes width → ⊥
-
--- the tiles that an entry fills are the full ones that are needed with it and were not before it
-abbrev pub FilledTilesAreNew : Type 0
-FilledTilesAreNew =
-    (n : ℕ) (t : Tile)
-    → Contains (filled_tiles (n + 1)) t
-    ↔ ((t.width ≡ 256) × Contains (needed_resources (n + 1)) (resource.Tile t) × (Contains (needed_resources n) (resource.Tile t) → ⊥))
-
 -- what a log serves since it had `from` entries: with what it served then it is all that it serves, and none of it was
 -- served then
 pub record IsNewSince (from size : ℕ) (r : Resource) : Type 0 where
   pub enough : Contains (needed_resources size) r → Contains (needed_resources_since from size) r ⊎ Contains (needed_resources from) r
   pub needed : Contains (needed_resources_since from size) r → Contains (needed_resources size) r
   pub new : Contains (needed_resources_since from size) r → Contains (needed_resources from) r → ⊥
-
-abbrev pub NeededSinceIsNew : Type 0
-NeededSinceIsNew = (from size : ℕ) → from ≤ size → (r : Resource) → IsNewSince from size r

@@ -4,7 +4,6 @@ pub mod ReadBundle
 pub mod Needed
 pub mod TileText
 pub mod ReadTile
-pub mod Run
 pub mod RightEdge
 pub mod Law
 pub mod Folds

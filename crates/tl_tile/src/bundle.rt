@@ -51,7 +51,8 @@ pub fn push_entry<A: Allocator>(bundle: &mut Vec<u8, A>, entry: &[u8]) -> Result
     requires { IsShortEntry entry.now }
     ensures pushed { OnOk result (bundle.new.items ≡ bundle.old.items ++ bundled_entry entry.now) }
     ensures unchanged { OnErr result (bundle.new.items ≡ bundle.old.items) }
-    ensures room { vec_len bundle.old + (2 + length entry.now) ≤ vec_capacity bundle.old → IsOk result }
+    ensures room { vec_len bundle.old + (2 + length entry.now) ≤ vec_capacity bundle.old
+        → IsOk result }
 {
     bundle.reserve(2 + entry.len())?;
     let front = bundle.extend_from_slice(&(entry.len() as u16).to_be_bytes());
@@ -110,7 +111,8 @@ pub fn write_bundle<A: Allocator, B: Allocator>(
 
 // The first entry, and the bytes after it.
 fn first_entry(bytes: &[u8]) -> Option<(&[u8], &[u8])>
-    ensures { MatchOption result (IsPartialEntry bytes.now) (λ x. IsShortEntry x.0.now × (bytes.now ≡ bundled_entry x.0.now ++ x.1.now)) }
+    ensures { MatchOption result (IsPartialEntry bytes.now)
+        (λ x. IsShortEntry x.0.now × (bytes.now ≡ bundled_entry x.0.now ++ x.1.now)) }
 {
     if bytes.len() < 2 {
         return None;
@@ -147,7 +149,8 @@ fn split_bundle<A: Allocator + Copy>(
     width: u32,
 ) -> Result<Vec<Vec<u8, A>, A>, AllocError>
     requires { IsBundle bytes.now width }
-    ensures { IfOk result (λ entries. AreEntries width (map vec_items entries.items) × (bytes.now ≡ bundle_text (map vec_items entries.items))) }
+    ensures { IfOk result (λ entries. AreEntries width (map vec_items entries.items)
+        × (bytes.now ≡ bundle_text (map vec_items entries.items))) }
 {
     let mut entries = Vec::new(alloc);
     let mut rest = bytes;

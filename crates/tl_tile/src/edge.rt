@@ -146,7 +146,8 @@ impl<T: TreeHash, A: Allocator + Copy> Edge<T, A> {
             ≡ shown_filled T.digest_of (entries ++ entry.now ∷ [])) }
         ensures size { OnOk result (self.new.size ≡ self.old.size + 1) }
         ensures unchanged { OnErr result (self.new ≡ self.old) }
-        ensures full { OnErr result ((self.old.room ≤ length self.old.kept) ⊎ ((self.old.size + 1) % 256 ≡ 0)) }
+        ensures full { OnErr result
+            ((self.old.room ≤ length self.old.kept) ⊎ ((self.old.size + 1) % 256 ≡ 0)) }
     {
         let alloc = *self.kept.allocator();
         let leaf = leaf_hash(self.digest, entry);
@@ -213,8 +214,8 @@ impl<T: TreeHash, A: Allocator + Copy> Edge<T, A> {
     ) -> Result<(), AllocError>
         requires { self.old.size < 2 ^ 32 - 4 }
         ensures entries { (entries : List Bytes)
-            → IsEdgeOf self.old T.digest_of entries
-            → OnOk result (IsEdgeOf self.new T.digest_of (entries ++ first.now ∷ second.now ∷ third.now ∷ fourth.now ∷ [])) }
+            → IsEdgeOf self.old T.digest_of entries → OnOk result (IsEdgeOf self.new T.digest_of
+            (entries ++ first.now ∷ second.now ∷ third.now ∷ fourth.now ∷ [])) }
         ensures size { OnOk result (self.new.size ≡ self.old.size + 4) }
         ensures unchanged { OnErr result (self.new ≡ self.old) }
         ensures full { OnErr result (self.old.room < length self.old.kept + 4) }
@@ -247,7 +248,8 @@ impl<T: TreeHash, A: Allocator + Copy> Edge<T, A> {
         tiles: &mut Vec<(Tile, Vec<u8, A>), A>,
     ) -> Result<(), AllocError>
         requires { self.old.size + length entries.now < 2 ^ 32 }
-        ensures { OnOk result (Adds T.digest_of (map vec_items entries.now) self.old self.new (texts_of tiles.old.items) (texts_of tiles.new.items)) }
+        ensures { OnOk result (Adds T.digest_of (map vec_items entries.now) self.old self.new
+            (texts_of tiles.old.items) (texts_of tiles.new.items)) }
     {
         let mut at = 0;
         while at < entries.len() {
@@ -266,7 +268,9 @@ impl<T: TreeHash, A: Allocator + Copy> Edge<T, A> {
         requires small { self.old.size + length entries.now < 2 ^ 32 }
         ensures some { IfOk result (λ count. 0 < count) }
         ensures within { IfOk result (λ count. count ≤ length entries.now) }
-        ensures adds { IfOk result (λ count. Adds T.digest_of (map vec_items (take count entries.now)) self.old self.new (texts_of tiles.old.items) (texts_of tiles.new.items)) }
+        ensures adds { IfOk result
+            (λ count. Adds T.digest_of (map vec_items (take count entries.now)) self.old self.new
+            (texts_of tiles.old.items) (texts_of tiles.new.items)) }
     {
         if let [first, second, third, fourth, ..] = entries {
             self.append_four(first, second, third, fourth, tiles)?;
@@ -287,7 +291,8 @@ impl<T: TreeHash, A: Allocator + Copy> Edge<T, A> {
         tiles: &mut Vec<(Tile, Vec<u8, A>), A>,
     ) -> Result<(), AllocError>
         requires { self.old.size < 2 ^ 32 - 4 }
-        ensures { OnOk result (Adds T.digest_of (first.now ∷ second.now ∷ third.now ∷ fourth.now ∷ []) self.old self.new (texts_of tiles.old.items) (texts_of tiles.new.items)) }
+        ensures { OnOk result (Adds T.digest_of (first.now ∷ second.now ∷ third.now ∷ fourth.now
+            ∷ []) self.old self.new (texts_of tiles.old.items) (texts_of tiles.new.items)) }
     {
         let leaves = self.digest.digest_four(0, first, second, third, fourth);
         self.append_leaf(leaves[0], tiles)?;
@@ -304,8 +309,9 @@ impl<T: TreeHash, A: Allocator + Copy> Edge<T, A> {
         tiles: &mut Vec<(Tile, Vec<u8, A>), A>,
     ) -> Result<(), AllocError>
         requires { self.old.size < 2 ^ 32 - 1 }
-        ensures { (entry : Bytes) → leaf ≡ T.digest_of (leaf_input entry)
-            → OnOk result (Adds T.digest_of (entry ∷ []) self.old self.new (texts_of tiles.old.items) (texts_of tiles.new.items)) }
+        ensures { (entry : Bytes)
+            → leaf ≡ T.digest_of (leaf_input entry) → OnOk result (Adds T.digest_of
+            (entry ∷ []) self.old self.new (texts_of tiles.old.items) (texts_of tiles.new.items)) }
     {
         let alloc = *self.kept.allocator();
         let mut filled = fill(alloc, self.digest, true, &self.kept, self.size, 0, leaf)?;

@@ -3,7 +3,7 @@
 ghost use Rattle.std.specs.Prelude.{◌≡◌, ◌<◌, ◌+◌, ◌*◌, ℕ, List, ◌≤◌, ◌-◌, ◌%◌, ◌^◌, [], ◌∷◌, ◌++◌, length, take, IsTrue, IfOk, OnOk, OnErr};
 ghost use Rattle.tl_hash.specs.Bytes.{Bytes};
 ghost use Rattle.tl_hash.specs.Tree.{tree_hash};
-ghost use Rattle.tl_tile.specs.Run.{part, Run, IsRun};
+ghost use Rattle.tl_tile.specs.Inner.Run.{part, Run, IsRun};
 ghost use Rattle.tl_tile.specs.Inner.Rest.{IsRest};
 ghost use Rattle.tl_tile.specs.Inner.PartialHashes.{partial_hashes};
 ghost use Rattle.tl_tile.specs.Inner.PlaceAfter.{IsPlaceAfter};
@@ -59,7 +59,8 @@ pub(crate) struct Filled<A: Allocator> {
 
 // The bytes of these hashes and a last one.
 fn join_with<A: Allocator>(alloc: A, hashes: &[Hash], last: Hash) -> Result<Vec<u8, A>, AllocError>
-    ensures { IfOk result (λ bytes. bytes.items ≡ flat_map (λ hash. hash) (hashes.now ++ last ∷ [])) }
+    ensures { IfOk result
+        (λ bytes. bytes.items ≡ flat_map (λ hash. hash) (hashes.now ++ last ∷ [])) }
 {
     let mut bytes = join(alloc, hashes)?;
     bytes.extend_from_slice(last.as_bytes())?;
@@ -74,8 +75,8 @@ fn push_tile<A: Allocator + Copy>(
     hashes: &[Hash],
     last: Hash,
 ) -> Result<(), AllocError>
-    ensures added { IsTrue wanted → OnOk result (texts_of tiles.new.items
-        ≡ texts_of tiles.old.items ++ (tile, flat_map (λ hash. hash) (hashes.now ++ last ∷ [])) ∷ []) }
+    ensures added { IsTrue wanted → OnOk result (texts_of tiles.new.items ≡ texts_of tiles.old.items
+        ++ (tile, flat_map (λ hash. hash) (hashes.now ++ last ∷ [])) ∷ []) }
     ensures memory { OnErr result (IsTrue wanted) }
 {
     if !wanted {
@@ -101,14 +102,15 @@ pub(crate) fn fill<T: TreeHash, A: Allocator + Copy>(
     requires whole { size % 256 ^ lowest ≡ 0 }
     requires small { size + 256 ^ lowest < 2 ^ 32 }
     requires counted { length kept.now ≡ count_below size 8 }
-    ensures counted { IfOk result (λ filled. filled.left + 1 ≡ count_below (size + 256 ^ lowest) 8) }
+    ensures counted { IfOk result
+        (λ filled. filled.left + 1 ≡ count_below (size + 256 ^ lowest) 8) }
     ensures within { IfOk result (λ filled. filled.left ≤ length kept.now) }
-    ensures kept { (entries added : List Bytes) → IsPlaceAfter T.digest_of size lowest kept.now root entries added
-        → IfOk result (λ filled. take filled.left kept.now ++ filled.hash ∷ []
+    ensures kept { (entries added : List Bytes) → IsPlaceAfter T.digest_of size lowest kept.now
+        root entries added → IfOk result (λ filled. take filled.left kept.now ++ filled.hash ∷ []
         ≡ hashes_below T.digest_of (entries ++ added) 8) }
-    ensures tiles { IsTrue wanted → lowest ≡ 0
-        → (entries added : List Bytes) → IsPlaceAfter T.digest_of size lowest kept.now root entries added
-        → IfOk result (λ filled. texts_of filled.tiles.items ≡ shown_filled T.digest_of (entries ++ added)) }
+    ensures tiles { IsTrue wanted → lowest ≡ 0 → (entries added : List Bytes)
+        → IsPlaceAfter T.digest_of size lowest kept.now root entries added → IfOk result
+        (λ filled. texts_of filled.tiles.items ≡ shown_filled T.digest_of (entries ++ added)) }
     ensures memory { OnErr result (IsTrue wanted × ((size + 256 ^ lowest) % 256 ≡ 0)) }
 {
     let mut tiles = Vec::new(alloc);

@@ -4,7 +4,7 @@ ghost use Rattle.std.specs.Prelude.{◌≡◌, ◌*◌, ◌<◌, List, [], lengt
 ghost use Rattle.std.specs.Int.{IsPowerOfTwo};
 ghost use Rattle.tl_hash.specs.Bytes.{Bytes};
 ghost use Rattle.tl_hash.specs.Tree.{tree_hash};
-ghost use Rattle.tl_tile.specs.Run.{part, Run, IsRun};
+ghost use Rattle.tl_tile.specs.Inner.Run.{part, Run, IsRun};
 ghost use Rattle.tl_tile.specs.Inner.FoldsTo.{FoldsTo};
 
 use tl_hash::{Hash, TreeHash, hash_level, node_hash, split_point};

@@ -15,7 +15,8 @@ fn push_tiles<A: Allocator>(
     count: u64,
 ) -> Result<(), AllocError>
     requires { from ≤ count }
-    ensures pieces { OnOk result (out.new.items ≡ out.old.items ++ pieces_since (tile_at level) from count) }
+    ensures pieces { OnOk result
+        (out.new.items ≡ out.old.items ++ pieces_since (tile_at level) from count) }
     ensures memory { OnErr result (from < count) }
 {
     for index in from / 256..count / 256 {
@@ -42,7 +43,8 @@ fn push_bundles<A: Allocator>(
     size: u64,
 ) -> Result<(), AllocError>
     requires { from ≤ size }
-    ensures pieces { OnOk result (out.new.items ≡ out.old.items ++ pieces_since resource.Entries from size) }
+    ensures pieces { OnOk result
+        (out.new.items ≡ out.old.items ++ pieces_since resource.Entries from size) }
     ensures memory { OnErr result (from < size) }
 {
     for index in from / 256..size / 256 {
@@ -78,7 +80,8 @@ pub fn added_resources<A: Allocator>(
 ) -> Result<Vec<Resource, A>, AllocError>
     requires order { from ≤ size }
     requires limit { size ≤ 2 ^ 32 - 1 }
-    ensures resources { IfOk result (λ resources. resources.items ≡ needed_resources_since from size) }
+    ensures resources { IfOk result
+        (λ resources. resources.items ≡ needed_resources_since from size) }
     ensures memory { OnErr result (from < size) }
 {
     let mut listed = Vec::new(alloc);

@@ -90,7 +90,8 @@ fn width_of(bytes: &[u8]) -> Option<u32>
 
 // An index and a width. The one text of the index that is read must stand at the front.
 fn piece_of(bytes: &[u8]) -> Option<(u64, u32)>
-    ensures { MatchOption result (HasNoPiece bytes.now) (λ piece. IsPiece bytes.now piece.0 piece.1) }
+    ensures { MatchOption result (HasNoPiece bytes.now)
+        (λ piece. IsPiece bytes.now piece.0 piece.1) }
 {
     let index = number_before_dot(bytes);
     if index >= 1 << 56 {
@@ -132,9 +133,12 @@ fn tile_of(bytes: &[u8]) -> Option<Resource>
 /// memory.
 #[tactic(auto, using(crate::proofs::OnePath::only_path))]
 pub fn parse_path(text: &str) -> Option<Resource>
-    ensures found { IfSome result (λ resource. IsResource resource × (path_text resource ≡ text.now)) }
-    ensures none { IfNone result ((resource : Resource) → IsResource resource → path_text resource ≢ text.now) }
-    ensures only { (resource : Resource) → IsResource resource → path_text resource ≡ text.now → result ≡ Some resource }
+    ensures found { IfSome result
+        (λ resource. IsResource resource × (path_text resource ≡ text.now)) }
+    ensures none { IfNone result
+        ((resource : Resource) → IsResource resource → path_text resource ≢ text.now) }
+    ensures only { (resource : Resource)
+        → IsResource resource → path_text resource ≡ text.now → result ≡ Some resource }
 {
     let bytes = text.as_bytes();
     if text == "checkpoint" {

@@ -66,7 +66,8 @@ pub fn tile_bytes<R: HashReader, A: Allocator + Copy>(
     ensures text { (H : Digest) (entries : List Bytes) → R.stands_for reader.now H entries
         → IfOk result (λ bytes. bytes.items ≡ tile_text H tile entries) }
     ensures in_range { OnOk result (HasTile (R.size reader.now) tile) }
-    ensures faults { IfErr result (GivesTileFault (R.size reader.now) (R.may_fail reader.now) tile) }
+    ensures faults { IfErr result
+        (GivesTileFault (R.size reader.now) (R.may_fail reader.now) tile) }
 {
     let numbers = numbers_of(alloc, tile)?;
     let hashes = match reader.read(alloc, &numbers) {

@@ -44,7 +44,8 @@ impl<T: TreeHash, S: TileSource, A: Allocator> Model for TileHashReader<T, S, A>
 
     ghost Value = { Against S };
 
-    ghost view = { λ r. record { source = r.checker.source; size = r.checker.size; root = r.checker.root } };
+    ghost view = { λ r.
+        record { source = r.checker.source; size = r.checker.size; root = r.checker.root } };
 }
 
 impl<T: TreeHash, S: TileSource, A: Allocator> TileHashReader<T, S, A> {
@@ -97,14 +98,19 @@ impl<T: TreeHash, S: TileSource, A: Allocator + Copy> TileHashReader<T, S, A> {
         indexes: &[u64],
         fetched: &mut FetchedTiles<A>,
     ) -> Result<Vec<Hash, B>, ReadFault>
-        ensures authentic { IfOk result (λ hashes. AreAuthentic T.digest_of (record { size = self.now.size; root = self.now.root; indexes = indexes.now; fetched = fetched.new }) hashes.items) }
-        ensures verified { OnOk result (0 < length indexes.now → AreVerified T.digest_of self.now.size self.now.root fetched.new) }
+        ensures authentic { IfOk result
+            (λ hashes. AreAuthentic T.digest_of (record { size = self.now.size; root
+            = self.now.root; indexes = indexes.now; fetched = fetched.new; }) hashes.items) }
+        ensures verified { OnOk result (0 < length indexes.now
+            → AreVerified T.digest_of self.now.size self.now.root fetched.new) }
         ensures count { IfOk result (λ hashes. length hashes.items ≡ length indexes.now) }
         ensures in_range { OnOk result (AreReadable self.now.size indexes.now) }
         ensures answers { AreAnswers (S.may_answer self.now.source) self.now.size fetched.new }
         ensures needed { All (λ f. IsNeededFor self.now.size indexes.now f.0) fetched.new }
         ensures order { AreInOrder T.digest_of self.now.size self.now.root fetched.new }
-        ensures faults { IfErr result (GivesNumbersFault T.digest_of (S.may_lack self.now.source) (record { size = self.now.size; root = self.now.root; indexes = indexes.now; fetched = fetched.new })) }
+        ensures faults { IfErr result
+            (GivesNumbersFault T.digest_of (S.may_lack self.now.source) (record { size =
+            self.now.size; root = self.now.root; indexes = indexes.now; fetched = fetched.new; })) }
     {
         fetched.clear();
         if !are_below(indexes, count_of(self.checker.size)) {
@@ -120,19 +126,24 @@ impl<T: TreeHash, S: TileSource, A: Allocator + Copy> TileHashReader<T, S, A> {
 impl<T: TreeHash, S: TileSource, A: Allocator + Copy> HashReader for TileHashReader<T, S, A> {
     ghost size = { λ r. r.size };
 
-    ghost stands_for = { λ r H entries. StandsAgainst T.digest_of (S.may_answer r.source) r.size r.root H entries };
+    ghost stands_for = { λ r H entries.
+        StandsAgainst T.digest_of (S.may_answer r.source) r.size r.root H entries };
 
-    ghost may_fail = { λ r fault. MayGive T.digest_of (S.may_answer r.source) (S.may_lack r.source) r.size r.root fault };
+    ghost may_fail = { λ r fault.
+        MayGive T.digest_of (S.may_answer r.source) (S.may_lack r.source) r.size r.root fault };
 
     /// As `read_checked`, without the tiles.
     fn read<B: Allocator>(&self, alloc: B, indexes: &[u64]) -> Result<Vec<Hash, B>, ReadFault>
-        ensures hashes { (H : Digest) (entries : List Bytes)
-            → StandsAgainst T.digest_of (S.may_answer self.now.source) self.now.size self.now.root H entries
+        ensures hashes { (H : Digest) (entries : List Bytes) → StandsAgainst T.digest_of
+            (S.may_answer self.now.source) self.now.size self.now.root H entries
             → IfOk result (λ hashes. hashes.items ≡ map (stored_hash H entries) indexes.now) }
         ensures count { IfOk result (λ hashes. length hashes.items ≡ length indexes.now) }
         ensures in_range { OnOk result (AreReadable self.now.size indexes.now) }
-        ensures faults { IfErr result (GivesFault self.now.size (λ fault. MayGive T.digest_of (S.may_answer self.now.source) (S.may_lack self.now.source) self.now.size self.now.root fault) indexes.now) }
-        ensures authentic { IfOk result (λ hashes. AreAuthenticOver (S.may_answer self.now.source) T.digest_of self.now.size self.now.root indexes.now hashes.items) }
+        ensures faults { IfErr result
+            (GivesFault self.now.size (λ fault. MayGive T.digest_of (S.may_answer self.now.source)
+            (S.may_lack self.now.source) self.now.size self.now.root fault) indexes.now) }
+        ensures authentic { IfOk result (λ hashes. AreAuthenticOver (S.may_answer self.now.source)
+            T.digest_of self.now.size self.now.root indexes.now hashes.items) }
     {
         let mut fetched = FetchedTiles::new(self.alloc);
         self.read_checked(alloc, indexes, &mut fetched)

@@ -7,7 +7,8 @@ use Rattle.tl_hash.specs.Tree.{tree_hash}
 use Rattle.tl_checkpoint.specs.Checkpoint.{Head}
 use Rattle.tl_proof.specs.Collisions.{IsPrefix, Exhibits, audit_inputs}
 use Rattle.tl_proof.specs.Acceptance.{Step, EndsWith}
-use Rattle.tl_proof.specs.Laws.{MadeOfHashes, LinksExtendOrCollide}
+use Rattle.tl_proof.specs.Laws.{MadeOfHashes}
+use Rattle.tl_proof.specs.Inner.Laws.{LinksExtendOrCollide}
 use Rattle.tl_witness.specs.Answers.{Answers}
 use Rattle.tl_witness.specs.Book.{BookOutcome, DecidesBody, IsLawful, IsPlacedIn, asked_of}
 use Rattle.tl_witness.specs.Chain.{TreeHead, head_after, first_head, last_head, IsLinked}

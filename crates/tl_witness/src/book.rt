@@ -36,8 +36,10 @@ impl<T: TreeHash, A: Allocator + Copy> Shown for Book<T, A> {
     ghost use Rattle.std.specs.Prelude.{map};
     ghost use Rattle.tl_witness.specs.Shown.{witnessed};
 
-    ghost shown = { λ b. map (λ s. witnessed s.origin (map (λ v. (Verifier-box v).key v.value) s.origin.verifiers.items)
-        ((Signer-box s.origin.cosigner).signing_key s.origin.cosigner.value) s.chain) b.states.items };
+    ghost shown = { λ b. map (λ s. witnessed s.origin
+        (map (λ v. (Verifier-box v).key v.value) s.origin.verifiers.items)
+        ((Signer-box s.origin.cosigner).signing_key s.origin.cosigner.value)
+        s.chain) b.states.items };
 }
 
 impl<T: TreeHash, A: Allocator + Copy> Book<T, A> {
@@ -53,9 +55,11 @@ impl<T: TreeHash, A: Allocator + Copy> Book<T, A> {
         saver: &mut S,
     ) -> Result<Reply<A>, AllocError>
         ensures decided { IfOk result (λ reply. DecidesBody T.digest_of body.now time
-            (book_outcome reply (S.saved saver.old) (S.saved saver.new) (⟦<Book<T, A> as Shown>⟧.shown self.old) (⟦<Book<T, A> as Shown>⟧.shown self.new))) }
+            (book_outcome reply (S.saved saver.old) (S.saved saver.new)
+            (⟦<Book<T, A> as Shown>⟧.shown self.old) (⟦<Book<T, A> as Shown>⟧.shown self.new))) }
         ensures unchanged { OnErr result ((S.saved saver.new ≡ S.saved saver.old)
-            × (⟦<Book<T, A> as Shown>⟧.shown self.new ≡ ⟦<Book<T, A> as Shown>⟧.shown self.old) × AsksForMemory body.now) }
+            × (⟦<Book<T, A> as Shown>⟧.shown self.new ≡ ⟦<Book<T, A> as Shown>⟧.shown self.old)
+            × AsksForMemory body.now) }
     {
         let tools = self.tools;
         let found = match find_origin(tools.alloc, &self.places, self.states.as_slice(), body) {
@@ -75,7 +79,8 @@ impl<T: TreeHash, A: Allocator + Copy> Book<T, A> {
     /// unchanged.
     pub fn add<S: Saver>(&mut self, body: &[u8], time: u64, saver: &mut S) -> Reply<A>
         ensures { Answers T.digest_of body.now time
-            (book_outcome result (S.saved saver.old) (S.saved saver.new) (⟦<Book<T, A> as Shown>⟧.shown self.old) (⟦<Book<T, A> as Shown>⟧.shown self.new)) }
+            (book_outcome result (S.saved saver.old) (S.saved saver.new)
+            (⟦<Book<T, A> as Shown>⟧.shown self.old) (⟦<Book<T, A> as Shown>⟧.shown self.new)) }
     {
         match self.try_add(body, time, saver) {
             Ok(reply) => reply,
@@ -85,8 +90,10 @@ impl<T: TreeHash, A: Allocator + Copy> Book<T, A> {
 
     /// The links of an origin, in order. None where the origin is unknown.
     pub fn chain(&self, origin: &str) -> Option<&[Link<A>]>
-        ensures { MatchOption result ((placed : Placed) → ¬ (IsPlacedIn (⟦<Book<T, A> as Shown>⟧.shown self.now) origin.now placed))
-            (λ links. (placed : Placed) × IsPlacedIn (⟦<Book<T, A> as Shown>⟧.shown self.now) origin.now placed × (map step_of links.now ≡ placed.one.chain)) }
+        ensures { MatchOption result ((placed : Placed)
+            → ¬ (IsPlacedIn (⟦<Book<T, A> as Shown>⟧.shown self.now) origin.now placed))
+            (λ links. (placed : Placed) × IsPlacedIn (⟦<Book<T, A> as Shown>⟧.shown self.now)
+            origin.now placed × (map step_of links.now ≡ placed.one.chain)) }
     {
         let place = match place_by(&self.places, self.states.as_slice(), origin) {
             Some(place) => place,

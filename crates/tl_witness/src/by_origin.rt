@@ -35,8 +35,10 @@ impl<A: Allocator + Copy> ByOrigin<A> {
     /// Gives an origin this place, and no longer another. It fails only where a growth was refused, and then changes
     /// nothing.
     pub(crate) fn add(&mut self, alloc: A, origin: &str, place: usize) -> Result<(), AllocError>
-        ensures added { OnOk result (PutsOrigin origin.now place (index_of self.old) (index_of self.new)) }
-        ensures kept { OnErr result ((other : Bytes) → index_of self.new other ≡ index_of self.old other) }
+        ensures added { OnOk result
+            (PutsOrigin origin.now place (index_of self.old) (index_of self.new)) }
+        ensures kept { OnErr result
+            ((other : Bytes) → index_of self.new other ≡ index_of self.old other) }
     {
         self.places.insert(String::from_str(alloc, origin)?, place)?;
         Ok(())
@@ -58,7 +60,8 @@ pub(crate) trait OfOrigin {
 pub(crate) fn place_of<N: OfOrigin>(list: &[N], origin: &str) -> Option<usize>
     ensures room { IfSome result (λ i. i < length list.now) }
     ensures found { IfSome result (λ i. slice_get (map N.origin_of list.now) i ≡ Some origin.now) }
-    ensures none { IfNone result ((i : ℕ) → slice_get (map N.origin_of list.now) i ≢ Some origin.now) }
+    ensures none { IfNone result
+        ((i : ℕ) → slice_get (map N.origin_of list.now) i ≢ Some origin.now) }
 {
     for i in 0..list.len() {
         if list[i].origin() == origin {
@@ -77,7 +80,8 @@ pub(crate) fn place_by<N: OfOrigin, A: Allocator + Copy>(
 ) -> Option<usize>
     ensures room { IfSome result (λ i. i < length list.now) }
     ensures found { IfSome result (λ i. slice_get (map N.origin_of list.now) i ≡ Some origin.now) }
-    ensures none { IfNone result ((i : ℕ) → slice_get (map N.origin_of list.now) i ≢ Some origin.now) }
+    ensures none { IfNone result
+        ((i : ℕ) → slice_get (map N.origin_of list.now) i ≢ Some origin.now) }
 {
     if let Some(place) = places.find(origin) {
         if place < list.len() && list[place].origin() == origin {
@@ -93,8 +97,9 @@ pub(crate) fn places_in<N: OfOrigin, A: Allocator + Copy>(
     alloc: A,
     list: &[N],
 ) -> Result<Option<ByOrigin<A>>, AllocError>
-    ensures ok { IfOk result (λ found. MatchOption found (HasTwice (map N.origin_of list.now))
-        (λ places. Indexes (index_of places) (map N.origin_of list.now) × ¬ (HasTwice (map N.origin_of list.now)))) }
+    ensures ok { IfOk result
+        (λ found. MatchOption found (HasTwice (map N.origin_of list.now)) (λ places. Indexes
+        (index_of places) (map N.origin_of list.now) × ¬ (HasTwice (map N.origin_of list.now)))) }
     ensures err { OnErr result (0 < length list.now) }
 {
     let mut places = ByOrigin::new(alloc);
@@ -113,7 +118,8 @@ pub(crate) fn first_without<N: OfOrigin, A: Allocator + Copy>(
     places: &ByOrigin<A>,
     list: &[N],
 ) -> Option<usize>
-    ensures { MatchOption result (All (λ o. index_of places.now o ≢ None) (map N.origin_of list.now))
+    ensures { MatchOption result
+        (All (λ o. index_of places.now o ≢ None) (map N.origin_of list.now))
         (IsFirstNot (λ o. index_of places.now o ≢ None) (map N.origin_of list.now)) }
 {
     for i in 0..list.len() {

@@ -79,7 +79,8 @@ impl<T: TreeHash, A: Allocator + Copy> Chain<T, A> {
 
     /// Whether the link is accepted from the size and root that the chain has reached.
     pub(crate) fn accepts(&self, link: &Link<A>) -> bool
-        ensures { IsTrue result ↔ Follows T.digest_of (last_head (first_head T.digest_of) self.now) (step_of link.now) }
+        ensures { IsTrue result
+            ↔ Follows T.digest_of (last_head (first_head T.digest_of) self.now) (step_of link.now) }
     {
         let (size, root) = self.head();
         check_tree(
@@ -100,11 +101,15 @@ impl<T: TreeHash, A: Allocator + Copy> Chain<T, A> {
         saver: &mut S,
     ) -> Result<(), KeepFault>
         requires line { IsChainLine (record { origin = origin.now; step = step_of link }) }
-        requires follows { Follows T.digest_of (last_head (first_head T.digest_of) self.old) (step_of link) }
-        ensures kept { OnOk result (Keeps (S.saved saver.old) (S.saved saver.new) origin.now (step_of link) × (self.new ≡ self.old ++ step_of link ∷ [])) }
+        requires follows { Follows T.digest_of
+            (last_head (first_head T.digest_of) self.old) (step_of link) }
+        ensures kept { OnOk result (Keeps (S.saved saver.old) (S.saved saver.new) origin.now
+            (step_of link) × (self.new ≡ self.old ++ step_of link ∷ [])) }
         ensures err { OnErr result (self.new ≡ self.old) }
-        ensures failed { IsErrOf result KeepFault.SaveFailed → Fails (S.saved saver.old) (S.saved saver.new) }
-        ensures no_memory { IsErrOf result KeepFault.OutOfMemory → S.saved saver.new ≡ S.saved saver.old }
+        ensures failed { IsErrOf result KeepFault.SaveFailed
+            → Fails (S.saved saver.old) (S.saved saver.new) }
+        ensures no_memory { IsErrOf result KeepFault.OutOfMemory
+            → S.saved saver.new ≡ S.saved saver.old }
     {
         if self.links.reserve(1).is_err() {
             return Err(KeepFault::OutOfMemory);
@@ -136,7 +141,8 @@ fn is_of_hashes<A: Allocator>(link: &Link<A>)
 
 // The first of these links that isn't accepted from the one before.
 fn first_break<T: TreeHash, A: Allocator>(tree: T, links: &[Link<A>]) -> Option<usize>
-    ensures { MatchOption result (IsChain T.digest_of (map step_of links.now)) (IsFirstBreak T.digest_of (map step_of links.now)) }
+    ensures { MatchOption result (IsChain T.digest_of (map step_of links.now))
+        (IsFirstBreak T.digest_of (map step_of links.now)) }
 {
     let mut size = 0;
     let mut root = empty_hash(tree);
@@ -162,7 +168,8 @@ fn first_break<T: TreeHash, A: Allocator>(tree: T, links: &[Link<A>]) -> Option<
 impl<T: TreeHash, A: Allocator> Chain<T, A> {
     /// The chain of these links; else the place of the first that isn't accepted from the one before.
     pub(crate) fn from_links(tree: T, links: Vec<Link<A>, A>) -> Result<Self, usize>
-        ensures ok { IfOk result (λ chain. (chain ≡ map step_of links.items) × IsChain T.digest_of (map step_of links.items)) }
+        ensures ok { IfOk result (λ chain.
+            (chain ≡ map step_of links.items) × IsChain T.digest_of (map step_of links.items)) }
         ensures err { IfErr result (IsFirstBreak T.digest_of (map step_of links.items)) }
     {
         if let Some(place) = first_break(tree, links.as_slice()) {

@@ -15,7 +15,8 @@ use tl_text::{is_one_line, parse_hash, parse_size};
 
 // A number below 2^63 and a space, and what follows.
 fn number_field(text: &str) -> Option<(u64, &str)>
-    ensures { MatchOption result (HasNoNumber text.now) (λ r. IsSize r.0 × (text.now ≡ field (number_text r.0) r.1.now)) }
+    ensures { MatchOption result (HasNoNumber text.now)
+        (λ r. IsSize r.0 × (text.now ≡ field (number_text r.0) r.1.now)) }
 {
     let Some((words, rest)) = text.split_once(' ') else {
         return None;
@@ -28,7 +29,8 @@ fn number_field(text: &str) -> Option<(u64, &str)>
 
 // A hash and a space, and what follows.
 fn hash_field(text: &str) -> Option<(Hash, &str)>
-    ensures { MatchOption result (HasNoHash text.now) (λ r. IsHash r.0 × (text.now ≡ field (base64_text r.0) r.1.now) × IsUtf8 r.1.now) }
+    ensures { MatchOption result (HasNoHash text.now)
+        (λ r. IsHash r.0 × (text.now ≡ field (base64_text r.0) r.1.now) × IsUtf8 r.1.now) }
 {
     let Some((words, rest)) = text.split_once(' ') else {
         return None;
@@ -41,7 +43,8 @@ fn hash_field(text: &str) -> Option<(Hash, &str)>
 
 // What follows so many hashes, each with a space behind it.
 fn skip_hashes(count: usize, text: &str) -> Option<&str>
-    ensures { MatchOption result (HasNoHashes count text.now) (λ rest. HasHashes count text.now rest.now × IsUtf8 rest.now) }
+    ensures { MatchOption result (HasNoHashes count text.now)
+        (λ rest. HasHashes count text.now rest.now × IsUtf8 rest.now) }
 {
     let mut left = text;
     for _ in 0..count {
@@ -60,7 +63,8 @@ pub(crate) fn read_hashes<A: Allocator>(
     text: &str,
 ) -> Result<HashList<A>, AllocError>
     requires { (rest : Bytes) × HasHashes count text.now rest }
-    ensures { IfOk result (λ read. (hashes : List Bytes) (rest : Bytes) → AreHashes count text.now hashes rest → read ≡ hashes) }
+    ensures { IfOk result (λ read. (hashes : List Bytes) (rest : Bytes)
+        → AreHashes count text.now hashes rest → read ≡ hashes) }
 {
     let mut hashes: Vec<Hash, A> = Vec::with_capacity(alloc, count)?;
     let mut left = text;

@@ -12,7 +12,8 @@ use tl_proof::Link;
 
 // Appends the hashes, each behind a space.
 fn push_hashes<A: Allocator>(out: &mut String<A>, hashes: &[Hash]) -> Result<(), AllocError>
-    ensures { OnOk result (string_bytes out.new ≡ string_bytes out.old ++ spaced_hashes hashes.now) }
+    ensures { OnOk result
+        (string_bytes out.new ≡ string_bytes out.old ++ spaced_hashes hashes.now) }
 {
     for hash in hashes {
         out.push_str(" ")?;
@@ -30,7 +31,8 @@ pub fn write_chain_line<A: Allocator, B: Allocator>(
     link: &Link<B>,
 ) -> Result<String<A>, AllocError>
     requires { IsChainLine (record { origin = origin.now; step = step_of link.now }) }
-    ensures { IfOk result (λ line. string_bytes line ≡ chain_line (record { origin = origin.now; step = step_of link.now })) }
+    ensures { IfOk result (λ line.
+        string_bytes line ≡ chain_line (record { origin = origin.now; step = step_of link.now })) }
 {
     let hashes = link.proof.as_slice();
     let mut line = String::new(alloc);

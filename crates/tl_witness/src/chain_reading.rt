@@ -45,7 +45,8 @@ fn first_newline(bytes: &[u8]) -> Option<usize>
 
 // The first line of bytes, without its newline, and what follows it.
 fn cut_line(bytes: &[u8]) -> Option<(&str, &[u8])>
-    ensures { MatchOption result (HasNoLine bytes.now) (λ r. IsWithout 10 r.0.now × (bytes.now ≡ r.0.now ++ 10 ∷ r.1.now)) }
+    ensures { MatchOption result (HasNoLine bytes.now)
+        (λ r. IsWithout 10 r.0.now × (bytes.now ≡ r.0.now ++ 10 ∷ r.1.now)) }
 {
     let Some(end) = first_newline(bytes) else {
         return None;
@@ -59,7 +60,8 @@ fn cut_line(bytes: &[u8]) -> Option<(&str, &[u8])>
 // The link of a line's fields.
 fn link_of<A: Allocator>(alloc: A, fields: &Fields<'_>) -> Result<Link<A>, AllocError>
     requires { (words : Bytes) × ShowsFields words fields.now }
-    ensures { IfOk result (λ link. (words : Bytes) → ShowsFields words fields.now → IsLineOf words fields.now.origin.now (step_of link)) }
+    ensures { IfOk result (λ link. (words : Bytes)
+        → ShowsFields words fields.now → IsLineOf words fields.now.origin.now (step_of link)) }
 {
     let proof = read_hashes(alloc, fields.count, fields.hashes)?;
     Ok(Link {
@@ -78,8 +80,10 @@ fn put_link<A: Allocator + Copy>(
     link: Link<A>,
 ) -> Result<(), AllocError>
     requires { Indexes (index_of index.old) (chain_origins (chains_shown chains.old.items)) }
-    ensures put { OnOk result (PutsStep origin.now (step_of link) (chains_shown chains.old.items) (chains_shown chains.new.items)) }
-    ensures indexed { OnOk result (Indexes (index_of index.new) (chain_origins (chains_shown chains.new.items))) }
+    ensures put { OnOk result (PutsStep origin.now
+        (step_of link) (chains_shown chains.old.items) (chains_shown chains.new.items)) }
+    ensures indexed { OnOk result
+        (Indexes (index_of index.new) (chain_origins (chains_shown chains.new.items))) }
 {
     match index.find(origin) {
         Some(place) => {

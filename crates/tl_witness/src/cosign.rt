@@ -18,6 +18,19 @@ pub(crate) struct Tools<T: TreeHash, A: Allocator + Copy> {
     pub(crate) global: Global,
 }
 
+impl<T: TreeHash, A: Allocator + Copy> Tools<T, A> {
+    /// These tools.
+    pub(crate) fn new(tree: T, alloc: A, global: Global) -> Tools<T, A>
+        ensures { result ≡ record { tree = tree; alloc = alloc; global = global } }
+    {
+        Tools {
+            tree,
+            alloc,
+            global,
+        }
+    }
+}
+
 /// A name that is a key's name.
 #[derive(Drop)]
 pub(crate) struct KeyName<A: Allocator> {
@@ -47,8 +60,8 @@ pub(crate) fn cosign<T: TreeHash, A: Allocator + Copy>(
     text: &str,
 ) -> Result<Option<String<A>>, AllocError>
     ensures { IfOk result (λ signed. MatchOption signed
-        (MayFailToCosign text.now time (signing_key signer.now))
-        (λ line. Cosigns text.now time (named_key (string_bytes name.now.text) (signing_key signer.now)) (string_bytes line))) }
+        (MayFailToCosign text.now time (signing_key signer.now)) (λ line. Cosigns text.now time
+        (named_key (string_bytes name.now.text) (signing_key signer.now)) (string_bytes line))) }
 {
     match cosignature_line_named(
         tools.alloc,

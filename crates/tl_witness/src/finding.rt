@@ -46,7 +46,8 @@ fn offer_of<'m, A: Allocator>(
     request: AddRequest<'m, A>,
     signed: SignedCheckpoint<'m, A>,
 ) -> Offer<'m, A>
-    ensures { (time : ℕ) → asked_by result time ≡ asked_of (body_of request.entry) (signed_of signed.entry) time }
+    ensures { (time : ℕ)
+        → asked_by result time ≡ asked_of (body_of request.entry) (signed_of signed.entry) time }
 {
     let AddRequest { old, proof, .. } = request;
     let SignedCheckpoint { note, checkpoint } = signed;

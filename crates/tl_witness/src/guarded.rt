@@ -51,7 +51,8 @@ impl<T: TreeHash, A: Allocator> ShownGuarded for Guarded<T, A> {
     ghost use Rattle.std.specs.Prelude.{map};
     ghost use Rattle.tl_witness.specs.Shown.{witnessed};
 
-    ghost shown_guarded = { λ s. witnessed s.origin (map (λ v. (Verifier-box v).key v.value) s.origin.verifiers.items)
+    ghost shown_guarded = { λ s. witnessed s.origin
+        (map (λ v. (Verifier-box v).key v.value) s.origin.verifiers.items)
         ((Signer-box s.origin.cosigner).signing_key s.origin.cosigner.value) s.chain.slot.value };
 }
 
@@ -97,7 +98,8 @@ fn copy_links<A: Allocator + Copy, B: Allocator>(
 impl<T: TreeHash, A: Allocator> Guarded<T, A> {
     /// The origin of a book, and its links behind a lock.
     pub(crate) fn new(state: OriginState<T, A>) -> Self
-        ensures { ⟦<Guarded<T, A> as ShownGuarded>⟧.shown_guarded result ≡ ⟦<OriginState<T, A> as ShownState>⟧.shown_state state }
+        ensures { ⟦<Guarded<T, A> as ShownGuarded>⟧.shown_guarded result
+            ≡ ⟦<OriginState<T, A> as ShownState>⟧.shown_state state }
     {
         let OriginState { origin, chain } = state;
         let start = Snapshot::of(&chain);
@@ -119,9 +121,11 @@ impl<T: TreeHash, A: Allocator + Copy> Guarded<T, A> {
         time: u64,
         saver: &mut S,
     ) -> Result<Reply<A>, AllocError>
-        requires { IsChainLine (record { origin = string_bytes self.now.origin.name; step = step_of offer.link }) }
-        ensures ok { IfOk result (λ reply. DecidesLater T.digest_of (⟦<Guarded<T, A> as ShownGuarded>⟧.shown_guarded self.now) (asked_by offer.entry time)
-            (answer_of reply (S.saved saver.old) (S.saved saver.new))) }
+        requires { IsChainLine
+            (record { origin = string_bytes self.now.origin.name; step = step_of offer.link }) }
+        ensures ok { IfOk result (λ reply.
+            DecidesLater T.digest_of (⟦<Guarded<T, A> as ShownGuarded>⟧.shown_guarded self.now)
+            (asked_by offer.entry time) (answer_of reply (S.saved saver.old) (S.saved saver.new))) }
         ensures err { OnErr result (S.saved saver.new ≡ S.saved saver.old) }
     {
         let _turn = self.chain.enter(rt);
@@ -134,7 +138,8 @@ impl<T: TreeHash, A: Allocator + Copy> Guarded<T, A> {
 
     /// The origin as it is once nobody shares it.
     pub(crate) fn into_state<R: Wait>(self, rt: &R) -> OriginState<T, A>
-        ensures { IsLater T.digest_of (⟦<Guarded<T, A> as ShownGuarded>⟧.shown_guarded self) (⟦<OriginState<T, A> as ShownState>⟧.shown_state result) }
+        ensures { IsLater T.digest_of (⟦<Guarded<T, A> as ShownGuarded>⟧.shown_guarded self)
+            (⟦<OriginState<T, A> as ShownState>⟧.shown_state result) }
     {
         let Guarded { origin, chain } = self;
         let chain = chain.into_inner(rt);
@@ -145,7 +150,8 @@ impl<T: TreeHash, A: Allocator + Copy> Guarded<T, A> {
     /// The size and root that the chain has reached when the lock is taken.
     pub(crate) fn head<R: Wait>(&self, rt: &R) -> (u64, Hash)
         ensures { (later : List Step) × IsLaterChain T.digest_of self.now.chain.slot.value later
-            × (result.0 ≡ (last_head (first_head T.digest_of) later).size) × (result.1 ≡ (last_head (first_head T.digest_of) later).root) }
+            × (result.0 ≡ (last_head (first_head T.digest_of) later).size)
+            × (result.1 ≡ (last_head (first_head T.digest_of) later).root) }
     {
         let _turn = self.chain.enter(rt);
         let chain = self.chain.take(rt);
@@ -164,7 +170,8 @@ impl<T: TreeHash, A: Allocator + Copy> Guarded<T, A> {
         from: u64,
         most: u64,
     ) -> Result<Vec<Link<A>, A>, AllocError>
-        ensures { IfOk result (λ links. (later : List Step) × IsLaterChain T.digest_of self.now.chain.slot.value later
+        ensures { IfOk result
+            (λ links. (later : List Step) × IsLaterChain T.digest_of self.now.chain.slot.value later
             × (map step_of links.items ≡ take most (drop from later))) }
     {
         let _turn = self.chain.enter(rt);
@@ -177,7 +184,8 @@ impl<T: TreeHash, A: Allocator + Copy> Guarded<T, A> {
 
     /// A copy of all links, as they are when the lock is taken. It fails only where a growth was refused.
     pub(crate) fn all_links<R: Wait>(&self, rt: &R, alloc: A) -> Result<Vec<Link<A>, A>, AllocError>
-        ensures { IfOk result (λ links. IsLaterChain T.digest_of self.now.chain.slot.value (map step_of links.items)) }
+        ensures { IfOk result (λ links.
+            IsLaterChain T.digest_of self.now.chain.slot.value (map step_of links.items)) }
     {
         let _turn = self.chain.enter(rt);
         let chain = self.chain.take(rt);

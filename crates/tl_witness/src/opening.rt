@@ -75,9 +75,13 @@ fn check_chains<T: TreeHash, A: Allocator + Copy>(
     tree: T,
     chains: Vec<(String<A>, Vec<Link<A>, A>), A>,
 ) -> Result<Vec<Checked<T, A>, A>, BookFault>
-    ensures ok { IfOk result (λ checked. (map (λ c. saved_chain (string_bytes c.origin) c.chain) checked.items ≡ map (λ c. saved_chain (string_bytes c.0) (map step_of c.1.items)) chains.items)
-        × All (λ c. IsChain T.digest_of c.steps) (map (λ c. saved_chain (string_bytes c.0) (map step_of c.1.items)) chains.items)) }
-    ensures err { IfErr result (ChecksChains T.digest_of (map (λ c. saved_chain (string_bytes c.0) (map step_of c.1.items)) chains.items)) }
+    ensures ok { IfOk result
+        (λ checked. (map (λ c. saved_chain (string_bytes c.origin) c.chain) checked.items ≡ map
+        (λ c. saved_chain (string_bytes c.0) (map step_of c.1.items)) chains.items)
+        × All (λ c. IsChain T.digest_of c.steps)
+        (map (λ c. saved_chain (string_bytes c.0) (map step_of c.1.items)) chains.items)) }
+    ensures err { IfErr result (ChecksChains T.digest_of
+        (map (λ c. saved_chain (string_bytes c.0) (map step_of c.1.items)) chains.items)) }
 {
     let mut checked = Vec::new(alloc);
     for (origin, links) in chains {
@@ -107,7 +111,9 @@ fn take_chain<T: TreeHash, A: Allocator + Copy>(
     origin: &str,
 ) -> Chain<T, A>
     requires { Indexes (index_of places.now) (map (λ c. string_bytes c.origin) chains.old.items) }
-    ensures { TakesChain origin.now (map (λ c. saved_chain (string_bytes c.origin) c.chain) chains.old.items) (map (λ c. saved_chain (string_bytes c.origin) c.chain) chains.new.items) result }
+    ensures { TakesChain origin.now
+        (map (λ c. saved_chain (string_bytes c.origin) c.chain) chains.old.items)
+        (map (λ c. saved_chain (string_bytes c.origin) c.chain) chains.new.items) result }
 {
     match places.find(origin) {
         Some(place) => {
@@ -126,11 +132,16 @@ fn enter<T: TreeHash, A: Allocator + Copy>(
     chains: Vec<Checked<T, A>, A>,
     places: &ByOrigin<A>,
 ) -> Result<Vec<OriginState<T, A>, A>, AllocError>
-    requires places { Indexes (index_of places.now) (map (λ c. string_bytes c.origin) chains.items) }
-    requires once { ¬ (HasTwice (trusted_origins (map (λ t. ⟦<Trust<A> as ShownTrust>⟧.trusted t) trusts.items))) }
-    requires named { All IsKeyName (cosigner_names (map (λ t. ⟦<Trust<A> as ShownTrust>⟧.trusted t) trusts.items)) }
-    ensures kept { IfOk result (λ states. AllZip (IsKept (map (λ c. saved_chain (string_bytes c.origin) c.chain) chains.items))
-        (map (λ t. ⟦<Trust<A> as ShownTrust>⟧.trusted t) trusts.items) (map (λ e. ⟦<OriginState<T, A> as ShownState>⟧.shown_state e) states.items)) }
+    requires places { Indexes
+        (index_of places.now) (map (λ c. string_bytes c.origin) chains.items) }
+    requires once { ¬ (HasTwice
+        (trusted_origins (map (λ t. ⟦<Trust<A> as ShownTrust>⟧.trusted t) trusts.items))) }
+    requires named { All IsKeyName
+        (cosigner_names (map (λ t. ⟦<Trust<A> as ShownTrust>⟧.trusted t) trusts.items)) }
+    ensures kept { IfOk result (λ states.
+        AllZip (IsKept (map (λ c. saved_chain (string_bytes c.origin) c.chain) chains.items))
+        (map (λ t. ⟦<Trust<A> as ShownTrust>⟧.trusted t) trusts.items)
+        (map (λ e. ⟦<OriginState<T, A> as ShownState>⟧.shown_state e) states.items)) }
     ensures memory { OnErr result (0 < length trusts.items) }
 {
     let mut left = chains;
@@ -169,9 +180,11 @@ fn places_of<N: OfOrigin + HasKeys, M: OfOrigin, A: Allocator + Copy>(
     chains: &[M],
 ) -> Result<Option<Places<A>>, AllocError>
     ensures ok { IfOk result (λ found. MatchOption found
-        (¬ (¬ (HasTwice (map N.origin_of trusts.now)) × ¬ (HasTwice (map M.origin_of chains.now)) × All HasEachKeyOnce (map N.keys trusts.now)))
-        (λ places. (¬ (HasTwice (map N.origin_of trusts.now)) × ¬ (HasTwice (map M.origin_of chains.now)) × All HasEachKeyOnce (map N.keys trusts.now))
-        × Indexes (index_of places.trusts) (map N.origin_of trusts.now) × Indexes (index_of places.chains) (map M.origin_of chains.now))) }
+        (¬ (¬ (HasTwice (map N.origin_of trusts.now)) × ¬ (HasTwice (map M.origin_of chains.now))
+        × All HasEachKeyOnce (map N.keys trusts.now))) (λ places.
+        (¬ (HasTwice (map N.origin_of trusts.now)) × ¬ (HasTwice (map M.origin_of chains.now))
+        × All HasEachKeyOnce (map N.keys trusts.now)) × Indexes (index_of places.trusts) (map
+        N.origin_of trusts.now) × Indexes (index_of places.chains) (map M.origin_of chains.now))) }
     ensures err { OnErr result ((0 < length trusts.now) ⊎ (0 < length chains.now)) }
 {
     if !are_keys_once(trusts) {
@@ -203,9 +216,12 @@ impl<T: TreeHash, A: Allocator + Copy> Book<T, A> {
         trusts: Vec<Trust<A>, A>,
         chains: Vec<(String<A>, Vec<Link<A>, A>), A>,
     ) -> Result<Self, BookFault>
-        ensures ok { IfOk result (λ book. OpensBook T.digest_of (map (λ t. ⟦<Trust<A> as ShownTrust>⟧.trusted t) trusts.items)
-            (map (λ c. saved_chain (string_bytes c.0) (map step_of c.1.items)) chains.items) (⟦<Book<T, A> as Shown>⟧.shown book)) }
-        ensures err { IfErr result (RefusesBook T.digest_of (map (λ t. ⟦<Trust<A> as ShownTrust>⟧.trusted t) trusts.items)
+        ensures ok { IfOk result (λ book.
+            OpensBook T.digest_of (map (λ t. ⟦<Trust<A> as ShownTrust>⟧.trusted t) trusts.items)
+            (map (λ c. saved_chain (string_bytes c.0) (map step_of c.1.items)) chains.items)
+            (⟦<Book<T, A> as Shown>⟧.shown book)) }
+        ensures err { IfErr result
+            (RefusesBook T.digest_of (map (λ t. ⟦<Trust<A> as ShownTrust>⟧.trusted t) trusts.items)
             (map (λ c. saved_chain (string_bytes c.0) (map step_of c.1.items)) chains.items)) }
     {
         let places = match places_of(alloc, trusts.as_slice(), chains.as_slice()) {
@@ -223,16 +239,11 @@ impl<T: TreeHash, A: Allocator + Copy> Book<T, A> {
             Ok(checked) => checked,
             Err(fault) => return Err(fault),
         };
-        let states = match enter(alloc, tree, trusts, checked, &places.chains) {
-            Ok(states) => states,
-            Err(_) => return Err(BookFault::OutOfMemory),
+        let Ok(states) = enter(alloc, tree, trusts, checked, &places.chains) else {
+            return Err(BookFault::OutOfMemory);
         };
         Ok(Book {
-            tools: Tools {
-                tree,
-                alloc,
-                global,
-            },
+            tools: Tools::new(tree, alloc, global),
             states,
             places: places.trusts,
         })

@@ -7,7 +7,7 @@ ghost use Rattle.tl_proof.specs.Acceptance.{step_of};
 ghost use Rattle.tl_witness.specs.Chain.{Follows, first_head, last_head};
 ghost use Rattle.tl_witness.specs.ChainLine.{IsChainLine};
 ghost use Rattle.tl_witness.specs.Decide.{Decides, DecidesFrom, Settles};
-ghost use Rattle.tl_witness.specs.Inner.Offer.{asked_by};
+ghost use Rattle.tl_witness.specs.Inner.Offer.{asked_by, asked_without_lines};
 ghost use Rattle.tl_witness.specs.Inner.Outcome.{outcome_of};
 
 use crate::by_origin::OfOrigin;
@@ -43,7 +43,8 @@ impl<A: Allocator> ShownOrigin for Origin<A> {
     ghost use Rattle.std.specs.Prelude.{map};
     ghost use Rattle.tl_witness.specs.Shown.{witnessed};
 
-    ghost shown_with = { λ o chain. witnessed o (map (λ v. (Verifier-box v).key v.value) o.verifiers.items)
+    ghost shown_with = { λ o chain. witnessed o
+        (map (λ v. (Verifier-box v).key v.value) o.verifiers.items)
         ((Signer-box o.cosigner).signing_key o.cosigner.value) chain };
 }
 
@@ -65,7 +66,8 @@ impl<T: TreeHash, A: Allocator> ShownState for OriginState<T, A> {
     ghost use Rattle.std.specs.Prelude.{map};
     ghost use Rattle.tl_witness.specs.Shown.{witnessed};
 
-    ghost shown_state = { λ s. witnessed s.origin (map (λ v. (Verifier-box v).key v.value) s.origin.verifiers.items)
+    ghost shown_state = { λ s. witnessed s.origin
+        (map (λ v. (Verifier-box v).key v.value) s.origin.verifiers.items)
         ((Signer-box s.origin.cosigner).signing_key s.origin.cosigner.value) s.chain };
 }
 
@@ -92,7 +94,8 @@ fn is_open<A: Allocator + Copy>(
     note: NoteView<'_, A>,
     verifiers: &[Box<dyn Verifier>],
 ) -> Result<bool, AllocError>
-    ensures { IfOk result (λ opens. IsTrue opens ↔ Opened (map (λ verifier. key verifier) verifiers.now) note.entry.text.now note.entry.signatures.items) }
+    ensures { IfOk result (λ opens. IsTrue opens ↔ Opened (map
+        (λ verifier. key verifier) verifiers.now) note.entry.text.now note.entry.signatures.items) }
 {
     match verify_note(alloc, note, verifiers) {
         Ok(_) => Ok(true),
@@ -112,15 +115,18 @@ impl<A: Allocator + Copy> Origin<A> {
         time: u64,
         saver: &mut S,
     ) -> Result<Reply<A>, AllocError>
-        requires line { IsChainLine (record { origin = string_bytes self.now.name; step = step_of link }) }
-        requires follows { Follows T.digest_of (last_head (first_head T.digest_of) chain.old) (step_of link) }
+        requires line { IsChainLine
+            (record { origin = string_bytes self.now.name; step = step_of link }) }
+        requires follows { Follows T.digest_of
+            (last_head (first_head T.digest_of) chain.old) (step_of link) }
         requires least { (last_head (first_head T.digest_of) chain.old).size ≤ link.size }
-        ensures ok { IfOk result (λ reply. Settles
-            (outcome_of reply (S.saved saver.old) (S.saved saver.new)
-            (⟦<Origin<A> as ShownOrigin>⟧.shown_with self.now chain.old) (⟦<Origin<A> as ShownOrigin>⟧.shown_with self.now chain.new))
-            (last_head (first_head T.digest_of) chain.old).size
-            (record { old = (last_head (first_head T.digest_of) chain.old).size; step = step_of link; text = text.now; lines = []; time = time })) }
-        ensures err { OnErr result ((S.saved saver.new ≡ S.saved saver.old) × (chain.new ≡ chain.old)) }
+        ensures ok { IfOk result (λ reply. Settles (outcome_of reply (S.saved saver.old)
+            (S.saved saver.new) (⟦<Origin<A> as ShownOrigin>⟧.shown_with self.now chain.old)
+            (⟦<Origin<A> as ShownOrigin>⟧.shown_with self.now chain.new))
+            (last_head (first_head T.digest_of) chain.old).size (asked_without_lines
+            (last_head (first_head T.digest_of) chain.old).size (step_of link) text.now time)) }
+        ensures err { OnErr result
+            ((S.saved saver.new ≡ S.saved saver.old) × (chain.new ≡ chain.old)) }
     {
         let cosigned = cosign(tools, &self.cosigner, &self.cosigner_name, time, text);
         let body = match cosigned {
@@ -149,12 +155,16 @@ impl<A: Allocator + Copy> Origin<A> {
         time: u64,
         saver: &mut S,
     ) -> Result<Reply<A>, AllocError>
-        requires { IsChainLine (record { origin = string_bytes self.now.name; step = step_of link }) }
-        ensures ok { IfOk result (λ reply. DecidesFrom T.digest_of (last_head (first_head T.digest_of) chain.old)
+        requires { IsChainLine
+            (record { origin = string_bytes self.now.name; step = step_of link }) }
+        ensures ok { IfOk result
+            (λ reply. DecidesFrom T.digest_of (last_head (first_head T.digest_of) chain.old)
             (record { old = old; step = step_of link; text = text.now; lines = []; time = time })
-            (outcome_of reply (S.saved saver.old) (S.saved saver.new)
-            (⟦<Origin<A> as ShownOrigin>⟧.shown_with self.now chain.old) (⟦<Origin<A> as ShownOrigin>⟧.shown_with self.now chain.new))) }
-        ensures err { OnErr result ((S.saved saver.new ≡ S.saved saver.old) × (chain.new ≡ chain.old)) }
+            (outcome_of reply (S.saved saver.old)
+            (S.saved saver.new) (⟦<Origin<A> as ShownOrigin>⟧.shown_with self.now chain.old)
+            (⟦<Origin<A> as ShownOrigin>⟧.shown_with self.now chain.new))) }
+        ensures err { OnErr result
+            ((S.saved saver.new ≡ S.saved saver.old) × (chain.new ≡ chain.old)) }
     {
         let (size, root) = chain.head();
         if link.size < old {
@@ -179,11 +189,14 @@ impl<A: Allocator + Copy> Origin<A> {
         time: u64,
         saver: &mut S,
     ) -> Result<Reply<A>, AllocError>
-        requires { IsChainLine (record { origin = string_bytes self.now.name; step = step_of offer.link }) }
-        ensures ok { IfOk result (λ reply. Decides T.digest_of (asked_by offer.entry time)
-            (outcome_of reply (S.saved saver.old) (S.saved saver.new)
-            (⟦<Origin<A> as ShownOrigin>⟧.shown_with self.now chain.old) (⟦<Origin<A> as ShownOrigin>⟧.shown_with self.now chain.new))) }
-        ensures err { OnErr result ((S.saved saver.new ≡ S.saved saver.old) × (chain.new ≡ chain.old)) }
+        requires { IsChainLine
+            (record { origin = string_bytes self.now.name; step = step_of offer.link }) }
+        ensures ok { IfOk result (λ reply.
+            Decides T.digest_of (asked_by offer.entry time) (outcome_of reply (S.saved saver.old)
+            (S.saved saver.new) (⟦<Origin<A> as ShownOrigin>⟧.shown_with self.now chain.old)
+            (⟦<Origin<A> as ShownOrigin>⟧.shown_with self.now chain.new))) }
+        ensures err { OnErr result
+            ((S.saved saver.new ≡ S.saved saver.old) × (chain.new ≡ chain.old)) }
     {
         let Offer { old, link, note } = offer;
         let text = note.text;

@@ -28,7 +28,8 @@ pub(crate) fn refusal<A: Allocator>(alloc: A, status: u16) -> Reply<A>
 
 /// The reply 409 with the last size and a newline. It fails only where a growth was refused.
 pub(crate) fn conflict<A: Allocator>(alloc: A, size: u64) -> Result<Reply<A>, AllocError>
-    ensures { IfOk result (λ reply. (reply.status ≡ 409) × (reply.body.items ≡ line (number_text size))) }
+    ensures { IfOk result
+        (λ reply. (reply.status ≡ 409) × (reply.body.items ≡ line (number_text size))) }
 {
     let mut body = Vec::from_slice(alloc, Buffer::new().format(size).as_bytes())?;
     body.push(b'\n')?;

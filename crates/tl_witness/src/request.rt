@@ -96,7 +96,8 @@ fn cut_proof(text: &str) -> Option<(usize, &str)>
 // The hashes of so many lines before an empty line.
 fn read_hashes<A: Allocator>(alloc: A, count: usize, text: &str) -> Result<HashList<A>, AllocError>
     requires { (note : Bytes) × HasProof text.now count note }
-    ensures read { IfOk result (λ hashes. (proof : List Bytes) (note : Bytes) → IsProofText text.now proof note → hashes ≡ proof) }
+    ensures read { IfOk result (λ hashes.
+        (proof : List Bytes) (note : Bytes) → IsProofText text.now proof note → hashes ≡ proof) }
     ensures refused { OnErr result (0 < count) }
 {
     let mut hashes: Vec<Hash, A> = Vec::with_capacity(alloc, count)?;

@@ -21,6 +21,7 @@ pub trait Saver {
     /// rises, or it can go no further, and nothing was saved.
     fn save<A: Allocator>(&mut self, origin: &str, link: &Link<A>) -> Result<(), SaveFault>
         requires { IsChainLine (record { origin = origin.now; step = step_of link.now }) }
-        ensures kept { OnOk result (Keeps (saved self.old) (saved self.new) origin.now (step_of link.now)) }
+        ensures kept { OnOk result
+            (Keeps (saved self.old) (saved self.new) origin.now (step_of link.now)) }
         ensures failed { OnErr result (Fails (saved self.old) (saved self.new)) };
 }

@@ -35,15 +35,18 @@ impl<T: TreeHash, A: Allocator + Copy> Shown for SharedWitness<T, A> {
     ghost use Rattle.std.specs.Prelude.{map};
     ghost use Rattle.tl_witness.specs.Shown.{witnessed};
 
-    ghost shown = { λ w. map (λ s. witnessed s.origin (map (λ v. (Verifier-box v).key v.value) s.origin.verifiers.items)
-        ((Signer-box s.origin.cosigner).signing_key s.origin.cosigner.value) s.chain.slot.value) w.states.items };
+    ghost shown = { λ w. map (λ s. witnessed s.origin
+        (map (λ v. (Verifier-box v).key v.value) s.origin.verifiers.items)
+        ((Signer-box s.origin.cosigner).signing_key s.origin.cosigner.value)
+        s.chain.slot.value) w.states.items };
 }
 
 // An empty list with room for what a book keeps.
 fn room_for<T: TreeHash, A: Allocator + Copy>(
     book: &Book<T, A>,
 ) -> Result<Vec<Guarded<T, A>, A>, AllocError>
-    ensures { IfOk result (λ list. (list.items ≡ []) × (length book.now.states.items ≤ vec_capacity list)) }
+    ensures { IfOk result
+        (λ list. (list.items ≡ []) × (length book.now.states.items ≤ vec_capacity list)) }
 {
     let mut list = Vec::new(book.tools.alloc);
     list.reserve(book.states.len())?;
@@ -61,7 +64,8 @@ pub struct BookBack<T: TreeHash, A: Allocator + Copy> {
 fn room_back<T: TreeHash, A: Allocator + Copy>(
     witness: &SharedWitness<T, A>,
 ) -> Result<Vec<OriginState<T, A>, A>, AllocError>
-    ensures { IfOk result (λ list. (list.items ≡ []) × (length witness.now.states.items ≤ vec_capacity list)) }
+    ensures { IfOk result
+        (λ list. (list.items ≡ []) × (length witness.now.states.items ≤ vec_capacity list)) }
 {
     let mut list = Vec::new(witness.tools.alloc);
     list.reserve(witness.states.len())?;
@@ -79,7 +83,8 @@ impl<T: TreeHash, A: Allocator + Copy> SharedWitness<T, A> {
     /// Shares a book: each origin keeps its verifiers, its cosigner and its links, and each later chain begins with
     /// those. It gives the book back where a growth was refused.
     pub fn new(book: Book<T, A>) -> Result<Self, BookBack<T, A>>
-        ensures ok { IfOk result (λ w. ⟦<SharedWitness<T, A> as Shown>⟧.shown w ≡ ⟦<Book<T, A> as Shown>⟧.shown book) }
+        ensures ok { IfOk result
+            (λ w. ⟦<SharedWitness<T, A> as Shown>⟧.shown w ≡ ⟦<Book<T, A> as Shown>⟧.shown book) }
         ensures err { IfErr result (λ back. back.book ≡ book) }
     {
         let Ok(mut states) = room_for(&book) else {
@@ -109,9 +114,11 @@ impl<T: TreeHash, A: Allocator + Copy> SharedWitness<T, A> {
         time: u64,
         saver: &mut S,
     ) -> Result<Reply<A>, AllocError>
-        ensures decided { IfOk result (λ reply. DecidesShared T.digest_of (⟦<SharedWitness<T, A> as Shown>⟧.shown self.now) body.now time
-            (answer_of reply (S.saved saver.old) (S.saved saver.new))) }
-        ensures unchanged { OnErr result ((S.saved saver.new ≡ S.saved saver.old) × AsksForMemory body.now) }
+        ensures decided { IfOk result
+            (λ reply. DecidesShared T.digest_of (⟦<SharedWitness<T, A> as Shown>⟧.shown self.now)
+            body.now time (answer_of reply (S.saved saver.old) (S.saved saver.new))) }
+        ensures unchanged { OnErr result
+            ((S.saved saver.new ≡ S.saved saver.old) × AsksForMemory body.now) }
     {
         let tools = self.tools;
         let found = match find_origin(tools.alloc, &self.places, self.states.as_slice(), body) {
@@ -126,8 +133,8 @@ impl<T: TreeHash, A: Allocator + Copy> SharedWitness<T, A> {
     /// Answers an add-checkpoint request as `try_add` decides it, and with 500 where that asked for memory which
     /// was refused.
     pub fn add<R: Wait, S: Saver>(&self, rt: &R, body: &[u8], time: u64, saver: &mut S) -> Reply<A>
-        ensures { AnswersShared T.digest_of (⟦<SharedWitness<T, A> as Shown>⟧.shown self.now) body.now time
-            (answer_of result (S.saved saver.old) (S.saved saver.new)) }
+        ensures { AnswersShared T.digest_of (⟦<SharedWitness<T, A> as Shown>⟧.shown self.now)
+            body.now time (answer_of result (S.saved saver.old) (S.saved saver.new)) }
     {
         match self.try_add(rt, body, time, saver) {
             Ok(reply) => reply,
@@ -142,8 +149,10 @@ impl<T: TreeHash, A: Allocator + Copy> SharedWitness<T, A> {
         rt: &R,
         origin: &str,
     ) -> Result<Option<Vec<Link<A>, A>>, AllocError>
-        ensures { IfOk result (λ found. MatchOption found ((placed : Placed) → ¬ (IsPlacedIn (⟦<SharedWitness<T, A> as Shown>⟧.shown self.now) origin.now placed))
-            (λ links. IsOfLaterChain T.digest_of (⟦<SharedWitness<T, A> as Shown>⟧.shown self.now) origin.now (λ later. map step_of links.items ≡ later))) }
+        ensures { IfOk result (λ found. MatchOption found ((placed : Placed)
+            → ¬ (IsPlacedIn (⟦<SharedWitness<T, A> as Shown>⟧.shown self.now) origin.now placed))
+            (λ links. IsOfLaterChain T.digest_of (⟦<SharedWitness<T, A> as Shown>⟧.shown self.now)
+            origin.now (λ later. map step_of links.items ≡ later))) }
     {
         let Some(place) = place_by(&self.places, self.states.as_slice(), origin) else {
             return Ok(None);
@@ -161,8 +170,10 @@ impl<T: TreeHash, A: Allocator + Copy> SharedWitness<T, A> {
         from: u64,
         most: u64,
     ) -> Result<Option<Vec<Link<A>, A>>, AllocError>
-        ensures { IfOk result (λ found. MatchOption found ((placed : Placed) → ¬ (IsPlacedIn (⟦<SharedWitness<T, A> as Shown>⟧.shown self.now) origin.now placed))
-            (λ links. IsOfLaterChain T.digest_of (⟦<SharedWitness<T, A> as Shown>⟧.shown self.now) origin.now (λ later. map step_of links.items ≡ take most (drop from later)))) }
+        ensures { IfOk result (λ found. MatchOption found ((placed : Placed)
+            → ¬ (IsPlacedIn (⟦<SharedWitness<T, A> as Shown>⟧.shown self.now) origin.now placed))
+            (λ links. IsOfLaterChain T.digest_of (⟦<SharedWitness<T, A> as Shown>⟧.shown self.now)
+            origin.now (λ later. map step_of links.items ≡ take most (drop from later)))) }
     {
         let Some(place) = place_by(&self.places, self.states.as_slice(), origin) else {
             return Ok(None);
@@ -173,9 +184,11 @@ impl<T: TreeHash, A: Allocator + Copy> SharedWitness<T, A> {
 
     /// The size and root that an origin has reached when its lock is taken. None where the origin is unknown.
     pub fn head<R: Wait>(&self, rt: &R, origin: &str) -> Option<(u64, Hash)>
-        ensures { MatchOption result ((placed : Placed) → ¬ (IsPlacedIn (⟦<SharedWitness<T, A> as Shown>⟧.shown self.now) origin.now placed))
-            (λ head. IsOfLaterChain T.digest_of (⟦<SharedWitness<T, A> as Shown>⟧.shown self.now) origin.now
-            (λ later. (head.0 ≡ (last_head (first_head T.digest_of) later).size) × (head.1 ≡ (last_head (first_head T.digest_of) later).root))) }
+        ensures { MatchOption result ((placed : Placed)
+            → ¬ (IsPlacedIn (⟦<SharedWitness<T, A> as Shown>⟧.shown self.now) origin.now placed))
+            (λ head. IsOfLaterChain T.digest_of (⟦<SharedWitness<T, A> as Shown>⟧.shown self.now)
+            origin.now (λ later. (head.0 ≡ (last_head (first_head T.digest_of) later).size)
+            × (head.1 ≡ (last_head (first_head T.digest_of) later).root))) }
     {
         let Some(place) = place_by(&self.places, self.states.as_slice(), origin) else {
             return None;
@@ -186,7 +199,8 @@ impl<T: TreeHash, A: Allocator + Copy> SharedWitness<T, A> {
     /// The book, once nobody shares it: the same origins, with chains that begin with those that were handed in. It
     /// gives the witness back where a growth was refused.
     pub fn into_book<R: Wait>(self, rt: &R) -> Result<Book<T, A>, WitnessBack<T, A>>
-        ensures ok { IfOk result (λ book. IsLaterBook T.digest_of (⟦<SharedWitness<T, A> as Shown>⟧.shown self) (⟦<Book<T, A> as Shown>⟧.shown book)) }
+        ensures ok { IfOk result (λ book. IsLaterBook T.digest_of
+            (⟦<SharedWitness<T, A> as Shown>⟧.shown self) (⟦<Book<T, A> as Shown>⟧.shown book)) }
         ensures err { IfErr result (λ back. back.witness ≡ self) }
     {
         let Ok(mut states) = room_back(&self) else {

@@ -52,7 +52,8 @@ fn is_key(verifier: &Box<dyn Verifier>, name: &str, id: u32) -> bool
 
 // Whether a verifier has this name and identifier.
 fn has_key(verifiers: &[Box<dyn Verifier>], name: &str, id: u32) -> bool
-    ensures { IsTrue result ↔ IsAmong (name.now, id) (map key_name (map (λ v. key v) verifiers.now)) }
+    ensures { IsTrue result
+        ↔ IsAmong (name.now, id) (map key_name (map (λ v. key v) verifiers.now)) }
 {
     match verifiers {
         [] => false,
@@ -62,7 +63,8 @@ fn has_key(verifiers: &[Box<dyn Verifier>], name: &str, id: u32) -> bool
 
 // Whether a verifier's name and identifier are another's too.
 fn is_again(verifier: &Box<dyn Verifier>, others: &[Box<dyn Verifier>]) -> bool
-    ensures { IsTrue result ↔ IsAmong (key_name (key verifier.now)) (map key_name (map (λ v. key v) others.now)) }
+    ensures { IsTrue result
+        ↔ IsAmong (key_name (key verifier.now)) (map key_name (map (λ v. key v) others.now)) }
 {
     has_key(others, verifier.name(), verifier.key_id())
 }
@@ -138,7 +140,8 @@ pub(crate) fn are_keys_once<N: HasKeys>(trusts: &[N]) -> bool
 
 /// The first trust whose cosigner has no key's name.
 pub(crate) fn first_bad_name<N: HasKeys>(trusts: &[N]) -> Option<usize>
-    ensures { MatchOption result (All IsKeyName (map N.cosigner_name trusts.now)) (IsFirstNot IsKeyName (map N.cosigner_name trusts.now)) }
+    ensures { MatchOption result (All IsKeyName (map N.cosigner_name trusts.now))
+        (IsFirstNot IsKeyName (map N.cosigner_name trusts.now)) }
 {
     for i in 0..trusts.len() {
         if !trusts[i].has_named_cosigner() {

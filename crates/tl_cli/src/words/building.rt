@@ -6,6 +6,7 @@ use super::{EITHER_KEY, WordsFault, texts};
 use crate::job::Job;
 use clap::ArgMatches;
 use std::alloc::Global;
+use tl_command::{BuildOptions, SignedOptions};
 use tl_serve::{AppendOptions, LogKey};
 
 // What is said where a resource and a folder are given.
@@ -71,12 +72,14 @@ pub(super) fn build_job(alloc: Global, options: &ArgMatches<'_>) -> Result<Job, 
             is_new: true,
         })),
         (Some(_), Some(_), _) => Err(usage_error(alloc, build(), ONE_OUTPUT)),
-        (get, None, LogKey::Secret(secret)) => Ok(Job::Build {
+        (get, None, LogKey::Secret(secret)) => Ok(Job::Build(BuildOptions {
             origin,
             secret,
             get,
-        }),
-        (get, None, LogKey::File(key)) => Ok(Job::BuildSigned { origin, key, get }),
+        })),
+        (get, None, LogKey::File(key)) => {
+            Ok(Job::BuildSigned(SignedOptions { origin, key, get }))
+        }
     }
 }
 

@@ -32,7 +32,8 @@ fn collision_text<A: Allocator + Copy>(
     first: &[u8],
     second: &[u8],
 ) -> Result<Vec<u8, A>, AllocError>
-    ensures { IfOk result (λ text. text.items ≡ line (codes "collision") ++ line (encode_lower first.now) ++ line (encode_lower second.now)) }
+    ensures { IfOk result (λ text. text.items ≡ line
+        (codes "collision") ++ line (encode_lower first.now) ++ line (encode_lower second.now)) }
 {
     let mut text = Vec::from_slice(alloc, b"collision\n")?;
     text.extend_from_slice(hex::encode(alloc, first)?.as_bytes())?;
@@ -99,7 +100,8 @@ pub fn run_audit<T: TreeHash, A: Allocator + Copy, R: Read, W: Write>(
     reader: &mut Counted<R>,
     writer: &mut Counted<W>,
 ) -> Result<(), RunFault>
-    ensures { Runs (AuditComes T.digest_of) (passage R.remaining reader.old reader.new) (passage W.contents writer.old writer.new) result }
+    ensures { Runs (AuditComes T.digest_of) (passage R.remaining reader.old reader.new)
+        (passage W.contents writer.old writer.new) result }
 {
     let input = read_input(alloc, reader, MOST_INPUT)?;
     let answer = match answer_to(alloc, h, input.as_slice()) {

@@ -28,6 +28,17 @@ use tl_device::Counted;
 use tl_note::is_key_name;
 use tl_tile::{Resource, parse_path};
 
+/// The options of `build` with a demonstration key.
+#[derive(Debug, Drop)]
+pub struct BuildOptions {
+    /// The name of the log, a key's name.
+    pub origin: String,
+    /// The secret of the log's demonstration key.
+    pub secret: String,
+    /// The path of the one resource to print; without it, the listing of all of them.
+    pub get: Option<String>,
+}
+
 // The resource with the path that is asked for.
 fn wanted_of(get: Option<&str>) -> Result<Option<Resource>, RunFault>
     ensures { ReadsPath (option_map (λ path. path.now) get.entry) result }
@@ -80,7 +91,8 @@ fn wanted_bytes<K: LogSigner, A: Allocator + Copy>(
     requires served { Contains (mirrored (length entries.now)) resource }
     requires few { length entries.now < 2 ^ 32 }
     requires short { AreShortEntries (map vec_items entries.now) }
-    ensures text { IfOk result (λ bytes. bytes.items ≡ resource_text (checkpoint_note (K.log_key key.now) (map vec_items entries.now)) (map vec_items entries.now) resource) }
+    ensures text { IfOk result (λ bytes. bytes.items ≡ resource_text (checkpoint_note
+        (K.log_key key.now) (map vec_items entries.now)) (map vec_items entries.now) resource) }
     ensures fault { IfErr result (λ fault. fault ≡ RunFault.OutOfMemory) }
 {
     match resource {
@@ -104,7 +116,8 @@ fn answer_of<K: LogSigner, A: Allocator + Copy>(
     requires origin { IsKeyName (K.log_key key.now).name }
     requires few { length entries.now < 2 ^ 32 }
     requires short { AreShortEntries (map vec_items entries.now) }
-    ensures { AnswersWanted (checkpoint_note (K.log_key key.now) (map vec_items entries.now)) (map vec_items entries.now) wanted result }
+    ensures { AnswersWanted (checkpoint_note (K.log_key key.now) (map vec_items entries.now))
+        (map vec_items entries.now) wanted result }
 {
     let resources = mirrored_of(alloc, entries.len() as u64)?;
     if !is_served(resources.as_slice(), wanted) {
@@ -128,7 +141,8 @@ fn build<K: LogSigner, A: Allocator + Copy, R: Read, W: Write>(
     writer: &mut Counted<W>,
 ) -> Result<(), RunFault>
     requires { IsKeyName (K.log_key key.now).name }
-    ensures { Runs (WantedComes (K.log_key key.now) wanted) (passage R.remaining reader.old reader.new) (passage W.contents writer.old writer.new) result }
+    ensures { Runs (WantedComes (K.log_key key.now) wanted) (passage
+        R.remaining reader.old reader.new) (passage W.contents writer.old writer.new) result }
 {
     let entries = read_entries(alloc, reader, MOST_INPUT)?;
     if is_of_no_entry(entries.len(), wanted) {
@@ -155,7 +169,8 @@ pub fn run_build<K: LogSigner, A: Allocator + Copy, R: Read, W: Write>(
     reader: &mut Counted<R>,
     writer: &mut Counted<W>,
 ) -> Result<(), RunFault>
-    ensures { RunsBuild (K.log_key key.now) (option_map (λ path. path.now) get.entry) (passage R.remaining reader.old reader.new) (passage W.contents writer.old writer.new) result }
+    ensures { RunsBuild (K.log_key key.now) (option_map (λ path. path.now) get.entry) (passage
+        R.remaining reader.old reader.new) (passage W.contents writer.old writer.new) result }
 {
     if !is_key_name(key.origin()) {
         return Err(RunFault::BadOrigin);

@@ -103,7 +103,8 @@ fn finding_in<A: Allocator + Copy>(alloc: A, text: &[u8]) -> Result<Finding, Run
 
 // Whether a proof is accepted, leads to the tree of this size and root, and shows the entry, if one is asked for.
 fn is_about(finding: &Finding, size: u64, root: Hash, entry: Option<&[u8]>) -> bool
-    ensures { IsTrue result ↔ IsFindingAbout (record { size = size; root = root; entry = option_map (λ e. e.now) entry.entry }) finding.now }
+    ensures { IsTrue result ↔ IsFindingAbout (record
+        { size = size; root = root; entry = option_map (λ e. e.now) entry.entry; }) finding.now }
 {
     if !finding.accepted || finding.size != size || finding.root != root {
         return false;
@@ -136,7 +137,8 @@ pub fn run_check<A: Allocator + Copy, R: Read, W: Write>(
     reader: &mut Counted<R>,
     writer: &mut Counted<W>,
 ) -> Result<(), RunFault>
-    ensures { Runs CheckComes (passage R.remaining reader.old reader.new) (passage W.contents writer.old writer.new) result }
+    ensures { Runs CheckComes (passage R.remaining reader.old reader.new)
+        (passage W.contents writer.old writer.new) result }
 {
     let input = read_input(alloc, reader, MOST_INPUT)?;
     let finding = finding_in(alloc, input.as_slice())?;
@@ -154,7 +156,10 @@ pub fn run_check_about<A: Allocator + Copy, R: Read, W: Write>(
     reader: &mut Counted<R>,
     writer: &mut Counted<W>,
 ) -> Result<(), RunFault>
-    ensures { Runs (CheckAboutComes (record { size = size; root = root; entry = option_map (λ e. e.now) entry.entry })) (passage R.remaining reader.old reader.new) (passage W.contents writer.old writer.new) result }
+    ensures { Runs (CheckAboutComes
+        (record { size = size; root = root; entry = option_map (λ e. e.now) entry.entry; }))
+        (passage R.remaining reader.old reader.new)
+        (passage W.contents writer.old writer.new) result }
 {
     let input = read_input(alloc, reader, MOST_INPUT)?;
     let finding = finding_in(alloc, input.as_slice())?;

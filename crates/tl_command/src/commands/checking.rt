@@ -68,7 +68,9 @@ fn check_under<R: Read, W: Write>(
     reader: &mut Counted<R>,
     writer: &mut Counted<W>,
 ) -> Result<(), RunFault>
-    ensures { RunsUnder bytes.now (map (λ verifier. key verifier) verifiers.now) (option_map (λ e. e.now) entry.entry) (passage R.remaining reader.old reader.new) (passage W.contents writer.old writer.new) result }
+    ensures { RunsUnder bytes.now (map (λ verifier. key verifier) verifiers.now)
+        (option_map (λ e. e.now) entry.entry) (passage R.remaining reader.old reader.new)
+        (passage W.contents writer.old writer.new) result }
 {
     let checkpoint = checkpoint_of(alloc, bytes, verifiers)?;
     run_check_about(
@@ -91,8 +93,10 @@ fn check_by<R: Read, W: Write>(
     reader: &mut Counted<R>,
     writer: &mut Counted<W>,
 ) -> Result<(), RunFault>
-    requires { (k : PublicKey) × IsVerifierText note_kind text.now k × (map (λ verifier. key verifier) verifiers.now ≡ verifier_key k ∷ []) }
-    ensures { RunsCheckOpened text.now bytes.now (option_map (λ e. e.now) entry.entry) (passage R.remaining reader.old reader.new) (passage W.contents writer.old writer.new) result }
+    requires { (k : PublicKey) × IsVerifierText note_kind text.now k
+        × (map (λ verifier. key verifier) verifiers.now ≡ verifier_key k ∷ []) }
+    ensures { RunsCheckOpened text.now bytes.now (option_map (λ e. e.now) entry.entry) (passage
+        R.remaining reader.old reader.new) (passage W.contents writer.old writer.new) result }
 {
     check_under(alloc, verifiers, bytes, entry, reader, writer)
 }
@@ -110,7 +114,8 @@ pub fn run_check_opened<R: Read, W: Write>(
     reader: &mut Counted<R>,
     writer: &mut Counted<W>,
 ) -> Result<(), RunFault>
-    ensures { RunsCheckOpened text.now bytes.now (option_map (λ e. e.now) entry.entry) (passage R.remaining reader.old reader.new) (passage W.contents writer.old writer.new) result }
+    ensures { RunsCheckOpened text.now bytes.now (option_map (λ e. e.now) entry.entry) (passage
+        R.remaining reader.old reader.new) (passage W.contents writer.old writer.new) result }
 {
     let key = read_log_key(alloc, text)?;
     let verifier: Box<dyn Verifier> = Box::new(alloc, key)?;

@@ -18,6 +18,15 @@ use tl_device::Counted;
 use tl_hash::Hash;
 use tl_text::is_one_line;
 
+/// The options of `head`.
+#[derive(Debug, Drop)]
+pub struct HeadOptions {
+    /// The name of the log.
+    pub origin: String,
+    /// How many threads hash at once, 1 at least; without it, as many as the machine has.
+    pub threads: Option<u16>,
+}
+
 /// Reads the whole input and writes the text of the checkpoint (C2SP tlog-checkpoint) of the log of its lines: the
 /// origin, their number and their Merkle tree hash under SHA-256. An origin that isn't one line is `BadOrigin` before
 /// anything is read; nothing is written before the whole input was read. Up to `threads` threads hash at once and take
@@ -38,7 +47,8 @@ pub fn run_head<
     reader: &mut Counted<R>,
     writer: &mut Counted<W>,
 ) -> Result<(), RunFault>
-    ensures { RunsHead origin.now (passage R.remaining reader.old reader.new) (passage W.contents writer.old writer.new) result }
+    ensures { RunsHead origin.now (passage R.remaining reader.old reader.new)
+        (passage W.contents writer.old writer.new) result }
 {
     if !is_one_line(origin) {
         return Err(RunFault::BadOrigin);
@@ -59,7 +69,8 @@ pub fn checkpoint_of<A: Allocator + Copy>(
 ) -> Result<String<A>, RunFault>
     requires origin { IsOneLine origin.now }
     requires size { IsSize size }
-    ensures text { IfOk result (λ text. string_bytes text ≡ checkpoint_text (record { origin = origin.now; size = size; root = root; extensions = [] })) }
+    ensures text { IfOk result (λ text. string_bytes text ≡ checkpoint_text
+        (record { origin = origin.now; size = size; root = root; extensions = [] })) }
     ensures note { IfOk result (λ text. IsNoteText (string_bytes text)) }
     ensures fault { IfErr result (λ fault. fault ≡ RunFault.OutOfMemory) }
 {

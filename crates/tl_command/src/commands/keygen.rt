@@ -16,6 +16,15 @@ use std::random::RandomSource;
 use tl_device::Counted;
 use tl_key::{KeyFault, KeyKind, SignerKey, write_signer_key, write_verifier_key};
 
+/// The options of `keygen`.
+#[derive(Debug, Drop)]
+pub struct KeygenOptions {
+    /// The key's name.
+    pub name: String,
+    /// Whether it is a witness's, which cosigns, and not a log's.
+    pub is_cosigner: bool,
+}
+
 // The texts of a key, each with a newline.
 #[derive(Drop)]
 struct Texts {
@@ -41,8 +50,10 @@ fn key_of<K: KeyKind>(
 // Its texts.
 fn texts_of<K: KeyKind>(alloc: Global, key: &SignerKey<K, Global>) -> Result<Texts, AllocError>
     ensures lawful { OnOk result (IsSignerText K.KIND (private_text key.now) key.now) }
-    ensures private { IfOk result (λ texts. string_bytes texts.private ≡ line (private_text key.now)) }
-    ensures verifier { IfOk result (λ texts. string_bytes texts.verifier ≡ line (verifier_text (public_of key.now))) }
+    ensures private { IfOk result
+        (λ texts. string_bytes texts.private ≡ line (private_text key.now)) }
+    ensures verifier { IfOk result
+        (λ texts. string_bytes texts.verifier ≡ line (verifier_text (public_of key.now))) }
 {
     let mut private = write_signer_key(alloc, key)?;
     private.push_str("\n")?;
@@ -63,7 +74,8 @@ pub fn run_keygen<K: KeyKind, H: RandomSource, W: Write, E: Write>(
     writer: &mut Counted<W>,
     errors: &mut Counted<E>,
 ) -> Result<(), RunFault>
-    ensures { GivesKey name.now K.KIND (passage W.contents writer.old writer.new) (passage E.contents errors.old errors.new) result }
+    ensures { GivesKey name.now K.KIND (passage W.contents writer.old writer.new)
+        (passage E.contents errors.old errors.new) result }
 {
     let mut seed = [0; 32];
     if rt.fill_bytes(&mut seed).is_err() {

@@ -38,7 +38,8 @@ fn open_under<R: Read, W: Write>(
     reader: &mut Counted<R>,
     writer: &mut Counted<W>,
 ) -> Result<(), RunFault>
-    ensures { Runs (OpenComes (map (λ verifier. key verifier) verifiers.now)) (passage R.remaining reader.old reader.new) (passage W.contents writer.old writer.new) result }
+    ensures { Runs (OpenComes (map (λ verifier. key verifier) verifiers.now)) (passage
+        R.remaining reader.old reader.new) (passage W.contents writer.old writer.new) result }
 {
     let input = read_input(alloc, reader, MOST_INPUT)?;
     let Ok(message) = str::from_utf8(input.as_slice()) else {
@@ -58,8 +59,10 @@ fn open_by<R: Read, W: Write>(
     reader: &mut Counted<R>,
     writer: &mut Counted<W>,
 ) -> Result<(), RunFault>
-    requires { (k : PublicKey) × IsVerifierText note_kind text.now k × (map (λ verifier. key verifier) verifiers.now ≡ verifier_key k ∷ []) }
-    ensures { RunsOpen text.now (passage R.remaining reader.old reader.new) (passage W.contents writer.old writer.new) result }
+    requires { (k : PublicKey) × IsVerifierText note_kind text.now k
+        × (map (λ verifier. key verifier) verifiers.now ≡ verifier_key k ∷ []) }
+    ensures { RunsOpen text.now (passage R.remaining reader.old reader.new)
+        (passage W.contents writer.old writer.new) result }
 {
     open_under(alloc, verifiers, reader, writer)
 }
@@ -74,7 +77,8 @@ pub fn run_open<R: Read, W: Write>(
     reader: &mut Counted<R>,
     writer: &mut Counted<W>,
 ) -> Result<(), RunFault>
-    ensures { RunsOpen text.now (passage R.remaining reader.old reader.new) (passage W.contents writer.old writer.new) result }
+    ensures { RunsOpen text.now (passage R.remaining reader.old reader.new)
+        (passage W.contents writer.old writer.new) result }
 {
     let key = read_log_key(alloc, text)?;
     let verifier: Box<dyn Verifier> = Box::new(alloc, key)?;

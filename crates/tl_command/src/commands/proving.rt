@@ -28,7 +28,8 @@ pub fn run_inclusion<A: Allocator + Copy, R: Read, W: Write>(
     reader: &mut Counted<R>,
     writer: &mut Counted<W>,
 ) -> Result<(), RunFault>
-    ensures { Runs (InclusionComes index) (passage R.remaining reader.old reader.new) (passage W.contents writer.old writer.new) result }
+    ensures { Runs (InclusionComes index) (passage R.remaining reader.old reader.new)
+        (passage W.contents writer.old writer.new) result }
 {
     let entries = read_entries(alloc, reader, MOST_INPUT)?;
     if index >= entries.len() as u64 {
@@ -48,7 +49,8 @@ pub fn run_consistency<A: Allocator + Copy, R: Read, W: Write>(
     reader: &mut Counted<R>,
     writer: &mut Counted<W>,
 ) -> Result<(), RunFault>
-    ensures { Runs (ConsistencyComes old) (passage R.remaining reader.old reader.new) (passage W.contents writer.old writer.new) result }
+    ensures { Runs (ConsistencyComes old) (passage R.remaining reader.old reader.new)
+        (passage W.contents writer.old writer.new) result }
 {
     let entries = read_entries(alloc, reader, MOST_INPUT)?;
     if old > entries.len() as u64 {
@@ -67,7 +69,8 @@ fn inclusion_text_over<A: Allocator + Copy>(
 ) -> Result<Vec<u8, A>, RunFault>
     requires index { index < length entries.now }
     requires few { length entries.now < 2 ^ 32 }
-    ensures text { IfOk result (λ text. text.items ≡ inclusion_text (inclusion_of index (map vec_items entries.now))) }
+    ensures text { IfOk result
+        (λ text. text.items ≡ inclusion_text (inclusion_of index (map vec_items entries.now))) }
     ensures fault { IfErr result (λ fault. fault ≡ RunFault.OutOfMemory) }
 {
     let proof = inclusion_over(alloc, index, entries)?;
@@ -82,7 +85,8 @@ fn consistency_text_over<A: Allocator + Copy>(
 ) -> Result<Vec<u8, A>, RunFault>
     requires old { old ≤ length entries.now }
     requires few { length entries.now < 2 ^ 32 }
-    ensures text { IfOk result (λ text. text.items ≡ consistency_text (consistency_of old (map vec_items entries.now))) }
+    ensures text { IfOk result
+        (λ text. text.items ≡ consistency_text (consistency_of old (map vec_items entries.now))) }
     ensures fault { IfErr result (λ fault. fault ≡ RunFault.OutOfMemory) }
 {
     let proof = consistency_over(alloc, old, entries)?;
@@ -97,7 +101,8 @@ fn inclusion_over<A: Allocator + Copy>(
 ) -> Result<InclusionProof<A>, RunFault>
     requires index { index < length entries.now }
     requires few { length entries.now < 2 ^ 32 }
-    ensures proof { IfOk result (λ p. inclusion_shown p ≡ inclusion_of index (map vec_items entries.now)) }
+    ensures proof { IfOk result
+        (λ p. inclusion_shown p ≡ inclusion_of index (map vec_items entries.now)) }
     ensures fault { IfErr result (λ fault. fault ≡ RunFault.OutOfMemory) }
 {
     let store = store_of(alloc, entries)?;
@@ -123,7 +128,8 @@ fn consistency_over<A: Allocator + Copy>(
 ) -> Result<ConsistencyProof<A>, RunFault>
     requires old { old ≤ length entries.now }
     requires few { length entries.now < 2 ^ 32 }
-    ensures proof { IfOk result (λ p. consistency_shown p ≡ consistency_of old (map vec_items entries.now)) }
+    ensures proof { IfOk result
+        (λ p. consistency_shown p ≡ consistency_of old (map vec_items entries.now)) }
     ensures fault { IfErr result (λ fault. fault ≡ RunFault.OutOfMemory) }
 {
     let store = store_of(alloc, entries)?;

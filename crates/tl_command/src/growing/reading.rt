@@ -23,8 +23,10 @@ const BLOCK: usize = 1_048_576;
 fn fill<R: Read>(reader: &mut Counted<R>, buf: &mut [u8]) -> Option<usize>
     ensures length { length buf.new ≡ length buf.old }
     ensures bound { IfSome result (λ n. n ≤ length buf.new) }
-    ensures consumed { IfSome result (λ n. Consumes (R.remaining reader.old.device) (R.remaining reader.new.device) (take n buf.new)) }
-    ensures ended { IfSome result (λ n. n < length buf.new → IsAtEnd (R.remaining reader.new.device)) }
+    ensures consumed { IfSome result (λ n.
+        Consumes (R.remaining reader.old.device) (R.remaining reader.new.device) (take n buf.new)) }
+    ensures ended { IfSome result
+        (λ n. n < length buf.new → IsAtEnd (R.remaining reader.new.device)) }
     ensures steady { OnSome result (reader.new.failed ≡ reader.old.failed) }
     ensures failed { IfNone result (reader.new.failed ≡ true) }
 {

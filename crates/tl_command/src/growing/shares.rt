@@ -68,7 +68,8 @@ impl<A: Allocator + Copy> Growing<A> {
         ensures some { 0 < length block.now → IfOk result (λ taken. 0 < taken) }
         ensures within { IfOk result (λ taken. taken ≤ length block.now) }
         ensures size { IfOk result (λ taken. self.new.edge.size ≤ self.old.edge.size + taken) }
-        ensures grows { (input : Bytes) → IsGrowing self.old input → IfOk result (λ taken. IsGrowing self.new (input ++ take taken block.now)) }
+        ensures grows { (input : Bytes) → IsGrowing self.old input
+            → IfOk result (λ taken. IsGrowing self.new (input ++ take taken block.now)) }
     {
         let start = self.before_tile(block);
         if start > 0 {
@@ -96,7 +97,8 @@ impl<A: Allocator + Copy> Growing<A> {
     ) -> Result<(), AllocError>
         requires { self.old.edge.size + length block.now < 2 ^ 32 }
         ensures size { OnOk result (self.new.edge.size ≤ self.old.edge.size + length block.now) }
-        ensures grows { (input : Bytes) → IsGrowing self.old input → OnOk result (IsGrowing self.new (input ++ block.now)) }
+        ensures grows { (input : Bytes)
+            → IsGrowing self.old input → OnOk result (IsGrowing self.new (input ++ block.now)) }
     {
         if threads <= 1 {
             return self.take(block);
@@ -144,12 +146,16 @@ fn grow<H: Threads + Sync, B: Allocator + Copy + Send>(
     let (first, second) = join(
         rt,
         move || -> Result<Growing<B>, AllocError>
-            requires { IsSend B.row × Frees B.Allocator B.dealloc_token × (length front.now < 2 ^ 32) }
-            ensures { IfOk result (λ grown. (grown.edge.size ≤ length front.entry.now) × IsGrowing grown front.entry.now) }
+            requires { IsSend B.row
+                × Frees B.Allocator B.dealloc_token × (length front.now < 2 ^ 32) }
+            ensures { IfOk result (λ grown.
+                (grown.edge.size ≤ length front.entry.now) × IsGrowing grown front.entry.now) }
         { alone(workers, front) },
         move || -> Result<Growing<B>, AllocError>
-            requires { IsSync H.row × IsSend B.row × Frees B.Allocator B.dealloc_token × (length back.now < 2 ^ 32) }
-            ensures { IfOk result (λ grown. (grown.edge.size ≤ length back.entry.now) × IsGrowing grown back.entry.now) }
+            requires { IsSync H.row
+                × IsSend B.row × Frees B.Allocator B.dealloc_token × (length back.now < 2 ^ 32) }
+            ensures { IfOk result (λ grown.
+                (grown.edge.size ≤ length back.entry.now) × IsGrowing grown back.entry.now) }
         { grow(rt, workers, back, left, others) },
     );
     let mut grown = first?;

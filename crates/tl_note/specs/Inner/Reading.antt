@@ -2,7 +2,7 @@
 use Rattle.std.specs.Prelude.{◌≡◌, ℕ, ◌<◌, ◌≤◌, List, ◌∷◌, ◌++◌, length, All}
 use Rattle.std.specs.List.{flat_map}
 use Rattle.tl_hash.specs.Bytes.{Bytes}
-use Rattle.tl_note.specs.Note.{Signature, IsSignature, signature_line, Note}
+use Rattle.tl_note.specs.Note.{Signature, IsSignature, signature_words, signature_line, Note}
 
 -- the bytes are the text, an empty line and the rest, and no other note has these bytes
 pub record CutsText (bytes text rest : Bytes) : Type 0 where
@@ -13,6 +13,10 @@ pub record CutsText (bytes text rest : Bytes) : Type 0 where
 pub record CutsLine (bytes : Bytes) (first : Signature) (rest : Bytes) : Type 0 where
   pub lawful : IsSignature first
   pub whole : bytes ≡ signature_line first ++ rest
+
+-- the text is no signature line
+abbrev pub IsNoLine : Bytes → Type 0
+IsNoLine text = (s : Signature) → IsSignature s → text ≡ signature_words s → ⊥
 
 -- the bytes begin with no signature line
 abbrev pub IsNoFirstLine : Bytes → Type 0

@@ -84,7 +84,8 @@ pub(crate) fn strings_of<A: Allocator + Copy>(
     old: &[u8],
     new: &[u8],
 ) -> Result<(Vec<u8, A>, Vec<u8, A>), AllocError>
-    ensures { IfOk result (λ strings. (strings.0.items ≡ first_string fork old.now) × (strings.1.items ≡ second_string fork new.now)) }
+    ensures { IfOk result (λ strings. (strings.0.items ≡ first_string fork old.now)
+        × (strings.1.items ≡ second_string fork new.now)) }
 {
     match fork {
         Some(fork) => Ok((

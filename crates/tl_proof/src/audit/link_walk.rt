@@ -14,7 +14,8 @@ use tl_hash::{Hash, TreeHash, entry_root, node_hash, split_point};
 
 // The walk that ends with these roots of a check, beside the root of a list.
 fn walk_of(roots: Option<(Hash, Hash)>, list: Hash) -> Option<CheckWalk>
-    ensures { result ≡ option_map (λ r. record { old = r.0; new = r.1; list = list; fork = None }) roots }
+    ensures { result ≡ option_map
+        (λ r. record { old = r.0; new = r.1; list = list; fork = None }) roots }
 {
     match roots {
         Some((old, new)) => Some(CheckWalk {
@@ -72,9 +73,9 @@ fn walk_check<T: TreeHash, B: Allocator>(
 ) -> Option<CheckWalk>
     requires some { 0 < old }
     requires most { old ≤ length list.now }
-    ensures { MatchOption result
-        (roots_from T.digest_of old (length (map vec_items list.now)) known (reverse proof.now) root ≡ None)
-        (λ walk. IsCheckWalk T.digest_of old known (reverse proof.now) root (map vec_items list.now) walk) }
+    ensures { MatchOption result (roots_from T.digest_of old
+        (length (map vec_items list.now)) known (reverse proof.now) root ≡ None) (λ walk.
+        IsCheckWalk T.digest_of old known (reverse proof.now) root (map vec_items list.now) walk) }
 {
     let n = proof.len();
     if n == 0 || old == list.len() {
@@ -108,8 +109,9 @@ pub(crate) fn fork_in_link<T: TreeHash, B: Allocator>(
     list: &[Vec<u8, B>],
 ) -> Option<Fork>
     requires { old ≤ length list.now }
-    ensures { AcceptsConsistency T.digest_of proof.now (length (map vec_items list.now)) (tree_hash T.digest_of (map vec_items list.now)) old old_root
-        → SameOrForks T.digest_of result old_root (tree_hash T.digest_of (take old (map vec_items list.now)))
+    ensures { AcceptsConsistency T.digest_of proof.now (length (map vec_items list.now))
+        (tree_hash T.digest_of (map vec_items list.now)) old old_root → SameOrForks
+        T.digest_of result old_root (tree_hash T.digest_of (take old (map vec_items list.now)))
         (fold_inputs T.digest_of old (length (map vec_items list.now)) proof.now old_root)
         (inputs T.digest_of (map vec_items list.now)) }
 {

@@ -24,8 +24,8 @@ pub(crate) fn links_lead<T: TreeHash, C: Allocator>(
     size: u64,
     root: Hash,
 ) -> bool
-    ensures { IsTrue result
-        ↔ (Linked T.digest_of old old_root (map step_of links.now) × EndsWith old old_root (map step_of links.now) size root) }
+    ensures { IsTrue result ↔ (Linked T.digest_of old old_root (map step_of links.now)
+        × EndsWith old old_root (map step_of links.now) size root) }
 {
     let mut at = old;
     let mut at_root = old_root;
@@ -64,12 +64,14 @@ fn fork_at<T: TreeHash, B: Allocator, C: Allocator>(
 ) -> Option<Fork>
     requires within { index < length links.now }
     requires linked { Linked T.digest_of old old_root (map step_of links.now) }
-    requires ends { EndsWith old old_root (map step_of links.now) (length new.now) (tree_hash T.digest_of (map vec_items new.now)) }
+    requires ends { EndsWith old old_root
+        (map step_of links.now) (length new.now) (tree_hash T.digest_of (map vec_items new.now)) }
     requires root { end_root old_root (take (index + 1) (map step_of links.now))
-        ≡ tree_hash T.digest_of (take (end_size old (take (index + 1) (map step_of links.now))) (map vec_items new.now)) }
+        ≡ tree_hash T.digest_of
+        (take (end_size old (take (index + 1) (map step_of links.now))) (map vec_items new.now)) }
     ensures { SameOrForks T.digest_of result
-        (end_root old_root (take index (map step_of links.now)))
-        (tree_hash T.digest_of (take (end_size old (take index (map step_of links.now))) (map vec_items new.now)))
+        (end_root old_root (take index (map step_of links.now))) (tree_hash T.digest_of
+        (take (end_size old (take index (map step_of links.now))) (map vec_items new.now)))
         (step_inputs T.digest_of (map vec_items new.now) old old_root (map step_of links.now))
         (step_inputs T.digest_of (map vec_items new.now) old old_root (map step_of links.now)) }
 {
@@ -95,8 +97,10 @@ pub(crate) fn fork_in_links<T: TreeHash, B: Allocator, C: Allocator>(
     new: &[Vec<u8, B>],
 ) -> Option<Fork>
     requires linked { Linked T.digest_of old old_root (map step_of links.now) }
-    requires ends { EndsWith old old_root (map step_of links.now) (length new.now) (tree_hash T.digest_of (map vec_items new.now)) }
-    ensures { SameOrForks T.digest_of result old_root (tree_hash T.digest_of (take old (map vec_items new.now)))
+    requires ends { EndsWith old old_root
+        (map step_of links.now) (length new.now) (tree_hash T.digest_of (map vec_items new.now)) }
+    ensures { SameOrForks T.digest_of result old_root
+        (tree_hash T.digest_of (take old (map vec_items new.now)))
         (step_inputs T.digest_of (map vec_items new.now) old old_root (map step_of links.now))
         (step_inputs T.digest_of (map vec_items new.now) old old_root (map step_of links.now)) }
 {

@@ -2,7 +2,7 @@
 use Rattle.std.specs.Prelude.{◌≡◌, ◌*◌, List, [], ◌∷◌, ◌++◌}
 use Rattle.tl_hash.specs.Bytes.{Bytes, Digest}
 use Rattle.tl_hash.specs.Tree.{tree_hash}
-use Rattle.tl_tile.specs.Run.{part, Run, IsRun}
+use Rattle.tl_tile.specs.Inner.Run.{part, Run, IsRun}
 
 -- the hash over all of a run, whichever run these are the hashes of, its last hash among them
 abbrev pub FoldsTo : Digest → List Bytes → Bytes → Type 0

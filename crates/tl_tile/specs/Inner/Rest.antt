@@ -3,7 +3,7 @@ use Rattle.std.specs.Prelude.{◌≡◌, ℕ, ◌*◌, ◌%◌, ◌^◌, ◌<◌
 use Rattle.tl_hash.specs.Bytes.{Bytes, Digest}
 use Rattle.tl_hash.specs.Tree.{tree_hash}
 use Rattle.tl_tile.specs.TileText.{level_count}
-use Rattle.tl_tile.specs.Run.{part}
+use Rattle.tl_tile.specs.Inner.Run.{part}
 
 -- the hash of the entries after the last hash of a level, where there are such entries
 abbrev pub IsRest : Digest → List Bytes → ℕ → Option Bytes → Type 0

@@ -61,11 +61,15 @@ impl<T: TreeHash, S: TileSource> Checker<T, S> {
         requires of { IsTileOf self.now.size tile }
         requires narrow { tile.width ≤ 256 }
         requires next { ComesNext T.digest_of self.now.size self.now.root fetched.old tile }
-        requires fetched { AreFetched (S.may_answer self.now.source) T.digest_of self.now.size self.now.root fetched.old }
-        ensures text { OnOk result ((text : Bytes) × (fetched.new ≡ fetched.old ++ (tile, text) ∷ []) × (length text ≡ 32 * tile.width)) }
+        requires fetched { AreFetched
+            (S.may_answer self.now.source) T.digest_of self.now.size self.now.root fetched.old }
+        ensures text { OnOk result ((text : Bytes)
+            × (fetched.new ≡ fetched.old ++ (tile, text) ∷ []) × (length text ≡ 32 * tile.width)) }
         ensures adds { AddsOnly tile fetched.old fetched.new }
-        ensures fetched { AreFetched (S.may_answer self.now.source) T.digest_of self.now.size self.now.root fetched.new }
-        ensures faults { IfErr result (GivesReadFault T.digest_of (λ t. S.may_lack self.now.source t × (t ≡ tile)) self.now.size self.now.root fetched.new) }
+        ensures fetched { AreFetched
+            (S.may_answer self.now.source) T.digest_of self.now.size self.now.root fetched.new }
+        ensures faults { IfErr result (GivesReadFault T.digest_of (λ t.
+            S.may_lack self.now.source t × (t ≡ tile)) self.now.size self.now.root fetched.new) }
     {
         let len = match fetched.fetch(&self.source, tile) {
             Ok(len) => len,
@@ -86,11 +90,15 @@ impl<T: TreeHash, S: TileSource> Checker<T, S> {
     ) -> Result<(), ReadFault>
         requires level { level ≤ 7 }
         requires edge { AreEdgeFrom self.now.size (level + 1) fetched.old }
-        requires fetched { AreFetched (S.may_answer self.now.source) T.digest_of self.now.size self.now.root fetched.old }
+        requires fetched { AreFetched
+            (S.may_answer self.now.source) T.digest_of self.now.size self.now.root fetched.old }
         ensures edge { OnOk result (AreEdgeFrom self.now.size level fetched.new) }
-        ensures partial { (rest : List Tile) × (edge_tiles self.now.size ≡ tiles_in fetched.new ++ rest) }
-        ensures fetched { AreFetched (S.may_answer self.now.source) T.digest_of self.now.size self.now.root fetched.new }
-        ensures faults { IfErr result (GivesReadFault T.digest_of (λ t. S.may_lack self.now.source t × IsPartialOf self.now.size t) self.now.size self.now.root fetched.new) }
+        ensures partial { (rest : List Tile)
+            × (edge_tiles self.now.size ≡ tiles_in fetched.new ++ rest) }
+        ensures fetched { AreFetched
+            (S.may_answer self.now.source) T.digest_of self.now.size self.now.root fetched.new }
+        ensures faults { IfErr result (GivesReadFault T.digest_of (λ t. S.may_lack self.now.source t
+            × IsPartialOf self.now.size t) self.now.size self.now.root fetched.new) }
     {
         let tile = partial_tile(self.size, level);
         if tile.width == 0 {
@@ -106,9 +114,12 @@ impl<T: TreeHash, S: TileSource> Checker<T, S> {
     ) -> Result<(), ReadFault>
         requires { fetched.old ≡ [] }
         ensures edge { OnOk result (AreEdgeFrom self.now.size 0 fetched.new) }
-        ensures partial { (rest : List Tile) × (edge_tiles self.now.size ≡ tiles_in fetched.new ++ rest) }
-        ensures fetched { AreFetched (S.may_answer self.now.source) T.digest_of self.now.size self.now.root fetched.new }
-        ensures faults { IfErr result (GivesReadFault T.digest_of (λ t. S.may_lack self.now.source t × IsPartialOf self.now.size t) self.now.size self.now.root fetched.new) }
+        ensures partial { (rest : List Tile)
+            × (edge_tiles self.now.size ≡ tiles_in fetched.new ++ rest) }
+        ensures fetched { AreFetched
+            (S.may_answer self.now.source) T.digest_of self.now.size self.now.root fetched.new }
+        ensures faults { IfErr result (GivesReadFault T.digest_of (λ t. S.may_lack self.now.source t
+            × IsPartialOf self.now.size t) self.now.size self.now.root fetched.new) }
     {
         for above in 0..8u32 {
             self.fetch_level(7 - above, fetched)?;
@@ -123,11 +134,16 @@ impl<T: TreeHash, S: TileSource> Checker<T, S> {
     ) -> Result<(), ReadFault>
         requires some { 0 < self.now.size }
         requires none { fetched.old ≡ [] }
-        ensures verified { OnOk result (AreVerified T.digest_of self.now.size self.now.root fetched.new) }
-        ensures no_full { OnOk result ((level index : ℕ) → tiles_of fetched.new (spec.full_tile level index) ≡ None) }
-        ensures partial { (rest : List Tile) × (edge_tiles self.now.size ≡ tiles_in fetched.new ++ rest) }
-        ensures fetched { AreFetched (S.may_answer self.now.source) T.digest_of self.now.size self.now.root fetched.new }
-        ensures faults { IfErr result (GivesReadFault T.digest_of (λ t. S.may_lack self.now.source t × IsPartialOf self.now.size t) self.now.size self.now.root fetched.new) }
+        ensures verified { OnOk result
+            (AreVerified T.digest_of self.now.size self.now.root fetched.new) }
+        ensures no_full { OnOk result
+            ((level index : ℕ) → tiles_of fetched.new (spec.full_tile level index) ≡ None) }
+        ensures partial { (rest : List Tile)
+            × (edge_tiles self.now.size ≡ tiles_in fetched.new ++ rest) }
+        ensures fetched { AreFetched
+            (S.may_answer self.now.source) T.digest_of self.now.size self.now.root fetched.new }
+        ensures faults { IfErr result (GivesReadFault T.digest_of (λ t. S.may_lack self.now.source t
+            × IsPartialOf self.now.size t) self.now.size self.now.root fetched.new) }
     {
         self.fetch_levels(fetched)?;
         let Some(root) = edge_root(self.h, fetched, self.size)? else {
@@ -191,13 +207,19 @@ impl<T: TreeHash, S: TileSource> Checker<T, S> {
         requires above { HasTileWith (tiles_of fetched.old) self.now.size (level + 1) index }
         requires verified { AreVerified T.digest_of self.now.size self.now.root fetched.old }
         requires trees { AreTreesOf T.digest_of (tiles_of fetched.old) (trees_in trees.old.map) }
-        requires fetched { AreFetched (S.may_answer self.now.source) T.digest_of self.now.size self.now.root fetched.old }
-        ensures there { OnOk result ((text : Bytes) × (tiles_of fetched.new (spec.full_tile level index) ≡ Some text)) }
-        ensures verified { OnOk result (AreVerified T.digest_of self.now.size self.now.root fetched.new) }
-        ensures trees { OnOk result (AreTreesOf T.digest_of (tiles_of fetched.new) (trees_in trees.new.map)) }
+        requires fetched { AreFetched
+            (S.may_answer self.now.source) T.digest_of self.now.size self.now.root fetched.old }
+        ensures there { OnOk result
+            ((text : Bytes) × (tiles_of fetched.new (spec.full_tile level index) ≡ Some text)) }
+        ensures verified { OnOk result
+            (AreVerified T.digest_of self.now.size self.now.root fetched.new) }
+        ensures trees { OnOk result
+            (AreTreesOf T.digest_of (tiles_of fetched.new) (trees_in trees.new.map)) }
         ensures adds { AddsOnly (spec.full_tile level index) fetched.old fetched.new }
-        ensures fetched { AreFetched (S.may_answer self.now.source) T.digest_of self.now.size self.now.root fetched.new }
-        ensures faults { IfErr result (GivesReadFault T.digest_of (λ t. S.may_lack self.now.source t × (t ≡ spec.full_tile level index)) self.now.size self.now.root fetched.new) }
+        ensures fetched { AreFetched
+            (S.may_answer self.now.source) T.digest_of self.now.size self.now.root fetched.new }
+        ensures faults { IfErr result (GivesReadFault T.digest_of (λ t. S.may_lack self.now.source t
+            × (t ≡ spec.full_tile level index)) self.now.size self.now.root fetched.new) }
     {
         let tile = full_tile(level, index);
         let own = self.hash_with(level + 1, index, fetched, trees);
@@ -254,13 +276,18 @@ impl<T: TreeHash, S: TileSource> Checker<T, S> {
         requires place { place < spec.level_count self.now.size level }
         requires verified { AreVerified T.digest_of self.now.size self.now.root fetched.old }
         requires trees { AreTreesOf T.digest_of (tiles_of fetched.old) (trees_in trees.old.map) }
-        requires fetched { AreFetched (S.may_answer self.now.source) T.digest_of self.now.size self.now.root fetched.old }
+        requires fetched { AreFetched
+            (S.may_answer self.now.source) T.digest_of self.now.size self.now.root fetched.old }
         ensures there { OnOk result (HasTileWith (tiles_of fetched.new) self.now.size level place) }
-        ensures verified { OnOk result (AreVerified T.digest_of self.now.size self.now.root fetched.new) }
-        ensures trees { OnOk result (AreTreesOf T.digest_of (tiles_of fetched.new) (trees_in trees.new.map)) }
+        ensures verified { OnOk result
+            (AreVerified T.digest_of self.now.size self.now.root fetched.new) }
+        ensures trees { OnOk result
+            (AreTreesOf T.digest_of (tiles_of fetched.new) (trees_in trees.new.map)) }
         ensures adds { AddsOver level place fetched.old fetched.new }
-        ensures fetched { AreFetched (S.may_answer self.now.source) T.digest_of self.now.size self.now.root fetched.new }
-        ensures faults { IfErr result (GivesReadFault T.digest_of (λ t. S.may_lack self.now.source t × IsOver level place t) self.now.size self.now.root fetched.new) }
+        ensures fetched { AreFetched
+            (S.may_answer self.now.source) T.digest_of self.now.size self.now.root fetched.new }
+        ensures faults { IfErr result (GivesReadFault T.digest_of (λ t. S.may_lack self.now.source t
+            × IsOver level place t) self.now.size self.now.root fetched.new) }
     {
         if self.is_there(level, place, fetched, trees) {
             return Ok(());

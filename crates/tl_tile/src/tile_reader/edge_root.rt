@@ -61,7 +61,8 @@ fn add_level<T: TreeHash, A: Allocator + Copy>(
     requires level { level ≤ 7 }
     requires edge { HasEdge (tiles_of fetched.now) size }
     requires below { IsRestHash T.digest_of (tiles_of fetched.now) size level below }
-    ensures { IfOk result (λ hash. IsRestHash T.digest_of (tiles_of fetched.now) size (level + 1) hash) }
+    ensures { IfOk result
+        (λ hash. IsRestHash T.digest_of (tiles_of fetched.now) size (level + 1) hash) }
 {
     let tile = partial_tile(size, level);
     if tile.width == 0 {

@@ -77,7 +77,8 @@ impl<A: Allocator> FetchedTiles<A> {
 
     // The text of the tile that was fetched last.
     pub(crate) fn last_text(&self) -> Option<&[u8]>
-        ensures { MatchOption result (self.now ≡ []) (λ text. (t : Tile) × IsLast t text.now self.now) }
+        ensures { MatchOption result (self.now ≡ [])
+            (λ text. (t : Tile) × IsLast t text.now self.now) }
     {
         match self.tiles.as_slice() {
             [] => None,
@@ -106,7 +107,8 @@ impl<A: Allocator + Copy> FetchedTiles<A> {
         source: &S,
         tile: Tile,
     ) -> Result<usize, SourceFault>
-        ensures text { IfOk result (λ len. (text : Bytes) × (self.new ≡ self.old ++ (tile, text) ∷ []) × S.may_answer source.now tile text × (len ≡ length text)) }
+        ensures text { IfOk result (λ len. (text : Bytes) × (self.new ≡ self.old
+            ++ (tile, text) ∷ []) × S.may_answer source.now tile text × (len ≡ length text)) }
         ensures unchanged { OnErr result (self.new ≡ self.old) }
         ensures lacks { IfErr result (λ fault. fault ≡ Unavailable → S.may_lack source.now tile) }
     {

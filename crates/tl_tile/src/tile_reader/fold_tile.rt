@@ -13,7 +13,8 @@ use tl_hash::{Hash, TreeHash, hash_four_nodes, node_hash};
 fn own_hashes<A: Allocator>(alloc: A, text: &[u8]) -> Result<Vec<Hash, A>, AllocError>
     requires { length text.now ≡ 8192 }
     ensures many { IfOk result (λ hashes. length hashes.items ≡ 256) }
-    ensures own { IfOk result (λ hashes. (number : ℕ) → number < 256 → IsHashAt text.now number (slice_index_or hashes.items number [])) }
+    ensures own { IfOk result (λ hashes. (number : ℕ)
+        → number < 256 → IsHashAt text.now number (slice_index_or hashes.items number [])) }
 {
     let mut hashes = Vec::with_capacity(alloc, 511)?;
     for number in 0..256 {

@@ -56,8 +56,10 @@ impl<T: TreeHash, S: TileSource> Checker<T, S> {
         requires count { count ≡ 2 ^ (subtree.level % 8) }
         requires verified { AreVerified T.digest_of self.now.size self.now.root fetched.now }
         requires trees { AreTreesOf T.digest_of (tiles_of fetched.now) (trees_in trees.now.map) }
-        requires there { HasTileWith (tiles_of fetched.now) self.now.size (subtree.level / 8) first }
-        ensures { IsSubtreeHash T.digest_of (tiles_of fetched.now) self.now.size subtree.level subtree.place result }
+        requires there { HasTileWith
+            (tiles_of fetched.now) self.now.size (subtree.level / 8) first }
+        ensures { IsSubtreeHash T.digest_of
+            (tiles_of fetched.now) self.now.size subtree.level subtree.place result }
     {
         let level = subtree.level / 8;
         if self.is_full(level, first) {
@@ -86,13 +88,21 @@ impl<T: TreeHash, S: TileSource> Checker<T, S> {
         requires within { IsSubtreeOf self.now.size subtree }
         requires verified { AreVerified T.digest_of self.now.size self.now.root fetched.old }
         requires trees { AreTreesOf T.digest_of (tiles_of fetched.old) (trees_in trees.old.map) }
-        requires fetched { AreFetched (S.may_answer self.now.source) T.digest_of self.now.size self.now.root fetched.old }
-        ensures verified { OnOk result (AreVerified T.digest_of self.now.size self.now.root fetched.new) }
-        ensures trees { OnOk result (AreTreesOf T.digest_of (tiles_of fetched.new) (trees_in trees.new.map)) }
-        ensures hash { IfOk result (IsSubtreeHash T.digest_of (tiles_of fetched.new) self.now.size subtree.level subtree.place) }
-        ensures adds { AddsOver (subtree.level / 8) (subtree.place * 2 ^ (subtree.level % 8)) fetched.old fetched.new }
-        ensures fetched { AreFetched (S.may_answer self.now.source) T.digest_of self.now.size self.now.root fetched.new }
-        ensures faults { IfErr result (GivesReadFault T.digest_of (λ t. S.may_lack self.now.source t × IsOver (subtree.level / 8) (subtree.place * 2 ^ (subtree.level % 8)) t) self.now.size self.now.root fetched.new) }
+        requires fetched { AreFetched
+            (S.may_answer self.now.source) T.digest_of self.now.size self.now.root fetched.old }
+        ensures verified { OnOk result
+            (AreVerified T.digest_of self.now.size self.now.root fetched.new) }
+        ensures trees { OnOk result
+            (AreTreesOf T.digest_of (tiles_of fetched.new) (trees_in trees.new.map)) }
+        ensures hash { IfOk result (IsSubtreeHash T.digest_of
+            (tiles_of fetched.new) self.now.size subtree.level subtree.place) }
+        ensures adds { AddsOver
+            (subtree.level / 8) (subtree.place * 2 ^ (subtree.level % 8)) fetched.old fetched.new }
+        ensures fetched { AreFetched
+            (S.may_answer self.now.source) T.digest_of self.now.size self.now.root fetched.new }
+        ensures faults { IfErr result (GivesReadFault T.digest_of
+            (λ t. S.may_lack self.now.source t × IsOver (subtree.level / 8)
+            (subtree.place * 2 ^ (subtree.level % 8)) t) self.now.size self.now.root fetched.new) }
     {
         let count = 2u64.pow(subtree.level % 8);
         let first = subtree.place * count;
@@ -112,12 +122,17 @@ impl<T: TreeHash, S: TileSource> Checker<T, S> {
         requires asked { 0 < length indexes.now }
         requires within { All (λ index. index < stored.stored_count self.now.size) indexes.now }
         requires none { fetched.old ≡ [] }
-        ensures authentic { IfOk result (λ hashes. AreAuthentic T.digest_of (record { size = self.now.size; root = self.now.root; indexes = indexes.now; fetched = fetched.new }) hashes.items) }
+        ensures authentic { IfOk result
+            (λ hashes. AreAuthentic T.digest_of (record { size = self.now.size; root
+            = self.now.root; indexes = indexes.now; fetched = fetched.new; }) hashes.items) }
         ensures count { IfOk result (λ hashes. length hashes.items ≡ length indexes.now) }
-        ensures verified { OnOk result (AreVerified T.digest_of self.now.size self.now.root fetched.new) }
+        ensures verified { OnOk result
+            (AreVerified T.digest_of self.now.size self.now.root fetched.new) }
         ensures needed { All (λ f. IsNeededFor self.now.size indexes.now f.0) fetched.new }
-        ensures fetched { AreFetched (S.may_answer self.now.source) T.digest_of self.now.size self.now.root fetched.new }
-        ensures faults { IfErr result (GivesReadFault T.digest_of (λ t. S.may_lack self.now.source t × IsNeededFor self.now.size indexes.now t) self.now.size self.now.root fetched.new) }
+        ensures fetched { AreFetched
+            (S.may_answer self.now.source) T.digest_of self.now.size self.now.root fetched.new }
+        ensures faults { IfErr result (GivesReadFault T.digest_of (λ t. S.may_lack self.now.source t
+            × IsNeededFor self.now.size indexes.now t) self.now.size self.now.root fetched.new) }
     {
         let mut hashes = Vec::new(alloc);
         self.fetch_edge(fetched)?;

@@ -45,7 +45,8 @@ impl<A: Allocator + Copy> TileTrees<A> {
         hashes: Vec<Hash, A>,
     ) -> Result<(), AllocError>
         ensures here { OnOk result (trees_in self.new.map level index ≡ Some hashes.items) }
-        ensures others { OnOk result ((l i : ℕ) → (l ≡ level → i ≡ index → ⊥) → trees_in self.new.map l i ≡ trees_in self.old.map l i) }
+        ensures others { OnOk result ((l i : ℕ)
+            → (l ≡ level → i ≡ index → ⊥) → trees_in self.new.map l i ≡ trees_in self.old.map l i) }
     {
         self.map.insert((level, index), hashes)?;
         Ok(())

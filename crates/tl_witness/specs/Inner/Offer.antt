@@ -1,6 +1,7 @@
 -- What a request that was read asks of its origin.
-use Rattle.std.specs.Prelude.{ℕ}
-use Rattle.tl_proof.specs.Acceptance.{step_of}
+use Rattle.std.specs.Prelude.{ℕ, []}
+use Rattle.tl_hash.specs.Bytes.{Bytes}
+use Rattle.tl_proof.specs.Acceptance.{Step, step_of}
 use Rattle.tl_witness.specs.declared.finding.Offer.{Offer}
 use Rattle.tl_witness.specs.Decide.{Asked}
 
@@ -13,3 +14,7 @@ asked_by offer time = record {
   lines = offer.note.signatures.items;
   time = time;
 }
+
+-- what is asked once the note's signatures are judged: its lines don't matter any more
+abbrev pub asked_without_lines : ℕ → Step → Bytes → ℕ → Asked
+asked_without_lines old step text time = record { old = old; step = step; text = text; lines = []; time = time }

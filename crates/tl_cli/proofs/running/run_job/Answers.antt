@@ -1,34 +1,23 @@
 use Rattle.std.proofs.Common.{refl, rules}
 use Rattle.std.proofs.KnownBytes.{Keeps-refl}
-use Rattle.tl_cli.proofs.FileRuns.{builds_demo, builds_signed, runs_head}
 use Rattle.tl_cli.proofs.running.run_job.Goals as goal
 
 pub returns-in-Head : goal.returns-in-Head
-returns-in-Head g c =
-    rw c.in-Head.is ((c.head.result, runs_head _ _ _ _ c.head.result c.head.ensures c.deref.ensures, c.after_run.ensures), search rules)
+returns-in-Head g c = rw c.in-Head.is ((c.head.result, c.head.ensures, c.after_run.ensures), search rules)
 
 pub returns-in-Build : goal.returns-in-Build
-returns-in-Build g c =
-    rw c.in-Build.is (
-      (
-        c.build.result,
-        builds_demo _ _ _ _ _ _ _ _ c.build.result c.build.ensures c.deref-in-Build.ensures c.deref-in-Build-2.ensures (search rules),
-        c.after_run-in-Build.ensures,
-      ),
-      search rules,
-    )
+returns-in-Build g c = rw c.in-Build.is ((c.build.result, c.build.ensures, c.after_run-in-Build.ensures), search rules)
 
 pub returns-in-BuildSigned : goal.returns-in-BuildSigned
 returns-in-BuildSigned g c =
-    rw c.in-BuildSigned.is
-    ((c.build_signed.result, builds_signed _ _ _ _ _ _ c.build_signed.result c.build_signed.ensures c.deref-in-BuildSigned.ensures (search rules), search rules), search rules)
+    rw c.in-BuildSigned.is ((c.build_signed.result, c.build_signed.ensures, c.after_run-in-BuildSigned.ensures), search rules)
 
 pub returns-in-Append : goal.returns-in-Append
 returns-in-Append g c = rw c.in-Append.is ((c.append.result, c.append.ensures, search rules), search rules)
 
 pub returns-in-CheckUnder : goal.returns-in-CheckUnder
 returns-in-CheckUnder g c =
-    rw c.in-CheckUnder.is ((c.check_as_asked.result, c.check_as_asked.ensures, c.after_run-in-CheckUnder.ensures), search rules)
+    rw c.in-CheckUnder.is ((c.check_under.result, c.check_under.ensures, c.after_run-in-CheckUnder.ensures), search rules)
 
 pub returns-in-Fetch : goal.returns-in-Fetch
 returns-in-Fetch g c = rw c.in-Fetch.is

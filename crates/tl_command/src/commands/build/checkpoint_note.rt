@@ -20,7 +20,8 @@ pub(crate) fn checkpoint_note_of<K: LogSigner, A: Allocator + Copy>(
 ) -> Result<String<A>, RunFault>
     requires origin { IsKeyName (K.log_key key.now).name }
     requires few { length entries.now < 2 ^ 32 }
-    ensures note { IfOk result (λ note. string_bytes note ≡ checkpoint_note (K.log_key key.now) (map vec_items entries.now)) }
+    ensures note { IfOk result (λ note.
+        string_bytes note ≡ checkpoint_note (K.log_key key.now) (map vec_items entries.now)) }
     ensures fault { IfErr result (λ fault. fault ≡ RunFault.OutOfMemory) }
 {
     let root = entry_root(Sha256Tree, entries);

@@ -56,7 +56,8 @@ fn push_line<A: Allocator + Copy>(
     count: usize,
 ) -> Result<(), AllocError>
     requires { IsResource resource.now }
-    ensures { OnOk result (string_bytes out.new ≡ string_bytes out.old ++ line (path_text resource.now ++ 32 ∷ number_text count)) }
+    ensures { OnOk result (string_bytes out.new
+        ≡ string_bytes out.old ++ line (path_text resource.now ++ 32 ∷ number_text count)) }
 {
     out.push_str(path_of(alloc, resource)?.as_str())?;
     out.push_str(" ")?;
@@ -75,7 +76,8 @@ pub(crate) fn listing_of<A: Allocator + Copy>(
     requires served { All (Contains (mirrored (length entries.now))) resources.now }
     requires few { length entries.now < 2 ^ 32 }
     requires short { AreShortEntries (map vec_items entries.now) }
-    ensures { IfOk result (λ text. string_bytes text ≡ listing_text note.now (map vec_items entries.now) resources.now) }
+    ensures { IfOk result (λ text.
+        string_bytes text ≡ listing_text note.now (map vec_items entries.now) resources.now) }
 {
     let mut out = String::new(alloc);
     for resource in resources {

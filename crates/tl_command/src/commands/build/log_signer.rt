@@ -28,7 +28,8 @@ pub trait LogSigner {
         global: Global,
         text: &str,
     ) -> Result<String<A>, AllocError>
-        ensures { IfOk result (λ line. string_bytes line ≡ signature_line ((log_key self.now).signature text.now)) };
+        ensures { IfOk result
+            (λ line. string_bytes line ≡ signature_line ((log_key self.now).signature text.now)) };
 }
 
 /// The demonstration key of an origin and a secret, made anew for each signature.

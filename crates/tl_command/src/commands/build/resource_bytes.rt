@@ -33,7 +33,8 @@ pub(crate) fn tile_of<A: Allocator>(
     requires lawful { IsTile tile }
     requires within { end_of tile ≤ length entries.now }
     requires few { length entries.now < 2 ^ 32 }
-    ensures { IfOk result (λ bytes. bytes.items ≡ tile_text sha256 tile (map vec_items entries.now)) }
+    ensures { IfOk result
+        (λ bytes. bytes.items ≡ tile_text sha256 tile (map vec_items entries.now)) }
 {
     let mut bytes = Vec::new(alloc);
     for i in 0..tile.width {
@@ -48,7 +49,8 @@ pub(crate) fn bundled<A: Allocator>(index: u64, width: u32, entries: &[Vec<u8, A
     requires within { index * 256 + width ≤ length entries.now }
     requires few { length entries.now < 2 ^ 32 }
     ensures count { length result.now ≡ width }
-    ensures entries { map vec_items result.now ≡ take width (drop (index * 256) (map vec_items entries.now)) }
+    ensures entries { map vec_items result.now
+        ≡ take width (drop (index * 256) (map vec_items entries.now)) }
 {
     let start = index as usize * 256;
     &entries[start..start + width as usize]
@@ -77,7 +79,8 @@ pub(crate) fn bundle_of<A: Allocator + Copy>(
     requires within { index * 256 + width ≤ length entries.now }
     requires few { length entries.now < 2 ^ 32 }
     requires short { AreShortEntries (map vec_items entries.now) }
-    ensures text { IfOk result (λ bytes. bytes.items ≡ bundle_text (take width (drop (index * 256) (map vec_items entries.now)))) }
+    ensures text { IfOk result (λ bytes.
+        bytes.items ≡ bundle_text (take width (drop (index * 256) (map vec_items entries.now)))) }
     ensures fault { IfErr result (λ fault. fault ≡ RunFault.OutOfMemory) }
 {
     match write_bundle(alloc, bundled(index, width, entries)) {

@@ -13,6 +13,17 @@ use std::io::{Read, Write};
 use tl_device::Counted;
 use tl_key::Note;
 
+/// The options of `build` with a private key.
+#[derive(Debug, Drop)]
+pub struct SignedOptions {
+    /// The name of the log and of the key.
+    pub origin: String,
+    /// The file with the key.
+    pub key: String,
+    /// The path of the one resource to print; without it, the listing of all of them.
+    pub get: Option<String>,
+}
+
 /// `build`, signed by the private key whose text the bytes are (`tl_key::read_signer_key`), with a newline after it or
 /// without: a key of notes, whose name is the origin. Bytes of no such key are `BadKey`, a key of another name is
 /// `BadOrigin`, both before anything is read.
@@ -25,7 +36,8 @@ pub fn run_build_signed<A: Allocator + Copy, R: Read, W: Write>(
     reader: &mut Counted<R>,
     writer: &mut Counted<W>,
 ) -> Result<(), RunFault>
-    ensures { RunsSigned origin.now bytes.now (option_map (λ path. path.now) get.entry) (passage R.remaining reader.old reader.new) (passage W.contents writer.old writer.new) result }
+    ensures { RunsSigned origin.now bytes.now (option_map (λ path. path.now) get.entry) (passage
+        R.remaining reader.old reader.new) (passage W.contents writer.old writer.new) result }
 {
     let key = match read_private_key::<Note>(global, bytes) {
         Ok(key) => key,

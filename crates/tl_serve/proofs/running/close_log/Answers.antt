@@ -6,18 +6,18 @@ use Rattle.tl_serve.proofs.running.close_log.Goals as goal
 
 pub end_lane-requires-clause-end : goal.end_lane-requires-clause-end
 end_lane-requires-clause-end g c =
-    let left = subst (All (λ e. IsEndOf e (g.O.Shown.shown c.args.operator).log)) c.in-Some.ensures.steps.0 c.loop-ended.invariant.1 in
-    end_stays c.in-Some.ended (g.O.Shown.shown c.args.operator).log (g.O.Shown.shown c.loop-ended.operator).log c.loop-ended.invariant.0.rings
-    (All-head (λ e. IsEndOf e (g.O.Shown.shown c.args.operator).log) c.in-Some.ended c.next.new.self.rest.items left)
+    let left = subst (All (λ e. IsEndOf e (g.O.RunningLog.state c.args.operator).log)) c.in-Some.ensures.steps.0 c.loop-ended.invariant.1 in
+    end_stays c.in-Some.ended (g.O.RunningLog.state c.args.operator).log (g.O.RunningLog.state c.loop-ended.operator).log c.loop-ended.invariant.0.rings
+    (All-head (λ e. IsEndOf e (g.O.RunningLog.state c.args.operator).log) c.in-Some.ended c.next.new.self.rest.items left)
 
 pub loop-ended-preserved : goal.loop-ended-preserved
 loop-ended-preserved g c =
     let step = ap length c.in-Some.ensures.steps.0 in
-    let left = subst (All (λ e. IsEndOf e (g.O.Shown.shown c.args.operator).log)) c.in-Some.ensures.steps.0 c.loop-ended.invariant.1 in (
+    let left = subst (All (λ e. IsEndOf e (g.O.RunningLog.state c.args.operator).log)) c.in-Some.ensures.steps.0 c.loop-ended.invariant.1 in (
       record {
         operating = c.end_lane.ensures.operating;
         rings = c.end_lane.ensures.rings ∙ c.loop-ended.invariant.0.rings;
       },
-      All-tail (λ e. IsEndOf e (g.O.Shown.shown c.args.operator).log) c.in-Some.ended c.next.new.self.rest.items left,
+      All-tail (λ e. IsEndOf e (g.O.RunningLog.state c.args.operator).log) c.in-Some.ended c.next.new.self.rest.items left,
       omega (arith, step, c.in-Some.ensures.steps.1, c.loop-ended.invariant.2),
     )

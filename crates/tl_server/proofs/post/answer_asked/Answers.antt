@@ -3,7 +3,7 @@ use Rattle.std.specs.Prelude.{codes}
 use Rattle.tl_server.specs.Answer.{bare, not_allowed}
 use Rattle.tl_server.specs.Head.{HasBody}
 use Rattle.tl_server.specs.Witness.{reply_answer}
-use Rattle.tl_server.specs.declared.asked.Asked.TheVariants.{NotFound, OtherMethod, Unsized, TooLarge, Decision}
+use Rattle.tl_server.specs.declared.asked.Target.TheVariants.{NotFound, OtherMethod, Unsized, TooLarge, Decision}
 use Rattle.tl_server.proofs.WitnessLemmas.{answers_as, body_stays, head_serves, no_body, rest_serves}
 use Rattle.tl_server.proofs.post.answer_asked.Goals as goal
 

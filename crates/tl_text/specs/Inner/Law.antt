@@ -1,4 +1,4 @@
--- That texts have one reading.
+-- The laws by a name, for proofs.
 use Rattle.std.specs.Prelude.{◌≡◌, ℕ, List, All}
 use Rattle.std.specs.List.{flat_map}
 use Rattle.base64.specs.GeneralPurpose.{IsBytes}

@@ -1,4 +1,4 @@
--- What holds of the definitions of checkpoints alone (C2SP tlog-checkpoint, "Note text").
+-- The laws by a name, for proofs.
 use Rattle.std.specs.Prelude.{◌≡◌, IsUtf8}
 use Rattle.tl_note.specs.Note.{IsNoteText}
 use Rattle.tl_checkpoint.specs.Checkpoint.{Head, IsHead, checkpoint_text}

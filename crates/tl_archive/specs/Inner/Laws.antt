@@ -1,4 +1,4 @@
--- What holds of a shelf by these definitions alone.
+-- The laws by a name, for proofs.
 use Rattle.std.specs.Prelude.{◌≡◌, List, ◌++◌, length, Contains}
 use Rattle.tl_hash.specs.Bytes.{Bytes, Digest}
 use Rattle.tl_tile.specs.declared.resource.Resource.{Resource}

@@ -1,4 +1,4 @@
--- What holds of the texts of keys alone.
+-- The laws by a name, for proofs.
 use Rattle.std.specs.Prelude.{◌≡◌, ℕ}
 use Rattle.tl_hash.specs.Bytes.{Bytes}
 use Rattle.tl_key.specs.NoteKey.{PublicKey, SeedKey}

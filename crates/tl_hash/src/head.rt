@@ -1,0 +1,10 @@
+//! Tree heads.
+
+use crate::hash::Hash;
+
+/// A size of a log, and the Merkle tree hash of its first so many entries (RFC 6962, section 2.1).
+#[derive(Clone, Copy, Debug, PartialEq, Eq)]
+pub struct Head {
+    pub size: u64,
+    pub root: Hash,
+}

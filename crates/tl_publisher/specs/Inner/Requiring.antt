@@ -1,0 +1,9 @@
+-- Witnesses that can be required.
+use Rattle.tl_checkpoint.specs.Quorum.{AreApart}
+use Rattle.tl_publisher.specs.Signed.{Quorum}
+use Rattle.tl_publisher.specs.Operating.{Operated}
+use Rattle.tl_publisher.specs.Proposing.{IsEarly, MayNeed}
+
+-- nothing refuses them
+abbrev pub MayRequire : {A : Type 0} → Operated A → Quorum → Type 0
+MayRequire o q = IsEarly o × MayNeed o q × AreApart q.witnesses

@@ -1,0 +1,18 @@
+-- The keys of a log, of two kinds.
+use Rattle.tl_note.specs.Key.{Key, SigningKey}
+use Rattle.tl_key.specs.DemoKey.{demo_signing_key, demo_verifier_key}
+use Rattle.tl_key.specs.NoteKey.{signer_key, verifier_key}
+use Rattle.tl_serve.specs.declared.log_keys.LogSigningKey.{LogSigningKey}
+use Rattle.tl_serve.specs.declared.log_keys.LogSigningKey.TheVariants as signing
+use Rattle.tl_serve.specs.declared.log_keys.LogOpeningKey.{LogOpeningKey}
+use Rattle.tl_serve.specs.declared.log_keys.LogOpeningKey.TheVariants as opening
+
+-- what it signs
+abbrev pub signing_key_of : LogSigningKey → SigningKey
+signing_key_of (signing.Demonstration k) = demo_signing_key k
+signing_key_of (signing.Private k) = signer_key k
+
+-- what it opens
+abbrev pub opening_key_of : LogOpeningKey → Key
+opening_key_of (opening.Demonstration k) = demo_verifier_key k
+opening_key_of (opening.Public k) = verifier_key k
