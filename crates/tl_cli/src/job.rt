@@ -5,7 +5,7 @@ use tl_fetch::FetchOptions;
 use tl_serve::{AppendOptions, ServeOptions, WitnessOptions};
 
 /// A command of the program, with its options.
-#[derive(Debug, Drop)]
+#[derive(Drop)]
 pub enum Job {
     /// Print the checkpoint of the log of the lines of standard input.
     Head(HeadOptions),

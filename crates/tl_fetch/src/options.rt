@@ -14,7 +14,7 @@ pub enum FetchRequest {
 }
 
 /// The options of `fetch`.
-#[derive(Debug, Drop)]
+#[derive(Drop)]
 pub struct FetchOptions {
     /// The folder of the log, or its address, which begins with `http://`.
     pub from: String,

@@ -9,9 +9,8 @@ ghost use Rattle.tl_publisher.specs.Proposing.{Attaches};
 
 use crate::fault::AttachFault;
 use crate::noting::text_of;
-use crate::operator::Operator;
+use crate::operator::{Operator, RunningLog};
 use crate::published::Published;
-use crate::running_log::RunningLog;
 use std::alloc::{AllocError, Global};
 use std::sync::Wait;
 use tl_checkpoint::{Cosigned, cosignatures_by};
@@ -64,7 +63,7 @@ impl<R: Wait + Drop> Operator<R> {
     }
 
     // Publishes what was proposed, where these are the lines of enough witnesses.
-    pub(crate) fn attach_lines(&mut self, lines: &str) -> Result<Published, AttachFault>
+    fn attach_lines(&mut self, lines: &str) -> Result<Published, AttachFault>
         requires { IsOperating (⟦<Operator<R> as RunningLog>⟧.state self.old) }
         ensures keys { IsOfSame (⟦<Operator<R> as RunningLog>⟧.state self.old)
             (⟦<Operator<R> as RunningLog>⟧.state self.new) }
@@ -78,5 +77,21 @@ impl<R: Wait + Drop> Operator<R> {
         let published = self.run.show(whole)?;
         self.proposal = None;
         Ok(published)
+    }
+
+    /// Publishes what was proposed in one step, once enough witnesses have cosigned it: its checkpoint has the signers'
+    /// lines and then the first valid line of each witness, in the order of these lines, which are what witnesses
+    /// answer (C2SP tlog-witness). All other lines are left out. Entries taken since then wait. `TooFew`: so many
+    /// witnesses have a valid line. A call that is refused keeps the proposal. It waits until no reader looks at what
+    /// is replaced.
+    pub fn attach(&mut self, lines: &str) -> Result<Published, AttachFault>
+        requires { IsOperating (⟦<Operator<R> as RunningLog>⟧.state self.old) }
+        ensures operating { IsOperating (⟦<Operator<R> as RunningLog>⟧.state self.new) }
+        ensures keys { IsOfSame (⟦<Operator<R> as RunningLog>⟧.state self.old)
+            (⟦<Operator<R> as RunningLog>⟧.state self.new) }
+        ensures attached { Attaches lines.now (⟦<Operator<R> as RunningLog>⟧.state self.old)
+            (⟦<Operator<R> as RunningLog>⟧.state self.new) result }
+    {
+        self.attach_lines(lines)
     }
 }

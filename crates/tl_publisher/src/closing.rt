@@ -9,8 +9,7 @@ ghost use Rattle.tl_sequencer.specs.Steps.{IsFirstOpen};
 
 use crate::board_writer::BoardWriter;
 use crate::fault::GetFault;
-use crate::operator::Operator;
-use crate::running_log::RunningLog;
+use crate::operator::{Operator, RunningLog};
 use std::alloc::{Allocator, Global};
 use std::marker::Model;
 use std::sync::Wait;

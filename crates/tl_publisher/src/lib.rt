@@ -30,15 +30,13 @@ mod reader;
 mod resuming;
 mod rule;
 mod run;
-mod running_log;
 mod text;
 
 pub use closing::{Board, OperatorBack};
 pub use fault::{AttachFault, GetFault, OperatorFault, PublishFault, RequireFault, ResumeFault};
 pub use law::{change_makes_next, stored_is_lawful};
-pub use operator::{OpenedLog, Operator};
+pub use operator::{OpenedLog, Operator, RunningLog};
 pub use proposing::{Proposal, RequireBack};
 pub use published::Published;
 pub use reader::BoardReader;
-pub use running_log::RunningLog;
 pub use tl_hash::Head;

@@ -12,10 +12,9 @@ ghost use Rattle.tl_text.specs.Text.{IsOneLine};
 
 use crate::fault::OperatorFault;
 use crate::growth::Growth;
-use crate::operator::{OpenedLog, Operator};
+use crate::operator::{OpenedLog, Operator, RunningLog};
 use crate::reader::BoardReader;
 use crate::run::Run;
-use crate::running_log::RunningLog;
 use std::alloc::Global;
 use std::sync::Wait;
 use tl_note::{Signer, first_bad_name};

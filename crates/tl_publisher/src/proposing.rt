@@ -1,13 +1,15 @@
 //! Who must cosign a checkpoint before it is shown, and what is proposed to them.
 
-ghost use Rattle.std.specs.Prelude.{◌≡◌, ◌↔◌, IfErr, IfOk, IsTrue, MatchOption, map};
+ghost use Rattle.std.specs.Prelude.{◌≡◌, ◌↔◌, IfErr, IfOk, IsTrue, MatchOption, map, string_bytes};
 ghost use Rattle.tl_publisher.specs.Inner.Requiring.{MayRequire};
-ghost use Rattle.tl_publisher.specs.Operating.{IsOperating};
-ghost use Rattle.tl_publisher.specs.Proposing.{IsRequired, MayNeed, RequireRefuses};
+ghost use Rattle.tl_publisher.specs.Operating.{IsOfSame, IsOperating};
+ghost use Rattle.tl_publisher.specs.Proposing.{IsProposed, IsRequired, MayNeed};
+ghost use Rattle.tl_publisher.specs.Proposing.{ProposeRefuses, RequireRefuses};
+ghost use Rattle.tl_publisher.specs.Publishing.{IsSame};
 
-use crate::fault::RequireFault;
-use crate::operator::Operator;
-use crate::running_log::RunningLog;
+use crate::fault::{PublishFault, RequireFault};
+use crate::noting::note_of;
+use crate::operator::{Operator, RunningLog};
 use std::sync::Wait;
 use tl_checkpoint::have_distinct_names;
 use tl_note::{MOST_LINES, Verifier};
@@ -87,5 +89,42 @@ impl<R: Wait + Drop> Operator<R> {
         self.witnesses = witnesses;
         self.need = need;
         Ok(())
+    }
+
+    /// Signs the checkpoint of the log as it is, for the witnesses, and keeps it as what is proposed, in place of what
+    /// was before. Nothing is shown yet. `Quorum`: no witness is required. `NothingNew`: the last publication is of the
+    /// whole log. `Sign`: a signer gave no signature. A call that is refused changes nothing, and what was proposed
+    /// before stays. It doesn't wait.
+    pub fn propose(&mut self) -> Result<Proposal, PublishFault>
+        requires { IsOperating (⟦<Operator<R> as RunningLog>⟧.state self.old) }
+        ensures operating { IsOperating (⟦<Operator<R> as RunningLog>⟧.state self.new) }
+        ensures keys { IsOfSame (⟦<Operator<R> as RunningLog>⟧.state self.old)
+            (⟦<Operator<R> as RunningLog>⟧.state self.new) }
+        ensures proposed { IfOk result
+            (λ p. IsProposed (⟦<Operator<R> as RunningLog>⟧.state self.old)
+            (⟦<Operator<R> as RunningLog>⟧.state self.new) p.size (string_bytes p.note)) }
+        ensures same { IfErr result (λ _. IsSame (⟦<Operator<R> as RunningLog>⟧.state self.old)
+            (⟦<Operator<R> as RunningLog>⟧.state self.new)) }
+        ensures why { IfErr result
+            (λ fault. ProposeRefuses (⟦<Operator<R> as RunningLog>⟧.state self.old) fault) }
+    {
+        if self.need == 0 {
+            return Err(PublishFault::Quorum);
+        }
+        if self.run.is_published() {
+            return Err(PublishFault::NothingNew);
+        }
+        let next = self.run.next()?;
+        let note = note_of(
+            self.alloc,
+            self.origin.as_str(),
+            self.signers.as_slice(),
+            next.head(),
+        )?;
+        let copy = String::from_str(self.alloc, note.as_str())?;
+        let size = next.size();
+        self.run.adopt(next)?;
+        self.proposal = Some(note);
+        Ok(Proposal { size, note: copy })
     }
 }

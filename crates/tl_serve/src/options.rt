@@ -1,7 +1,7 @@
 //! Options of the commands `append`, `serve` and `witness`.
 
 /// By which key a log is signed.
-#[derive(Debug, Drop)]
+#[derive(Drop)]
 pub enum LogKey {
     /// The demonstration key of the log's name and this secret.
     Secret(String),
@@ -10,7 +10,7 @@ pub enum LogKey {
 }
 
 /// The options of `append`, and of `build` into a folder.
-#[derive(Debug, Drop)]
+#[derive(Drop)]
 pub struct AppendOptions {
     /// The folder of the log.
     pub dir: String,
@@ -25,7 +25,7 @@ pub struct AppendOptions {
 }
 
 /// By which key a witness knows a log.
-#[derive(Debug, Drop)]
+#[derive(Drop)]
 pub enum LogVerifierKey {
     /// The demonstration key of the log's name and this secret.
     Secret(String),
@@ -34,7 +34,7 @@ pub enum LogVerifierKey {
 }
 
 /// By which key a witness cosigns.
-#[derive(Debug, Drop)]
+#[derive(Drop)]
 pub enum WitnessSignerKey {
     /// The demonstration key of this name and this secret.
     Secret(String, String),
@@ -43,7 +43,7 @@ pub enum WitnessSignerKey {
 }
 
 /// What is common to the servers.
-#[derive(Debug, Drop)]
+#[derive(Drop)]
 pub struct ListenOptions {
     /// The address to listen at, an IP address or a host's name, and a port.
     pub listen: String,
@@ -58,7 +58,7 @@ pub struct ListenOptions {
 }
 
 /// The options of `serve`.
-#[derive(Debug, Drop)]
+#[derive(Drop)]
 pub struct ServeOptions {
     /// The name of the log, a key's name.
     pub origin: String,
@@ -81,7 +81,7 @@ pub struct ServeOptions {
 }
 
 /// The options of `witness`.
-#[derive(Debug, Drop)]
+#[derive(Drop)]
 pub struct WitnessOptions {
     /// The name of the log, a key's name.
     pub origin: String,

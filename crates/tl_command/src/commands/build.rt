@@ -29,7 +29,7 @@ use tl_note::is_key_name;
 use tl_tile::{Resource, parse_path};
 
 /// The options of `build` with a demonstration key.
-#[derive(Debug, Drop)]
+#[derive(Drop)]
 pub struct BuildOptions {
     /// The name of the log, a key's name.
     pub origin: String,

@@ -20,7 +20,7 @@ use tl_device::Counted;
 use tl_note::{NoteFault, Verifier};
 
 /// The options of `check` against a signed checkpoint.
-#[derive(Debug, Drop)]
+#[derive(Drop)]
 pub struct CheckOptions {
     /// The file with the checkpoint.
     pub checkpoint: String,

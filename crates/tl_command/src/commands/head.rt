@@ -19,7 +19,7 @@ use tl_hash::Hash;
 use tl_text::is_one_line;
 
 /// The options of `head`.
-#[derive(Debug, Drop)]
+#[derive(Drop)]
 pub struct HeadOptions {
     /// The name of the log.
     pub origin: String,

@@ -17,7 +17,7 @@ use tl_device::Counted;
 use tl_key::{KeyFault, KeyKind, SignerKey, write_signer_key, write_verifier_key};
 
 /// The options of `keygen`.
-#[derive(Debug, Drop)]
+#[derive(Drop)]
 pub struct KeygenOptions {
     /// The key's name.
     pub name: String,

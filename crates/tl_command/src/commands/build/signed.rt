@@ -14,7 +14,7 @@ use tl_device::Counted;
 use tl_key::Note;
 
 /// The options of `build` with a private key.
-#[derive(Debug, Drop)]
+#[derive(Drop)]
 pub struct SignedOptions {
     /// The name of the log and of the key.
     pub origin: String,

@@ -3,7 +3,7 @@ use Rattle.std.specs.Prelude.{option_map}
 use Rattle.std.proofs.lemmas.Result.{IfErr-weaker}
 use Rattle.tl_publisher.specs.Running.{Running}
 use Rattle.tl_publisher.proofs.Operations.{operating_takes}
-use Rattle.tl_publisher.proofs.operator.OperatorRunningLog.take.Goals as goal
+use Rattle.tl_publisher.proofs.operator.Operator.take.Goals as goal
 
 pub returns-clause-operating : goal.returns-clause-operating
 returns-clause-operating g c =

@@ -8,7 +8,7 @@ use Rattle.tl_publisher.specs.Inner.Noting.{NotesHead}
 use Rattle.tl_publisher.specs.Proposing.{ProposeRefuses}
 use Rattle.tl_publisher.proofs.Proposals.{sign_refuses, proposed_of, operating_proposes}
 use Rattle.tl_publisher.proofs.Resumptions.{err_passes}
-use Rattle.tl_publisher.proofs.operator.OperatorRunningLog.propose.Goals as goal
+use Rattle.tl_publisher.proofs.operator.Operator.propose.Goals as goal
 
 pub note_of-requires-clause-signers : goal.note_of-requires-clause-signers
 note_of-requires-clause-signers g c = rw c.as_slice.ensures.value c.requires.signers
