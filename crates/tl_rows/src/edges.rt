@@ -1,6 +1,8 @@
 //! Rows of the right edge of a log.
 
-use crate::words::{Answer, entries_of, in_hex, number_of, shown_bytes, unknown, words_of};
+ghost use Rattle.std.specs.Prelude.{◌≤◌};
+
+use crate::words::{Told, Words, entries_of, number_of, put_bytes, put_hash, unknown};
 use std::alloc::{AllocError, Global};
 use tl_hash::{Sha256Tree, leaf_hash};
 use tl_testing::vectors::numbered;
@@ -11,63 +13,68 @@ type RightEdge = Edge<Sha256Tree, Global>;
 // More entries than any row has.
 const MOST: u64 = 100_000;
 
-// Adds full tiles to a text, each with the size of the log, its length and the leaf hash of its bytes.
-fn push_tiles(
-    alloc: Global,
-    text: &mut String,
-    size: u64,
-    tiles: &[(Tile, Vec<u8>)],
-) -> Result<(), AllocError> {
+// Writes a full tile, with the size of the log, its length and the leaf hash of its bytes.
+fn put_tile(out: &mut String, size: u64, tile: &Tile, bytes: &[u8]) -> Told {
+    write!(out, "at {size} {tile:?} {} ", bytes.len())?;
+    put_hash(out, leaf_hash(Sha256Tree, bytes))?;
+    out.push('\n')
+}
+
+// Writes full tiles.
+fn put_tiles(out: &mut String, size: u64, tiles: &[(Tile, Vec<u8>)]) -> Told {
     for (tile, bytes) in tiles {
-        let hash = leaf_hash(Sha256Tree, bytes.as_slice());
-        let hash = in_hex(alloc, hash.as_bytes().as_slice())?;
-        let length = bytes.len();
-        text.push_str(format!(in alloc; "at {size} {tile:?} {length} {hash}\n")?.as_str())?;
+        put_tile(out, size, tile, bytes.as_slice())?;
     }
     Ok(())
 }
 
-// The partial tiles of an edge, its size and its root.
-fn shown(alloc: Global, edge: &RightEdge) -> Answer {
-    let mut text = String::new(alloc);
-    for level in 0..8u32 {
-        if let Some((tile, bytes)) = edge.partial(level)? {
-            let bytes = shown_bytes(alloc, bytes.as_slice())?;
-            text.push_str(format!(in alloc; "partial {tile:?} {bytes}\n")?.as_str())?;
-        }
+// Writes the partial tile of a level, if there is one.
+fn put_partial(out: &mut String, edge: &RightEdge, level: u32) -> Told
+    requires { level ≤ 7 }
+{
+    if let Some((tile, bytes)) = edge.partial(level)? {
+        write!(out, "partial {tile:?} ")?;
+        put_bytes(out, bytes.as_slice())?;
+        out.push('\n')?;
     }
-    let root = in_hex(alloc, edge.root().as_bytes().as_slice())?;
-    format!(in alloc; "{text}{} {root}", edge.size())
+    Ok(())
+}
+
+// Writes the partial tiles of an edge, its size and its root.
+fn put_edge(out: &mut String, edge: &RightEdge) -> Told {
+    for level in 0..8u32 {
+        put_partial(out, edge, level)?;
+    }
+    write!(out, "{} ", edge.size())?;
+    put_hash(out, edge.root())
+}
+
+// Adds an entry to an edge, and writes the full tiles that it fills.
+fn add(edge: &mut RightEdge, entry: &[u8], out: &mut String) -> Told {
+    if edge.size() < MOST {
+        let tiles = edge.append(entry)?;
+        put_tiles(out, edge.size(), tiles.as_slice())?;
+    }
+    Ok(())
 }
 
 // The full tiles that entries fill one after another, and the edge in the end.
-fn singly(alloc: Global, word: &str) -> Answer {
+fn singly(alloc: Global, word: &str, out: &mut String) -> Told {
     let mut edge = Edge::new(alloc, Sha256Tree);
-    let mut text = String::new(alloc);
     for entry in &entries_of(alloc, word)? {
-        if edge.size() < MOST {
-            let tiles = edge.append(entry.as_slice())?;
-            push_tiles(alloc, &mut text, edge.size(), tiles.as_slice())?;
-        }
+        add(&mut edge, entry.as_slice(), out)?;
     }
-    text.push_str(shown(alloc, &edge)?.as_str())?;
-    Ok(text)
+    put_edge(out, &edge)
 }
 
-// The same of batches, each of so many of the numbers from 0 up, with the edge after each.
-fn batches(alloc: Global, counts: &str) -> Answer {
-    let mut edge = Edge::new(alloc, Sha256Tree);
-    let mut text = String::from_str(alloc, "batches")?;
-    for count in counts.split(',') {
-        let entries = numbered(alloc, (number_of(count) % 100_000) as u32)?;
-        text.push('\n')?;
-        if edge.size() < MOST && entries.len() < 100_000 {
-            let tiles = edge.append_all(entries.as_slice())?;
-            push_tiles(alloc, &mut text, edge.size(), tiles.as_slice())?;
-        }
-        text.push_str(shown(alloc, &edge)?.as_str())?;
+// Adds so many of the numbers from 0 up to an edge, and writes the full tiles that they fill.
+fn add_batch(alloc: Global, edge: &mut RightEdge, count: u64, out: &mut String) -> Told {
+    let entries = numbered(alloc, (count % 100_000) as u32)?;
+    if edge.size() < MOST && entries.len() < 100_000 {
+        let tiles = edge.append_all(entries.as_slice())?;
+        put_tiles(out, edge.size(), tiles.as_slice())?;
     }
-    Ok(text)
+    Ok(())
 }
 
 // The edge of so many of the numbers from 0 up, put in one by one.
@@ -81,28 +88,38 @@ fn edge_of(alloc: Global, count: u64) -> Result<RightEdge, AllocError> {
     Ok(edge)
 }
 
-// An edge after each of others that are put behind it, each of so many full tiles.
-fn joined(alloc: Global, counts: &str) -> Answer {
-    let mut edge = Edge::new(alloc, Sha256Tree);
-    let mut text = String::from_str(alloc, "joined")?;
-    for count in counts.split(',') {
-        let next = edge_of(alloc, number_of(count).saturating_mul(256))?;
-        let are_whole = edge.size() % 256 == 0 && next.size() % 256 == 0;
-        if are_whole && edge.size() < 4 * MOST && next.size() < 65_536 {
-            edge.append_edge(&next)?;
-        }
-        text.push('\n')?;
-        text.push_str(shown(alloc, &edge)?.as_str())?;
+// Puts the edge of so many full tiles behind another.
+fn join(alloc: Global, edge: &mut RightEdge, count: u64) -> Told {
+    let next = edge_of(alloc, count.saturating_mul(256))?;
+    let are_whole = edge.size() % 256 == 0 && next.size() % 256 == 0;
+    if are_whole && edge.size() < 4 * MOST && next.size() < 65_536 {
+        edge.append_edge(&next)?;
     }
-    Ok(text)
+    Ok(())
 }
 
-/// What a call answers.
-pub(crate) fn answer(alloc: Global, call: &str) -> Answer {
-    match words_of(alloc, call)?.as_slice() {
-        ["singly", entries] => singly(alloc, entries),
-        ["batches", counts] => batches(alloc, counts),
-        ["joined", counts] => joined(alloc, counts),
-        _ => unknown(alloc),
+// An edge after each of some batches: of so many of the numbers from 0 up, or of others with so many full tiles.
+fn grown(alloc: Global, call: &str, counts: &str, out: &mut String) -> Told {
+    let mut edge = Edge::new(alloc, Sha256Tree);
+    out.push_str(call)?;
+    for count in counts.split(',') {
+        out.push('\n')?;
+        if call == "batches" {
+            add_batch(alloc, &mut edge, number_of(count), out)?;
+        } else {
+            join(alloc, &mut edge, number_of(count))?;
+        }
+        put_edge(out, &edge)?;
+    }
+    Ok(())
+}
+
+/// Writes what a call answers.
+pub(crate) fn answer(alloc: Global, words: &mut Words<'_>, out: &mut String) -> Told {
+    match words.next() {
+        "singly" => singly(alloc, words.next(), out),
+        "batches" => grown(alloc, "batches", words.next(), out),
+        "joined" => grown(alloc, "joined", words.next(), out),
+        _ => unknown(out),
     }
 }

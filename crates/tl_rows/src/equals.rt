@@ -1,13 +1,11 @@
 //! Rows of logs of equal entries, of any size: the hashes of one level are all the same. They are read from checked
 //! tiles, and need no store.
 
-use crate::words::{Answer, numbers_of, shown_bytes, shown_hashes, unknown, words_of};
+use crate::proofs::{Claim, accepts, made};
+use crate::words::{Told, Words, put, unknown};
 use std::alloc::{Allocator, Global};
 use tl_hash::{Hash, Sha256Tree, leaf_hash, node_hash};
-use tl_proof::{
-    InclusionClaim, ProveFault, check_record, check_records, check_tree, prove_record,
-    prove_records, prove_tree,
-};
+use tl_proof::{InclusionClaim, check_records, prove_records};
 use tl_store::{stored_index, tree_hash};
 use tl_tile::{FetchedTiles, SourceFault, Tile, TileHashReader, TileSource, tile_bytes};
 
@@ -60,34 +58,48 @@ fn root_of(log: &Equal, size: u64) -> Hash {
 type Reader = TileHashReader<Sha256Tree, Equal, Global>;
 
 // A reader of a log of this size.
-fn reader_of(alloc: Global, log: Equal, size: u64) -> Reader {
+fn reader_of(alloc: Global, size: u64) -> Reader {
+    let log = equal_log();
     TileHashReader::new(alloc, Sha256Tree, size, root_of(&log, size), log)
 }
 
-// A proof from a log, and whether it is accepted.
-fn proof(alloc: Global, is_record: bool, log_size: u64, size: u64, place: u64) -> Answer {
+// Writes how many hashes a proof from a log has, and whether it is accepted.
+fn proof(alloc: Global, is_record: bool, words: &mut Words<'_>, out: &mut String) -> Told {
+    let reader = reader_of(alloc, words.number());
+    let (size, place) = (words.number(), words.number());
     let log = equal_log();
-    let reader = reader_of(alloc, log, log_size);
-    let answer: Result<Vec<Hash>, ProveFault> = if is_record {
-        prove_record(alloc, Sha256Tree, size, place, &reader)
+    let hash = if is_record {
+        log.hashes[0]
     } else {
-        prove_tree(alloc, Sha256Tree, size, place, &reader)
+        root_of(&log, place)
     };
-    let proof = match answer {
-        Ok(proof) => proof,
-        Err(fault) => return format!(in alloc; "{fault:?}"),
+    let claim = Claim {
+        is_record,
+        size,
+        root: root_of(&log, size),
+        place,
+        hash,
     };
-    let root = root_of(&log, size);
-    let is_accepted = if is_record {
-        check_record(Sha256Tree, &proof, size, root, place, log.hashes[0])
-    } else {
-        check_tree(Sha256Tree, &proof, size, root, place, root_of(&log, place))
-    };
-    format!(in alloc; "{} {is_accepted}", proof.len())
+    match made(alloc, is_record, size, place, &reader) {
+        Ok(proof) => {
+            let is_accepted = accepts(&claim, proof.as_slice());
+            write!(out, "{} {is_accepted}", proof.len())
+        }
+        Err(fault) => write!(out, "{fault:?}"),
+    }
 }
 
-// A claim that the entry at an index is in the log.
-fn claim<'a>(log: &Equal, index: u64, proof: &'a [Hash]) -> InclusionClaim<'a> {
+// A claim that the entry at an index is in the log, with the proof at a place.
+fn claim_at<'p>(
+    log: &Equal,
+    index: u64,
+    proofs: &'p [Vec<Hash>],
+    place: usize,
+) -> InclusionClaim<'p> {
+    let proof: &'p [Hash] = match proofs.get(place) {
+        Some(proof) => proof.as_slice(),
+        None => &[],
+    };
     InclusionClaim {
         index,
         leaf: log.hashes[0],
@@ -95,63 +107,71 @@ fn claim<'a>(log: &Equal, index: u64, proof: &'a [Hash]) -> InclusionClaim<'a> {
     }
 }
 
-// Whether four inclusion proofs that are made in one read are accepted together, the last of them at the index `last`.
-fn records(alloc: Global, size: u64, places: [u64; 4], last: u64) -> Answer {
+// Whether four inclusion proofs of entries at these places are accepted together.
+fn accepted(size: u64, places: [u64; 4], proofs: &[Vec<Hash>]) -> bool {
     let log = equal_log();
-    let reader = reader_of(alloc, log, size);
-    let proofs = match prove_records(alloc, Sha256Tree, size, &places, &reader) {
-        Ok(proofs) => proofs,
-        Err(fault) => return format!(in alloc; "{fault:?}"),
-    };
-    let [a, b, c, d] = proofs.as_slice() else {
-        return unknown(alloc);
-    };
     let claims = [
-        claim(&log, places[0], a),
-        claim(&log, places[1], b),
-        claim(&log, places[2], c),
-        claim(&log, last, d),
+        claim_at(&log, places[0], proofs, 0),
+        claim_at(&log, places[1], proofs, 1),
+        claim_at(&log, places[2], proofs, 2),
+        claim_at(&log, places[3], proofs, 3),
     ];
-    let are_accepted = check_records(Sha256Tree, size, root_of(&log, size), &claims);
-    format!(in alloc; "{are_accepted}")
+    check_records(Sha256Tree, size, root_of(&log, size), &claims)
+}
+
+// Whether four proofs that are made in one read are accepted together, the last of them at another index.
+fn records(alloc: Global, words: &mut Words<'_>, out: &mut String) -> Told {
+    let size = words.number();
+    let reader = reader_of(alloc, size);
+    let mut places = [
+        words.number(),
+        words.number(),
+        words.number(),
+        words.number(),
+    ];
+    match prove_records(alloc, Sha256Tree, size, &places, &reader) {
+        Ok(proofs) => {
+            places[3] = words.number();
+            write!(out, "{}", accepted(size, places, proofs.as_slice()))
+        }
+        Err(fault) => write!(out, "{fault:?}"),
+    }
 }
 
 // The head of the first entries of a log.
-fn head(alloc: Global, log_size: u64, size: u64) -> Answer {
-    match tree_hash(
-        alloc,
-        Sha256Tree,
-        size,
-        &reader_of(alloc, equal_log(), log_size),
-    ) {
-        Ok(root) => shown_hashes(alloc, &[root]),
-        Err(fault) => format!(in alloc; "{fault:?}"),
-    }
+fn head(alloc: Global, words: &mut Words<'_>, out: &mut String) -> Told {
+    let reader = reader_of(alloc, words.number());
+    put(out, tree_hash(alloc, Sha256Tree, words.number(), &reader))
 }
 
 // The hash with a number, or the fault and how many tiles were fetched.
-fn hash(alloc: Global, reader: &Reader, number: u64) -> Answer {
+fn hash(alloc: Global, reader: &Reader, number: u64, out: &mut String) -> Told {
     let mut fetched = FetchedTiles::new(alloc);
-    match reader.read_checked(alloc, &[number], &mut fetched) {
-        Ok(hashes) => shown_hashes(alloc, hashes.as_slice()),
-        Err(fault) => format!(in alloc; "{fault:?} by {} tiles", fetched.as_slice().len()),
+    let answer = reader.read_checked(alloc, &[number], &mut fetched);
+    let is_read = answer.is_ok();
+    put(out, answer)?;
+    if !is_read {
+        write!(out, " by {} tiles", fetched.as_slice().len())?;
     }
+    Ok(())
 }
 
 // The same of a subtree: the one at this place of a level.
-fn subtree(alloc: Global, log_size: u64, level: u64, place: u64) -> Answer {
-    let level = (level % 63) as u32;
+fn subtree(alloc: Global, words: &mut Words<'_>, out: &mut String) -> Told {
+    let reader = reader_of(alloc, words.number());
+    let level = (words.number() % 63) as u32;
+    let place = words.number();
     if place >= (1u64 << 62) >> level {
-        return unknown(alloc);
+        return unknown(out);
     }
-    let reader = reader_of(alloc, equal_log(), log_size);
-    hash(alloc, &reader, stored_index(level, place))
+    hash(alloc, &reader, stored_index(level, place), out)
 }
 
 // The bytes of a tile of the log of 2^62 entries, of one of three levels.
-fn tile(alloc: Global, level: u64, index: u64, width: u64) -> Answer {
+fn tile(alloc: Global, words: &mut Words<'_>, out: &mut String) -> Told {
+    let (level, index, width) = (words.number(), words.number(), words.number());
     if width == 0 || width > 256 {
-        return unknown(alloc);
+        return unknown(out);
     }
     let width = width as u32;
     let tile = match level {
@@ -170,34 +190,32 @@ fn tile(alloc: Global, level: u64, index: u64, width: u64) -> Answer {
             index: 0,
             width,
         },
-        _ => return unknown(alloc),
+        _ => return unknown(out),
     };
-    match tile_bytes(alloc, tile, &reader_of(alloc, equal_log(), 1 << 62)) {
-        Ok(bytes) => shown_bytes(alloc, bytes.as_slice()),
-        Err(fault) => format!(in alloc; "{fault:?}"),
-    }
+    put(out, tile_bytes(alloc, tile, &reader_of(alloc, 1 << 62)))
 }
 
 // The first hash, where the reader is told another root.
-fn under_another_root(alloc: Global, size: u64) -> Answer {
+fn under_another_root(alloc: Global, size: u64, out: &mut String) -> Told {
     let root = leaf_hash(Sha256Tree, b"other");
     let reader = TileHashReader::new(alloc, Sha256Tree, size, root, equal_log());
-    hash(alloc, &reader, 0)
+    hash(alloc, &reader, 0, out)
 }
 
-/// What a call answers.
-pub(crate) fn answer(alloc: Global, call: &str) -> Answer {
-    let (call, numbers) = call.split_once(' ').unwrap_or((call, ""));
-    let numbers = numbers_of(alloc, words_of(alloc, numbers)?.as_slice())?;
-    match (call, numbers.as_slice()) {
-        ("head", [log, size]) => head(alloc, *log, *size),
-        ("record", [log, size, index]) => proof(alloc, true, *log, *size, *index),
-        ("records", [log, a, b, c, d, last]) => records(alloc, *log, [*a, *b, *c, *d], *last),
-        ("tree", [log, size, old]) => proof(alloc, false, *log, *size, *old),
-        ("subtree", [log, level, place]) => subtree(alloc, *log, *level, *place),
-        ("number", [log, number]) => hash(alloc, &reader_of(alloc, equal_log(), *log), *number),
-        ("tile", [level, index, width]) => tile(alloc, *level, *index, *width),
-        ("under-another-root", [log]) => under_another_root(alloc, *log),
-        _ => unknown(alloc),
+/// Writes what a call answers.
+pub(crate) fn answer(alloc: Global, words: &mut Words<'_>, out: &mut String) -> Told {
+    match words.next() {
+        "head" => head(alloc, words, out),
+        "record" => proof(alloc, true, words, out),
+        "records" => records(alloc, words, out),
+        "tree" => proof(alloc, false, words, out),
+        "subtree" => subtree(alloc, words, out),
+        "number" => {
+            let reader = reader_of(alloc, words.number());
+            hash(alloc, &reader, words.number(), out)
+        }
+        "tile" => tile(alloc, words, out),
+        "under-another-root" => under_another_root(alloc, words.number(), out),
+        _ => unknown(out),
     }
 }

@@ -1,6 +1,6 @@
 //! Rows of the keys of notes and of witnesses: their texts, and what they sign and verify.
 
-use crate::words::{Answer, bytes_of, in_hex, key_of, text_of, unknown, words_of};
+use crate::words::{Told, Words, bytes_of, key_of, put_hex};
 use std::alloc::{AllocError, Global};
 use std::str;
 use tl_key::{
@@ -9,59 +9,67 @@ use tl_key::{
 };
 use tl_note::{Signer, Verifier};
 
-// A verifier's key: its name, its identifier, its public key and its text.
-fn shown_verifier<K: KeyKind>(
+// Writes a verifier's key: its name, its identifier, its public key and its text.
+fn put_verifier<K: KeyKind>(
     alloc: Global,
     answer: Result<VerifierKey<K, Global>, KeyFault>,
-) -> Answer {
+    out: &mut String,
+) -> Told {
     match answer {
         Ok(key) => {
-            let text = write_verifier_key(alloc, &key)?;
-            let public = in_hex(alloc, key.public_key().as_slice())?;
             let (name, id) = (Verifier::name(&key), Verifier::key_id(&key));
-            format!(in alloc; "{name:?} {id:08x} {public} {text}")
+            write!(out, "{name:?} {id:08x} ")?;
+            put_hex(out, key.public_key().as_slice())?;
+            out.push(' ')?;
+            out.push_str(write_verifier_key(alloc, &key)?.as_str())
         }
-        Err(fault) => format!(in alloc; "{fault:?}"),
+        Err(fault) => write!(out, "{fault:?}"),
     }
 }
 
-// A signer's key: its name, its identifier, its text and its verifier's.
-fn shown_signer<K: KeyKind>(
+// Writes a signer's key: its name, its identifier, its text and its verifier's.
+fn put_signer<K: KeyKind>(
     alloc: Global,
     answer: Result<SignerKey<K, Global>, KeyFault>,
-) -> Answer {
+    out: &mut String,
+) -> Told {
     match answer {
         Ok(key) => {
-            let text = write_signer_key(alloc, &key)?;
-            let verifier = write_verifier_key(alloc, &key.verifier(alloc)?)?;
             let (name, id) = (Signer::name(&key), Signer::key_id(&key));
-            format!(in alloc; "{name:?} {id:08x} {text} {verifier}")
+            write!(out, "{name:?} {id:08x} ")?;
+            out.push_str(write_signer_key(alloc, &key)?.as_str())?;
+            out.push(' ')?;
+            out.push_str(write_verifier_key(alloc, &key.verifier(alloc)?)?.as_str())
         }
-        Err(fault) => format!(in alloc; "{fault:?}"),
+        Err(fault) => write!(out, "{fault:?}"),
     }
 }
 
 // What a signer's key signs.
-fn signed<K: KeyKind>(alloc: Global, text: &str, message: &[u8]) -> Answer {
+fn signed<K: KeyKind>(alloc: Global, text: &str, message: &[u8], out: &mut String) -> Told {
     let key: Result<SignerKey<K, Global>, KeyFault> = read_signer_key(alloc, text);
-    let Ok(key) = key else {
-        return unknown(alloc);
-    };
-    match Signer::sign(&key, alloc, message) {
-        Ok(signature) => in_hex(alloc, signature.as_slice()),
-        Err(fault) => format!(in alloc; "{fault:?}"),
+    match key {
+        Ok(key) => match Signer::sign(&key, alloc, message) {
+            Ok(signature) => put_hex(out, signature.as_slice()),
+            Err(fault) => write!(out, "{fault:?}"),
+        },
+        Err(fault) => write!(out, "{fault:?}"),
     }
 }
 
 // Whether a signature stands under a verifier's key.
-fn verified<K: KeyKind>(alloc: Global, text: &str, message: &[u8], signature: &[u8]) -> Answer {
+fn verified<K: KeyKind>(
+    alloc: Global,
+    text: &str,
+    message: &[u8],
+    words: &mut Words<'_>,
+    out: &mut String,
+) -> Told {
+    let signature = bytes_of(alloc, words.next())?;
     let key: Result<VerifierKey<K, Global>, KeyFault> = read_verifier_key(alloc, text);
     match key {
-        Ok(key) => {
-            let stands = key.verify(message, signature);
-            format!(in alloc; "{stands}")
-        }
-        Err(fault) => format!(in alloc; "{fault:?}"),
+        Ok(key) => write!(out, "{}", key.verify(message, signature.as_slice())),
+        Err(fault) => write!(out, "{fault:?}"),
     }
 }
 
@@ -93,45 +101,41 @@ fn malformed_at(alloc: Global, text: &str, place: usize) -> Result<u64, AllocErr
 }
 
 // The same of all places.
-fn malformed(alloc: Global, text: &str) -> Answer {
+fn malformed(alloc: Global, text: &str, out: &mut String) -> Told {
     let mut count = 0u64;
     for place in 0..text.len() {
         count = count.saturating_add(malformed_at(alloc, text, place)?);
     }
-    format!(in alloc;
-        "{count} malformed of {} at each of {} places",
-        130,
-        text.len()
-    )
+    let places = text.len();
+    write!(out, "{count} malformed of 130 at each of {places} places")
 }
 
 // The rows of keys of one kind.
-fn answer_of<K: KeyKind>(alloc: Global, words: &[&str], text: &str) -> Answer {
-    match words {
-        ["verifier"] => { shown_verifier::<K>(alloc, read_verifier_key(alloc, text)) }
-        ["signer"] => shown_signer::<K>(alloc, read_signer_key(alloc, text)),
-        ["new-verifier", key] => {
-            shown_verifier::<K>(alloc, VerifierKey::new(alloc, text, &key_of(key)))
+fn answer_of<K: KeyKind>(
+    alloc: Global,
+    words: &mut Words<'_>,
+    text: &str,
+    out: &mut String,
+) -> Told {
+    let call = words.next();
+    let word = words.next();
+    match call {
+        "verifier" => put_verifier::<K>(alloc, read_verifier_key(alloc, text), out),
+        "signer" => put_signer::<K>(alloc, read_signer_key(alloc, text), out),
+        "new-verifier" => {
+            put_verifier::<K>(alloc, VerifierKey::new(alloc, text, &key_of(word)), out)
         }
-        ["new-signer", seed] => {
-            shown_signer::<K>(alloc, SignerKey::new(alloc, text, &key_of(seed)))
-        }
-        ["sign", message] => signed::<K>(alloc, text, bytes_of(alloc, message).as_slice()),
-        ["verify", message, signature] => {
-            let message = bytes_of(alloc, message);
-            let signature = bytes_of(alloc, signature);
-            verified::<K>(alloc, text, message.as_slice(), signature.as_slice())
-        }
-        _ => unknown(alloc),
+        "new-signer" => put_signer::<K>(alloc, SignerKey::new(alloc, text, &key_of(word)), out),
+        "sign" => signed::<K>(alloc, text, bytes_of(alloc, word)?.as_slice(), out),
+        _ => verified::<K>(alloc, text, bytes_of(alloc, word)?.as_slice(), words, out),
     }
 }
 
-/// What a call answers.
-pub(crate) fn answer(alloc: Global, call: &str, text: &str) -> Answer {
-    match words_of(alloc, call)?.as_slice() {
-        ["note", words @ ..] => answer_of::<Note>(alloc, words, text),
-        ["cosigner", words @ ..] => answer_of::<Cosignature>(alloc, words, text),
-        ["changed"] => malformed(alloc, text),
-        _ => text_of(alloc, "no such kind of key"),
+/// Writes what a call answers.
+pub(crate) fn answer(alloc: Global, words: &mut Words<'_>, text: &str, out: &mut String) -> Told {
+    match words.next() {
+        "note" => answer_of::<Note>(alloc, words, text, out),
+        "cosigner" => answer_of::<Cosignature>(alloc, words, text, out),
+        _ => malformed(alloc, text, out),
     }
 }

@@ -2,8 +2,8 @@
 //! answers are stored beside, so that the gate compares them.
 //!
 //! A line `$ family call ..` begins a row and names the call. Each line `< ..` after it is a line of the row's input,
-//! a line `<- ..` a piece of it with no newline, and a line `<x ..` bytes of it in hexadecimal. Other lines say what
-//! the rows are for.
+//! a line `<- ..` a piece of it with no newline, and a line `<x ..` bytes of it in hexadecimal. Other lines, and what
+//! stands before the first row, of which there is a line at least, say what the rows are for.
 #![tactic(auto)]
 
 mod audits;
@@ -13,7 +13,6 @@ mod equals;
 mod keys;
 mod notes;
 mod proofs;
-mod script;
 mod signatures;
 mod sources;
 mod stores;
@@ -21,36 +20,72 @@ mod tiles;
 mod trees;
 mod words;
 
-use crate::script::{Row, rows_of};
+use crate::words::{Told, Words, bytes_of};
 use std::alloc::{AllocError, Global};
 use std::{io, str};
 
-// What the call of a row answers.
-fn answer(alloc: Global, row: &Row<'_>) -> Result<String, AllocError> {
-    let (family, call) = row.line.split_once(' ').unwrap_or((row.line, ""));
-    let text = str::from_utf8(row.input.as_slice()).unwrap_or("");
-    match family {
-        "audit" => audits::answer(alloc, call, text),
-        "checkpoint" => checkpoints::answer(alloc, call, text),
-        "ed25519" => signatures::answer(alloc, call),
-        "edge" => edges::answer(alloc, call),
-        "equal" => equals::answer(alloc, call),
-        "key" => keys::answer(alloc, call, text),
-        "note" => notes::answer(alloc, call, text),
-        "proof" => proofs::answer(alloc, call, text),
-        "source" => sources::answer(alloc, call),
-        "store" => stores::answer(alloc, call),
-        "tile" => tiles::answer(alloc, call, text),
-        _ => trees::answer(alloc, call),
+// Adds what a line of the script holds to the input of a row.
+fn add_line(alloc: Global, input: &mut Vec<u8>, line: &str) -> Told {
+    let (kind, text) = line.split_once(' ').unwrap_or((line, ""));
+    match kind {
+        "<" => {
+            input.extend_from_slice(text.as_bytes())?;
+            input.extend_from_slice(b"\n")
+        }
+        "<-" => input.extend_from_slice(text.as_bytes()),
+        "<x" => input.extend_from_slice(bytes_of(alloc, text)?.as_slice()),
+        _ => Ok(()),
     }
+}
+
+// The input that the lines of a row hold.
+fn input_of(alloc: Global, lines: &str) -> Result<Vec<u8>, AllocError> {
+    let mut input = Vec::new(alloc);
+    for line in lines.split('\n') {
+        add_line(alloc, &mut input, line)?;
+    }
+    Ok(input)
+}
+
+// Writes what a call answers to a text.
+fn answer(alloc: Global, call: &str, text: &str, out: &mut String) -> Told {
+    let mut words = Words { left: call };
+    let words = &mut words;
+    match words.next() {
+        "audit" => audits::answer(alloc, words, text, out),
+        "checkpoint" => checkpoints::answer(alloc, words, text, out),
+        "ed25519" => signatures::answer(alloc, words, out),
+        "edge" => edges::answer(alloc, words, out),
+        "equal" => equals::answer(alloc, words, out),
+        "key" => keys::answer(alloc, words, text, out),
+        "note" => notes::answer(alloc, words, text, out),
+        "proof" => proofs::answer(alloc, words, text, out),
+        "source" => sources::answer(alloc, words, out),
+        "store" => stores::answer(alloc, words, out),
+        "tile" => tiles::answer(alloc, words, text, out),
+        _ => trees::answer(alloc, words, out),
+    }
+}
+
+// The call of a row, and what it answers, a line each.
+fn answered(alloc: Global, row: &str) -> Result<String, AllocError> {
+    let (call, lines) = row.split_once('\n').unwrap_or((row, ""));
+    let mut out = format!(in alloc; "$ {call}\n")?;
+    let input = input_of(alloc, lines)?;
+    answer(
+        alloc,
+        call,
+        str::from_utf8(input.as_slice()).unwrap_or(""),
+        &mut out,
+    )?;
+    Ok(out)
 }
 
 fn main(rt: HostRuntime) -> Result<(), anyhow::Error> {
     let alloc = rt.alloc();
     let script = io::read_to_string(alloc, rt.reader())?;
-    for row in &rows_of(alloc, script.as_str())? {
-        let answer = answer(alloc, row)?;
-        println!(rt; "$ {}\n{answer}", row.line)?;
+    for row in script.as_str().split("\n$ ").skip(1) {
+        println!(rt; "{}", answered(alloc, row)?)?;
     }
     Ok(())
 }

@@ -1,139 +1,133 @@
 //! Rows of notes: read, opened and signed.
 
-use crate::words::{Answer, bytes_of, in_hex, names_of, number_of, text_of, unknown, words_of};
+use crate::words::{Shown, Told, Words, bytes_of, put, put_hex};
 use std::alloc::Global;
 use tl_key::{KeyFault, NoteSigner, NoteVerifier, read_signer_key, read_verifier_key};
 use tl_note::{
-    SigView, Signer, Verifier, is_key_name, open_note, parse_note, parse_signatures, sign_note,
-    write_signature_line,
+    NoteView, OpenedNote, SigView, Signer, Verifier, is_key_name, open_note, parse_note,
+    parse_signatures, sign_note, write_signature_line,
 };
 use tl_testing::LengthKey;
 
 // The identifier of each length key.
 const LENGTH_ID: u32 = 0x01020304;
 
-// Signature lines, each with its name, its identifier, its base64 and its signature.
-fn shown_lines(alloc: Global, lines: &[SigView<'_>]) -> Answer {
-    let mut text = format!(in alloc; "{} lines", lines.len())?;
-    for line in lines {
-        let signature = in_hex(alloc, line.decode(alloc)?.as_slice())?;
-        let (name, id, base64) = (line.name(), line.key_id(), line.base64());
-        text.push_str(format!(in alloc; "\n{name} {id:08x} {base64} {signature}")?.as_str())?;
-    }
-    Ok(text)
+// Writes a signature line: its name, its identifier, its base64 and its signature.
+fn put_line(out: &mut String, line: &SigView<'_>) -> Told {
+    let signature = line.decode(*out.allocator())?;
+    let (name, id, base64) = (line.name(), line.key_id(), line.base64());
+    write!(out, "\n{name} {id:08x} {base64} ")?;
+    put_hex(out, signature.as_slice())
 }
 
-// The text and the lines of a note.
-fn parsed(alloc: Global, note: &str) -> Answer {
-    match parse_note(alloc, note) {
-        Ok(view) => {
-            let lines = shown_lines(alloc, view.signatures.as_slice())?;
-            format!(in alloc; "{:?} {lines}", view.text)
+/// How many signature lines there are, and each.
+impl Shown for Vec<SigView<'_>> {
+    fn show(&self, out: &mut String) -> Told {
+        write!(out, "{} lines", self.len())?;
+        for line in self {
+            put_line(out, line)?;
         }
-        Err(fault) => format!(in alloc; "{fault:?}"),
+        Ok(())
     }
 }
 
-// Signature lines alone.
-fn signatures(alloc: Global, text: &str) -> Answer {
-    match parse_signatures(alloc, text) {
-        Ok(lines) => shown_lines(alloc, lines.as_slice()),
-        Err(fault) => format!(in alloc; "{fault:?}"),
+/// The text and the lines.
+impl Shown for NoteView<'_, Global> {
+    fn show(&self, out: &mut String) -> Told {
+        write!(out, "{:?} ", self.text)?;
+        self.signatures.show(out)
     }
 }
 
-// The places of the lines that are verified and of those that aren't, and the text.
-fn opened(alloc: Global, note: &str, verifiers: &[Box<dyn Verifier>]) -> Answer {
-    match open_note(alloc, note, verifiers) {
-        Ok(opened) => {
-            format!(in alloc;
-                "{:?} {:?} {:?}",
-                opened.verified, opened.unverified, opened.note.text
-            )
-        }
-        Err(fault) => format!(in alloc; "{fault:?}"),
+/// The places of the lines that are verified and of those that aren't, and the text.
+impl Shown for OpenedNote<'_, Global> {
+    fn show(&self, out: &mut String) -> Told {
+        let text = self.note.text;
+        write!(out, "{:?} {:?} {text:?}", self.verified, self.unverified)
     }
 }
 
-// The same by length keys.
-fn open_length(alloc: Global, note: &str, names: &str) -> Answer {
+// Opens a note by length keys.
+fn open_length(alloc: Global, note: &str, names: &str, out: &mut String) -> Told {
     let mut verifiers: Vec<Box<dyn Verifier>> = Vec::new(alloc);
-    for name in &names_of(alloc, names)? {
+    for name in names.split(',') {
         let key = LengthKey::new(alloc, name, LENGTH_ID)?;
         verifiers.push(Box::new(alloc, key)?)?;
     }
-    opened(alloc, note, verifiers.as_slice())
+    put(out, open_note(alloc, note, verifiers.as_slice()))
 }
 
-// The same by keys with these texts.
-fn open_keyed(alloc: Global, note: &str, texts: &str) -> Answer {
-    let mut verifiers: Vec<Box<dyn Verifier>> = Vec::new(alloc);
-    for text in &names_of(alloc, texts)? {
-        let key: Result<NoteVerifier<Global>, KeyFault> = read_verifier_key(alloc, text);
-        if let Ok(key) = key {
-            verifiers.push(Box::new(alloc, key)?)?;
+// Opens a note by the key with this text.
+fn open_keyed(alloc: Global, note: &str, text: &str, out: &mut String) -> Told {
+    let key: Result<NoteVerifier<Global>, KeyFault> = read_verifier_key(alloc, text);
+    match key {
+        Ok(key) => {
+            let verifier: Box<dyn Verifier> = Box::new(alloc, key)?;
+            put(out, open_note(alloc, note, &[verifier]))
         }
-    }
-    opened(alloc, note, verifiers.as_slice())
-}
-
-// The note that signers make of a text.
-fn signed(alloc: Global, text: &str, signers: &[Box<dyn Signer>]) -> Answer {
-    match sign_note(alloc, alloc, text, signers) {
-        Ok(note) => format!(in alloc; "{note:?}"),
-        Err(fault) => format!(in alloc; "{fault:?}"),
+        Err(fault) => write!(out, "{fault:?}"),
     }
 }
 
-// The same by length keys.
-fn sign_length(alloc: Global, text: &str, names: &str) -> Answer {
+// The note that length keys make of a text.
+fn sign_length(alloc: Global, text: &str, names: &str, out: &mut String) -> Told {
     let mut signers: Vec<Box<dyn Signer>> = Vec::new(alloc);
-    for name in &names_of(alloc, names)? {
+    for name in names.split(',').skip(usize::from(names.is_empty())) {
         let key = LengthKey::new(alloc, name, LENGTH_ID)?;
         signers.push(Box::new(alloc, key)?)?;
     }
-    signed(alloc, text, signers.as_slice())
+    put(out, sign_note(alloc, alloc, text, signers.as_slice()))
 }
 
-// The same by keys with these texts.
-fn sign_keyed(alloc: Global, text: &str, texts: &str) -> Answer {
-    let mut signers: Vec<Box<dyn Signer>> = Vec::new(alloc);
-    for key in &names_of(alloc, texts)? {
-        let key: Result<NoteSigner<Global>, KeyFault> = read_signer_key(alloc, key);
-        if let Ok(key) = key {
-            signers.push(Box::new(alloc, key)?)?;
+// The note that the key with this text makes of another.
+fn sign_keyed(alloc: Global, text: &str, key: &str, out: &mut String) -> Told {
+    let key: Result<NoteSigner<Global>, KeyFault> = read_signer_key(alloc, key);
+    match key {
+        Ok(key) => {
+            let signer: Box<dyn Signer> = Box::new(alloc, key)?;
+            put(out, sign_note(alloc, alloc, text, &[signer]))
         }
+        Err(fault) => write!(out, "{fault:?}"),
     }
-    signed(alloc, text, signers.as_slice())
+}
+
+// Opens a note by length keys, or by a key with a text.
+fn opened(alloc: Global, words: &mut Words<'_>, note: &str, out: &mut String) -> Told {
+    if words.next() == "length" {
+        open_length(alloc, note, words.left, out)
+    } else {
+        open_keyed(alloc, note, words.left, out)
+    }
+}
+
+// The same of signing.
+fn signed(alloc: Global, words: &mut Words<'_>, text: &str, out: &mut String) -> Told {
+    if words.next() == "length" {
+        sign_length(alloc, text, words.left, out)
+    } else {
+        sign_keyed(alloc, text, words.left, out)
+    }
 }
 
 // A signature line.
-fn line(alloc: Global, words: &str) -> Answer {
-    let words = words_of(alloc, words)?;
-    let [name, id, signature] = words.as_slice() else {
-        return unknown(alloc);
-    };
-    let id = (number_of(id) % (1 << 32)) as u32;
-    let signature = bytes_of(alloc, signature);
-    match write_signature_line(alloc, name, id, signature.as_slice()) {
-        Ok(line) => format!(in alloc; "{line:?}"),
-        Err(fault) => format!(in alloc; "{fault:?}"),
-    }
+fn line(alloc: Global, words: &mut Words<'_>, out: &mut String) -> Told {
+    let name = words.next();
+    let id = (words.number() % (1 << 32)) as u32;
+    let signature = bytes_of(alloc, words.next())?;
+    put(
+        out,
+        write_signature_line(alloc, name, id, signature.as_slice()),
+    )
 }
 
-/// What a call answers.
-pub(crate) fn answer(alloc: Global, call: &str, text: &str) -> Answer {
-    let (call, rest) = call.split_once(' ').unwrap_or((call, ""));
-    let (kind, names) = rest.split_once(' ').unwrap_or((rest, ""));
-    match (call, kind) {
-        ("parse", _) => parsed(alloc, text),
-        ("signatures", _) => signatures(alloc, text),
-        ("name", _) => text_of(alloc, if is_key_name(text) { "true" } else { "false" }),
-        ("line", _) => line(alloc, rest),
-        ("open", "length") => open_length(alloc, text, names),
-        ("open", _) => open_keyed(alloc, text, names),
-        ("sign", "length") => sign_length(alloc, text, names),
-        ("sign", _) => sign_keyed(alloc, text, names),
-        _ => unknown(alloc),
+/// Writes what a call answers.
+pub(crate) fn answer(alloc: Global, words: &mut Words<'_>, text: &str, out: &mut String) -> Told {
+    match words.next() {
+        "parse" => put(out, parse_note(alloc, text)),
+        "signatures" => put(out, parse_signatures(alloc, text)),
+        "name" => write!(out, "{}", is_key_name(text)),
+        "line" => line(alloc, words, out),
+        "open" => opened(alloc, words, text, out),
+        _ => signed(alloc, words, text, out),
     }
 }

@@ -1,28 +1,27 @@
 //! Rows of inclusion and consistency proofs, and of their checks.
 
 use crate::stores::named_store;
-use crate::words::{
-    Answer, entries_of, hashes_of, hashes_or, number_of, numbers_of, parse_hash, shown_hashes,
-    text_of, unknown, words_of,
-};
+use crate::words::{Shown, Told, Words, entries_of, number_of, put, unknown};
 use std::alloc::{AllocError, Global};
-use tl_hash::{Hash, Sha256Tree, empty_hash, entry_root, leaf_hash};
+use tl_hash::{Hash, Sha256Tree, entry_root, leaf_hash};
 use tl_proof::{
     InclusionClaim, ProveFault, check_record, check_records, check_tree, prove_record,
     prove_records, prove_tree,
 };
+use tl_store::HashReader;
 
-// What a proof is to show: of an entry by its index and leaf hash, or of an old size and root.
+/// What a proof is to show: of an entry by its index and leaf hash, or of an old size and root.
 #[derive(Clone, Copy)]
-struct Claim {
-    is_record: bool,
-    size: u64,
-    root: Hash,
-    place: u64,
-    hash: Hash,
+pub(crate) struct Claim {
+    pub(crate) is_record: bool,
+    pub(crate) size: u64,
+    pub(crate) root: Hash,
+    pub(crate) place: u64,
+    pub(crate) hash: Hash,
 }
 
-fn accepts(claim: &Claim, proof: &[Hash]) -> bool {
+/// Whether a proof is accepted.
+pub(crate) fn accepts(claim: &Claim, proof: &[Hash]) -> bool {
     let Claim {
         is_record,
         size,
@@ -37,65 +36,79 @@ fn accepts(claim: &Claim, proof: &[Hash]) -> bool {
     }
 }
 
-// The proof of an entry, or that of an old size.
-fn made(
+/// The proof of an entry, or that of an old size, from any reader.
+pub(crate) fn made<R: HashReader>(
     alloc: Global,
     is_record: bool,
-    word: &str,
     size: u64,
     place: u64,
+    reader: &R,
 ) -> Result<Vec<Hash>, ProveFault> {
-    let store = named_store(alloc, word)?;
     if is_record {
-        prove_record(alloc, Sha256Tree, size, place, &store)
+        prove_record(alloc, Sha256Tree, size, place, reader)
     } else {
-        prove_tree(alloc, Sha256Tree, size, place, &store)
+        prove_tree(alloc, Sha256Tree, size, place, reader)
     }
 }
 
-// The same, or the fault in its place.
-fn proof(alloc: Global, is_record: bool, words: &[&str]) -> Answer {
-    let [word, size, place] = words else {
-        return unknown(alloc);
-    };
-    hashes_or(
-        alloc,
-        made(alloc, is_record, word, number_of(size), number_of(place)),
+// The proof of an entry, or that of an old size, of the entries that a word names.
+fn proof(alloc: Global, is_record: bool, words: &mut Words<'_>, out: &mut String) -> Told {
+    let store = named_store(alloc, words.next())?;
+    let size = words.number();
+    put(out, made(alloc, is_record, size, words.number(), &store))
+}
+
+/// The proofs, one a line.
+impl Shown for Vec<Vec<Hash>> {
+    fn show(&self, out: &mut String) -> Told {
+        write!(out, "{} proofs", self.len())?;
+        for proof in self {
+            out.push('\n')?;
+            proof.show(out)?;
+        }
+        Ok(())
+    }
+}
+
+// The proofs of some entries.
+fn records(alloc: Global, words: &mut Words<'_>, out: &mut String) -> Told {
+    let store = named_store(alloc, words.next())?;
+    let size = words.number();
+    let places = words.numbers(alloc)?;
+    put(
+        out,
+        prove_records(alloc, Sha256Tree, size, places.as_slice(), &store),
     )
 }
 
-// The proofs of some entries, one a line.
-fn records(alloc: Global, word: &str, size: &str, places: &[&str]) -> Answer {
-    let size = number_of(size);
-    let store = named_store(alloc, word)?;
-    let places = numbers_of(alloc, places)?;
-    let proofs = match prove_records(alloc, Sha256Tree, size, places.as_slice(), &store) {
-        Ok(proofs) => proofs,
-        Err(fault) => return format!(in alloc; "{fault:?}"),
-    };
-    let mut text = format!(in alloc; "{} proofs", proofs.len())?;
-    for proof in &proofs {
-        text.push('\n')?;
-        text.push_str(shown_hashes(alloc, proof.as_slice())?.as_str())?;
+// How many of the proofs are accepted that have one bit of the hash at a place changed.
+fn accepted_at(
+    alloc: Global,
+    claim: &Claim,
+    proof: &[Hash],
+    place: usize,
+) -> Result<u64, AllocError> {
+    let mut changed = Vec::from_slice(alloc, proof)?;
+    let mut count = 0u64;
+    if place < changed.len() {
+        let whole = *changed[place].as_bytes();
+        for bit in 0..256usize {
+            let mut bytes = whole;
+            bytes[bit / 8] ^= 1u8 << (bit % 8);
+            changed[place] = Hash::from_bytes(bytes);
+            if accepts(claim, changed.as_slice()) {
+                count = count.saturating_add(1);
+            }
+        }
     }
-    Ok(text)
+    Ok(count)
 }
 
 // How many of the proofs are accepted that have one bit of a hash changed.
 fn accepted_changed(alloc: Global, claim: &Claim, proof: &[Hash]) -> Result<u64, AllocError> {
     let mut count = 0u64;
     for place in 0..proof.len() {
-        for bit in 0..256usize {
-            let mut changed = Vec::from_slice(alloc, proof)?;
-            let mut bytes = *proof[place].as_bytes();
-            bytes[bit / 8] ^= 1u8 << (bit % 8);
-            if let Some(hash) = changed.get_mut(place) {
-                *hash = Hash::from_bytes(bytes);
-            }
-            if accepts(claim, changed.as_slice()) {
-                count = count.saturating_add(1);
-            }
-        }
+        count = count.saturating_add(accepted_at(alloc, claim, proof, place)?);
     }
     Ok(count)
 }
@@ -137,60 +150,76 @@ fn claim_of(
 }
 
 // Whether a proof is exact, and, where each bit is tried, how many others are accepted.
-fn exact(alloc: Global, is_record: bool, words: &[&str], has_bits: bool) -> Answer {
-    let [word, size, place] = words else {
-        return unknown(alloc);
-    };
-    let (size, place) = (number_of(size), number_of(place));
-    let claim = claim_of(alloc, is_record, word, size, place)?;
-    let Ok(proof) = made(alloc, is_record, word, size, place) else {
-        return unknown(alloc);
-    };
-    if !is_exact(alloc, &claim, proof.as_slice())? {
-        return text_of(alloc, "not exact");
+fn tried(alloc: Global, claim: &Claim, proof: &[Hash], has_bits: bool, out: &mut String) -> Told {
+    if !is_exact(alloc, claim, proof)? {
+        return out.push_str("not exact");
     }
-    if !has_bits {
-        return text_of(alloc, "exact");
+    out.push_str("exact")?;
+    if has_bits {
+        let count = accepted_changed(alloc, claim, proof)?;
+        write!(out, ", and {count} changed")?;
     }
-    let count = accepted_changed(alloc, &claim, proof.as_slice())?;
-    format!(in alloc; "exact, and {count} changed")
+    Ok(())
+}
+
+// The same of the entries that a word names.
+fn exact(
+    alloc: Global,
+    is_record: bool,
+    words: &mut Words<'_>,
+    has_bits: bool,
+    out: &mut String,
+) -> Told {
+    let word = words.next();
+    let size = words.number();
+    let claim = claim_of(alloc, is_record, word, size, words.number())?;
+    let store = named_store(alloc, word)?;
+    match made(alloc, is_record, size, claim.place, &store) {
+        Ok(proof) => tried(alloc, &claim, proof.as_slice(), has_bits, out),
+        Err(fault) => write!(out, "{fault:?}"),
+    }
 }
 
 // Whether a proof is accepted.
-fn checked(alloc: Global, is_record: bool, words: &[&str]) -> Answer {
-    let [size, root, place, hash, proof @ ..] = words else {
-        return unknown(alloc);
-    };
+fn checked(alloc: Global, is_record: bool, words: &mut Words<'_>, out: &mut String) -> Told {
     let claim = Claim {
         is_record,
-        size: number_of(size),
-        root: parse_hash(root),
-        place: number_of(place),
-        hash: parse_hash(hash),
+        size: words.number(),
+        root: words.hash(),
+        place: words.number(),
+        hash: words.hash(),
     };
-    let proof = hashes_of(alloc, proof)?;
-    format!(in alloc; "{}", accepts(&claim, proof.as_slice()))
+    let proof = words.hashes(alloc)?;
+    write!(out, "{}", accepts(&claim, proof.as_slice()))
+}
+
+// How many of the proofs of the first entries of a store are those that are made one by one.
+fn same<R: HashReader>(alloc: Global, proofs: &[Vec<Hash>], size: u64, reader: &R) -> u64 {
+    let mut count = 0u64;
+    for (place, proof) in proofs.iter().enumerate() {
+        let one = prove_record(alloc, Sha256Tree, size, place as u64, reader);
+        if one.is_ok_and(|one| one.as_slice() == proof.as_slice()) {
+            count = count.saturating_add(1);
+        }
+    }
+    count
 }
 
 // How many proofs that are made together are those that are made one by one.
-fn together(alloc: Global, word: &str, size: u64) -> Answer {
-    let store = named_store(alloc, word)?;
+fn together(alloc: Global, words: &mut Words<'_>, out: &mut String) -> Told {
+    let store = named_store(alloc, words.next())?;
+    let size = words.number();
     let mut places = Vec::new(alloc);
     for place in 0..size {
         places.push(place)?;
     }
-    let answer = prove_records(alloc, Sha256Tree, size, places.as_slice(), &store);
-    let Ok(proofs) = answer else {
-        return unknown(alloc);
-    };
-    let mut count = 0u64;
-    for (place, proof) in places.iter().zip(proofs.iter()) {
-        let answer = prove_record(alloc, Sha256Tree, size, *place, &store);
-        if answer.is_ok_and(|one| one.as_slice() == proof.as_slice()) {
-            count = count.saturating_add(1);
+    match prove_records(alloc, Sha256Tree, size, places.as_slice(), &store) {
+        Ok(proofs) => {
+            let count = same(alloc, proofs.as_slice(), size, &store);
+            write!(out, "{count} of {} proofs", proofs.len())
         }
+        Err(fault) => write!(out, "{fault:?}"),
     }
-    format!(in alloc; "{count} of {} proofs", proofs.len())
 }
 
 // What a line claims: the index and the leaf hash of an entry, with its proof.
@@ -201,72 +230,76 @@ struct Line {
     proof: Vec<Hash>,
 }
 
-// The claims of a text, one a line.
-fn lines_of(alloc: Global, text: &str) -> Result<Vec<Line>, AllocError> {
+// The claim of a line.
+fn line_of(alloc: Global, line: &str) -> Result<Line, AllocError> {
+    let mut words = Words { left: line };
+    let index = words.number();
+    let leaf = words.hash();
+    let proof = words.hashes(alloc)?;
+    Ok(Line { index, leaf, proof })
+}
+
+// The claim at a place, and one of no entry where there is none.
+fn claim_at(lines: &[Line], place: usize) -> InclusionClaim<'_> {
+    match lines.get(place) {
+        Some(line) => InclusionClaim {
+            index: line.index,
+            leaf: line.leaf,
+            proof: line.proof.as_slice(),
+        },
+        None => InclusionClaim {
+            index: 0,
+            leaf: Hash::from_bytes([0; 32]),
+            proof: &[],
+        },
+    }
+}
+
+// Whether up to nine claims are accepted together.
+fn accepted(size: u64, root: Hash, lines: &[Line]) -> bool {
+    let claims = [
+        claim_at(lines, 0),
+        claim_at(lines, 1),
+        claim_at(lines, 2),
+        claim_at(lines, 3),
+        claim_at(lines, 4),
+        claim_at(lines, 5),
+        claim_at(lines, 6),
+        claim_at(lines, 7),
+        claim_at(lines, 8),
+    ];
+    check_records(
+        Sha256Tree,
+        size,
+        root,
+        claims.get(..lines.len()).unwrap_or(&[]),
+    )
+}
+
+// Whether the claims of a text are accepted together, one a line.
+fn checked_together(alloc: Global, words: &mut Words<'_>, text: &str, out: &mut String) -> Told {
+    let size = words.number();
     let mut lines = Vec::new(alloc);
     for line in text.lines() {
-        if let [index, leaf, proof @ ..] = words_of(alloc, line)?.as_slice() {
-            lines.push(Line {
-                index: number_of(index),
-                leaf: parse_hash(leaf),
-                proof: hashes_of(alloc, proof)?,
-            })?;
-        }
+        lines.push(line_of(alloc, line)?)?;
     }
-    Ok(lines)
+    write!(out, "{}", accepted(size, words.hash(), lines.as_slice()))
 }
 
-// The claim of a line.
-fn record_of(line: &Line) -> InclusionClaim<'_> {
-    InclusionClaim {
-        index: line.index,
-        leaf: line.leaf,
-        proof: line.proof.as_slice(),
-    }
-}
-
-// Whether the claims of a text are accepted together: none, four or nine.
-fn checked_together(alloc: Global, size: &str, root: &str, text: &str) -> Answer {
-    let (size, root) = (number_of(size), parse_hash(root));
-    let is_accepted = match lines_of(alloc, text)?.as_slice() {
-        [] => check_records(Sha256Tree, size, root, &[]),
-        [a, b, c, d] => {
-            let claims = [record_of(a), record_of(b), record_of(c), record_of(d)];
-            check_records(Sha256Tree, size, root, &claims)
-        }
-        [a, b, c, d, e, f, g, h, i] => {
-            let claims = [
-                record_of(a),
-                record_of(b),
-                record_of(c),
-                record_of(d),
-                record_of(e),
-                record_of(f),
-                record_of(g),
-                record_of(h),
-                record_of(i),
-            ];
-            check_records(Sha256Tree, size, root, &claims)
-        }
-        _ => return unknown(alloc),
-    };
-    format!(in alloc; "{is_accepted}")
-}
-
-/// What a call answers.
-pub(crate) fn answer(alloc: Global, call: &str, text: &str) -> Answer {
-    match words_of(alloc, call)?.as_slice() {
-        ["record", rest @ ..] => proof(alloc, true, rest),
-        ["tree", rest @ ..] => proof(alloc, false, rest),
-        ["records", entries, size, places @ ..] => records(alloc, entries, size, places),
-        ["exact-record", rest @ ..] => exact(alloc, true, rest, false),
-        ["exact-tree", rest @ ..] => exact(alloc, false, rest, false),
-        ["bits-record", rest @ ..] => exact(alloc, true, rest, true),
-        ["bits-tree", rest @ ..] => exact(alloc, false, rest, true),
-        ["together", entries, size] => together(alloc, entries, number_of(size)),
-        ["check-records", size, root] => checked_together(alloc, size, root, text),
-        ["check-record", rest @ ..] => checked(alloc, true, rest),
-        ["check-tree", rest @ ..] => checked(alloc, false, rest),
-        _ => unknown(alloc),
+/// Writes what a call answers.
+pub(crate) fn answer(alloc: Global, words: &mut Words<'_>, text: &str, out: &mut String) -> Told {
+    match words.next() {
+        "record" => proof(alloc, true, words, out),
+        "tree" => proof(alloc, false, words, out),
+        "records" => records(alloc, words, out),
+        "exact-record" => exact(alloc, true, words, false, out),
+        "exact-tree" => exact(alloc, false, words, false, out),
+        "bits-record" => exact(alloc, true, words, true, out),
+        "bits-tree" => exact(alloc, false, words, true, out),
+        "together" => together(alloc, words, out),
+        "check-records" => checked_together(alloc, words, text, out),
+        "check-record" => checked(alloc, true, words, out),
+        "check-tree" => checked(alloc, false, words, out),
+        _ => unknown(out),
     }
 }

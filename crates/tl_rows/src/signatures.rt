@@ -1,105 +1,92 @@
 //! Rows of Ed25519 signatures. All bytes are in hexadecimal, and `-` stands for no bytes.
 
-use crate::words::{Answer, bytes_of, in_hex, key_of, text_of, unknown, words_of};
+use crate::words::{Told, Words, bytes_of, key_of, put_hex, unknown};
 use hex::FromHex;
-use std::alloc::{AllocError, Global};
+use std::alloc::Global;
 use tl_ed25519::{SecretKey, is_valid_public_key, public_key, sign, verify};
 
-// A truth.
-fn told(alloc: Global, is_so: bool) -> Answer {
-    text_of(alloc, if is_so { "yes" } else { "no" })
+// Writes a truth.
+fn tell(is_so: bool, out: &mut String) -> Told {
+    out.push_str(if is_so { "yes" } else { "no" })
 }
 
 // The signature of a message by a seed, where a key object makes the same.
-fn signed(alloc: Global, seed: &[u8; 32], message: &[u8]) -> Answer {
+fn signed(seed: &[u8; 32], message: &[u8], out: &mut String) -> Told {
     let signature = sign(seed, message);
     if SecretKey::new(seed).sign(message) != signature {
-        return text_of(alloc, "two signatures");
+        return out.push_str("two signatures");
     }
-    in_hex(alloc, signature.as_slice())
+    put_hex(out, signature.as_slice())
 }
 
 // The public key of a seed, where a key object has the same.
-fn public(alloc: Global, seed: &[u8; 32]) -> Answer {
+fn public(seed: &[u8; 32], out: &mut String) -> Told {
     let key = public_key(seed);
     if *SecretKey::new(seed).public_key() != key {
-        return text_of(alloc, "two public keys");
+        return out.push_str("two public keys");
     }
-    in_hex(alloc, key.as_slice())
+    put_hex(out, key.as_slice())
 }
 
-// Whether a signature stands.
-fn stands(key: &str, message: &[u8], signature: &str) -> bool {
-    match <[u8; 64] as FromHex>::from_hex(signature) {
-        Ok(signature) => verify(&key_of(key), message, &signature),
-        Err(_) => false,
-    }
+// The 64 bytes that a word gives, and zeros of any other word.
+fn signature_of(word: &str) -> [u8; 64] {
+    <[u8; 64] as FromHex>::from_hex(word).unwrap_or([0; 64])
 }
 
-// Whether a signature stands, of the bytes of a key, of the signature and of the message in turn.
-fn stands_whole(bytes: &[u8]) -> bool {
-    if bytes.len() < 96 {
-        return false;
+// How many bits of these bytes can be changed with the signature standing, of those in `bits`.
+fn stand_changed(key: &[u8; 32], message: &[u8], signature: &[u8; 64]) -> u64 {
+    let mut count = 0u64;
+    for bit in 0..256usize {
+        let mut other = *key;
+        other[bit / 8] ^= 1u8 << (bit % 8);
+        if verify(&other, message, signature) {
+            count = count.saturating_add(1);
+        }
     }
-    let mut key = [0u8; 32];
-    let mut signature = [0u8; 64];
-    for place in 0..32usize {
-        key[place] = bytes[place];
-        signature[place] = bytes[32 + place];
-        signature[32 + place] = bytes[64 + place];
+    for bit in 0..512usize {
+        let mut other = *signature;
+        other[bit / 8] ^= 1u8 << (bit % 8);
+        if verify(key, message, &other) {
+            count = count.saturating_add(1);
+        }
     }
-    verify(&key, &bytes[96..], &signature)
+    count
+}
+
+// The same of one bit of each byte of the message, which is the same again in the end.
+fn stand_of_others(key: &[u8; 32], message: &mut [u8], signature: &[u8; 64]) -> u64 {
+    let mut count = 0u64;
+    for place in 0..message.len() {
+        message[place] ^= 1 << 4;
+        if verify(key, message, signature) {
+            count = count.saturating_add(1);
+        }
+        message[place] ^= 1 << 4;
+    }
+    count
 }
 
 // How many stand of those with one bit changed: each bit of the key and the signature, and one of each byte of the
 // message.
-fn changed(alloc: Global, whole: &[u8]) -> Answer {
-    let mut bytes = Vec::from_slice(alloc, whole)?;
-    let mut count = 0u64;
-    for place in 0..bytes.len() {
-        for bit in 0..8u32 {
-            if place < 96 || bit == 4 {
-                bytes[place] ^= 1u8 << bit;
-                if stands_whole(bytes.as_slice()) {
-                    count = count.saturating_add(1);
-                }
-                bytes[place] ^= 1u8 << bit;
-            }
-        }
-    }
-    format!(in alloc;
-        "{count} of those changed, and {} as it is",
-        stands_whole(bytes.as_slice())
-    )
+fn changed(key: &[u8; 32], message: &mut [u8], signature: &[u8; 64], out: &mut String) -> Told {
+    let count = stand_changed(key, message, signature);
+    let count = count.saturating_add(stand_of_others(key, message, signature));
+    let stands = verify(key, message, signature);
+    write!(out, "{count} of those changed, and {stands} as it is")
 }
 
-// The bytes of three words, one after another.
-fn joined(alloc: Global, words: &[&str]) -> Result<Vec<u8>, AllocError> {
-    let mut bytes = Vec::new(alloc);
-    for word in words {
-        bytes.extend_from_slice(bytes_of(alloc, word).as_slice())?;
-    }
-    Ok(bytes)
-}
-
-/// What a call answers.
-pub(crate) fn answer(alloc: Global, call: &str) -> Answer {
-    match words_of(alloc, call)?.as_slice() {
-        ["public", seed] => public(alloc, &key_of(seed)),
-        ["sign", seed, message] => {
-            signed(alloc, &key_of(seed), bytes_of(alloc, message).as_slice())
-        }
-        ["verify", key, message, signature] => {
-            let message = bytes_of(alloc, message);
-            told(alloc, stands(key, message.as_slice(), signature))
-        }
-        ["sound", key] => told(alloc, is_valid_public_key(&key_of(key))),
-        ["changed", key, message, signature] => {
-            changed(
-                alloc,
-                joined(alloc, &[*key, *signature, *message])?.as_slice(),
-            )
-        }
-        _ => unknown(alloc),
+/// Writes what a call answers.
+pub(crate) fn answer(alloc: Global, words: &mut Words<'_>, out: &mut String) -> Told {
+    let call = words.next();
+    let key = key_of(words.next());
+    let mut message = bytes_of(alloc, words.next())?;
+    let signature = signature_of(words.next());
+    match call {
+        "public" => public(&key, out),
+        "sign" => signed(&key, message.as_slice(), out),
+        "verify" => tell(verify(&key, message.as_slice(), &signature), out),
+        "sound" => tell(is_valid_public_key(&key), out),
+        "changed" => changed(&key, message.as_mut_slice(), &signature, out),
+        _ => unknown(out),
     }
 }

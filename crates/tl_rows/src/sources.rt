@@ -1,25 +1,30 @@
 //! Rows of stored hashes that are read from checked tiles, of a source that may play a trick at one tile.
 
-use crate::words::{
-    Answer, entries_of, hashes_or, number_of, numbers_of, shown_hashes, text_of, unknown, words_of,
-};
+use crate::proofs::made;
+use crate::stores::{Store, named_store};
+use crate::words::{Told, Words, entries_of, put};
 use std::alloc::{AllocError, Allocator, Global};
 use std::cell::Cell;
-use tl_hash::{Sha256Tree, TreeHash};
-use tl_proof::{prove_record, prove_tree};
+use tl_hash::{Hash, Sha256Tree, TreeHash};
 use tl_store::{HashReader, HashStore, ReadFault, stored_count, stored_index, tree_hash};
 use tl_testing::{SumDigest, store_of, stored_bytes};
 use tl_tile::{
     FetchedTiles, Resource, SourceFault, Tile, TileHashReader, TileSource, needed, parse_path,
 };
 
-// A source over a store, which counts its fetches and plays a trick at one tile: it lacks the tile, changes the first
-// or the last byte, cuts or adds one, or exchanges the first two hashes.
+// What a source does: it plays a trick at one tile. It lacks the tile, changes the first or the last byte, cuts or adds
+// one, or exchanges the first two hashes.
+#[derive(Clone, Copy)]
+struct Trick<'s> {
+    name: &'s str,
+    tile: Option<Tile>,
+}
+
+// A source over a store, which counts its fetches.
 #[derive(Drop)]
 struct TrickSource<'s, T: TreeHash> {
     store: &'s HashStore<T, Global>,
-    tile: Option<Tile>,
-    trick: &'s str,
+    trick: Trick<'s>,
     fetches: &'s Cell<u32>,
 }
 
@@ -65,93 +70,112 @@ impl<T: TreeHash> TileSource for TrickSource<'_, T> {
             Err(ReadFault::OutOfMemory) => return Err(SourceFault::OutOfMemory),
             Err(_) => return Err(SourceFault::Unavailable),
         };
-        if self.tile == Some(tile) {
-            spoil(self.trick, &mut bytes)?;
+        if self.trick.tile == Some(tile) {
+            spoil(self.trick.name, &mut bytes)?;
         }
         Ok(bytes)
     }
 }
 
-// A reader of the first entries of a store from a source with a trick at a tile.
+type Reader<'s, T> = TileHashReader<T, TrickSource<'s, T>, Global>;
+
+// A reader of the first entries of a store from a source with a trick.
 fn reader_of<'s, T: TreeHash>(
     alloc: Global,
     h: T,
     store: &'s HashStore<T, Global>,
     size: u64,
-    trick: (&'s str, Option<Tile>),
+    trick: Trick<'s>,
     fetches: &'s Cell<u32>,
-) -> Result<TileHashReader<T, TrickSource<'s, T>, Global>, ReadFault> {
+) -> Result<Reader<'s, T>, ReadFault> {
     let root = tree_hash(alloc, h, size, store)?;
     let source = TrickSource {
         store,
-        tile: trick.1,
-        trick: trick.0,
+        trick,
         fetches,
     };
     Ok(TileHashReader::new(alloc, h, size, root, source))
 }
 
-// The tile with a path.
-fn tile_of(path: &str) -> Option<Tile> {
-    match parse_path(path) {
+// The trick that two words say: what is done, and the path of the tile.
+fn trick_of<'s>(words: &mut Words<'s>) -> Trick<'s> {
+    let name = words.next();
+    let tile = match parse_path(words.next()) {
         Some(Resource::Tile(tile)) => Some(tile),
         _ => None,
+    };
+    Trick { name, tile }
+}
+
+// Whether two reads answered the same.
+fn are_same(one: &Result<Vec<Hash>, ReadFault>, other: &Result<Vec<Hash>, ReadFault>) -> bool {
+    match (one, other) {
+        (Ok(one), Ok(other)) => one.as_slice() == other.as_slice(),
+        (Err(one), Err(other)) => *one == *other,
+        _ => false,
     }
+}
+
+// Writes tiles that were fetched with the lengths of their texts.
+fn put_fetched(out: &mut String, fetched: &[(Tile, Vec<u8>)]) -> Told {
+    for (tile, bytes) in fetched {
+        write!(out, "\n{tile:?} {}", bytes.len())?;
+    }
+    Ok(())
 }
 
 // The hashes that a read answers, and, of a read that hands them out, how many hashes or which fault, and the tiles
 // with the lengths of their texts.
-fn reads<T: TreeHash>(alloc: Global, h: T, trick: &str, words: &[&str]) -> Answer {
-    let [path, entries, numbers @ ..] = words else {
-        return unknown(alloc);
-    };
-    let entries = entries_of(alloc, entries)?;
-    let store = store_of(alloc, h, entries.as_slice())?;
-    let numbers = numbers_of(alloc, numbers)?;
-    let size = entries.len() as u64;
-    let fetches = Cell::new(0);
-    let trick = (trick, tile_of(path));
-    let Ok(reader) = reader_of(alloc, h, &store, size, trick, &fetches) else {
-        return unknown(alloc);
-    };
+fn read<T: TreeHash>(
+    alloc: Global,
+    reader: &Reader<'_, T>,
+    numbers: &[u64],
+    fetches: &Cell<u32>,
+    out: &mut String,
+) -> Told {
     let mut fetched = FetchedTiles::new(alloc);
-    let checked = reader.read_checked(alloc, numbers.as_slice(), &mut fetched);
-    let mut text = hashes_or(alloc, checked)?;
-    for (tile, bytes) in fetched.as_slice() {
-        text.push_str(format!(in alloc; "\n{tile:?} {}", bytes.len())?.as_str())?;
+    let checked = reader.read_checked(alloc, numbers, &mut fetched);
+    let count = fetches.get();
+    let is_same = are_same(&checked, &reader.read(alloc, numbers));
+    put(out, checked)?;
+    put_fetched(out, fetched.as_slice())?;
+    write!(out, "\n{count} fetched")?;
+    if !is_same {
+        out.push_str("\nanother answer of read")?;
     }
-    text.push_str(format!(in alloc; "\n{} fetched", fetches.get())?.as_str())?;
-    let again = hashes_or(alloc, reader.read(alloc, numbers.as_slice()))?;
-    if !text.starts_with(again.as_str()) {
-        text.push_str("\nanother answer of read")?;
+    Ok(())
+}
+
+// The same from a source with the trick that words say.
+fn reads<T: TreeHash>(alloc: Global, h: T, words: &mut Words<'_>, out: &mut String) -> Told {
+    let trick = trick_of(words);
+    let entries = entries_of(alloc, words.next())?;
+    let store = store_of(alloc, h, entries.as_slice())?;
+    let numbers = words.numbers(alloc)?;
+    let fetches = Cell::new(0);
+    match reader_of(alloc, h, &store, store.size(), trick, &fetches) {
+        Ok(reader) => read(alloc, &reader, numbers.as_slice(), &fetches, out),
+        Err(fault) => write!(out, "{fault:?}"),
     }
-    Ok(text)
 }
 
 // The head, or a proof that is made from the tiles of a source.
-fn proves(alloc: Global, call: &str, trick: &str, words: &[&str]) -> Answer {
-    let [path, entries, place] = words else {
-        return unknown(alloc);
-    };
-    let entries = entries_of(alloc, entries)?;
-    let store = store_of(alloc, Sha256Tree, entries.as_slice())?;
-    let (size, place) = (entries.len() as u64, number_of(place));
+fn proves(alloc: Global, call: &str, words: &mut Words<'_>, out: &mut String) -> Told {
+    let trick = trick_of(words);
+    let store = named_store(alloc, words.next())?;
+    let (size, place) = (store.size(), words.number());
     let fetches = Cell::new(0);
-    let trick = (trick, tile_of(path));
-    let Ok(reader) = reader_of(alloc, Sha256Tree, &store, size, trick, &fetches) else {
-        return unknown(alloc);
+    let reader = match reader_of(alloc, Sha256Tree, &store, size, trick, &fetches) {
+        Ok(reader) => reader,
+        Err(fault) => return write!(out, "{fault:?}"),
     };
-    match call {
-        "record" => hashes_or(alloc, prove_record(alloc, Sha256Tree, size, place, &reader)),
-        "tree" => hashes_or(alloc, prove_tree(alloc, Sha256Tree, size, place, &reader)),
-        _ => match tree_hash(alloc, Sha256Tree, size, &reader) {
-            Ok(root) => shown_hashes(alloc, &[root]),
-            Err(fault) => format!(in alloc; "{fault:?}"),
-        },
+    if call == "head" {
+        return put(out, tree_hash(alloc, Sha256Tree, size, &reader));
     }
+    put(out, made(alloc, call == "record", size, place, &reader))
 }
 
-// The numbers of all hashes that a log of this size stores.
+// The numbers of all hashes at a size.
 fn all_numbers(alloc: Global, size: u64) -> Result<Vec<u64>, AllocError> {
     let mut numbers = Vec::new(alloc);
     if size <= 100_000 {
@@ -162,19 +186,25 @@ fn all_numbers(alloc: Global, size: u64) -> Result<Vec<u64>, AllocError> {
     Ok(numbers)
 }
 
-type Store = HashStore<Sha256Tree, Global>;
+// The source that plays no trick.
+const HONEST: Trick<'static> = Trick {
+    name: "nothing",
+    tile: None,
+};
 
 // Whether these hashes of the first entries are read as they are stored.
 fn are_read(alloc: Global, store: &Store, size: u64, numbers: &[u64]) -> Result<bool, ReadFault> {
     let fetches = Cell::new(0);
-    let reader = reader_of(alloc, Sha256Tree, store, size, ("nothing", None), &fetches)?;
-    let hashes = reader.read(alloc, numbers)?;
-    Ok(hashes.as_slice() == store.read(alloc, numbers)?.as_slice())
+    let reader = reader_of(alloc, Sha256Tree, store, size, HONEST, &fetches)?;
+    Ok(are_same(&reader.read(alloc, numbers), &store.read(alloc, numbers)))
 }
 
 // Whether a changed bit of a tile is told where these hashes are read.
 fn is_told(alloc: Global, store: &Store, size: u64, tile: Tile, numbers: &[u64]) -> bool {
-    let trick = ("changes-last", Some(tile));
+    let trick = Trick {
+        name: "changes-last",
+        tile: Some(tile),
+    };
     let fetches = Cell::new(0);
     let Ok(reader) = reader_of(alloc, Sha256Tree, store, size, trick, &fetches) else {
         return false;
@@ -184,15 +214,10 @@ fn is_told(alloc: Global, store: &Store, size: u64, tile: Tile, numbers: &[u64])
 
 // The number of the first hash of a tile of the three lowest levels.
 fn first_number(tile: Tile) -> u64 {
-    if tile.index >= 1000 {
+    if tile.index >= 1000 || tile.level > 2 {
         return 0;
     }
-    match tile.level {
-        0 => stored_index(0, tile.index * 256),
-        1 => stored_index(8, tile.index * 256),
-        2 => stored_index(16, tile.index * 256),
-        _ => 0,
-    }
+    stored_index(tile.level * 8, tile.index * 256)
 }
 
 // How many of the tiles of a log of this size are told where one of their bits is changed: all hashes are read, or the
@@ -220,26 +245,39 @@ fn told(alloc: Global, store: &Store, size: u64, is_first: bool) -> Result<(u64,
     Ok(count)
 }
 
-// Rows over the first entries of those that a word names.
-fn over(alloc: Global, call: &str, entries: &str, size: u64) -> Answer {
-    let entries = entries_of(alloc, entries)?;
-    let store = store_of(alloc, Sha256Tree, entries.as_slice())?;
-    if call == "honest" {
-        let numbers = all_numbers(alloc, size)?;
-        let are_read = are_read(alloc, &store, size, numbers.as_slice()).unwrap_or(false);
-        return format!(in alloc; "{are_read} of {} hashes", numbers.len());
-    }
-    let (count, all) = told(alloc, &store, size, call == "told-first")?;
-    format!(in alloc; "{count} of {all} tiles")
+// How many hashes of the first entries of those that a word names are read, and whether as they are stored.
+fn honest(alloc: Global, words: &mut Words<'_>, out: &mut String) -> Told {
+    let store = named_store(alloc, words.next())?;
+    let size = words.number();
+    let numbers = all_numbers(alloc, size)?;
+    let are_read = are_read(alloc, &store, size, numbers.as_slice()).unwrap_or(false);
+    write!(out, "{are_read} of {} hashes", numbers.len())
 }
 
-/// What a call answers.
-pub(crate) fn answer(alloc: Global, call: &str) -> Answer {
-    match words_of(alloc, call)?.as_slice() {
-        ["read", "sha", trick, words @ ..] => reads(alloc, Sha256Tree, trick, words),
-        ["read", "sum", trick, words @ ..] => reads(alloc, SumDigest, trick, words),
-        [call, entries, size] => over(alloc, call, entries, number_of(size)),
-        [call, trick, words @ ..] => proves(alloc, call, trick, words),
-        _ => text_of(alloc, "no such source"),
+// How many lies about tiles are told.
+fn lies(alloc: Global, is_first: bool, words: &mut Words<'_>, out: &mut String) -> Told {
+    let store = named_store(alloc, words.next())?;
+    let (count, all) = told(alloc, &store, words.number(), is_first)?;
+    write!(out, "{count} of {all} tiles")
+}
+
+// The reads under a digest.
+fn read_by(alloc: Global, words: &mut Words<'_>, out: &mut String) -> Told {
+    match words.next() {
+        "sha" => reads(alloc, Sha256Tree, words, out),
+        _ => reads(alloc, SumDigest, words, out),
+    }
+}
+
+/// Writes what a call answers.
+pub(crate) fn answer(alloc: Global, words: &mut Words<'_>, out: &mut String) -> Told {
+    match words.next() {
+        "read" => read_by(alloc, words, out),
+        "honest" => honest(alloc, words, out),
+        "told" => lies(alloc, false, words, out),
+        "told-first" => lies(alloc, true, words, out),
+        "record" => proves(alloc, "record", words, out),
+        "tree" => proves(alloc, "tree", words, out),
+        _ => proves(alloc, "head", words, out),
     }
 }

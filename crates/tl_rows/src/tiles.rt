@@ -1,9 +1,7 @@
 //! Rows of resources, their paths, tiles and entry bundles.
 
 use crate::stores::named_store;
-use crate::words::{
-    Answer, bytes_of, entries_of, in_hex, number_of, shown_bytes, text_of, unknown, words_of,
-};
+use crate::words::{Shown, Told, Words, bytes_of, entries_of, put, put_hex, unknown};
 use std::alloc::{AllocError, Global};
 use tl_testing::stored_bytes;
 use tl_tile::{
@@ -11,23 +9,14 @@ use tl_tile::{
 };
 
 // The resource of a path, and its path written back.
-fn parsed(alloc: Global, path: &str) -> Answer {
+fn parsed(alloc: Global, path: &str, out: &mut String) -> Told {
     match parse_path(path) {
         Some(resource) => {
             let back = path_of(alloc, &resource)?;
-            format!(in alloc; "{resource:?} {back}")
+            write!(out, "{resource:?} {back}")
         }
-        None => text_of(alloc, "none"),
+        None => out.push_str("none"),
     }
-}
-
-// How many resources there are, and some of them.
-fn shown(alloc: Global, resources: &[Resource], from: u64, count: u64) -> Answer {
-    let mut text = format!(in alloc; "{}", resources.len())?;
-    for resource in resources.iter().skip(from as usize).take(count as usize) {
-        text.push_str(format!(in alloc; "\n{resource:?}")?.as_str())?;
-    }
-    Ok(text)
 }
 
 // The resources that a log of this size needs, beside those of an older size.
@@ -41,74 +30,70 @@ fn listed(alloc: Global, old: u64, size: u64) -> Result<Vec<Resource>, AllocErro
     added_resources(alloc, old, size)
 }
 
-// The bytes of a tile of the log of the entries that a word names.
-fn bytes(alloc: Global, words: &[&str]) -> Answer {
-    let [word, level, index, width] = words else {
-        return unknown(alloc);
-    };
-    let tile = Tile {
-        level: (number_of(level) % 256) as u32,
-        index: number_of(index),
-        width: (number_of(width) % 512) as u32,
-    };
-    match stored_bytes(alloc, tile, &named_store(alloc, word)?) {
-        Ok(bytes) => shown_bytes(alloc, bytes.as_slice()),
-        Err(fault) => format!(in alloc; "{fault:?}"),
+// How many resources there are, and some of them.
+fn resources(alloc: Global, words: &mut Words<'_>, out: &mut String) -> Told {
+    let old = words.number();
+    let resources = listed(alloc, old, words.number())?;
+    write!(out, "{}", resources.len())?;
+    let from = words.number() as usize;
+    let count = words.number() as usize;
+    for resource in resources.iter().skip(from).take(count) {
+        write!(out, "\n{resource:?}")?;
     }
+    Ok(())
+}
+
+// The bytes of a tile of the log of the entries that a word names.
+fn bytes(alloc: Global, words: &mut Words<'_>, out: &mut String) -> Told {
+    let store = named_store(alloc, words.next())?;
+    let tile = Tile {
+        level: (words.number() % 256) as u32,
+        index: words.number(),
+        width: (words.number() % 512) as u32,
+    };
+    put(out, stored_bytes(alloc, tile, &store))
 }
 
 // The bundle of the entries that a word names.
-fn written(alloc: Global, word: &str) -> Answer {
+fn written(alloc: Global, word: &str, out: &mut String) -> Told {
     let entries = entries_of(alloc, word)?;
     if entries.is_empty() || entries.len() > 256 {
-        return unknown(alloc);
+        return unknown(out);
     }
-    match write_bundle(alloc, entries.as_slice()) {
-        Ok(bytes) => shown_bytes(alloc, bytes.as_slice()),
-        Err(fault) => format!(in alloc; "{fault:?}"),
+    put(out, write_bundle(alloc, entries.as_slice()))
+}
+
+/// How many entries there are, and each.
+impl Shown for Vec<Vec<u8>> {
+    fn show(&self, out: &mut String) -> Told {
+        write!(out, "{}", self.len())?;
+        for entry in self {
+            out.push(' ')?;
+            put_hex(out, entry.as_slice())?;
+        }
+        Ok(())
     }
 }
 
 // The entries of a bundle.
-fn read(alloc: Global, width: u64, digits: &str) -> Answer {
+fn read(alloc: Global, width: u64, digits: &str, out: &mut String) -> Told {
     if width == 0 || width > 256 {
-        return unknown(alloc);
+        return unknown(out);
     }
-    let bytes = bytes_of(alloc, digits);
-    let entries = match read_bundle(alloc, bytes.as_slice(), width as u32) {
-        Ok(entries) => entries,
-        Err(fault) => return format!(in alloc; "{fault:?}"),
-    };
-    let mut text = format!(in alloc; "{}", entries.len())?;
-    for entry in &entries {
-        text.push(' ')?;
-        text.push_str(in_hex(alloc, entry.as_slice())?.as_str())?;
-    }
-    Ok(text)
+    let bytes = bytes_of(alloc, digits)?;
+    put(out, read_bundle(alloc, bytes.as_slice(), width as u32))
 }
 
-// Some of the resources of a size.
-fn resources(alloc: Global, words: &[&str]) -> Answer {
-    let [old, size, from, count] = words else {
-        return unknown(alloc);
-    };
-    let resources = listed(alloc, number_of(old), number_of(size))?;
-    shown(
-        alloc,
-        resources.as_slice(),
-        number_of(from),
-        number_of(count),
-    )
-}
-
-/// What a call answers.
-pub(crate) fn answer(alloc: Global, call: &str, text: &str) -> Answer {
-    match words_of(alloc, call)?.as_slice() {
-        ["path"] => parsed(alloc, text),
-        ["needed", words @ ..] => resources(alloc, words),
-        ["bytes", words @ ..] => bytes(alloc, words),
-        ["write-bundle", entries] => written(alloc, entries),
-        ["read-bundle", width, digits] => read(alloc, number_of(width), digits),
-        _ => unknown(alloc),
+/// Writes what a call answers.
+pub(crate) fn answer(alloc: Global, words: &mut Words<'_>, text: &str, out: &mut String) -> Told {
+    match words.next() {
+        "path" => parsed(alloc, text, out),
+        "needed" => resources(alloc, words, out),
+        "bytes" => bytes(alloc, words, out),
+        "write-bundle" => written(alloc, words.next(), out),
+        _ => {
+            let width = words.number();
+            read(alloc, width, words.next(), out)
+        }
     }
 }

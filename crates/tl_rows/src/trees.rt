@@ -1,51 +1,44 @@
 //! Rows of hashes of trees.
 
-use crate::words::{
-    Answer, bytes_of, entries_of, in_hex, number_of, parse_hash, unknown, words_of,
-};
+use crate::words::{Told, Words, bytes_of, entries_of, put_hash, unknown};
 use std::alloc::Global;
-use tl_hash::{
-    Hash, Sha256Tree, TreeHash, empty_hash, entry_root, leaf_hash, node_hash, split_point,
-};
+use tl_hash::{Sha256Tree, TreeHash, empty_hash, entry_root, leaf_hash, node_hash, split_point};
 use tl_testing::SumDigest;
 
-// A hash in hexadecimal.
-fn shown(alloc: Global, hash: Hash) -> Answer {
-    in_hex(alloc, hash.as_bytes().as_slice())
-}
-
-// The root of the entries that a word names.
-fn root<T: TreeHash>(alloc: Global, h: T, word: &str) -> Answer {
-    let entries = entries_of(alloc, word)?;
-    shown(alloc, entry_root(h, entries.as_slice()))
+// The root of the entries that a word names, or of none.
+fn tree<T: TreeHash>(alloc: Global, h: T, words: &mut Words<'_>, out: &mut String) -> Told {
+    if words.next() == "empty" {
+        return put_hash(out, empty_hash(h));
+    }
+    let entries = entries_of(alloc, words.next())?;
+    put_hash(out, entry_root(h, entries.as_slice()))
 }
 
 // Where a tree of so many entries is split.
-fn split(alloc: Global, size: u64) -> Answer {
+fn split(size: u64, out: &mut String) -> Told {
     if size < 2 {
-        return unknown(alloc);
+        return unknown(out);
     }
-    format!(in alloc; "{}", split_point(size))
+    write!(out, "{}", split_point(size))
 }
 
-/// What a call answers.
-pub(crate) fn answer(alloc: Global, call: &str) -> Answer {
-    match words_of(alloc, call)?.as_slice() {
-        ["empty"] => shown(alloc, empty_hash(Sha256Tree)),
-        ["leaf", entry] => shown(
-            alloc,
-            leaf_hash(Sha256Tree, bytes_of(alloc, entry).as_slice()),
-        ),
-        ["node", left, right] => {
-            shown(
-                alloc,
-                node_hash(Sha256Tree, parse_hash(left), parse_hash(right)),
-            )
+/// Writes what a call answers.
+pub(crate) fn answer(alloc: Global, words: &mut Words<'_>, out: &mut String) -> Told {
+    let before = *words;
+    match words.next() {
+        "leaf" => {
+            let entry = bytes_of(alloc, words.next())?;
+            put_hash(out, leaf_hash(Sha256Tree, entry.as_slice()))
         }
-        ["root", entries] => root(alloc, Sha256Tree, entries),
-        ["sum", "empty"] => shown(alloc, empty_hash(SumDigest)),
-        ["sum", "root", entries] => root(alloc, SumDigest, entries),
-        ["split", size] => split(alloc, number_of(size)),
-        _ => unknown(alloc),
+        "node" => {
+            let left = words.hash();
+            put_hash(out, node_hash(Sha256Tree, left, words.hash()))
+        }
+        "split" => split(words.number(), out),
+        "sum" => tree(alloc, SumDigest, words, out),
+        _ => {
+            *words = before;
+            tree(alloc, Sha256Tree, words, out)
+        }
     }
 }

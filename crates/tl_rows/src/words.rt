@@ -1,25 +1,59 @@
-//! The words of a call, and how bytes and hashes are printed.
+//! The words of a call, and how answers are written.
 
-use hex::FromHex;
+use hex::{FromHex, FromHexError};
 use std::alloc::{AllocError, Global};
 use std::fmt::Debug;
 use tl_hash::Hash;
 use tl_testing::vectors::{entries, numbered};
 
-/// What a call answers, as a text.
-pub(crate) type Answer = Result<String, AllocError>;
+/// Whether an answer was written: it isn't where memory is refused.
+pub(crate) type Told = Result<(), AllocError>;
 
-/// The words between single spaces.
-pub(crate) fn words_of<'a>(alloc: Global, call: &'a str) -> Result<Vec<&'a str>, AllocError> {
-    call.split(' ').collect::<Vec<&str>>(alloc)
+/// The words of a call that are left, with single spaces between.
+#[derive(Clone, Copy)]
+pub(crate) struct Words<'a> {
+    pub(crate) left: &'a str,
 }
 
-/// The names between commas; of an empty text none.
-pub(crate) fn names_of<'a>(alloc: Global, text: &'a str) -> Result<Vec<&'a str>, AllocError> {
-    if text.is_empty() {
-        return Ok(Vec::new(alloc));
+impl<'a> Words<'a> {
+    /// The next word, which is empty where none is left.
+    pub(crate) fn next(&mut self) -> &'a str {
+        let (word, left) = self.left.split_once(' ').unwrap_or((self.left, ""));
+        self.left = left;
+        word
     }
-    text.split(',').collect::<Vec<&str>>(alloc)
+
+    /// The number that the next word is, and 0 of any other word.
+    pub(crate) fn number(&mut self) -> u64 {
+        number_of(self.next())
+    }
+
+    /// The hash that the next word is.
+    pub(crate) fn hash(&mut self) -> Hash {
+        parse_hash(self.next())
+    }
+
+    /// The hashes that the words are which are left.
+    pub(crate) fn hashes(&self, alloc: Global) -> Result<Vec<Hash>, AllocError> {
+        let mut hashes = Vec::new(alloc);
+        for word in self.left.split(' ') {
+            if !word.is_empty() {
+                hashes.push(parse_hash(word))?;
+            }
+        }
+        Ok(hashes)
+    }
+
+    /// The numbers that the words are which are left.
+    pub(crate) fn numbers(&self, alloc: Global) -> Result<Vec<u64>, AllocError> {
+        let mut numbers = Vec::new(alloc);
+        for word in self.left.split(' ') {
+            if !word.is_empty() {
+                numbers.push(number_of(word))?;
+            }
+        }
+        Ok(numbers)
+    }
 }
 
 /// The number that a word is, and 0 of any other word.
@@ -28,10 +62,11 @@ pub(crate) fn number_of(word: &str) -> u64 {
 }
 
 /// The bytes that a word gives in hexadecimal, and none of any other word.
-pub(crate) fn bytes_of(alloc: Global, word: &str) -> Vec<u8> {
+pub(crate) fn bytes_of(alloc: Global, word: &str) -> Result<Vec<u8>, AllocError> {
     match hex::decode(alloc, word) {
-        Ok(bytes) => bytes,
-        Err(_) => Vec::new(alloc),
+        Ok(bytes) => Ok(bytes),
+        Err(FromHexError::OutOfMemory) => Err(AllocError),
+        Err(_) => Ok(Vec::new(alloc)),
     }
 }
 
@@ -40,32 +75,14 @@ pub(crate) fn key_of(word: &str) -> [u8; 32] {
     <[u8; 32] as FromHex>::from_hex(word).unwrap_or([0; 32])
 }
 
-/// The same as a hash. A word of two digits is the hash with this first byte, and 31 zeros behind it.
-pub(crate) fn parse_hash(word: &str) -> Hash {
+// The same as a hash. A word of two digits is the hash with this first byte, and 31 zeros behind it.
+fn parse_hash(word: &str) -> Hash {
     let mut bytes = key_of(word);
     if word.len() == 2 {
         let first = <[u8; 1] as FromHex>::from_hex(word).unwrap_or([0]);
         bytes[0] = first[0];
     }
     Hash::from_bytes(bytes)
-}
-
-/// The hashes that words are.
-pub(crate) fn hashes_of(alloc: Global, words: &[&str]) -> Result<Vec<Hash>, AllocError> {
-    let mut hashes = Vec::new(alloc);
-    for word in words {
-        hashes.push(parse_hash(word))?;
-    }
-    Ok(hashes)
-}
-
-/// The numbers that words are.
-pub(crate) fn numbers_of(alloc: Global, words: &[&str]) -> Result<Vec<u64>, AllocError> {
-    let mut numbers = Vec::new(alloc);
-    for word in words {
-        numbers.push(number_of(word))?;
-    }
-    Ok(numbers)
 }
 
 // So many entries of so many bytes 7.
@@ -81,7 +98,7 @@ fn equal_entries(alloc: Global, count: u64, length: u64) -> Result<Vec<Vec<u8>>,
 fn listed_entries(alloc: Global, text: &str) -> Result<Vec<Vec<u8>>, AllocError> {
     let mut list = Vec::new(alloc);
     for word in text.split(',') {
-        list.push(bytes_of(alloc, word))?;
+        list.push(bytes_of(alloc, word)?)?;
     }
     Ok(list)
 }
@@ -100,41 +117,75 @@ pub(crate) fn entries_of(alloc: Global, word: &str) -> Result<Vec<Vec<u8>>, Allo
     }
 }
 
-/// Bytes in hexadecimal.
-pub(crate) fn in_hex(alloc: Global, bytes: &[u8]) -> Answer {
-    hex::encode(alloc, bytes)
-}
-
-/// How many bytes there are, and the first 256 of them in hexadecimal.
-pub(crate) fn shown_bytes(alloc: Global, bytes: &[u8]) -> Answer {
-    let text = in_hex(alloc, bytes.get(..256).unwrap_or(bytes))?;
-    format!(in alloc; "{} {text}", bytes.len())
-}
-
-/// How many hashes there are, and each in hexadecimal.
-pub(crate) fn shown_hashes(alloc: Global, hashes: &[Hash]) -> Answer {
-    let mut text = format!(in alloc; "{}", hashes.len())?;
-    for hash in hashes {
-        text.push(' ')?;
-        text.push_str(in_hex(alloc, hash.as_bytes().as_slice())?.as_str())?;
+/// Writes bytes in hexadecimal.
+pub(crate) fn put_hex(out: &mut String, bytes: &[u8]) -> Told {
+    for byte in bytes {
+        write!(out, "{byte:02x}")?;
     }
-    Ok(text)
+    Ok(())
 }
 
-/// The same, or the fault in their place.
-pub(crate) fn hashes_or<E: Debug + Drop>(alloc: Global, answer: Result<Vec<Hash>, E>) -> Answer {
+/// Writes a hash in hexadecimal.
+pub(crate) fn put_hash(out: &mut String, hash: Hash) -> Told {
+    put_hex(out, hash.as_bytes().as_slice())
+}
+
+/// Writes how many bytes there are, and the first 256 of them in hexadecimal.
+pub(crate) fn put_bytes(out: &mut String, bytes: &[u8]) -> Told {
+    write!(out, "{} ", bytes.len())?;
+    put_hex(out, bytes.get(..256).unwrap_or(bytes))
+}
+
+/// Writes what is answered where a call has no such row.
+pub(crate) fn unknown(out: &mut String) -> Told {
+    out.push_str("no such call")
+}
+
+/// What is written of an answer that has no fault.
+pub(crate) trait Shown {
+    /// Writes it.
+    fn show(&self, out: &mut String) -> Told;
+}
+
+/// Writes what a call answered, or its fault.
+pub(crate) fn put<T: Shown + Drop, E: Debug + Drop>(
+    out: &mut String,
+    answer: Result<T, E>,
+) -> Told {
     match answer {
-        Ok(hashes) => shown_hashes(alloc, hashes.as_slice()),
-        Err(fault) => format!(in alloc; "{fault:?}"),
+        Ok(value) => value.show(out),
+        Err(fault) => write!(out, "{fault:?}"),
     }
 }
 
-/// A text.
-pub(crate) fn text_of(alloc: Global, text: &str) -> Answer {
-    String::from_str(alloc, text)
+impl Shown for String {
+    fn show(&self, out: &mut String) -> Told {
+        write!(out, "{self:?}")
+    }
 }
 
-/// What is answered where a call has no such row.
-pub(crate) fn unknown(alloc: Global) -> Answer {
-    text_of(alloc, "no such call")
+impl Shown for Vec<u8> {
+    fn show(&self, out: &mut String) -> Told {
+        put_bytes(out, self.as_slice())
+    }
+}
+
+/// How many hashes there are, and each.
+impl Shown for Vec<Hash> {
+    fn show(&self, out: &mut String) -> Told {
+        write!(out, "{}", self.len())?;
+        for hash in self {
+            out.push(' ')?;
+            put_hash(out, *hash)?;
+        }
+        Ok(())
+    }
+}
+
+/// As one of several.
+impl Shown for Hash {
+    fn show(&self, out: &mut String) -> Told {
+        out.push_str("1 ")?;
+        put_hash(out, *self)
+    }
 }

@@ -1,0 +1,278 @@
+"""Readers of texts and bytes, written after the standards (C2SP signed-note, tlog-checkpoint, tlog-tiles and tlog-witness;
+RFC 8032, 9112 and 9162), with nothing of the program's own: what these say is due where the program is given such bytes.
+What isn't such a text is None, or a fault's name.
+"""
+import base64
+import re
+
+from tlog_test import CURVE, ORIGIN, PRIME, SeedKey, leaf, node, root, sha, sum_of, text
+
+# White space of Unicode, plus, and what is below a space: not in a key's name.
+NAME = '[^\x00-\x20+\x85\xa0\u1680\u2000-\u200a\u2028\u2029\u202f\u205f\u3000]+'
+CONTROL = re.compile('[\x00-\x09\x0b-\x1f]')
+TOKEN = rb"[!#$%&'*+.^_`|~0-9A-Za-z-]+"
+FIELD = TOKEN + rb':[\t -~\x80-\xff]*\r?\n'
+HEAD = re.compile(rb'(?:\r?\n)*(%s) ([!-~\x80-\xff]+) HTTP/1\.[01]\r?\n((?:%s)*)\r?\n' % (TOKEN, FIELD))
+DIGITS, HASH = '(0|[1-9][0-9]{0,18})', '([A-Za-z0-9+/]{43}=)'
+INCLUSION = re.compile(f'inclusion\nindex {DIGITS}\nsize {DIGITS}\nleaf {HASH}\nroot {HASH}\n((?:{HASH}\n)*)')
+CONSISTENCY = re.compile(f'consistency\nold {DIGITS}\noldroot {HASH}\nsize {DIGITS}\nroot {HASH}\n((?:{HASH}\n)*)')
+PATH = re.compile(r'tile/(entries|[0-7])/((?:x[0-9]{3}/){0,5})([0-9]{3})(?:\.p/([1-9][0-9]{0,2}))?')
+
+
+def decoded(data):
+    try:
+        return data.decode()
+    except UnicodeDecodeError:
+        return None
+
+
+def number(word):
+    return int(word) if re.fullmatch(DIGITS, word) and int(word) < 2 ** 63 else None
+
+
+def bytes_in(word):
+    """The bytes of which a word is the base64."""
+    try:
+        data = base64.b64decode(word, validate=True)
+    except ValueError:
+        return None
+    return data if text(data) == word else None
+
+
+def hash_in(word):
+    data = bytes_in(word)
+    return data if data is not None and len(data) == 32 else None
+
+
+def hashes_in(words):
+    found = [hash_in(word) for word in words]
+    return None if None in found else found
+
+
+def lines_in(whole):
+    """The lines of a text, each ended by a newline."""
+    lines = whole.split('\n')
+    return None if lines.pop() else lines
+
+
+def signature_lines(whole):
+    """Name, identifier, base64 and signature of each of 1 to 100 signature lines."""
+    lines, found = lines_in(whole), []
+    if not lines or len(lines) > 100:
+        return None
+    for line in lines:
+        parts = re.fullmatch(f'\u2014 ({NAME}) (.+)', line)
+        data = parts and bytes_in(parts[2])
+        if not data or len(data) < 5:
+            return None
+        found.append((parts[1], data[:4], parts[2], data[4:]))
+    return found
+
+
+def note_in(data):
+    """The text of a note and its signature lines."""
+    whole = decoded(data)
+    cut = -1 if whole is None or CONTROL.search(whole) else whole.rfind('\n\n')
+    lines = None if cut < 0 else signature_lines(whole[cut + 2:])
+    return lines and (whole[:cut + 1], lines)
+
+
+def opened(note, keys):
+    """The places of the lines that count of a note that opens under keys, and of those of no key; or the fault. A key is a
+    name, an identifier, and what it says of a text and a signature."""
+    count, unknown, seen = [], [], set()
+    for place, (name, id, _, mark) in enumerate(note[1]):
+        known = [accepts for key, key_id, accepts in keys if (key, key_id) == (name, id)]
+        if not known:
+            unknown.append(place)
+        elif (name, id) not in seen:
+            seen.add((name, id))
+            if len(known) > 1:
+                return f'Ambiguous({place})'
+            if not known[0](note[0].encode(), mark):
+                return f'InvalidSignature({place})'
+            count.append(place)
+    return (count, unknown) if count else 'Unverified'
+
+
+def checkpoint_in(whole):
+    """Origin, size and root of a checkpoint, or the first fault."""
+    lines = lines_in(whole)
+    if not lines or len(lines) < 3 or CONTROL.search(whole) or '' in lines[3:]:
+        return 'Lines'
+    size, top = number(lines[1]), hash_in(lines[2])
+    fault = 'Origin' if not lines[0] else 'Size' if size is None else 'Root' if top is None else None
+    return fault or (lines[0], size, top)
+
+
+def is_sound(public):
+    """Whether 32 bytes are the one spelling of a point that isn't of small order (RFC 8032, section 5.1.3)."""
+    y, sign = int.from_bytes(public, 'little') & (1 << 255) - 1, public[31] >> 7
+    if y >= PRIME:
+        return False
+    square = (y * y - 1) * pow(CURVE * y * y + 1, -1, PRIME) % PRIME
+    x = pow(square, (PRIME + 3) // 8, PRIME)
+    x = x if x * x % PRIME == square else x * pow(2, (PRIME - 1) // 4, PRIME) % PRIME
+    if x * x % PRIME != square or (x == 0 and sign):
+        return False
+    x = x if x & 1 == sign else PRIME - x
+    point = x, y, 1, x * y % PRIME
+    for _ in range(3):
+        point = sum_of(point, point)
+    return point[0] != 0
+
+
+def verifier_in(whole):
+    """Name, identifier and public key of a verifier's key of notes."""
+    parts = re.fullmatch(f'({NAME})\\+([0-9a-f]{{8}})\\+([A-Za-z0-9+/=]+)', whole)
+    data = parts and bytes_in(parts[3])
+    if not data or len(data) != 33 or data[0] != 1 or not is_sound(data[1:]):
+        return None
+    id = sha(parts[1].encode() + b'\n' + data)[:4].hex()
+    return (parts[1], id, data[1:]) if id == parts[2] else None
+
+
+def signer_in(whole):
+    """The key of a signer's text."""
+    parts = re.fullmatch(f'PRIVATE\\+KEY\\+({NAME})\\+[0-9a-f]{{8}}\\+([A-Za-z0-9+/=]+)', whole)
+    data = parts and bytes_in(parts[2])
+    key = SeedKey(data[1:], parts[1]) if data and len(data) == 33 else None
+    return key if key and key.private == whole else None
+
+
+def resource_in(path):
+    """The resource of a path, as it is shown."""
+    parts = PATH.fullmatch(path)
+    if path == 'checkpoint' or not parts or parts[2].startswith('x000/'):
+        return 'Checkpoint' if path == 'checkpoint' else None
+    index, width = int(re.sub('[x/]', '', parts[2]) + parts[3]), int(parts[4] or 256)
+    if index >= 2 ** 56 or (parts[4] and width > 255):
+        return None
+    shown = f'index: {index}, width: {width} }}'
+    return f'Entries {{ {shown}' if parts[1] == 'entries' else f'Tile(Tile {{ level: {parts[1]}, {shown})'
+
+
+def entries_in(data, width):
+    """The entries of a bundle, or the fault."""
+    found = []
+    for _ in range(width):
+        length = int.from_bytes(data[:2], 'big')
+        if len(data) < 2 + length or len(data) < 2:
+            return 'Truncated'
+        found.append(data[2:2 + length])
+        data = data[2 + length:]
+    return 'Trailing' if data else found
+
+
+def includes(index, size, hash, top, proof):
+    """Whether an inclusion proof is accepted (RFC 9162, section 2.1.3.2)."""
+    if index >= size:
+        return False
+    place, last = index, size - 1
+    for other in proof:
+        if last == 0:
+            return False
+        if place & 1 or place == last:
+            hash = node(other, hash)
+            while place and not place & 1:
+                place, last = place >> 1, last >> 1
+        else:
+            hash = node(hash, other)
+        place, last = place >> 1, last >> 1
+    return last == 0 and hash == top
+
+
+def grows(old, old_top, size, top, proof):
+    """Whether a consistency proof is accepted (RFC 9162, section 2.1.4.2); from no entries it has no hashes."""
+    if old == size or old == 0 or old > size:
+        return not proof and (old_top == top if old == size else old == 0 and old_top == sha(b''))
+    proof = ([old_top] if old & (old - 1) == 0 else []) + proof
+    if not proof:
+        return False
+    place, last = old - 1, size - 1
+    while place & 1:
+        place, last = place >> 1, last >> 1
+    one = other = proof[0]
+    for hash in proof[1:]:
+        if last == 0:
+            return False
+        if place & 1 or place == last:
+            one, other = node(hash, one), node(hash, other)
+            while place and not place & 1:
+                place, last = place >> 1, last >> 1
+        else:
+            other = node(other, hash)
+        place, last = place >> 1, last >> 1
+    return last == 0 and one == old_top and other == top
+
+
+def proof_in(data):
+    """What a text of a proof says: whether it is accepted, its size and root, and the hash that it shows."""
+    whole = decoded(data) or ''
+    parts = INCLUSION.fullmatch(whole) or CONSISTENCY.fullmatch(whole)
+    if not parts:
+        return None
+    is_inclusion, hashes = whole[0] == 'i', hashes_in(parts[5].split())
+    first, size = number(parts[1]), number(parts[2 if is_inclusion else 3])
+    hash, top = hash_in(parts[3 if is_inclusion else 2]), hash_in(parts[4])
+    if None in (first, size, hash, top, hashes):
+        return None
+    accepted = includes(first, size, hash, top, hashes) if is_inclusion else grows(first, hash, size, top, hashes)
+    return accepted, size, top, hash if is_inclusion else None
+
+
+def audit_in(data):
+    """Whether the proof of an audit is accepted from the one list to the other."""
+    lines, lists = data.split(b'\n'), []
+    if lines.pop():
+        return None
+    for word in ('old ', 'new '):
+        front = (lines and decoded(lines[0])) or ''
+        count = number(front[4:]) if front.startswith(word) else None
+        if count is None or len(lines) <= count:
+            return None
+        lists.append([leaf(line) for line in lines[1:count + 1]])
+        lines = lines[count + 1:]
+    hashes = hashes_in([decoded(line) or '' for line in lines])
+    old, new = lists
+    return None if hashes is None else grows(len(old), root(old), len(new), root(new), hashes)
+
+
+def link_in(line):
+    """Origin, size, root and proof of a saved link's line."""
+    words = (decoded(line) or '').split(' ', 3)
+    count = number(words[2]) if len(words) == 4 else None
+    if count is None or count > 63:
+        return None
+    parts = words[3].split(' ', count)
+    size, top, hashes = number(words[0]), hash_in(words[1]), hashes_in(parts[:-1])
+    if None in (size, top, hashes) or len(parts) <= count or not parts[-1] or CONTROL.search(parts[-1]):
+        return None
+    return parts[-1], size, top, hashes
+
+
+def first_refused(data):
+    """The number that a witness of the log names of saved links: of the first line that is none; else of the first origin
+    that isn't the log's, in the order of their first lines; else of the first link that doesn't follow."""
+    *lines, last = data.split(b'\n')
+    links = [link_in(line) for line in lines]
+    if last or None in links:
+        return links.index(None) if None in links else len(links)
+    for place, origin in enumerate(dict.fromkeys(link[0] for link in links)):
+        if origin != ORIGIN:
+            return place
+    head = 0, sha(b'')
+    for place, (_, size, top, hashes) in enumerate(links):
+        if not grows(*head, size, top, hashes):
+            return place
+        head = size, top
+    return None
+
+
+def request_in(data):
+    """The old size, the proof and the note of a request to a witness."""
+    whole = decoded(data)
+    front, cut, note = ('\n' + (whole or '')).partition('\n\n')
+    words = front[1:].split('\n')
+    old, hashes = number(words[0][4:]) if words[0].startswith('old ') else None, hashes_in(words[1:])
+    return None if not cut or None in (old, hashes) or len(hashes) > 63 else (old, hashes, note.encode())
