@@ -59,12 +59,6 @@ fn sha256(rt: &impl Print, words: &[String]) -> io::Result<bool> {
     Ok(true)
 }
 
-// A loop that was measured to its end.
-fn measured(outcome: io::Result<()>) -> io::Result<bool> {
-    outcome?;
-    Ok(true)
-}
-
 // Proofs over a small log and a large one.
 fn both_sizes<R: Clock + Print>(rt: &R, alloc: Global) -> io::Result<bool> {
     Ok(proofs(rt, alloc, 1_000)? && proofs(rt, alloc, 1_000_000)?)
@@ -74,12 +68,34 @@ fn both_sizes<R: Clock + Print>(rt: &R, alloc: Global) -> io::Result<bool> {
 fn published<R: Threads + Wait + Clock + Print + Copy + Drop>(
     rt: &R,
     alloc: Global,
-    batch: &String,
+    words: &[String],
 ) -> io::Result<bool> {
+    let Some(batch) = words.first() else {
+        return Ok(false);
+    };
     let Ok(batch) = batch.parse::<u64>() else {
         return Ok(false);
     };
     Ok(publish(rt, alloc, batch)?.is_some())
+}
+
+// Measures the loop of a word. Whether it is one, and was measured to its end.
+fn measured<R: Threads + Wait + Clock + Print + Copy + Send + Drop + 'static>(
+    rt: &R,
+    alloc: Global,
+    word: &str,
+    rest: &[String],
+) -> io::Result<bool> {
+    match word {
+        "sha256" => sha256(rt, rest),
+        "sequencer" => sequencer(rt, alloc),
+        "proofs" => both_sizes(rt, alloc),
+        "tiles" => tiles(rt, alloc),
+        "publish" => published(rt, alloc, rest),
+        "chains" => chains(rt, alloc),
+        "keys" => keys(rt),
+        _ => Ok(false),
+    }
 }
 
 fn main(rt: HostRuntime) -> ExitCode {
@@ -89,17 +105,9 @@ fn main(rt: HostRuntime) -> ExitCode {
     let Ok(words) = args.collect::<Vec<String>>(rt.alloc()) else {
         return ExitCode::from(1);
     };
-    let outcome = match words.as_slice() {
-        [_, word, rest @ ..] if word.as_str() == "sha256" => sha256(&rt, rest),
-        [_, word] if word.as_str() == "sequencer" => measured(sequencer(&rt, rt.alloc())),
-        [_, word] if word.as_str() == "proofs" => both_sizes(&rt, rt.alloc()),
-        [_, word] if word.as_str() == "tiles" => tiles(&rt, rt.alloc()),
-        [_, word, batch] if word.as_str() == "publish" => published(&rt, rt.alloc(), batch),
-        [_, word] if word.as_str() == "chains" => chains(&rt, rt.alloc()),
-        [_, word] if word.as_str() == "keys" => keys(&rt),
-        _ => Ok(false),
-    };
-    match outcome {
+    let word = words.get(1).map_or("", |word| word.as_str());
+    let rest = words.get(2..).unwrap_or(&[]);
+    match measured(&rt, rt.alloc(), word, rest) {
         Ok(true) => ExitCode::SUCCESS,
         Ok(false) => {
             let _ = rt.eprintln(

@@ -63,38 +63,31 @@ pub(crate) fn place_of(number: u64, size: u64) -> u64 {
     number.wrapping_mul(STRIDE) % size.max(1)
 }
 
-// Inclusion proofs over the store.
-fn inclusion_proofs(alloc: Global, store: &Store) -> Option<Vec<Made>> {
+// The proof of the entry at a place, or that of an old size, whose root is put in later.
+fn made_at(alloc: Global, is_record: bool, store: &Store, place: u64) -> Option<Made> {
     let size = store.size();
-    let mut made = Vec::new(alloc);
-    for number in 0..PROOFS {
-        let index = place_of(number, size);
-        let proof = prove_record(alloc, Sha256Tree, size, index, store).ok()?;
-        let hash = leaf_hash(Sha256Tree, &index.to_be_bytes());
-        made.push(Made {
-            number: index,
-            hash,
+    if is_record {
+        let proof = prove_record(alloc, Sha256Tree, size, place, store).ok()?;
+        return Some(Made {
+            number: place,
+            hash: leaf_hash(Sha256Tree, &place.to_be_bytes()),
             proof,
-        })
-        .ok()?;
+        });
     }
-    Some(made)
+    let proof = prove_tree(alloc, Sha256Tree, size, place.max(1), store).ok()?;
+    Some(Made {
+        number: place.max(1),
+        hash: Hash::from_bytes([0; 32]),
+        proof,
+    })
 }
 
-// Consistency proofs over the store, without their old roots.
-fn consistency_proofs(alloc: Global, store: &Store) -> Option<Vec<Made>> {
-    let size = store.size();
-    let hash = Hash::from_bytes([0; 32]);
+// Proofs of one kind over the store.
+fn made_all(alloc: Global, is_record: bool, store: &Store) -> Option<Vec<Made>> {
     let mut made = Vec::new(alloc);
     for number in 0..PROOFS {
-        let old = place_of(number, size).max(1);
-        let proof = prove_tree(alloc, Sha256Tree, size, old, store).ok()?;
-        made.push(Made {
-            number: old,
-            hash,
-            proof,
-        })
-        .ok()?;
+        let place = place_of(number, store.size());
+        made.push(made_at(alloc, is_record, store, place)?).ok()?;
     }
     Some(made)
 }
@@ -107,24 +100,16 @@ fn put_roots(alloc: Global, store: &Store, made: &mut Vec<Made>) -> Option<()> {
     Some(())
 }
 
-// How many of the inclusion proofs are accepted.
-fn accepted_inclusions(h: Counting<'_>, size: u64, root: Hash, made: &[Made]) -> u64 {
+// How many of the proofs are accepted.
+fn accepted(h: Counting<'_>, is_record: bool, size: u64, root: Hash, made: &[Made]) -> u64 {
     let mut accepted = 0u64;
     for one in made {
-        if check_record(h, one.proof.as_slice(), size, root, one.number, one.hash) {
-            accepted = accepted.wrapping_add(1);
-        }
-    }
-    accepted
-}
-
-// How many of the consistency proofs are accepted.
-fn accepted_consistencies(h: Counting<'_>, size: u64, root: Hash, made: &[Made]) -> u64 {
-    let mut accepted = 0u64;
-    for one in made {
-        if check_tree(h, one.proof.as_slice(), size, root, one.number, one.hash) {
-            accepted = accepted.wrapping_add(1);
-        }
+        let is_accepted = if is_record {
+            check_record(h, one.proof.as_slice(), size, root, one.number, one.hash)
+        } else {
+            check_tree(h, one.proof.as_slice(), size, root, one.number, one.hash)
+        };
+        accepted = accepted.wrapping_add(u64::from(is_accepted));
     }
     accepted
 }
@@ -136,100 +121,57 @@ fn hashes_of(made: &[Made]) -> u64 {
         .fold(0, |sum, count| sum.wrapping_add(count))
 }
 
-/// Proofs a second, if the time is long enough to tell.
-pub(crate) fn rate(took: Duration) -> u128 {
+/// How many of a kind a second, if the time is long enough to tell.
+pub(crate) fn rate(count: u64, took: Duration) -> u128 {
     match took.as_micros() {
         0 => 0,
-        micros => PROOFS as u128 * 1_000_000 / micros,
+        micros => count as u128 * 1_000_000 / micros,
     }
 }
 
-// Prints what making and checking took.
-fn tell(
-    rt: &impl Print,
-    kind: &str,
+// Checks proofs of one kind, and prints what making and checking them took.
+fn check<R: Clock + Print>(
+    rt: &R,
+    is_record: bool,
     size: u64,
+    root: Hash,
+    made: &[Made],
     making: Duration,
-    checking: Duration,
-    accepted: u64,
-    digests: u64,
-    hashes: u64,
 ) -> io::Result<()> {
+    let count = Cell::new(0);
+    let start = Instant::now(rt)?;
+    let accepted = accepted(Counting { count: &count }, is_record, size, root, made);
+    let checking = rate(PROOFS, start.elapsed(rt)?);
+    let kind = if is_record {
+        "inclusion"
+    } else {
+        "consistency"
+    };
     println!(rt;
-        "{kind} proofs, {size} entries: {} a second made, {} a second checked, {accepted} of {PROOFS} accepted, {digests} digests for {hashes} hashes",
-        rate(making),
-        rate(checking)
+        "{kind} proofs, {size} entries: {} a second made, {checking} a second checked, {accepted} of {PROOFS} accepted, {} digests for {} hashes",
+        rate(PROOFS, making),
+        count.get(),
+        hashes_of(made)
     )
 }
 
-// Makes and checks inclusion proofs.
-fn inclusion<R: Clock + Print>(
+// Makes and checks proofs of one kind.
+fn measure<R: Clock + Print>(
     rt: &R,
     alloc: Global,
+    is_record: bool,
     store: &Store,
     root: Hash,
 ) -> io::Result<bool> {
-    let count = Cell::new(0);
     let start = Instant::now(rt)?;
-    let Some(made) = inclusion_proofs(alloc, store) else {
+    let Some(mut made) = made_all(alloc, is_record, store) else {
         return Ok(false);
     };
     let making = start.elapsed(rt)?;
-    let start = Instant::now(rt)?;
-    let accepted = accepted_inclusions(
-        Counting { count: &count },
-        store.size(),
-        root,
-        made.as_slice(),
-    );
-    let checking = start.elapsed(rt)?;
-    tell(
-        rt,
-        "inclusion",
-        store.size(),
-        making,
-        checking,
-        accepted,
-        count.get(),
-        hashes_of(made.as_slice()),
-    )?;
-    Ok(true)
-}
-
-// Makes and checks consistency proofs.
-fn consistency<R: Clock + Print>(
-    rt: &R,
-    alloc: Global,
-    store: &Store,
-    root: Hash,
-) -> io::Result<bool> {
-    let count = Cell::new(0);
-    let start = Instant::now(rt)?;
-    let Some(mut made) = consistency_proofs(alloc, store) else {
-        return Ok(false);
-    };
-    let making = start.elapsed(rt)?;
-    if put_roots(alloc, store, &mut made).is_none() {
+    if !is_record && put_roots(alloc, store, &mut made).is_none() {
         return Ok(false);
     }
-    let start = Instant::now(rt)?;
-    let accepted = accepted_consistencies(
-        Counting { count: &count },
-        store.size(),
-        root,
-        made.as_slice(),
-    );
-    let checking = start.elapsed(rt)?;
-    tell(
-        rt,
-        "consistency",
-        store.size(),
-        making,
-        checking,
-        accepted,
-        count.get(),
-        hashes_of(made.as_slice()),
-    )?;
+    check(rt, is_record, store.size(), root, made.as_slice(), making)?;
     Ok(true)
 }
 
@@ -243,8 +185,8 @@ pub fn proofs<R: Clock + Print>(rt: &R, alloc: Global, size: u64) -> io::Result<
         return Ok(false);
     };
     Ok(
-        inclusion(rt, alloc, &store, root)?
+        measure(rt, alloc, true, &store, root)?
             && together(rt, alloc, &store, root)?
-            && consistency(rt, alloc, &store, root)?,
+            && measure(rt, alloc, false, &store, root)?,
     )
 }

@@ -3,6 +3,7 @@
 ghost use Rattle.std.specs.Prelude.{◌≡◌};
 ghost use Rattle.tl_publisher.specs.Operating.{IsOperating};
 
+use crate::proving::rate;
 use crate::rings::send_each;
 use std::alloc::Global;
 use std::sync::Wait;
@@ -28,35 +29,38 @@ const CAPACITY: usize = 1024;
 
 const READERS: u32 = 2;
 
-// Takes from the lanes in turn, up to so many entries in all: how many. None where a call is refused.
-fn take_some<R: Wait + Drop>(operator: &mut Operator<R>, most: u64) -> Option<u64>
+// Takes up to so many entries from a lane: how many. None where the call is refused.
+fn take_lane<R: Wait + Drop>(operator: &mut Operator<R>, lane: u32, most: u64) -> Option<u64>
     requires { IsOperating (⟦<Operator<R> as Shown>⟧.shown operator.old) }
     ensures { IsOperating (⟦<Operator<R> as Shown>⟧.shown operator.new) }
 {
-    let mut count = 0u64;
-    for lane in 0..LANES {
-        let taken = operator.take(lane, most.saturating_sub(count)).ok()?;
-        count = count.saturating_add(taken);
+    match operator.take(lane, most) {
+        Ok(taken) => Some(taken),
+        Err(_) => None,
     }
-    Some(count)
 }
 
-// Takes so many entries, waiting for them.
+// Takes so many entries from the lanes in turn, waiting for them.
 fn take_batch<R: Wait + Drop>(operator: &mut Operator<R>, batch: u64) -> bool
     requires { IsOperating (⟦<Operator<R> as Shown>⟧.shown operator.old) }
     ensures { IsOperating (⟦<Operator<R> as Shown>⟧.shown operator.new) }
 {
     let mut count = 0u64;
-    for _ in 0..u64::MAX {
-        let Some(taken) = take_some(operator, batch.saturating_sub(count)) else {
+    let mut before = 0u64;
+    for turn in 0..u64::MAX {
+        let lane = (turn % u64::from(LANES)) as u32;
+        let Some(taken) = take_lane(operator, lane, batch.saturating_sub(count)) else {
             return false;
         };
         count = count.saturating_add(taken);
         if count >= batch {
             return true;
         }
-        if taken == 0 {
-            thread::yield_now();
+        if lane == LANES - 1 {
+            if count == before {
+                thread::yield_now();
+            }
+            before = count;
         }
     }
     false
@@ -118,14 +122,6 @@ fn read_each(alloc: Global, reader: BoardReader<Global>) -> u64 {
         }
     }
     count
-}
-
-// How many of a kind a second, if the time is long enough to tell.
-fn rate(count: u64, took: Duration) -> u128 {
-    match took.as_millis() {
-        0 => 0,
-        millis => count as u128 * 1000 / millis,
-    }
 }
 
 // Prints what was measured: how long all took, the longest publication, and how many tiles were read.

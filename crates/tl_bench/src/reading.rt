@@ -1,10 +1,10 @@
 //! Stored hashes read a second from a source of tiles in memory, each tile checked against the root.
 
 use crate::plain::PlainTree;
-use crate::proving::{Store, store_of};
+use crate::proving::{Store, rate, store_of};
 use std::alloc::{Allocator, Global};
 use std::io;
-use std::time::{Clock, Duration, Instant};
+use std::time::{Clock, Instant};
 use tl_hash::{Hash, Sha256Tree, TreeHash};
 use tl_store::{HashReader, stored_index, tree_hash};
 use tl_tile::{Resource, SourceFault, Tile, TileHashReader, TileSource, needed, tile_bytes};
@@ -103,14 +103,6 @@ fn read_all<T: TreeHash>(
         count = count.wrapping_add(hashes.len() as u64);
     }
     Some(count)
-}
-
-// Hashes a second, if the time is long enough to tell.
-fn rate(count: u64, took: Duration) -> u128 {
-    match took.as_micros() {
-        0 => 0,
-        micros => count as u128 * 1_000_000 / micros,
-    }
 }
 
 // Prints what both kinds of reads take with this digest, which is called so.

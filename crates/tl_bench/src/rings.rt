@@ -1,5 +1,6 @@
 //! Entries a second through the rings of a sequencer, beside the same through one lock.
 
+use crate::proving::rate;
 use std::alloc::{AllocError, Global};
 use std::sync::{Arc, Mutex, Wait};
 use std::thread::Threads;
@@ -120,24 +121,20 @@ fn through_lock<R: Threads + Wait + Clock + Copy + Send + 'static>(
     start.elapsed(rt)
 }
 
-// Entries a second, if the time is long enough to tell.
-fn rate(took: Duration) -> u128 {
-    match took.as_millis() {
-        0 => 0,
-        millis => ENTRIES as u128 * 1000 / millis,
-    }
-}
-
 /// Prints how many entries a second four threads get into one list: through rings of 256 with batches of 256, and
-/// through a lock.
+/// through a lock. False where memory was refused.
 pub fn sequencer<R: Threads + Wait + Clock + Print + Copy + Send + 'static>(
     rt: &R,
     alloc: Global,
-) -> io::Result<()> {
-    match through_rings(rt, alloc)? {
-        Some(took) => println!(rt; "sequencer: rings {} entries a second", rate(took))?,
-        None => println!(rt; "sequencer: rings: out of memory")?,
-    }
+) -> io::Result<bool> {
+    let Some(took) = through_rings(rt, alloc)? else {
+        return Ok(false);
+    };
+    println!(rt; "sequencer: rings {} entries a second", rate(ENTRIES, took))?;
     let took = through_lock(rt, alloc)?;
-    println!(rt; "sequencer: one lock {} entries a second", rate(took))
+    println!(rt;
+        "sequencer: one lock {} entries a second",
+        rate(ENTRIES, took)
+    )?;
+    Ok(true)
 }

@@ -58,7 +58,7 @@ fn check_rate<T: TreeHash>(
     for (four, theirs) in places.chunks(4).zip(proofs.chunks(4)) {
         accepted = accepted & accepts_four(h, size, root, four, theirs);
     }
-    Ok((rate(start.elapsed(rt)?), accepted))
+    Ok((rate(PROOFS, start.elapsed(rt)?), accepted))
 }
 
 /// Prints how many inclusion proofs a second are made over the store together, and checked four together by plain
@@ -77,7 +77,7 @@ pub(crate) fn together<R: Clock + Print>(
     let Ok(proofs) = prove_records(alloc, Sha256Tree, size, places.as_slice(), store) else {
         return Ok(false);
     };
-    let making = rate(start.elapsed(rt)?);
+    let making = rate(PROOFS, start.elapsed(rt)?);
     let (places, proofs) = (places.as_slice(), proofs.as_slice());
     let (plain, all_plain) = check_rate(rt, PlainTree, size, root, places, proofs)?;
     let (lanes, all_lanes) = check_rate(rt, Sha256Tree, size, root, places, proofs)?;

@@ -4,8 +4,8 @@ use Rattle.tl_sequencer.specs.Log.{entries_of}
 use Rattle.tl_publisher.specs.Operating.{IsOperating}
 use Rattle.tl_bench.proofs.publishing.take_batch.Given as goal
 
-abbrev pub invariant-loop : goal.invariant-loop
-invariant-loop g l = IsOperating (record {
+abbrev pub invariant-loop-turn : goal.invariant-loop-turn
+invariant-loop-turn g l = IsOperating (record {
   origin = string_bytes l.operator.origin;
   signers = map (λ b. (goal.Signer-dyn g (b.vtable, b.value)).signing_key b.value) l.operator.signers.items;
   quorum = record { witnesses = map (λ b. (goal.Verifier-dyn g (b.vtable, b.value)).key b.value) l.operator.witnesses.items; need = l.operator.need };
