@@ -1,0 +1,18 @@
+use Rattle.std.proofs.Common.{All, map, take, string_bytes}
+use Rattle.std.specs.Prelude.{option_map}
+use Rattle.tl_sequencer.specs.Log.{IsSenderOf, entries_of}
+use Rattle.tl_publisher.specs.Operating.{IsOperating}
+use Rattle.tl_steps.proofs.running.steps_of.Given as goal
+
+-- it operates, and the submitters that are left are its own
+abbrev pub invariant-loop-place : goal.invariant-loop-place
+invariant-loop-place g l =
+    IsOperating (record {
+      origin = string_bytes l.operator.origin;
+      signers = map (λ b. (goal.Signer-dyn g (b.vtable, b.value)).signing_key b.value) l.operator.signers.items;
+      quorum = record { witnesses = map (λ b. (goal.Verifier-dyn g (b.vtable, b.value)).key b.value) l.operator.witnesses.items; need = l.operator.need };
+      log = l.operator.run.log;
+      proposal = option_map (λ note. record { entries = take l.operator.run.grown (entries_of l.operator.run.log); note = string_bytes note }) l.operator.proposal;
+      past = l.operator.run.past;
+    })
+    × All (λ s. IsSenderOf s l.operator.run.log) l.submitters.items

@@ -1,0 +1,2 @@
+-- The definitions of the steps.
+pub mod Kept

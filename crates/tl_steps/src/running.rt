@@ -1,0 +1,102 @@
+//! The steps of a log that runs.
+
+ghost use Rattle.std.specs.Prelude.{◌≡◌};
+ghost use Rattle.tl_publisher.specs.Operating.{IsOperating};
+ghost use Rattle.tl_steps.specs.Kept.{AreOf, IsKept};
+
+use crate::calls::{Witnesses, attach, end, propose, publish, require};
+use crate::closed::{closed_steps, gone_steps};
+use crate::looks::see;
+use crate::sending::{Sender, send};
+use crate::words::{Answer, either, fixed, number_of, shown, small_of, tell, text_of, words_of};
+use std::alloc::{AllocError, Global};
+use std::sync::Wait;
+use tl_publisher::{BoardReader, Operator, Shown};
+
+// What comes of a step that makes a note.
+fn note_step<R: Wait + Drop>(alloc: Global, operator: &mut Operator<R>, words: &[&str]) -> Answer
+    requires { IsOperating (⟦<Operator<R> as Shown>⟧.shown operator.old) }
+    ensures { IsKept (⟦<Operator<R> as Shown>⟧.shown operator.old) (⟦<Operator<R> as Shown>⟧.shown operator.new) }
+{
+    match words {
+        ["publish"] => publish(alloc, operator),
+        ["propose"] => propose(alloc, operator),
+        ["attach"] => attach(alloc, operator, ""),
+        ["attach", lines] => attach(alloc, operator, text_of(alloc, lines)?.as_str()),
+        _ => fixed(alloc, "no such step"),
+    }
+}
+
+// What comes of a step.
+fn step<R: Wait + Drop>(
+    alloc: Global,
+    operator: &mut Operator<R>,
+    submitters: &mut Vec<Sender>,
+    reader: &mut BoardReader<Global>,
+    witnesses: &mut Witnesses,
+    line: &str,
+) -> Answer
+    requires operating { IsOperating (⟦<Operator<R> as Shown>⟧.shown operator.old) }
+    requires own { AreOf (⟦<Operator<R> as Shown>⟧.shown operator.old) submitters.old.items }
+    ensures kept { IsKept (⟦<Operator<R> as Shown>⟧.shown operator.old) (⟦<Operator<R> as Shown>⟧.shown operator.new) }
+    ensures own { AreOf (⟦<Operator<R> as Shown>⟧.shown operator.new) submitters.new.items }
+{
+    let words = words_of(alloc, line)?;
+    match words.as_slice() {
+        ["send", lane, word, count] => {
+            send(alloc, submitters, small_of(lane), word, number_of(count))
+        }
+        ["take", lane, most] => either(alloc, operator.take(small_of(lane), number_of(most))),
+        ["end", lane] => end(alloc, operator, submitters, small_of(lane)),
+        ["see", words @ ..] => see(alloc, reader, words),
+        ["require", need, _] => require(alloc, operator, witnesses, small_of(need)),
+        words => note_step(alloc, operator, words),
+    }
+}
+
+/// Does the steps of a log.
+pub(crate) fn steps_of<R: Wait + Drop>(
+    alloc: Global,
+    log: (Operator<R>, Vec<Sender>, BoardReader<Global>),
+    witnesses: Witnesses,
+    steps: &[&str],
+    out: &mut String,
+) -> Result<(), AllocError>
+    requires operating { IsOperating (⟦<Operator<R> as Shown>⟧.shown log.0) }
+    requires own { AreOf (⟦<Operator<R> as Shown>⟧.shown log.0) log.1.items }
+{
+    let (mut operator, mut submitters, mut reader) = log;
+    let mut witnesses = witnesses;
+    for place in 0..steps.len() {
+        let line = steps[place];
+        let rest = &steps[place + 1..];
+        if line == "drop" {
+            drop(operator);
+            tell(out, line, "dropped")?;
+            return gone_steps(alloc, submitters, &mut reader, rest, out);
+        }
+        if line == "close" {
+            match operator.close() {
+                Ok((complete, board)) => {
+                    tell(out, line, "closed")?;
+                    return closed_steps(alloc, &complete, board, &mut reader, rest, out);
+                }
+                Err(back) => {
+                    operator = back.operator;
+                    tell(out, line, shown(alloc, back.lane)?.as_str())?;
+                }
+            }
+            continue;
+        }
+        let answer = step(
+            alloc,
+            &mut operator,
+            &mut submitters,
+            &mut reader,
+            &mut witnesses,
+            line,
+        )?;
+        tell(out, line, answer.as_str())?;
+    }
+    Ok(())
+}
