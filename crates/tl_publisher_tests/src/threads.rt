@@ -92,7 +92,7 @@ fn filled<R: Wait + Drop>(rt: R, alloc: Global) -> Result<(Operator<R>, BoardRea
 {
     let keys = signers(alloc)?;
     let (operator, mut submitters, reader) = opened(rt, alloc, keys, 1, 4, 9)?;
-    let mut submitter = submitters.pop().unwrap();
+    let mut submitter = submitters.pop().ok_or("no submitter")?;
     if !are_sent(alloc, &mut submitter)? {
         return Err(Fail::new("an entry was not taken"));
     }
