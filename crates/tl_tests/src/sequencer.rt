@@ -1,11 +1,11 @@
-//! Examples of entries that go through lanes into one log, and growths refused in turn.
+//! Entries that go through lanes into one log: growths refused in turn, and threads.
 ghost use Rattle.std.specs.Prelude.{◌≡◌, vec_len, IfOk};
 ghost use Rattle.std.specs.List.{All};
 ghost use Rattle.tl_sequencer.specs.Log.{IsEndOf, IsSenderOf, rings_of};
 
 mod base;
-mod many;
 mod refusals;
+mod threads;
 
 use std::alloc::{AllocError, Allocator, Global};
 use std::test::Fail;
@@ -24,32 +24,6 @@ fn bytes(alloc: Global, text: &str) -> Result<Vec<u8>, AllocError> {
     Vec::from_slice(alloc, text.as_bytes())
 }
 
-// The fault of an opening, if it has one.
-fn open_fault(alloc: Global, lanes: u32, capacity: usize, limit: u64) -> Option<OpenFault> {
-    match open::<Global, Global>(alloc, lanes, capacity, limit) {
-        Ok(_opened) => None,
-        Err(fault) => Some(fault),
-    }
-}
-
-#[test]
-fn opening_names_the_first_number_outside_its_bounds(rt: HostRuntime) {
-    let alloc = rt.alloc();
-    let wanted = [
-        ((0, 1, 1), Some(OpenFault::LaneCount)),
-        ((1, 0, 1), Some(OpenFault::Capacity)),
-        ((1, 1, 0), Some(OpenFault::Limit)),
-        ((65, 0, 0), Some(OpenFault::LaneCount)),
-        ((64, 65_537, 0), Some(OpenFault::Capacity)),
-        ((64, 1, 4_294_967_296), Some(OpenFault::Limit)),
-        ((64, 1, 4_294_967_295), None),
-        ((1, 65_536, 1), None),
-    ];
-    for ((lanes, capacity, limit), want) in wanted {
-        assert!(rt; open_fault(alloc, lanes, capacity, limit) == want);
-    }
-}
-
 // The number of an entry that was sent, or why it was not and how many bytes came back.
 fn sent<E: Allocator, A: Allocator>(
     submitter: &mut Submitter<E, A>,
@@ -61,82 +35,6 @@ fn sent<E: Allocator, A: Allocator>(
         Ok(number) => Ok(number),
         Err(Refused { entry, why }) => Err((why, entry.len())),
     }
-}
-
-// What is done with a log of one lane, and what is to come of it.
-#[derive(Clone, Copy)]
-enum Step {
-    // An entry of so many bytes is sent.
-    Send(usize, Result<u64, (Why, usize)>),
-    // Up to so many entries of a lane are taken.
-    Take(u32, u64, Result<u64, TakeFault>),
-}
-
-// Does a step. Whether it came as it is to.
-fn is_done(
-    alloc: Global,
-    log: &mut Sequencer<Global, Global>,
-    submitter: &mut Submitter<Global, Global>,
-    step: Step,
-) -> Result<bool, AllocError> {
-    match step {
-        Step::Send(length, want) => {
-            let entry = vec![in alloc; 7; length]?;
-            Ok(sent(submitter, entry) == want)
-        }
-        Step::Take(lane, most, want) => Ok(log.take(lane, most) == want),
-    }
-}
-
-// Opens a log of one lane and does the steps: the place of the first that came otherwise than it is to.
-fn wrong_step(
-    alloc: Global,
-    capacity: usize,
-    limit: u64,
-    steps: &[Step],
-) -> Result<Option<u64>, Fail> {
-    let (mut log, mut submitters) = open(alloc, 1, capacity, limit)?;
-    let mut submitter = submitters.pop().ok_or("no submitter")?;
-    let mut place = 0u64;
-    for step in steps {
-        if !is_done(alloc, &mut log, &mut submitter, *step)? {
-            return Ok(Some(place));
-        }
-        place = place.saturating_add(1);
-    }
-    Ok(None)
-}
-
-// A ring of one entry.
-const REASONS: [Step; 6] = [
-    Step::Send(65_535, Ok(0)),
-    Step::Send(65_536, Err((Why::TooLong, 65_536))),
-    Step::Send(5, Err((Why::Full, 5))),
-    Step::Take(1, 1, Err(TakeFault::NoLane)),
-    Step::Take(0, 5, Ok(1)),
-    Step::Send(5, Ok(1)),
-];
-
-#[test]
-fn submitting_names_the_first_reason(rt: HostRuntime) -> Result<(), Fail> {
-    assert!(rt; wrong_step(rt.alloc(), 1, 9, &REASONS)? == None);
-    Ok(())
-}
-
-// A limit of two entries.
-const NUMBERS: [Step; 6] = [
-    Step::Send(2, Ok(0)),
-    Step::Send(2, Ok(1)),
-    Step::Send(2, Err((Why::NumbersUsed, 2))),
-    Step::Take(0, 9, Ok(2)),
-    Step::Send(2, Err((Why::NumbersUsed, 2))),
-    Step::Send(65_536, Err((Why::TooLong, 65_536))),
-];
-
-#[test]
-fn submitter_gives_as_many_numbers_as_the_limit(rt: HostRuntime) -> Result<(), Fail> {
-    assert!(rt; wrong_step(rt.alloc(), 4, 2, &NUMBERS)? == None);
-    Ok(())
 }
 
 // The end of a lane that has one.
@@ -227,32 +125,6 @@ fn both_closed<'h>(alloc: Global, heap: Heap<'h>, limit: u64) -> Result<Closed<'
     let zero = closed(zero)?;
     let one = closed(one)?;
     Ok((log, zero, one))
-}
-
-// Why a lane isn't ended, and the lane that comes back.
-fn end_refused<'h>(
-    log: &mut Sequencer<Global, Heap<'h>>,
-    end: Ended<Global, Heap<'h>>,
-) -> Option<(TakeFault, u32)>
-    requires { IsEndOf end log.old }
-{
-    match log.end(end) {
-        Ok(_) => None,
-        Err(EndRefused { ended, why }) => Some((why, ended.lane())),
-    }
-}
-
-#[test]
-fn full_log_takes_nothing(rt: HostRuntime) -> Result<(), Fail> {
-    let heap = Refusing::at(rt.alloc(), 0);
-    let (mut log, _zero, one) = both_closed(rt.alloc(), &heap, 2)?;
-    assert!(rt; log.take(0, 9) == Ok(2));
-    assert!(rt; log.take(1, 9) == Err(TakeFault::LogFull));
-    assert!(rt; log.take(1, 0) == Ok(0));
-    assert!(rt; log.take(2, 0) == Err(TakeFault::NoLane));
-    assert!(rt; end_refused(&mut log, one) == Some((TakeFault::LogFull, 1)));
-    assert!(rt; (log.len(), log.who(1), log.place_of(1, 0)) == (2, Some(0), None));
-    Ok(())
 }
 
 // The answer of `take`, tried once more where memory was refused. Then no entry was taken before.
@@ -374,21 +246,4 @@ fn is_merged<A: Allocator>(log: &Complete<Global, A>) -> bool {
         && log.place_of(0, 2) == None
         && log.place_of(1, 0) == Some(1)
         && log.place_of(2, 0) == None
-}
-
-#[test]
-fn two_lanes_from_open_to_close(rt: HostRuntime) -> Result<(), Fail> {
-    let heap = Refusing::at(rt.alloc(), 0);
-    assert!(rt; is_merged(&whole_life(rt.alloc(), &heap)?));
-    assert!(rt; !heap.refused());
-    Ok(())
-}
-
-#[test]
-fn lane_of_a_dropped_log_has_no_end(rt: HostRuntime) -> Result<(), Fail> {
-    let (log, mut submitters) = open::<Global, Global>(rt.alloc(), 1, 1, 1)?;
-    let submitter = submitters.pop().unwrap();
-    drop(log);
-    assert!(rt; submitter.close().is_none());
-    Ok(())
 }
