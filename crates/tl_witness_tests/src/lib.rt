@@ -5,17 +5,9 @@
 #[cfg(test)]
 mod boards;
 #[cfg(test)]
-mod devices;
-#[cfg(test)]
-mod kept;
-#[cfg(test)]
-mod lines;
-#[cfg(test)]
-mod logs;
+mod books;
 #[cfg(test)]
 mod origins;
-#[cfg(test)]
-mod posts;
 #[cfg(test)]
 mod quorums;
 #[cfg(test)]
@@ -24,8 +16,6 @@ mod races;
 mod refusals;
 #[cfg(test)]
 mod savers;
-#[cfg(test)]
-mod sequence;
 #[cfg(test)]
 mod served;
 #[cfg(test)]

@@ -1,129 +1,310 @@
-//! Several origins of one book: they grow apart, and are gone on with from their saved lines.
+//! Three origins of one book: they grow apart, are gone on with from their saved lines, shared, and made a book again.
 
-use crate::logs::{Log, open_book};
-use crate::posts::TIME;
+use crate::books::{Asked, Origin, Witness, open_book, open_witness};
 use crate::savers::KeepingSaver;
-use std::alloc::{AllocError, Global};
-use std::test::Fail;
-use tl_hash::Sha256Tree;
-use tl_witness::{Book, BookFault, read_chain};
+use std::alloc::Global;
+use std::sync::Wait;
+use tl_witness::{BookFault, read_chain};
 
-type TestBook = Book<Sha256Tree, Global>;
+// The logs: of each the entries are alike, so that the proof from a size to twice as many is the root of the first.
+const LOGS: [Origin; 3] = [
+    ("a.example", ("a.example", 1), ("alpha.example", 11)),
+    ("b.example/log", ("b.example/log", 2), ("beta.example", 12)),
+    (
+        "c.example/with/a/long/name",
+        ("c.example/with/a/long/name", 3),
+        ("gamma.example", 13),
+    ),
+];
 
-// How many links an origin has.
-fn links(book: &TestBook, origin: &str) -> usize {
-    match book.chain(origin) {
-        Some(links) => links.len(),
-        None => 0,
+// The first origin again, with another key.
+const STRANGER: Origin = ("a.example", ("a.example", 9), ("alpha.example", 11));
+
+// A request, and the status and the body of its reply.
+type Row = (&'static str, u16, &'static str);
+
+// Requests in turns, the last log first: to 4, 8 and 16 entries, one that comes too late, and one for the same size.
+const FIRST: [Row; 14] = [
+    (
+        "old 0\n\nc.example/with/a/long/name\n1\nWX/LMSgtNGVMIA00GPylcFxkjr8ybsc9jd7xGEH4dtg=\n\n— c.example/with/a/long/name AAAAAwAAAAAAAABK\n",
+        200,
+        "— gamma.example AAAADQAAAABlU/EAAAAAAAAAAGk=\n",
+    ),
+    (
+        "old 0\n\nb.example/log\n1\nV+s1YV1H807HFMrN9f10YIpejhAnJOgLJLKHwMJ7ajE=\n\n— b.example/log AAAAAgAAAAAAAAA9\n",
+        200,
+        "— beta.example AAAADAAAAABlU/EAAAAAAAAAAFw=\n",
+    ),
+    (
+        "old 0\n\na.example\n1\nAippeebat6pa5MPl5F9+l3ESp+Y1k4INvsHsc4ok+Tw=\n\n— a.example AAAAAQAAAAAAAAA5\n",
+        200,
+        "— alpha.example AAAACwAAAABlU/EAAAAAAAAAAFg=\n",
+    ),
+    (
+        "old 1\nWX/LMSgtNGVMIA00GPylcFxkjr8ybsc9jd7xGEH4dtg=\n\nc.example/with/a/long/name\n2\n+CNln0D3ixGXd/KSxi71d/qxwH68nfcRWnJu6fyU5/s=\n\n— c.example/with/a/long/name AAAAAwAAAAAAAABK\n",
+        200,
+        "— gamma.example AAAADQAAAABlU/EAAAAAAAAAAGk=\n",
+    ),
+    (
+        "old 1\nV+s1YV1H807HFMrN9f10YIpejhAnJOgLJLKHwMJ7ajE=\n\nb.example/log\n2\nkzXihlWn5hoSgoHW0fxZLQ7D1EHIRkZ03e+SmMr9Od8=\n\n— b.example/log AAAAAgAAAAAAAAA9\n",
+        200,
+        "— beta.example AAAADAAAAABlU/EAAAAAAAAAAFw=\n",
+    ),
+    (
+        "old 1\nAippeebat6pa5MPl5F9+l3ESp+Y1k4INvsHsc4ok+Tw=\n\na.example\n2\ngCXedHuv4lYNa5kb2xfKie/htv7dob4gnA7gFTOIYeo=\n\n— a.example AAAAAQAAAAAAAAA5\n",
+        200,
+        "— alpha.example AAAACwAAAABlU/EAAAAAAAAAAFg=\n",
+    ),
+    (
+        "old 1\nV+s1YV1H807HFMrN9f10YIpejhAnJOgLJLKHwMJ7ajE=\n\nb.example/log\n2\nkzXihlWn5hoSgoHW0fxZLQ7D1EHIRkZ03e+SmMr9Od8=\n\n— b.example/log AAAAAgAAAAAAAAA9\n",
+        409,
+        "2\n",
+    ),
+    (
+        "old 2\n+CNln0D3ixGXd/KSxi71d/qxwH68nfcRWnJu6fyU5/s=\n\nc.example/with/a/long/name\n4\nxC77GtIhwmUk5wCSlbCenQv0Flbwx5kDrVym+6IPe8c=\n\n— c.example/with/a/long/name AAAAAwAAAAAAAABK\n",
+        200,
+        "— gamma.example AAAADQAAAABlU/EAAAAAAAAAAGk=\n",
+    ),
+    (
+        "old 2\nkzXihlWn5hoSgoHW0fxZLQ7D1EHIRkZ03e+SmMr9Od8=\n\nb.example/log\n4\nnVg8lQu+NuXiVuBylPRkS7kac+GgfauSE8n+guJf+tw=\n\n— b.example/log AAAAAgAAAAAAAAA9\n",
+        200,
+        "— beta.example AAAADAAAAABlU/EAAAAAAAAAAFw=\n",
+    ),
+    (
+        "old 2\ngCXedHuv4lYNa5kb2xfKie/htv7dob4gnA7gFTOIYeo=\n\na.example\n4\n4Wea2Ph8jfea4PhdcX4m+//iulTcLG2q6kPDWp5GRQw=\n\n— a.example AAAAAQAAAAAAAAA5\n",
+        200,
+        "— alpha.example AAAACwAAAABlU/EAAAAAAAAAAFg=\n",
+    ),
+    (
+        "old 4\nnVg8lQu+NuXiVuBylPRkS7kac+GgfauSE8n+guJf+tw=\n\nb.example/log\n8\nk3PfWE6HUs27TpDnBiVHLZJ1Z+qPYP8v9z4H/YoSSXI=\n\n— b.example/log AAAAAgAAAAAAAAA9\n",
+        200,
+        "— beta.example AAAADAAAAABlU/EAAAAAAAAAAFw=\n",
+    ),
+    (
+        "old 4\n4Wea2Ph8jfea4PhdcX4m+//iulTcLG2q6kPDWp5GRQw=\n\na.example\n8\ncu8hsAM75jt0uoHrPY0aEMFkLjdxVCTk5ogd5HIyS4Y=\n\n— a.example AAAAAQAAAAAAAAA5\n",
+        200,
+        "— alpha.example AAAACwAAAABlU/EAAAAAAAAAAFg=\n",
+    ),
+    (
+        "old 8\ncu8hsAM75jt0uoHrPY0aEMFkLjdxVCTk5ogd5HIyS4Y=\n\na.example\n16\nCkmcySSzF2+eeXcqIKO+g70QA1mDOg4uyaOd7tmNAzE=\n\n— a.example AAAAAQAAAAAAAAA6\n",
+        200,
+        "— alpha.example AAAACwAAAABlU/EAAAAAAAAAAFk=\n",
+    ),
+    (
+        "old 16\n\na.example\n16\nCkmcySSzF2+eeXcqIKO+g70QA1mDOg4uyaOd7tmNAzE=\n\n— a.example AAAAAQAAAAAAAAA6\n",
+        200,
+        "— alpha.example AAAACwAAAABlU/EAAAAAAAAAAFk=\n",
+    ),
+];
+
+// Those after them: of another key, from a size before the last, and to twice as many entries.
+const SECOND: [Row; 7] = [
+    (
+        "old 16\nCkmcySSzF2+eeXcqIKO+g70QA1mDOg4uyaOd7tmNAzE=\n\na.example\n32\n16KbHYLZsbY+sbV45BhTXpk48keCugpCFonOJKegMbs=\n\n— a.example AAAACQAAAAAAAAA6\n",
+        403,
+        "",
+    ),
+    (
+        "old 8\ncu8hsAM75jt0uoHrPY0aEMFkLjdxVCTk5ogd5HIyS4Y=\n\na.example\n16\nCkmcySSzF2+eeXcqIKO+g70QA1mDOg4uyaOd7tmNAzE=\n\n— a.example AAAAAQAAAAAAAAA6\n",
+        409,
+        "16\n",
+    ),
+    (
+        "old 16\nCkmcySSzF2+eeXcqIKO+g70QA1mDOg4uyaOd7tmNAzE=\n\na.example\n32\n16KbHYLZsbY+sbV45BhTXpk48keCugpCFonOJKegMbs=\n\n— a.example AAAAAQAAAAAAAAA6\n",
+        200,
+        "— alpha.example AAAACwAAAABlU/EAAAAAAAAAAFk=\n",
+    ),
+    (
+        "old 4\nnVg8lQu+NuXiVuBylPRkS7kac+GgfauSE8n+guJf+tw=\n\nb.example/log\n8\nk3PfWE6HUs27TpDnBiVHLZJ1Z+qPYP8v9z4H/YoSSXI=\n\n— b.example/log AAAAAgAAAAAAAAA9\n",
+        409,
+        "8\n",
+    ),
+    (
+        "old 8\nk3PfWE6HUs27TpDnBiVHLZJ1Z+qPYP8v9z4H/YoSSXI=\n\nb.example/log\n16\nI0O3bsj0HnMC8dgjoZE63icEZNUuVG8Wf9KTYKTJavk=\n\n— b.example/log AAAAAgAAAAAAAAA+\n",
+        200,
+        "— beta.example AAAADAAAAABlU/EAAAAAAAAAAF0=\n",
+    ),
+    (
+        "old 2\n+CNln0D3ixGXd/KSxi71d/qxwH68nfcRWnJu6fyU5/s=\n\nc.example/with/a/long/name\n4\nxC77GtIhwmUk5wCSlbCenQv0Flbwx5kDrVym+6IPe8c=\n\n— c.example/with/a/long/name AAAAAwAAAAAAAABK\n",
+        409,
+        "4\n",
+    ),
+    (
+        "old 4\nxC77GtIhwmUk5wCSlbCenQv0Flbwx5kDrVym+6IPe8c=\n\nc.example/with/a/long/name\n8\niQUEmjKBWn5u8whOoACHYkQns+eGcVG1N+Sr4+dhH10=\n\n— c.example/with/a/long/name AAAAAwAAAAAAAABK\n",
+        200,
+        "— gamma.example AAAADQAAAABlU/EAAAAAAAAAAGk=\n",
+    ),
+];
+
+// And those to the book that it is made again.
+const THIRD: [Row; 4] = [
+    (
+        "old 4\nxC77GtIhwmUk5wCSlbCenQv0Flbwx5kDrVym+6IPe8c=\n\nc.example/with/a/long/name\n8\niQUEmjKBWn5u8whOoACHYkQns+eGcVG1N+Sr4+dhH10=\n\n— c.example/with/a/long/name AAAAAwAAAAAAAABK\n",
+        409,
+        "8\n",
+    ),
+    (
+        "old 32\n16KbHYLZsbY+sbV45BhTXpk48keCugpCFonOJKegMbs=\n\na.example\n64\nsMawr5V8483XhKzwZpZSz2RYhk1vtzOWE2ELT88EgbY=\n\n— a.example AAAAAQAAAAAAAAA6\n",
+        200,
+        "— alpha.example AAAACwAAAABlU/EAAAAAAAAAAFk=\n",
+    ),
+    (
+        "old 16\nI0O3bsj0HnMC8dgjoZE63icEZNUuVG8Wf9KTYKTJavk=\n\nb.example/log\n32\n7CvfX1fy7N39jmHLwNPoUOHTDbPUsdgkkiF8RL0KOtU=\n\n— b.example/log AAAAAgAAAAAAAAA+\n",
+        200,
+        "— beta.example AAAADAAAAABlU/EAAAAAAAAAAF0=\n",
+    ),
+    (
+        "old 8\niQUEmjKBWn5u8whOoACHYkQns+eGcVG1N+Sr4+dhH10=\n\nc.example/with/a/long/name\n16\noqyrJovEXYVeVCIRYEqGgTslmB2wLFtCWBEy0ssXEd4=\n\n— c.example/with/a/long/name AAAAAwAAAAAAAABL\n",
+        200,
+        "— gamma.example AAAADQAAAABlU/EAAAAAAAAAAGo=\n",
+    ),
+];
+
+// Whether each request is answered as it is to be.
+fn are_answered<R: Wait>(
+    rt: &R,
+    asked: &mut Asked<Global>,
+    saver: &mut KeepingSaver<Global>,
+    rows: &[Row],
+) -> bool {
+    for (body, status, due) in rows {
+        let reply = asked.add(rt, body, saver);
+        if reply.status != *status || reply.body.as_slice() != due.as_bytes() {
+            return false;
+        }
     }
+    true
 }
 
-// The status of the reply to a request from the old size to the new one.
-fn status_of(
+// Whether each origin has the links of these lines, so many, the last log first.
+fn are_kept<R: Wait>(
+    rt: &R,
     alloc: Global,
-    book: &mut TestBook,
-    saver: &mut KeepingSaver,
-    log: &Log,
-    old: u64,
-    size: u64,
-) -> Result<u16, Fail> {
-    let body = log.body(alloc, old, size)?;
-    Ok(book.add(body.as_bytes(), TIME, saver).status)
+    asked: &Asked<Global>,
+    lines: &str,
+    counts: [usize; 3],
+) -> bool {
+    let Ok(saved) = read_chain(alloc, lines.as_bytes()) else {
+        return false;
+    };
+    for ((origin, links), count) in saved.iter().zip(counts) {
+        if links.len() != count
+            || asked.has(rt, origin.as_str(), links.as_slice(), count) != Some(true)
+        {
+            return false;
+        }
+    }
+    saved.len() == 3 && saved[0].0.as_str() == LOGS[2].0
 }
 
-// The links of a book's origins, so many of each.
-fn are_kept(book: &TestBook, counts: &[(&str, usize)]) -> bool {
-    counts.iter().all(|count| links(book, count.0) == count.1)
-}
-
-// Three logs of this size.
-fn three_logs(alloc: Global, size: u64) -> Result<[Log; 3], AllocError> {
-    Ok([
-        Log::of_size(alloc, "a.example", 1, size)?,
-        Log::of_size(alloc, "b.example", 2, size)?,
-        Log::of_size(alloc, "c.example/with/a/long/name", 3, size)?,
-    ])
-}
-
-// How many links each of the three logs saves.
-const COUNTS: [(&str, usize); 3] = [
-    ("a.example", 5),
-    ("b.example", 4),
-    ("c.example/with/a/long/name", 3),
+// A place, how many links are asked for, how many there are, and the size of the first.
+const PARTS: [(u64, u64, usize, Option<u64>); 8] = [
+    (0, 12, 5, Some(1)),
+    (0, 3, 3, Some(1)),
+    (1, 3, 3, Some(2)),
+    (4, 4, 1, Some(16)),
+    (5, 4, 0, None),
+    (3, 0, 0, None),
+    (u64::MAX, u64::MAX, 0, None),
+    (2, u64::MAX, 3, Some(4)),
 ];
 
-// The lines that a book of the three logs saves in turns, the last log first, where each request is taken.
-fn saved_in_turns(alloc: Global, logs: &[Log]) -> Result<String, Fail> {
-    let mut book = open_book(alloc, logs, Vec::new(alloc))?;
-    let mut saver = KeepingSaver::new(alloc);
-    for step in 0..5u64 {
-        for (log, last) in logs.iter().rev().zip([3u64, 4, 5]) {
-            let size = step * 3;
-            if step < last && status_of(alloc, &mut book, &mut saver, log, size, size + 3)? != 200 {
-                return Err(Fail::new("a request was refused"));
+// Whether the first origin has the links of each part.
+fn has_parts<R: Wait>(rt: &R, witness: &Witness<Global>) -> bool {
+    for (from, most, count, size) in PARTS {
+        let Ok(Some(links)) = witness.links(rt, LOGS[0].0, from, most) else {
+            return false;
+        };
+        if links.len() != count || links.as_slice().first().map(|link| link.size) != size {
+            return false;
+        }
+    }
+    true
+}
+
+// Whether each origin has reached the last link of these lines, and another is unknown.
+fn has_heads<R: Wait>(rt: &R, alloc: Global, witness: &Witness<Global>, lines: &str) -> bool {
+    let Ok(saved) = read_chain(alloc, lines.as_bytes()) else {
+        return false;
+    };
+    for (origin, links) in saved.iter() {
+        let head = links.as_slice().last().map(|link| (link.size, link.root));
+        if witness.head(rt, origin.as_str()) != head {
+            return false;
+        }
+    }
+    witness.head(rt, "d.example").is_none()
+        && matches!(witness.chain(rt, "d.example"), Ok(None))
+        && matches!(witness.links(rt, "d.example", 0, 1), Ok(None))
+}
+
+// Whether a book of the three origins answers the first requests, and keeps what it is to keep.
+fn is_begun<R: Wait>(rt: &R, alloc: Global, saver: &mut KeepingSaver<Global>) -> bool {
+    let Ok(book) = open_book(alloc, alloc, &LOGS, "") else {
+        return false;
+    };
+    let mut asked = Asked::Alone(book);
+    are_answered(rt, &mut asked, saver, &FIRST)
+        && are_kept(rt, alloc, &asked, saver.lines.as_str(), [3, 4, 5])
+}
+
+// The book that a witness is made again, if it knows no other origin.
+fn again<R: Wait>(rt: &R, asked: Asked<Global>) -> Option<Asked<Global>> {
+    match asked {
+        Asked::Shared(witness) => match witness.into_book(rt) {
+            Ok(book) => {
+                if book.chain("d.example").is_some() {
+                    return None;
+                }
+                Some(Asked::Alone(book))
             }
+            Err(_) => None,
+        },
+        Asked::Alone(_) => None,
+    }
+}
+
+// Whether a witness that goes on from these lines has them.
+fn is_read<R: Wait>(rt: &R, alloc: Global, lines: &str) -> bool {
+    match open_witness(alloc, alloc, &LOGS, lines) {
+        Some(witness) => has_parts(rt, &witness) && has_heads(rt, alloc, &witness, lines),
+        None => false,
+    }
+}
+
+// Whether such a witness answers the second requests, and the book that it is made again the third, and each keeps what
+// it is to keep.
+fn is_gone_on_with<R: Wait>(rt: &R, alloc: Global, saver: &mut KeepingSaver<Global>) -> bool {
+    let Some(witness) = open_witness(alloc, alloc, &LOGS, saver.lines.as_str()) else {
+        return false;
+    };
+    let mut asked = Asked::Shared(witness);
+    let is_right = are_answered(rt, &mut asked, saver, &SECOND)
+        && are_kept(rt, alloc, &asked, saver.lines.as_str(), [4, 5, 6]);
+    match again(rt, asked) {
+        Some(mut book) => {
+            is_right
+                && are_answered(rt, &mut book, saver, &THIRD)
+                && are_kept(rt, alloc, &book, saver.lines.as_str(), [5, 6, 7])
         }
+        None => false,
     }
-    if !are_kept(&book, &COUNTS) {
-        return Err(Fail::new("a link was not kept"));
+}
+
+// Whether a book of an origin that is named twice is refused for that.
+fn is_twice_named(alloc: Global) -> bool {
+    match open_book(alloc, alloc, &[LOGS[0], STRANGER], "") {
+        Ok(_) => false,
+        Err(fault) => fault == Some(BookFault::TwiceNamed),
     }
-    Ok(saver.lines)
 }
 
 #[test]
-fn a_book_goes_on_from_twelve_saved_links_of_three_origins(rt: HostRuntime) -> Result<(), Fail> {
+fn each_origin_keeps_its_key_its_cosigner_and_its_links(rt: HostRuntime) {
     let alloc = rt.alloc();
-    let logs = three_logs(alloc, 30)?;
-    let lines = saved_in_turns(alloc, &logs)?;
-    let saved = read_chain(alloc, lines.as_bytes())?;
-    assert!(rt; saved.len() == 3 && saved[0].0.as_str() == "c.example/with/a/long/name");
-    let mut book = open_book(alloc, &logs, saved)?;
-    let mut saver = KeepingSaver::new(alloc);
-    assert!(rt; are_kept(&book, &COUNTS));
-    for (log, old) in logs.iter().zip([(14u64, 15), (11, 12), (8, 9)]) {
-        for (start, want) in [(old.0, 409), (old.1, 200)] {
-            let status = status_of(alloc, &mut book, &mut saver, log, start, 30)?;
-            assert!(rt; status == want);
-        }
-    }
-    Ok(())
-}
-
-// Requests to a book of three logs: the place of the log, the sizes, and the status of the reply.
-const GROWTHS: [(usize, u64, u64, u16); 8] = [
-    (0, 0, 1, 200),
-    (1, 0, 7, 200),
-    (0, 1, 20, 200),
-    (2, 0, 20, 200),
-    (1, 1, 8, 409),
-    (1, 7, 8, 200),
-    (0, 20, 20, 200),
-    (1, 8, 20, 200),
-];
-
-// How many links each of them leaves.
-const GROWN: [(&str, usize); 3] = [
-    ("a.example", 2),
-    ("b.example", 3),
-    ("c.example/with/a/long/name", 1),
-];
-
-#[test]
-fn three_origins_grow_apart(rt: HostRuntime) -> Result<(), Fail> {
-    let alloc = rt.alloc();
-    let logs = three_logs(alloc, 20)?;
-    let mut book = open_book(alloc, &logs, Vec::new(alloc))?;
-    let mut saver = KeepingSaver::new(alloc);
-    for (place, old, size, want) in GROWTHS {
-        let log = logs.get(place).ok_or("no log")?;
-        assert!(rt; status_of(alloc, &mut book, &mut saver, log, old, size)? == want);
-    }
-    assert!(rt; are_kept(&book, &GROWN));
-    assert!(rt; book.chain("d.example").is_none());
-    let stranger = Log::of_size(alloc, "a.example", 2, 30)?;
-    assert!(rt; status_of(alloc, &mut book, &mut saver, &stranger, 20, 30)? == 403);
-    let twice = [stranger, Log::of_size(alloc, "a.example", 1, 1)?];
-    let fault = open_book(alloc, &twice, Vec::new(alloc)).err();
-    assert!(rt; fault == Some(BookFault::TwiceNamed));
-    Ok(())
+    let mut saver = KeepingSaver::new(alloc, alloc);
+    assert!(rt; is_twice_named(alloc));
+    assert!(rt; is_begun(&rt, alloc, &mut saver));
+    assert!(rt; is_read(&rt, alloc, saver.lines.as_str()));
+    assert!(rt; is_gone_on_with(&rt, alloc, &mut saver));
 }

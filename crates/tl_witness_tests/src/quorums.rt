@@ -1,134 +1,141 @@
 //! A log that is shown only once two of three witnesses have cosigned it.
 
-ghost use Rattle.std.specs.Prelude.{IfOk};
 ghost use Rattle.tl_publisher.specs.Operating.{IsOperating};
 
-use crate::logs::Log;
-use crate::posts::{ORIGIN, TIME, trust_in};
+use crate::boards::opened;
+use crate::books::{LOG_ID, ORIGIN, Origin, TIME, Witness, open_witness};
 use crate::savers::KeepingSaver;
+use base64::engine::general_purpose::STANDARD;
 use std::alloc::{AllocError, Global};
 use std::str;
 use std::sync::Wait;
-use std::test::Fail;
-use tl_checkpoint::{cosignatures_by, have_distinct_names};
 use tl_hash::Sha256Tree;
-use tl_note::{Signer, Verifier, open_note, parse_note};
+use tl_note::Verifier;
+use tl_proof::prove_tree;
 use tl_publisher::{AttachFault, BoardReader, Operator, Proposal, Shown};
 use tl_sequencer::Submitter;
+use tl_store::HashStore;
 use tl_testing::LengthKey;
 use tl_tile::Resource;
-use tl_witness::{Book, SharedWitness};
 
-const LOG_ID: u32 = 0x01020304;
-
-// The witnesses, by their keys' names and identifiers.
-const COSIGNERS: [(&str, u32); 3] = [("w1.example", 1), ("w2.example", 2), ("w3.example", 3)];
+// The witnesses, by their keys' names and identifiers, each of which trusts the log's.
+const WITNESSES: [Origin; 3] = [
+    (ORIGIN, (ORIGIN, LOG_ID), ("w1.example", 1)),
+    (ORIGIN, (ORIGIN, LOG_ID), ("w2.example", 2)),
+    (ORIGIN, (ORIGIN, LOG_ID), ("w3.example", 3)),
+];
 
 // How often the log is published, and by how many entries it grows each time.
 const TURNS: u64 = 20;
 
 const GROWTH: u64 = 7;
 
+// The checkpoint of its 140 entries, each its place in eight bytes, with the lines of all.
+const LAST: &str =
+    "example.com/log\n140\nz/+dh6vsGbTey9hi9rXKctnrlfTC35qhGJo/1CmFUCw=\n\n— example.com/log AQIDBAAAAAAAAABB\n— w1.example AAAAAQAAAABlU/EAAAAAAAAAAGA=\n— w2.example AAAAAgAAAABlU/EAAAAAAAAAAGA=\n— w3.example AAAAAwAAAABlU/EAAAAAAAAAAGA=\n";
+
 // A witness, and who keeps what it accepts.
 #[derive(Drop)]
 struct Member {
-    witness: SharedWitness<Sha256Tree, Global>,
-    saver: KeepingSaver,
+    witness: Witness<Global>,
+    saver: KeepingSaver<Global>,
 }
 
-// The witness of this key, which trusts the log's.
-fn opened_member(alloc: Global, cosigner: (&str, u32)) -> Result<Member, Fail> {
-    let mut trusts = Vec::new(alloc);
-    trusts.push(trust_in(alloc, alloc, ORIGIN, (ORIGIN, LOG_ID), cosigner)?)?;
-    let book = Book::open(alloc, alloc, Sha256Tree, trusts, Vec::new(alloc))?;
-    match SharedWitness::new(book) {
-        Ok(witness) => Ok(Member {
-            witness,
-            saver: KeepingSaver::new(alloc),
-        }),
-        Err(_) => Err(Fail::from("not shared")),
-    }
-}
-
-// All of them.
-fn members(alloc: Global) -> Result<Vec<Member>, Fail> {
+// All of them, and their keys, as verifiers.
+fn members(alloc: Global) -> Result<(Vec<Member>, Vec<Box<dyn Verifier>>), AllocError> {
     let mut all = Vec::new(alloc);
-    for cosigner in COSIGNERS {
-        all.push(opened_member(alloc, cosigner)?)?;
+    let mut keys: Vec<Box<dyn Verifier>> = Vec::new(alloc);
+    for origin in WITNESSES {
+        let Some(witness) = open_witness(alloc, alloc, &[origin], "") else {
+            return Err(AllocError);
+        };
+        let saver = KeepingSaver::new(alloc, alloc);
+        all.push(Member { witness, saver })?;
+        let (name, id) = origin.2;
+        keys.push(Box::new(alloc, LengthKey::new(alloc, name, id)?)?)?;
     }
-    Ok(all)
+    Ok((all, keys))
 }
 
-// Their keys, as verifiers.
-fn keys(alloc: Global) -> Result<Vec<Box<dyn Verifier>>, AllocError> {
-    let mut all: Vec<Box<dyn Verifier>> = Vec::new(alloc);
-    for (name, id) in COSIGNERS {
-        all.push(Box::new(alloc, LengthKey::new(alloc, name, id)?)?)?;
-    }
-    Ok(all)
-}
-
-// An operator that needs two of the three, what sends to it, and a reader.
-fn required<R: Wait + Drop>(
-    rt: R,
-    alloc: Global,
-) -> Result<(Operator<R>, Submitter<Global, Global>, BoardReader<Global>), Fail>
-    ensures { IfOk result (λ r. IsOperating (⟦<Operator<R> as Shown>⟧.shown r.0)) }
-{
-    let mut signers: Vec<Box<dyn Signer>> = Vec::new(alloc);
-    signers.push(Box::new(alloc, LengthKey::new(alloc, ORIGIN, LOG_ID)?)?)?;
-    let (mut operator, mut submitters, mut readers) = Operator::open(
-        rt, alloc, ORIGIN, signers, 1, 64, 1000, 1,
-    )?;
-    if operator.require(keys(alloc)?, 2).is_err() {
-        return Err(Fail::from("not required"));
-    }
-    let submitter = submitters.pop().unwrap();
-    let reader = readers.pop().unwrap();
-    Ok((operator, submitter, reader))
-}
-
-// The log grows, and is proposed.
+// The log grows, and is proposed. None where an entry is not sent or taken, or nothing is proposed.
 fn proposed<R: Wait + Drop>(
     alloc: Global,
     operator: &mut Operator<R>,
     submitter: &mut Submitter<Global, Global>,
-    size: u64,
-) -> Result<Proposal, Fail>
+    store: &mut HashStore<Sha256Tree, Global>,
+) -> Option<Proposal>
     requires { IsOperating (⟦<Operator<R> as Shown>⟧.shown operator.old) }
     ensures { IsOperating (⟦<Operator<R> as Shown>⟧.shown operator.new) }
 {
-    for place in size.saturating_sub(GROWTH)..size {
-        let entry = Vec::from_slice(alloc, &place.to_be_bytes())?;
-        if submitter.submit(entry).is_err() {
-            return Err(Fail::from("not sent"));
+    for _ in 0..GROWTH {
+        let size = store.size();
+        if size >= TURNS * GROWTH {
+            return None;
+        }
+        let place = size.to_be_bytes();
+        let Ok(entry) = Vec::from_slice(alloc, &place) else {
+            return None;
+        };
+        if store.append(&place).is_err() || submitter.submit(entry).is_err() {
+            return None;
         }
     }
-    operator.take(0, GROWTH)?;
-    Ok(operator.propose()?)
+    if operator.take(0, GROWTH).is_err() {
+        return None;
+    }
+    operator.propose().ok()
 }
 
-// What a witness answers to a proposal: its line, and nothing where it refuses.
-fn line_of<R: Wait>(
+// The body of a request from the old size to what is proposed.
+fn request(
+    alloc: Global,
+    store: &HashStore<Sha256Tree, Global>,
+    old: u64,
+    proposal: &Proposal,
+) -> Result<String, AllocError> {
+    let mut text = format!(in alloc; "old {old}\n")?;
+    let Ok(proof) = prove_tree(alloc, Sha256Tree, proposal.size, old, store) else {
+        return Err(AllocError);
+    };
+    for hash in proof.as_slice() {
+        text.push_str(STANDARD.encode(alloc, hash.as_bytes())?.as_str())?;
+        text.push_str("\n")?;
+    }
+    text.push_str("\n")?;
+    text.push_str(proposal.note.as_str())?;
+    Ok(text)
+}
+
+// What the witnesses answer, one after the other. The first can save only from the sixth turn on, the second but at
+// its first try. None where they can't be asked.
+fn lines_of<R: Wait>(
     rt: &R,
     alloc: Global,
-    log: &Log,
-    member: &mut Member,
+    store: &HashStore<Sha256Tree, Global>,
+    members: &mut [Member],
     proposal: &Proposal,
-) -> Result<String, Fail> {
-    let (old, _root) = member.witness.head(rt, ORIGIN).ok_or("no head")?;
-    let body = log.body(alloc, old, proposal.size)?;
-    if !body.as_str().ends_with(proposal.note.as_str()) {
-        return Err(Fail::from("the proposal is of another log"));
+    tries: (u64, bool),
+) -> Option<String> {
+    let (turn, is_again) = tries;
+    let can_save = [turn > 5, turn > 1 || is_again, true];
+    let mut lines = String::new(alloc);
+    for (member, can_save) in members.iter_mut().zip(can_save) {
+        let Some((old, _root)) = member.witness.head(rt, ORIGIN) else {
+            return None;
+        };
+        let Ok(body) = request(alloc, store, old, proposal) else {
+            return None;
+        };
+        member.saver.fails = !can_save;
+        let reply = member
+            .witness
+            .add(rt, body.as_bytes(), TIME, &mut member.saver);
+        let line = str::from_utf8(reply.body.as_slice()).unwrap_or("");
+        if reply.status == 200 && lines.push_str(line).is_err() {
+            return None;
+        }
     }
-    let reply = member
-        .witness
-        .add(rt, body.as_bytes(), TIME, &mut member.saver);
-    if reply.status != 200 {
-        return Ok(String::new(alloc));
-    }
-    let line = str::from_utf8(reply.body.as_slice()).map_err(|_| "no text")?;
-    Ok(String::from_str(alloc, line)?)
+    Some(lines)
 }
 
 // Attaches what witnesses answered: the size that is published.
@@ -142,131 +149,85 @@ fn attached<R: Wait + Drop>(operator: &mut Operator<R>, lines: &str) -> Result<u
     }
 }
 
-// Whether a witness of this place can save at this turn: the first only from the sixth on, the second but at its first
-// try.
-fn can_save(place: usize, turn: u64, is_again: bool) -> bool {
-    match place {
-        0 => turn > 5,
-        1 => turn > 1 || is_again,
-        _ => true,
-    }
-}
-
-// What they all answer, one after the other.
-fn lines_of<R: Wait>(
-    rt: &R,
-    alloc: Global,
-    log: &Log,
-    members: &mut [Member],
-    proposal: &Proposal,
-    turn: u64,
-    is_again: bool,
-) -> Result<String, Fail> {
-    let mut lines = String::new(alloc);
-    let mut place = 0usize;
-    for member in members {
-        member.saver.fails = !can_save(place, turn, is_again);
-        let line = line_of(rt, alloc, log, member, proposal)?;
-        lines.push_str(line.as_str())?;
-        place = place.saturating_add(1);
-    }
-    Ok(lines)
-}
-
 // Publishes the log once more. At the first turn too few witnesses can save until they are asked again.
 fn is_published<R: Wait, O: Wait + Drop>(
     rt: &R,
     alloc: Global,
-    log: &Log,
     operator: &mut Operator<O>,
     submitter: &mut Submitter<Global, Global>,
+    store: &mut HashStore<Sha256Tree, Global>,
     members: &mut [Member],
     turn: u64,
-) -> Result<bool, Fail>
+) -> bool
     requires { IsOperating (⟦<Operator<O> as Shown>⟧.shown operator.old) }
     ensures { IsOperating (⟦<Operator<O> as Shown>⟧.shown operator.new) }
 {
-    let size = turn.saturating_mul(GROWTH);
-    let proposal = proposed(alloc, operator, submitter, size)?;
-    let lines = lines_of(rt, alloc, log, members, &proposal, turn, false)?;
+    let Some(proposal) = proposed(alloc, operator, submitter, store) else {
+        return false;
+    };
+    let Some(lines) = lines_of(rt, alloc, store, members, &proposal, (turn, false)) else {
+        return false;
+    };
     let shown = attached(operator, lines.as_str());
     if turn > 1 {
-        return Ok(shown == Ok(size));
+        return shown == Ok(store.size());
     }
     if shown != Err(AttachFault::TooFew(1)) {
-        return Ok(false);
+        return false;
     }
-    let again = lines_of(rt, alloc, log, members, &proposal, turn, true)?;
-    Ok(attached(operator, again.as_str()) == Ok(size))
+    match lines_of(rt, alloc, store, members, &proposal, (turn, true)) {
+        Some(again) => attached(operator, again.as_str()) == Ok(store.size()),
+        None => false,
+    }
 }
 
 // Publishes the log in turns.
 fn are_published<R: Wait, O: Wait + Drop>(
     rt: &R,
     alloc: Global,
-    log: &Log,
     operator: &mut Operator<O>,
     submitter: &mut Submitter<Global, Global>,
     members: &mut [Member],
-) -> Result<bool, Fail>
+) -> bool
     requires { IsOperating (⟦<Operator<O> as Shown>⟧.shown operator.old) }
 {
+    let mut store = HashStore::new(alloc, Sha256Tree);
     for turn in 1..=TURNS {
-        if !is_published(rt, alloc, log, operator, submitter, members, turn)? {
-            return Ok(false);
+        if !is_published(rt, alloc, operator, submitter, &mut store, members, turn) {
+            return false;
         }
     }
-    Ok(true)
+    true
 }
 
-// How many lines of a checkpoint are the log's.
-fn signed_count(alloc: Global, note: &str) -> Result<usize, Fail> {
-    let mut known: Vec<Box<dyn Verifier>> = Vec::new(alloc);
-    known.push(Box::new(alloc, LengthKey::new(alloc, ORIGIN, LOG_ID)?)?)?;
-    Ok(open_note(alloc, note, known.as_slice())?.verified.len())
-}
-
-// How many are cosignatures of this time by the witnesses.
-fn cosigned_count(alloc: Global, note: &str) -> Result<usize, Fail> {
-    let view = parse_note(alloc, note)?;
-    let witnesses = keys(alloc)?;
-    if !have_distinct_names(witnesses.as_slice()) {
-        return Err(Fail::from("two witnesses have one name"));
+// Whether a reader sees the last checkpoint.
+fn is_shown(alloc: Global, reader: &mut BoardReader<Global>) -> bool {
+    match reader.get(alloc, &Resource::Checkpoint) {
+        Ok(Some(note)) => note.as_slice() == LAST.as_bytes(),
+        _ => false,
     }
-    let found = cosignatures_by(
-        alloc,
-        view.text,
-        view.signatures.as_slice(),
-        witnesses.as_slice(),
-    )?;
-    Ok(
-        found
-            .iter()
-            .filter(|cosigned| cosigned.time == TIME)
-            .count(),
-    )
+}
+
+// Whether an operator that needs two of the witnesses publishes its log in turns, with the lines of all in the end.
+fn is_cosigned<R: Wait + Copy + Drop>(rt: R, alloc: Global) -> bool {
+    let Ok((mut members, keys)) = members(alloc) else {
+        return false;
+    };
+    let Some((mut operator, mut submitter, mut reader)) = opened(rt, alloc) else {
+        return false;
+    };
+    operator.require(keys, 2).is_ok()
+        && are_published(
+            &rt,
+            alloc,
+            &mut operator,
+            &mut submitter,
+            members.as_mut_slice(),
+        )
+        && is_shown(alloc, &mut reader)
 }
 
 #[test]
-fn two_of_three_witnesses_cosign_twenty_publications(rt: HostRuntime) -> Result<(), Fail> {
-    let alloc = rt.alloc();
-    let log = Log::of_size(alloc, ORIGIN, LOG_ID, TURNS * GROWTH)?;
-    let (mut operator, mut submitter, mut reader) = required(&rt, alloc)?;
-    let mut members = members(alloc)?;
-    assert!(rt;
-        are_published(
-            &rt,
-            alloc,
-            &log,
-            &mut operator,
-            &mut submitter,
-            members.as_mut_slice()
-        )?
-    );
-    let note = reader
-        .get(alloc, &Resource::Checkpoint)?
-        .ok_or("no checkpoint")?;
-    let text = str::from_utf8(note.as_slice()).map_err(|_| "no text")?;
-    assert!(rt; signed_count(alloc, text)? == 1 && cosigned_count(alloc, text)? == 3);
-    Ok(())
+fn two_of_three_witnesses_cosign_twenty_publications(rt: HostRuntime) {
+    assert!(rt; is_cosigned(&rt, rt.alloc()));
 }

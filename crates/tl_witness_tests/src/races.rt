@@ -1,42 +1,38 @@
 //! Threads that post to two origins at once, one of which waits.
 
-use crate::logs::{are_first, two_links};
-use crate::posts::{E1, F1, TIME, fresh_book, signed_body};
+use crate::books::{Asked, LOG_ID, ORIGIN, Origin, TIME, Witness, open_witness};
 use crate::savers::KeepingSaver;
+use crate::steps::LINES;
 use std::alloc::{AllocError, Allocator, Global};
 use std::sync::atomic::{AtomicBool, Ordering};
 use std::sync::{Arc, Wait};
 use std::test::Fail;
 use std::thread;
 use std::thread::Threads;
-use tl_hash::Sha256Tree;
 use tl_proof::Link;
-use tl_witness::{Reply, SaveFault, Saver, SharedWitness};
+use tl_witness::{Reply, SaveFault, Saver, read_chain};
 
-type Witness = SharedWitness<Sha256Tree, Global>;
+const COSIGNER: (&str, u32) = ("witness.example", 0x0A0B0C0D);
 
-// A witness of these origins.
-fn shared(alloc: Global, origins: &[&str]) -> Result<Witness, Fail> {
-    match SharedWitness::new(fresh_book(alloc, alloc, origins)?) {
-        Ok(witness) => Ok(witness),
-        Err(_) => Err(Fail::new("out of memory")),
-    }
-}
+const ORIGINS: [Origin; 2] = [
+    ("example.com/a", (ORIGIN, LOG_ID), COSIGNER),
+    ("example.com/b", (ORIGIN, LOG_ID), COSIGNER),
+];
 
-const ORIGINS: [&str; 2] = ["example.com/a", "example.com/b"];
+// The first request of each origin, and one of a third.
+const BODIES: [&str; 3] = [
+    "old 0\n\nexample.com/a\n1\nbjQLnP+zepicpUTmu3gKLHiQHT+zNzh2hRGjBhevoB0=\n\n— example.com/log AQIDBAAAAAAAAAA9\n",
+    "old 0\n\nexample.com/b\n1\nbjQLnP+zepicpUTmu3gKLHiQHT+zNzh2hRGjBhevoB0=\n\n— example.com/log AQIDBAAAAAAAAAA9\n",
+    "old 0\n\nexample.com/c\n1\nbjQLnP+zepicpUTmu3gKLHiQHT+zNzh2hRGjBhevoB0=\n\n— example.com/log AQIDBAAAAAAAAAA9\n",
+];
 
 // The cosignature of the text of either origin.
-const SHORTER_COSIGNATURE: &str = "— witness.example CgsMDQAAAABlU/EAAAAAAAAAAFw=\n";
-
-// The first request of an origin whose name is two bytes shorter than the log's key.
-fn first_body(alloc: Global, origin: &str) -> Result<String, AllocError> {
-    signed_body(alloc, origin, 0, "", 1, E1, "AQIDBAAAAAAAAAA9")
-}
+const COSIGNATURE: &[u8] = b"\xe2\x80\x94 witness.example CgsMDQAAAABlU/EAAAAAAAAAAFw=\n";
 
 // Answers a request with this saver.
 fn answer_slowly<R: Wait>(
     rt: &R,
-    witness: &Witness,
+    witness: &Witness<Global>,
     body: &str,
     saver: WaitingSaver,
 ) -> Reply<Global> {
@@ -44,97 +40,83 @@ fn answer_slowly<R: Wait>(
     witness.add(rt, body.as_bytes(), TIME, &mut saver)
 }
 
-// What came while the other thread saved, and whether it did.
-#[derive(Drop)]
-struct Meanwhile {
-    is_saving: bool,
-    reply: Reply<Global>,
-    malformed: Reply<Global>,
-    unknown: Reply<Global>,
-}
-
-// Answers requests once the other thread saves, and tells it.
+// Answers three requests once the other thread saves, and tells it: this one, a malformed one, and one of an unknown
+// origin. Whether the other thread saved, the reply to this one, and the statuses of those to the others.
 fn answer_meanwhile<R: Wait>(
     rt: &R,
     alloc: Global,
-    witness: &Witness,
-    bodies: (&str, &str),
+    witness: &Witness<Global>,
+    body: &str,
     called: &AtomicBool,
     answered: &AtomicBool,
-) -> Meanwhile {
+) -> (bool, Reply<Global>, (u16, u16)) {
     let is_saving = is_raised(called);
-    let mut saver = KeepingSaver::new(alloc);
-    let reply = witness.add(rt, bodies.0.as_bytes(), TIME, &mut saver);
+    let mut saver = KeepingSaver::new(alloc, alloc);
+    let reply = witness.add(rt, body.as_bytes(), TIME, &mut saver);
     let malformed = witness.add(rt, b"old 0\n", TIME, &mut saver);
-    let unknown = witness.add(rt, bodies.1.as_bytes(), TIME, &mut saver);
+    let unknown = witness.add(rt, BODIES[2].as_bytes(), TIME, &mut saver);
     answered.store(true, Ordering::SeqCst);
-    Meanwhile {
-        is_saving,
-        reply,
-        malformed,
-        unknown,
-    }
+    (is_saving, reply, (malformed.status, unknown.status))
 }
 
-// The replies where the second request, and one to no origin, come while the link of the first is saved.
-fn replies_in_a_save<R: Threads + Wait + Sync>(
+// Whether each reply is right where the second request comes while the link of the first is saved.
+fn are_right_in_a_save<R: Threads + Wait + Sync>(
     rt: &R,
     alloc: Global,
-    witness: &Witness,
-    first: &str,
-    bodies: (&str, &str),
-) -> Result<(Reply<Global>, Meanwhile), AllocError> {
+    witness: &Witness<Global>,
+    slow: &str,
+    quick: &str,
+) -> Result<bool, AllocError> {
     let called = Arc::new(alloc, AtomicBool::new(false))?;
     let answered = Arc::new(alloc, AtomicBool::new(false))?;
     let saver = WaitingSaver {
-        inner: KeepingSaver::new(alloc),
+        inner: KeepingSaver::new(alloc, alloc),
         called: Arc::try_clone(&called)?,
         answered: Arc::try_clone(&answered)?,
     };
-    Ok(thread::join(
+    let (late, (is_saving, reply, others)) = thread::join(
         rt,
-        move || answer_slowly(rt, witness, first, saver),
-        || answer_meanwhile(rt, alloc, witness, bodies, &called, &answered),
-    ))
+        move || answer_slowly(rt, witness, slow, saver),
+        || answer_meanwhile(rt, alloc, witness, quick, &called, &answered),
+    );
+    Ok(
+        is_saving
+            && late.status == 200
+            && late.body.as_slice() == COSIGNATURE
+            && reply.status == 200
+            && reply.body.as_slice() == COSIGNATURE
+            && others == (400, 404),
+    )
 }
 
-// Whether the replies in a save are as they are to be.
-fn are_right(late: &Reply<Global>, meanwhile: &Meanwhile) -> bool {
-    meanwhile.is_saving
-        && late.status == 200
-        && late.body.as_slice() == SHORTER_COSIGNATURE.as_bytes()
-        && meanwhile.reply.status == 200
-        && meanwhile.reply.body.as_slice() == SHORTER_COSIGNATURE.as_bytes()
-        && meanwhile.malformed.status == 400
-        && meanwhile.unknown.status == 404
-}
-
-// Whether each origin has its first link.
-fn have_first<R: Wait>(rt: &R, alloc: Global, witness: &Witness) -> Result<bool, Fail> {
-    let whole = two_links(alloc, F1)?;
-    for origin in ORIGINS {
-        let links = witness.chain(rt, origin)?.ok_or("no chain")?;
-        if !are_first(links.as_slice(), whole.as_slice(), 1) {
-            return Ok(false);
-        }
+// The same of a new witness. Whether each origin then has its first link too.
+fn is_answered_in_a_save<R: Threads + Wait + Sync>(
+    rt: &R,
+    alloc: Global,
+    whole: &[Link<Global>],
+    slow: &str,
+    quick: &str,
+) -> bool {
+    let Some(witness) = open_witness(alloc, alloc, &ORIGINS, "") else {
+        return false;
+    };
+    if are_right_in_a_save(rt, alloc, &witness, slow, quick) != Ok(true) {
+        return false;
     }
-    Ok(true)
+    let asked = Asked::Shared(witness);
+    asked.has(rt, ORIGINS[0].0, whole, 1) == Some(true)
+        && asked.has(rt, ORIGINS[1].0, whole, 1) == Some(true)
 }
 
 #[test]
 fn a_request_waits_for_no_other_origin(rt: HostRuntime) -> Result<(), Fail> {
     let alloc = rt.alloc();
-    let unknown = first_body(alloc, "example.com/c")?;
-    for (slow, quick) in [(ORIGINS[0], ORIGINS[1]), (ORIGINS[1], ORIGINS[0])] {
-        let slow = first_body(alloc, slow)?;
-        let quick = first_body(alloc, quick)?;
-        for _ in 0..100 {
-            let witness = shared(alloc, &ORIGINS)?;
-            let bodies = (quick.as_str(), unknown.as_str());
-            let (late, meanwhile) = replies_in_a_save(&rt, alloc, &witness, slow.as_str(), bodies)?;
-            assert!(rt; are_right(&late, &meanwhile));
-            assert!(rt; have_first(&rt, alloc, &witness)?);
-        }
+    let chains = read_chain(alloc, LINES.as_bytes())?;
+    assert!(rt; chains.len() == 1);
+    let whole = chains[0].1.as_slice();
+    for _ in 0..100 {
+        assert!(rt; is_answered_in_a_save(&rt, alloc, whole, BODIES[0], BODIES[1]));
+        assert!(rt; is_answered_in_a_save(&rt, alloc, whole, BODIES[1], BODIES[0]));
     }
     Ok(())
 }
@@ -142,8 +124,8 @@ fn a_request_waits_for_no_other_origin(rt: HostRuntime) -> Result<(), Fail> {
 // How often a thread looks before it gives up.
 const TURNS: u64 = 10_000_000;
 
-/// Waits until the flag is raised. False where it never was.
-pub fn is_raised(flag: &AtomicBool) -> bool {
+// Waits until the flag is raised. False where it never was.
+fn is_raised(flag: &AtomicBool) -> bool {
     for _ in 0..TURNS {
         if flag.load(Ordering::SeqCst) {
             return true;
@@ -153,19 +135,16 @@ pub fn is_raised(flag: &AtomicBool) -> bool {
     false
 }
 
-/// A saver that tells when it is called, waits for an answer elsewhere, and fails where that never comes.
+// A saver that raises a flag when it is called, waits until another is raised, and fails where that never comes.
 #[derive(Drop)]
-pub struct WaitingSaver {
-    /// Who saves then.
-    pub inner: KeepingSaver,
-    /// Raised by `save`.
-    pub called: Arc<AtomicBool, Global>,
-    /// Raised by the other thread.
-    pub answered: Arc<AtomicBool, Global>,
+struct WaitingSaver {
+    inner: KeepingSaver<Global>,
+    called: Arc<AtomicBool, Global>,
+    answered: Arc<AtomicBool, Global>,
 }
 
 impl Saver for WaitingSaver {
-    ghost saved = { λ s. ⟦<KeepingSaver as Saver>⟧.saved s.inner };
+    ghost saved = { λ s. ⟦<KeepingSaver<Global> as Saver>⟧.saved s.inner };
 
     fn save<A: Allocator>(&mut self, origin: &str, link: &Link<A>) -> Result<(), SaveFault> {
         self.called.store(true, Ordering::SeqCst);

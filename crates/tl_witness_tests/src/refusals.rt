@@ -1,330 +1,217 @@
-//! Calls with their first request for memory refused, then their second, and so on, until none is refused.
+//! Requests to a book, alone and shared, with a request for memory refused in turn, or with each save failing once.
 
-use crate::logs::{are_first, hash, two_links};
-use crate::posts::{E2, F1, ORIGIN, TIME, body, fresh_book, trust};
+use crate::books::{Asked, ORIGIN, WORKED, open_book};
 use crate::savers::KeepingSaver;
-use crate::steps::{LINES, MOST, Step, is_due, steps};
-use std::alloc::{AllocError, Allocator, Global};
+use crate::steps::{LINES, LONG, STEPS, Step};
+use std::alloc::{AllocError, Global};
 use std::sync::Wait;
 use std::test::Fail;
-use tl_hash::Sha256Tree;
 use tl_proof::Link;
 use tl_testing::Refusing;
-use tl_witness::{
-    Book, BookFault, ChainFault, RequestFault, SharedWitness, parse_request, read_chain,
-};
+use tl_witness::{BookFault, Reply, SharedWitness, read_chain};
 
-// A book of one origin and its chain of two links. What is handed in is made on another heap.
-fn saved_book<'h>(
-    alloc: Global,
-    calm: &'h Refusing<Global>,
-    heap: &'h Refusing<Global>,
-) -> Result<Result<Book<Sha256Tree, &'h Refusing<Global>>, BookFault>, AllocError> {
-    let mut trusts = Vec::new(calm);
-    trusts.push(trust(alloc, calm, ORIGIN)?)?;
-    let mut chains = Vec::new(calm);
-    chains.push((String::from_str(calm, ORIGIN)?, two_links(calm, F1)?))?;
-    Ok(Book::open(heap, alloc, Sha256Tree, trusts, chains))
-}
-
-// Whether the links of the book are the first of a chain, so many of them.
-fn has_links<A: Allocator + Copy>(
-    book: &Book<Sha256Tree, A>,
-    whole: &[Link<Global>],
-    count: usize,
-) -> bool {
-    match book.chain(ORIGIN) {
-        Some(links) => are_first(links, whole, count),
-        None => false,
-    }
-}
-
-// Whether the book that was opened has both links, or why none was opened.
-fn opened_on(
-    alloc: Global,
-    calm: &Refusing<Global>,
-    heap: &Refusing<Global>,
-) -> Result<Result<bool, BookFault>, AllocError> {
-    let whole = two_links(alloc, F1)?;
-    match saved_book(alloc, calm, heap)? {
-        Ok(book) => Ok(Ok(has_links(&book, whole.as_slice(), 2))),
-        Err(fault) => Ok(Err(fault)),
-    }
-}
-
-// A call that asks for memory.
-#[derive(Clone, Copy, Debug)]
-enum Call {
-    // A book of one origin and its chain of two links is opened.
-    Open,
-    // The request for size 2 is read.
-    Parse,
-    // The lines of the two links are read.
-    Read,
-}
-
-// Whether the body of the request for size 2 is read as that. None: out of memory.
-fn is_parsed(alloc: Global, heap: &Refusing<Global>) -> Result<Option<bool>, AllocError> {
-    let text = body(alloc, 1, format!(in alloc; "{F1}\n")?.as_str(), 2, E2)?;
-    match parse_request(heap, text.as_bytes()) {
-        Ok(request) => Ok(Some(
-            request.old == 1
-                && request.proof.as_slice() == [hash(F1)].as_slice()
-                && request.note.len() == 101
-                && text.ends_with(request.note),
-        )),
-        Err(RequestFault::OutOfMemory) => Ok(None),
-        Err(_) => Ok(Some(false)),
-    }
-}
-
-// Whether a call with this heap comes to what it is to come to. None: out of memory.
-fn is_right(
-    alloc: Global,
-    calm: &Refusing<Global>,
-    heap: &Refusing<Global>,
-    call: Call,
-) -> Result<Option<bool>, AllocError> {
-    match call {
-        Call::Open => match opened_on(alloc, calm, heap)? {
-            Ok(is_whole) => Ok(Some(is_whole)),
-            Err(BookFault::OutOfMemory) => Ok(None),
-            Err(_) => Ok(Some(false)),
-        },
-        Call::Parse => is_parsed(alloc, heap),
-        Call::Read => match read_chain(heap, LINES.as_bytes()) {
-            Ok(chains) => Ok(Some(chains.len() == 1)),
-            Err(ChainFault::OutOfMemory) => Ok(None),
-            Err(_) => Ok(Some(false)),
-        },
-    }
-}
-
-// Whether a call is out of memory where a growth is refused, of which there are some, and else comes to what it is to.
-fn is_refused_in_turn(alloc: Global, call: Call) -> Result<bool, AllocError> {
-    let calm = Refusing::at(alloc, 0);
-    for turn in 1..MOST {
-        let heap = Refusing::in_turn(alloc, turn);
-        let answer = is_right(alloc, &calm, &heap, call)?;
-        if !heap.refused() {
-            return Ok(turn > 2 && answer == Some(true));
-        }
-        heap.lift();
-        if answer != None || is_right(alloc, &calm, &heap, call)? != Some(true) {
-            return Ok(false);
-        }
-    }
-    Ok(false)
-}
-
-#[test]
-fn opening_and_reading_answer_out_of_memory(rt: HostRuntime) -> Result<(), Fail> {
-    let alloc = rt.alloc();
-    for call in [Call::Open, Call::Parse, Call::Read] {
-        assert!(rt; is_refused_in_turn(alloc, call)?, "{call:?}");
-    }
-    let whole = two_links(alloc, F1)?;
-    let heap = Refusing::at(alloc, 0);
-    let book = saved_book(alloc, &heap, &heap)??;
-    heap.refuse();
-    assert!(rt; has_links(&book, whole.as_slice(), 2));
-    assert!(rt; book.chain("example.com/c").is_none());
-    assert!(rt; !heap.refused());
-    Ok(())
-}
-
-// Puts a request to a book, once more where memory was refused. Whether each reply is the one that is due, and a
-// refusal left the book as it was, with so many links, and saved nothing.
-fn is_taken(
-    book: &mut Book<Sha256Tree, &Refusing<Global>>,
-    heap: &Refusing<Global>,
-    saver: &mut KeepingSaver,
-    step: &Step,
-    whole: &[Link<Global>],
-    count: usize,
-) -> bool {
-    let was_refused = heap.refused();
-    let calls = saver.calls;
-    saver.fails = step.save_fails;
-    let reply = book.add(step.body.as_bytes(), TIME, saver);
-    if heap.refused() == was_refused {
-        return is_due(&reply, step) && has_links(book, whole, step.links);
-    }
-    if reply.status != 500 || !reply.body.is_empty() {
-        return false;
-    }
-    if saver.calls != calls || !has_links(book, whole, count) {
-        return false;
-    }
-    heap.lift();
-    let again = book.add(step.body.as_bytes(), TIME, saver);
-    is_due(&again, step) && has_links(book, whole, step.links)
-}
-
-// Puts the requests to a book. Whether each is taken as it is to be, and the links that they leave are saved.
-fn are_taken(
-    alloc: Global,
-    book: &mut Book<Sha256Tree, &Refusing<Global>>,
-    heap: &Refusing<Global>,
-    list: &[Step],
-    whole: &[Link<Global>],
-) -> bool {
-    let mut saver = KeepingSaver::new(alloc);
-    let mut count = 0;
-    for step in list {
-        if !is_taken(book, heap, &mut saver, step, whole, count) {
-            return false;
-        }
-        count = step.links;
-    }
-    saver.calls == 3 && saver.lines.as_str() == LINES
-}
-
-#[test]
-fn a_book_answers_500(rt: HostRuntime) -> Result<(), Fail> {
-    let alloc = rt.alloc();
-    let whole = two_links(alloc, F1)?;
-    let list = steps(alloc)?;
-    for turn in 1..MOST {
-        let heap = Refusing::in_turn(alloc, turn);
-        let Ok(mut book) = fresh_book(alloc, &heap, &[ORIGIN]) else {
-            assert!(rt; heap.refused());
-            continue;
-        };
-        let are_right = are_taken(alloc, &mut book, &heap, list.as_slice(), whole.as_slice());
-        assert!(rt; are_right, "in turn {turn}");
-        if !heap.refused() {
-            assert!(rt; turn > 200);
-            return Ok(());
-        }
-    }
-    Err(Fail::new("each run was refused"))
-}
+// More requests for memory than a run makes.
+const MOST: u64 = 5000;
 
 type Heap<'h> = &'h Refusing<Global>;
 
-// The book shared, at the second try where memory was refused. None where a refusal changed the book, or came for no
-// cause.
-fn shared<'h>(
-    book: Book<Sha256Tree, Heap<'h>>,
+// A book of the worked log with the links of these lines, shared or not. Sharing is tried again where memory was
+// refused. An error says whether a growth was refused before that.
+fn opened<'h>(
+    alloc: Global,
     heap: Heap<'h>,
-) -> Option<SharedWitness<Sha256Tree, Heap<'h>>> {
+    lines: &str,
+    is_shared: bool,
+) -> Result<Asked<Heap<'h>>, bool> {
+    let book = match open_book(alloc, heap, &[WORKED], lines) {
+        Ok(book) => book,
+        Err(fault) => return Err(fault == Some(BookFault::OutOfMemory)),
+    };
+    if !is_shared {
+        return Ok(Asked::Alone(book));
+    }
     let back = match SharedWitness::new(book) {
-        Ok(witness) => return Some(witness),
+        Ok(witness) => return Ok(Asked::Shared(witness)),
         Err(back) => back,
     };
-    if !heap.refused() || back.book.chain(ORIGIN)?.len() != 0 {
-        return None;
+    if !heap.refused() {
+        return Err(false);
     }
     heap.lift();
     match SharedWitness::new(back.book) {
-        Ok(witness) => Some(witness),
-        Err(_) => None,
+        Ok(witness) => Ok(Asked::Shared(witness)),
+        Err(_) => Err(false),
+    }
+}
+
+// The same, at the second try where memory was refused. None where it was not, or is no book then.
+fn opened_at_last<'h>(
+    alloc: Global,
+    heap: Heap<'h>,
+    lines: &str,
+    is_shared: bool,
+) -> Option<Asked<Heap<'h>>> {
+    let was_refused = heap.refused();
+    match opened(alloc, heap, lines, is_shared) {
+        Ok(asked) => Some(asked),
+        Err(is_memory) => {
+            if !is_memory || heap.refused() == was_refused {
+                return None;
+            }
+            heap.lift();
+            opened(alloc, heap, lines, is_shared).ok()
+        }
     }
 }
 
 // Whether the links are the first of a chain, so many of them, at the second try where memory was refused.
-fn has_shared_links<R: Wait>(
+fn has_links<R: Wait>(
     rt: &R,
-    witness: &SharedWitness<Sha256Tree, Heap<'_>>,
+    asked: &Asked<Heap<'_>>,
     heap: Heap<'_>,
     whole: &[Link<Global>],
     count: usize,
 ) -> bool {
     let was_refused = heap.refused();
-    let copies = match witness.chain(rt, ORIGIN) {
-        Ok(copies) => copies,
-        Err(_) => {
-            if was_refused || !heap.refused() {
-                return false;
-            }
+    match asked.has(rt, ORIGIN, whole, count) {
+        Some(has) => has && heap.refused() == was_refused,
+        None => {
+            let is_refused = heap.refused() != was_refused;
             heap.lift();
-            match witness.chain(rt, ORIGIN) {
-                Ok(copies) => copies,
-                Err(_) => return false,
-            }
+            is_refused && asked.has(rt, ORIGIN, whole, count) == Some(true)
         }
+    }
+}
+
+// Whether a reply is the one that is due.
+fn is_due(reply: &Reply<Heap<'_>>, step: &Step<'_>) -> bool {
+    reply.status == step.2 && reply.body.as_slice() == step.3.as_bytes()
+}
+
+// Puts a request, once more where memory was refused, or where its save failed, which it does at first if that is told.
+// Whether each reply is the one that is due, and what failed left the links as they were, so many, and saved nothing.
+fn is_taken<R: Wait>(
+    rt: &R,
+    asked: &mut Asked<Heap<'_>>,
+    heap: Heap<'_>,
+    saver: &mut KeepingSaver<Heap<'_>>,
+    step: &Step<'_>,
+    whole: &[Link<Global>],
+    before: (usize, bool),
+) -> bool {
+    let (count, fails_first) = before;
+    let was_refused = heap.refused();
+    let calls = saver.calls;
+    saver.fails = step.1 || fails_first;
+    let reply = asked.add(rt, step.0, saver);
+    let is_refused = heap.refused() != was_refused;
+    let is_saved = saver.calls != calls;
+    if is_refused || (fails_first && is_saved) {
+        heap.lift();
+        if reply.status != 500 || !reply.body.is_empty() || (is_refused && is_saved) {
+            return false;
+        }
+        if !has_links(rt, asked, heap, whole, count) {
+            return false;
+        }
+        saver.fails = step.1;
+        let again = asked.add(rt, step.0, saver);
+        return is_due(&again, step) && has_links(rt, asked, heap, whole, step.4);
+    }
+    is_due(&reply, step) && has_links(rt, asked, heap, whole, step.4)
+}
+
+// The body of the request with 64 hashes.
+fn long_body(alloc: Global) -> Result<String, AllocError> {
+    let mut text = String::from_str(alloc, LONG.0)?;
+    for _ in 0..64 {
+        text.push_str(LONG.1)?;
+    }
+    text.push_str(LONG.2)?;
+    Ok(text)
+}
+
+// Puts the requests to a book or a witness without links. Whether each is taken as it is to be.
+fn are_taken<R: Wait>(
+    rt: &R,
+    asked: &mut Asked<Heap<'_>>,
+    heap: Heap<'_>,
+    saver: &mut KeepingSaver<Heap<'_>>,
+    long: &str,
+    whole: &[Link<Global>],
+    fails_first: bool,
+) -> bool {
+    let mut count = 0;
+    for step in STEPS {
+        let mut step = step;
+        if step.0.is_empty() {
+            step.0 = long;
+        }
+        let before = (count, fails_first);
+        if !is_taken(rt, asked, heap, saver, &step, whole, before) {
+            return false;
+        }
+        count = step.4;
+    }
+    saver.lines.as_str() == LINES && saver.calls == if fails_first { 6 } else { 3 }
+}
+
+// Opens a book without links, puts the requests to it, and opens another from the lines that were saved. Whether all
+// comes to what it is to come to.
+fn is_run<R: Wait>(
+    rt: &R,
+    alloc: Global,
+    heap: Heap<'_>,
+    long: &str,
+    whole: &[Link<Global>],
+    flags: (bool, bool),
+) -> bool {
+    let (is_shared, fails_first) = flags;
+    let mut saver = KeepingSaver::new(alloc, heap);
+    let Some(mut asked) = opened_at_last(alloc, heap, "", is_shared) else {
+        return false;
     };
-    match copies {
-        Some(links) => are_first(links.as_slice(), whole, count),
+    if !are_taken(rt, &mut asked, heap, &mut saver, long, whole, fails_first) {
+        return false;
+    }
+    match opened_at_last(alloc, heap, saver.lines.as_str(), is_shared) {
+        Some(again) => has_links(rt, &again, heap, whole, 2),
         None => false,
     }
 }
 
-// Puts a request to the witness, once more where memory was refused. Whether each reply is the one that is due, and a
-// refusal left the chain as it was, with so many links, and saved nothing.
-fn is_taken_shared<R: Wait>(
-    rt: &R,
-    witness: &SharedWitness<Sha256Tree, Heap<'_>>,
-    heap: Heap<'_>,
-    saver: &mut KeepingSaver,
-    step: &Step,
-    whole: &[Link<Global>],
-    count: usize,
-) -> bool {
-    let was_refused = heap.refused();
-    let calls = saver.calls;
-    saver.fails = step.save_fails;
-    let reply = witness.add(rt, step.body.as_bytes(), TIME, saver);
-    if heap.refused() == was_refused {
-        return is_due(&reply, step) && has_shared_links(rt, witness, heap, whole, step.links);
-    }
-    if reply.status != 500 || !reply.body.is_empty() {
-        return false;
-    }
-    heap.lift();
-    if saver.calls != calls || !has_shared_links(rt, witness, heap, whole, count) {
-        return false;
-    }
-    let again = witness.add(rt, step.body.as_bytes(), TIME, saver);
-    is_due(&again, step) && has_shared_links(rt, witness, heap, whole, step.links)
-}
-
-// Puts the requests to a witness. Whether each is taken as it is to be, and the links that they leave are saved.
-fn are_taken_shared<R: Wait>(
+// The turn in which no growth of a run was refused, where each run comes to what it is to come to.
+fn served_turn<R: Wait>(
     rt: &R,
     alloc: Global,
-    witness: &SharedWitness<Sha256Tree, Heap<'_>>,
-    heap: Heap<'_>,
-    list: &[Step],
+    long: &str,
     whole: &[Link<Global>],
-) -> bool {
-    let mut saver = KeepingSaver::new(alloc);
-    let mut count = 0;
-    for step in list {
-        if !is_taken_shared(rt, witness, heap, &mut saver, step, whole, count) {
-            return false;
+    is_shared: bool,
+) -> Option<u64> {
+    for turn in 1..MOST {
+        let heap = Refusing::in_turn(alloc, turn);
+        if !is_run(rt, alloc, &heap, long, whole, (is_shared, false)) {
+            return None;
         }
-        count = step.links;
+        if !heap.refused() {
+            return Some(turn);
+        }
     }
-    saver.calls == 3 && saver.lines.as_str() == LINES
+    None
 }
 
 #[test]
-fn a_shared_witness_answers_500(rt: HostRuntime) -> Result<(), Fail> {
+fn refused_growths_and_saves_that_fail_change_nothing(rt: HostRuntime) -> Result<(), Fail> {
     let alloc = rt.alloc();
-    let whole = two_links(alloc, F1)?;
-    let list = steps(alloc)?;
-    for turn in 1..MOST {
-        let heap = Refusing::in_turn(alloc, turn);
-        let Ok(book) = fresh_book(alloc, &heap, &[ORIGIN]) else {
-            assert!(rt; heap.refused());
-            continue;
-        };
-        let witness = shared(book, &heap).ok_or("not shared")?;
-        let are_right = are_taken_shared(
-            &rt,
-            alloc,
-            &witness,
-            &heap,
-            list.as_slice(),
-            whole.as_slice(),
-        );
-        assert!(rt; are_right, "in turn {turn}");
-        if !heap.refused() {
-            assert!(rt; turn > 200);
-            return Ok(());
-        }
+    let long = long_body(alloc)?;
+    let chains = read_chain(alloc, LINES.as_bytes())?;
+    assert!(rt; chains.len() == 1);
+    let whole = chains[0].1.as_slice();
+    for is_shared in [false, true] {
+        let heap = Refusing::at(alloc, 0);
+        let flags = (is_shared, true);
+        assert!(rt; is_run(&rt, alloc, &heap, long.as_str(), whole, flags));
+        assert!(rt; served_turn(&rt, alloc, long.as_str(), whole, is_shared) > Some(200));
     }
-    Err(Fail::new("each run was refused"))
+    Ok(())
 }

@@ -7,10 +7,12 @@ use std::alloc::{AllocError, Allocator, Global};
 use tl_proof::Link;
 use tl_witness::{SaveFault, Saver, write_chain_line};
 
-/// A saver that keeps what it saved, counts its calls, and fails where it is told to.
+/// A saver that writes each line on a heap, counts those that were written, fails where it is told to, and keeps what
+/// it saved.
 #[derive(Drop)]
-pub struct KeepingSaver {
-    pub alloc: Global,
+pub struct KeepingSaver<A: Allocator + Copy> {
+    alloc: Global,
+    heap: A,
     pub fails: bool,
     pub calls: u64,
     /// The lines of the links that were saved.
@@ -19,11 +21,12 @@ pub struct KeepingSaver {
     saved: Vec<(String, Link<Global>)>,
 }
 
-impl KeepingSaver {
+impl<A: Allocator + Copy> KeepingSaver<A> {
     /// A saver that was not called yet.
-    pub fn new(alloc: Global) -> KeepingSaver {
+    pub fn new(alloc: Global, heap: A) -> KeepingSaver<A> {
         KeepingSaver {
             alloc,
+            heap,
             fails: false,
             calls: 0,
             lines: String::new(alloc),
@@ -57,20 +60,20 @@ fn copied<A: Allocator>(
     ))
 }
 
-impl Saver for KeepingSaver {
+impl<A: Allocator + Copy> Saver for KeepingSaver<A> {
     ghost use Rattle.std.specs.Prelude.{map, string_bytes};
     ghost use Rattle.tl_proof.specs.Acceptance.{step_of};
 
     ghost saved = { λ s. record { failures = s.failures; links = map (λ p. (string_bytes p.0, step_of p.1)) s.saved.items } };
 
-    fn save<A: Allocator>(&mut self, origin: &str, link: &Link<A>) -> Result<(), SaveFault> {
+    fn save<B: Allocator>(&mut self, origin: &str, link: &Link<B>) -> Result<(), SaveFault> {
+        let Ok(line) = write_chain_line(self.heap, origin, link) else {
+            return self.fail();
+        };
         self.calls = self.calls.wrapping_add(1);
         if self.fails {
             return self.fail();
         }
-        let Ok(line) = write_chain_line(self.alloc, origin, link) else {
-            return self.fail();
-        };
         let Ok(kept) = copied(self.alloc, origin, link) else {
             return self.fail();
         };

@@ -1,199 +1,231 @@
-//! Readers, writers and growths that fail, one after another.
+//! One request to a log and to a witness, over readers, writers and growths that fail, one after another.
 
-use crate::boards::empty_board;
-use crate::devices::{
-    Devices, ROOM, Served, Witness, is_answer, log_served, sound, witness_served,
-};
-use crate::posts::{ORIGIN, fresh_book};
+use crate::boards::opened;
+use crate::books::{TIME, WORKED, Witness, open_witness};
 use crate::savers::KeepingSaver;
 use std::alloc::{Allocator, Global};
-use std::test::Fail;
-use tl_server::ServeFault;
-use tl_testing::Refusing;
-use tl_witness::SharedWitness;
+use std::io::ErrorKind;
+use std::sync::Wait;
+use tl_device::Counted;
+use tl_publisher::BoardReader;
+use tl_server::{ServeFault, serve_log, serve_witness};
+use tl_testing::{FailingReader, FailingWriter, Refusing};
+
+// An answer: its status and its bytes.
+type Answer = (u16, &'static [u8]);
 
 // A request to the log of no entries, and its answer.
 const GET: &[u8] = b"GET /checkpoint HTTP/1.1\r\nHost: a\r\n\r\n";
 
-const NOTE_OF_NONE: &[u8] =
-    b"HTTP/1.1 200 OK\r\nContent-Type: text/plain; charset=utf-8\r\nContent-Length: 101\r\nConnection: close\r\n\r\nexample.com/log\n0\n47DEQpj8HBSa+/TImW+5JCeuQeRkm5NMpJWZG3hSuFU=\n\n\xe2\x80\x94 example.com/log AQIDBAAAAAAAAAA/\n";
+const NOTE_OF_NONE: Answer = (
+    200,
+    b"HTTP/1.1 200 OK\r\nContent-Type: text/plain; charset=utf-8\r\nContent-Length: 101\r\nConnection: close\r\n\r\nexample.com/log\n0\n47DEQpj8HBSa+/TImW+5JCeuQeRkm5NMpJWZG3hSuFU=\n\n\xe2\x80\x94 example.com/log AQIDBAAAAAAAAAA/\n",
+);
 
 // The first request to a witness, with the checkpoint of one empty entry, its answer, and the answer to it after that.
 const FIRST: &[u8] =
     b"POST /add-checkpoint HTTP/1.1\r\nContent-Length: 108\r\n\r\nold 0\n\nexample.com/log\n1\nbjQLnP+zepicpUTmu3gKLHiQHT+zNzh2hRGjBhevoB0=\n\n\xe2\x80\x94 example.com/log AQIDBAAAAAAAAAA/\n";
 
-const COSIGNED: &[u8] =
-    b"HTTP/1.1 200 OK\r\nContent-Type: text/plain; charset=utf-8\r\nContent-Length: 49\r\nConnection: close\r\n\r\n\xe2\x80\x94 witness.example CgsMDQAAAABlU/EAAAAAAAAAAF4=\n";
+const COSIGNED: Answer = (
+    200,
+    b"HTTP/1.1 200 OK\r\nContent-Type: text/plain; charset=utf-8\r\nContent-Length: 49\r\nConnection: close\r\n\r\n\xe2\x80\x94 witness.example CgsMDQAAAABlU/EAAAAAAAAAAF4=\n",
+);
 
-const IS_CONFLICT: &[u8] =
-    b"HTTP/1.1 409 Conflict\r\nContent-Type: text/x.tlog.size\r\nContent-Length: 2\r\nConnection: close\r\n\r\n1\n";
+const IS_CONFLICT: Answer = (
+    409,
+    b"HTTP/1.1 409 Conflict\r\nContent-Type: text/x.tlog.size\r\nContent-Length: 2\r\nConnection: close\r\n\r\n1\n",
+);
 
-// The answer 500.
-const IS_NO_MEMORY: &[u8] =
-    b"HTTP/1.1 500 Internal Server Error\r\nContent-Length: 0\r\nConnection: close\r\n\r\n";
+// The answer where memory was refused.
+const IS_NO_MEMORY: Answer = (
+    500,
+    b"HTTP/1.1 500 Internal Server Error\r\nContent-Length: 0\r\nConnection: close\r\n\r\n",
+);
+
+// More bytes than an answer has.
+const ROOM: usize = 20_000;
 
 // More requests for memory than a request makes.
 const MOST: u64 = 1000;
 
-// A witness that has seen no checkpoint. None where memory was refused.
-fn fresh_witness<A: Allocator + Copy>(alloc: Global, heap: A) -> Option<Witness<A>> {
-    let Ok(book) = fresh_book(alloc, heap, &[ORIGIN]) else {
-        return None;
+// How many bytes the reader gives a call, the number of the read that fails, how many bytes the writer takes a call,
+// and the number of the write that fails. No call has the number 0.
+type Devices = (usize, u64, usize, u64);
+
+// What a call of a server gives, and how many bytes were written.
+type Served = (Result<Option<u16>, ServeFault>, usize);
+
+// What comes of the request to the log or to the witness, where the answer is written to `out`.
+fn ask<R: Wait, A: Allocator + Copy>(
+    rt: &R,
+    alloc: A,
+    is_log: bool,
+    board: &mut BoardReader<Global>,
+    witness: (&Witness<A>, &mut KeepingSaver<Global>),
+    devices: Devices,
+    out: &mut [u8],
+) -> Served {
+    let (step, read_fails, room, write_fails) = devices;
+    let input = if is_log { GET } else { FIRST };
+    let reader = FailingReader::new(input, step, read_fails, ErrorKind::Other);
+    let mut reader = Counted::new(reader);
+    let mut writer = Counted::new(FailingWriter::new(out, room, write_fails, false));
+    let served = if is_log {
+        serve_log(alloc, &mut reader, &mut writer, board)
+    } else {
+        serve_witness(
+            rt,
+            alloc,
+            &mut reader,
+            &mut writer,
+            witness.0,
+            TIME,
+            witness.1,
+        )
     };
-    match SharedWitness::new(book) {
-        Ok(witness) => Some(witness),
-        Err(_) => None,
-    }
-}
-
-// The same, over the heap of the tests.
-fn witness_of_one(alloc: Global) -> Result<Witness<Global>, Fail> {
-    match fresh_witness(alloc, alloc) {
-        Some(witness) => Ok(witness),
-        None => Err(Fail::new("out of memory")),
-    }
-}
-
-#[test]
-fn each_read_fails_once(rt: HostRuntime) -> Result<(), Fail> {
-    let alloc = rt.alloc();
-    let (_operator, mut board) = empty_board(&rt, alloc)?;
-    let witness = witness_of_one(alloc)?;
-    let mut saver = KeepingSaver::new(alloc);
-    let mut out = [0u8; ROOM];
-    let input = GET;
-    for read_fails in 0..FIRST.len() as u64 {
-        let devices = Devices {
-            read_fails: read_fails + 1,
-            ..sound(1)
-        };
-        let (served, count) = witness_served(
-            &rt, alloc, &witness, &mut saver, FIRST, devices, &mut out,
-        );
-        assert!(rt; (served, count) == (Err(ServeFault::Read), 0));
-        if read_fails < input.len() as u64 {
-            let (served, count) = log_served(alloc, &mut board, input, devices, &mut out);
-            assert!(rt; (served, count) == (Err(ServeFault::Read), 0));
-        }
-    }
-    assert!(rt; saver.calls == 0);
-    let (served, count) = log_served(alloc, &mut board, input, sound(1), &mut out);
-    assert!(rt; is_answer(served, out.get(..count).ok_or("too long")?, NOTE_OF_NONE));
-    Ok(())
+    (served, writer.into_inner().written())
 }
 
 // Whether the first bytes of an answer were written, so many, and then a write failed; or all of it.
-fn is_cut(served: Served, written: &[u8], due: &[u8], room: usize) -> bool {
-    if room >= due.len() {
-        return is_answer(served, written, due);
-    }
-    served == Err(ServeFault::Write) && due.get(..room) == Some(written)
-}
-
-#[test]
-fn writer_fails_after_each_byte(rt: HostRuntime) -> Result<(), Fail> {
-    let alloc = rt.alloc();
-    let (_operator, mut board) = empty_board(&rt, alloc)?;
-    let mut out = [0u8; ROOM];
-    let (input, due) = (GET, NOTE_OF_NONE);
-    for room in 0..due.len() + 1 {
-        let devices = Devices {
-            room,
-            write_fails: if room == 0 || room >= due.len() { 0 } else { 2 },
-            ..sound(7)
-        };
-        let (served, count) = log_served(alloc, &mut board, input, devices, &mut out);
-        let written = out.get(..count).ok_or("too long")?;
-        assert!(rt; is_cut(served, written, due, room), "after {room} bytes");
-    }
-    assert!(rt; out.starts_with(b"HTTP/1.1 2"));
-    let witness = witness_of_one(alloc)?;
-    let mut saver = KeepingSaver::new(alloc);
-    let devices = Devices {
-        room: 10,
-        write_fails: 2,
-        ..sound(7)
+fn is_due(served: Served, out: &[u8], due: Answer, room: usize) -> bool {
+    let (status, bytes) = due;
+    let (want, count) = if room < bytes.len() {
+        (Err(ServeFault::Write), room)
+    } else {
+        (Ok(Some(status)), bytes.len())
     };
-    let (served, count) = witness_served(
-        &rt, alloc, &witness, &mut saver, FIRST, devices, &mut out,
-    );
-    assert!(rt; is_cut(served, out.get(..count).ok_or("too long")?, COSIGNED, 10));
-    assert!(rt; saver.calls == 1);
-    let (served, count) = witness_served(
-        &rt,
-        alloc,
-        &witness,
-        &mut saver,
-        FIRST,
-        sound(50),
-        &mut out,
-    );
-    assert!(rt; is_answer(served, out.get(..count).ok_or("too long")?, IS_CONFLICT));
-    Ok(())
+    served == (want, count) && out.get(..count) == bytes.get(..count)
 }
 
-#[test]
-fn answer_of_a_log_is_one_growth_and_one_write(rt: HostRuntime) -> Result<(), Fail> {
-    let alloc = rt.alloc();
-    let (_operator, mut board) = empty_board(&rt, alloc)?;
-    let input = GET;
+// Whether each read that fails is told, with nothing written and nothing saved.
+fn tells_failed_reads<R: Wait>(
+    rt: &R,
+    alloc: Global,
+    is_log: bool,
+    board: &mut BoardReader<Global>,
+) -> bool {
     let mut out = [0u8; ROOM];
-    let devices = Devices {
-        write_fails: 2,
-        ..sound(9000)
+    let mut saver = KeepingSaver::new(alloc, alloc);
+    let Some(witness) = open_witness(alloc, alloc, &[WORKED], "") else {
+        return false;
     };
-    for turn in [1, 2] {
-        let heap = Refusing::in_turn(alloc, turn);
-        let (served, count) = log_served(&heap, &mut board, input, devices, &mut out);
-        assert!(rt; heap.refused());
-        assert!(rt; is_answer(served, out.get(..count).ok_or("too long")?, IS_NO_MEMORY));
+    let length = if is_log { GET.len() } else { FIRST.len() };
+    for read_fails in 1..=length as u64 {
+        let asked = (&witness, &mut saver);
+        let devices = (1, read_fails, ROOM, 0);
+        let served = ask(rt, alloc, is_log, board, asked, devices, &mut out);
+        if served != (Err(ServeFault::Read), 0) {
+            return false;
+        }
     }
-    let heap = Refusing::since(alloc, 2);
-    let (served, _count) = log_served(&heap, &mut board, input, devices, &mut out);
-    assert!(rt; !heap.refused());
-    assert!(rt; served == Ok(Some(200)));
-    Ok(())
+    saver.calls == 0
 }
 
-#[test]
-fn each_growth_of_a_witness_is_refused_once(rt: HostRuntime) -> Result<(), Fail> {
-    let alloc = rt.alloc();
+// Whether a writer that fails after so many bytes has these of the answer, and the answer to the same request after it
+// is the one that is due then.
+fn tells_a_failed_write<R: Wait>(
+    rt: &R,
+    alloc: Global,
+    is_log: bool,
+    board: &mut BoardReader<Global>,
+    room: usize,
+) -> bool {
     let mut out = [0u8; ROOM];
+    let mut saver = KeepingSaver::new(alloc, alloc);
+    let Some(witness) = open_witness(alloc, alloc, &[WORKED], "") else {
+        return false;
+    };
+    let (due, after) = if is_log {
+        (NOTE_OF_NONE, NOTE_OF_NONE)
+    } else {
+        (COSIGNED, IS_CONFLICT)
+    };
+    let write_fails = if room == 0 || room >= due.1.len() {
+        0
+    } else {
+        2
+    };
+    let devices = (7, 0, room, write_fails);
+    let asked = (&witness, &mut saver);
+    let served = ask(rt, alloc, is_log, board, asked, devices, &mut out);
+    let is_cut = is_due(served, &out, due, room);
+    let asked = (&witness, &mut saver);
+    let again = ask(rt, alloc, is_log, board, asked, (1, 0, ROOM, 0), &mut out);
+    is_cut && is_due(again, &out, after, ROOM)
+}
+
+// The turn in which no growth of an answer was refused, where each one that was is 500 with nothing saved, the request
+// after it has its answer, and each answer is one write. None where that isn't so.
+fn served_turn<R: Wait>(
+    rt: &R,
+    alloc: Global,
+    is_log: bool,
+    board: &mut BoardReader<Global>,
+) -> Option<u64> {
+    let mut out = [0u8; ROOM];
+    let due = if is_log { NOTE_OF_NONE } else { COSIGNED };
+    let devices = (50, 0, ROOM, 2);
     for turn in 1..MOST {
         let heap = Refusing::in_turn(alloc, turn);
-        let Some(witness) = fresh_witness(alloc, &heap) else {
-            assert!(rt; heap.refused());
+        let calm = Refusing::at(alloc, 0);
+        let on = if is_log { &calm } else { &heap };
+        let Some(witness) = open_witness(alloc, on, &[WORKED], "") else {
+            if !heap.refused() {
+                return None;
+            }
             continue;
         };
-        let mut saver = KeepingSaver::new(alloc);
-        let (served, count) = witness_served(
-            &rt,
-            &heap,
-            &witness,
-            &mut saver,
-            FIRST,
-            sound(50),
-            &mut out,
-        );
-        let written = out.get(..count).ok_or("too long")?;
+        let mut saver = KeepingSaver::new(alloc, alloc);
+        let asked = (&witness, &mut saver);
+        let served = ask(rt, &heap, is_log, board, asked, devices, &mut out);
         if !heap.refused() {
-            assert!(rt; is_answer(served, written, COSIGNED) && turn > 10);
-            return Ok(());
+            return if is_due(served, &out, due, ROOM) {
+                Some(turn)
+            } else {
+                None
+            };
         }
-        let is_right = is_answer(served, written, IS_NO_MEMORY) && saver.calls == 0;
-        assert!(rt; is_right, "in turn {turn}");
+        let is_told = is_due(served, &out, IS_NO_MEMORY, ROOM) && saver.calls == 0;
         heap.lift();
-        let (served, count) = witness_served(
-            &rt,
-            &heap,
-            &witness,
-            &mut saver,
-            FIRST,
-            sound(50),
-            &mut out,
-        );
-        assert!(rt; is_answer(served, out.get(..count).ok_or("too long")?, COSIGNED));
+        let asked = (&witness, &mut saver);
+        let again = ask(rt, &heap, is_log, board, asked, devices, &mut out);
+        if !is_told || !is_due(again, &out, due, ROOM) {
+            return None;
+        }
     }
-    assert!(rt; false, "each request was refused");
-    Ok(())
+    None
+}
+
+// Whether all of this is so of a server, with so many turns at least.
+fn fails_in_turn<R: Wait>(
+    rt: &R,
+    alloc: Global,
+    is_log: bool,
+    board: &mut BoardReader<Global>,
+    turns: u64,
+) -> bool {
+    let due = if is_log { NOTE_OF_NONE } else { COSIGNED };
+    for room in 0..=due.1.len() {
+        if !tells_a_failed_write(rt, alloc, is_log, board, room) {
+            return false;
+        }
+    }
+    tells_failed_reads(rt, alloc, is_log, board)
+        && served_turn(rt, alloc, is_log, board) >= Some(turns)
+}
+
+// Whether all of this is so of the log of no entries and of a witness. An answer of the log is one growth.
+fn are_served<R: Wait + Copy + Drop>(rt: R, alloc: Global) -> bool {
+    let Some((mut operator, _submitter, mut board)) = opened(rt, alloc) else {
+        return false;
+    };
+    operator.publish().is_ok()
+        && fails_in_turn(&rt, alloc, true, &mut board, 3)
+        && fails_in_turn(&rt, alloc, false, &mut board, 11)
+        && served_turn(&rt, alloc, true, &mut board) == Some(3)
+}
+
+#[test]
+fn each_read_write_and_growth_fails_in_turn(rt: HostRuntime) {
+    assert!(rt; are_served(&rt, rt.alloc()));
 }
