@@ -12,7 +12,7 @@ use std::time::{Clock, Duration, Instant};
 use std::{io, thread};
 use tl_key::demo_key;
 use tl_note::Signer;
-use tl_publisher::{BoardReader, Operator, Shown};
+use tl_publisher::{BoardReader, Operator, RunningLog};
 use tl_tile::{Resource, Tile};
 
 const ORIGIN: &str = "example.com/log";
@@ -31,8 +31,8 @@ const READERS: u32 = 2;
 
 // Takes up to so many entries from a lane: how many. None where the call is refused.
 fn take_lane<R: Wait + Drop>(operator: &mut Operator<R>, lane: u32, most: u64) -> Option<u64>
-    requires { IsOperating (⟦<Operator<R> as Shown>⟧.shown operator.old) }
-    ensures { IsOperating (⟦<Operator<R> as Shown>⟧.shown operator.new) }
+    requires { IsOperating (⟦<Operator<R> as RunningLog>⟧.state operator.old) }
+    ensures { IsOperating (⟦<Operator<R> as RunningLog>⟧.state operator.new) }
 {
     match operator.take(lane, most) {
         Ok(taken) => Some(taken),
@@ -42,8 +42,8 @@ fn take_lane<R: Wait + Drop>(operator: &mut Operator<R>, lane: u32, most: u64) -
 
 // Takes so many entries from the lanes in turn, waiting for them.
 fn take_batch<R: Wait + Drop>(operator: &mut Operator<R>, batch: u64) -> bool
-    requires { IsOperating (⟦<Operator<R> as Shown>⟧.shown operator.old) }
-    ensures { IsOperating (⟦<Operator<R> as Shown>⟧.shown operator.new) }
+    requires { IsOperating (⟦<Operator<R> as RunningLog>⟧.state operator.old) }
+    ensures { IsOperating (⟦<Operator<R> as RunningLog>⟧.state operator.new) }
 {
     let mut count = 0u64;
     let mut before = 0u64;
@@ -72,7 +72,7 @@ fn publish_each<C: Clock, R: Wait + Drop>(
     operator: &mut Operator<R>,
     batch: u64,
 ) -> io::Result<Option<Duration>>
-    requires { IsOperating (⟦<Operator<R> as Shown>⟧.shown operator.old) }
+    requires { IsOperating (⟦<Operator<R> as RunningLog>⟧.state operator.old) }
 {
     let mut longest = Duration::ZERO;
     let mut size = 0u64;

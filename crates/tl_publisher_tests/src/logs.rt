@@ -5,7 +5,7 @@ ghost use Rattle.tl_publisher.specs.Operating.{IsOperating};
 use std::alloc::{AllocError, Global};
 use std::sync::Wait;
 use tl_note::Signer;
-use tl_publisher::{BoardReader, Operator, OperatorFault, PublishFault, Shown};
+use tl_publisher::{BoardReader, Operator, OperatorFault, PublishFault, RunningLog};
 use tl_sequencer::Submitter;
 use tl_testing::LengthKey;
 use tl_tile::Resource;
@@ -35,8 +35,8 @@ pub fn opened<R: Wait + Drop>(
     capacity: usize,
     limit: u64,
 ) -> Result<(Operator<R>, Vec<Sender>, BoardReader<Global>), OperatorFault>
-    ensures operating { IfOk result (λ r. IsOperating (⟦<Operator<R> as Shown>⟧.shown r.0)) }
-    ensures follows { IfOk result (λ r. r.2.book ≡ (⟦<Operator<R> as Shown>⟧.shown r.0).past.book) }
+    ensures operating { IfOk result (λ r. IsOperating (⟦<Operator<R> as RunningLog>⟧.state r.0)) }
+    ensures follows { IfOk result (λ r. r.2.book ≡ (⟦<Operator<R> as RunningLog>⟧.state r.0).past.book) }
 {
     let (operator, submitters, mut readers) = match Operator::open(
         rt, alloc, ORIGIN, signers, lanes, capacity, limit, 1,
@@ -56,8 +56,8 @@ pub fn send(alloc: Global, submitter: &mut Sender, entry: &[u8]) -> Result<bool,
 
 /// Takes up to `most` entries of a lane: how many, and nothing where it is refused.
 pub fn taken<R: Wait + Drop>(operator: &mut Operator<R>, lane: u32, most: u64) -> Option<u64>
-    requires { IsOperating (⟦<Operator<R> as Shown>⟧.shown operator.old) }
-    ensures { IsOperating (⟦<Operator<R> as Shown>⟧.shown operator.new) }
+    requires { IsOperating (⟦<Operator<R> as RunningLog>⟧.state operator.old) }
+    ensures { IsOperating (⟦<Operator<R> as RunningLog>⟧.state operator.new) }
 {
     match operator.take(lane, most) {
         Ok(count) => Some(count),
@@ -67,8 +67,8 @@ pub fn taken<R: Wait + Drop>(operator: &mut Operator<R>, lane: u32, most: u64) -
 
 /// Publishes the log: its size.
 pub fn published<R: Wait + Drop>(operator: &mut Operator<R>) -> Result<u64, PublishFault>
-    requires { IsOperating (⟦<Operator<R> as Shown>⟧.shown operator.old) }
-    ensures { IsOperating (⟦<Operator<R> as Shown>⟧.shown operator.new) }
+    requires { IsOperating (⟦<Operator<R> as RunningLog>⟧.state operator.old) }
+    ensures { IsOperating (⟦<Operator<R> as RunningLog>⟧.state operator.new) }
 {
     match operator.publish() {
         Ok(published) => Ok(published.size()),
@@ -78,8 +78,8 @@ pub fn published<R: Wait + Drop>(operator: &mut Operator<R>) -> Result<u64, Publ
 
 /// Takes one entry of a lane and publishes the log: its size.
 pub fn grown<R: Wait + Drop>(operator: &mut Operator<R>, lane: u32) -> Option<u64>
-    requires { IsOperating (⟦<Operator<R> as Shown>⟧.shown operator.old) }
-    ensures { IsOperating (⟦<Operator<R> as Shown>⟧.shown operator.new) }
+    requires { IsOperating (⟦<Operator<R> as RunningLog>⟧.state operator.old) }
+    ensures { IsOperating (⟦<Operator<R> as RunningLog>⟧.state operator.new) }
 {
     let count = taken(operator, lane, 1);
     match published(operator) {

@@ -10,7 +10,7 @@ use std::sync::{Arc, Wait};
 use std::test::Fail;
 use std::thread;
 use std::thread::Threads;
-use tl_publisher::{BoardReader, Operator, Shown};
+use tl_publisher::{BoardReader, Operator, RunningLog};
 use tl_tile::Resource;
 
 // How often a thread tries before it gives up.
@@ -64,15 +64,15 @@ fn is_raised(flag: &AtomicU64, number: u64) -> bool {
 
 // Publishes one entry more, and then waits until the reader saw it.
 fn show_next<R: Wait + Drop>(operator: &mut Operator<R>, flag: &AtomicU64, size: u64) -> bool
-    requires { IsOperating (⟦<Operator<R> as Shown>⟧.shown operator.old) }
-    ensures { IsOperating (⟦<Operator<R> as Shown>⟧.shown operator.new) }
+    requires { IsOperating (⟦<Operator<R> as RunningLog>⟧.state operator.old) }
+    ensures { IsOperating (⟦<Operator<R> as RunningLog>⟧.state operator.new) }
 {
     grown(operator, 0) == Some(size) && is_raised(flag, size)
 }
 
 // The same three times.
 fn show_three<R: Wait + Drop>(operator: &mut Operator<R>, flag: &AtomicU64) -> bool
-    requires { IsOperating (⟦<Operator<R> as Shown>⟧.shown operator.old) }
+    requires { IsOperating (⟦<Operator<R> as RunningLog>⟧.state operator.old) }
 {
     show_next(operator, flag, 1) && show_next(operator, flag, 2) && show_next(operator, flag, 3)
 }
@@ -88,7 +88,7 @@ fn are_sent(alloc: Global, submitter: &mut Sender) -> Result<bool, AllocError> {
 
 // A log with three entries to take, and its reader.
 fn filled<R: Wait + Drop>(rt: R, alloc: Global) -> Result<(Operator<R>, BoardReader<Global>), Fail>
-    ensures { IfOk result (λ r. IsOperating (⟦<Operator<R> as Shown>⟧.shown r.0)) }
+    ensures { IfOk result (λ r. IsOperating (⟦<Operator<R> as RunningLog>⟧.state r.0)) }
 {
     let keys = signers(alloc)?;
     let (operator, mut submitters, reader) = opened(rt, alloc, keys, 1, 4, 9)?;

@@ -11,7 +11,7 @@ use std::sync::Wait;
 use std::test::Fail;
 use std::thread;
 use std::thread::Threads;
-use tl_publisher::{BoardReader, Operator, Shown};
+use tl_publisher::{BoardReader, Operator, RunningLog};
 use tl_tile::{Resource, Tile};
 
 // How many entries are sent, how often the reader looks, and how often a thread tries before it gives up.
@@ -63,8 +63,8 @@ fn publish_sometimes<R: Wait + Drop>(
     reader: &mut BoardReader<Global>,
     random: u64,
 ) -> Option<Publication>
-    requires { IsOperating (⟦<Operator<R> as Shown>⟧.shown operator.old) }
-    ensures { IsOperating (⟦<Operator<R> as Shown>⟧.shown operator.new) }
+    requires { IsOperating (⟦<Operator<R> as RunningLog>⟧.state operator.old) }
+    ensures { IsOperating (⟦<Operator<R> as RunningLog>⟧.state operator.new) }
 {
     if (random >> 60) % 3 != 0 {
         return None;
@@ -85,7 +85,7 @@ fn publish_each<R: Wait + Drop>(
     operator: &mut Operator<R>,
     reader: &mut BoardReader<Global>,
 ) -> Result<Vec<Publication>, AllocError>
-    requires { IsOperating (⟦<Operator<R> as Shown>⟧.shown operator.old) }
+    requires { IsOperating (⟦<Operator<R> as RunningLog>⟧.state operator.old) }
 {
     let mut all = Vec::new(alloc);
     let mut random = 7;
@@ -177,7 +177,7 @@ type Parts<R> = (
 
 // Opens the log.
 fn opened<R: Wait + Drop>(rt: R, alloc: Global) -> Result<Parts<R>, Fail>
-    ensures { IfOk result (λ r. IsOperating (⟦<Operator<R> as Shown>⟧.shown r.0)) }
+    ensures { IfOk result (λ r. IsOperating (⟦<Operator<R> as RunningLog>⟧.state r.0)) }
 {
     let keys = signers(alloc)?;
     let (operator, mut submitters, mut readers) = Operator::open(

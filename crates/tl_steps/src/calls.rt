@@ -10,15 +10,15 @@ use crate::words::{Answer, fixed, shown};
 use std::alloc::Global;
 use std::sync::Wait;
 use tl_note::Verifier;
-use tl_publisher::{Operator, RequireBack, Shown};
+use tl_publisher::{Operator, RequireBack, RunningLog};
 
 /// The witnesses that steps are to require, the next ones last.
 pub(crate) type Witnesses = Vec<Vec<Box<dyn Verifier>>>;
 
 /// Publishes the log: its size.
 pub(crate) fn publish<R: Wait + Drop>(alloc: Global, operator: &mut Operator<R>) -> Answer
-    requires { IsOperating (⟦<Operator<R> as Shown>⟧.shown operator.old) }
-    ensures { IsKept (⟦<Operator<R> as Shown>⟧.shown operator.old) (⟦<Operator<R> as Shown>⟧.shown operator.new) }
+    requires { IsOperating (⟦<Operator<R> as RunningLog>⟧.state operator.old) }
+    ensures { IsKept (⟦<Operator<R> as RunningLog>⟧.state operator.old) (⟦<Operator<R> as RunningLog>⟧.state operator.new) }
 {
     match operator.publish() {
         Ok(published) => shown(alloc, published.size()),
@@ -28,8 +28,8 @@ pub(crate) fn publish<R: Wait + Drop>(alloc: Global, operator: &mut Operator<R>)
 
 /// Proposes the log: its size and its note.
 pub(crate) fn propose<R: Wait + Drop>(alloc: Global, operator: &mut Operator<R>) -> Answer
-    requires { IsOperating (⟦<Operator<R> as Shown>⟧.shown operator.old) }
-    ensures { IsKept (⟦<Operator<R> as Shown>⟧.shown operator.old) (⟦<Operator<R> as Shown>⟧.shown operator.new) }
+    requires { IsOperating (⟦<Operator<R> as RunningLog>⟧.state operator.old) }
+    ensures { IsKept (⟦<Operator<R> as RunningLog>⟧.state operator.old) (⟦<Operator<R> as RunningLog>⟧.state operator.new) }
 {
     match operator.propose() {
         Ok(proposal) => shown(alloc, (proposal.size, proposal.note)),
@@ -43,8 +43,8 @@ pub(crate) fn attach<R: Wait + Drop>(
     operator: &mut Operator<R>,
     lines: &str,
 ) -> Answer
-    requires { IsOperating (⟦<Operator<R> as Shown>⟧.shown operator.old) }
-    ensures { IsKept (⟦<Operator<R> as Shown>⟧.shown operator.old) (⟦<Operator<R> as Shown>⟧.shown operator.new) }
+    requires { IsOperating (⟦<Operator<R> as RunningLog>⟧.state operator.old) }
+    ensures { IsKept (⟦<Operator<R> as RunningLog>⟧.state operator.old) (⟦<Operator<R> as RunningLog>⟧.state operator.new) }
 {
     match operator.attach(lines) {
         Ok(published) => shown(alloc, published.size()),
@@ -59,8 +59,8 @@ pub(crate) fn require<R: Wait + Drop>(
     witnesses: &mut Witnesses,
     need: u32,
 ) -> Answer
-    requires { IsOperating (⟦<Operator<R> as Shown>⟧.shown operator.old) }
-    ensures { IsKept (⟦<Operator<R> as Shown>⟧.shown operator.old) (⟦<Operator<R> as Shown>⟧.shown operator.new) }
+    requires { IsOperating (⟦<Operator<R> as RunningLog>⟧.state operator.old) }
+    ensures { IsKept (⟦<Operator<R> as RunningLog>⟧.state operator.old) (⟦<Operator<R> as RunningLog>⟧.state operator.new) }
 {
     let Some(next) = witnesses.pop() else {
         return fixed(alloc, "no witnesses");
@@ -78,10 +78,10 @@ pub(crate) fn end<R: Wait + Drop>(
     submitters: &mut Vec<Sender>,
     lane: u32,
 ) -> Answer
-    requires operating { IsOperating (⟦<Operator<R> as Shown>⟧.shown operator.old) }
-    requires own { AreOf (⟦<Operator<R> as Shown>⟧.shown operator.old) submitters.old.items }
-    ensures kept { IsKept (⟦<Operator<R> as Shown>⟧.shown operator.old) (⟦<Operator<R> as Shown>⟧.shown operator.new) }
-    ensures own { AreOf (⟦<Operator<R> as Shown>⟧.shown operator.new) submitters.new.items }
+    requires operating { IsOperating (⟦<Operator<R> as RunningLog>⟧.state operator.old) }
+    requires own { AreOf (⟦<Operator<R> as RunningLog>⟧.state operator.old) submitters.old.items }
+    ensures kept { IsKept (⟦<Operator<R> as RunningLog>⟧.state operator.old) (⟦<Operator<R> as RunningLog>⟧.state operator.new) }
+    ensures own { AreOf (⟦<Operator<R> as RunningLog>⟧.state operator.new) submitters.new.items }
 {
     let Some(submitter) = taken_out(submitters, lane) else {
         return fixed(alloc, "no submitter");

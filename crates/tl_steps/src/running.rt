@@ -11,12 +11,12 @@ use crate::sending::{Sender, send};
 use crate::words::{Answer, either, fixed, number_of, shown, small_of, tell, text_of, words_of};
 use std::alloc::{AllocError, Global};
 use std::sync::Wait;
-use tl_publisher::{BoardReader, Operator, Shown};
+use tl_publisher::{BoardReader, Operator, RunningLog};
 
 // What comes of a step that makes a note.
 fn note_step<R: Wait + Drop>(alloc: Global, operator: &mut Operator<R>, words: &[&str]) -> Answer
-    requires { IsOperating (⟦<Operator<R> as Shown>⟧.shown operator.old) }
-    ensures { IsKept (⟦<Operator<R> as Shown>⟧.shown operator.old) (⟦<Operator<R> as Shown>⟧.shown operator.new) }
+    requires { IsOperating (⟦<Operator<R> as RunningLog>⟧.state operator.old) }
+    ensures { IsKept (⟦<Operator<R> as RunningLog>⟧.state operator.old) (⟦<Operator<R> as RunningLog>⟧.state operator.new) }
 {
     match words {
         ["publish"] => publish(alloc, operator),
@@ -36,10 +36,10 @@ fn step<R: Wait + Drop>(
     witnesses: &mut Witnesses,
     line: &str,
 ) -> Answer
-    requires operating { IsOperating (⟦<Operator<R> as Shown>⟧.shown operator.old) }
-    requires own { AreOf (⟦<Operator<R> as Shown>⟧.shown operator.old) submitters.old.items }
-    ensures kept { IsKept (⟦<Operator<R> as Shown>⟧.shown operator.old) (⟦<Operator<R> as Shown>⟧.shown operator.new) }
-    ensures own { AreOf (⟦<Operator<R> as Shown>⟧.shown operator.new) submitters.new.items }
+    requires operating { IsOperating (⟦<Operator<R> as RunningLog>⟧.state operator.old) }
+    requires own { AreOf (⟦<Operator<R> as RunningLog>⟧.state operator.old) submitters.old.items }
+    ensures kept { IsKept (⟦<Operator<R> as RunningLog>⟧.state operator.old) (⟦<Operator<R> as RunningLog>⟧.state operator.new) }
+    ensures own { AreOf (⟦<Operator<R> as RunningLog>⟧.state operator.new) submitters.new.items }
 {
     let words = words_of(alloc, line)?;
     match words.as_slice() {
@@ -62,8 +62,8 @@ pub(crate) fn steps_of<R: Wait + Drop>(
     steps: &[&str],
     out: &mut String,
 ) -> Result<(), AllocError>
-    requires operating { IsOperating (⟦<Operator<R> as Shown>⟧.shown log.0) }
-    requires own { AreOf (⟦<Operator<R> as Shown>⟧.shown log.0) log.1.items }
+    requires operating { IsOperating (⟦<Operator<R> as RunningLog>⟧.state log.0) }
+    requires own { AreOf (⟦<Operator<R> as RunningLog>⟧.state log.0) log.1.items }
 {
     let (mut operator, mut submitters, mut reader) = log;
     let mut witnesses = witnesses;

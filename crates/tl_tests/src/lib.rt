@@ -1,4 +1,4 @@
-//! What a row of `tl_rows` can't show: growths that are refused, threads, sources that fail, how often is read. It has
+//! What a row of `tl_rows` can't show: growths refused in turn, threads, sources that fail, how often is read. It has
 //! tests alone.
 #![tactic(auto)]
 
@@ -8,6 +8,8 @@ mod edges;
 mod notes;
 #[cfg(test)]
 mod readers;
+#[cfg(test)]
+mod refused;
 #[cfg(test)]
 mod sequencer;
 #[cfg(test)]

@@ -6,7 +6,7 @@ use crate::books::{LOG_ID, ORIGIN};
 use std::alloc::{AllocError, Global};
 use std::sync::Wait;
 use tl_note::Signer;
-use tl_publisher::{BoardReader, Operator, Shown};
+use tl_publisher::{BoardReader, Operator, RunningLog};
 use tl_sequencer::Submitter;
 use tl_testing::LengthKey;
 
@@ -22,7 +22,7 @@ pub fn opened<R: Wait + Drop>(
     rt: R,
     alloc: Global,
 ) -> Option<(Operator<R>, Submitter<Global, Global>, BoardReader<Global>)>
-    ensures { IfSome result (λ r. IsOperating (⟦<Operator<R> as Shown>⟧.shown r.0)) }
+    ensures { IfSome result (λ r. IsOperating (⟦<Operator<R> as RunningLog>⟧.state r.0)) }
 {
     let Ok(signers) = signers(alloc) else {
         return None;

@@ -12,7 +12,7 @@ use std::sync::Wait;
 use tl_hash::Sha256Tree;
 use tl_note::Verifier;
 use tl_proof::prove_tree;
-use tl_publisher::{AttachFault, BoardReader, Operator, Proposal, Shown};
+use tl_publisher::{AttachFault, BoardReader, Operator, Proposal, RunningLog};
 use tl_sequencer::Submitter;
 use tl_store::HashStore;
 use tl_testing::LengthKey;
@@ -64,8 +64,8 @@ fn proposed<R: Wait + Drop>(
     submitter: &mut Submitter<Global, Global>,
     store: &mut HashStore<Sha256Tree, Global>,
 ) -> Option<Proposal>
-    requires { IsOperating (⟦<Operator<R> as Shown>⟧.shown operator.old) }
-    ensures { IsOperating (⟦<Operator<R> as Shown>⟧.shown operator.new) }
+    requires { IsOperating (⟦<Operator<R> as RunningLog>⟧.state operator.old) }
+    ensures { IsOperating (⟦<Operator<R> as RunningLog>⟧.state operator.new) }
 {
     for _ in 0..GROWTH {
         let size = store.size();
@@ -140,8 +140,8 @@ fn lines_of<R: Wait>(
 
 // Attaches what witnesses answered: the size that is published.
 fn attached<R: Wait + Drop>(operator: &mut Operator<R>, lines: &str) -> Result<u64, AttachFault>
-    requires { IsOperating (⟦<Operator<R> as Shown>⟧.shown operator.old) }
-    ensures { IsOperating (⟦<Operator<R> as Shown>⟧.shown operator.new) }
+    requires { IsOperating (⟦<Operator<R> as RunningLog>⟧.state operator.old) }
+    ensures { IsOperating (⟦<Operator<R> as RunningLog>⟧.state operator.new) }
 {
     match operator.attach(lines) {
         Ok(published) => Ok(published.size()),
@@ -159,8 +159,8 @@ fn is_published<R: Wait, O: Wait + Drop>(
     members: &mut [Member],
     turn: u64,
 ) -> bool
-    requires { IsOperating (⟦<Operator<O> as Shown>⟧.shown operator.old) }
-    ensures { IsOperating (⟦<Operator<O> as Shown>⟧.shown operator.new) }
+    requires { IsOperating (⟦<Operator<O> as RunningLog>⟧.state operator.old) }
+    ensures { IsOperating (⟦<Operator<O> as RunningLog>⟧.state operator.new) }
 {
     let Some(proposal) = proposed(alloc, operator, submitter, store) else {
         return false;
@@ -189,7 +189,7 @@ fn are_published<R: Wait, O: Wait + Drop>(
     submitter: &mut Submitter<Global, Global>,
     members: &mut [Member],
 ) -> bool
-    requires { IsOperating (⟦<Operator<O> as Shown>⟧.shown operator.old) }
+    requires { IsOperating (⟦<Operator<O> as RunningLog>⟧.state operator.old) }
 {
     let mut store = HashStore::new(alloc, Sha256Tree);
     for turn in 1..=TURNS {
