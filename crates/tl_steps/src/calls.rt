@@ -1,9 +1,7 @@
 //! The calls of an operator, one for each kind of step.
 
-ghost use Rattle.std.specs.Prelude.{◌≡◌, IfOk, IfSome};
 ghost use Rattle.tl_publisher.specs.Operating.{IsOperating};
-ghost use Rattle.tl_sequencer.specs.Log.{IsEndOf};
-ghost use Rattle.tl_steps.specs.Kept.{AreOf, IsKept};
+ghost use Rattle.tl_steps.specs.Kept.{AreSenders, IsKept};
 
 use crate::sending::{Sender, taken_out};
 use crate::words::{Answer, fixed, shown};
@@ -17,8 +15,9 @@ pub(crate) type Witnesses = Vec<Vec<Box<dyn Verifier>>>;
 
 /// Publishes the log: its size.
 pub(crate) fn publish<R: Wait + Drop>(alloc: Global, operator: &mut Operator<R>) -> Answer
-    requires { IsOperating (⟦<Operator<R> as RunningLog>⟧.state operator.old) }
-    ensures { IsKept (⟦<Operator<R> as RunningLog>⟧.state operator.old) (⟦<Operator<R> as RunningLog>⟧.state operator.new) }
+    requires { IsOperating (⟦<Operator<R> as Shown>⟧.shown operator.old) }
+    ensures { IsKept (⟦<Operator<R> as Shown>⟧.shown operator.old)
+        (⟦<Operator<R> as Shown>⟧.shown operator.new) }
 {
     match operator.publish() {
         Ok(published) => shown(alloc, published.size()),
@@ -28,8 +27,9 @@ pub(crate) fn publish<R: Wait + Drop>(alloc: Global, operator: &mut Operator<R>)
 
 /// Proposes the log: its size and its note.
 pub(crate) fn propose<R: Wait + Drop>(alloc: Global, operator: &mut Operator<R>) -> Answer
-    requires { IsOperating (⟦<Operator<R> as RunningLog>⟧.state operator.old) }
-    ensures { IsKept (⟦<Operator<R> as RunningLog>⟧.state operator.old) (⟦<Operator<R> as RunningLog>⟧.state operator.new) }
+    requires { IsOperating (⟦<Operator<R> as Shown>⟧.shown operator.old) }
+    ensures { IsKept (⟦<Operator<R> as Shown>⟧.shown operator.old)
+        (⟦<Operator<R> as Shown>⟧.shown operator.new) }
 {
     match operator.propose() {
         Ok(proposal) => shown(alloc, (proposal.size, proposal.note)),
@@ -43,8 +43,9 @@ pub(crate) fn attach<R: Wait + Drop>(
     operator: &mut Operator<R>,
     lines: &str,
 ) -> Answer
-    requires { IsOperating (⟦<Operator<R> as RunningLog>⟧.state operator.old) }
-    ensures { IsKept (⟦<Operator<R> as RunningLog>⟧.state operator.old) (⟦<Operator<R> as RunningLog>⟧.state operator.new) }
+    requires { IsOperating (⟦<Operator<R> as Shown>⟧.shown operator.old) }
+    ensures { IsKept (⟦<Operator<R> as Shown>⟧.shown operator.old)
+        (⟦<Operator<R> as Shown>⟧.shown operator.new) }
 {
     match operator.attach(lines) {
         Ok(published) => shown(alloc, published.size()),
@@ -59,8 +60,9 @@ pub(crate) fn require<R: Wait + Drop>(
     witnesses: &mut Witnesses,
     need: u32,
 ) -> Answer
-    requires { IsOperating (⟦<Operator<R> as RunningLog>⟧.state operator.old) }
-    ensures { IsKept (⟦<Operator<R> as RunningLog>⟧.state operator.old) (⟦<Operator<R> as RunningLog>⟧.state operator.new) }
+    requires { IsOperating (⟦<Operator<R> as Shown>⟧.shown operator.old) }
+    ensures { IsKept (⟦<Operator<R> as Shown>⟧.shown operator.old)
+        (⟦<Operator<R> as Shown>⟧.shown operator.new) }
 {
     let Some(next) = witnesses.pop() else {
         return fixed(alloc, "no witnesses");
@@ -71,19 +73,20 @@ pub(crate) fn require<R: Wait + Drop>(
     }
 }
 
-/// Ends a lane: how many entries were left of it, or why it isn't ended and the lane that comes back.
+/// Ends a lane: how many entries were left of it, or why not and the lane that comes back.
 pub(crate) fn end<R: Wait + Drop>(
     alloc: Global,
     operator: &mut Operator<R>,
-    submitters: &mut Vec<Sender>,
+    lanes: &mut Vec<Sender>,
     lane: u32,
 ) -> Answer
-    requires operating { IsOperating (⟦<Operator<R> as RunningLog>⟧.state operator.old) }
-    requires own { AreOf (⟦<Operator<R> as RunningLog>⟧.state operator.old) submitters.old.items }
-    ensures kept { IsKept (⟦<Operator<R> as RunningLog>⟧.state operator.old) (⟦<Operator<R> as RunningLog>⟧.state operator.new) }
-    ensures own { AreOf (⟦<Operator<R> as RunningLog>⟧.state operator.new) submitters.new.items }
+    requires operating { IsOperating (⟦<Operator<R> as Shown>⟧.shown operator.old) }
+    requires own { AreSenders (⟦<Operator<R> as Shown>⟧.shown operator.old).log lanes.old.items }
+    ensures kept { IsKept (⟦<Operator<R> as Shown>⟧.shown operator.old)
+        (⟦<Operator<R> as Shown>⟧.shown operator.new) }
+    ensures own { AreSenders (⟦<Operator<R> as Shown>⟧.shown operator.new).log lanes.new.items }
 {
-    let Some(submitter) = taken_out(submitters, lane) else {
+    let Some(submitter) = taken_out(lanes, lane) else {
         return fixed(alloc, "no submitter");
     };
     let Some(ended) = submitter.close() else {

@@ -8,7 +8,7 @@ use std::sync::Wait;
 use tl_publisher::{Board, BoardReader};
 use tl_sequencer::Complete;
 
-// What comes of a step after the close.
+// What comes of the close, or of a step after it.
 fn closed_step<R: Wait + Drop>(
     alloc: Global,
     complete: &Complete<Global, Global>,
@@ -19,11 +19,12 @@ fn closed_step<R: Wait + Drop>(
     match words_of(alloc, line)?.as_slice() {
         ["see", words @ ..] => see(alloc, reader, words),
         ["kept", words @ ..] => kept(alloc, board, words),
+        ["close"] => fixed(alloc, "closed"),
         words => ask(alloc, complete, words),
     }
 }
 
-/// Does the steps after the close.
+/// Does the steps from the close on.
 pub(crate) fn closed_steps<R: Wait + Drop>(
     alloc: Global,
     complete: &Complete<Global, Global>,
@@ -40,7 +41,7 @@ pub(crate) fn closed_steps<R: Wait + Drop>(
     Ok(())
 }
 
-// What comes of a step after the log is gone.
+// What comes of the drop, or of a step after it.
 fn gone_step(
     alloc: Global,
     submitters: &mut Vec<Sender>,
@@ -53,11 +54,12 @@ fn gone_step(
             Some(submitter) => shown(alloc, submitter.close().map(|end| end.lane())),
             None => fixed(alloc, "no submitter"),
         },
+        ["drop"] => fixed(alloc, "dropped"),
         _ => fixed(alloc, "no such step"),
     }
 }
 
-/// Does the steps after the log is gone.
+/// Does the steps from the drop on.
 pub(crate) fn gone_steps(
     alloc: Global,
     submitters: Vec<Sender>,

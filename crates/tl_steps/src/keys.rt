@@ -23,7 +23,12 @@ impl Reluctant {
 impl Signer for Reluctant {
     ghost use Rattle.std.specs.Prelude.{true, codes};
 
-    ghost signing_key = { λ k. record { name = codes "reluctant"; id = 9; may_give = λ _ _. true; may_refuse = λ _. true } };
+    ghost signing_key = { λ k. record {
+      name = codes "reluctant";
+      id = 9;
+      may_give = λ _ _. true;
+      may_refuse = λ _. true;
+    } };
 
     fn name(&self) -> &str {
         "reluctant"

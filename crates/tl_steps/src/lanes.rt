@@ -1,8 +1,8 @@
 //! The steps of a sequencer alone, without an operator.
 
 ghost use Rattle.std.specs.Prelude.{◌≡◌, IfOk};
-ghost use Rattle.std.specs.List.{All};
-ghost use Rattle.tl_sequencer.specs.Log.{IsSenderOf, rings_of};
+ghost use Rattle.tl_sequencer.specs.Log.{rings_of};
+ghost use Rattle.tl_steps.specs.Kept.{AreSenders};
 
 use crate::looks::in_hex;
 use crate::script::Row;
@@ -15,9 +15,9 @@ type Log = Sequencer<Global, Global>;
 
 // Ends a lane: how many entries that took, or why not and the lane that comes back.
 fn end(alloc: Global, log: &mut Log, submitters: &mut Vec<Sender>, lane: u32) -> Answer
-    requires { All (λ s. IsSenderOf s log.old) submitters.old.items }
+    requires { AreSenders log.old submitters.old.items }
     ensures rings { rings_of log.new ≡ rings_of log.old }
-    ensures own { All (λ s. IsSenderOf s log.old) submitters.new.items }
+    ensures own { AreSenders log.old submitters.new.items }
 {
     let Some(submitter) = taken_out(submitters, lane) else {
         return fixed(alloc, "no submitter");
@@ -44,9 +44,9 @@ fn ask(alloc: Global, log: &Log, words: &[&str]) -> Answer {
 
 // What comes of a step.
 fn step(alloc: Global, log: &mut Log, submitters: &mut Vec<Sender>, line: &str) -> Answer
-    requires { All (λ s. IsSenderOf s log.old) submitters.old.items }
+    requires { AreSenders log.old submitters.old.items }
     ensures rings { rings_of log.new ≡ rings_of log.old }
-    ensures own { All (λ s. IsSenderOf s log.old) submitters.new.items }
+    ensures own { AreSenders log.old submitters.new.items }
 {
     let words = words_of(alloc, line)?;
     match words.as_slice() {
@@ -67,7 +67,7 @@ fn steps_of(
     steps: &[&str],
     out: &mut String,
 ) -> Result<(), AllocError>
-    requires { All (λ s. IsSenderOf s log) submitters.items }
+    requires { AreSenders log submitters.items }
 {
     let (mut log, mut submitters) = (log, submitters);
     for line in steps {
@@ -85,7 +85,7 @@ fn opened(
     capacity: usize,
     limit: u64,
 ) -> Result<(Log, Vec<Sender>), OpenFault>
-    ensures { IfOk result (λ r. All (λ s. IsSenderOf s r.0) r.1.items) }
+    ensures { IfOk result (λ r. AreSenders r.0 r.1.items) }
 {
     let Some(entry) = base else {
         return open(alloc, lanes, capacity, limit);

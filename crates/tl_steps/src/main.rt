@@ -7,7 +7,7 @@
 //! | A log is opened by | |
 //! |---|---|
 //! | `$ log LANES CAPACITY LIMIT` | of `example.com/log`, with one reader, signed by the length key of that name |
-//! | `$ open ORIGIN SIGNERS LANES CAPACITY LIMIT READERS` | with the keys of these names; `reluctant` is one that refuses once |
+//! | `$ open ORIGIN SIGNERS LANES CAPACITY LIMIT READERS` | with these keys; `reluctant` refuses once |
 //! | `$ resume ORIGIN SIGNERS VERIFIERS LANES CAPACITY LIMIT BUNDLE..` | that goes on from a note and bundles |
 //! | `$ lanes LANES CAPACITY LIMIT [ENTRY]` | a sequencer alone, which may begin with an entry |
 //!
@@ -16,8 +16,13 @@
 //! | `send LANE ENTRY COUNT` | sends an entry so many times: the number of the last one |
 //! | `take LANE MOST`, `publish`, `propose`, `attach LINES`, `require NEED NAMES`, `end LANE`, `close` | that call |
 //! | `drop` | drops the operator |
-//! | `see size`, `see note`, `see bytes RESOURCE`, `see length RESOURCE` | the reader looks, after the close `kept ..` the board |
+//! | `see size`, `see note`, `see bytes RESOURCE`, `see length RESOURCE` | the reader looks |
+//! | `kept ..` in place of `see ..` | the board is asked after the close |
 //! | `len`, `who PLACE`, `place LANE NUMBER`, `entry PLACE` | of a closed log, or of a sequencer |
+//!
+//! A resource is `checkpoint`, `bundle INDEX WIDTH` or `tile LEVEL INDEX WIDTH`. How entries, bundles and keys are
+//! spelled stands at `bytes_of`, `entry_of` and `keys_of`; in lines, origins and names `|` stands for a newline and `_`
+//! for a space.
 #![tactic(auto)]
 
 mod calls;
@@ -32,7 +37,7 @@ mod sending;
 mod words;
 
 use crate::lanes::open_lanes;
-use crate::opening::{Opening, open, resume};
+use crate::opening::{open, resume};
 use crate::script::{Row, rows_of};
 use crate::words::{tell, words_of};
 use std::alloc::{AllocError, Global};
@@ -54,47 +59,26 @@ fn run<R: Wait + Drop>(
     let words = words_of(alloc, row.line)?;
     match words.as_slice() {
         [_, "log", lanes, capacity, limit] => {
-            let opening = Opening {
-                origin: ORIGIN,
-                signers: KEY,
-                lanes,
-                capacity,
-                limit,
-                readers: "1",
-            };
-            open(rt, alloc, opening, row, out)
+            let words: [&str; 6] = [ORIGIN, KEY, lanes, capacity, limit, "1"];
+            open(rt, alloc, words, row, out)
         }
-        [_, "open", origin, signers, lanes, capacity, limit, readers] => {
-            let opening = Opening {
-                origin,
-                signers,
-                lanes,
-                capacity,
-                limit,
-                readers,
-            };
-            open(rt, alloc, opening, row, out)
+        [_, "open", origin, keys, lanes, capacity, limit, readers] => {
+            let words: [&str; 6] = [origin, keys, lanes, capacity, limit, readers];
+            open(rt, alloc, words, row, out)
         }
         [
             _,
             "resume",
             origin,
-            signers,
+            keys,
             known,
             lanes,
             capacity,
             limit,
             bundles @ ..,
         ] => {
-            let opening = Opening {
-                origin,
-                signers,
-                lanes,
-                capacity,
-                limit,
-                readers: "1",
-            };
-            resume(rt, alloc, opening, known, bundles, row, out)
+            let words: [&str; 6] = [origin, keys, known, lanes, capacity, limit];
+            resume(rt, alloc, words, bundles, row, out)
         }
         [_, "lanes", lanes, capacity, limit] => {
             open_lanes(alloc, row, [lanes, capacity, limit], None, out)

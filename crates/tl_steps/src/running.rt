@@ -1,8 +1,7 @@
 //! The steps of a log that runs.
 
-ghost use Rattle.std.specs.Prelude.{◌≡◌};
 ghost use Rattle.tl_publisher.specs.Operating.{IsOperating};
-ghost use Rattle.tl_steps.specs.Kept.{AreOf, IsKept};
+ghost use Rattle.tl_steps.specs.Kept.{AreSenders, IsKept};
 
 use crate::calls::{Witnesses, attach, end, propose, publish, require};
 use crate::closed::{closed_steps, gone_steps};
@@ -15,8 +14,9 @@ use tl_publisher::{BoardReader, Operator, RunningLog};
 
 // What comes of a step that makes a note.
 fn note_step<R: Wait + Drop>(alloc: Global, operator: &mut Operator<R>, words: &[&str]) -> Answer
-    requires { IsOperating (⟦<Operator<R> as RunningLog>⟧.state operator.old) }
-    ensures { IsKept (⟦<Operator<R> as RunningLog>⟧.state operator.old) (⟦<Operator<R> as RunningLog>⟧.state operator.new) }
+    requires { IsOperating (⟦<Operator<R> as Shown>⟧.shown operator.old) }
+    ensures { IsKept (⟦<Operator<R> as Shown>⟧.shown operator.old)
+        (⟦<Operator<R> as Shown>⟧.shown operator.new) }
 {
     match words {
         ["publish"] => publish(alloc, operator),
@@ -31,23 +31,24 @@ fn note_step<R: Wait + Drop>(alloc: Global, operator: &mut Operator<R>, words: &
 fn step<R: Wait + Drop>(
     alloc: Global,
     operator: &mut Operator<R>,
-    submitters: &mut Vec<Sender>,
+    lanes: &mut Vec<Sender>,
     reader: &mut BoardReader<Global>,
     witnesses: &mut Witnesses,
     line: &str,
 ) -> Answer
-    requires operating { IsOperating (⟦<Operator<R> as RunningLog>⟧.state operator.old) }
-    requires own { AreOf (⟦<Operator<R> as RunningLog>⟧.state operator.old) submitters.old.items }
-    ensures kept { IsKept (⟦<Operator<R> as RunningLog>⟧.state operator.old) (⟦<Operator<R> as RunningLog>⟧.state operator.new) }
-    ensures own { AreOf (⟦<Operator<R> as RunningLog>⟧.state operator.new) submitters.new.items }
+    requires operating { IsOperating (⟦<Operator<R> as Shown>⟧.shown operator.old) }
+    requires own { AreSenders (⟦<Operator<R> as Shown>⟧.shown operator.old).log lanes.old.items }
+    ensures kept { IsKept (⟦<Operator<R> as Shown>⟧.shown operator.old)
+        (⟦<Operator<R> as Shown>⟧.shown operator.new) }
+    ensures own { AreSenders (⟦<Operator<R> as Shown>⟧.shown operator.new).log lanes.new.items }
 {
     let words = words_of(alloc, line)?;
     match words.as_slice() {
         ["send", lane, word, count] => {
-            send(alloc, submitters, small_of(lane), word, number_of(count))
+            send(alloc, lanes, small_of(lane), word, number_of(count))
         }
         ["take", lane, most] => either(alloc, operator.take(small_of(lane), number_of(most))),
-        ["end", lane] => end(alloc, operator, submitters, small_of(lane)),
+        ["end", lane] => end(alloc, operator, lanes, small_of(lane)),
         ["see", words @ ..] => see(alloc, reader, words),
         ["require", need, _] => require(alloc, operator, witnesses, small_of(need)),
         words => note_step(alloc, operator, words),
@@ -57,45 +58,35 @@ fn step<R: Wait + Drop>(
 /// Does the steps of a log.
 pub(crate) fn steps_of<R: Wait + Drop>(
     alloc: Global,
-    log: (Operator<R>, Vec<Sender>, BoardReader<Global>),
+    opened: (Operator<R>, Vec<Sender>, BoardReader<Global>),
     witnesses: Witnesses,
     steps: &[&str],
     out: &mut String,
 ) -> Result<(), AllocError>
-    requires operating { IsOperating (⟦<Operator<R> as RunningLog>⟧.state log.0) }
-    requires own { AreOf (⟦<Operator<R> as RunningLog>⟧.state log.0) log.1.items }
+    requires operating { IsOperating (⟦<Operator<R> as Shown>⟧.shown opened.0) }
+    requires own { AreSenders (⟦<Operator<R> as Shown>⟧.shown opened.0).log opened.1.items }
 {
-    let (mut operator, mut submitters, mut reader) = log;
-    let mut witnesses = witnesses;
+    let (mut log, mut lanes, mut reader) = opened;
+    let mut keys = witnesses;
     for place in 0..steps.len() {
-        let line = steps[place];
-        let rest = &steps[place + 1..];
+        let (line, rest) = (steps[place], &steps[place..]);
         if line == "drop" {
-            drop(operator);
-            tell(out, line, "dropped")?;
-            return gone_steps(alloc, submitters, &mut reader, rest, out);
+            drop(log);
+            return gone_steps(alloc, lanes, &mut reader, rest, out);
         }
         if line == "close" {
-            match operator.close() {
+            match log.close() {
                 Ok((complete, board)) => {
-                    tell(out, line, "closed")?;
                     return closed_steps(alloc, &complete, board, &mut reader, rest, out);
                 }
                 Err(back) => {
-                    operator = back.operator;
+                    log = back.operator;
                     tell(out, line, shown(alloc, back.lane)?.as_str())?;
                 }
             }
             continue;
         }
-        let answer = step(
-            alloc,
-            &mut operator,
-            &mut submitters,
-            &mut reader,
-            &mut witnesses,
-            line,
-        )?;
+        let answer = step(alloc, &mut log, &mut lanes, &mut reader, &mut keys, line)?;
         tell(out, line, answer.as_str())?;
     }
     Ok(())

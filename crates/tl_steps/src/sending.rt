@@ -1,9 +1,9 @@
 //! The submitters of a log.
 
 ghost use Rattle.std.specs.Global.{Global as GlobalValue};
-ghost use Rattle.std.specs.Prelude.{◌≡◌, ◌<◌, IfSome, length, vec_len};
-ghost use Rattle.std.specs.List.{All};
+ghost use Rattle.std.specs.Prelude.{◌≡◌, ◌<◌, IfSome, length};
 ghost use Rattle.tl_sequencer.specs.Log.{IsSenderOf, Log};
+ghost use Rattle.tl_steps.specs.Kept.{AreSenders};
 
 use crate::words::{Answer, bytes_of, either, fixed};
 use std::alloc::{AllocError, Global};
@@ -28,7 +28,8 @@ fn sent(
     word: &str,
     count: u64,
 ) -> Result<Result<u64, (Why, usize)>, AllocError>
-    ensures { (submitter.new.ring ≡ submitter.old.ring) × (submitter.new.lane ≡ submitter.old.lane) }
+    ensures { (submitter.new.ring ≡ submitter.old.ring)
+        × (submitter.new.lane ≡ submitter.old.lane) }
 {
     let mut last = 0;
     for number in 0..count {
@@ -55,8 +56,10 @@ fn place_of(submitters: &[Sender], lane: u32) -> Option<usize>
 
 /// The submitter of a lane, which is taken out.
 pub(crate) fn taken_out(submitters: &mut Vec<Sender>, lane: u32) -> Option<Sender>
-    ensures rest { (log : Log GlobalValue) → All (λ s. IsSenderOf s log) submitters.old.items → All (λ s. IsSenderOf s log) submitters.new.items }
-    ensures own { (log : Log GlobalValue) → All (λ s. IsSenderOf s log) submitters.old.items → IfSome result (λ s. IsSenderOf s log) }
+    ensures rest { (log : Log GlobalValue) → AreSenders log submitters.old.items
+        → AreSenders log submitters.new.items }
+    ensures own { (log : Log GlobalValue) → AreSenders log submitters.old.items
+        → IfSome result (λ s. IsSenderOf s log) }
 {
     match place_of(submitters.as_slice(), lane) {
         Some(place) => Some(submitters.remove(place)),
@@ -72,7 +75,8 @@ pub(crate) fn send(
     word: &str,
     count: u64,
 ) -> Answer
-    ensures { (log : Log GlobalValue) → All (λ s. IsSenderOf s log) submitters.old.items → All (λ s. IsSenderOf s log) submitters.new.items }
+    ensures { (log : Log GlobalValue) → AreSenders log submitters.old.items
+        → AreSenders log submitters.new.items }
 {
     match place_of(submitters.as_slice(), lane) {
         Some(place) => either(alloc, sent(alloc, &mut submitters[place], word, count)?),

@@ -15,4 +15,4 @@ loop-place-preserved-then-eq-2 g c =
       proposal = option_map (λ note. record { entries = take o.run.grown (entries_of o.run.log); note = string_bytes note }) o.proposal;
       past = o.run.past;
     })
-    × All (λ s. IsSenderOf s o.run.log) c.loop-place.submitters.items) (sym c.in-Err.ensures.back) c.loop-place.invariant
+    × All (λ s. IsSenderOf s o.run.log) c.loop-place.lanes.items) (sym c.in-Err.ensures.back) c.loop-place.invariant

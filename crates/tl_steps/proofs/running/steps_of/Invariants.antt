@@ -8,11 +8,11 @@ use Rattle.tl_steps.proofs.running.steps_of.Given as goal
 abbrev pub invariant-loop-place : goal.invariant-loop-place
 invariant-loop-place g l =
     IsOperating (record {
-      origin = string_bytes l.operator.origin;
-      signers = map (λ b. (goal.Signer-dyn g (b.vtable, b.value)).signing_key b.value) l.operator.signers.items;
-      quorum = record { witnesses = map (λ b. (goal.Verifier-dyn g (b.vtable, b.value)).key b.value) l.operator.witnesses.items; need = l.operator.need };
-      log = l.operator.run.log;
-      proposal = option_map (λ note. record { entries = take l.operator.run.grown (entries_of l.operator.run.log); note = string_bytes note }) l.operator.proposal;
-      past = l.operator.run.past;
+      origin = string_bytes l.log.origin;
+      signers = map (λ b. (goal.Signer-dyn g (b.vtable, b.value)).signing_key b.value) l.log.signers.items;
+      quorum = record { witnesses = map (λ b. (goal.Verifier-dyn g (b.vtable, b.value)).key b.value) l.log.witnesses.items; need = l.log.need };
+      log = l.log.run.log;
+      proposal = option_map (λ note. record { entries = take l.log.run.grown (entries_of l.log.run.log); note = string_bytes note }) l.log.proposal;
+      past = l.log.run.past;
     })
-    × All (λ s. IsSenderOf s l.operator.run.log) l.submitters.items
+    × All (λ s. IsSenderOf s l.log.run.log) l.lanes.items
