@@ -89,17 +89,8 @@ fn proof(alloc: Global, is_record: bool, words: &mut Words<'_>, out: &mut String
     }
 }
 
-// A claim that the entry at an index is in the log, with the proof at a place.
-fn claim_at<'p>(
-    log: &Equal,
-    index: u64,
-    proofs: &'p [Vec<Hash>],
-    place: usize,
-) -> InclusionClaim<'p> {
-    let proof: &'p [Hash] = match proofs.get(place) {
-        Some(proof) => proof.as_slice(),
-        None => &[],
-    };
+// A claim that the entry at an index is in the log.
+fn claim<'a>(log: &Equal, index: u64, proof: &'a [Hash]) -> InclusionClaim<'a> {
     InclusionClaim {
         index,
         leaf: log.hashes[0],
@@ -109,12 +100,15 @@ fn claim_at<'p>(
 
 // Whether four inclusion proofs of entries at these places are accepted together.
 fn accepted(size: u64, places: [u64; 4], proofs: &[Vec<Hash>]) -> bool {
+    let [a, b, c, d] = proofs else {
+        return false;
+    };
     let log = equal_log();
     let claims = [
-        claim_at(&log, places[0], proofs, 0),
-        claim_at(&log, places[1], proofs, 1),
-        claim_at(&log, places[2], proofs, 2),
-        claim_at(&log, places[3], proofs, 3),
+        claim(&log, places[0], a),
+        claim(&log, places[1], b),
+        claim(&log, places[2], c),
+        claim(&log, places[3], d),
     ];
     check_records(Sha256Tree, size, root_of(&log, size), &claims)
 }

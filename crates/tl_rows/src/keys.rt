@@ -10,37 +10,44 @@ use tl_key::{
 use tl_note::{Signer, Verifier};
 
 // Writes a verifier's key: its name, its identifier, its public key and its text.
-fn put_verifier<K: KeyKind>(
+fn put_verifier<K: KeyKind>(alloc: Global, key: &VerifierKey<K, Global>, out: &mut String) -> Told {
+    let text = write_verifier_key(alloc, key)?;
+    let (name, id) = (Verifier::name(key), Verifier::key_id(key));
+    write!(out, "{name:?} {id:08x} ")?;
+    put_hex(out, key.public_key().as_slice())?;
+    write!(out, " {text}")
+}
+
+// The same of an answer, or its fault.
+fn put_verifier_or<K: KeyKind>(
     alloc: Global,
     answer: Result<VerifierKey<K, Global>, KeyFault>,
     out: &mut String,
 ) -> Told {
     match answer {
-        Ok(key) => {
-            let (name, id) = (Verifier::name(&key), Verifier::key_id(&key));
-            write!(out, "{name:?} {id:08x} ")?;
-            put_hex(out, key.public_key().as_slice())?;
-            out.push(' ')?;
-            out.push_str(write_verifier_key(alloc, &key)?.as_str())
-        }
+        Ok(key) => put_verifier(alloc, &key, out),
         Err(fault) => write!(out, "{fault:?}"),
     }
 }
 
 // Writes a signer's key: its name, its identifier, its text and its verifier's.
-fn put_signer<K: KeyKind>(
+fn put_signer<K: KeyKind>(alloc: Global, key: &SignerKey<K, Global>, out: &mut String) -> Told {
+    let text = write_signer_key(alloc, key)?;
+    let (name, id) = (Signer::name(key), Signer::key_id(key));
+    write!(out, "{name:?} {id:08x} {text} ")?;
+    let verifier = key.verifier(alloc)?;
+    let text = write_verifier_key(alloc, &verifier)?;
+    out.push_str(text.as_str())
+}
+
+// The same of an answer, or its fault.
+fn put_signer_or<K: KeyKind>(
     alloc: Global,
     answer: Result<SignerKey<K, Global>, KeyFault>,
     out: &mut String,
 ) -> Told {
     match answer {
-        Ok(key) => {
-            let (name, id) = (Signer::name(&key), Signer::key_id(&key));
-            write!(out, "{name:?} {id:08x} ")?;
-            out.push_str(write_signer_key(alloc, &key)?.as_str())?;
-            out.push(' ')?;
-            out.push_str(write_verifier_key(alloc, &key.verifier(alloc)?)?.as_str())
-        }
+        Ok(key) => put_signer(alloc, &key, out),
         Err(fault) => write!(out, "{fault:?}"),
     }
 }
@@ -120,12 +127,12 @@ fn answer_of<K: KeyKind>(
     let call = words.next();
     let word = words.next();
     match call {
-        "verifier" => put_verifier::<K>(alloc, read_verifier_key(alloc, text), out),
-        "signer" => put_signer::<K>(alloc, read_signer_key(alloc, text), out),
+        "verifier" => put_verifier_or::<K>(alloc, read_verifier_key(alloc, text), out),
+        "signer" => put_signer_or::<K>(alloc, read_signer_key(alloc, text), out),
         "new-verifier" => {
-            put_verifier::<K>(alloc, VerifierKey::new(alloc, text, &key_of(word)), out)
+            put_verifier_or::<K>(alloc, VerifierKey::new(alloc, text, &key_of(word)), out)
         }
-        "new-signer" => put_signer::<K>(alloc, SignerKey::new(alloc, text, &key_of(word)), out),
+        "new-signer" => put_signer_or::<K>(alloc, SignerKey::new(alloc, text, &key_of(word)), out),
         "sign" => signed::<K>(alloc, text, bytes_of(alloc, word)?.as_slice(), out),
         _ => verified::<K>(alloc, text, bytes_of(alloc, word)?.as_slice(), words, out),
     }

@@ -24,6 +24,12 @@ use crate::words::{Told, Words, bytes_of};
 use std::alloc::{AllocError, Global};
 use std::{io, str};
 
+// Adds the bytes that digits give to the input of a row.
+fn add_bytes(alloc: Global, input: &mut Vec<u8>, digits: &str) -> Told {
+    let bytes = bytes_of(alloc, digits)?;
+    input.extend_from_slice(bytes.as_slice())
+}
+
 // Adds what a line of the script holds to the input of a row.
 fn add_line(alloc: Global, input: &mut Vec<u8>, line: &str) -> Told {
     let (kind, text) = line.split_once(' ').unwrap_or((line, ""));
@@ -33,7 +39,7 @@ fn add_line(alloc: Global, input: &mut Vec<u8>, line: &str) -> Told {
             input.extend_from_slice(b"\n")
         }
         "<-" => input.extend_from_slice(text.as_bytes()),
-        "<x" => input.extend_from_slice(bytes_of(alloc, text)?.as_slice()),
+        "<x" => add_bytes(alloc, input, text),
         _ => Ok(()),
     }
 }
@@ -81,11 +87,17 @@ fn answered(alloc: Global, row: &str) -> Result<String, AllocError> {
     Ok(out)
 }
 
-fn main(rt: HostRuntime) -> Result<(), anyhow::Error> {
-    let alloc = rt.alloc();
-    let script = io::read_to_string(alloc, rt.reader())?;
-    for row in script.as_str().split("\n$ ").skip(1) {
-        println!(rt; "{}", answered(alloc, row)?)?;
+// Prints the rows of a script.
+fn print_rows<P: Print>(rt: &P, alloc: Global, script: &str) -> io::Result<()> {
+    for row in script.split("\n$ ").skip(1) {
+        let text = answered(alloc, row)?;
+        println!(rt; "{text}")?;
     }
+    Ok(())
+}
+
+fn main(rt: HostRuntime) -> Result<(), anyhow::Error> {
+    let script = io::read_to_string(rt.alloc(), rt.reader())?;
+    print_rows(&rt, rt.alloc(), script.as_str())?;
     Ok(())
 }

@@ -71,8 +71,11 @@ fn open_keyed(alloc: Global, note: &str, text: &str, out: &mut String) -> Told {
 
 // The note that length keys make of a text.
 fn sign_length(alloc: Global, text: &str, names: &str, out: &mut String) -> Told {
+    if names.is_empty() {
+        return put(out, sign_note(alloc, alloc, text, &[]));
+    }
     let mut signers: Vec<Box<dyn Signer>> = Vec::new(alloc);
-    for name in names.split(',').skip(usize::from(names.is_empty())) {
+    for name in names.split(',') {
         let key = LengthKey::new(alloc, name, LENGTH_ID)?;
         signers.push(Box::new(alloc, key)?)?;
     }
