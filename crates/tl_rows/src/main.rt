@@ -24,23 +24,18 @@ use crate::words::{Told, Words, bytes_of};
 use std::alloc::{AllocError, Global};
 use std::{io, str};
 
-// Adds the bytes that digits give to the input of a row.
-fn add_bytes(alloc: Global, input: &mut Vec<u8>, digits: &str) -> Told {
-    let bytes = bytes_of(alloc, digits)?;
-    input.extend_from_slice(bytes.as_slice())
-}
-
 // Adds what a line of the script holds to the input of a row.
 fn add_line(alloc: Global, input: &mut Vec<u8>, line: &str) -> Told {
-    let (kind, text) = line.split_once(' ').unwrap_or((line, ""));
-    match kind {
-        "<" => {
-            input.extend_from_slice(text.as_bytes())?;
-            input.extend_from_slice(b"\n")
-        }
-        "<-" => input.extend_from_slice(text.as_bytes()),
-        "<x" => add_bytes(alloc, input, text),
-        _ => Ok(()),
+    if let Some(text) = line.strip_prefix("< ") {
+        input.extend_from_slice(text.as_bytes())?;
+        return Ok(input.push(b'\n')?);
+    }
+    if let Some(text) = line.strip_prefix("<- ") {
+        return input.extend_from_slice(text.as_bytes());
+    }
+    match line.strip_prefix("<x ") {
+        Some(digits) => input.extend_from_slice(bytes_of(alloc, digits)?.as_slice()),
+        None => Ok(()),
     }
 }
 
