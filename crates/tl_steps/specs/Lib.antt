@@ -1,2 +1,2 @@
--- The definitions of the steps.
-pub mod Kept
+-- The definitions of scripts of steps.
+pub mod Inner

@@ -1,7 +1,7 @@
 //! The calls of an operator, one for each kind of step.
 
 ghost use Rattle.tl_publisher.specs.Operating.{IsOperating};
-ghost use Rattle.tl_steps.specs.Kept.{AreSenders, IsKept};
+ghost use Rattle.tl_steps.specs.Inner.Kept.{AreSenders, IsKept};
 
 use crate::sending::{Sender, taken_out};
 use crate::words::{Answer, fixed, shown};
@@ -15,9 +15,9 @@ pub(crate) type Witnesses = Vec<Vec<Box<dyn Verifier>>>;
 
 /// Publishes the log: its size.
 pub(crate) fn publish<R: Wait + Drop>(alloc: Global, operator: &mut Operator<R>) -> Answer
-    requires { IsOperating (⟦<Operator<R> as Shown>⟧.shown operator.old) }
-    ensures { IsKept (⟦<Operator<R> as Shown>⟧.shown operator.old)
-        (⟦<Operator<R> as Shown>⟧.shown operator.new) }
+    requires { IsOperating (⟦<Operator<R> as RunningLog>⟧.state operator.old) }
+    ensures { IsKept (⟦<Operator<R> as RunningLog>⟧.state operator.old)
+        (⟦<Operator<R> as RunningLog>⟧.state operator.new) }
 {
     match operator.publish() {
         Ok(published) => shown(alloc, published.size()),
@@ -27,9 +27,9 @@ pub(crate) fn publish<R: Wait + Drop>(alloc: Global, operator: &mut Operator<R>)
 
 /// Proposes the log: its size and its note.
 pub(crate) fn propose<R: Wait + Drop>(alloc: Global, operator: &mut Operator<R>) -> Answer
-    requires { IsOperating (⟦<Operator<R> as Shown>⟧.shown operator.old) }
-    ensures { IsKept (⟦<Operator<R> as Shown>⟧.shown operator.old)
-        (⟦<Operator<R> as Shown>⟧.shown operator.new) }
+    requires { IsOperating (⟦<Operator<R> as RunningLog>⟧.state operator.old) }
+    ensures { IsKept (⟦<Operator<R> as RunningLog>⟧.state operator.old)
+        (⟦<Operator<R> as RunningLog>⟧.state operator.new) }
 {
     match operator.propose() {
         Ok(proposal) => shown(alloc, (proposal.size, proposal.note)),
@@ -43,9 +43,9 @@ pub(crate) fn attach<R: Wait + Drop>(
     operator: &mut Operator<R>,
     lines: &str,
 ) -> Answer
-    requires { IsOperating (⟦<Operator<R> as Shown>⟧.shown operator.old) }
-    ensures { IsKept (⟦<Operator<R> as Shown>⟧.shown operator.old)
-        (⟦<Operator<R> as Shown>⟧.shown operator.new) }
+    requires { IsOperating (⟦<Operator<R> as RunningLog>⟧.state operator.old) }
+    ensures { IsKept (⟦<Operator<R> as RunningLog>⟧.state operator.old)
+        (⟦<Operator<R> as RunningLog>⟧.state operator.new) }
 {
     match operator.attach(lines) {
         Ok(published) => shown(alloc, published.size()),
@@ -60,9 +60,9 @@ pub(crate) fn require<R: Wait + Drop>(
     witnesses: &mut Witnesses,
     need: u32,
 ) -> Answer
-    requires { IsOperating (⟦<Operator<R> as Shown>⟧.shown operator.old) }
-    ensures { IsKept (⟦<Operator<R> as Shown>⟧.shown operator.old)
-        (⟦<Operator<R> as Shown>⟧.shown operator.new) }
+    requires { IsOperating (⟦<Operator<R> as RunningLog>⟧.state operator.old) }
+    ensures { IsKept (⟦<Operator<R> as RunningLog>⟧.state operator.old)
+        (⟦<Operator<R> as RunningLog>⟧.state operator.new) }
 {
     let Some(next) = witnesses.pop() else {
         return fixed(alloc, "no witnesses");
@@ -80,11 +80,11 @@ pub(crate) fn end<R: Wait + Drop>(
     lanes: &mut Vec<Sender>,
     lane: u32,
 ) -> Answer
-    requires operating { IsOperating (⟦<Operator<R> as Shown>⟧.shown operator.old) }
-    requires own { AreSenders (⟦<Operator<R> as Shown>⟧.shown operator.old).log lanes.old.items }
-    ensures kept { IsKept (⟦<Operator<R> as Shown>⟧.shown operator.old)
-        (⟦<Operator<R> as Shown>⟧.shown operator.new) }
-    ensures own { AreSenders (⟦<Operator<R> as Shown>⟧.shown operator.new).log lanes.new.items }
+    requires operating { IsOperating (⟦<Operator<R> as RunningLog>⟧.state operator.old) }
+    requires own { AreSenders (⟦<Operator<R> as RunningLog>⟧.state operator.old).log lanes.old.items }
+    ensures kept { IsKept (⟦<Operator<R> as RunningLog>⟧.state operator.old)
+        (⟦<Operator<R> as RunningLog>⟧.state operator.new) }
+    ensures own { AreSenders (⟦<Operator<R> as RunningLog>⟧.state operator.new).log lanes.new.items }
 {
     let Some(submitter) = taken_out(lanes, lane) else {
         return fixed(alloc, "no submitter");

@@ -2,7 +2,7 @@
 
 ghost use Rattle.std.specs.Prelude.{◌≡◌, IfOk};
 ghost use Rattle.tl_sequencer.specs.Log.{rings_of};
-ghost use Rattle.tl_steps.specs.Kept.{AreSenders};
+ghost use Rattle.tl_steps.specs.Inner.Kept.{AreSenders};
 
 use crate::looks::in_hex;
 use crate::script::Row;

@@ -2,7 +2,7 @@
 
 ghost use Rattle.std.specs.Prelude.{IfOk};
 ghost use Rattle.tl_publisher.specs.Operating.{IsOperating};
-ghost use Rattle.tl_steps.specs.Kept.{AreSenders};
+ghost use Rattle.tl_steps.specs.Inner.Kept.{AreSenders};
 
 use crate::calls::Witnesses;
 use crate::keys::{Reluctant, keys_of};
@@ -14,7 +14,7 @@ use std::alloc::{AllocError, Global};
 use std::fmt::Debug;
 use std::sync::Wait;
 use tl_note::{Signer, Verifier};
-use tl_publisher::{BoardReader, Operator, Shown};
+use tl_publisher::{BoardReader, Operator, RunningLog};
 use tl_testing::LengthKey;
 
 // An operator, what sends to its lanes, and its readers.
@@ -28,9 +28,9 @@ fn begin<R: Wait + Drop, E: Debug + Drop>(
     row: &Row<'_>,
     out: &mut String,
 ) -> Result<(), AllocError>
-    requires operating { IfOk opened (λ r. IsOperating (⟦<Operator<R> as Shown>⟧.shown r.0)) }
+    requires operating { IfOk opened (λ r. IsOperating (⟦<Operator<R> as RunningLog>⟧.state r.0)) }
     requires own { IfOk opened (λ r.
-        AreSenders (⟦<Operator<R> as Shown>⟧.shown r.0).log r.1.items) }
+        AreSenders (⟦<Operator<R> as RunningLog>⟧.state r.0).log r.1.items) }
 {
     match opened {
         Ok((operator, submitters, mut readers)) => {

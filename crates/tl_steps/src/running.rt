@@ -1,7 +1,7 @@
 //! The steps of a log that runs.
 
 ghost use Rattle.tl_publisher.specs.Operating.{IsOperating};
-ghost use Rattle.tl_steps.specs.Kept.{AreSenders, IsKept};
+ghost use Rattle.tl_steps.specs.Inner.Kept.{AreSenders, IsKept};
 
 use crate::calls::{Witnesses, attach, end, propose, publish, require};
 use crate::closed::{closed_steps, gone_steps};
@@ -14,9 +14,9 @@ use tl_publisher::{BoardReader, Operator, RunningLog};
 
 // What comes of a step that makes a note.
 fn note_step<R: Wait + Drop>(alloc: Global, operator: &mut Operator<R>, words: &[&str]) -> Answer
-    requires { IsOperating (⟦<Operator<R> as Shown>⟧.shown operator.old) }
-    ensures { IsKept (⟦<Operator<R> as Shown>⟧.shown operator.old)
-        (⟦<Operator<R> as Shown>⟧.shown operator.new) }
+    requires { IsOperating (⟦<Operator<R> as RunningLog>⟧.state operator.old) }
+    ensures { IsKept (⟦<Operator<R> as RunningLog>⟧.state operator.old)
+        (⟦<Operator<R> as RunningLog>⟧.state operator.new) }
 {
     match words {
         ["publish"] => publish(alloc, operator),
@@ -36,11 +36,11 @@ fn step<R: Wait + Drop>(
     witnesses: &mut Witnesses,
     line: &str,
 ) -> Answer
-    requires operating { IsOperating (⟦<Operator<R> as Shown>⟧.shown operator.old) }
-    requires own { AreSenders (⟦<Operator<R> as Shown>⟧.shown operator.old).log lanes.old.items }
-    ensures kept { IsKept (⟦<Operator<R> as Shown>⟧.shown operator.old)
-        (⟦<Operator<R> as Shown>⟧.shown operator.new) }
-    ensures own { AreSenders (⟦<Operator<R> as Shown>⟧.shown operator.new).log lanes.new.items }
+    requires operating { IsOperating (⟦<Operator<R> as RunningLog>⟧.state operator.old) }
+    requires own { AreSenders (⟦<Operator<R> as RunningLog>⟧.state operator.old).log lanes.old.items }
+    ensures kept { IsKept (⟦<Operator<R> as RunningLog>⟧.state operator.old)
+        (⟦<Operator<R> as RunningLog>⟧.state operator.new) }
+    ensures own { AreSenders (⟦<Operator<R> as RunningLog>⟧.state operator.new).log lanes.new.items }
 {
     let words = words_of(alloc, line)?;
     match words.as_slice() {
@@ -63,8 +63,8 @@ pub(crate) fn steps_of<R: Wait + Drop>(
     steps: &[&str],
     out: &mut String,
 ) -> Result<(), AllocError>
-    requires operating { IsOperating (⟦<Operator<R> as Shown>⟧.shown opened.0) }
-    requires own { AreSenders (⟦<Operator<R> as Shown>⟧.shown opened.0).log opened.1.items }
+    requires operating { IsOperating (⟦<Operator<R> as RunningLog>⟧.state opened.0) }
+    requires own { AreSenders (⟦<Operator<R> as RunningLog>⟧.state opened.0).log opened.1.items }
 {
     let (mut log, mut lanes, mut reader) = opened;
     let mut keys = witnesses;

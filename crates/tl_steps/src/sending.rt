@@ -3,7 +3,7 @@
 ghost use Rattle.std.specs.Global.{Global as GlobalValue};
 ghost use Rattle.std.specs.Prelude.{◌≡◌, ◌<◌, IfSome, length};
 ghost use Rattle.tl_sequencer.specs.Log.{IsSenderOf, Log};
-ghost use Rattle.tl_steps.specs.Kept.{AreSenders};
+ghost use Rattle.tl_steps.specs.Inner.Kept.{AreSenders};
 
 use crate::words::{Answer, bytes_of, either, fixed};
 use std::alloc::{AllocError, Global};
