@@ -4,7 +4,7 @@ ghost use Rattle.tl_publisher.specs.Operating.{IsOperating};
 ghost use Rattle.tl_steps.specs.Inner.Kept.{AreSenders, IsKept};
 
 use crate::sending::{Sender, taken_out};
-use crate::words::{Answer, fixed, shown};
+use crate::words::{Answer, fixed, shown, text_of};
 use std::alloc::Global;
 use std::sync::Wait;
 use tl_note::Verifier;
@@ -37,17 +37,18 @@ pub(crate) fn propose<R: Wait + Drop>(alloc: Global, operator: &mut Operator<R>)
     }
 }
 
-/// Attaches lines of witnesses: the size that is published.
+/// Attaches the lines of witnesses that a word gives: the size that is published.
 pub(crate) fn attach<R: Wait + Drop>(
     alloc: Global,
     operator: &mut Operator<R>,
-    lines: &str,
+    word: &str,
 ) -> Answer
     requires { IsOperating (⟦<Operator<R> as RunningLog>⟧.state operator.old) }
     ensures { IsKept (⟦<Operator<R> as RunningLog>⟧.state operator.old)
         (⟦<Operator<R> as RunningLog>⟧.state operator.new) }
 {
-    match operator.attach(lines) {
+    let lines = text_of(alloc, word)?;
+    match operator.attach(lines.as_str()) {
         Ok(published) => shown(alloc, published.size()),
         Err(fault) => shown(alloc, fault),
     }

@@ -7,7 +7,7 @@ use crate::calls::{Witnesses, attach, end, propose, publish, require};
 use crate::closed::{closed_steps, gone_steps};
 use crate::looks::see;
 use crate::sending::{Sender, send};
-use crate::words::{Answer, either, fixed, number_of, shown, small_of, tell, text_of, words_of};
+use crate::words::{Answer, either, fixed, number_of, shown, small_of, tell, words_of};
 use std::alloc::{AllocError, Global};
 use std::sync::Wait;
 use tl_publisher::{BoardReader, Operator, RunningLog};
@@ -22,7 +22,7 @@ fn note_step<R: Wait + Drop>(alloc: Global, operator: &mut Operator<R>, words: &
         ["publish"] => publish(alloc, operator),
         ["propose"] => propose(alloc, operator),
         ["attach"] => attach(alloc, operator, ""),
-        ["attach", lines] => attach(alloc, operator, text_of(alloc, lines)?.as_str()),
+        ["attach", word] => attach(alloc, operator, word),
         _ => fixed(alloc, "no such step"),
     }
 }
