@@ -1,104 +1,101 @@
-//! Commands over a reader or a writer that fails at each call, and a system without random bytes.
+//! Commands over a reader or a writer that fails at each call, and with each growth refused in turn; a system without
+//! random bytes.
 
-use crate::runs::{ORIGIN, Run, outcome_of, runs};
+use crate::runs::{Came, KEY, ORIGIN, ROOM, RUNS, Run, came_of};
 use std::alloc::Global;
 use std::io::{self, Error, ErrorKind};
-use std::process::Abort;
 use std::random::RandomSource;
-use std::test::Fail;
 use std::thread::Threads;
-use tl_command::{RunFault, read_entries, run_keygen};
+use tl_command::{
+    HmacLogSigner, RunFault, fault_line, read_entries, run_build, run_head, run_keygen,
+};
 use tl_device::Counted;
 use tl_key::Note;
-use tl_testing::{FailingReader, FailingWriter};
+use tl_testing::Refusing;
 
-// The outcome of a run over a reader that gives one byte a call and fails at a call, whether the reader had failed,
-// and how much was written.
-fn run_from<H: Threads + Sync>(
-    rt: &H,
-    alloc: Global,
-    run: Run,
-    fails_at: u64,
-    kind: ErrorKind,
-) -> (Result<(), RunFault>, bool, usize) {
-    let mut reader = Counted::new(FailingReader::new(run.input, 1, fails_at, kind));
-    let mut writer = Counted::new(Vec::new(alloc));
-    let ended = outcome_of(rt, alloc, alloc, run.asked, &mut reader, &mut writer);
-    let failed = reader.failed();
-    let text: Vec<u8> = writer.into_inner();
-    (ended, failed, text.len())
+// More requests for memory than any of the runs makes.
+const MOST: u64 = 1000;
+
+// Whether a run came to what it is to come to, with all that it is to write.
+fn is_whole(came: Came, run: &Run, out: &[u8]) -> bool {
+    came == (run.3, (false, false), run.2.len()) && out.starts_with(run.2)
 }
 
-// Checks a run with each read failing in turn, the one that finds the end too, and with none that fails.
-fn tells_failed_reads(rt: &(impl Abort + AllocGlobal + Threads + Sync), run: Run, kind: ErrorKind) {
-    let asked = run.asked;
-    let after = run.input.len() as u64 + 2;
-    for fails_at in 1..after {
-        let (ended, failed, written) = run_from(rt, rt.alloc(), run, fails_at, kind);
-        assert!(rt;
-            ended == Err(RunFault::Read),
-            "{asked:?} at read {fails_at}"
-        );
-        assert!(rt; failed);
-        assert!(rt; written == 0);
+// Whether each read that fails is told, the one that finds the end too, and nothing is written then.
+fn tells_failed_reads<H: Threads + Sync>(rt: &H, alloc: Global, run: &Run) -> bool {
+    let mut out = [0u8; ROOM];
+    let writer = (ROOM, 0, false);
+    let after = run.1.len() as u64 + 2;
+    for kind in [ErrorKind::Interrupted, ErrorKind::Other] {
+        for read in 1..after {
+            let devices = ((1, read, kind), writer);
+            let came = came_of(rt, alloc, alloc, run, devices, &mut out);
+            if came != (Err(RunFault::Read), (true, false), 0) {
+                return false;
+            }
+        }
+        let devices = ((1, after, kind), writer);
+        let came = came_of(rt, alloc, alloc, run, devices, &mut out);
+        if !is_whole(came, run, &out) {
+            return false;
+        }
     }
-    let (ended, failed, written) = run_from(rt, rt.alloc(), run, after, kind);
-    assert!(rt; ended == run.ended, "{asked:?}");
-    assert!(rt; !failed);
-    assert!(rt; written == run.want.len());
+    true
 }
 
-// The outcome of a run over a writer into these bytes, so many a call, that fails at a call, and whether the writer
-// had failed.
-fn run_into<H: Threads + Sync>(
-    rt: &H,
-    alloc: Global,
-    run: Run,
-    bytes: &mut [u8],
-    step: usize,
-    fails_at: u64,
-    takes_none: bool,
-) -> (Result<(), RunFault>, bool) {
-    let mut reader = Counted::new(run.input);
-    let mut writer = Counted::new(FailingWriter::new(bytes, step, fails_at, takes_none));
-    let ended = outcome_of(rt, alloc, alloc, run.asked, &mut reader, &mut writer);
-    (ended, writer.failed())
-}
-
-// Checks a run over a writer that takes one byte a call, with each write failing in turn.
-fn tells_failed_writes(
-    rt: &(impl Abort + AllocGlobal + Threads + Sync),
-    run: Run,
-    takes_none: bool,
-) {
-    let asked = run.asked;
-    for number in 0..run.want.len() {
-        let mut bytes = [0u8; 300];
-        let fails_at = number as u64 + 1;
-        let (ended, failed) = run_into(rt, rt.alloc(), run, &mut bytes, 1, fails_at, takes_none);
-        assert!(rt;
-            ended == Err(RunFault::Write),
-            "{asked:?} at write {fails_at}"
-        );
-        assert!(rt; failed);
-        assert!(rt; bytes.as_slice().starts_with(&run.want[..number]));
-        assert!(rt; bytes.iter().skip(number).all(|byte| *byte == 0));
+// Whether each write that fails is told, of one byte each, and only what comes before it is written then.
+fn tells_failed_writes<H: Threads + Sync>(rt: &H, alloc: Global, run: &Run) -> bool {
+    let mut out = [0u8; ROOM];
+    let reader = (ROOM, 0, ErrorKind::Other);
+    for takes_none in [false, true] {
+        for number in 0..run.2.len() {
+            let devices = (reader, (1, number as u64 + 1, takes_none));
+            let came = came_of(rt, alloc, alloc, run, devices, &mut out);
+            if came != (Err(RunFault::Write), (false, true), number)
+                || out.get(..number) != run.2.get(..number)
+            {
+                return false;
+            }
+        }
     }
+    let came = came_of(rt, alloc, alloc, run, (reader, (7, 0, false)), &mut out);
+    is_whole(came, run, &out)
+}
+
+// The turn in which no growth of a run was refused, where each one that was is `OutOfMemory` with nothing written, and
+// the run after it is as it is to be.
+fn served_turn<H: Threads + Sync>(rt: &H, alloc: Global, run: &Run) -> Option<u64> {
+    let mut out = [0u8; ROOM];
+    let devices = ((ROOM, 0, ErrorKind::Other), (ROOM, 0, false));
+    for turn in 1..MOST {
+        let heap = Refusing::in_turn(alloc, turn);
+        let came = came_of(rt, &heap, alloc, run, devices, &mut out);
+        if !heap.refused() {
+            return if is_whole(came, run, &out) {
+                Some(turn)
+            } else {
+                None
+            };
+        }
+        heap.lift();
+        let again = came_of(rt, &heap, alloc, run, devices, &mut out);
+        if came != (Err(RunFault::OutOfMemory), (false, false), 0) || !is_whole(again, run, &out) {
+            return None;
+        }
+    }
+    None
 }
 
 #[test]
-fn failed_reads_and_writes_are_told(rt: HostRuntime) {
-    for run in runs() {
-        tells_failed_reads(&rt, run, ErrorKind::Interrupted);
-        tells_failed_reads(&rt, run, ErrorKind::Other);
-        tells_failed_writes(&rt, run, false);
-        tells_failed_writes(&rt, run, true);
-        let mut bytes = [0u8; 300];
-        let (ended, failed) = run_into(&rt, rt.alloc(), run, &mut bytes, 7, 0, false);
-        assert!(rt; ended == run.ended);
-        assert!(rt; !failed);
-        assert!(rt; bytes.as_slice().starts_with(run.want));
+fn each_read_write_and_growth_fails_in_turn(rt: HostRuntime) {
+    let alloc = rt.alloc();
+    for number in 0..RUNS.len() {
+        let run = RUNS[number];
+        assert!(rt; tells_failed_reads(&rt, alloc, &run), "run {number}");
+        assert!(rt; tells_failed_writes(&rt, alloc, &run), "run {number}");
+        assert!(rt; served_turn(&rt, alloc, &run) > Some(6), "run {number}");
     }
+    assert!(rt; served_turn(&rt, alloc, &KEY) > Some(4));
 }
 
 // A system that gives no random bytes.
@@ -111,23 +108,65 @@ impl RandomSource for NoBytes {
     }
 }
 
-#[test]
-fn no_random_bytes_and_more_bytes_than_are_read(rt: HostRuntime) -> Result<(), Fail> {
-    let alloc = rt.alloc();
+// Whether `keygen` without random bytes is a read that failed, with nothing written.
+fn is_key_refused(alloc: Global) -> bool {
     let mut writer = Counted::new(Vec::new(alloc));
     let mut errors = Counted::new(Vec::new(alloc));
-    let outcome = run_keygen::<Note, NoBytes, Vec<u8>, Vec<u8>>(
+    let ended = run_keygen::<Note, NoBytes, Vec<u8>, Vec<u8>>(
         &NoBytes,
         alloc,
         ORIGIN,
         &mut writer,
         &mut errors,
     );
-    assert!(rt; outcome == Err(RunFault::Read));
-    assert!(rt; errors.into_inner().is_empty() && writer.into_inner().is_empty());
+    ended == Err(RunFault::Read) && errors.into_inner().is_empty() && writer.into_inner().is_empty()
+}
+
+// Whether an input of more bytes than are read is too large, which is no read that failed.
+fn is_too_large(alloc: Global) -> bool {
     let mut reader = Counted::new(b"abc".as_slice());
     let entries = read_entries(alloc, &mut reader, 2);
-    assert!(rt; entries.err() == Some(RunFault::TooLarge));
-    assert!(rt; !reader.failed());
-    Ok(())
+    entries.err() == Some(RunFault::TooLarge) && !reader.failed()
+}
+
+// Whether a fault of these words of `build`, or of an origin with the byte 0, is told without memory.
+fn needs_no_memory<H: Threads + Sync>(rt: &H, alloc: Global) -> bool {
+    let heap = Refusing::since(alloc, 1);
+    let mut reader = Counted::new(b"a\nb\n".as_slice());
+    let mut writer = Counted::new(Vec::new(alloc));
+    for (origin, get, want) in [
+        ("a b", "checkpoint", RunFault::BadOrigin),
+        (ORIGIN, "tile/0/67", RunFault::BadPath),
+    ] {
+        let key = HmacLogSigner::new(origin, b"s");
+        if run_build(&heap, alloc, &key, Some(get), &mut reader, &mut writer) != Err(want) {
+            return false;
+        }
+    }
+    let ended = run_head(rt, &heap, alloc, 2, "a\0", &mut reader, &mut writer);
+    ended == Err(RunFault::BadOrigin) && !heap.refused() && writer.into_inner().is_empty()
+}
+
+// Whether the line of a fault needs memory.
+fn line_needs_memory(alloc: Global, fault: RunFault) -> bool {
+    let heap = Refusing::since(alloc, 1);
+    let is_refused = fault_line(&heap, &fault).is_err() && heap.refused();
+    is_refused && matches!(fault_line(alloc, &fault), Ok(Some(_)))
+}
+
+#[test]
+fn no_random_bytes_and_faults_that_need_no_memory(rt: HostRuntime) {
+    let alloc = rt.alloc();
+    assert!(rt; is_key_refused(alloc));
+    assert!(rt; is_too_large(alloc));
+    assert!(rt; needs_no_memory(&rt, alloc));
+    assert!(rt; !line_needs_memory(alloc, RunFault::Refused));
+    for fault in [
+        RunFault::EntryTooLong(7),
+        RunFault::Chain(12),
+        RunFault::Read,
+        RunFault::Accept,
+    ] {
+        assert!(rt; line_needs_memory(alloc, fault));
+    }
 }

@@ -48,15 +48,8 @@ impl Calls {
 /// Files whose calls may fail. A file is synced at once: what the system keeps of it is what the process wrote.
 #[derive(Drop)]
 pub struct FailingFiles<'a, H> {
-    files: &'a H,
-    calls: &'a Calls,
-}
-
-impl<'a, H> FailingFiles<'a, H> {
-    /// These files, whose calls are counted and may fail.
-    pub fn new(files: &'a H, calls: &'a Calls) -> FailingFiles<'a, H> {
-        FailingFiles { files, calls }
-    }
+    pub files: &'a H,
+    pub calls: &'a Calls,
 }
 
 /// An open file whose calls may fail.

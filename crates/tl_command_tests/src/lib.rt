@@ -13,14 +13,10 @@ mod gates;
 #[cfg(test)]
 mod keys;
 #[cfg(test)]
-mod options;
+mod logs;
 #[cfg(test)]
-mod refusals;
+mod options;
 #[cfg(test)]
 mod responses;
 #[cfg(test)]
-mod room;
-#[cfg(test)]
 mod runs;
-#[cfg(test)]
-mod served;

@@ -1,0 +1,133 @@
+//! Logs in folders that are appended to or served, by a file system of which calls fail.
+
+use crate::failing::{Calls, FailingFiles};
+use crate::options::serve_options;
+use crate::runs::ORIGIN;
+use std::alloc::{AllocError, Global};
+use std::fs::{File, Files, create_dir};
+use std::io::Read;
+use std::net::{Net, TcpListener, TcpStream};
+use std::str;
+use tl_command::{HmacLogSigner, RunFault, run_build};
+use tl_device::Counted;
+use tl_folder::{AnyOutcome, FolderShelf};
+use tl_serve::{AppendOptions, Host, LogKey, run_append, run_serve_shelf};
+
+/// A new folder.
+pub fn room<H: Files>(rt: &H, alloc: Global) -> Option<String> {
+    for number in 0..100_000u32 {
+        let Ok(path) = format!(in alloc; "/tmp/tlog-cut-{number}") else {
+            return None;
+        };
+        if create_dir(rt, path.as_str()).is_ok() {
+            return Some(path);
+        }
+    }
+    None
+}
+
+/// So many lines, from this number on.
+pub fn lines(alloc: Global, from: u64, to: u64) -> Result<Vec<u8>, AllocError> {
+    let mut text = String::new(alloc);
+    for number in from..to {
+        let line = format!(in alloc; "entry {number}\n")?;
+        text.push_str(line.as_str())?;
+    }
+    Ok(text.into_bytes())
+}
+
+// Serves the log in a folder whose calls may fail, with these lines more.
+fn serve<
+    H: Host
+        + Files<File: Send + Sync, Dir: Send + Sync>
+        + Net<Listener = TcpListener, Stream = TcpStream>,
+>(rt: &H, alloc: Global, dir: &str, input: &[u8], calls: &Calls) -> Result<(), RunFault> {
+    let options = serve_options(alloc, Some(String::from_str(alloc, dir)?))?;
+    let files = FailingFiles { files: rt, calls };
+    let Ok(shelf) = FolderShelf::open(AnyOutcome, files, alloc, dir) else {
+        return Err(RunFault::Write);
+    };
+    let Ok(own) = FolderShelf::open(AnyOutcome, *rt, alloc, dir) else {
+        return Err(RunFault::Read);
+    };
+    let mut shown = Vec::new(alloc);
+    shown.push(own)?;
+    let mut reader = Counted::new(input);
+    let mut log = Counted::new(Vec::new(alloc));
+    run_serve_shelf(rt, alloc, &options, shelf, shown, &mut reader, &mut log)
+}
+
+/// Appends these lines to the log in a folder whose calls may fail, in batches of so many, or serves it with them where
+/// that is 0. What is printed goes to `printed`.
+pub fn go_on<
+    H: Host
+        + Files<File: Send + Sync, Dir: Send + Sync>
+        + Net<Listener = TcpListener, Stream = TcpStream>,
+>(
+    rt: &H,
+    alloc: Global,
+    dir: &str,
+    batch: u64,
+    input: &[u8],
+    calls: &Calls,
+    printed: &mut Counted<Vec<u8>>,
+) -> Result<(), RunFault> {
+    if batch == 0 {
+        return serve(rt, alloc, dir, input, calls);
+    }
+    let options = AppendOptions {
+        dir: String::from_str(alloc, dir)?,
+        origin: String::from_str(alloc, ORIGIN)?,
+        key: LogKey::Secret(String::from_str(alloc, "s")?),
+        batch: Some(batch),
+        is_new: false,
+    };
+    let files = FailingFiles { files: rt, calls };
+    let Ok(shelf) = FolderShelf::open(AnyOutcome, files, alloc, dir) else {
+        return Err(RunFault::Write);
+    };
+    let mut reader = Counted::new(input);
+    run_append(rt, alloc, &options, shelf, &mut reader, printed)
+}
+
+// The bytes of a file under a folder.
+fn file<H: Files>(rt: &H, alloc: Global, dir: &str, path: &str) -> Option<Vec<u8>> {
+    let path = format!(in alloc; "{dir}/{path}").ok()?;
+    let mut file = File::open(rt, path.as_str()).ok()?;
+    let mut bytes = Vec::new(alloc);
+    file.read_to_end(&mut bytes).ok()?;
+    Some(bytes)
+}
+
+/// What a log of these lines is listed with: a path and a length a line.
+pub fn listing(alloc: Global, input: &[u8]) -> Result<Vec<u8>, RunFault> {
+    let key = HmacLogSigner::new(ORIGIN, b"s");
+    let mut reader = Counted::new(input);
+    let mut writer = Counted::new(Vec::new(alloc));
+    run_build(alloc, alloc, &key, None, &mut reader, &mut writer)?;
+    Ok(writer.into_inner())
+}
+
+/// Whether two folders have each file of a listing, with the same bytes.
+pub fn are_alike<H: Files>(rt: &H, alloc: Global, one: &str, other: &str, listing: &[u8]) -> bool {
+    let Ok(listing) = str::from_utf8(listing) else {
+        return false;
+    };
+    for line in listing.lines() {
+        let Some((path, _length)) = line.split_once(' ') else {
+            return false;
+        };
+        let bytes = file(rt, alloc, one, path);
+        if bytes.is_none() || bytes != file(rt, alloc, other, path) {
+            return false;
+        }
+    }
+    true
+}
+
+/// How many entries the checkpoint in a folder has; none where there is none.
+pub fn size_in<H: Files>(rt: &H, alloc: Global, dir: &str) -> Option<u64> {
+    let bytes = file(rt, alloc, dir, "checkpoint")?;
+    let text = str::from_utf8(bytes.as_slice()).ok()?;
+    text.lines().nth(1)?.parse::<u64>().ok()
+}
