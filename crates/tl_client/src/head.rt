@@ -77,8 +77,11 @@ pub fn open_cosigned<A: Allocator + Copy>(
     witnesses: &[Box<dyn Verifier>],
     need: u64,
 ) -> Result<Checkpoint<A>, HeadFault>
-    ensures { OpensHead note.now (record { keys = map (λ v. key v) verifiers.now; witnesses = map
-        (λ w. key w) witnesses.now; need = need; }) result }
+    ensures { OpensHead note.now (record {
+      keys = map (λ v. key v) verifiers.now;
+      witnesses = map (λ w. key w) witnesses.now;
+      need = need;
+    }) result }
 {
     if !have_distinct_names(witnesses) {
         return Err(HeadFault::Twice);

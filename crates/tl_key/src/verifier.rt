@@ -124,7 +124,7 @@ struct Found<'t> {
 // Reads the text of a verifier's key of this type. No memory is asked for.
 fn find(kind: u8, text: &str) -> Option<Found<'_>>
     ensures { MatchOption result (IsNoVerifierText kind text.now) (λ found. IsVerifierText
-        kind text.now (record { name = found.name.now; kind = kind; key = found.key; })
+        kind text.now (record { name = found.name.now; kind = kind; key = found.key })
         × (found.id ≡ key_id found.name.now kind found.key)) }
 {
     let Some(parts) = read_parts(text) else {

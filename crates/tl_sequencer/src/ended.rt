@@ -33,7 +33,7 @@ impl<E: Allocator, A: Allocator> Model for Ended<E, A> {
 impl<E: Allocator, A: Allocator> Ended<E, A> {
     pub(crate) fn new(entries: Finished<Vec<u8, E>, A, ShortEntries>, lane: u32) -> Ended<E, A>
         ensures { result ≡ record
-            { ring = ring_of entries.end; lane = lane; sent = map vec_items (all_sent entries); } }
+            { ring = ring_of entries.end; lane = lane; sent = map vec_items (all_sent entries) } }
     {
         Ended { entries, lane }
     }

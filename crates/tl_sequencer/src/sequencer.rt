@@ -63,8 +63,13 @@ impl<E: Allocator, A: Allocator> Sequencer<E, A> {
         requires short { All IsShort (map vec_items base.items) }
         requires lanes { All (λ l. (l.given ≡ []) × (l.sent ≡ None)) lanes.items }
         requires places { map vec_items places.items ≡ replicate (vec_len lanes) [] }
-        ensures { result ≡ record { base = map
-            vec_items base.items; taken = []; who = []; limit = limit; lanes = lanes.items; } }
+        ensures { result ≡ record {
+          base = map vec_items base.items;
+          taken = [];
+          who = [];
+          limit = limit;
+          lanes = lanes.items;
+        } }
     {
         Sequencer {
             base,

@@ -55,8 +55,13 @@ impl<E: Allocator, A: Allocator> Submitter<E, A> {
         limit: u64,
     ) -> Submitter<E, A>
         requires { sent entries ≡ [] }
-        ensures { result ≡ record { ring = ring_of
-            entries.end; lane = lane; sent = []; limit = limit; room = known_free entries; } }
+        ensures { result ≡ record {
+          ring = ring_of entries.end;
+          lane = lane;
+          sent = [];
+          limit = limit;
+          room = known_free entries;
+        } }
     {
         Submitter {
             entries,

@@ -81,7 +81,7 @@ pub(crate) fn send<W: Write>(
     body: &[u8],
 ) -> Result<Option<u16>, ServeFault>
     ensures { Sends
-        (record { status = status; allow = allow.now; kind = kind.now; body = body.now; })
+        (record { status = status; allow = allow.now; kind = kind.now; body = body.now })
         (passage W.contents writer.old writer.new) result }
 {
     let mut status_digits = Buffer::new();

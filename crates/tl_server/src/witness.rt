@@ -19,8 +19,12 @@ pub trait Witness<A: Allocator>: Shown {
     /// "add-checkpoint"). It may wait.
     fn reply<R: Wait, S: Saver>(&self, rt: &R, body: &[u8], time: u64, saver: &mut S) -> Reply<A>
         ensures { AnswersShared digest (Self.shown self.now) body.now time
-            (record { status = result.status; body = result.body.items; saved = S.saved
-            saver.old; saved_after = S.saved saver.new; }) };
+            (record {
+              status = result.status;
+              body = result.body.items;
+              saved = S.saved saver.old;
+              saved_after = S.saved saver.new;
+            }) };
 }
 
 impl<T: TreeHash, A: Allocator + Copy> Witness<A> for SharedWitness<T, A> {

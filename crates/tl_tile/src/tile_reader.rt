@@ -99,8 +99,9 @@ impl<T: TreeHash, S: TileSource, A: Allocator + Copy> TileHashReader<T, S, A> {
         fetched: &mut FetchedTiles<A>,
     ) -> Result<Vec<Hash, B>, ReadFault>
         ensures authentic { IfOk result
-            (λ hashes. AreAuthentic T.digest_of (record { size = self.now.size; root
-            = self.now.root; indexes = indexes.now; fetched = fetched.new; }) hashes.items) }
+            (λ hashes. AreAuthentic T.digest_of
+            (record { size = self.now.size; root = self.now.root; indexes = indexes.now; fetched = fetched.new })
+            hashes.items) }
         ensures verified { OnOk result (0 < length indexes.now
             → AreVerified T.digest_of self.now.size self.now.root fetched.new) }
         ensures count { IfOk result (λ hashes. length hashes.items ≡ length indexes.now) }
@@ -109,8 +110,8 @@ impl<T: TreeHash, S: TileSource, A: Allocator + Copy> TileHashReader<T, S, A> {
         ensures needed { All (λ f. IsNeededFor self.now.size indexes.now f.0) fetched.new }
         ensures order { AreInOrder T.digest_of self.now.size self.now.root fetched.new }
         ensures faults { IfErr result
-            (GivesNumbersFault T.digest_of (S.may_lack self.now.source) (record { size =
-            self.now.size; root = self.now.root; indexes = indexes.now; fetched = fetched.new; })) }
+            (GivesNumbersFault T.digest_of (S.may_lack self.now.source)
+            (record { size = self.now.size; root = self.now.root; indexes = indexes.now; fetched = fetched.new })) }
     {
         fetched.clear();
         if !are_below(indexes, count_of(self.checker.size)) {

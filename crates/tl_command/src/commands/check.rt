@@ -104,7 +104,7 @@ fn finding_in<A: Allocator + Copy>(alloc: A, text: &[u8]) -> Result<Finding, Run
 // Whether a proof is accepted, leads to the tree of this size and root, and shows the entry, if one is asked for.
 fn is_about(finding: &Finding, size: u64, root: Hash, entry: Option<&[u8]>) -> bool
     ensures { IsTrue result ↔ IsFindingAbout (record
-        { size = size; root = root; entry = option_map (λ e. e.now) entry.entry; }) finding.now }
+        { size = size; root = root; entry = option_map (λ e. e.now) entry.entry }) finding.now }
 {
     if !finding.accepted || finding.size != size || finding.root != root {
         return false;
@@ -157,7 +157,7 @@ pub fn run_check_about<A: Allocator + Copy, R: Read, W: Write>(
     writer: &mut Counted<W>,
 ) -> Result<(), RunFault>
     ensures { Runs (CheckAboutComes
-        (record { size = size; root = root; entry = option_map (λ e. e.now) entry.entry; }))
+        (record { size = size; root = root; entry = option_map (λ e. e.now) entry.entry }))
         (passage R.remaining reader.old reader.new)
         (passage W.contents writer.old writer.new) result }
 {

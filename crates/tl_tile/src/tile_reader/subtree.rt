@@ -123,8 +123,9 @@ impl<T: TreeHash, S: TileSource> Checker<T, S> {
         requires within { All (λ index. index < stored.stored_count self.now.size) indexes.now }
         requires none { fetched.old ≡ [] }
         ensures authentic { IfOk result
-            (λ hashes. AreAuthentic T.digest_of (record { size = self.now.size; root
-            = self.now.root; indexes = indexes.now; fetched = fetched.new; }) hashes.items) }
+            (λ hashes. AreAuthentic T.digest_of
+            (record { size = self.now.size; root = self.now.root; indexes = indexes.now; fetched = fetched.new })
+            hashes.items) }
         ensures count { IfOk result (λ hashes. length hashes.items ≡ length indexes.now) }
         ensures verified { OnOk result
             (AreVerified T.digest_of self.now.size self.now.root fetched.new) }
