@@ -12,7 +12,8 @@ use Rattle.tl_proof.specs.Inner.Laws.{LinksExtendOrCollide}
 use Rattle.tl_witness.specs.Answers.{Answers}
 use Rattle.tl_witness.specs.Book.{BookOutcome, DecidesBody, IsLawful, IsPlacedIn, asked_of}
 use Rattle.tl_witness.specs.Chain.{TreeHead, head_after, first_head, last_head, IsLinked}
-use Rattle.tl_witness.specs.Cosigned.{CosignedExtendOrCollide, IsCosigned, origins_of}
+use Rattle.tl_witness.specs.Cosigned.{IsCosigned, origins_of}
+use Rattle.tl_witness.specs.Inner.Laws.{CosignedExtendOrCollide}
 use Rattle.tl_witness.specs.Decide.{Asked, Outcome, Decides, Settles}
 use Rattle.tl_witness.specs.Open.{HasTwice, IsAmong}
 use Rattle.tl_witness.specs.Runs.{IsBookRun, IsLater, IsLaterBook}

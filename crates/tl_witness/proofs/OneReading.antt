@@ -7,7 +7,7 @@ use Rattle.tl_text.specs.Text.{base64_text}
 use Rattle.tl_text.proofs.PlainText.{base64_once}
 use Rattle.tl_witness.specs.ChainLine.{ChainLine, IsChainLine, IsChainText, chain_line, chain_text}
 use Rattle.tl_witness.specs.ChainFields.{chain_words}
-use Rattle.tl_witness.specs.OneReading.{SavedLinksAreOne}
+use Rattle.tl_witness.specs.Inner.Laws.{SavedLinksAreOne}
 use Rattle.tl_witness.proofs.FieldTexts.{one_end}
 use Rattle.tl_witness.proofs.FieldLaws.{hash_without}
 use Rattle.tl_witness.proofs.HashFields.{hashes_once}

@@ -11,7 +11,8 @@ use Rattle.tl_witness.specs.Answers.{Answers}
 use Rattle.tl_witness.specs.Decide.{Asked, Outcome, Refuses, Decides, Settles, KeepsStep}
 use Rattle.tl_witness.specs.Book.{BookOutcome, DecidesBody, IsLawful, IsSigned, Signed, asked_of}
 use Rattle.tl_witness.specs.Request.{Body, IsRequest}
-use Rattle.tl_witness.specs.Runs.{IsLaterChain, IsRun, ChainsOnlyGrow, IsBookRun, IsLater, IsLaterBook, BooksOnlyGrow, ChainsAreLinkedFromEachStep}
+use Rattle.tl_witness.specs.Inner.Laws.{BooksOnlyGrow, ChainsAreLinkedFromEachStep, ChainsOnlyGrow}
+use Rattle.tl_witness.specs.Runs.{IsLaterChain, IsRun, IsBookRun, IsLater, IsLaterBook}
 use Rattle.tl_witness.proofs.ChainLaws.{linked-none, linked-one, linked-after, chain-snoc}
 
 -- an outcome leaves the origin as it was, or with one step more that follows its last head

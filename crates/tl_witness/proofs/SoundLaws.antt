@@ -5,7 +5,8 @@ use Rattle.std.proofs.lemmas.List.Elements.{All-head, All-tail, All-nil, All-con
 use Rattle.tl_hash.specs.Bytes.{Digest}
 use Rattle.tl_witness.specs.Book.{IsLawful}
 use Rattle.tl_witness.specs.Chain.{IsChain}
-use Rattle.tl_witness.specs.Cosigned.{OpenedBooksAreSound, origins_of}
+use Rattle.tl_witness.specs.Cosigned.{origins_of}
+use Rattle.tl_witness.specs.Inner.Laws.{OpenedBooksAreSound}
 use Rattle.tl_witness.specs.Open.{HasTwice, IsAmong, IsKept, SavedChain, saved_chain, Trusted, chain_origins, trusted_origins}
 use Rattle.tl_witness.specs.Witnessed.{Witnessed}
 use Rattle.tl_witness.proofs.ChainLaws.{chain-none}

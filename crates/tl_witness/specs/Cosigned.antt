@@ -1,14 +1,12 @@
 -- What cosigned checkpoints of one origin say of each other. H is the digest function.
-use Rattle.std.specs.Prelude.{◌≡◌, ℕ, ◌⊎◌, List, ◌∷◌, ◌++◌, length, map}
+use Rattle.std.specs.Prelude.{◌≡◌, ℕ, List, ◌∷◌, ◌++◌, length, map}
 use Rattle.tl_hash.specs.Bytes.{Bytes, Digest}
 use Rattle.tl_hash.specs.Tree.{tree_hash}
 use Rattle.tl_checkpoint.specs.Checkpoint.{Head}
-use Rattle.tl_proof.specs.Laws.{HasHashLength}
-use Rattle.tl_proof.specs.Collisions.{IsPrefix, Exhibits, audit_inputs}
 use Rattle.tl_proof.specs.Acceptance.{Step}
 use Rattle.tl_witness.specs.Answers.{Answers}
 use Rattle.tl_witness.specs.Book.{BookOutcome, IsLawful, IsPlacedIn, IsSigned, Signed}
-use Rattle.tl_witness.specs.Open.{HasTwice, SavedChain, Trusted, OpensBook}
+use Rattle.tl_witness.specs.Open.{HasTwice}
 use Rattle.tl_witness.specs.Request.{Body, IsRequest}
 use Rattle.tl_witness.specs.Runs.{IsBookRun}
 use Rattle.tl_witness.specs.Witnessed.{Witnessed}
@@ -21,11 +19,6 @@ origins_of book = map (λ one. one.origin) book
 pub record IsSound (H : Digest) (book : List Witnessed) : Type 0 where
   pub lawful : IsLawful H book
   pub once : ¬ (HasTwice (origins_of book))
-
--- every book that is opened is sound
-abbrev pub OpenedBooksAreSound : Type 0
-OpenedBooksAreSound =
-    (H : Digest) (trusts : List Trusted) (chains : List SavedChain) (book : List Witnessed) → OpensBook H trusts chains book → IsSound H book
 
 -- a request with this checkpoint was answered with 200
 pub record IsCosigned (H : Digest) (checkpoint : Head) (out : BookOutcome) : Type 0 where
@@ -65,13 +58,3 @@ pub record CosignsTwice (H : Digest) (first second : BookOutcome) (earlier later
   pub first_is : IsCosigned H earlier first
   pub second_is : IsCosigned H later second
   pub same_origin : earlier.origin ≡ later.origin
-
--- of two such checkpoints each list of the earlier one is a prefix of each list of the later one, or two of the
--- byte strings that are hashed for an audit over the links between have one digest
-abbrev pub CosignedExtendOrCollide : Type 0
-CosignedExtendOrCollide =
-    (H : Digest) → ((message : Bytes) → HasHashLength (H message))
-    → (first second : BookOutcome) (earlier later : Head) → CosignsTwice H first second earlier later
-    → (old new : List Bytes) → IsHeadOf H old earlier → IsHeadOf H new later
-    → (links : List Step) × GrewBy first.book_after second.book_after earlier.origin links
-    × (IsPrefix old new ⊎ ((x : Bytes) × (y : Bytes) × Exhibits H x y (audit_inputs H old new links)))

@@ -11,3 +11,5 @@ pub
     mod ReadSigned
 pub
     mod Outcome
+pub
+    mod Laws

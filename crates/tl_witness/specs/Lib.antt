@@ -18,5 +18,4 @@ pub mod Opening
 pub mod ChainFields
 pub mod ByOrigin
 pub mod ReadChain
-pub mod OneReading
 pub mod Inner

@@ -1,13 +1,13 @@
 -- Runs of a witness: any list of requests, with any faults. H is the digest function.
-use Rattle.std.specs.Prelude.{◌≡◌, ℕ, ◌+◌, ◌⊎◌, List, [], ◌∷◌, ◌++◌, Some, slice_get, drop}
+use Rattle.std.specs.Prelude.{◌≡◌, ℕ, ◌⊎◌, List, [], ◌∷◌, ◌++◌}
 use Rattle.tl_hash.specs.Bytes.{Bytes, Digest}
-use Rattle.tl_proof.specs.Acceptance.{Step, Linked}
+use Rattle.tl_proof.specs.Acceptance.{Step}
 use Rattle.tl_proof.specs.Laws.{MadeOfHashes}
 use Rattle.tl_witness.specs.Chain.{first_head, last_head, IsLinked, IsChain}
 use Rattle.tl_witness.specs.Witnessed.{Witnessed}
 use Rattle.tl_witness.specs.Decide.{Asked, Outcome, Refuses, Decides}
 use Rattle.tl_witness.specs.Answers.{Answers}
-use Rattle.tl_witness.specs.Book.{BookOutcome, IsLawful}
+use Rattle.tl_witness.specs.Book.{BookOutcome}
 
 -- a chain that grew from a chain: what came after is linked from where the first led
 abbrev pub IsLaterChain : Digest → List Step → List Step → Type 0
@@ -24,13 +24,7 @@ IsRun H one (out ∷ outs) last =
     × ((asked : Asked) × MadeOfHashes asked.step × (Decides H asked out ⊎ Refuses out 500))
     × IsRun H out.one_after outs last
 
--- a chain stays a chain and begins with what it was, and the steps between lead from the one to the other
-abbrev pub ChainsOnlyGrow : Type 0
-ChainsOnlyGrow =
-    (H : Digest) (one last : Witnessed) (outs : List Outcome)
-    → IsChain H one.chain → IsRun H one outs last → IsLaterChain H one.chain last.chain
-
--- the same of a whole book
+-- what came of one request after another to a whole book
 abbrev pub IsBookRun : Digest → List Witnessed → List BookOutcome → List Witnessed → Type 0
 IsBookRun H book [] last = last ≡ book
 IsBookRun H book (out ∷ outs) last =
@@ -49,16 +43,3 @@ pub record IsLater (H : Digest) (one later : Witnessed) : Type 0 where
 abbrev pub IsLaterBook : Digest → List Witnessed → List Witnessed → Type 0
 IsLaterBook H [] later = later ≡ []
 IsLaterBook H (one ∷ book) later = (after : Witnessed) × (rest : List Witnessed) × (later ≡ after ∷ rest) × IsLater H one after × IsLaterBook H book rest
-
--- over a whole run each origin keeps its place, its verifiers and its cosigner, and its chain only grows
-abbrev pub BooksOnlyGrow : Type 0
-BooksOnlyGrow =
-    (H : Digest) (book last : List Witnessed) (outs : List BookOutcome)
-    → IsLawful H book → IsBookRun H book outs last → IsLaterBook H book last
-
--- the steps after one of a chain are linked from it, and all of them from size 0 and the hash of no bytes
-abbrev pub ChainsAreLinkedFromEachStep : Type 0
-ChainsAreLinkedFromEachStep =
-    (H : Digest) (chain : List Step) → IsChain H chain
-    → Linked H 0 (H []) chain
-    × ((place : ℕ) (step : Step) → slice_get chain place ≡ Some step → Linked H step.size step.root (drop (place + 1) chain))
