@@ -1,0 +1,313 @@
+//! The heart of a running log.
+
+ghost use Rattle.std.specs.Prelude.{◌≡◌, false, true};
+ghost use Rattle.tl_heart.specs.declared.heart.Doing.TheVariants as doing;
+ghost use Rattle.tl_heart.specs.Order.{Begins, owed_new, telling};
+ghost use Rattle.tl_heart.specs.Heart.{after, after_done, after_failure, after_nothing, doing_on_input, is_waiting, next_taking, now_doing, step_of, with_taken, without_new};
+
+/// What came of a step, or came meanwhile.
+#[derive(Clone, Copy, Debug, PartialEq, Eq)]
+pub enum Event<F> {
+    /// What was to be done is done: so many entries were taken in, or the log is closed with so many. Where it was to
+    /// wait, something may have come.
+    Done(u64),
+    /// Nothing was to be published, since nothing was new.
+    NothingNew,
+    /// The line with this number, counted from 0, is too long, and was left out.
+    TooLong(u64),
+    /// The input has ended.
+    InputEnded,
+    /// The log is to end: as many connections as are to be answered are answered, and nothing is sent any more.
+    Stopped,
+    /// What was to be done failed, or what goes on beside it did.
+    Failed(F),
+}
+
+/// What is to be done next.
+#[derive(Clone, Copy, Debug, PartialEq, Eq)]
+pub enum Step<F> {
+    /// Wait for what comes.
+    Wait,
+    /// Take in what waits.
+    Take,
+    /// Publish what was taken in.
+    Publish,
+    /// Archive what was published.
+    Archive,
+    /// Tell what was archived.
+    TellHead,
+    /// Tell that the line with this number is too long.
+    TellTooLong(u64),
+    /// Tell that the input has ended.
+    TellInputEnded,
+    /// Accept nothing any more, and wait until all that was accepted is answered.
+    CloseDoor,
+    /// Take in all that is left, now that nothing is sent any more.
+    TakeRest,
+    /// Close the log.
+    CloseLog,
+    /// Tell that the log is closed, with so many entries.
+    TellClosed(u64),
+    /// End so.
+    End(Result<(), F>),
+}
+
+/// What is being done.
+#[derive(Clone, Copy, Debug, PartialEq, Eq)]
+pub enum Doing<F> {
+    /// It waits.
+    Waiting,
+    /// It takes in what waits.
+    Taking,
+    /// It publishes; `true` for the last time, likewise below.
+    Publishing(bool),
+    /// It archives what was published.
+    Archiving(bool),
+    /// It tells what was archived.
+    Telling(bool),
+    /// It tells that a line was too long.
+    TellingTooLong(u64),
+    /// It tells that the input has ended.
+    TellingInputEnded,
+    /// It closes the door, since the log is to end.
+    Closing,
+    /// It takes in all that is left.
+    TakingRest,
+    /// It closes the log.
+    Sealing,
+    /// It tells that the log is closed.
+    TellingClosed(u64),
+    /// It closes the door after a failure.
+    Failing(F),
+    /// It ended.
+    Ended(Result<(), F>),
+}
+
+/// A running log, as far as it decides what is to be done next.
+#[derive(Clone, Copy, Debug, PartialEq, Eq)]
+pub struct Heart<F> {
+    /// What is being done.
+    pub doing: Doing<F>,
+    /// Whether something is to be published: entries that were taken in, or a log that never was.
+    pub has_new: bool,
+    /// How many more entries make a publication due at once.
+    pub left: u64,
+    /// The same after a publication.
+    pub batch: u64,
+    /// Whether fewer entries wait for more; else they are published once no more wait.
+    pub gathers: bool,
+    /// Whether the log ends with its input.
+    pub ends_with_input: bool,
+}
+
+impl<F: Copy> Heart<F> {
+    /// A log that is served: it was published and archived, which is told first, and publishes what comes.
+    pub fn serving(batch: u64) -> Heart<F>
+        ensures value { result ≡ record {
+          doing = doing.Telling false;
+          has_new = false;
+          left = batch;
+          batch = batch;
+          gathers = false;
+          ends_with_input = false;
+        } }
+        ensures begins { Begins result telling }
+    {
+        Heart {
+            doing: Doing::Telling(false),
+            has_new: false,
+            left: batch,
+            batch,
+            gathers: false,
+            ends_with_input: false,
+        }
+    }
+
+    /// A log to which an input is appended, and that ends with it: it publishes after each batch and at the end.
+    /// `has_new` says that it was never published.
+    pub fn appending(batch: u64, has_new: bool) -> Heart<F>
+        ensures value { result ≡ record {
+          doing = doing.Waiting;
+          has_new = has_new;
+          left = batch;
+          batch = batch;
+          gathers = true;
+          ends_with_input = true;
+        } }
+        ensures begins { Begins result (owed_new has_new) }
+    {
+        Heart {
+            doing: Doing::Waiting,
+            has_new,
+            left: batch,
+            batch,
+            gathers: true,
+            ends_with_input: true,
+        }
+    }
+
+    /// What is to be done now.
+    pub fn step(self) -> Step<F>
+        ensures { result ≡ step_of self.doing }
+    {
+        match self.doing {
+            Doing::Waiting => Step::Wait,
+            Doing::Taking => Step::Take,
+            Doing::Publishing(_) => Step::Publish,
+            Doing::Archiving(_) => Step::Archive,
+            Doing::Telling(_) => Step::TellHead,
+            Doing::TellingTooLong(line) => Step::TellTooLong(line),
+            Doing::TellingInputEnded => Step::TellInputEnded,
+            Doing::Closing | Doing::Failing(_) => Step::CloseDoor,
+            Doing::TakingRest => Step::TakeRest,
+            Doing::Sealing => Step::CloseLog,
+            Doing::TellingClosed(size) => Step::TellClosed(size),
+            Doing::Ended(outcome) => Step::End(outcome),
+        }
+    }
+
+    // The same log that does this.
+    fn now_doing(self, doing: Doing<F>) -> Heart<F>
+        ensures { result ≡ now_doing self doing }
+    {
+        Heart { doing, ..self }
+    }
+
+    // The same log once so many entries more were taken in.
+    fn with_taken(self, count: u64) -> Heart<F>
+        ensures { result ≡ with_taken self count }
+    {
+        Heart {
+            has_new: self.has_new || count > 0,
+            left: self.left.saturating_sub(count),
+            ..self
+        }
+    }
+
+    // The same log once nothing is to be published.
+    fn without_new(self) -> Heart<F>
+        ensures { result ≡ without_new self }
+    {
+        Heart {
+            has_new: false,
+            left: self.batch,
+            ..self
+        }
+    }
+
+    // What is done once the last call took in so many entries.
+    fn next_taking(self, count: u64) -> Doing<F>
+        ensures { result ≡ next_taking self count }
+    {
+        if self.has_new && self.left == 0 {
+            return Doing::Publishing(false);
+        }
+        if count > 0 {
+            return Doing::Taking;
+        }
+        if self.has_new && !self.gathers {
+            return Doing::Publishing(false);
+        }
+        Doing::Waiting
+    }
+
+    // The same log once it took in so many entries more.
+    fn after_taking(self, count: u64) -> Heart<F>
+        ensures { result ≡ now_doing (with_taken self count) (next_taking (with_taken self count) count) }
+    {
+        let taken = self.with_taken(count);
+        taken.now_doing(taken.next_taking(count))
+    }
+
+    // The same log once it took in all that was left.
+    fn after_rest(self, count: u64) -> Heart<F>
+        ensures { result ≡ after_done doing.TakingRest count self }
+    {
+        let taken = self.with_taken(count);
+        if taken.has_new {
+            taken.now_doing(Doing::Publishing(true))
+        } else {
+            taken.now_doing(Doing::Sealing)
+        }
+    }
+
+    // The same log once what was to be done is done.
+    fn after_done(self, count: u64) -> Heart<F>
+        ensures { result ≡ after_done self.doing count self }
+    {
+        match self.doing {
+            Doing::Waiting
+            | Doing::Telling(false)
+            | Doing::TellingTooLong(_)
+            | Doing::TellingInputEnded => self.now_doing(Doing::Taking),
+            Doing::Taking => self.after_taking(count),
+            Doing::Publishing(is_last) => self.without_new().now_doing(Doing::Archiving(is_last)),
+            Doing::Archiving(is_last) => self.now_doing(Doing::Telling(is_last)),
+            Doing::Telling(true) => self.now_doing(Doing::Sealing),
+            Doing::Closing => self.now_doing(Doing::TakingRest),
+            Doing::TakingRest => self.after_rest(count),
+            Doing::Sealing => self.now_doing(Doing::TellingClosed(count)),
+            Doing::TellingClosed(_) => self.now_doing(Doing::Ended(Ok(()))),
+            Doing::Failing(fault) => self.now_doing(Doing::Ended(Err(fault))),
+            Doing::Ended(_) => self,
+        }
+    }
+
+    // The same log once nothing was new.
+    fn after_nothing(self) -> Heart<F>
+        ensures { result ≡ after_nothing self.doing self }
+    {
+        match self.doing {
+            Doing::Publishing(true) => self.without_new().now_doing(Doing::Sealing),
+            Doing::Publishing(false) => self.without_new().now_doing(Doing::Waiting),
+            _ => self,
+        }
+    }
+
+    // Whether it waits.
+    fn is_waiting(self) -> bool
+        ensures { result ≡ is_waiting self.doing }
+    {
+        match self.doing {
+            Doing::Waiting => true,
+            _ => false,
+        }
+    }
+
+    // What is done once a call failed.
+    fn after_failure(self, fault: F) -> Doing<F>
+        ensures { result ≡ after_failure fault self.doing }
+    {
+        match self.doing {
+            Doing::Failing(first) => Doing::Ended(Err(first)),
+            Doing::Ended(outcome) => Doing::Ended(outcome),
+            _ => Doing::Failing(fault),
+        }
+    }
+
+    // What is done where the input ends while it waits.
+    fn doing_on_input(self) -> Doing<F>
+        ensures { result ≡ doing_on_input self }
+    {
+        if self.ends_with_input {
+            Doing::Closing
+        } else {
+            Doing::TellingInputEnded
+        }
+    }
+
+    /// The same log after an event. What comes while nothing is waited for, but for a failure, counts for nothing.
+    pub fn after(self, event: Event<F>) -> Heart<F>
+        ensures { result ≡ after self event }
+    {
+        match event {
+            Event::Done(count) => self.after_done(count),
+            Event::NothingNew => self.after_nothing(),
+            Event::Failed(fault) => self.now_doing(self.after_failure(fault)),
+            _ if !self.is_waiting() => self,
+            Event::TooLong(line) => self.now_doing(Doing::TellingTooLong(line)),
+            Event::InputEnded => self.now_doing(self.doing_on_input()),
+            Event::Stopped => self.now_doing(Doing::Closing),
+        }
+    }
+}
