@@ -7,6 +7,7 @@ use crate::fault::RunFault;
 use crate::streams::{MOST_INPUT, read_input};
 use std::alloc::Global;
 use std::fs::{Files, OpenOptions};
+use std::path::Path;
 use std::str;
 use tl_device::Counted;
 use tl_key::{KeyFault, KeyKind, NoteVerifier, SignerKey, read_signer_key, read_verifier_key};
@@ -44,11 +45,15 @@ pub fn read_private_key<K: KeyKind>(
     }
 }
 
-/// The bytes of the file at this path, at most as many as an input may have. `Read`: it can't be read. `TooLarge`: it
-/// has more.
+/// The bytes of the plain file at this path, at most as many as an input may have. `Read`: it can't be read, or is no
+/// plain file, as a FIFO, whose opening waits for a writer. `TooLarge`: it has more.
 pub fn read_file<H: Files>(files: &H, alloc: Global, path: &str) -> Result<Vec<u8>, RunFault>
     ensures { ReadsFile result }
 {
+    // (this look and the opening are two calls: who may write there can put another thing there in between)
+    if !Path::new(path).is_file(files) {
+        return Err(RunFault::Read);
+    }
     let Ok(file) = OpenOptions::new().read(true).open(files, path) else {
         return Err(RunFault::Read);
     };

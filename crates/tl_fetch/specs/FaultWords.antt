@@ -28,8 +28,10 @@ abbrev pub fetch_text : FetchFault → Option Bytes
 fetch_text (Run fault) = fault_text fault
 fetch_text fault = Some (codes "tlog: " ++ fetch_words fault)
 
--- the exit status: 3 where a device failed or a source didn't answer, else 1
+-- the exit status: 4 where the log shrank or forked, 3 where a device failed or a source didn't answer, else 1
 abbrev pub fetch_status : FetchFault → ℕ
 fetch_status (Run fault) = exit_status fault
 fetch_status Unavailable = 3
+fetch_status Shrunk = 4
+fetch_status Forked = 4
 fetch_status _ = 1

@@ -135,7 +135,7 @@ fn fetch_as_asked<'s, H: Files<File = File> + Net<Stream = TcpStream> + Clock, W
         return fetch_with_state(rt, alloc, &source, policy, options, &mut progress, writer);
     };
     let folder = folder.as_str();
-    let cache = FolderSource::new(rt, alloc, folder);
+    let cache = FolderSource::without_links(rt, alloc, folder);
     let mut caching = Caching {
         alloc,
         cache: TileCache::new(rt, folder),

@@ -108,13 +108,15 @@ impl<X: Drop> From<AllocFailed<X>> for FetchFault {
     }
 }
 
-/// The exit status of a fault: 3 where a device failed or a source didn't answer, else 1. It takes no memory.
+/// The exit status of a fault: 4 where the log shrank or forked, 3 where a device failed or a source didn't answer,
+/// else 1. It takes no memory.
 pub fn fetch_exit_of(fault: &FetchFault) -> u8
     ensures { result ≡ fetch_status fault.now }
 {
     match fault {
         FetchFault::Run(fault) => exit_of(fault),
         FetchFault::Unavailable => 3,
+        FetchFault::Shrunk | FetchFault::Forked => 4,
         _ => 1,
     }
 }

@@ -18,7 +18,9 @@ pub(crate) fn file_refusal(fault: FileFault) -> FetchFault
     ensures { IsNoAccusation result }
 {
     match fault {
-        FileFault::System => FetchFault::Run(RunFault::Read),
+        FileFault::System | FileFault::NotPlain | FileFault::Moved => {
+            FetchFault::Run(RunFault::Read)
+        }
         FileFault::Busy => FetchFault::Run(RunFault::Busy),
         FileFault::TooLarge => FetchFault::Run(RunFault::TooLarge),
         FileFault::OutOfMemory => FetchFault::Run(RunFault::OutOfMemory),

@@ -16,6 +16,12 @@ pub enum FileFault {
     /// The file has more bytes than were to be read.
     #[error("too large")]
     TooLarge,
+    /// Something else than a plain file is at the path: a link, a folder, a pipe or a device.
+    #[error("not a plain file")]
+    NotPlain,
+    /// At the path is another file or folder than the one that was opened there, or none.
+    #[error("no longer at its path")]
+    Moved,
     /// A growth was refused.
     #[error("out of memory")]
     OutOfMemory,

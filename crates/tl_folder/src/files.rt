@@ -3,6 +3,8 @@
 ghost use Rattle.tl_tile.specs.Path.{IsResource};
 
 use crate::fault::FileFault;
+use crate::file_id::FileId;
+use crate::look::{check_plain, open_folder, open_plain};
 use std::alloc::{AllocError, Allocator, Global};
 use std::fs::{File, Files, OpenFile, create_dir_all, rename};
 use std::io::{ErrorKind, Write};
@@ -28,6 +30,8 @@ pub(crate) struct FolderFiles<H> {
     files: H,
     alloc: Global,
     root: String,
+    // Which folder was at its path when it was opened.
+    folder: FileId,
     staged: Vec<Staged>,
     // The folders in which files are put by the next settling, or folders were made for them.
     changed: Vec<String>,
@@ -35,10 +39,20 @@ pub(crate) struct FolderFiles<H> {
     is_broken: bool,
 }
 
-// Has what the file or folder at this path has outlast a crash.
-fn sync<H: Files>(files: &H, path: &str) -> Result<(), FileFault> {
-    let file = File::open(files, path)?;
-    file.sync_all()?;
+// Has what the file at this path has outlast a crash.
+fn sync_file<H: Files>(files: &H, path: &str) -> Result<(), FileFault> {
+    match open_plain(files, path, files.symlink_metadata(path)) {
+        Ok(Some(file)) => file.sync_all()?,
+        Ok(None) => return Err(FileFault::System),
+        Err(fault) => return Err(fault),
+    }
+    Ok(())
+}
+
+// Has the names in the folder at this path outlast a crash.
+fn sync_folder<H: Files>(files: &H, path: &str) -> Result<(), FileFault> {
+    let folder = open_folder(files, path)?;
+    folder.sync_all()?;
     Ok(())
 }
 
@@ -48,13 +62,13 @@ pub(crate) fn sync_parent<H: Files>(files: &H, path: &str) -> Result<(), FileFau
         return Ok(());
     };
     let parent = parent.as_str();
-    sync(files, if parent.is_empty() { "." } else { parent })
+    sync_folder(files, if parent.is_empty() { "." } else { parent })
 }
 
 // Has what each of the files has outlast a crash.
 fn sync_staged<H: Files>(files: &H, staged: &[Staged]) -> Result<(), FileFault> {
     for file in staged {
-        sync(files, file.beside.as_str())?;
+        sync_file(files, file.beside.as_str())?;
     }
     Ok(())
 }
@@ -70,12 +84,12 @@ fn place_staged<H: Files>(files: &H, staged: &[Staged]) -> Result<(), FileFault>
 // Has the names in each of the folders outlast a crash.
 fn sync_folders<H: Files>(files: &H, folders: &[String]) -> Result<(), FileFault> {
     for folder in folders {
-        sync(files, folder.as_str())?;
+        sync_folder(files, folder.as_str())?;
     }
     Ok(())
 }
 
-// Writes a new file, in place of one that may be there.
+// Writes a new file, in place of a plain one that may be there.
 fn write_file<H: Files>(files: &H, path: &str, bytes: &[u8]) -> Result<(), ErrorKind> {
     let mut file = match File::create(files, path) {
         Ok(file) => file,
@@ -87,23 +101,27 @@ fn write_file<H: Files>(files: &H, path: &str, bytes: &[u8]) -> Result<(), Error
     }
 }
 
-/// Writes bytes beside the place of a file and then puts them there, once they outlast a crash.
+/// Writes bytes beside the place of a file and then puts them there, once they outlast a crash. `NotPlain`: in one of
+/// the two places is something else than a plain file, and nothing was written.
 pub(crate) fn replace_file<H: Files>(
     files: &H,
     beside: &str,
     path: &str,
     bytes: &[u8],
 ) -> Result<(), FileFault> {
+    check_plain(files, path)?;
+    check_plain(files, beside)?;
     if write_file(files, beside, bytes).is_err() {
         return Err(FileFault::System);
     }
-    sync(files, beside)?;
+    sync_file(files, beside)?;
     rename(files, beside, path)?;
     Ok(())
 }
 
 // Writes a new file, and makes its folder where it isn't there.
 fn write_in_folder<H: Files>(files: &H, path: &str, bytes: &[u8]) -> Result<(), FileFault> {
+    check_plain(files, path)?;
     match write_file(files, path, bytes) {
         Ok(()) => return Ok(()),
         Err(ErrorKind::NotFound) => {}
@@ -133,14 +151,23 @@ impl<H: Files + Drop> FolderFiles<H> {
     pub(crate) fn open(files: H, alloc: Global, root: &str) -> Result<FolderFiles<H>, FileFault> {
         create_dir_all(&files, root)?;
         sync_parent(&files, root)?;
+        let folder = FileId::of(&files.metadata(root)?);
         Ok(FolderFiles {
             files,
             alloc,
             root: String::from_str(alloc, root.trim_end_matches('/'))?,
+            folder,
             staged: Vec::new(alloc),
             changed: Vec::new(alloc),
             is_broken: false,
         })
+    }
+
+    // Fails with `Moved` where another folder is at its path than the one that was opened, or none.
+    fn check_folder(&self) -> Result<(), FileFault> {
+        let root = self.root.as_str();
+        let path = if root.is_empty() { "/" } else { root };
+        self.folder.check(self.files.metadata(path))
     }
 
     // The path of a resource's file.
@@ -165,13 +192,16 @@ impl<H: Files + Drop> FolderFiles<H> {
         Ok(())
     }
 
-    /// Writes the bytes beside the place of a resource.
+    /// Writes the bytes beside the place of a resource. `Moved`: another folder is at its path than the one that was
+    /// opened. `NotPlain`: something else than a plain file is where the bytes are to be written, as a link. Nothing
+    /// was written then.
     pub(crate) fn stage(&mut self, resource: &Resource, bytes: &[u8]) -> Result<(), FileFault>
         requires { IsResource resource.now }
     {
         if self.is_broken {
             return Err(FileFault::System);
         }
+        self.check_folder()?;
         let place = self.place_of(resource)?;
         let beside = format!(in self.alloc; "{place}.new")?;
         self.note_changed(place.as_str())?;
@@ -182,7 +212,8 @@ impl<H: Files + Drop> FolderFiles<H> {
     }
 
     /// Puts all files that were written beside their places there. It waits for the disk: what it wrote outlasts a
-    /// crash. After a failure every call fails.
+    /// crash. `Moved`: another folder is at its path than the one that was opened, and nothing was put there. After a
+    /// failure every call fails.
     pub(crate) fn settle(&mut self) -> Result<(), FileFault> {
         if self.is_broken {
             return Err(FileFault::System);
@@ -190,6 +221,7 @@ impl<H: Files + Drop> FolderFiles<H> {
         let staged = mem::replace(&mut self.staged, Vec::new(self.alloc));
         let changed = mem::replace(&mut self.changed, Vec::new(self.alloc));
         self.is_broken = true;
+        self.check_folder()?;
         sync_staged(&self.files, staged.as_slice())?;
         place_staged(&self.files, staged.as_slice())?;
         sync_folders(&self.files, changed.as_slice())?;
@@ -197,7 +229,7 @@ impl<H: Files + Drop> FolderFiles<H> {
         Ok(())
     }
 
-    /// The bytes of a resource's file, `None` where there is none.
+    /// The bytes of a resource's file, `None` where there is none. At the end of links there has to be a plain file.
     pub(crate) fn read<A: Allocator>(
         &self,
         alloc: A,
@@ -208,9 +240,10 @@ impl<H: Files + Drop> FolderFiles<H> {
         let Ok(place) = self.place_of(resource) else {
             return Err(ShelfReadFault::OutOfMemory);
         };
-        let file = match File::open(&self.files, place.as_str()) {
-            Ok(file) => file,
-            Err(error) if error.kind() == ErrorKind::NotFound => return Ok(None),
+        let told = self.files.metadata(place.as_str());
+        let file = match open_plain(&self.files, place.as_str(), told) {
+            Ok(Some(file)) => file,
+            Ok(None) => return Ok(None),
             Err(_) => return Err(ShelfReadFault::Shelf),
         };
         match read_whole(alloc, &mut Counted::new(file), LONGEST) {

@@ -6,9 +6,11 @@
 mod call_outcome;
 mod disk;
 mod fault;
+mod file_id;
 mod files;
 mod lines;
 mod lock;
+mod look;
 mod record;
 mod shelf;
 mod whole;

@@ -5,32 +5,38 @@ ghost use Rattle.tl_folder.specs.Lines.{IsWholeFront, IsWhole};
 
 use crate::fault::FileFault;
 use crate::files::sync_parent;
-use crate::lock::lock_file;
+use crate::lock::LockedFile;
 use crate::record::note_bytes;
 use http_server::Log;
 use memchr::memrchr;
 use std::alloc::Global;
-use std::fs::{File, Files, OpenFile, OpenOptions};
+use std::fs::{File, Files, OpenOptions};
 use std::io;
-use std::io::Write;
+use std::io::{ErrorKind, Write};
 use tl_device::{Counted, InputFault, read_whole};
 
-/// A file that is appended to: a write answers once what it took outlasts a crash, as far as the system says.
+/// A file that is appended to: a write answers once what it took outlasts a crash, as far as the system says. Where
+/// another file is at its path, or none, a write fails, and nothing is written.
 #[derive(Drop)]
-pub struct DurableAppend<F> {
-    file: F,
+pub struct DurableAppend<'f, H> {
+    files: &'f H,
+    path: &'f str,
+    locked: LockedFile,
     written: Log<(), u8>,
 }
 
-impl<F: Write + OpenFile> Write for DurableAppend<F> {
+impl<'f, H: Files> Write for DurableAppend<'f, H> {
     ghost use Rattle.std.specs.Prelude.{Some};
     ghost use Rattle.tl_folder.specs.Events.{noted};
 
     ghost contents = { λ s. Some (noted s.written) };
 
     fn write(&mut self, buf: &[u8]) -> io::Result<usize> {
-        let count = self.file.write(buf)?;
-        self.file.sync_data()?;
+        if self.locked.check_at(self.files, self.path).is_err() {
+            return Err(io::Error::from(ErrorKind::NotFound));
+        }
+        let count = self.locked.file.write(buf)?;
+        self.locked.file.sync_data()?;
         note_bytes(&mut self.written, &buf[..count]);
         Ok(count)
     }
@@ -42,11 +48,11 @@ impl<F: Write + OpenFile> Write for DurableAppend<F> {
 
 /// A file of lines: what it had, and the file to append to.
 #[derive(Drop)]
-pub struct LineFile {
+pub struct LineFile<'f, H> {
     /// The lines that it had, each with its newline.
     pub lines: Vec<u8>,
     /// The same file, after them.
-    pub end: DurableAppend<File>,
+    pub end: DurableAppend<'f, H>,
 }
 
 // How many of the first bytes are whole lines.
@@ -70,29 +76,29 @@ pub(crate) fn read_file(alloc: Global, file: &File, most: u64) -> Result<Vec<u8>
 }
 
 /// The file of lines at this path, which is made where there is none, and locked. A last line without a newline, as a
-/// crash leaves it, is cut off. `Busy`: another process has it. `TooLarge`: it has more than `most` bytes.
-pub fn open_lines<H: Files<File = File>>(
-    files: &H,
+/// crash leaves it, is cut off. `Busy`: another process has it. `NotPlain`: something else than a plain file is there,
+/// as a link. `Moved`: another file came to the path meanwhile. `TooLarge`: it has more than `most` bytes.
+pub fn open_lines<'f, H: Files<File = File>>(
+    files: &'f H,
     alloc: Global,
-    path: &str,
+    path: &'f str,
     most: u64,
-) -> Result<LineFile, FileFault>
+) -> Result<LineFile<'f, H>, FileFault>
     ensures { IfOk result (λ file. IsWhole (vec_items file.lines)) }
 {
-    let file = OpenOptions::new()
-        .read(true)
-        .append(true)
-        .create(true)
-        .open(files, path)?;
-    lock_file(&file)?;
-    let mut lines = read_file(alloc, &file, most)?;
+    let mut how = OpenOptions::new();
+    how.read(true).append(true).create(true);
+    let locked = LockedFile::open(files, &how, path)?;
+    let mut lines = read_file(alloc, &locked.file, most)?;
     let whole = whole_front(lines.as_slice());
-    file.set_len(whole as u64)?;
+    locked.file.set_len(whole as u64)?;
     lines.truncate(whole);
-    file.sync_all()?;
+    locked.file.sync_all()?;
     sync_parent(files, path)?;
     let end = DurableAppend {
-        file,
+        files,
+        path,
+        locked,
         written: Log::new(),
     };
     Ok(LineFile { lines, end })

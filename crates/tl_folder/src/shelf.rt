@@ -15,7 +15,8 @@ use tl_tile::Resource;
 
 /// A folder with a log in the layout of C2SP tlog-tiles: the path of each resource is that of its file. A file is
 /// written beside its place under the name with `.new`. Where a settling fails, each later call fails: what outlasts a
-/// crash isn't known then.
+/// crash isn't known then. Where another folder came to its path, staging and settling fail, and nothing is written
+/// there.
 #[derive(Drop)]
 pub struct FolderShelf<D, H> {
     disk: D,

@@ -3,10 +3,10 @@
 use crate::fault::FileFault;
 use crate::files::{replace_file, sync_parent};
 use crate::lines::read_file;
-use crate::lock::lock_file;
+use crate::lock::LockedFile;
+use crate::look::open_plain;
 use std::alloc::Global;
 use std::fs::{File, Files, OpenOptions};
-use std::io::ErrorKind;
 
 /// A file that one process at a time reads and replaces: at each moment, also where a crash comes, it has its old bytes
 /// or its new ones.
@@ -15,44 +15,52 @@ pub struct AtomicFile<'s, H: Files> {
     files: &'s H,
     path: &'s str,
     beside: String,
-    _lock: File,
+    lock_path: String,
+    lock: LockedFile,
 }
 
 impl<'s, H: Files<File = File>> AtomicFile<'s, H> {
     /// The file at this path, whether it is there or not. A file beside it, whose name has `.lock` behind, is made and
-    /// locked as long as this lasts. `Busy`: another process has that lock.
+    /// locked as long as this lasts. `Busy`: another process has that lock. `NotPlain`: at the lock's path is something
+    /// else than a plain file, as a link.
     pub fn open(
         files: &'s H,
         alloc: Global,
         path: &'s str,
     ) -> Result<AtomicFile<'s, H>, FileFault> {
-        let lock = format!(in alloc; "{path}.lock")?;
-        let lock = OpenOptions::new()
-            .append(true)
-            .create(true)
-            .open(files, lock.as_str())?;
-        lock_file(&lock)?;
+        let lock_path = format!(in alloc; "{path}.lock")?;
         let beside = format!(in alloc; "{path}.new")?;
+        let mut how = OpenOptions::new();
+        how.append(true).create(true);
+        let lock = LockedFile::open(files, &how, lock_path.as_str())?;
         Ok(AtomicFile {
             files,
             path,
             beside,
-            _lock: lock,
+            lock_path,
+            lock,
         })
     }
 
-    /// Its bytes, `None` where there is no file. `TooLarge`: it has more than `most`.
+    /// Its bytes, `None` where there is no file. `TooLarge`: it has more than `most`. `NotPlain`: at its path is
+    /// something else than a plain file, as a link.
     pub fn read(&self, alloc: Global, most: u64) -> Result<Option<Vec<u8>>, FileFault> {
-        let file = match File::open(self.files, self.path) {
-            Ok(file) => file,
-            Err(error) if error.kind() == ErrorKind::NotFound => return Ok(None),
-            Err(_) => return Err(FileFault::System),
-        };
-        Ok(Some(read_file(alloc, &file, most)?))
+        match open_plain(
+            self.files,
+            self.path,
+            self.files.symlink_metadata(self.path),
+        ) {
+            Ok(Some(file)) => Ok(Some(read_file(alloc, &file, most)?)),
+            Ok(None) => Ok(None),
+            Err(fault) => Err(fault),
+        }
     }
 
-    /// Replaces its bytes. It waits for the disk: the new bytes outlast a crash once it answers.
+    /// Replaces its bytes. It waits for the disk: the new bytes outlast a crash once it answers. `Moved`: the file that
+    /// is locked isn't at its path any more. `NotPlain`: at its path, or at that of the bytes that are to come there,
+    /// is something else than a plain file, as a link. Nothing was written then.
     pub fn replace(&self, bytes: &[u8]) -> Result<(), FileFault> {
+        self.lock.check_at(self.files, self.lock_path.as_str())?;
         replace_file(self.files, self.beside.as_str(), self.path, bytes)?;
         sync_parent(self.files, self.path)
     }

@@ -7,9 +7,9 @@ ghost use Rattle.tl_source.specs.Caches.{HavePassed};
 
 use crate::place::{beside, path_under};
 use std::alloc::{AllocError, Allocator};
-use std::fs::{File, Files, OpenFile, create_dir_all, remove_file, rename};
+use std::fs::{File, Files, OpenFile, create_dir_all, remove_file, rename, symlink_metadata};
 use std::io;
-use std::io::Write;
+use std::io::{ErrorKind, Write};
 use std::marker::Model;
 use std::path::Path;
 use tl_tile::{FetchedTiles, Resource, Tile};
@@ -37,6 +37,38 @@ fn is_tile(tile: Tile) -> bool
     tile.level <= 7 && tile.index < 1 << 56 && 0 < tile.width && tile.width <= 256
 }
 
+// Whether nothing is at this path, also no link to nowhere.
+fn is_free<H: Files>(files: &H, path: &str) -> bool {
+    match symlink_metadata(files, path) {
+        Ok(_) => false,
+        Err(error) => error.kind() == ErrorKind::NotFound,
+    }
+}
+
+// Whether a folder is at this path, and no link to one, or nothing.
+fn is_folder_or_free<H: Files>(files: &H, path: Path<'_>) -> bool {
+    match symlink_metadata(files, path) {
+        Ok(found) => found.is_dir(),
+        Err(error) => error.kind() == ErrorKind::NotFound,
+    }
+}
+
+// Whether no link leads out of the cache's folder on the way to a place under it. (The folder itself may be a link.)
+fn stays_under<H: Files>(files: &H, folder: &str, place: &str) -> bool {
+    let Some(first) = Path::new(place).parent() else {
+        return true;
+    };
+    for above in first.ancestors() {
+        if above.as_str().len() <= folder.len() {
+            return true;
+        }
+        if !is_folder_or_free(files, above) {
+            return false;
+        }
+    }
+    true
+}
+
 // Writes all the bytes, and has them outlast a crash.
 fn fill<F: OpenFile + Write>(file: &mut F, bytes: &[u8]) -> io::Result<()>
     ensures { OnOk result (Appends (F.contents file.old) (F.contents file.new) bytes.now) }
@@ -45,7 +77,7 @@ fn fill<F: OpenFile + Write>(file: &mut F, bytes: &[u8]) -> io::Result<()>
     file.sync_all()
 }
 
-// Writes a new file, and takes it away again where that fails.
+// Writes a new file, and takes it away again where that fails. A name that is taken, by a link too, is refused.
 fn write_new<H: Files>(files: &H, path: &str, bytes: &[u8]) -> io::Result<()> {
     let mut file = File::create_new(files, path)?;
     let written = fill(&mut file, bytes);
@@ -55,7 +87,8 @@ fn write_new<H: Files>(files: &H, path: &str, bytes: &[u8]) -> io::Result<()> {
     written
 }
 
-// Puts a file in its place, once all of it was written beside that.
+// Puts a file in its place, once all of it was written beside that. (Even where a link came there after the look: it is
+// replaced by what is renamed, and not followed.)
 fn put_file<H: Files>(files: &H, place: &str, beside: &str, bytes: &[u8]) -> io::Result<()> {
     if let Some(folder) = Path::new(place).parent() {
         create_dir_all(files, folder)?;
@@ -72,7 +105,13 @@ impl<'s, H: Files> TileCache<'s, H> {
         TileCache { files, folder }
     }
 
-    // Writes the file of a tile where there is none.
+    // Whether a file can be put at this place: nothing is there, and no link is on the way. The look and the writing
+    // are two calls: who may write into the folder can come between them.
+    fn has_room(&self, place: &str) -> bool {
+        is_free(self.files, place) && stays_under(self.files, self.folder, place)
+    }
+
+    // Writes the file of a tile where there is room for it.
     fn keep_tile<B: Allocator + Copy>(
         &self,
         alloc: B,
@@ -82,7 +121,7 @@ impl<'s, H: Files> TileCache<'s, H> {
         requires { IsTile tile }
     {
         let place = path_under(alloc, self.folder, &Resource::Tile(tile))?;
-        if Path::new(place.as_str()).exists(self.files) {
+        if !self.has_room(place.as_str()) {
             return Ok(());
         }
         let beside = beside(alloc, place.as_str())?;
@@ -92,8 +131,8 @@ impl<'s, H: Files> TileCache<'s, H> {
 
     /// Writes each of the tiles, which passed all checks, to its file, where that isn't there. It is written under the
     /// name with `.new` behind it and then renamed, so that no part of a tile is ever under its path. Where that name
-    /// is taken, as by another process or since a crash, and where a write fails, the cache goes without the tile. It
-    /// fails only where memory is refused.
+    /// is taken, as by another process or since a crash, where a link is at the place or on the way to it, and where a
+    /// write fails, the cache goes without the tile. It fails only where memory is refused.
     pub fn keep<A: Allocator, B: Allocator + Copy>(
         &self,
         alloc: B,

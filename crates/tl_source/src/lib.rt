@@ -4,7 +4,7 @@
 //! ```
 //! let url = Url::parse("http://log.example/2026/").unwrap();
 //! let source = HttpSource::new(&rt, alloc, url, Duration::from_secs(10));
-//! let cache = FolderSource::new(&rt, alloc, "cache");
+//! let cache = FolderSource::without_links(&rt, alloc, "cache");
 //! let source = CachedSource::new(alloc, &cache, &source);
 //! let mut fetched = FetchedTiles::new(alloc);
 //! let entries = read_entries(alloc, &source, size, root, 0, &mut fetched)?; // all of them are the log's
