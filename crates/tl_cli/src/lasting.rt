@@ -8,6 +8,7 @@ use std::alloc::Global;
 use std::fs::{File, Files};
 use std::io::{Read, Write};
 use std::net::{Net, TcpListener, TcpStream};
+use std::os::fd::RawFd;
 use tl_command::{MOST_INPUT, RunFault};
 use tl_device::Counted;
 use tl_folder::{AnyOutcome, FileFault, FolderShelf, LineFile, lock_folder, open_lines};
@@ -20,7 +21,7 @@ use tl_serve::{
 // Why a folder or a file was not opened.
 fn refusal(fault: FileFault) -> RunFault {
     match fault {
-        FileFault::System => RunFault::Read,
+        FileFault::System | FileFault::NotPlain | FileFault::Moved => RunFault::Read,
         FileFault::Busy => RunFault::Busy,
         FileFault::TooLarge => RunFault::TooLarge,
         FileFault::OutOfMemory => RunFault::OutOfMemory,
@@ -54,11 +55,14 @@ pub(crate) fn append<H: Host + Files<File = File>, R: Read, W: Write>(
         return Err(RunFault::BadOrigin);
     }
     let dir = options.dir.as_str();
-    let _lock = match lock_folder(rt, dir) {
+    let lock = match lock_folder(rt, dir) {
         Ok(lock) => lock,
         Err(fault) => return Err(refusal(fault)),
     };
     let shelf = open_folder(*rt, alloc, dir)?;
+    if !lock.is_at(rt, dir) {
+        return Err(RunFault::Read);
+    }
     run_append(rt, alloc, options, shelf, reader, writer)
 }
 
@@ -73,6 +77,7 @@ pub(crate) fn serve<
     rt: &H,
     alloc: Global,
     options: &ServeOptions,
+    input: Option<RawFd>,
     reader: &mut Counted<R>,
     errors: &mut Counted<E>,
 ) -> Result<(), RunFault>
@@ -80,27 +85,32 @@ pub(crate) fn serve<
         (string_bytes options.now.origin) (passage R.remaining reader.old reader.new) result }
 {
     let Some(dir) = &options.dir else {
-        return run_serve(rt, alloc, options, reader, errors);
+        return run_serve(rt, alloc, options, input, reader, errors);
     };
     if !is_key_name(options.origin.as_str()) {
         return Err(RunFault::BadOrigin);
     }
     let dir = dir.as_str();
-    let _lock = match lock_folder(rt, dir) {
+    let lock = match lock_folder(rt, dir) {
         Ok(lock) => lock,
         Err(fault) => return Err(refusal(fault)),
     };
     let shelf = open_folder(*rt, alloc, dir)?;
+    if !lock.is_at(rt, dir) {
+        return Err(RunFault::Read);
+    }
     let mut shown = Vec::new(alloc);
     for _ in 0..threads_of(rt, options.server.threads) {
         shown.push(open_folder(*rt, alloc, dir)?)?;
     }
-    run_serve_shelf(rt, alloc, options, shelf, shown, reader, errors)
+    run_serve_shelf(rt, alloc, options, shelf, shown, input, reader, errors)
 }
 
 /// Serves a witness whose lines are those of a file, where one is given, and else of the input and the output.
 pub(crate) fn witness<
-    H: Host + Files<File = File> + Net<Listener = TcpListener, Stream = TcpStream>,
+    H: Host
+        + Files<File = File, Dir: Send + Sync>
+        + Net<Listener = TcpListener, Stream = TcpStream>,
     R: Read,
     W: Write + Send,
     E: Write,

@@ -3,7 +3,7 @@
 //!
 //! ```
 //! // tlog inclusion --index 7, of an input of two lines
-//! let status = run_words(&rt, alloc, &words, &mut reader, &mut writer, &mut errors);
+//! let status = run_words(&rt, alloc, &words, streams, &mut reader, &mut writer, &mut errors);
 //! assert_eq!(status, 1);
 //! ```
 #![tactic(auto)]
@@ -12,10 +12,12 @@ mod fault;
 mod job;
 mod lasting;
 mod running;
+mod streams;
 mod version;
 mod words;
 
 pub use fault::CommandFault;
 pub use job::Job;
 pub use running::{end_run, run_job, run_words};
+pub use streams::Streams;
 pub use words::{WordsFault, read_words};

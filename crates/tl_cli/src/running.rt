@@ -10,6 +10,7 @@ ghost use Rattle.tl_cli.specs.Ending.{Told, status_of, told_of};
 use crate::fault::{CommandFault, after_fetch, after_run, command_exit_of, command_fault_line};
 use crate::job::Job;
 use crate::lasting::{append, serve, witness};
+use crate::streams::Streams;
 use crate::version::print_version;
 use crate::words::{WordsFault, read_words};
 use std::alloc::{Allocator, Global};
@@ -152,7 +153,7 @@ pub fn run_job<
     rt: &H,
     alloc: Global,
     job: Job,
-    is_terminal: bool,
+    streams: Streams,
     reader: &mut Counted<R>,
     writer: &mut Counted<W>,
     errors: &mut Counted<E>,
@@ -160,6 +161,7 @@ pub fn run_job<
     ensures { RunsJob job (passage R.remaining reader.old reader.new) (passage
         W.contents writer.old writer.new) (passage E.contents errors.old errors.new) result }
 {
+    let Streams { is_terminal, input } = streams;
     match job {
         Job::Head(options) => after_run(head(rt, alloc, &options, reader, writer)),
         Job::Build(options) => after_run(build(alloc, &options, reader, writer)),
@@ -172,7 +174,7 @@ pub fn run_job<
         Job::Keygen(options) => after_run(key(rt, alloc, &options, writer, errors)),
         Job::Open { key } => after_run(run_open(alloc, &key, reader, writer)),
         Job::Audit => after_run(run_audit(alloc, Sha256Tree, reader, writer)),
-        Job::Serve(options) => after_run(serve(rt, alloc, &options, reader, errors)),
+        Job::Serve(options) => after_run(serve(rt, alloc, &options, input, reader, errors)),
         Job::Witness(options) => after_run(witness(rt, alloc, &options, reader, writer, errors)),
         Job::Fetch(options) => {
             after_fetch(run_fetch(rt, alloc, &options, writer, errors, is_terminal))
@@ -181,9 +183,9 @@ pub fn run_job<
     }
 }
 
-/// Runs the command that the words name, the program's own name first, and answers the exit status. `is_terminal` says
-/// whether `errors` goes to one. Where the words name none, the text on how to call the program is written to `errors`,
-/// the status is 2, and nothing is read or written else.
+/// Runs the command that the words name, the program's own name first, and answers the exit status. Where the words
+/// name none, the text on how to call the program is written to `errors`, the status is 2, and nothing is read or
+/// written else.
 pub fn run_words<
     H: Host
         + Files<File = File, Dir: Send + Sync>
@@ -196,7 +198,7 @@ pub fn run_words<
     rt: &H,
     alloc: Global,
     words: &[String],
-    is_terminal: bool,
+    streams: Streams,
     reader: &mut Counted<R>,
     writer: &mut Counted<W>,
     errors: &mut Counted<E>,
@@ -206,7 +208,7 @@ pub fn run_words<
 {
     match read_words(alloc, words) {
         Ok(job) => {
-            let outcome = run_job(rt, alloc, job, is_terminal, reader, writer, errors);
+            let outcome = run_job(rt, alloc, job, streams, reader, writer, errors);
             end_run(alloc, outcome, errors)
         }
         Err(WordsFault::Usage(text)) => {

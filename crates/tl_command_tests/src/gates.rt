@@ -54,7 +54,7 @@ fn is_met<H: Host + Net<Listener = TcpListener, Stream = TcpStream>>(
     options.lanes = 2;
     let mut reader = Counted::new(b"a\nb\n".as_slice());
     let mut log = Counted::new(Vec::new(alloc));
-    let ended = serve_gated(rt, alloc, &options, &mut reader, &mut log, gate);
+    let ended = serve_gated(rt, alloc, &options, None, &mut reader, &mut log, gate);
     Ok(ended.is_ok() && meeting.met.load(Ordering::SeqCst) == 2)
 }
 

@@ -54,7 +54,16 @@ fn serve<
     shown.push(own)?;
     let mut reader = Counted::new(input);
     let mut log = Counted::new(Vec::new(alloc));
-    run_serve_shelf(rt, alloc, &options, shelf, shown, &mut reader, &mut log)
+    run_serve_shelf(
+        rt,
+        alloc,
+        &options,
+        shelf,
+        shown,
+        None,
+        &mut reader,
+        &mut log,
+    )
 }
 
 /// Appends these lines to the log in a folder whose calls may fail, in batches of so many, or serves it with them where

@@ -12,6 +12,7 @@ pub fn serve_options(alloc: Global, dir: Option<String>) -> Result<ServeOptions,
         connections: Some(0),
         threads: Some(2),
         timeout: 10,
+        clients: 1024,
         quiet: true,
     };
     let key = LogKey::Secret(String::from_str(alloc, "s")?);

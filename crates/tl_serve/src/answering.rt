@@ -1,110 +1,86 @@
-//! How a thread answers connections.
+//! The threads that answer connections.
 
 use crate::door::Door;
+use crate::guests::Guests;
+use crate::host::Host;
+use crate::news::News;
 use crate::pages::Pages;
-use crate::saver::LineSaver;
+use mio::Poll;
 use std::alloc::Global;
-use std::io::Write;
-use std::net::{Net, TcpStream};
-use std::sync::{Mutex, Wait};
-use std::time::{Clock, Instant, SystemTime, UNIX_EPOCH};
+use std::net::{Net, TcpListener, TcpStream};
+use std::sync::Wait;
+use std::thread::{JoinHandle, Scope, Threads};
+use std::time::Clock;
 use tl_command::RunFault;
-use tl_device::{Counted, Timed};
-use tl_server::{Witness, serve_witness};
 
-// Answers one connection to a log. A fault ends that connection alone.
-fn answer_log_once<H: Clock, P: Pages>(
+/// A thread that answers.
+pub(crate) type AnsweringThread = JoinHandle<()>;
+
+// Answers connections from these pages, until no more are to be taken.
+fn answer_from<H: Clock + Net, P: Pages>(
     rt: &H,
     alloc: Global,
     door: &Door,
-    stream: &TcpStream,
-    pages: &mut P,
-) {
-    let Ok(start) = Instant::now(rt) else {
-        return;
-    };
-    let mut reader = Counted::new(Timed::new(rt, stream, start, door.limit()));
-    let mut writer = Counted::new(Timed::new(rt, stream, start, door.limit()));
-    let _ = pages.answer(alloc, &mut reader, &mut writer);
-}
-
-/// Answers connections to a log, one after the other, until no more are to be taken.
-pub(crate) fn answer_log<H: Clock + Net, P: Pages>(
-    rt: &H,
-    alloc: Global,
-    door: &Door,
+    poll: Poll,
     pages: P,
 ) -> Result<(), RunFault> {
-    let mut pages = pages;
-    for _ in 0..u64::MAX {
-        match door.next(rt) {
-            Ok(Some(stream)) => answer_log_once(rt, alloc, door, &stream, &mut pages),
-            Ok(None) => return Ok(()),
-            Err(fault) => return Err(fault),
-        }
-    }
-    Ok(())
+    let mut guests = Guests::new(rt, alloc, door, poll)?;
+    guests.answer_all(rt, pages)
 }
 
-// The seconds since 1970 to cosign with: those that were given, or else those of the machine's clock.
-fn seconds<H: Clock>(rt: &H, given: Option<u64>) -> u64 {
-    if let Some(seconds) = given {
-        return seconds;
-    }
-    let Ok(now) = SystemTime::now(rt) else {
-        return 0;
-    };
-    match now.duration_since(UNIX_EPOCH) {
-        Ok(since) => since.as_secs(),
-        Err(_) => 0,
-    }
-}
-
-// Answers one connection to a witness. A fault ends that connection alone, but for what was saved.
-fn answer_witness_once<H: Clock + Wait, W: Witness<Global>, O: Write>(
+/// Answers connections from these pages, until no more are to be taken. Tells a fault, and when it ends.
+pub(crate) fn answer<H: Clock + Net + Wait, P: Pages>(
     rt: &H,
     alloc: Global,
     door: &Door,
-    stream: &TcpStream,
-    witness: &W,
-    time: Option<u64>,
-    out: &Mutex<&mut Counted<O>>,
+    poll: Poll,
+    pages: P,
+    news: &News,
 ) {
-    let Ok(start) = Instant::now(rt) else {
-        return;
-    };
-    let mut reader = Counted::new(Timed::new(rt, stream, start, door.limit()));
-    let mut writer = Counted::new(Timed::new(rt, stream, start, door.limit()));
-    let mut saver = LineSaver::new(rt, alloc, out);
-    let time = seconds(rt, time);
-    let _ = serve_witness(
-        rt,
-        alloc,
-        &mut reader,
-        &mut writer,
-        witness,
-        time,
-        &mut saver,
-    );
+    if let Err(fault) = answer_from(rt, alloc, door, poll, pages) {
+        news.tell_fault(rt, fault);
+    }
+    news.end_answering();
 }
 
-/// Answers connections to a witness, one after the other, until no more are to be taken.
-pub(crate) fn answer_witness<H: Clock + Net + Wait, W: Witness<Global>, O: Write>(
-    rt: &H,
+/// Starts a thread that answers from each of these pages, as long as threads can be started. `OutOfMemory`: none can.
+pub(crate) fn start_answering<
+    's,
+    E,
+    H: Host + Net<Listener = TcpListener, Stream = TcpStream>,
+    P: Pages + Send + 's,
+>(
+    scope: &'s Scope<'s, E>,
+    rt: &'s H,
     alloc: Global,
-    door: &Door,
-    witness: &W,
-    time: Option<u64>,
-    out: &Mutex<&mut Counted<O>>,
-) -> Result<(), RunFault> {
-    for _ in 0..u64::MAX {
-        match door.next(rt) {
-            Ok(Some(stream)) => {
-                answer_witness_once(rt, alloc, door, &stream, witness, time, out);
+    door: &'s Door,
+    pages: Vec<P>,
+    news: &'s News,
+) -> Result<Vec<AnsweringThread>, RunFault> {
+    let mut threads = Vec::new(alloc);
+    for own in pages {
+        let Some(poll) = door.next_poll(rt) else {
+            break;
+        };
+        news.begin_answering();
+        match scope.spawn(move || answer(rt, alloc, door, poll, own, news)) {
+            Ok(thread) => threads.push(thread)?,
+            Err(_) => {
+                news.end_answering();
+                break;
             }
-            Ok(None) => return Ok(()),
-            Err(fault) => return Err(fault),
         }
     }
-    Ok(())
+    if threads.is_empty() {
+        return Err(RunFault::OutOfMemory);
+    }
+    Ok(threads)
+}
+
+/// Closes the door, and waits for the threads that answer.
+pub(crate) fn end_answering<H: Threads>(rt: &H, door: &Door, threads: Vec<AnsweringThread>) {
+    door.close();
+    for thread in threads {
+        thread.join(rt);
+    }
 }

@@ -3,27 +3,38 @@
 ghost use Rattle.std.specs.Prelude.{string_bytes};
 ghost use Rattle.tl_device.specs.Device.{passage};
 ghost use Rattle.tl_publisher.specs.Operating.{IsOperating};
-ghost use Rattle.tl_serve.specs.Inner.Running.{StaysOperating};
 ghost use Rattle.tl_serve.specs.Serving.{RefusesOrigin};
 
-use crate::following::Lines;
 use crate::host::Host;
-use crate::keeping::Keeper;
+use crate::keeping::{Archiving, Keeper};
+use crate::lines::{Lines, NextLine};
 use crate::live_log::{LiveLog, MOST_ENTRIES};
 use crate::log_keys::{LogKeys, keys_of};
 use crate::options::AppendOptions;
-use crate::telling::tell_head;
+use crate::running::{Feed, Rounds, Running};
+use crate::serving::outcome_of;
 use std::alloc::Global;
 use std::io::{Read, Write};
 use tl_archive::{Archive, FoundLog, ReadLogFault, Shelf, read_log};
 use tl_command::RunFault;
 use tl_device::Counted;
+use tl_heart::{Event, Heart, Step};
 use tl_note::{Signer, Verifier, is_key_name};
 use tl_publisher::{BoardReader, Operator, OperatorFault, ResumeFault};
 use tl_sequencer::{Submitter, Why};
 
 // For how many entries the lane has room.
 const ROOM: usize = 256;
+
+// There is one lane, of which as many entries are taken as make a publication due. Size and root are told alone.
+fn rounds_of(options: &AppendOptions) -> Rounds {
+    Rounds {
+        batch: options.batch.unwrap_or(MOST_ENTRIES),
+        lanes: 1,
+        most: None,
+        word: Some(""),
+    }
+}
 
 /// Why a log was not read from its shelf.
 pub(crate) fn unread(fault: ReadLogFault) -> RunFault {
@@ -36,113 +47,109 @@ pub(crate) fn unread(fault: ReadLogFault) -> RunFault {
     }
 }
 
-// Takes in all that the lane has room for.
-fn take_in_all<O: LiveLog>(log: &mut O) -> Result<(), RunFault>
-    requires { IsOperating (O.state log.old) }
-    ensures { StaysOperating (O.state log.old) (O.state log.new) }
-{
-    match log.take_in(0, ROOM as u64) {
-        Ok(_taken) => Ok(()),
-        Err(fault) => Err(fault),
-    }
+// The lines of an input, each of which goes into the one lane of a log.
+#[derive(Drop)]
+struct Appending<'r, R> {
+    lines: Lines,
+    reader: &'r mut Counted<R>,
+    submitter: Submitter<Global, Global>,
+    // A line for which the lane had no room.
+    next: Option<Vec<u8>>,
 }
 
-// Sends an entry, and takes in what was sent where the lane is full.
-fn send<O: LiveLog>(
-    log: &mut O,
-    submitter: &mut Submitter<Global, Global>,
-    entry: Vec<u8>,
-) -> Result<(), RunFault>
-    requires { IsOperating (O.state log.old) }
-    ensures { StaysOperating (O.state log.old) (O.state log.new) }
-{
-    let entry = match submitter.submit(entry) {
-        Ok(_number) => return Ok(()),
-        Err(refused) if refused.why == Why::Full => refused.entry,
-        Err(_) => return Err(RunFault::Operator),
-    };
-    take_in_all(log)?;
-    match submitter.submit(entry) {
-        Ok(_number) => Ok(()),
-        Err(_) => Err(RunFault::Operator),
-    }
-}
-
-// Takes at most so many lines into the log. Whether they were the last.
-fn take_lines<O: LiveLog, R: Read>(
-    alloc: Global,
-    log: &mut O,
-    submitter: &mut Submitter<Global, Global>,
-    lines: &mut Lines,
-    reader: &mut Counted<R>,
-    most: u64,
-) -> Result<bool, RunFault>
-    requires { IsOperating (O.state log.old) }
-    ensures { StaysOperating (O.state log.old) (O.state log.new) }
-{
-    let mut is_end = false;
-    for _ in 0..most {
-        match lines.next(alloc, reader) {
-            Ok(Some(entry)) => send(log, submitter, entry)?,
-            Ok(None) => {
-                is_end = true;
-                break;
-            }
-            Err(fault) => return Err(fault),
+impl<R: Read> Appending<'_, R> {
+    // The next line; none at the end. `EntryTooLong`: it is too long.
+    fn next(&mut self) -> Result<Option<Vec<u8>>, RunFault> {
+        if let Some(entry) = self.next.take() {
+            return Ok(Some(entry));
+        }
+        match self.lines.next(self.reader) {
+            Ok(Some(NextLine::Entry(entry))) => Ok(Some(entry)),
+            Ok(Some(NextLine::TooLong(line))) => Err(RunFault::EntryTooLong(line)),
+            Ok(None) => Ok(None),
+            Err(fault) => Err(fault),
         }
     }
-    take_in_all(log)?;
-    Ok(is_end)
+
+    // Sends lines until the lane is full or there are no more. Whether there are more or some were sent.
+    fn send(&mut self) -> Result<bool, RunFault> {
+        let mut is_any = false;
+        for _ in 0..u64::MAX {
+            let Some(entry) = self.next()? else {
+                break;
+            };
+            is_any = true;
+            match self.submitter.submit(entry) {
+                Ok(_number) => {}
+                Err(refused) if refused.why == Why::Full => {
+                    self.next = Some(refused.entry);
+                    break;
+                }
+                Err(_) => return Err(RunFault::Operator),
+            }
+        }
+        Ok(is_any)
+    }
 }
 
-// Publishes what is new, and tells it once it outlasts a crash.
-fn publish<O: LiveLog, K: Keeper, W: Write>(
+impl<R: Read> Feed for Appending<'_, R> {
+    fn wait(&mut self) -> Event<RunFault> {
+        match self.send() {
+            Ok(true) => Event::Done(0),
+            Ok(false) => Event::InputEnded,
+            Err(fault) => Event::Failed(fault),
+        }
+    }
+}
+
+// Carries steps out until the log ends: how it ended.
+fn drive<O: LiveLog, K: Keeper, F: Feed, W: Write>(
     alloc: Global,
-    log: &mut O,
-    archive: &mut K,
-    board: &mut BoardReader<Global>,
+    running: Running<O, K>,
+    feed: &mut F,
     writer: &mut Counted<W>,
 ) -> Result<(), RunFault>
-    requires { IsOperating (O.state log.old) }
-    ensures { StaysOperating (O.state log.old) (O.state log.new) }
+    requires { IsOperating (O.state running.operator) }
 {
-    match log.show() {
-        Ok(Some(_published)) => {}
-        Ok(None) => return Ok(()),
-        Err(fault) => return Err(fault),
+    let mut running = running;
+    let heart = Heart::appending(running.rounds.batch, true);
+    let heart = running.drive(alloc, heart, feed, writer);
+    // (there is no door, and nothing is left in the lane: the input ended once all was taken)
+    let heart = heart.after(Event::Done(0)).after(Event::Done(0));
+    let heart = running.drive(alloc, heart, feed, writer);
+    match heart.step() {
+        Step::CloseLog => Ok(()),
+        _ => outcome_of(heart),
     }
-    archive.keep(alloc, board)?;
-    tell_head(alloc, writer, board, "")
 }
 
-// Appends all lines of the input to a log of which so many entries are on the shelf, and publishes after so many and at
-// the end.
+// Appends all lines of the input to a log that was opened, and publishes after so many and at the end.
 fn append_lines<O: LiveLog, S: Shelf + Drop, R: Read, W: Write>(
     alloc: Global,
     log: O,
     submitters: Vec<Submitter<Global, Global>>,
     readers: Vec<BoardReader<Global>>,
     archive: Archive<S>,
-    batch: Option<u64>,
+    rounds: Rounds,
     reader: &mut Counted<R>,
     writer: &mut Counted<W>,
 ) -> Result<(), RunFault>
     requires { IsOperating (O.state log) }
 {
-    let (mut log, mut submitters, mut readers, mut archive) = (log, submitters, readers, archive);
-    let (Some(mut submitter), Some(mut board)) = (submitters.pop(), readers.pop()) else {
+    let (mut submitters, mut readers) = (submitters, readers);
+    let (Some(submitter), Some(board)) = (submitters.pop(), readers.pop()) else {
         return Err(RunFault::Operator);
     };
-    let mut lines = Lines::new(alloc)?;
-    let most = batch.unwrap_or(MOST_ENTRIES);
-    for _ in 0..u64::MAX {
-        let is_end = take_lines(alloc, &mut log, &mut submitter, &mut lines, reader, most)?;
-        publish(alloc, &mut log, &mut archive, &mut board, writer)?;
-        if is_end {
-            break;
-        }
-    }
-    Ok(())
+    let lines = Lines::new(alloc)?;
+    let mut feed = Appending {
+        lines,
+        reader,
+        submitter,
+        next: None,
+    };
+    let keeper = archive;
+    let running = Running::new(log, Archiving { keeper, board }, rounds);
+    drive(alloc, running, &mut feed, writer)
 }
 
 // Appends to a log that has no entry yet.
@@ -158,9 +165,9 @@ fn append_new<H: Host, S: Shelf + Drop, R: Read, W: Write>(
     let origin = options.origin.as_str();
     match Operator::open(*rt, alloc, origin, signers, 1, ROOM, MOST_ENTRIES, 1) {
         Ok((log, submitters, readers)) => {
-            let (archive, batch) = (Archive::new(shelf, 0), options.batch);
+            let (archive, rounds) = (Archive::new(shelf, 0), rounds_of(options));
             append_lines(
-                alloc, log, submitters, readers, archive, batch, reader, writer,
+                alloc, log, submitters, readers, archive, rounds, reader, writer,
             )
         }
         Err(OperatorFault::OutOfMemory) => Err(RunFault::OutOfMemory),
@@ -196,9 +203,9 @@ fn append_found<H: Host, S: Shelf + Drop, R: Read, W: Write>(
         base,
     ) {
         Ok((log, submitters, readers)) => {
-            let (archive, batch) = (Archive::new(shelf, found.size), options.batch);
+            let (archive, rounds) = (Archive::new(shelf, found.size), rounds_of(options));
             append_lines(
-                alloc, log, submitters, readers, archive, batch, reader, writer,
+                alloc, log, submitters, readers, archive, rounds, reader, writer,
             )
         }
         Err(ResumeFault::OutOfMemory) => Err(RunFault::OutOfMemory),

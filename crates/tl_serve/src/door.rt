@@ -1,33 +1,55 @@
-//! The door of a server, from which its threads take connections.
+//! The door of a server, through which connections come to its threads.
 
 use crate::options::ListenOptions;
+use mio::unix::SourceFd;
+use mio::{Interest, Poll, Token, Waker};
 use std::alloc::Global;
+use std::io;
 use std::io::{ErrorKind, Write};
 use std::net::{Net, SocketAddr, TcpListener, TcpStream};
-use std::sync::atomic::{AtomicU64, Ordering};
-use std::time::{Clock, Duration};
-use std::{io, thread};
+use std::os::fd::AsRawFd;
+use std::sync::atomic::{AtomicBool, AtomicU64, Ordering};
+use std::sync::{Mutex, Wait};
 use tl_command::{RunFault, print_text};
 use tl_device::Counted;
 
-// How often an accept is tried again, and how many milliseconds are waited in between.
-const TRIES: u32 = 1000;
+/// Under which token a thread watches the door. Those of connections are smaller.
+pub(crate) const LISTENER: Token = Token(usize::MAX);
 
-const PAUSE: u64 = 10;
+// That of what wakes it.
+const WAKE: Token = Token(usize::MAX - 1);
 
 // Errors of a new connection that Linux hands on, which `ErrorKind` doesn't tell apart (accept(2), "Error handling"):
 // EPERM, ENONET, EPROTO, ENOPROTOOPT, EOPNOTSUPP, EHOSTDOWN; and those where there is no room for one now: ENOMEM,
 // ENFILE, EMFILE, ENOBUFS.
 const PASSING: [i32; 10] = [1, 64, 71, 92, 95, 112, 12, 23, 24, 105];
 
-/// A listener, and how many of its connections are still to be taken.
+/// A listener, and how many of its connections are still to be taken and may be held at once.
 #[derive(Drop)]
 pub(crate) struct Door {
     listener: TcpListener,
-    address: SocketAddr,
     left: AtomicU64,
-    limit: Duration,
-    threads: u32,
+    held: AtomicU64,
+    clients: u64,
+    // How many milliseconds a connection may take in all.
+    limit: u64,
+    // What each thread that answers waits with, until it has it, and what wakes each.
+    polls: Mutex<Vec<Poll>>,
+    wakers: Vec<Waker>,
+    is_closed: AtomicBool,
+}
+
+/// What came of an accept.
+#[derive(Drop)]
+pub(crate) enum Accepted {
+    /// A connection.
+    Stream(TcpStream),
+    /// None waits.
+    Nobody,
+    /// None can be accepted for now.
+    Later,
+    /// None is accepted any more.
+    Over,
 }
 
 // Whether an accept failed for this one connection.
@@ -39,8 +61,7 @@ fn is_passing(error: &io::Error) -> bool {
         | ErrorKind::NetworkDown
         | ErrorKind::NetworkUnreachable
         | ErrorKind::HostUnreachable
-        | ErrorKind::TimedOut
-        | ErrorKind::WouldBlock => true,
+        | ErrorKind::TimedOut => true,
         _ => match error.raw_os_error() {
             Some(code) => PASSING.contains(&code),
             None => false,
@@ -48,8 +69,48 @@ fn is_passing(error: &io::Error) -> bool {
     }
 }
 
+// What a thread waits with, which tells of connections, and what wakes it.
+fn watch<H: Net>(rt: &H, listener: &TcpListener) -> io::Result<(Poll, Waker)> {
+    let poll = Poll::new(rt)?;
+    let waker = Waker::new(poll.registry(), WAKE)?;
+    let descriptor = listener.as_raw_fd();
+    poll.registry()
+        .register(&mut SourceFd(&descriptor), LISTENER, Interest::READABLE)?;
+    Ok((poll, waker))
+}
+
+// The same for so many threads. `Accept`: the system refuses.
+fn watch_all<H: Net>(
+    rt: &H,
+    alloc: Global,
+    listener: &TcpListener,
+    threads: u32,
+) -> Result<(Vec<Poll>, Vec<Waker>), RunFault> {
+    let (mut polls, mut wakers) = (Vec::new(alloc), Vec::new(alloc));
+    for _ in 0..threads {
+        let Ok((poll, waker)) = watch(rt, listener) else {
+            return Err(RunFault::Accept);
+        };
+        polls.push(poll)?;
+        wakers.push(waker)?;
+    }
+    Ok((polls, wakers))
+}
+
+// A listener at this address, which never waits, and where it is.
+fn listen<H: Net<Listener = TcpListener, Stream = TcpStream>>(
+    rt: &H,
+    address: &str,
+) -> io::Result<(TcpListener, SocketAddr)> {
+    let listener = TcpListener::bind(rt, address)?;
+    let address = listener.local_addr()?;
+    listener.set_nonblocking(true)?;
+    Ok((listener, address))
+}
+
 impl Door {
-    /// Listens at the address of the options for so many threads, and tells where. `Listen`: the address is refused.
+    /// Listens at the address of the options, where so many threads are to answer, and tells where. `Listen`: the
+    /// address is refused. `Accept`: the system refuses to watch it.
     pub(crate) fn open<H: Net<Listener = TcpListener, Stream = TcpStream>, L: Write>(
         rt: &H,
         alloc: Global,
@@ -57,31 +118,63 @@ impl Door {
         threads: u32,
         log: &mut Counted<L>,
     ) -> Result<Door, RunFault> {
-        let Ok(listener) = TcpListener::bind(rt, options.listen.as_str()) else {
+        let Ok((listener, address)) = listen(rt, options.listen.as_str()) else {
             return Err(RunFault::Listen);
         };
-        let Ok(address) = listener.local_addr() else {
-            return Err(RunFault::Listen);
-        };
+        let (polls, wakers) = watch_all(rt, alloc, &listener, threads)?;
         let line = format!(in alloc; "listening {address}\n")?;
         print_text(log, line.as_bytes())?;
         Ok(Door {
             listener,
-            address,
             left: AtomicU64::new(options.connections.unwrap_or(u64::MAX)),
-            limit: Duration::from_secs(options.timeout),
-            threads,
+            held: AtomicU64::new(0),
+            clients: options.clients,
+            limit: options.timeout.saturating_mul(1000),
+            polls: Mutex::new(polls),
+            wakers,
+            is_closed: AtomicBool::new(false),
         })
     }
 
-    /// How long a connection may take in all.
-    pub(crate) fn limit(&self) -> Duration {
+    /// What one more thread waits with; none where as many have it as were to answer.
+    pub(crate) fn next_poll<H: Wait>(&self, rt: &H) -> Option<Poll> {
+        self.polls.lock(rt).pop()
+    }
+
+    /// How many milliseconds a connection may take in all.
+    pub(crate) fn limit(&self) -> u64 {
         self.limit
+    }
+
+    // Wakes all threads that watch the door.
+    fn wake_all(&self) {
+        for waker in self.wakers.iter() {
+            let _ = waker.wake();
+        }
+    }
+
+    /// Closes the door: nothing is accepted any more, and what is not answered yet won't be.
+    pub(crate) fn close(&self) {
+        self.is_closed.store(true, Ordering::SeqCst);
+        self.wake_all();
+    }
+
+    /// Whether the door was closed.
+    pub(crate) fn is_closed(&self) -> bool {
+        self.is_closed.load(Ordering::SeqCst)
+    }
+
+    /// Whether nothing is accepted any more: the door was closed, or as many were taken as are to be answered.
+    pub(crate) fn is_over(&self) -> bool {
+        self.is_closed() || self.left.load(Ordering::SeqCst) == 0
     }
 
     // Takes one of the connections that are left.
     fn take_one(&self) -> bool {
         for _ in 0..u64::MAX {
+            if self.is_over() {
+                return false;
+            }
             let left = self.left.load(Ordering::SeqCst);
             if left == 0 {
                 return false;
@@ -96,38 +189,46 @@ impl Door {
         false
     }
 
-    // Accepts a connection. None where that is refused for good.
-    fn accept<H: Clock>(&self, rt: &H) -> Option<TcpStream> {
-        for _ in 0..TRIES {
-            match self.listener.accept() {
-                Ok((stream, _)) => return Some(stream),
-                Err(error) if is_passing(&error) => thread::sleep(rt, Duration::from_millis(PAUSE)),
-                Err(_) => return None,
+    // Accepts the connection that was taken. Where none comes it is given back, and where it was the last all are told.
+    fn accept_taken(&self) -> Result<TcpStream, io::Error> {
+        match self.listener.accept() {
+            Ok((stream, _)) => {
+                if self.is_over() {
+                    self.wake_all();
+                }
+                Ok(stream)
+            }
+            Err(error) => {
+                self.left.fetch_add(1, Ordering::SeqCst);
+                Err(error)
             }
         }
-        None
     }
 
-    /// Closes the door, and wakes the threads that wait for a connection.
-    pub(crate) fn close<H: Net>(&self, rt: &H) {
-        self.left.store(0, Ordering::SeqCst);
-        for _ in 0..self.threads {
-            let _ = TcpStream::connect(rt, self.address);
-        }
-    }
-
-    /// The next connection; none where as many were taken as are to be answered, or another thread closed the door.
-    /// `Accept`: no connection can be accepted, and the door is closed.
-    pub(crate) fn next<H: Clock + Net>(&self, rt: &H) -> Result<Option<TcpStream>, RunFault> {
+    /// The next connection, if one waits. `Accept`: none can be accepted for good.
+    pub(crate) fn accept(&self) -> Result<Accepted, RunFault> {
         if !self.take_one() {
-            return Ok(None);
+            return Ok(Accepted::Over);
         }
-        match self.accept(rt) {
-            Some(stream) => Ok(Some(stream)),
-            None => {
-                self.close(rt);
-                Err(RunFault::Accept)
-            }
+        match self.accept_taken() {
+            Ok(stream) => Ok(Accepted::Stream(stream)),
+            Err(error) if error.kind() == ErrorKind::WouldBlock => Ok(Accepted::Nobody),
+            Err(error) if is_passing(&error) => Ok(Accepted::Later),
+            Err(_) => Err(RunFault::Accept),
         }
+    }
+
+    /// Whether one connection more may be held. If so it counts until it is let go.
+    pub(crate) fn hold(&self) -> bool {
+        let may_be = self.held.fetch_add(1, Ordering::SeqCst) < self.clients;
+        if !may_be {
+            self.held.fetch_sub(1, Ordering::SeqCst);
+        }
+        may_be
+    }
+
+    /// So many connections aren't held any more.
+    pub(crate) fn let_go(&self, count: u64) {
+        self.held.fetch_sub(count, Ordering::SeqCst);
     }
 }

@@ -2,116 +2,49 @@
 
 ghost use Rattle.std.specs.Prelude.{◌≡◌, IfOk, IfSome};
 
-use crate::flags::Flags;
+use crate::awaited::Awaited;
 use crate::lanes::{EndOf, LaneThread, Sending, Sent, send_one};
-use memchr::memchr;
-use std::alloc::{AllocError, Global};
+use crate::lines::{Lines, NextLine};
+use crate::news::News;
+use std::alloc::Global;
 use std::io::Read;
 use std::snapshot::Snapshot;
+use std::sync::Wait;
 use std::thread::Scope;
 use tl_command::RunFault;
 use tl_device::Counted;
 use tl_sequencer::Submitter;
-use tl_tile::LONGEST_ENTRY;
 
-// How many bytes are read at once.
-const BLOCK: usize = 65_536;
-
-/// What was read of an input and isn't cut into lines yet.
-#[derive(Drop)]
-pub(crate) struct Lines {
-    block: Vec<u8>,
-    start: usize,
-    end: usize,
-    count: u64,
-}
-
-impl Lines {
-    /// Nothing read yet.
-    pub(crate) fn new(alloc: Global) -> Result<Lines, AllocError> {
-        Ok(Lines {
-            block: Vec::from_elem(alloc, 0u8, BLOCK)?,
-            start: 0,
-            end: 0,
-            count: 0,
-        })
-    }
-
-    // Reads a block, where all of the last one was cut. Whether there is something to cut.
-    fn fill<R: Read>(&mut self, reader: &mut Counted<R>) -> Result<bool, RunFault> {
-        if self.start < self.end {
-            return Ok(true);
-        }
-        let Some(count) = reader.read_some(self.block.as_mut_slice()) else {
-            return Err(RunFault::Read);
-        };
-        self.start = 0;
-        self.end = count;
-        Ok(count > 0)
-    }
-
-    // Appends to a line what stands of it in the block. Whether its newline stands there, too.
-    fn cut(&mut self, line: &mut Vec<u8>) -> Result<bool, RunFault> {
-        let Some(part) = self.block.get(self.start..self.end) else {
-            return Ok(true);
-        };
-        let newline = memchr(b'\n', part);
-        let length = newline.unwrap_or(part.len());
-        if line.len().saturating_add(length) > LONGEST_ENTRY {
-            return Err(RunFault::EntryTooLong(self.count));
-        }
-        line.extend_from_slice(part.get(..length).unwrap_or(&[]))?;
-        self.start = self.start.saturating_add(length).saturating_add(1);
-        Ok(newline.is_some())
-    }
-
-    /// The next line, without its newline; none at the end of the input. A last line without a newline counts if it
-    /// isn't empty. `EntryTooLong`: it has more than 65,535 bytes.
-    pub(crate) fn next<R: Read>(
-        &mut self,
-        alloc: Global,
-        reader: &mut Counted<R>,
-    ) -> Result<Option<Vec<u8>>, RunFault> {
-        let mut line = Vec::new(alloc);
-        for _ in 0..u64::MAX {
-            if !self.fill(reader)? {
-                break;
-            }
-            if self.cut(&mut line)? {
-                self.count = self.count.saturating_add(1);
-                return Ok(Some(line));
-            }
-        }
-        if line.is_empty() {
-            return Ok(None);
-        }
-        self.count = self.count.saturating_add(1);
-        Ok(Some(line))
-    }
-
-    /// The next lines, so many of them. `Malformed`: there are fewer.
-    pub(crate) fn take<R: Read>(
-        &mut self,
-        alloc: Global,
-        reader: &mut Counted<R>,
-        count: u64,
-    ) -> Result<Vec<Vec<u8>>, RunFault> {
-        let mut lines = Vec::new(alloc);
-        for _ in 0..count {
-            match self.next(alloc, reader) {
-                Ok(Some(line)) => lines.push(line)?,
-                Ok(None) => return Err(RunFault::Malformed),
-                Err(fault) => return Err(fault),
-            }
-        }
-        Ok(lines)
-    }
+/// What came of reading on.
+#[derive(Clone, Copy)]
+pub(crate) enum ReadOn {
+    /// Something came.
+    More,
+    /// The input has ended, until another writer comes.
+    Ended,
+    /// The input has ended for good.
+    Over,
 }
 
 /// Lines that come one after the other.
 pub(crate) trait Source: Send + Drop {
-    /// The next line; none at the end.
-    fn next_line(&mut self, alloc: Global) -> Result<Option<Vec<u8>>, RunFault>;
+    /// The next line of what was read; none where all of it was cut.
+    fn cut(&mut self) -> Result<Option<NextLine>, RunFault>;
+
+    /// Waits until there is something to read. Whether there is: the thread may have been woken.
+    fn wait(&mut self) -> Result<bool, RunFault>;
+
+    /// Reads on.
+    fn read_on(&mut self) -> Result<ReadOn, RunFault>;
+
+    /// Whether the last read came to the end of the input.
+    fn has_ended(&self) -> bool;
+
+    /// The last line, once the input has ended, if no newline ended it.
+    fn last(&mut self) -> Option<NextLine>;
+
+    /// How many lines came so far.
+    fn count(&self) -> u64;
 }
 
 /// The lines of a reader, as they come.
@@ -119,61 +52,173 @@ pub(crate) trait Source: Send + Drop {
 pub(crate) struct Followed<'r, R> {
     pub(crate) lines: Lines,
     pub(crate) reader: &'r mut Counted<R>,
+    pub(crate) input: Awaited,
+    // How many lines came before those that are followed.
+    pub(crate) before: u64,
 }
 
 impl<R: Read + Send> Source for Followed<'_, R> {
-    fn next_line(&mut self, alloc: Global) -> Result<Option<Vec<u8>>, RunFault> {
-        self.lines.next(alloc, self.reader)
+    fn cut(&mut self) -> Result<Option<NextLine>, RunFault> {
+        Ok(self.lines.next_in_block()?)
+    }
+
+    fn wait(&mut self) -> Result<bool, RunFault> {
+        self.input.wait()
+    }
+
+    fn read_on(&mut self) -> Result<ReadOn, RunFault> {
+        let goes_on = self.lines.fill(self.reader)?;
+        let may_go_on = self.input.note(!goes_on);
+        Ok(if goes_on {
+            ReadOn::More
+        } else if may_go_on {
+            ReadOn::Ended
+        } else {
+            ReadOn::Over
+        })
+    }
+
+    fn has_ended(&self) -> bool {
+        self.input.has_ended()
+    }
+
+    fn last(&mut self) -> Option<NextLine> {
+        self.lines.last()
+    }
+
+    fn count(&self) -> u64 {
+        self.lines.count().saturating_sub(self.before)
     }
 }
 
-// Sends each line as it comes.
-fn send_lines<S: Source>(
-    alloc: Global,
+// Sends a line, or tells that it is too long. Whether to go on.
+fn send_line<H: Wait>(
+    rt: &H,
+    submitter: &mut Submitter<Global, Global>,
+    line: NextLine,
+    news: &News,
+) -> Result<bool, RunFault>
+    ensures { (submitter.new.ring ≡ submitter.old.ring)
+        × (submitter.new.lane ≡ submitter.old.lane) }
+{
+    match line {
+        NextLine::Entry(entry) => Ok(send_one(submitter, entry, news)),
+        NextLine::TooLong(number) => {
+            news.tell_too_long(rt, number)?;
+            Ok(true)
+        }
+    }
+}
+
+// Sends the lines that were read. Whether to go on.
+fn send_read<H: Wait, S: Source>(
+    rt: &H,
     source: &mut S,
     submitter: &mut Submitter<Global, Global>,
-    flags: &Flags,
-) -> Result<(), RunFault>
+    news: &News,
+) -> Result<bool, RunFault>
     ensures { (submitter.new.ring ≡ submitter.old.ring)
         × (submitter.new.lane ≡ submitter.old.lane) }
 {
     for _ in 0..u64::MAX {
-        match source.next_line(alloc) {
-            Ok(Some(entry)) => {
-                if !send_one(submitter, entry, flags) {
-                    return Ok(());
+        match source.cut() {
+            Ok(Some(line)) => {
+                if !send_line(rt, submitter, line, news)? {
+                    return Ok(false);
                 }
             }
-            Ok(None) => return Ok(()),
+            Ok(None) => return Ok(true),
             Err(fault) => return Err(fault),
         }
+    }
+    Ok(false)
+}
+
+// Sends the last line, where the input has ended, and tells that. Whether to go on.
+fn send_last<H: Wait, S: Source>(
+    rt: &H,
+    source: &mut S,
+    submitter: &mut Submitter<Global, Global>,
+    news: &News,
+    may_go_on: bool,
+) -> Result<bool, RunFault>
+    ensures { (submitter.new.ring ≡ submitter.old.ring)
+        × (submitter.new.lane ≡ submitter.old.lane) }
+{
+    if let Some(line) = source.last() {
+        if !send_line(rt, submitter, line, news)? {
+            return Ok(false);
+        }
+    }
+    news.tell_end();
+    Ok(may_go_on)
+}
+
+// Waits for what comes and reads it. What came of that; none where nothing is taken any more, or all connections are
+// answered and the input has ended.
+fn read_next<S: Source>(source: &mut S, news: &News) -> Result<Option<ReadOn>, RunFault> {
+    for _ in 0..u64::MAX {
+        if news.is_stopped() || (news.is_over() && source.has_ended()) {
+            break;
+        }
+        if source.wait()? && !news.is_stopped() {
+            return Ok(Some(source.read_on()?));
+        }
+    }
+    Ok(None)
+}
+
+// Sends each line as it comes, until nothing more can come or nothing is taken any more.
+fn send_lines<H: Wait, S: Source>(
+    rt: &H,
+    source: &mut S,
+    submitter: &mut Submitter<Global, Global>,
+    news: &News,
+) -> Result<(), RunFault>
+    ensures { (submitter.new.ring ≡ submitter.old.ring)
+        × (submitter.new.lane ≡ submitter.old.lane) }
+{
+    let mut goes_on = true;
+    for _ in 0..u64::MAX {
+        if !goes_on || !send_read(rt, source, submitter, news)? {
+            break;
+        }
+        goes_on = match read_next(source, news)? {
+            Some(ReadOn::More) => true,
+            Some(ReadOn::Ended) => send_last(rt, source, submitter, news, true)?,
+            Some(ReadOn::Over) => send_last(rt, source, submitter, news, false)?,
+            None => false,
+        };
     }
     Ok(())
 }
 
-// Sends each line as it comes, and closes the submitter at the end.
-fn follow<S: Source>(alloc: Global, source: S, lane: Sending, flags: &Flags) -> Sent
+// Sends each line as it comes, and closes the submitter at the end. A fault is told.
+fn follow<H: Wait, S: Source>(rt: &H, source: S, lane: Sending, news: &News) -> Sent
     ensures { IfSome result.ended
         (λ e. (e.ring ≡ lane.submitter.ring) × (e.lane ≡ lane.submitter.lane)) }
 {
     let Sending { submitter, .. } = lane;
     let mut submitter = submitter;
     let mut source = source;
-    let outcome = send_lines(alloc, &mut source, &mut submitter, flags);
-    flags.end_sending();
-    Sent {
-        ended: submitter.close(),
-        outcome,
+    if let Err(fault) = send_lines(rt, &mut source, &mut submitter, news) {
+        news.tell_fault(rt, fault);
     }
+    let sent = Sent {
+        count: source.count(),
+        ended: submitter.close(),
+    };
+    news.end_sending();
+    sent
 }
 
 /// Starts the thread that sends the lines, which promises that its end is of the lane's submitter.
-pub(crate) fn start_following<'s, E, S: Source + 's>(
+pub(crate) fn start_following<'s, E, H: Wait + Sync, S: Source + 's>(
     scope: &'s Scope<'s, E>,
-    alloc: Global,
+    rt: &'s H,
     source: S,
     lane: Sending,
-    flags: &'s Flags,
+    news: &'s News,
 ) -> Result<LaneThread, RunFault>
     ensures { IfOk result (λ h. h.promise.0.value ≡ lane.submitter) }
 {
@@ -181,10 +226,13 @@ pub(crate) fn start_following<'s, E, S: Source + 's>(
     let job = move || -> Sent
         ensures { IfSome result.ended
             (λ e. (e.ring ≡ lane.submitter.ring) × (e.lane ≡ lane.submitter.lane)) }
-    { follow(alloc, source, lane, flags) };
-    flags.begin_sending();
+    { follow(rt, source, lane, news) };
+    news.begin_sending();
     match scope.spawn_with(promise, job) {
         Ok(handle) => Ok(handle),
-        Err(_) => Err(RunFault::OutOfMemory),
+        Err(_) => {
+            news.end_sending();
+            Err(RunFault::OutOfMemory)
+        }
     }
 }

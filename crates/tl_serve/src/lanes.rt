@@ -4,8 +4,8 @@ ghost use Rattle.std.specs.Global.{Global as GlobalValue};
 ghost use Rattle.std.specs.Prelude.{◌≡◌, All, IfOk, IfSome};
 ghost use Rattle.tl_sequencer.specs.Log.{IsEndOf, IsSenderOf, Log};
 
-use crate::flags::Flags;
 use crate::gate::Gate;
+use crate::news::News;
 use std::alloc::Global;
 use std::snapshot::Snapshot;
 use std::thread;
@@ -20,11 +20,11 @@ pub(crate) struct Sending {
     pub(crate) entries: Vec<Vec<u8>>,
 }
 
-/// The end of a lane, if it could be closed, and how the sending went.
+/// The end of a lane, if it could be closed, and how many entries there were to send, as far as that is known.
 #[derive(Drop)]
 pub(crate) struct Sent {
     pub(crate) ended: Option<Ended<Global, Global>>,
-    pub(crate) outcome: Result<(), RunFault>,
+    pub(crate) count: u64,
 }
 
 /// That an end is of this submitter.
@@ -45,17 +45,23 @@ pub(crate) type LaneThread = PromisedHandle<Sent, EndOf>;
 pub(crate) fn send_one(
     submitter: &mut Submitter<Global, Global>,
     entry: Vec<u8>,
-    flags: &Flags,
+    news: &News,
 ) -> bool
     ensures { (submitter.new.ring ≡ submitter.old.ring)
         × (submitter.new.lane ≡ submitter.old.lane) }
 {
     let mut entry = entry;
     for _ in 0..u64::MAX {
+        if news.is_stopped() {
+            return false;
+        }
         match submitter.submit(entry) {
-            Ok(_) => return true,
+            Ok(_) => {
+                news.tell_entries();
+                return true;
+            }
             Err(refused) => {
-                if refused.why != Why::Full || flags.are_stopped() {
+                if refused.why != Why::Full {
                     return false;
                 }
                 entry = refused.entry;
@@ -70,13 +76,13 @@ pub(crate) fn send_one(
 fn send_all(
     submitter: Submitter<Global, Global>,
     entries: Vec<Vec<u8>>,
-    flags: &Flags,
+    news: &News,
 ) -> Option<Ended<Global, Global>>
     ensures { IfSome result (λ e. (e.ring ≡ submitter.ring) × (e.lane ≡ submitter.lane)) }
 {
     let mut submitter = submitter;
     for entry in entries {
-        if !send_one(&mut submitter, entry, flags) {
+        if !send_one(&mut submitter, entry, news) {
             break;
         }
     }
@@ -84,18 +90,16 @@ fn send_all(
 }
 
 // Passes the gate, and then sends the entries of a lane.
-fn send_lane<G: Gate>(gate: &G, lane: Sending, flags: &Flags) -> Sent
+fn send_lane<G: Gate>(gate: &G, lane: Sending, news: &News) -> Sent
     ensures { IfSome result.ended
         (λ e. (e.ring ≡ lane.submitter.ring) × (e.lane ≡ lane.submitter.lane)) }
 {
     let Sending { submitter, entries } = lane;
+    let count = entries.len() as u64;
     gate.pass(submitter.lane());
-    let ended = send_all(submitter, entries, flags);
-    flags.end_sending();
-    Sent {
-        ended,
-        outcome: Ok(()),
-    }
+    let ended = send_all(submitter, entries, news);
+    news.end_sending();
+    Sent { ended, count }
 }
 
 // Starts the thread of a lane, which promises that its end is of the lane's submitter.
@@ -103,7 +107,7 @@ fn start_lane<'s, E, G: Gate>(
     scope: &'s Scope<'s, E>,
     gate: &'s G,
     lane: Sending,
-    flags: &'s Flags,
+    news: &'s News,
 ) -> Result<LaneThread, RunFault>
     ensures { IfOk result (λ h. h.promise.0.value ≡ lane.submitter) }
 {
@@ -111,11 +115,14 @@ fn start_lane<'s, E, G: Gate>(
     let job = move || -> Sent
         ensures { IfSome result.ended
             (λ e. (e.ring ≡ lane.submitter.ring) × (e.lane ≡ lane.submitter.lane)) }
-    { send_lane(gate, lane, flags) };
-    flags.begin_sending();
+    { send_lane(gate, lane, news) };
+    news.begin_sending();
     match scope.spawn_with(promise, job) {
         Ok(handle) => Ok(handle),
-        Err(_) => Err(RunFault::OutOfMemory),
+        Err(_) => {
+            news.end_sending();
+            Err(RunFault::OutOfMemory)
+        }
     }
 }
 
@@ -125,24 +132,24 @@ pub(crate) fn start_lanes<'s, E, G: Gate>(
     alloc: Global,
     gate: &'s G,
     lanes: Vec<Sending>,
-    flags: &'s Flags,
+    news: &'s News,
 ) -> Result<Vec<LaneThread>, RunFault>
     ensures { (log : Log GlobalValue) → All (λ l. IsSenderOf l.submitter log) lanes.items
         → IfOk result (λ threads. All (λ h. IsSenderOf h.promise.0.value log) threads.items) }
 {
     let mut threads = Vec::new(alloc);
     for lane in lanes {
-        let thread = start_lane(scope, gate, lane, flags)?;
+        let thread = start_lane(scope, gate, lane, news)?;
         threads.push(thread)?;
     }
     Ok(threads)
 }
 
-/// What the threads of the lanes came to.
+/// What the threads of the lanes came to: their ends, and how many entries there were to send.
 #[derive(Drop)]
 pub(crate) struct AllSent {
     pub(crate) ends: Vec<Ended<Global, Global>>,
-    pub(crate) outcome: Result<(), RunFault>,
+    pub(crate) count: u64,
 }
 
 /// Waits for the threads of the lanes. The ends are of the submitters that were handed to them.
@@ -155,17 +162,14 @@ pub(crate) fn join_lanes<T: Threads>(
         → IfOk result (λ sent. All (λ e. IsEndOf e log) sent.ends.items) }
 {
     let mut ends = Vec::new(alloc);
-    let mut outcome = Ok(());
+    let mut count = 0u64;
     for thread in threads {
-        let Sent {
-            ended,
-            outcome: own,
-        } = thread.join(rt);
-        outcome = outcome.and(own);
+        let Sent { ended, count: own } = thread.join(rt);
+        count = count.saturating_add(own);
         let Some(ended) = ended else {
             continue;
         };
         ends.push(ended)?;
     }
-    Ok(AllSent { ends, outcome })
+    Ok(AllSent { ends, count })
 }

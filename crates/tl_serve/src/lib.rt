@@ -3,29 +3,33 @@
 //!
 //! ```
 //! let options = ServeOptions { origin, key: LogKey::Secret(secret), .. };
-//! run_serve(&rt, alloc, &options, &mut reader, &mut log)?; // tells `listening 127.0.0.1:8080`, and ends in time
+//! run_serve(&rt, alloc, &options, None, &mut reader, &mut log)?; // tells `listening 127.0.0.1:8080`, and ends in time
 //! ```
 #![tactic(auto)]
 
 mod answering;
 mod append;
+mod awaited;
 mod door;
-mod flags;
 mod following;
 mod gate;
+mod guests;
 mod host;
 mod keeping;
 mod lanes;
+mod lines;
 mod live_log;
 mod log_keys;
+mod news;
 mod opening;
 mod options;
 mod pages;
+mod request;
 mod running;
 mod saver;
 mod serve;
 mod serve_shelf;
-mod taking;
+mod serving;
 mod telling;
 mod witness;
 

@@ -28,8 +28,8 @@ pub(crate) trait LiveLog: RunningLog + Drop {
         ensures book { IfOk result
             (λ shown. IfSome shown (λ p. p.book ≡ (Self.state self.old).past.book)) };
 
-    /// Takes in all that is left of the lane of an end.
-    fn end_lane(&mut self, ended: Ended<Global, Global>) -> Result<(), RunFault>
+    /// Takes in all that is left of the lane of an end: how many entries.
+    fn end_lane(&mut self, ended: Ended<Global, Global>) -> Result<u64, RunFault>
         requires operating { IsOperating (Self.state self.old) }
         requires end { IsEndOf ended (Self.state self.old).log }
         ensures { StaysOperating (Self.state self.old) (Self.state self.new) };
@@ -65,9 +65,9 @@ impl<H: Host> LiveLog for Operator<H> {
         }
     }
 
-    fn end_lane(&mut self, ended: Ended<Global, Global>) -> Result<(), RunFault> {
+    fn end_lane(&mut self, ended: Ended<Global, Global>) -> Result<u64, RunFault> {
         match self.end(ended) {
-            Ok(_taken) => Ok(()),
+            Ok(taken) => Ok(taken),
             Err(refused) => Err(refusal(refused.why)),
         }
     }

@@ -2,8 +2,8 @@
 
 ghost use Rattle.std.specs.Prelude.{◌≡◌, IfOk, map};
 
-use crate::following::Lines;
 use crate::lanes::Sending;
+use crate::lines::Lines;
 use crate::options::ServeOptions;
 use std::alloc::{AllocError, Global};
 use std::io::Read;
@@ -69,7 +69,7 @@ fn read_log<R: Read>(
     reader: &mut Counted<R>,
 ) -> Result<(Vec<Vec<u8>>, Vec<Vec<u8>>), RunFault> {
     if options.follow {
-        let base = lines.take(alloc, reader, size)?;
+        let base = lines.take(reader, size)?;
         return Ok((base, Vec::new(alloc)));
     }
     let mut base = read_entries(alloc, reader, MOST_INPUT)?;

@@ -51,8 +51,10 @@ pub struct ListenOptions {
     pub connections: Option<u64>,
     /// How many threads answer, 1 to 63; without it, as many as the machine has.
     pub threads: Option<u64>,
-    /// How many seconds one connection may take in all, at least 1.
+    /// How many seconds one connection may take in all, at least 1; half of them for the head of its request.
     pub timeout: u64,
+    /// How many connections are held at most at once, at least 1.
+    pub clients: u64,
     /// Whether only the address is told.
     pub quiet: bool,
 }

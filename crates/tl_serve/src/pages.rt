@@ -7,8 +7,8 @@ use tl_device::Counted;
 use tl_publisher::BoardReader;
 use tl_server::{ServeFault, serve_log, serve_shelf};
 
-/// What a thread answers requests to a log from.
-pub(crate) trait Pages: Send + Drop {
+/// What a thread answers requests from.
+pub(crate) trait Pages: Drop {
     /// Answers one request: its status, none where no byte came.
     fn answer<I: Read, O: Write>(
         &mut self,

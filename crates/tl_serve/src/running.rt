@@ -1,279 +1,237 @@
-//! How the threads of a running log are started, and how they end.
+//! A log that runs, by the thread that carries its steps out.
 
-ghost use Rattle.std.specs.Global.{Global as GlobalValue};
-ghost use Rattle.std.specs.Prelude.{◌≡◌, All, IfOk};
+ghost use Rattle.std.specs.Prelude.{◌≡◌, All};
 ghost use Rattle.tl_publisher.specs.Operating.{IsOperating};
-ghost use Rattle.tl_sequencer.specs.Log.{IsEndOf, IsSenderOf, Log};
+ghost use Rattle.tl_sequencer.specs.Log.{IsEndOf};
+ghost use Rattle.tl_serve.specs.Inner.Running.{StaysOperating};
 
-use crate::answering::answer_log;
-use crate::door::Door;
-use crate::flags::Flags;
-use crate::following::{Source, start_following};
-use crate::gate::Gate;
-use crate::host::Host;
 use crate::keeping::{Archiving, Keeper};
-use crate::lanes::{AllSent, LaneThread, Sending, join_lanes, start_lanes};
 use crate::live_log::LiveLog;
-use crate::options::ServeOptions;
-use crate::pages::Pages;
-use crate::taking::{Rounds, take_all};
-use crate::telling::tell_closed;
+use crate::telling::{tell_head, tell_input_ended, tell_not_published, tell_too_long};
 use std::alloc::Global;
 use std::io::Write;
-use std::net::{Net, TcpListener, TcpStream};
-use std::thread;
-use std::thread::{JoinHandle, Scope, Threads};
-use std::time::Clock;
 use tl_command::RunFault;
 use tl_device::Counted;
+use tl_heart::{Event, Heart, Step};
 use tl_sequencer::Ended;
 
-// How much is taken at a time from so many lanes.
-fn rounds_of(options: &ServeOptions, lanes: usize) -> Rounds {
-    Rounds {
-        lanes: u32::try_from(lanes).unwrap_or(u32::MAX),
-        batch: options.batch,
-        is_following: options.follow,
-        is_quiet: options.server.quiet,
+/// Where the thread that carries steps out learns what happens beside it.
+pub(crate) trait Feed {
+    /// Waits until something happens.
+    fn wait(&mut self) -> Event<RunFault>;
+}
+
+/// How much is taken and published at a time, and what is told.
+#[derive(Clone, Copy)]
+pub(crate) struct Rounds {
+    /// How many entries make a publication due at once.
+    pub(crate) batch: u64,
+    /// How many lanes there are.
+    pub(crate) lanes: u32,
+    /// How many entries of a lane are taken at most in a round; without it, as many as make a publication due.
+    pub(crate) most: Option<u64>,
+    /// What is told before size and root; without it, nothing is told.
+    pub(crate) word: Option<&'static str>,
+}
+
+/// A log that runs, who keeps what it publishes, and how many entries were taken and kept.
+#[derive(Drop)]
+pub(crate) struct Running<O, K> {
+    pub(crate) operator: O,
+    pub(crate) kept: Archiving<K>,
+    pub(crate) rounds: Rounds,
+    pub(crate) taken: u64,
+    pub(crate) archived: u64,
+}
+
+// What came of a call that counts nothing.
+fn done(outcome: Result<(), RunFault>) -> Event<RunFault> {
+    match outcome {
+        Ok(()) => Event::Done(0),
+        Err(fault) => Event::Failed(fault),
     }
 }
 
-// Takes in the ends, publishes and keeps what they brought, and closes the log: how many entries it has.
-fn close_log<O: LiveLog, K: Keeper>(
-    alloc: Global,
-    operator: O,
-    kept: &mut Archiving<K>,
+// Takes from each lane in turn: how many entries in all.
+fn take_round<O: LiveLog>(operator: &mut O, lanes: u32, most: u64) -> Result<u64, RunFault>
+    requires { IsOperating (O.state operator.old) }
+    ensures { StaysOperating (O.state operator.old) (O.state operator.new) }
+{
+    let mut count = 0u64;
+    for lane in 0..lanes {
+        let taken = operator.take_in(lane, most)?;
+        count = count.saturating_add(taken);
+    }
+    Ok(count)
+}
+
+// Takes in what is left of the lanes of these ends: how many entries.
+fn take_ends<O: LiveLog>(
+    operator: &mut O,
     ends: Vec<Ended<Global, Global>>,
 ) -> Result<u64, RunFault>
-    requires operating { IsOperating (O.state operator) }
-    requires ends { All (λ e. IsEndOf e (O.state operator).log) ends.items }
+    requires operating { IsOperating (O.state operator.old) }
+    requires ends { All (λ e. IsEndOf e (O.state operator.old).log) ends.items }
+    ensures { StaysOperating (O.state operator.old) (O.state operator.new) }
 {
-    let mut operator = operator;
+    let mut count = 0u64;
     for ended in ends {
-        operator.end_lane(ended)?;
+        let taken = operator.end_lane(ended)?;
+        count = count.saturating_add(taken);
     }
-    operator.show()?;
-    kept.keep(alloc)?;
-    operator.finish()
+    Ok(count)
 }
 
-// Answers connections, and tells when it ends.
-fn answer<H: Clock + Net, P: Pages>(
-    rt: &H,
-    alloc: Global,
-    door: &Door,
-    pages: P,
-    flags: &Flags,
-) -> Result<(), RunFault> {
-    let outcome = answer_log(rt, alloc, door, pages);
-    flags.end_answering();
-    outcome
-}
+impl<O: LiveLog, K: Keeper> Running<O, K> {
+    /// A log of which nothing is taken yet.
+    pub(crate) fn new(operator: O, kept: Archiving<K>, rounds: Rounds) -> Running<O, K>
+        ensures { result.operator ≡ operator }
+    {
+        Running {
+            operator,
+            kept,
+            rounds,
+            taken: 0,
+            archived: 0,
+        }
+    }
 
-// Starts a thread that answers from each of these.
-fn start_answering<'s, E, H: Host + Net<Listener = TcpListener, Stream = TcpStream>, P: Pages + 's>(
-    scope: &'s Scope<'s, E>,
-    rt: &'s H,
-    alloc: Global,
-    door: &'s Door,
-    pages: Vec<P>,
-    flags: &'s Flags,
-) -> Result<Vec<JoinHandle<Result<(), RunFault>>>, RunFault> {
-    let mut threads = Vec::new(alloc);
-    for own in pages {
-        flags.begin_answering();
-        match scope.spawn(move || answer(rt, alloc, door, own, flags)) {
-            Ok(thread) => threads.push(thread)?,
-            Err(_) => {
-                flags.end_answering();
-                break;
+    /// What a log that is served does first.
+    pub(crate) fn begin(&self) -> Heart<RunFault> {
+        Heart::serving(self.rounds.batch)
+    }
+
+    // Counts entries that were taken.
+    fn count(&mut self, outcome: Result<u64, RunFault>) -> Event<RunFault>
+        ensures { self.new.operator ≡ self.old.operator }
+    {
+        match outcome {
+            Ok(count) => {
+                self.taken = self.taken.saturating_add(count);
+                Event::Done(count)
             }
+            Err(fault) => Event::Failed(fault),
         }
     }
-    if threads.is_empty() {
-        return Err(RunFault::OutOfMemory);
+
+    // Takes in what waits, of each lane at most as many as a round takes.
+    fn take(&mut self, left: u64) -> Event<RunFault>
+        requires { IsOperating (O.state self.old.operator) }
+        ensures { StaysOperating (O.state self.old.operator) (O.state self.new.operator) }
+    {
+        let most = self.rounds.most.unwrap_or(left);
+        let outcome = take_round(&mut self.operator, self.rounds.lanes, most);
+        self.count(outcome)
     }
-    Ok(threads)
-}
 
-// Starts the threads that send: one for each lane, or the one that follows the input.
-fn start_sending<'s, E, S: Source + 's, G: Gate>(
-    scope: &'s Scope<'s, E>,
-    alloc: Global,
-    lanes: Vec<Sending>,
-    followed: Option<S>,
-    gate: &'s G,
-    flags: &'s Flags,
-) -> Result<Vec<LaneThread>, RunFault>
-    ensures { (log : Log GlobalValue) → All (λ l. IsSenderOf l.submitter log) lanes.items
-        → IfOk result (λ threads. All (λ h. IsSenderOf h.promise.0.value log) threads.items) }
-{
-    let Some(source) = followed else {
-        return start_lanes(scope, alloc, gate, lanes, flags);
-    };
-    let mut lanes = lanes;
-    let Some(lane) = lanes.pop() else {
-        return Err(RunFault::Operator);
-    };
-    let thread = start_following(scope, alloc, source, lane, flags)?;
-    let mut threads = Vec::new(alloc);
-    threads.push(thread)?;
-    Ok(threads)
-}
-
-// Waits for those that answer and for the threads of the lanes: the ends of the lanes. The ends are of the submitters
-// that were handed to these threads.
-fn join_all<T: Threads>(
-    rt: &T,
-    alloc: Global,
-    answering: Vec<JoinHandle<Result<(), RunFault>>>,
-    sending: Vec<LaneThread>,
-) -> Result<Vec<Ended<Global, Global>>, RunFault>
-    ensures { (log : Log GlobalValue) → All (λ h. IsSenderOf h.promise.0.value log) sending.items
-        → IfOk result (λ ends. All (λ e. IsEndOf e log) ends.items) }
-{
-    let mut answered = Ok(());
-    for thread in answering {
-        answered = answered.and(thread.join(rt));
+    /// Takes in all that is left of the lanes of these ends.
+    pub(crate) fn take_rest(&mut self, ends: Vec<Ended<Global, Global>>) -> Event<RunFault>
+        requires operating { IsOperating (O.state self.old.operator) }
+        requires ends { All (λ e. IsEndOf e (O.state self.old.operator).log) ends.items }
+        ensures { StaysOperating (O.state self.old.operator) (O.state self.new.operator) }
+    {
+        let outcome = take_ends(&mut self.operator, ends);
+        self.count(outcome)
     }
-    let AllSent { ends, outcome } = join_lanes(rt, alloc, sending)?;
-    answered?;
-    outcome?;
-    Ok(ends)
-}
 
-// Takes while the lanes' threads send and others answer, and closes the log in the end: how many entries it has.
-fn run_sending<
-    's,
-    E,
-    H: Host + Net<Listener = TcpListener, Stream = TcpStream>,
-    O: LiveLog,
-    K: Keeper,
-    P: Pages + 's,
-    L: Write,
->(
-    scope: &'s Scope<'s, E>,
-    rt: &'s H,
-    alloc: Global,
-    operator: O,
-    kept: Archiving<K>,
-    pages: Vec<P>,
-    sending: Vec<LaneThread>,
-    door: &'s Door,
-    log: &mut Counted<L>,
-    rounds: Rounds,
-    flags: &'s Flags,
-) -> Result<u64, RunFault>
-    requires operating { IsOperating (O.state operator) }
-    requires senders { All
-        (λ h. IsSenderOf h.promise.0.value (O.state operator).log) sending.items }
-{
-    let (mut operator, mut kept) = (operator, kept);
-    let threads = start_answering(scope, rt, alloc, door, pages, flags)?;
-    let taken = take_all(rt, alloc, &mut operator, &mut kept, log, rounds, flags);
-    if taken.is_err() {
-        door.close(rt);
-    }
-    let ends = join_all(rt, alloc, threads, sending)?;
-    taken?;
-    close_log(alloc, operator, &mut kept, ends)
-}
-
-// Runs the threads of a log: how many entries it has in the end.
-fn run_in<
-    's,
-    E,
-    H: Host + Net<Listener = TcpListener, Stream = TcpStream>,
-    O: LiveLog,
-    K: Keeper,
-    P: Pages + 's,
-    S: Source + 's,
-    L: Write,
-    G: Gate,
->(
-    scope: &'s Scope<'s, E>,
-    rt: &'s H,
-    alloc: Global,
-    operator: O,
-    lanes: Vec<Sending>,
-    kept: Archiving<K>,
-    pages: Vec<P>,
-    followed: Option<S>,
-    door: &'s Door,
-    log: &mut Counted<L>,
-    rounds: Rounds,
-    gate: &'s G,
-    flags: &'s Flags,
-) -> Result<u64, RunFault>
-    requires operating { IsOperating (O.state operator) }
-    requires senders { All (λ l. IsSenderOf l.submitter (O.state operator).log) lanes.items }
-{
-    let sending = start_sending(scope, alloc, lanes, followed, gate, flags);
-    let closed = match sending {
-        Ok(sending) => {
-            run_sending(
-                scope, rt, alloc, operator, kept, pages, sending, door, log, rounds, flags,
-            )
+    // Publishes what was taken in.
+    fn publish(&mut self) -> Event<RunFault>
+        requires { IsOperating (O.state self.old.operator) }
+        ensures { StaysOperating (O.state self.old.operator) (O.state self.new.operator) }
+    {
+        match self.operator.show() {
+            Ok(Some(_published)) => Event::Done(0),
+            Ok(None) => Event::NothingNew,
+            Err(fault) => Event::Failed(fault),
         }
-        Err(fault) => Err(fault),
-    };
-    flags.stop();
-    closed
-}
-
-// Tells how many entries the log has that was closed, unless nothing is told.
-fn end_log<L: Write>(
-    alloc: Global,
-    log: &mut Counted<L>,
-    closed: Result<u64, RunFault>,
-    is_quiet: bool,
-) -> Result<(), RunFault> {
-    let size = closed?;
-    if is_quiet {
-        return Ok(());
     }
-    tell_closed(alloc, log, size)
-}
 
-/// Runs a log that was opened and published once, until its connections are answered, and closes it.
-pub(crate) fn run_log<
-    H: Host + Net<Listener = TcpListener, Stream = TcpStream>,
-    O: LiveLog,
-    K: Keeper,
-    P: Pages,
-    S: Source,
-    L: Write,
-    G: Gate,
->(
-    rt: &H,
-    alloc: Global,
-    options: &ServeOptions,
-    operator: O,
-    lanes: Vec<Sending>,
-    kept: Archiving<K>,
-    pages: Vec<P>,
-    followed: Option<S>,
-    door: &Door,
-    log: &mut Counted<L>,
-    gate: &G,
-) -> Result<(), RunFault>
-    requires operating { IsOperating (O.state operator) }
-    requires senders { All (λ l. IsSenderOf l.submitter (O.state operator).log) lanes.items }
-{
-    let (flags, rounds) = (Flags::new(), rounds_of(options, lanes.len()));
-    let closed = thread::scope(
-        thread::scope_env(),
-        rt,
-        |scope|
-            requires operating { IsOperating (O.state operator) }
-            requires senders { All
-                (λ l. IsSenderOf l.submitter (O.state operator).log) lanes.items }
-        {
-            run_in(
-                scope, rt, alloc, operator, lanes, kept, pages, followed, door, log, rounds, gate,
-                &flags,
-            )
-        },
-    );
-    end_log(alloc, log, closed, options.server.quiet)
+    // Archives what was published.
+    fn archive(&mut self, alloc: Global) -> Event<RunFault>
+        ensures { self.new.operator ≡ self.old.operator }
+    {
+        match self.kept.keep(alloc) {
+            Ok(()) => {
+                self.archived = self.taken;
+                Event::Done(0)
+            }
+            Err(fault) => Event::Failed(fault),
+        }
+    }
+
+    // Tells what was archived.
+    fn tell_head<L: Write>(&mut self, alloc: Global, log: &mut Counted<L>) -> Event<RunFault>
+        ensures { self.new.operator ≡ self.old.operator }
+    {
+        match self.rounds.word {
+            Some(word) => done(tell_head(alloc, log, &mut self.kept.board, word)),
+            None => Event::Done(0),
+        }
+    }
+
+    // Tells that the input has ended.
+    fn tell_input_ended<L: Write>(&self, log: &mut Counted<L>) -> Event<RunFault> {
+        match self.rounds.word {
+            Some(_) => done(tell_input_ended(log)),
+            None => Event::Done(0),
+        }
+    }
+
+    // Carries a step out: what came of it. None where the step is another thread's, too.
+    fn carry_out<F: Feed, L: Write>(
+        &mut self,
+        alloc: Global,
+        heart: Heart<RunFault>,
+        feed: &mut F,
+        log: &mut Counted<L>,
+    ) -> Option<Event<RunFault>>
+        requires { IsOperating (O.state self.old.operator) }
+        ensures { StaysOperating (O.state self.old.operator) (O.state self.new.operator) }
+    {
+        match heart.step() {
+            Step::Wait => Some(feed.wait()),
+            Step::Take => Some(self.take(heart.left)),
+            Step::Publish => Some(self.publish()),
+            Step::Archive => Some(self.archive(alloc)),
+            Step::TellHead => Some(self.tell_head(alloc, log)),
+            Step::TellTooLong(line) => Some(done(tell_too_long(alloc, log, line))),
+            Step::TellInputEnded => Some(self.tell_input_ended(log)),
+            _ => None,
+        }
+    }
+
+    /// Carries steps out, until one of them is another thread's, too: that is the next.
+    pub(crate) fn drive<F: Feed, L: Write>(
+        &mut self,
+        alloc: Global,
+        heart: Heart<RunFault>,
+        feed: &mut F,
+        log: &mut Counted<L>,
+    ) -> Heart<RunFault>
+        requires { IsOperating (O.state self.old.operator) }
+        ensures { StaysOperating (O.state self.old.operator) (O.state self.new.operator) }
+    {
+        let mut heart = heart;
+        for _ in 0..u64::MAX {
+            let Some(event) = self.carry_out(alloc, heart, feed, log) else {
+                break;
+            };
+            heart = heart.after(event);
+        }
+        heart
+    }
+
+    /// Tells how many of so many lines were not published, if any weren't.
+    pub(crate) fn tell_rest<L: Write>(
+        &self,
+        alloc: Global,
+        log: &mut Counted<L>,
+        lines: u64,
+    ) -> Result<(), RunFault> {
+        let rest = lines.saturating_sub(self.archived);
+        if rest == 0 {
+            return Ok(());
+        }
+        tell_not_published(alloc, log, rest)
+    }
 }

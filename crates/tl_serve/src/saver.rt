@@ -39,6 +39,11 @@ impl<'a, 'w, H: Wait, O: Write> LineSaver<'a, 'w, H, O> {
         }
     }
 
+    /// Whether a save has failed.
+    pub(crate) fn has_failed(&self) -> bool {
+        self.failures > 0
+    }
+
     // Writes the line of a link, and says whether it was written.
     fn print<A: Allocator>(&self, origin: &str, link: &Link<A>) -> bool
         requires { IsChainLine (record { origin = origin.now; step = step_of link.now }) }

@@ -7,21 +7,28 @@ ghost use Rattle.tl_sequencer.specs.Log.{IsSenderOf};
 ghost use Rattle.tl_serve.specs.Inner.Running.{StaysOperating};
 ghost use Rattle.tl_serve.specs.Serving.{RefusesOrigin};
 
+use crate::awaited::Awaited;
 use crate::door::Door;
-use crate::following::{Followed, Lines};
+use crate::following::Followed;
 use crate::gate::{Gate, OpenGate};
 use crate::host::Host;
 use crate::keeping::{Archiving, InMemory, Keeper};
 use crate::lanes::Sending;
+use crate::lines::Lines;
 use crate::live_log::{LiveLog, MOST_ENTRIES};
 use crate::log_keys::{LogKeys, keys_of};
+use crate::news::News;
 use crate::opening::{bundles_of, lanes_of, read_plan, size_of, with_newline};
 use crate::options::ServeOptions;
 use crate::pages::Pages;
-use crate::running::run_log;
+use crate::running::Rounds;
+use crate::serving::{Common, run_log};
+use crate::telling::tell_in_memory;
+use mio::Waker;
 use std::alloc::Global;
 use std::io::{Read, Write};
 use std::net::{Net, TcpListener, TcpStream};
+use std::os::fd::RawFd;
 use std::sync::Arc;
 use std::thread::{Threads, available_parallelism};
 use tl_command::RunFault;
@@ -77,12 +84,17 @@ pub(crate) fn publish_first<O: LiveLog>(
     }
 }
 
+// What is told before size and root.
+const PUBLISHED: &str = "published ";
+
 /// What a log is served with.
 #[derive(Drop)]
 pub(crate) struct Server<'s, H, G> {
     pub(crate) rt: &'s H,
     pub(crate) alloc: Global,
     pub(crate) options: &'s ServeOptions,
+    // The descriptor of the input, if there is one to wait for.
+    pub(crate) input: Option<RawFd>,
     pub(crate) gate: &'s G,
 }
 
@@ -92,8 +104,62 @@ impl<H: Host + Net<Listener = TcpListener, Stream = TcpStream>, G: Gate> Server<
         threads_of(self.rt, self.options.server.threads) + 1
     }
 
+    // How much is taken at a time from so many lanes, and what is told. Lines that are followed are gathered to a batch
+    // while more wait.
+    fn rounds(&self, lanes: usize) -> Rounds {
+        Rounds {
+            batch: if self.options.follow {
+                self.options.batch
+            } else {
+                1
+            },
+            lanes: u32::try_from(lanes).unwrap_or(u32::MAX),
+            most: if self.options.follow {
+                None
+            } else {
+                Some(self.options.batch)
+            },
+            word: if self.options.server.quiet {
+                None
+            } else {
+                Some(PUBLISHED)
+            },
+        }
+    }
+
+    // Opens the door, and tells where it is, and whether the log is in memory alone.
+    fn open_door<L: Write>(&self, threads: usize, log: &mut Counted<L>) -> Result<Door, RunFault> {
+        let threads = u32::try_from(threads).unwrap_or(u32::MAX);
+        let server = &self.options.server;
+        let door = Door::open(self.rt, self.alloc, server, threads, log)?;
+        if self.options.dir.is_none() && !server.quiet {
+            tell_in_memory(log)?;
+        }
+        Ok(door)
+    }
+
+    // The lines that are followed, if any are, and what wakes the thread that waits for them.
+    fn follow<'r, R: Read + Send>(
+        &self,
+        lines: Lines,
+        reader: &'r mut Counted<R>,
+    ) -> Result<(Option<Followed<'r, R>>, Option<Waker>), RunFault> {
+        if !self.options.follow {
+            return Ok((None, None));
+        }
+        let (input, waker) = Awaited::new(self.rt, self.alloc, self.input)?;
+        let before = lines.entries();
+        let followed = Followed {
+            lines,
+            reader,
+            input,
+            before,
+        };
+        Ok((Some(followed), Some(waker)))
+    }
+
     /// Serves a log that was published once.
-    pub(crate) fn serve_published<O: LiveLog, K: Keeper, P: Pages, R: Read + Send, L: Write>(
+    pub(crate) fn serve_published<O: LiveLog, K: Keeper, P: Pages + Send, R: Read + Send, L: Write>(
         &self,
         operator: O,
         lanes: Vec<Sending>,
@@ -106,17 +172,18 @@ impl<H: Host + Net<Listener = TcpListener, Stream = TcpStream>, G: Gate> Server<
         requires operating { IsOperating (O.state operator) }
         requires senders { All (λ l. IsSenderOf l.submitter (O.state operator).log) lanes.items }
     {
-        let (rt, alloc, options) = (self.rt, self.alloc, self.options);
-        let threads = u32::try_from(pages.len()).unwrap_or(u32::MAX);
-        let door = Door::open(rt, alloc, &options.server, threads, log)?;
-        let followed = if options.follow {
-            Some(Followed { lines, reader })
-        } else {
-            None
+        let (followed, following) = self.follow(lines, reader)?;
+        let news = News::new(self.rt, self.alloc, following)?;
+        let door = self.open_door(pages.len(), log)?;
+        let common = Common {
+            rt: self.rt,
+            alloc: self.alloc,
+            door: &door,
+            gate: self.gate,
+            news: &news,
         };
-        run_log(
-            rt, alloc, options, operator, lanes, kept, pages, followed, &door, log, self.gate,
-        )
+        let rounds = self.rounds(lanes.len());
+        run_log(common, operator, kept, rounds, pages, lanes, followed, log)
     }
 
     // Serves a log in memory that was opened, and is to be sent these entries.
@@ -211,6 +278,7 @@ pub fn serve_gated<
     rt: &H,
     alloc: Global,
     options: &ServeOptions,
+    input: Option<RawFd>,
     reader: &mut Counted<R>,
     log: &mut Counted<L>,
     gate: Arc<G>,
@@ -231,6 +299,7 @@ pub fn serve_gated<
         rt,
         alloc,
         options,
+        input,
         gate,
     };
     match &options.note {
@@ -243,8 +312,9 @@ pub fn serve_gated<
 }
 
 /// Serves the log of the lines of the input over HTTP: tells the address, then answers connections, each by
-/// `tl_server::serve_log`, and ends after as many as the options say. A thread for each lane sends its entries, and
-/// this one takes and publishes them. In the end the log is closed. It may wait.
+/// `tl_server::serve_log`, and ends after as many as the options say, or once something fails. A thread for each lane
+/// sends its entries, and this one takes and publishes them. In the end the log is closed. `input` is the descriptor of
+/// the reader, where lines are followed and there is one to wait for. It may wait.
 pub fn run_serve<
     H: Host + Net<Listener = TcpListener, Stream = TcpStream>,
     R: Read + Send,
@@ -253,6 +323,7 @@ pub fn run_serve<
     rt: &H,
     alloc: Global,
     options: &ServeOptions,
+    input: Option<RawFd>,
     reader: &mut Counted<R>,
     log: &mut Counted<L>,
 ) -> Result<(), RunFault>
@@ -265,5 +336,5 @@ pub fn run_serve<
     let Ok(gate) = Arc::new(alloc, OpenGate) else {
         return Err(RunFault::OutOfMemory);
     };
-    serve_gated(rt, alloc, options, reader, log, gate)
+    serve_gated(rt, alloc, options, input, reader, log, gate)
 }

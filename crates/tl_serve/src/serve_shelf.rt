@@ -19,6 +19,7 @@ use crate::serve::{Server, publish_first};
 use std::alloc::{AllocError, Global};
 use std::io::{Read, Write};
 use std::net::{Net, TcpListener, TcpStream};
+use std::os::fd::RawFd;
 use tl_archive::{Archive, FoundLog, Shelf, read_log};
 use tl_command::RunFault;
 use tl_device::Counted;
@@ -161,6 +162,7 @@ pub fn run_serve_shelf<
     options: &ServeOptions,
     shelf: S,
     shown: Vec<P>,
+    input: Option<RawFd>,
     reader: &mut Counted<R>,
     log: &mut Counted<L>,
 ) -> Result<(), RunFault>
@@ -179,6 +181,7 @@ pub fn run_serve_shelf<
         rt,
         alloc,
         options,
+        input,
         gate: &OpenGate,
     };
     let shelves = Shelves { shelf, shown };

@@ -7,6 +7,10 @@ use tl_command::{RunFault, print_text};
 use tl_device::Counted;
 use tl_publisher::BoardReader;
 
+// What is told of a log that is nowhere but in memory.
+const IN_MEMORY: &str =
+    "in memory: nothing of this log outlasts the program; readers who kept a checkpoint will find it shrunk\n";
+
 /// Tells size and root of the last publication that a reader of the board sees, after this word.
 pub(crate) fn tell_head<L: Write>(
     alloc: Global,
@@ -30,4 +34,34 @@ pub(crate) fn tell_closed<L: Write>(
 ) -> Result<(), RunFault> {
     let line = format!(in alloc; "closed {size}\n")?;
     print_text(log, line.as_bytes())
+}
+
+/// Tells that the line with this number, counted from 0, is too long and was left out.
+pub(crate) fn tell_too_long<L: Write>(
+    alloc: Global,
+    log: &mut Counted<L>,
+    line: u64,
+) -> Result<(), RunFault> {
+    let line = format!(in alloc; "line {line} too long\n")?;
+    print_text(log, line.as_bytes())
+}
+
+/// Tells that the input has ended.
+pub(crate) fn tell_input_ended<L: Write>(log: &mut Counted<L>) -> Result<(), RunFault> {
+    print_text(log, b"input ended\n")
+}
+
+/// Tells how many lines came and were not published.
+pub(crate) fn tell_not_published<L: Write>(
+    alloc: Global,
+    log: &mut Counted<L>,
+    count: u64,
+) -> Result<(), RunFault> {
+    let line = format!(in alloc; "lines not published: {count}\n")?;
+    print_text(log, line.as_bytes())
+}
+
+/// Tells that the log is in memory alone.
+pub(crate) fn tell_in_memory<L: Write>(log: &mut Counted<L>) -> Result<(), RunFault> {
+    print_text(log, IN_MEMORY.as_bytes())
 }

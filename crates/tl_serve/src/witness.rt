@@ -4,25 +4,31 @@ ghost use Rattle.std.specs.Prelude.{string_bytes};
 ghost use Rattle.tl_device.specs.Device.{passage};
 ghost use Rattle.tl_serve.specs.Serving.{RefusesOrigin};
 
-use crate::answering::answer_witness;
+use crate::answering::answer;
 use crate::door::Door;
 use crate::host::Host;
+use crate::news::News;
 use crate::options::{LogVerifierKey, WitnessOptions, WitnessSignerKey};
+use crate::pages::Pages;
+use crate::saver::LineSaver;
 use crate::serve::threads_of;
+use mio::Poll;
 use std::alloc::Global;
 use std::fs::Files;
 use std::io::{Read, Write};
 use std::net::{Net, TcpListener, TcpStream};
-use std::sync::Mutex;
+use std::sync::{Mutex, Wait};
 use std::thread;
 use std::thread::Scope;
+use std::time::{Clock, SystemTime, UNIX_EPOCH};
 use tl_command::{MOST_INPUT, RunFault, read_file, read_input, read_log_key, read_private_key};
 use tl_device::Counted;
 use tl_hash::Sha256Tree;
+use tl_heart::Event;
 use tl_key::{Cosignature, DemoKey, Note, SignerKey, VerifierKey, demo_key};
 use tl_note::{NoteFault, Signer, Verifier, is_key_name};
 use tl_proof::Link;
-use tl_server::Witness;
+use tl_server::{ServeFault, Witness, serve_witness};
 use tl_witness::{Book, BookFault, ChainFault, SharedWitness, Trust, read_chain};
 
 // The chains that an earlier run printed.
@@ -49,7 +55,69 @@ fn refusal(fault: BookFault) -> RunFault {
     }
 }
 
-// Starts the threads that answer, and answers with them.
+// What requests to a witness are answered from.
+#[derive(Drop)]
+struct Asked<'w, 'o, H, W, O> {
+    rt: &'w H,
+    witness: &'w W,
+    time: Option<u64>,
+    out: &'w Mutex<&'o mut Counted<O>>,
+    news: &'w News,
+}
+
+// The seconds since 1970 to cosign with: those that were given, or else those of the machine's clock.
+fn seconds<H: Clock>(rt: &H, given: Option<u64>) -> u64 {
+    if let Some(seconds) = given {
+        return seconds;
+    }
+    let Ok(now) = SystemTime::now(rt) else {
+        return 0;
+    };
+    match now.duration_since(UNIX_EPOCH) {
+        Ok(since) => since.as_secs(),
+        Err(_) => 0,
+    }
+}
+
+impl<H: Clock + Wait, W: Witness<Global>, O: Write> Pages for Asked<'_, '_, H, W, O> {
+    fn answer<I: Read, Z: Write>(
+        &mut self,
+        alloc: Global,
+        reader: &mut Counted<I>,
+        writer: &mut Counted<Z>,
+    ) -> Result<Option<u16>, ServeFault> {
+        let (rt, time) = (self.rt, seconds(self.rt, self.time));
+        let mut saver = LineSaver::new(rt, alloc, self.out);
+        let outcome = serve_witness(rt, alloc, reader, writer, self.witness, time, &mut saver);
+        if saver.has_failed() {
+            self.news.tell_fault(rt, RunFault::Write);
+        }
+        outcome
+    }
+}
+
+// Answers connections to a witness.
+fn answer_witness<H: Clock + Net + Wait, W: Witness<Global>, O: Write>(
+    rt: &H,
+    alloc: Global,
+    door: &Door,
+    poll: Poll,
+    witness: &W,
+    time: Option<u64>,
+    out: &Mutex<&mut Counted<O>>,
+    news: &News,
+) {
+    let pages = Asked {
+        rt,
+        witness,
+        time,
+        out,
+        news,
+    };
+    answer(rt, alloc, door, poll, pages, news);
+}
+
+// Starts the threads that answer, and waits until all connections are answered or something fails: which of them.
 fn answer_in<
     's,
     'o: 's,
@@ -61,30 +129,32 @@ fn answer_in<
     scope: &'s Scope<'s, E>,
     rt: &'s H,
     alloc: Global,
-    options: &WitnessOptions,
+    time: Option<u64>,
     door: &'s Door,
     witness: &'s W,
     out: &'s Mutex<&'o mut Counted<O>>,
+    news: &'s News,
 ) -> Result<(), RunFault> {
-    let time = options.time;
-    let mut helpers = Vec::new(alloc);
-    for _helper in 1..threads_of(rt, options.server.threads) {
-        let job = move || answer_witness(rt, alloc, door, witness, time, out);
-        let Ok(helper) = scope.spawn(job) else {
+    for _ in 0..u64::MAX {
+        let Some(poll) = door.next_poll(rt) else {
             break;
         };
-        if helpers.push(helper).is_err() {
+        news.begin_answering();
+        let job = move || answer_witness(rt, alloc, door, poll, witness, time, out, news);
+        if scope.spawn(job).is_err() {
+            news.end_answering();
             break;
         }
     }
-    let mut outcome = answer_witness(rt, alloc, door, witness, time, out);
-    for helper in helpers {
-        outcome = outcome.and(helper.join(rt));
-    }
+    let outcome = match news.wait(rt) {
+        Event::Failed(fault) => Err(fault),
+        _ => Ok(()),
+    };
+    door.close();
     outcome
 }
 
-// Answers connections by several threads.
+// Answers connections to a witness by as many threads as are to answer.
 fn answer_all<
     H: Host + Net<Listener = TcpListener, Stream = TcpStream>,
     W: Witness<Global> + Sync,
@@ -92,13 +162,14 @@ fn answer_all<
 >(
     rt: &H,
     alloc: Global,
-    options: &WitnessOptions,
+    time: Option<u64>,
     door: &Door,
     witness: &W,
     out: &Mutex<&mut Counted<O>>,
+    news: &News,
 ) -> Result<(), RunFault> {
     thread::scope(thread::scope_env(), rt, |scope| {
-        answer_in(scope, rt, alloc, options, door, witness, out)
+        answer_in(scope, rt, alloc, time, door, witness, out, news)
     })
 }
 
@@ -117,9 +188,10 @@ fn serve_all<
     log: &mut Counted<L>,
 ) -> Result<(), RunFault> {
     let threads = threads_of(rt, options.server.threads);
+    let news = News::new(rt, alloc, None)?;
     let door = Door::open(rt, alloc, &options.server, threads, log)?;
     let out = Mutex::new(&mut *writer);
-    answer_all(rt, alloc, options, &door, witness, &out)
+    answer_all(rt, alloc, options.time, &door, witness, &out, &news)
 }
 
 // Serves a witness that knows its log by this key, cosigns by that one, and has cosigned these chains.
@@ -218,8 +290,9 @@ fn own_key<H: Files>(rt: &H, alloc: Global, options: &WitnessOptions) -> Result<
 }
 
 /// Serves a witness of one log over HTTP: reads the lines that an earlier run printed, tells the address, then answers
-/// connections, each by `tl_server::serve_witness`, and ends after as many as the options say. A line for each
-/// checkpoint that it cosigns anew is printed before the answer. It may wait.
+/// connections, each by `tl_server::serve_witness`, and ends after as many as the options say, or once something fails.
+/// A line for each checkpoint that it cosigns anew is printed before the answer; where that fails, it ends. It may
+/// wait.
 pub fn run_witness<
     H: Host + Net<Listener = TcpListener, Stream = TcpStream>,
     R: Read,

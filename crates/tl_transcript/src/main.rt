@@ -10,10 +10,16 @@ use std::fs::{File, Files};
 use std::net::{Net, TcpListener, TcpStream};
 use std::random::RandomSource;
 use std::{io, str};
-use tl_cli::run_words;
+use tl_cli::{Streams, run_words};
 use tl_command::{MOST_INPUT, read_entries};
 use tl_device::Counted;
 use tl_serve::Host;
+
+// Nothing is a terminal, and no input is waited for.
+const STREAMS: Streams = Streams {
+    is_terminal: false,
+    input: None,
+};
 
 // One run: its command line and its input.
 #[derive(Drop)]
@@ -54,7 +60,7 @@ fn run_line<
         rt,
         alloc,
         words.as_slice(),
-        false,
+        STREAMS,
         &mut reader,
         &mut writer,
         &mut errors,

@@ -16,7 +16,7 @@ const ONE_OUTPUT: &str = "--get and --dir are not given together";
 pub(super) const LOG: &[Word] = words![
     "origin" "NAME" Kind::RequiredText => "The name of the log, a key's name";
     "secret" "SECRET" Kind::Text => "The secret of the log's demonstration key";
-    "key" "FILE" Kind::Text => "The file with the log's private key";
+    "key" "FILE" Kind::Path => "The file with the log's private key";
 ];
 
 const BUILD: Words = Words {
@@ -27,7 +27,7 @@ const BUILD: Words = Words {
         LOG,
         words![
             "get" "PATH" Kind::Text => "Print the resource with this path";
-            "dir" "DIR" Kind::Text => "Write the mirror into this folder";
+            "dir" "DIR" Kind::Path => "Write the mirror into this folder";
         ],
     ],
 };
@@ -44,7 +44,7 @@ const APPEND: Words = Words {
     words: &[
         LOG,
         words![
-            "dir" "DIR" Kind::RequiredText => "The folder of the log";
+            "dir" "DIR" Kind::RequiredPath => "The folder of the log";
             "batch" "N" Kind::Number(1, 0xFFFF_FFFF) => "Publish after each N entries, too";
         ],
     ],

@@ -16,6 +16,8 @@ const CAPACITY: u64 = 256;
 
 const BATCH: u64 = 256;
 
+const CLIENTS: u64 = 1024;
+
 // What is said where a note and a folder are given.
 const ONE_BASE: &str = "--note and --dir are not given together";
 
@@ -31,6 +33,7 @@ const SERVER: &[Word] = words![
     "connections" "N" Kind::Number(0, 0xFFFF_FFFF) => "End after so many connections";
     "threads" "N" Kind::Number(1, 63) => "How many threads answer at once";
     "timeout" "N" Kind::Number(1, 86_400) => "How many seconds one connection may take in all";
+    "clients" "N" Kind::Number(1, 1_000_000) => "How many connections are held at most at once";
     "quiet" "" Kind::Flag => "Tell the address alone";
 ];
 
@@ -45,7 +48,7 @@ const SERVE: Words = Words {
             "capacity" "N" Kind::Number(0, u64::MAX) => "For how many entries a lane has room";
             "batch" "N" Kind::Number(1, 65_536) => "How many entries of a lane are taken at once";
             "note" "NOTE" Kind::Text => "The signed checkpoint that the log goes on from";
-            "dir" "DIR" Kind::Text => "The folder of the log, which goes on from what is there";
+            "dir" "DIR" Kind::Path => "The folder of the log, which goes on from what is there";
             "follow" "" Kind::Flag => "Publish lines as they come";
         ],
         SERVER,
@@ -68,10 +71,10 @@ const WITNESS: Words = Words {
             "log-key" "VKEY" Kind::Text => LOG_KEY;
             "name" "NAME" Kind::Text => "The name of the witness's demonstration key";
             "witness-secret" "SECRET" Kind::Text => "The secret of that key";
-            "key" "FILE" Kind::Text => "The file with the witness's private key";
+            "key" "FILE" Kind::Path => "The file with the witness's private key";
             "time" "N" Kind::Number(0, u64::MAX)
                 => "The seconds since 1970 to cosign with, in place of the machine's clock";
-            "state" "FILE" Kind::Text
+            "state" "FILE" Kind::Path
                 => "The file of what it cosigned, in place of standard input and output";
         ],
         SERVER,
@@ -90,6 +93,7 @@ fn listen_options(alloc: Global, options: &ArgMatches<'_>) -> Result<ListenOptio
         connections: options.get_one::<u64>("connections"),
         threads: options.get_one::<u64>("threads"),
         timeout: options.get_one::<u64>("timeout").unwrap_or(TIMEOUT),
+        clients: options.get_one::<u64>("clients").unwrap_or(CLIENTS),
         quiet: options.get_flag("quiet"),
     })
 }

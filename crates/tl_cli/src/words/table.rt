@@ -15,6 +15,10 @@ pub(super) enum Kind {
     RequiredText,
     /// A text; the word may be given more than once.
     Texts,
+    /// The path of a file or a folder, a text that isn't empty.
+    Path,
+    /// Such a path; the word has to be given.
+    RequiredPath,
     /// A number that isn't below the first and not above the second.
     Number(u64, u64),
     /// A number; the word has to be given.
@@ -45,6 +49,11 @@ fn between<'a>(arg: Arg<'a>, least: u64, most: u64) -> Arg<'a> {
     arg.value_parser(ValueParser::unsigned(least, most))
 }
 
+// The parser of a path.
+fn of_path<'a>(arg: Arg<'a>) -> Arg<'a> {
+    arg.value_parser(ValueParser::NonEmptyString)
+}
+
 // A word as an argument.
 fn argument<'a>(alloc: Global, word: &Word) -> Arg<'a> {
     let arg = Arg::new(alloc, word.name).long(word.name).help(word.help);
@@ -56,6 +65,8 @@ fn argument<'a>(alloc: Global, word: &Word) -> Arg<'a> {
         Kind::Flag | Kind::Text => arg,
         Kind::RequiredText => arg.required(true),
         Kind::Texts => arg.action(ArgAction::Append),
+        Kind::Path => of_path(arg),
+        Kind::RequiredPath => of_path(arg).required(true),
         Kind::Number(least, most) => between(arg, least, most),
         Kind::RequiredNumber => between(arg, 0, u64::MAX).required(true),
         Kind::Short => arg.value_parser(ValueParser::signed(1, 65_535)),

@@ -1,7 +1,7 @@
 //! What the program says of its commands where it is called for help.
 
 pub(super) const STATUSES: &str =
-    "Exit status: 0 done; 1 refused; 2 wrong arguments or a call for help; 3 a device failed.
+    "Exit status: 0 done; 1 refused; 2 wrong arguments or a call for help; 3 a device failed; 4 a log shrank or forked.
 A refusal is one line 'tlog: ..' on standard error.";
 
 pub(super) const HEAD: &str =
@@ -117,6 +117,6 @@ check' reads. Where the log shrank or forked, both checkpoints: the state's and 
 Defaults: --need all witnesses that are given, --timeout 10. With --cache tiles that passed are kept in that folder, and
 checked again when they are read.
 Exit status: 0 done; 1 refused (a bad key, a bad address, no checkpoint that opens, checkpoint of another log, cosigned
-by N witnesses, no entry at the index, a tile, a bundle or an entry wrong, log shrank, log forked, bad state, out of
-memory); 2 wrong arguments or a call for help; 3 not available, or a read or a write failed. A refusal is one line
+by N witnesses, no entry at the index, a tile, a bundle or an entry wrong, bad state, out of memory); 2 wrong arguments
+or a call for help; 3 not available, or a read or a write failed; 4 log shrank, log forked. A refusal is one line
 'tlog: ..' on standard error.";

@@ -1,7 +1,7 @@
 use Rattle.std.proofs.Common.{◌≡◌, All, length}
 use Rattle.tl_sequencer.specs.Log.{IsEndOf}
 use Rattle.tl_serve.specs.Inner.Running.{StaysOperating}
-use Rattle.tl_serve.proofs.running.close_log.Given as goal
+use Rattle.tl_serve.proofs.running.take_ends.Given as goal
 
 -- the operator operates and has its lanes, and the ends that are left are its own
 abbrev pub invariant-loop-ended : goal.invariant-loop-ended

@@ -1,5 +1,5 @@
 use Rattle.tl_serve.specs.Inner.Running.{StaysOperating}
-use Rattle.tl_serve.proofs.taking.take_round.Given as goal
+use Rattle.tl_serve.proofs.running.take_round.Given as goal
 
 -- it operates, and its lanes stay
 abbrev pub invariant-loop-lane : goal.invariant-loop-lane

@@ -1,0 +1,23 @@
+use Rattle.std.proofs.Common.{All, subst, ap, length, arith, ◌∙◌}
+use Rattle.std.proofs.lemmas.List.Elements.{All-head, All-tail}
+use Rattle.tl_sequencer.specs.Log.{IsEndOf}
+use Rattle.tl_serve.proofs.Ends.{end_stays}
+use Rattle.tl_serve.proofs.running.take_ends.Goals as goal
+
+pub end_lane-requires-clause-end : goal.end_lane-requires-clause-end
+end_lane-requires-clause-end g c =
+    let left = subst (All (λ e. IsEndOf e (g.O.RunningLog.state c.args.operator.now).log)) c.in-Some.ensures.steps.0 c.loop-ended.invariant.1 in
+    end_stays c.in-Some.ended (g.O.RunningLog.state c.args.operator.now).log (g.O.RunningLog.state c.loop-ended.operator).log c.loop-ended.invariant.0.rings
+    (All-head (λ e. IsEndOf e (g.O.RunningLog.state c.args.operator.now).log) c.in-Some.ended c.next.new.self.rest.items left)
+
+pub loop-ended-preserved : goal.loop-ended-preserved
+loop-ended-preserved g c =
+    let step = ap length c.in-Some.ensures.steps.0 in
+    let left = subst (All (λ e. IsEndOf e (g.O.RunningLog.state c.args.operator.now).log)) c.in-Some.ensures.steps.0 c.loop-ended.invariant.1 in (
+      record {
+        operating = c.end_lane.ensures.operating;
+        rings = c.end_lane.ensures.rings ∙ c.loop-ended.invariant.0.rings;
+      },
+      All-tail (λ e. IsEndOf e (g.O.RunningLog.state c.args.operator.now).log) c.in-Some.ended c.next.new.self.rest.items left,
+      omega (arith, step, c.in-Some.ensures.steps.1, c.loop-ended.invariant.2),
+    )

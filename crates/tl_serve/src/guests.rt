@@ -1,0 +1,398 @@
+//! The connections that a thread holds, each of which waits without a thread of its own.
+
+use crate::door::{Accepted, Door, LISTENER};
+use crate::pages::Pages;
+use crate::request::Request;
+use mio::net::TcpStream;
+use mio::{Events, Interest, Poll, Token};
+use slab::Slab;
+use std::alloc::Global;
+use std::io::{ErrorKind, Read, Write};
+use std::net;
+use std::net::Net;
+use std::time::{Clock, Duration, Instant};
+use tl_command::RunFault;
+use tl_device::Counted;
+use tl_server::ServeFault;
+
+// How many events of the system are told at once.
+const MOST_EVENTS: usize = 1024;
+
+// How many bytes are read at once.
+const BLOCK: usize = 8192;
+
+// How many milliseconds an answer may take that is on its way when the door closes.
+const GRACE: u64 = 1000;
+
+// How often an accept that is refused for now is tried again, and how many milliseconds are waited in between.
+const TRIES: u32 = 1000;
+
+const PAUSE: u64 = 10;
+
+// A connection.
+#[derive(Drop)]
+struct Guest {
+    stream: TcpStream,
+    request: Request,
+    // The answer, once there is one, and how much of it was written.
+    answer: Option<Vec<u8>>,
+    written: usize,
+    // When it came, in milliseconds.
+    came: u64,
+    // Whether it is watched for room to write.
+    is_writing: bool,
+}
+
+// What is to be done with a connection.
+#[derive(Clone, Copy, PartialEq, Eq)]
+enum Next {
+    // It has to wait.
+    Wait,
+    // It goes on at once.
+    GoOn,
+    // It is over.
+    Leave,
+}
+
+impl Guest {
+    // When its time is over: the head of a request may take half of the time alone.
+    fn deadline(&self, limit: u64) -> u64 {
+        let time = if self.answer.is_none() && self.request.is_begun() {
+            limit - limit / 2
+        } else {
+            limit
+        };
+        self.came.saturating_add(time)
+    }
+
+    // Takes what came, until enough did to try an answer.
+    fn read_more(&mut self) -> Next {
+        let mut buf = [0u8; BLOCK];
+        for _ in 0..u64::MAX {
+            let room = self.request.room().min(BLOCK);
+            match self.stream.read(&mut buf[..room]) {
+                Ok(0) => {
+                    self.request.end();
+                    return Next::GoOn;
+                }
+                Ok(count) => {
+                    if self.request.feed(&buf[..count]).is_err() {
+                        return Next::Leave;
+                    }
+                    if self.request.is_enough() {
+                        return Next::GoOn;
+                    }
+                }
+                Err(error) if error.kind() == ErrorKind::WouldBlock => return Next::Wait,
+                Err(_) => return Next::Leave,
+            }
+        }
+        Next::Leave
+    }
+
+    // Tries an answer to what came. Where it depends on what follows, more is waited for.
+    fn try_answer<P: Pages>(&mut self, alloc: Global, pages: &mut P) -> Next {
+        let mut reader = Counted::new(self.request.reader());
+        let mut writer = Counted::new(Vec::new(alloc));
+        let outcome = pages.answer(alloc, &mut reader, &mut writer);
+        let asked = reader.into_inner().asked();
+        match outcome {
+            Ok(Some(_status)) => {
+                self.answer = Some(writer.into_inner());
+                Next::GoOn
+            }
+            Err(ServeFault::Read) if !self.request.has_ended() => {
+                self.request.want(asked);
+                Next::Wait
+            }
+            _ => Next::Leave,
+        }
+    }
+
+    // Reads and tries until there is an answer.
+    fn prepare<P: Pages>(&mut self, alloc: Global, pages: &mut P) -> Next {
+        for _ in 0..u64::MAX {
+            if self.answer.is_some() {
+                return Next::GoOn;
+            }
+            match self.read_more() {
+                Next::GoOn => {}
+                next => return next,
+            }
+            if self.try_answer(alloc, pages) == Next::Leave {
+                return Next::Leave;
+            }
+        }
+        Next::Leave
+    }
+
+    // Writes what is left of the answer once.
+    fn write_some(&mut self) -> Next {
+        let Some(answer) = &self.answer else {
+            return Next::Leave;
+        };
+        let left = answer.get(self.written..).unwrap_or(&[]);
+        if left.is_empty() {
+            return Next::Leave;
+        }
+        match self.stream.write(left) {
+            Ok(0) => Next::Leave,
+            Ok(count) => {
+                self.written = self.written.saturating_add(count);
+                Next::GoOn
+            }
+            Err(error) if error.kind() == ErrorKind::WouldBlock => Next::Wait,
+            Err(_) => Next::Leave,
+        }
+    }
+
+    // Does what can be done now.
+    fn go_on<P: Pages>(&mut self, alloc: Global, pages: &mut P) -> Next {
+        let next = self.prepare(alloc, pages);
+        if next != Next::GoOn {
+            return next;
+        }
+        for _ in 0..u64::MAX {
+            let next = self.write_some();
+            if next != Next::GoOn {
+                return next;
+            }
+        }
+        Next::Leave
+    }
+
+    // What it is to be watched for.
+    fn interest(&self) -> Interest {
+        if self.answer.is_some() {
+            Interest::WRITABLE
+        } else {
+            Interest::READABLE
+        }
+    }
+}
+
+/// The connections that a thread holds.
+#[derive(Drop)]
+pub(crate) struct Guests<'d> {
+    door: &'d Door,
+    alloc: Global,
+    poll: Poll,
+    guests: Slab<Guest>,
+    start: Instant,
+    // The time, and when the next connection may have to be let go, in milliseconds from the start.
+    now: u64,
+    due: u64,
+    // When all are let go, once the door is closed.
+    end: u64,
+    // Whether connections may wait at the door, and how often in turn an accept was refused for now.
+    has_callers: bool,
+    refusals: u32,
+}
+
+impl<'d> Guests<'d> {
+    /// None yet. `Accept`: the machine's clock can't be read.
+    pub(crate) fn new<H: Clock>(
+        rt: &H,
+        alloc: Global,
+        door: &'d Door,
+        poll: Poll,
+    ) -> Result<Guests<'d>, RunFault> {
+        let Ok(start) = Instant::now(rt) else {
+            return Err(RunFault::Accept);
+        };
+        Ok(Guests {
+            door,
+            alloc,
+            poll,
+            guests: Slab::new(alloc),
+            start,
+            now: 0,
+            due: u64::MAX,
+            end: u64::MAX,
+            has_callers: true,
+            refusals: 0,
+        })
+    }
+
+    // Takes note of the time. A clock that can't be read stands still.
+    fn look_at_clock<H: Clock>(&mut self, rt: &H) {
+        if let Ok(time) = self.start.elapsed(rt) {
+            self.now = u64::try_from(time.as_millis()).unwrap_or(u64::MAX);
+        }
+    }
+
+    // How long nothing is to be done where no event comes.
+    fn pause(&self) -> Option<Duration> {
+        if self.refusals > 0 && !self.door.is_over() {
+            return Some(Duration::from_millis(PAUSE));
+        }
+        if self.guests.is_empty() {
+            return None;
+        }
+        let due = self.due.min(self.end);
+        Some(Duration::from_millis(due.saturating_sub(self.now)))
+    }
+
+    // Has the system tell when the connection can go on.
+    fn watch(&mut self, key: usize) -> bool {
+        let Some(guest) = self.guests.get_mut(key) else {
+            return false;
+        };
+        let (interest, is_answered) = (guest.interest(), guest.answer.is_some());
+        if is_answered == guest.is_writing {
+            return true;
+        }
+        guest.is_writing = is_answered;
+        self.poll
+            .registry()
+            .reregister(&mut guest.stream, Token(key), interest)
+            .is_ok()
+    }
+
+    // Goes on with a connection of which something was told.
+    fn go_on<P: Pages>(&mut self, key: usize, pages: &mut P) {
+        let next = match self.guests.get_mut(key) {
+            Some(guest) => guest.go_on(self.alloc, pages),
+            None => return,
+        };
+        if next == Next::Leave || !self.watch(key) {
+            let _ = self.guests.try_remove(key);
+            self.door.let_go(1);
+        }
+    }
+
+    // Goes on with all connections of which something was told.
+    fn go_on_with<P: Pages>(&mut self, events: &Events, pages: &mut P) {
+        for event in events.iter() {
+            if event.token() == LISTENER {
+                self.has_callers = true;
+                continue;
+            }
+            let Token(key) = event.token();
+            self.go_on(key, pages);
+        }
+    }
+
+    // Holds a connection that has to wait. Whether it can.
+    fn keep(&mut self, guest: Guest) -> bool {
+        let mut guest = guest;
+        let (key, interest) = (self.guests.vacant_key(), guest.interest());
+        guest.is_writing = guest.answer.is_some();
+        let due = guest.deadline(self.door.limit());
+        let is_watched = self
+            .poll
+            .registry()
+            .register(&mut guest.stream, Token(key), interest);
+        if is_watched.is_err() || self.guests.insert(guest).is_err() {
+            return false;
+        }
+        self.due = self.due.min(due);
+        true
+    }
+
+    // Answers a new connection, or holds it where that has to wait.
+    fn welcome<P: Pages>(&mut self, stream: net::TcpStream, pages: &mut P) {
+        if !self.door.hold() {
+            return;
+        }
+        let is_kept = match stream.set_nonblocking(true) {
+            Ok(()) => self.begin(stream, pages),
+            Err(_) => false,
+        };
+        if !is_kept {
+            self.door.let_go(1);
+        }
+    }
+
+    // Begins with a connection. Whether it is held.
+    fn begin<P: Pages>(&mut self, stream: net::TcpStream, pages: &mut P) -> bool {
+        let mut guest = Guest {
+            stream: TcpStream::from_std(stream),
+            request: Request::new(self.alloc),
+            answer: None,
+            written: 0,
+            came: self.now,
+            is_writing: false,
+        };
+        guest.go_on(self.alloc, pages) == Next::Wait && self.keep(guest)
+    }
+
+    // Lets in all connections that wait at the door. `Accept`: none can be accepted for good.
+    fn let_in<P: Pages>(&mut self, pages: &mut P) -> Result<(), RunFault> {
+        for _ in 0..u64::MAX {
+            if !self.has_callers {
+                break;
+            }
+            match self.door.accept()? {
+                Accepted::Stream(stream) => {
+                    self.refusals = 0;
+                    self.welcome(stream, pages);
+                }
+                Accepted::Later => {
+                    self.refusals = self.refusals.saturating_add(1);
+                    break;
+                }
+                Accepted::Nobody | Accepted::Over => {
+                    self.refusals = 0;
+                    self.has_callers = false;
+                }
+            }
+        }
+        if self.refusals > TRIES {
+            return Err(RunFault::Accept);
+        }
+        Ok(())
+    }
+
+    // Lets go those whose time is over, and once the door is closed those that have no answer yet.
+    fn let_go(&mut self) {
+        let is_closed = self.door.is_closed();
+        if is_closed && self.end == u64::MAX {
+            self.end = self.now.saturating_add(GRACE);
+        }
+        if self.now < self.due && !is_closed {
+            return;
+        }
+        let (now, end, limit) = (self.now, self.end, self.door.limit());
+        let before = self.guests.len();
+        self.guests.retain(|_, guest| {
+            now < guest.deadline(limit).min(end) && (guest.answer.is_some() || !is_closed)
+        });
+        let gone = before.saturating_sub(self.guests.len());
+        self.door.let_go(gone as u64);
+        self.due = self.next_due();
+    }
+
+    // When the time of the first of them is over.
+    fn next_due(&self) -> u64 {
+        let mut due = u64::MAX;
+        for (_, guest) in self.guests.iter() {
+            due = due.min(guest.deadline(self.door.limit()));
+        }
+        due
+    }
+
+    /// Answers connections, until no more are to be taken and none is held. `Accept`: none can be accepted for good.
+    pub(crate) fn answer_all<H: Clock + Net, P: Pages>(
+        &mut self,
+        rt: &H,
+        pages: P,
+    ) -> Result<(), RunFault> {
+        let mut pages = pages;
+        let mut events = Events::with_capacity(self.alloc, MOST_EVENTS)?;
+        for _ in 0..u64::MAX {
+            self.let_in(&mut pages)?;
+            if self.door.is_over() && self.guests.is_empty() {
+                break;
+            }
+            let pause = self.pause();
+            if self.poll.poll(&mut events, pause).is_err() {
+                return Err(RunFault::Accept);
+            }
+            self.look_at_clock(rt);
+            self.go_on_with(&events, &mut pages);
+            self.let_go();
+        }
+        Ok(())
+    }
+}
