@@ -1,0 +1,87 @@
+"""Servers of files for `tests/fetch`: one that answers as it should, and one that lies as its address says."""
+import gzip
+import http.server
+import itertools
+import threading
+import time
+
+from tlog_test import read
+
+
+class Files(http.server.SimpleHTTPRequestHandler):
+    """A web server of files."""
+    protocol_version = 'HTTP/1.1'
+
+    def log_message(self, *_):
+        pass
+
+
+def serving(handler):
+    """Serves by this handler, in threads that end with the script: the address."""
+    server = http.server.ThreadingHTTPServer(('127.0.0.1', 0), handler)
+    threading.Thread(target=server.serve_forever, daemon=True).start()
+    return f'http://127.0.0.1:{server.server_port}'
+
+
+def head(status, *fields, version='HTTP/1.1', end='\r\n'):
+    return end.join([f'{version} {status}', *fields, '', '']).encode()
+
+
+def sized(body, more=0):
+    return f'Content-Length: {len(body) + more}'
+
+
+def whole(body, status='200 OK', *fields, **others):
+    return [head(status, sized(body), *fields, **others), body]
+
+
+def without_end(start, piece):
+    return itertools.chain([start], itertools.repeat(piece))
+
+
+# What a server sends in place of a body, piece by piece; a number is a time in seconds to wait.
+LIES = {
+    'true': whole,
+    'unsized': lambda b: [head('200 OK'), b],
+    'sized_twice': lambda b: whole(b, '200 OK', sized(b)),
+    'line_feeds': lambda b: whole(b, end='\n'),
+    'more': lambda b: [head('200 OK', sized(b)), b + b'more'],
+    'empty': lambda b: whole(b''),
+    'front': lambda b: whole(b[:-1]),
+    'doubled': lambda b: whole(b + b),
+    'cut': lambda b: [head('200 OK', sized(b)), b[:-1]],
+    'endless': lambda b: without_end(head('200 OK'), b'x' * 65536),
+    'huge': lambda b: without_end(head('200 OK', sized(b, 1 << 40)), b'x' * 65536),
+    'endless_head': lambda b: without_end(b'HTTP/1.1 200 OK\r\n', b'A: b\r\n'),
+    'closed': lambda b: [],
+    'bare': lambda b: [b],
+    'moved': lambda b: whole(b, '301 Moved Permanently', 'Location: /true/all/small/checkpoint'),
+    'missing': lambda b: whole(b, '404 Not Found'),
+    'failed': lambda b: whole(b, '500 Internal Server Error'),
+    'made': lambda b: whole(b, '201 Created'),
+    'two_sizes': lambda b: whole(b, '200 OK', sized(b, 1)),
+    'signed_size': lambda b: [head('200 OK', f'Content-Length: +{len(b)}'), b],
+    'chunked': lambda b: [head('200 OK', 'Transfer-Encoding: chunked'), b'%x\r\n%s\r\n0\r\n\r\n' % (len(b), b)],
+    'zipped': lambda b: whole(gzip.compress(b), '200 OK', 'Content-Encoding: gzip'),
+    'old': lambda b: whole(b, version='HTTP/1.0'),
+    'new': lambda b: whole(b, version='HTTP/2'),
+    'slow': lambda b: itertools.chain([head('200 OK', sized(b))], *([b[i:i + 1], 0.2] for i in range(len(b)))),
+    'silent': lambda b: [60],
+}
+
+
+class Liar(Files):
+    """A server whose address says how it lies, of which resource, and of which folder: /LIE/RESOURCE/FOLDER."""
+    asked = []
+
+    def do_GET(self):
+        lie, which, path = self.path[1:].split('/', 2)
+        Liar.asked.append(path.split('/', 1)[1])
+        kind = 'bundle' if '/tile/entries/' in path else 'tile' if '/tile/' in path else 'checkpoint'
+        body = read(path)
+        self.close_connection = True
+        try:
+            for piece in LIES[lie if which == kind else 'missing' if body is None else 'true'](body or b''):
+                time.sleep(piece) if isinstance(piece, (int, float)) else self.connection.sendall(piece)
+        except OSError:
+            pass
