@@ -11,7 +11,9 @@ use std::net::{Net, TcpListener, TcpStream};
 use std::os::fd::RawFd;
 use tl_command::{MOST_INPUT, RunFault};
 use tl_device::Counted;
-use tl_folder::{AnyOutcome, FileFault, FolderShelf, LineFile, lock_folder, open_lines};
+use tl_folder::{
+    AnyOutcome, FileFault, FolderLock, FolderShelf, LineFile, lock_folder, open_lines,
+};
 use tl_note::is_key_name;
 use tl_serve::{
     AppendOptions, Host, ServeOptions, WitnessOptions, run_append, run_serve, run_serve_shelf,
@@ -40,6 +42,24 @@ fn open_folder<H: Files + Drop>(
     }
 }
 
+// The folder of a log as a shelf, which no other process works on as long as the lock lasts. It is made where it isn't
+// there. `Read`: another folder came to the path meanwhile.
+fn own_folder<H: Files<File = File> + Copy + Drop>(
+    rt: &H,
+    alloc: Global,
+    dir: &str,
+) -> Result<(FolderLock, FolderShelf<AnyOutcome, H>), RunFault> {
+    let lock = match lock_folder(rt, dir) {
+        Ok(lock) => lock,
+        Err(fault) => return Err(refusal(fault)),
+    };
+    let shelf = open_folder(*rt, alloc, dir)?;
+    if !lock.is_at(rt, dir) {
+        return Err(RunFault::Read);
+    }
+    Ok((lock, shelf))
+}
+
 /// Appends the lines of the input to the log in a folder, where no other process works meanwhile.
 pub(crate) fn append<H: Host + Files<File = File>, R: Read, W: Write>(
     rt: &H,
@@ -54,15 +74,7 @@ pub(crate) fn append<H: Host + Files<File = File>, R: Read, W: Write>(
     if !is_key_name(options.origin.as_str()) {
         return Err(RunFault::BadOrigin);
     }
-    let dir = options.dir.as_str();
-    let lock = match lock_folder(rt, dir) {
-        Ok(lock) => lock,
-        Err(fault) => return Err(refusal(fault)),
-    };
-    let shelf = open_folder(*rt, alloc, dir)?;
-    if !lock.is_at(rt, dir) {
-        return Err(RunFault::Read);
-    }
+    let (_lock, shelf) = own_folder(rt, alloc, options.dir.as_str())?;
     run_append(rt, alloc, options, shelf, reader, writer)
 }
 
@@ -91,14 +103,7 @@ pub(crate) fn serve<
         return Err(RunFault::BadOrigin);
     }
     let dir = dir.as_str();
-    let lock = match lock_folder(rt, dir) {
-        Ok(lock) => lock,
-        Err(fault) => return Err(refusal(fault)),
-    };
-    let shelf = open_folder(*rt, alloc, dir)?;
-    if !lock.is_at(rt, dir) {
-        return Err(RunFault::Read);
-    }
+    let (_lock, shelf) = own_folder(rt, alloc, dir)?;
     let mut shown = Vec::new(alloc);
     for _ in 0..threads_of(rt, options.server.threads) {
         shown.push(open_folder(*rt, alloc, dir)?)?;

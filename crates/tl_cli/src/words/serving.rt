@@ -34,7 +34,7 @@ const SERVER: &[Word] = words![
     "threads" "N" Kind::Number(1, 63) => "How many threads answer at once";
     "timeout" "N" Kind::Number(1, 86_400) => "How many seconds one connection may take in all";
     "clients" "N" Kind::Number(1, 1_000_000) => "How many connections are held at most at once";
-    "quiet" "" Kind::Flag => "Tell the address alone";
+    "quiet" "" Kind::Flag => "Tell the address alone, and lines that are lost";
 ];
 
 const SERVE: Words = Words {

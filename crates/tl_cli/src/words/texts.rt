@@ -79,14 +79,16 @@ read or a write failed.";
 
 pub(super) const SERVE: &str =
     "Input: the entries of the log, one a line, as for 'tlog head'. With --follow they are published as they come, and
-the input has no limit.
+the input has no limit: a line that is too long is left out, which 'line N too long' tells, and 'input ended' tells
+its end.
 Serves the log over HTTP (C2SP tlog-tiles, tlog-checkpoint): 'listening ADDRESS' on standard error says where, and a
-line more each publication, 'published SIZE ROOT', and the end, 'closed SIZE'. Checkpoints are signed as those of 'tlog
-build'. With --note the first lines are the entries of that signed checkpoint, and the log goes on from it. With --dir
-the log is in that folder, as that of 'tlog append', and goes on from what is there: requests are answered with the
-folder's files, and a publication is shown once it outlasts a crash.
-Defaults: --lanes 1, --capacity 256, --batch 256, --timeout 10, as many threads as the machine has processors, and any
-number of connections.
+line more each publication, 'published SIZE ROOT', the end, 'closed SIZE', and before a refusal how many lines aren't
+in the log, 'lines not published: N'. Checkpoints are signed as those of 'tlog build'. With --note the first lines are
+the entries of that signed checkpoint, and the log goes on from it. With --dir the log is in that folder, as that of
+'tlog append', and goes on from what is there: requests are answered with the folder's files, and a publication is
+shown once it outlasts a crash.
+Defaults: --lanes 1, --capacity 256, --batch 256, --timeout 10, --clients 1024, as many threads as the machine has
+processors, and any number of connections.
 Exit status: 0 done; 1 refused (a bad key, a bad origin, input too large, an entry too long, fewer lines than the note's
 size, a bad checkpoint, a bundle not there, in use, the operator refused, signing failed, out of memory); 2 wrong
 arguments or a call for help; 3 a read, a write, the address or an accept failed. A refusal is one line 'tlog: ..' on
@@ -100,8 +102,8 @@ from the one before, and the log's name. The log is known by --log-key or, for d
 cosigns by the private key in the file of --key, as 'tlog keygen --cosigner' prints it, or, for demonstrations, by
 --name and --witness-secret. With --state those lines are read from that file, and each is written to it, and outlasts
 a crash, before the answer.
-Defaults: --timeout 10, as many threads as the machine has processors, any number of connections, and the machine's
-clock for the time of a cosignature.
+Defaults: --timeout 10, --clients 1024, as many threads as the machine has processors, any number of connections, and
+the machine's clock for the time of a cosignature.
 Exit status: 0 done; 1 refused (a bad key, a bad origin, a bad name, line K of the input refused, in use, out of
 memory); 2 wrong arguments or a call for help; 3 a read, a write, the address or an accept failed. A refusal is one line
 'tlog: ..' on standard error.";
