@@ -16,6 +16,11 @@ class Files(http.server.SimpleHTTPRequestHandler):
         pass
 
 
+class OldFiles(Files):
+    """The same over HTTP/1.0, as Python's own answers."""
+    protocol_version = 'HTTP/1.0'
+
+
 def serving(handler):
     """Serves by this handler, in threads that end with the script: the address."""
     server = http.server.ThreadingHTTPServer(('127.0.0.1', 0), handler)
@@ -45,6 +50,9 @@ LIES = {
     'unsized': lambda b: [head('200 OK'), b],
     'sized_twice': lambda b: whole(b, '200 OK', sized(b)),
     'line_feeds': lambda b: whole(b, end='\n'),
+    'old': lambda b: [head('200 OK', version='HTTP/1.0'), b],
+    'old_sized': lambda b: whole(b, version='HTTP/1.0'),
+    'identity': lambda b: whole(b, '200 OK', 'Content-Encoding: Identity'),
     'more': lambda b: [head('200 OK', sized(b)), b + b'more'],
     'empty': lambda b: whole(b''),
     'front': lambda b: whole(b[:-1]),
@@ -63,7 +71,6 @@ LIES = {
     'signed_size': lambda b: [head('200 OK', f'Content-Length: +{len(b)}'), b],
     'chunked': lambda b: [head('200 OK', 'Transfer-Encoding: chunked'), b'%x\r\n%s\r\n0\r\n\r\n' % (len(b), b)],
     'zipped': lambda b: whole(gzip.compress(b), '200 OK', 'Content-Encoding: gzip'),
-    'old': lambda b: whole(b, version='HTTP/1.0'),
     'new': lambda b: whole(b, version='HTTP/2'),
     'slow': lambda b: itertools.chain([head('200 OK', sized(b))], *([b[i:i + 1], 0.2] for i in range(len(b)))),
     'silent': lambda b: [60],

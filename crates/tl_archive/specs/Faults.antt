@@ -6,20 +6,11 @@ use Rattle.tl_publisher.specs.declared.fault.GetFault.TheVariants as get
 use Rattle.tl_archive.specs.Shelves.{Fails}
 use Rattle.tl_archive.specs.declared.fault.ArchiveFault.{ArchiveFault}
 use Rattle.tl_archive.specs.declared.fault.ArchiveFault.TheVariants as archive
-use Rattle.tl_archive.specs.declared.fault.ShelfReadFault.{ShelfReadFault}
-use Rattle.tl_archive.specs.declared.fault.ShelfReadFault.TheVariants as shelf
-use Rattle.tl_archive.specs.declared.fault.ReadLogFault.{ReadLogFault}
-use Rattle.tl_archive.specs.declared.fault.ReadLogFault.TheVariants as reading
 
 -- a fault of the board, passed on
 abbrev pub after_get : GetFault → ArchiveFault
 after_get get.Gone = archive.Gone
 after_get get.OutOfMemory = archive.OutOfMemory
-
--- a fault of reading a shelf, passed on
-abbrev pub after_read : ShelfReadFault → ReadLogFault
-after_read shelf.Shelf = reading.Shelf
-after_read shelf.OutOfMemory = reading.OutOfMemory
 
 -- the last publication that was seen, between these two looks, has fewer entries than are surely there, or too many
 pub record IsBehind (before after : List Prefix) (sure : ℕ) : Type 0 where
@@ -34,5 +25,5 @@ pub record IsBehind (before after : List Prefix) (sure : ℕ) : Type 0 where
 abbrev pub ArchiveFails : List Prefix → List Prefix → ℕ → ℕ → ℕ → ArchiveFault → Type 0
 ArchiveFails before after sure faults now archive.Gone = ⊤
 ArchiveFails before after sure faults now archive.Behind = IsBehind before after sure × (now ≡ faults)
-ArchiveFails before after sure faults now archive.Shelf = Fails faults now
+ArchiveFails before after sure faults now (archive.Shelf fault) = Fails faults now
 ArchiveFails before after sure faults now archive.OutOfMemory = ⊤

@@ -50,14 +50,15 @@ pub record HasStated (held : Held) (keys : List Key) (Holds : ℕ → Type 0) : 
   pub states : StatesSize note keys size
   pub holds : Holds size
 
--- a log of this size has a bundle at this place, which isn't there
-abbrev pub LacksBundle : Held → ℕ → ℕ → Type 0
-LacksBundle held place size = (place < bundle_count size) × (held (resource.Entries place (bundle_width size place)) ≡ None)
+-- a log of this size has a bundle with this index and so many entries, which isn't there
+abbrev pub LacksBundle : Held → ℕ → ℕ → ℕ → Type 0
+LacksBundle held index width size =
+    (index < bundle_count size) × (width ≡ bundle_width size index) × (held (resource.Entries index width) ≡ None)
 
 -- when each fault comes
 abbrev pub ReadLogFails : Held → List Key → ReadLogFault → Type 0
 ReadLogFails held keys fault.Checkpoint = HasUnopened held keys
 ReadLogFails held keys fault.TooLarge = HasStated held keys (λ size. 2 ^ 32 ≤ size)
-ReadLogFails held keys (fault.Missing place) = HasStated held keys (LacksBundle held place)
-ReadLogFails held keys fault.Shelf = ⊤
+ReadLogFails held keys (fault.Missing index width) = HasStated held keys (LacksBundle held index width)
+ReadLogFails held keys (fault.Shelf why) = ⊤
 ReadLogFails held keys fault.OutOfMemory = ⊤

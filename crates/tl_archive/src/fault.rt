@@ -3,26 +3,22 @@
 ghost use Rattle.std.specs.Prelude.{◌≡◌};
 ghost use Rattle.tl_archive.specs.declared.fault.ArchiveFault.TheVariants as archive;
 ghost use Rattle.tl_archive.specs.declared.fault.ReadLogFault.TheVariants as reading;
-ghost use Rattle.tl_archive.specs.Faults.{after_get, after_read};
+ghost use Rattle.tl_archive.specs.Faults.{after_get};
 
 use std::alloc::{AllocError, AllocFailed};
 use thiserror::Error;
+use tl_device::DeviceFault;
 use tl_publisher::GetFault;
+use tl_tile::Resource;
 
 /// That a shelf failed.
 #[derive(Clone, Copy, Debug, PartialEq, Eq, Error)]
-#[error("the shelf failed")]
-pub struct ShelfFault;
-
-/// Why bytes were not read from a shelf.
-#[derive(Clone, Copy, Debug, PartialEq, Eq, Error)]
-pub enum ShelfReadFault {
-    /// The shelf failed.
-    #[error("the shelf failed")]
-    Shelf,
-    /// A growth was refused.
-    #[error("out of memory")]
-    OutOfMemory,
+#[error("the shelf failed: {why}")]
+pub struct ShelfFault {
+    /// Over which resource, where it was over one.
+    pub resource: Option<Resource>,
+    /// Why.
+    pub why: DeviceFault,
 }
 
 /// Why a publication was not archived.
@@ -35,8 +31,8 @@ pub enum ArchiveFault {
     #[error("the log is not the one on the shelf")]
     Behind,
     /// The shelf failed.
-    #[error("the shelf failed")]
-    Shelf,
+    #[error("{0}")]
+    Shelf(ShelfFault),
     /// A growth was refused.
     #[error("out of memory")]
     OutOfMemory,
@@ -52,12 +48,12 @@ pub enum ReadLogFault {
     /// The checkpoint states more than 2^32 - 1 entries.
     #[error("the log is too large")]
     TooLarge,
-    /// This bundle isn't there, counted from 0.
-    #[error("bundle {0} is missing")]
-    Missing(u64),
+    /// The entry bundle at this index, counted from 0, with so many entries isn't there.
+    #[error("bundle {index} is missing")]
+    Missing { index: u64, width: u32 },
     /// The shelf failed.
-    #[error("the shelf failed")]
-    Shelf,
+    #[error("{0}")]
+    Shelf(ShelfFault),
     /// A growth was refused.
     #[error("out of memory")]
     OutOfMemory,
@@ -79,14 +75,11 @@ impl<X: Drop> From<AllocFailed<X>> for ReadLogFault {
     }
 }
 
-impl From<ShelfReadFault> for ReadLogFault {
-    ghost from_gives = { λ fault wider. wider ≡ after_read fault };
+impl From<ShelfFault> for ReadLogFault {
+    ghost from_gives = { λ fault wider. wider ≡ reading.Shelf fault };
 
-    fn from(fault: ShelfReadFault) -> ReadLogFault {
-        match fault {
-            ShelfReadFault::Shelf => ReadLogFault::Shelf,
-            ShelfReadFault::OutOfMemory => ReadLogFault::OutOfMemory,
-        }
+    fn from(fault: ShelfFault) -> ReadLogFault {
+        ReadLogFault::Shelf(fault)
     }
 }
 
@@ -99,10 +92,10 @@ impl From<AllocError> for ArchiveFault {
 }
 
 impl From<ShelfFault> for ArchiveFault {
-    ghost from_gives = { λ _ fault. fault ≡ archive.Shelf };
+    ghost from_gives = { λ fault wider. wider ≡ archive.Shelf fault };
 
-    fn from(_fault: ShelfFault) -> ArchiveFault {
-        ArchiveFault::Shelf
+    fn from(fault: ShelfFault) -> ArchiveFault {
+        ArchiveFault::Shelf(fault)
     }
 }
 

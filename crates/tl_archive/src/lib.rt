@@ -10,7 +10,7 @@ mod shelf;
 mod staging;
 
 pub use archive::Archive;
-pub use fault::{ArchiveFault, ReadLogFault, ShelfFault, ShelfReadFault};
+pub use fault::{ArchiveFault, ReadLogFault, ShelfFault};
 pub use law::{archived_bytes_stay, safe_shelf_is_complete};
 pub use reading::{FoundLog, read_log};
 pub use shelf::Shelf;

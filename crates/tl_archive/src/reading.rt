@@ -7,7 +7,7 @@ ghost use Rattle.tl_publisher.specs.Resuming.{bundle_count};
 ghost use Rattle.tl_archive.specs.Inner.Bundles.{LacksOne, StatesNone};
 ghost use Rattle.tl_archive.specs.Reading.{AreFound, IsFoundLog, ReadLogFails, StatesSize};
 
-use crate::fault::{ReadLogFault, ShelfReadFault};
+use crate::fault::ReadLogFault;
 use crate::shelf::Shelf;
 use std::alloc::{Allocator, Global};
 use std::str;
@@ -41,13 +41,17 @@ fn bundle_at<S: Shelf, A: Allocator>(
         (resource.Entries place (bundle_width size place)) ≡ Some bundle.items) }
     ensures missing { S.is_honest ≡ true → IfErr result (LacksOne (S.kept shelf.now).held size) }
 {
+    let width = bundle_width(size, place);
     let resource = Resource::Entries {
         index: place,
-        width: bundle_width(size, place),
+        width,
     };
     match shelf.read(alloc, &resource) {
         Ok(Some(bytes)) => Ok(bytes),
-        Ok(None) => Err(ReadLogFault::Missing(place)),
+        Ok(None) => Err(ReadLogFault::Missing {
+            index: place,
+            width,
+        }),
         Err(fault) => Err(ReadLogFault::from(fault)),
     }
 }

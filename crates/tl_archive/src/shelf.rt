@@ -1,6 +1,6 @@
 //! Shelves.
 
-use crate::fault::{ShelfFault, ShelfReadFault};
+use crate::fault::ShelfFault;
 use std::alloc::Allocator;
 use tl_tile::Resource;
 
@@ -48,7 +48,7 @@ pub trait Shelf {
         &self,
         alloc: A,
         resource: &Resource,
-    ) -> Result<Option<Vec<u8, A>>, ShelfReadFault>
+    ) -> Result<Option<Vec<u8, A>>, ShelfFault>
         requires { IsResource resource.now }
         ensures { is_honest ≡ true → IfOk result
             (λ found. option_map vec_items found ≡ (kept self.now).held resource.now) };

@@ -1,1 +1,2 @@
 pub mod FileRuns
+pub mod Tellings

@@ -22,7 +22,8 @@ use Rattle.tl_serve.specs.Serving.{RefusesOrigin}
 use Rattle.tl_hash.specs.Bytes.{Bytes}
 use Rattle.tl_fetch.specs.declared.fault.FetchFault.{FetchFault}
 use Rattle.tl_cli.specs.declared.fault.CommandFault.{CommandFault}
-use Rattle.tl_cli.specs.Ending.{by_fetch, by_run, status_of, told_of, Told}
+use Rattle.tl_cli.specs.Ending.{by_fetch, by_run, status_of}
+use Rattle.tl_cli.specs.Told.{Tells}
 use Rattle.tl_cli.specs.Version.{PrintsVersion}
 
 -- the result is such a fault
@@ -88,7 +89,7 @@ pub record EndsJob (job : Job) (i o e : Passage) (status : ℕ) : Type 0 where
   pub result : Result (Unit {0}) CommandFault
   pub runs : RunsJob job i o (record { old = e.old; new = bytes; had_failed = e.had_failed; has_failed = failed }) result
   pub ended : status ≡ status_of result
-  pub told : Told (told_of result) (record { old = bytes; new = e.new; had_failed = failed; has_failed = e.has_failed })
+  pub told : Tells job result (record { old = bytes; new = e.new; had_failed = failed; has_failed = e.has_failed })
 
 -- nothing was read and nothing was written, and the exit status is this
 abbrev pub EndsBefore : Passage → Passage → ℕ → ℕ → Type 0

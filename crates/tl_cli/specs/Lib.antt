@@ -1,4 +1,5 @@
 -- The definitions of what the program does with its words.
 pub mod Ending
+pub mod Told
 pub mod Version
 pub mod Job

@@ -1,11 +1,10 @@
 //! The faults of all commands.
 
-ghost use Rattle.std.specs.Prelude.{◌≡◌, IfOk, option_map, string_bytes};
-ghost use Rattle.tl_cli.specs.Ending.{by_fetch, by_run, command_status, command_text};
+ghost use Rattle.std.specs.Prelude.{◌≡◌};
+ghost use Rattle.tl_cli.specs.Ending.{by_fetch, by_run, command_status};
 
-use std::alloc::{AllocError, Allocator};
-use tl_command::{RunFault, exit_of, fault_line};
-use tl_fetch::{FetchFault, fetch_exit_of, fetch_fault_line};
+use tl_command::{RunFault, exit_of};
+use tl_fetch::{FetchFault, fetch_exit_of};
 
 /// Why a command ends without success.
 #[derive(Clone, Copy, Debug, PartialEq, Eq)]
@@ -14,19 +13,6 @@ pub enum CommandFault {
     Run(RunFault),
     /// A fault of `fetch`.
     Fetch(FetchFault),
-}
-
-// The line of a fault on standard error, without its newline, if it has one.
-pub(crate) fn command_fault_line<A: Allocator>(
-    alloc: A,
-    fault: &CommandFault,
-) -> Result<Option<String<A>>, AllocError>
-    ensures { IfOk result (λ line. option_map string_bytes line ≡ command_text fault.now) }
-{
-    match fault {
-        CommandFault::Run(fault) => fault_line(alloc, fault),
-        CommandFault::Fetch(fault) => fetch_fault_line(alloc, fault),
-    }
 }
 
 // The exit status of a fault.

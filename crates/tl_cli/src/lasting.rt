@@ -9,25 +9,18 @@ use std::fs::{File, Files};
 use std::io::{Read, Write};
 use std::net::{Net, TcpListener, TcpStream};
 use std::os::fd::RawFd;
-use tl_command::{MOST_INPUT, RunFault};
-use tl_device::Counted;
-use tl_folder::{
-    AnyOutcome, FileFault, FolderLock, FolderShelf, LineFile, lock_folder, open_lines,
-};
+use tl_command::{MOST_INPUT, Place, RunFault};
+use tl_device::{Counted, DeviceFault};
+use tl_folder::{AnyOutcome, FolderLock, FolderShelf, LineFile, lock_folder, open_lines};
 use tl_note::is_key_name;
 use tl_serve::{
     AppendOptions, Host, ServeOptions, WitnessOptions, run_append, run_serve, run_serve_shelf,
     run_witness, threads_of,
 };
 
-// Why a folder or a file was not opened.
-fn refusal(fault: FileFault) -> RunFault {
-    match fault {
-        FileFault::System | FileFault::NotPlain | FileFault::Moved => RunFault::Read,
-        FileFault::Busy => RunFault::Busy,
-        FileFault::TooLarge => RunFault::TooLarge,
-        FileFault::OutOfMemory => RunFault::OutOfMemory,
-    }
+// That the folder of a log failed.
+fn folder_fault(fault: DeviceFault) -> RunFault {
+    RunFault::of_device(Place::Log(None), fault)
 }
 
 // The folder of a log as a shelf. It is made where it isn't there.
@@ -38,12 +31,12 @@ fn open_folder<H: Files + Drop>(
 ) -> Result<FolderShelf<AnyOutcome, H>, RunFault> {
     match FolderShelf::open(AnyOutcome, rt, alloc, dir) {
         Ok(shelf) => Ok(shelf),
-        Err(fault) => Err(refusal(fault)),
+        Err(fault) => Err(folder_fault(fault)),
     }
 }
 
 // The folder of a log as a shelf, which no other process works on as long as the lock lasts. It is made where it isn't
-// there. `Read`: another folder came to the path meanwhile.
+// there. `Moved`: another folder came to the path meanwhile.
 fn own_folder<H: Files<File = File> + Copy + Drop>(
     rt: &H,
     alloc: Global,
@@ -51,11 +44,11 @@ fn own_folder<H: Files<File = File> + Copy + Drop>(
 ) -> Result<(FolderLock, FolderShelf<AnyOutcome, H>), RunFault> {
     let lock = match lock_folder(rt, dir) {
         Ok(lock) => lock,
-        Err(fault) => return Err(refusal(fault)),
+        Err(fault) => return Err(folder_fault(fault)),
     };
     let shelf = open_folder(*rt, alloc, dir)?;
     if !lock.is_at(rt, dir) {
-        return Err(RunFault::Read);
+        return Err(folder_fault(DeviceFault::Moved));
     }
     Ok((lock, shelf))
 }
@@ -138,8 +131,12 @@ pub(crate) fn witness<
     }
     let LineFile { lines, end } = match open_lines(rt, alloc, path, MOST_INPUT) {
         Ok(file) => file,
-        Err(fault) => return Err(refusal(fault)),
+        Err(fault) => return Err(RunFault::of_device(Place::State, fault)),
     };
     let (mut reader, mut writer) = (Counted::new(lines.as_slice()), Counted::new(end));
-    run_witness(rt, alloc, options, &mut reader, &mut writer, errors)
+    let outcome = run_witness(rt, alloc, options, &mut reader, &mut writer, errors);
+    match (outcome, writer.into_inner().fault()) {
+        (Err(RunFault::Write), Some(fault)) => Err(RunFault::of_device(Place::State, fault)),
+        (outcome, _) => outcome,
+    }
 }

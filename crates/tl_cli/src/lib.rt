@@ -13,11 +13,12 @@ mod job;
 mod lasting;
 mod running;
 mod streams;
+mod telling;
 mod version;
 mod words;
 
 pub use fault::CommandFault;
 pub use job::Job;
-pub use running::{end_run, run_job, run_words};
+pub use running::{end_early, end_run, run_job, run_words};
 pub use streams::Streams;
 pub use words::{WordsFault, read_words};

@@ -1,16 +1,19 @@
 //! From words to the command that they name, and from how it ended to an exit status.
 
-ghost use Rattle.std.specs.Prelude.{◌≡◌, option_map, string_bytes};
+ghost use Rattle.std.specs.Prelude.{◌≡◌, codes, option_map, string_bytes};
+ghost use Rattle.tl_text.specs.Text.{line};
 ghost use Rattle.tl_device.specs.Device.{passage};
 ghost use Rattle.tl_command.specs.Head.{RunsHead};
 ghost use Rattle.tl_cli.specs.Job.{BuildsDemo, BuildsSigned, ChecksFile, EndsWords, RunsJob, key_kind};
 ghost use Rattle.tl_command.specs.Keygen.{GivesKey};
-ghost use Rattle.tl_cli.specs.Ending.{Told, status_of, told_of};
+ghost use Rattle.tl_cli.specs.Ending.{Told, status_of};
+ghost use Rattle.tl_cli.specs.Told.{Tells};
 
-use crate::fault::{CommandFault, after_fetch, after_run, command_exit_of, command_fault_line};
+use crate::fault::{CommandFault, after_fetch, after_run, command_exit_of};
 use crate::job::Job;
 use crate::lasting::{append, serve, witness};
 use crate::streams::Streams;
+use crate::telling::tell;
 use crate::version::print_version;
 use crate::words::{WordsFault, read_words};
 use std::alloc::{Allocator, Global};
@@ -152,32 +155,32 @@ pub fn run_job<
 >(
     rt: &H,
     alloc: Global,
-    job: Job,
+    job: &Job,
     streams: Streams,
     reader: &mut Counted<R>,
     writer: &mut Counted<W>,
     errors: &mut Counted<E>,
 ) -> Result<(), CommandFault>
-    ensures { RunsJob job (passage R.remaining reader.old reader.new) (passage
+    ensures { RunsJob job.now (passage R.remaining reader.old reader.new) (passage
         W.contents writer.old writer.new) (passage E.contents errors.old errors.new) result }
 {
     let Streams { is_terminal, input } = streams;
     match job {
-        Job::Head(options) => after_run(head(rt, alloc, &options, reader, writer)),
-        Job::Build(options) => after_run(build(alloc, &options, reader, writer)),
-        Job::BuildSigned(options) => after_run(build_signed(rt, alloc, &options, reader, writer)),
-        Job::Append(options) => after_run(append(rt, alloc, &options, reader, writer)),
-        Job::Inclusion { index } => after_run(run_inclusion(alloc, index, reader, writer)),
-        Job::Consistency { old } => after_run(run_consistency(alloc, old, reader, writer)),
+        Job::Head(options) => after_run(head(rt, alloc, options, reader, writer)),
+        Job::Build(options) => after_run(build(alloc, options, reader, writer)),
+        Job::BuildSigned(options) => after_run(build_signed(rt, alloc, options, reader, writer)),
+        Job::Append(options) => after_run(append(rt, alloc, options, reader, writer)),
+        Job::Inclusion { index } => after_run(run_inclusion(alloc, *index, reader, writer)),
+        Job::Consistency { old } => after_run(run_consistency(alloc, *old, reader, writer)),
         Job::Check => after_run(run_check(alloc, reader, writer)),
-        Job::CheckUnder(options) => after_run(check_under(rt, alloc, &options, reader, writer)),
-        Job::Keygen(options) => after_run(key(rt, alloc, &options, writer, errors)),
-        Job::Open { key } => after_run(run_open(alloc, &key, reader, writer)),
+        Job::CheckUnder(options) => after_run(check_under(rt, alloc, options, reader, writer)),
+        Job::Keygen(options) => after_run(key(rt, alloc, options, writer, errors)),
+        Job::Open { key } => after_run(run_open(alloc, key, reader, writer)),
         Job::Audit => after_run(run_audit(alloc, Sha256Tree, reader, writer)),
-        Job::Serve(options) => after_run(serve(rt, alloc, &options, input, reader, errors)),
-        Job::Witness(options) => after_run(witness(rt, alloc, &options, reader, writer, errors)),
+        Job::Serve(options) => after_run(serve(rt, alloc, options, input, reader, errors)),
+        Job::Witness(options) => after_run(witness(rt, alloc, options, reader, writer, errors)),
         Job::Fetch(options) => {
-            after_fetch(run_fetch(rt, alloc, &options, writer, errors, is_terminal))
+            after_fetch(run_fetch(rt, alloc, options, writer, errors, is_terminal))
         }
         Job::Version => after_run(print_version(writer)),
     }
@@ -208,36 +211,42 @@ pub fn run_words<
 {
     match read_words(alloc, words) {
         Ok(job) => {
-            let outcome = run_job(rt, alloc, job, streams, reader, writer, errors);
-            end_run(alloc, outcome, errors)
+            let outcome = run_job(rt, alloc, &job, streams, reader, writer, errors);
+            end_run(alloc, &job, outcome, errors)
         }
         Err(WordsFault::Usage(text)) => {
             let _ = write_whole(errors, text.as_bytes());
             2
         }
-        Err(WordsFault::OutOfMemory) => {
-            end_run(alloc, Err(CommandFault::Run(RunFault::OutOfMemory)), errors)
-        }
+        Err(WordsFault::OutOfMemory) => end_early(errors),
     }
 }
 
-/// Ends a run of a command: a fault's line is written to `errors`, if it has one and there is memory for it, and the
-/// answer is the exit status: 0 where all was done, and else the fault's.
-pub fn end_run<A: Allocator, E: Write>(
+/// Ends a run of which no command came, since memory was refused: that is written to `errors`, and the answer is the
+/// exit status.
+pub fn end_early<E: Write>(errors: &mut Counted<E>) -> u8
+    ensures status { result ≡ 1 }
+    ensures told { Told (line (codes "tlog: out of memory"))
+        (passage E.contents errors.old errors.new) }
+{
+    let _ = write_whole(errors, b"tlog: out of memory\n");
+    1
+}
+
+/// Ends a run of a job's command: a fault's line is written to `errors`, if it has one and there is memory for it, and
+/// the answer is the exit status: 0 where all was done, and else the fault's.
+pub fn end_run<A: Allocator + Copy, E: Write>(
     alloc: A,
+    job: &Job,
     outcome: Result<(), CommandFault>,
     errors: &mut Counted<E>,
 ) -> u8
     ensures status { result ≡ status_of outcome }
-    ensures told { Told (told_of outcome) (passage E.contents errors.old errors.new) }
+    ensures told { Tells job.now outcome (passage E.contents errors.old errors.new) }
 {
     let Err(fault) = outcome else {
         return 0;
     };
-    if let Ok(Some(mut line)) = command_fault_line(alloc, &fault) {
-        if line.push_str("\n").is_ok() {
-            let _ = write_whole(errors, line.as_bytes());
-        }
-    }
+    tell(alloc, job, &fault, errors);
     command_exit_of(&fault)
 }

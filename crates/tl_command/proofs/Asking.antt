@@ -6,7 +6,7 @@ use Rattle.tl_text.specs.Text.{IsOneLine}
 use Rattle.tl_device.specs.Device.{Passage, IsUnwritten, GaveSome}
 use Rattle.tl_command.specs.Inner.Growing.{ReadsEdge}
 use Rattle.tl_command.specs.declared.fault.RunFault.{RunFault}
-use Rattle.tl_command.specs.declared.fault.RunFault.TheVariants.{Refused, Read, Write, TooLarge, EntryTooLong, BadOrigin, BadIndex, BadOld, BadPath, NotThere, Malformed, Chain, Sign, Operator, Listen, Accept, OutOfMemory, BadName, BadKey, BadCheckpoint, WrongSignature, Unverified, Busy}
+use Rattle.tl_command.specs.declared.fault.RunFault.TheVariants.{Refused, Read, Write, TooLarge, EntryTooLong, BadOrigin, BadIndex, BadOld, BadPath, NotThere, Malformed, Chain, Sign, Operator, Listen, Accept, OutOfMemory, BadName, BadKey, BadCheckpoint, WrongSignature, Unverified, Device}
 use Rattle.tl_command.specs.Lines.{entries_of, first_too_long}
 use Rattle.tl_command.specs.Run.{IsAsking, ReadEntries}
 use Rattle.tl_command.specs.Head.{HeadComes, RunsHead, head_text}
@@ -56,7 +56,7 @@ head_fault origin i o Sign line none reads = absurd reads
 head_fault origin i o Operator line none reads = absurd reads
 head_fault origin i o Listen line none reads = absurd reads
 head_fault origin i o Accept line none reads = absurd reads
-head_fault origin i o Busy line none reads = absurd reads
+head_fault origin i o (Device place why) line none reads = absurd reads
 head_fault origin i o OutOfMemory line none reads = (line, (reads, none, asks_of_head origin i))
 head_fault origin i o BadName line none reads = absurd reads
 head_fault origin i o BadKey line none reads = absurd reads

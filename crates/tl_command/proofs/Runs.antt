@@ -13,7 +13,7 @@ use Rattle.tl_checkpoint.specs.OpenCheckpoint.{IsSignedCheckpoint}
 use Rattle.tl_command.specs.ProofCommands.{CheckAboutComes}
 use Rattle.tl_command.specs.Run.{Output, Prints, Runs, CameOf, most_input}
 use Rattle.tl_command.specs.declared.fault.RunFault.{RunFault}
-use Rattle.tl_command.specs.declared.fault.RunFault.TheVariants.{Refused, Read, Write, TooLarge, EntryTooLong, BadOrigin, BadIndex, BadOld, BadPath, NotThere, Malformed, Chain, Sign, Operator, Listen, Accept, OutOfMemory, BadName, BadKey, BadCheckpoint, WrongSignature, Unverified, Busy}
+use Rattle.tl_command.specs.declared.fault.RunFault.TheVariants.{Refused, Read, Write, TooLarge, EntryTooLong, BadOrigin, BadIndex, BadOld, BadPath, NotThere, Malformed, Chain, Sign, Operator, Listen, Accept, OutOfMemory, BadName, BadKey, BadCheckpoint, WrongSignature, Unverified, Device}
 use Rattle.tl_command.specs.Open.{OpenComes, RunsOpen, after_note}
 use Rattle.tl_command.specs.CheckOpened.{RunsUnder, RunsCheckOpened, subject_of}
 use Rattle.tl_command.proofs.NoteBytes.{note_some}
@@ -60,7 +60,7 @@ runs_open text k i o (Err Sign) spelled runs = record { key = k; spelled = spell
 runs_open text k i o (Err Operator) spelled runs = record { key = k; spelled = spelled; fact = runs }
 runs_open text k i o (Err Listen) spelled runs = record { key = k; spelled = spelled; fact = runs }
 runs_open text k i o (Err Accept) spelled runs = record { key = k; spelled = spelled; fact = runs }
-runs_open text k i o (Err Busy) spelled runs = record { key = k; spelled = spelled; fact = runs }
+runs_open text k i o (Err (Device place why)) spelled runs = record { key = k; spelled = spelled; fact = runs }
 runs_open text k i o (Err OutOfMemory) spelled runs = record { key = k; spelled = spelled; fact = (runs.0, runs.1) }
 runs_open text k i o (Err BadName) spelled runs = record { key = k; spelled = spelled; fact = runs }
 runs_open text k i o (Err BadKey) spelled runs = absurd runs.0.so
@@ -69,36 +69,36 @@ runs_open text k i o (Err (WrongSignature place)) spelled runs = record { key = 
 runs_open text k i o (Err Unverified) spelled runs = record { key = k; spelled = spelled; fact = runs }
 
 -- a run against the checkpoint that bytes are
-pub runs_under : (bytes : List ℕ) (keys : List Key) (entry : Option (List ℕ)) (c : Head) (i o : Passage) (r : Result (Unit {0}) RunFault) → IsSignedCheckpoint bytes keys c
-    → Runs (CheckAboutComes (subject_of c entry)) i o r → RunsUnder bytes keys entry i o r
-runs_under bytes keys entry c i o (Ok done) signed runs = record { checkpoint = c; signed = signed; runs = runs }
-runs_under bytes keys entry c i o (Err Refused) signed runs = record { checkpoint = c; signed = signed; runs = runs }
-runs_under bytes keys entry c i o (Err Read) signed runs = record { checkpoint = c; signed = signed; runs = runs }
-runs_under bytes keys entry c i o (Err Write) signed runs = record { checkpoint = c; signed = signed; runs = runs }
-runs_under bytes keys entry c i o (Err TooLarge) signed runs = record { checkpoint = c; signed = signed; runs = runs }
-runs_under bytes keys entry c i o (Err (EntryTooLong place)) signed runs = record { checkpoint = c; signed = signed; runs = runs }
-runs_under bytes keys entry c i o (Err BadOrigin) signed runs = record { checkpoint = c; signed = signed; runs = runs }
-runs_under bytes keys entry c i o (Err BadIndex) signed runs = record { checkpoint = c; signed = signed; runs = runs }
-runs_under bytes keys entry c i o (Err BadOld) signed runs = record { checkpoint = c; signed = signed; runs = runs }
-runs_under bytes keys entry c i o (Err BadPath) signed runs = record { checkpoint = c; signed = signed; runs = runs }
-runs_under bytes keys entry c i o (Err NotThere) signed runs = record { checkpoint = c; signed = signed; runs = runs }
-runs_under bytes keys entry c i o (Err Malformed) signed runs = record { checkpoint = c; signed = signed; runs = runs }
-runs_under bytes keys entry c i o (Err (Chain place)) signed runs = record { checkpoint = c; signed = signed; runs = runs }
-runs_under bytes keys entry c i o (Err Sign) signed runs = record { checkpoint = c; signed = signed; runs = runs }
-runs_under bytes keys entry c i o (Err Operator) signed runs = record { checkpoint = c; signed = signed; runs = runs }
-runs_under bytes keys entry c i o (Err Listen) signed runs = record { checkpoint = c; signed = signed; runs = runs }
-runs_under bytes keys entry c i o (Err Accept) signed runs = record { checkpoint = c; signed = signed; runs = runs }
-runs_under bytes keys entry c i o (Err Busy) signed runs = record { checkpoint = c; signed = signed; runs = runs }
-runs_under bytes keys entry c i o (Err OutOfMemory) signed runs = (runs.0, runs.1)
-runs_under bytes keys entry c i o (Err BadName) signed runs = record { checkpoint = c; signed = signed; runs = runs }
-runs_under bytes keys entry c i o (Err BadKey) signed runs = record { checkpoint = c; signed = signed; runs = runs }
-runs_under bytes keys entry c i o (Err BadCheckpoint) signed runs = absurd runs.0.so
-runs_under bytes keys entry c i o (Err (WrongSignature place)) signed runs = absurd runs.0.so
-runs_under bytes keys entry c i o (Err Unverified) signed runs = absurd runs.0.so
+pub runs_under : (bytes : List ℕ) (keys : List Key) (name : List ℕ) (entry : Option (List ℕ)) (c : Head) (i o : Passage) (r : Result (Unit {0}) RunFault) → IsSignedCheckpoint bytes keys c → c.origin ≡ name
+    → Runs (CheckAboutComes (subject_of c entry)) i o r → RunsUnder bytes keys name entry i o r
+runs_under bytes keys name entry c i o (Ok done) signed named runs = record { checkpoint = c; signed = signed; named = named; runs = runs }
+runs_under bytes keys name entry c i o (Err Refused) signed named runs = record { checkpoint = c; signed = signed; named = named; runs = runs }
+runs_under bytes keys name entry c i o (Err Read) signed named runs = record { checkpoint = c; signed = signed; named = named; runs = runs }
+runs_under bytes keys name entry c i o (Err Write) signed named runs = record { checkpoint = c; signed = signed; named = named; runs = runs }
+runs_under bytes keys name entry c i o (Err TooLarge) signed named runs = record { checkpoint = c; signed = signed; named = named; runs = runs }
+runs_under bytes keys name entry c i o (Err (EntryTooLong place)) signed named runs = record { checkpoint = c; signed = signed; named = named; runs = runs }
+runs_under bytes keys name entry c i o (Err BadOrigin) signed named runs = absurd runs.0.so
+runs_under bytes keys name entry c i o (Err BadIndex) signed named runs = record { checkpoint = c; signed = signed; named = named; runs = runs }
+runs_under bytes keys name entry c i o (Err BadOld) signed named runs = record { checkpoint = c; signed = signed; named = named; runs = runs }
+runs_under bytes keys name entry c i o (Err BadPath) signed named runs = record { checkpoint = c; signed = signed; named = named; runs = runs }
+runs_under bytes keys name entry c i o (Err NotThere) signed named runs = record { checkpoint = c; signed = signed; named = named; runs = runs }
+runs_under bytes keys name entry c i o (Err Malformed) signed named runs = record { checkpoint = c; signed = signed; named = named; runs = runs }
+runs_under bytes keys name entry c i o (Err (Chain place)) signed named runs = record { checkpoint = c; signed = signed; named = named; runs = runs }
+runs_under bytes keys name entry c i o (Err Sign) signed named runs = record { checkpoint = c; signed = signed; named = named; runs = runs }
+runs_under bytes keys name entry c i o (Err Operator) signed named runs = record { checkpoint = c; signed = signed; named = named; runs = runs }
+runs_under bytes keys name entry c i o (Err Listen) signed named runs = record { checkpoint = c; signed = signed; named = named; runs = runs }
+runs_under bytes keys name entry c i o (Err Accept) signed named runs = record { checkpoint = c; signed = signed; named = named; runs = runs }
+runs_under bytes keys name entry c i o (Err (Device place why)) signed named runs = record { checkpoint = c; signed = signed; named = named; runs = runs }
+runs_under bytes keys name entry c i o (Err OutOfMemory) signed named runs = (runs.0, runs.1)
+runs_under bytes keys name entry c i o (Err BadName) signed named runs = record { checkpoint = c; signed = signed; named = named; runs = runs }
+runs_under bytes keys name entry c i o (Err BadKey) signed named runs = record { checkpoint = c; signed = signed; named = named; runs = runs }
+runs_under bytes keys name entry c i o (Err BadCheckpoint) signed named runs = absurd runs.0.so
+runs_under bytes keys name entry c i o (Err (WrongSignature place)) signed named runs = absurd runs.0.so
+runs_under bytes keys name entry c i o (Err Unverified) signed named runs = absurd runs.0.so
 
 -- a run under the key that a text is of, and against the checkpoint that bytes are
 pub runs_check_opened : (text bytes : List ℕ) (entry : Option (List ℕ)) (k : PublicKey) (i o : Passage) (r : Result (Unit {0}) RunFault) → IsVerifierText note_kind text k
-    → RunsUnder bytes (verifier_key k ∷ []) entry i o r → RunsCheckOpened text bytes entry i o r
+    → RunsUnder bytes (verifier_key k ∷ []) k.name entry i o r → RunsCheckOpened text bytes entry i o r
 runs_check_opened text bytes entry k i o (Ok done) spelled runs = record { key = k; spelled = spelled; fact = runs }
 runs_check_opened text bytes entry k i o (Err Refused) spelled runs = record { key = k; spelled = spelled; fact = runs }
 runs_check_opened text bytes entry k i o (Err Read) spelled runs = record { key = k; spelled = spelled; fact = runs }
@@ -116,7 +116,7 @@ runs_check_opened text bytes entry k i o (Err Sign) spelled runs = record { key 
 runs_check_opened text bytes entry k i o (Err Operator) spelled runs = record { key = k; spelled = spelled; fact = runs }
 runs_check_opened text bytes entry k i o (Err Listen) spelled runs = record { key = k; spelled = spelled; fact = runs }
 runs_check_opened text bytes entry k i o (Err Accept) spelled runs = record { key = k; spelled = spelled; fact = runs }
-runs_check_opened text bytes entry k i o (Err Busy) spelled runs = record { key = k; spelled = spelled; fact = runs }
+runs_check_opened text bytes entry k i o (Err (Device place why)) spelled runs = record { key = k; spelled = spelled; fact = runs }
 runs_check_opened text bytes entry k i o (Err OutOfMemory) spelled runs = record { key = k; spelled = spelled; fact = runs }
 runs_check_opened text bytes entry k i o (Err BadName) spelled runs = record { key = k; spelled = spelled; fact = runs }
 runs_check_opened text bytes entry k i o (Err BadKey) spelled runs = absurd runs.runs.0.so
@@ -129,7 +129,8 @@ pub runs_open_by : (keys : List Key) (text : List ℕ) (k : PublicKey) (i o : Pa
     → keys ≡ verifier_key k ∷ [] → Runs (OpenComes keys) i o r → RunsOpen text i o r
 runs_open_by keys text k i o r spelled one runs = runs_open text k i o r spelled (subst (λ (ks : List Key). Runs (OpenComes ks) i o r) one runs)
 
-pub runs_check_by : (keys : List Key) (text bytes : List ℕ) (entry : Option (List ℕ)) (k : PublicKey) (i o : Passage) (r : Result (Unit {0}) RunFault) → IsVerifierText note_kind text k
-    → keys ≡ verifier_key k ∷ [] → RunsUnder bytes keys entry i o r → RunsCheckOpened text bytes entry i o r
-runs_check_by keys text bytes entry k i o r spelled one runs =
-    runs_check_opened text bytes entry k i o r spelled (subst (λ (ks : List Key). RunsUnder bytes ks entry i o r) one runs)
+pub runs_check_by : (keys : List Key) (text bytes name : List ℕ) (entry : Option (List ℕ)) (k : PublicKey) (i o : Passage) (r : Result (Unit {0}) RunFault) → IsVerifierText note_kind text k
+    → keys ≡ verifier_key k ∷ [] → name ≡ k.name → RunsUnder bytes keys name entry i o r → RunsCheckOpened text bytes entry i o r
+runs_check_by keys text bytes name entry k i o r spelled one same runs =
+    runs_check_opened text bytes entry k i o r spelled
+    (subst (λ (n : List ℕ). RunsUnder bytes (verifier_key k ∷ []) n entry i o r) same (subst (λ (ks : List Key). RunsUnder bytes ks name entry i o r) one runs))

@@ -32,7 +32,7 @@ runs_signed origin bytes get k i o (Err fault.Sign) file named runs = record { k
 runs_signed origin bytes get k i o (Err fault.Operator) file named runs = record { key = k; file = file; fact = (named, runs) }
 runs_signed origin bytes get k i o (Err fault.Listen) file named runs = record { key = k; file = file; fact = (named, runs) }
 runs_signed origin bytes get k i o (Err fault.Accept) file named runs = record { key = k; file = file; fact = (named, runs) }
-runs_signed origin bytes get k i o (Err fault.Busy) file named runs = record { key = k; file = file; fact = (named, runs) }
+runs_signed origin bytes get k i o (Err (fault.Device place why)) file named runs = record { key = k; file = file; fact = (named, runs) }
 runs_signed origin bytes get k i o (Err fault.BadName) file named runs = record { key = k; file = file; fact = (named, runs) }
 runs_signed origin bytes get k i o (Err fault.BadCheckpoint) file named runs = record { key = k; file = file; fact = (named, runs) }
 runs_signed origin bytes get k i o (Err (fault.WrongSignature place)) file named runs = record { key = k; file = file; fact = (named, runs) }

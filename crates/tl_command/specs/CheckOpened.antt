@@ -1,5 +1,5 @@
 -- The command `check` against a signed checkpoint (C2SP tlog-checkpoint, signed-note).
-use Rattle.std.specs.Prelude.{List, [], ◌∷◌, Option, Result, Err}
+use Rattle.std.specs.Prelude.{◌≡◌, ◌≢◌, List, [], ◌∷◌, Option, Result, Err}
 use Rattle.tl_hash.specs.Bytes.{Bytes}
 use Rattle.tl_note.specs.Key.{Key}
 use Rattle.tl_note.specs.Note.{Signature, Note}
@@ -10,7 +10,7 @@ use Rattle.tl_key.specs.NoteKey.{verifier_key}
 use Rattle.tl_command.specs.ProofCommands.{Subject, CheckAboutComes}
 use Rattle.tl_command.specs.Run.{Runs}
 use Rattle.tl_command.specs.declared.fault.RunFault.{RunFault}
-use Rattle.tl_command.specs.declared.fault.RunFault.TheVariants.{BadKey, BadCheckpoint, WrongSignature, Unverified, OutOfMemory}
+use Rattle.tl_command.specs.declared.fault.RunFault.TheVariants.{BadKey, BadOrigin, BadCheckpoint, WrongSignature, Unverified, OutOfMemory}
 use Rattle.tl_command.specs.Keys.{IsNoKey}
 use Rattle.tl_command.specs.Open.{IsKeyWith, IsWrongNote, IsUnknownNote}
 
@@ -22,25 +22,34 @@ IsNoCheckpoint bytes = (c : Head) (lines : List Signature) → IsHead c → Note
 abbrev pub subject_of : Head → Option Bytes → Subject
 subject_of c entry = record { size = c.size; root = c.root; entry = entry }
 
--- the bytes are a signed checkpoint that opens, and the proof was checked against it
-pub record ChecksUnder (bytes : Bytes) (keys : List Key) (entry : Option Bytes) (i o : Passage) (result : Result (Unit {0}) RunFault) : Type 0 where
+-- the bytes are a signed checkpoint that opens, of a log with another name
+pub record IsOfOther (bytes : Bytes) (keys : List Key) (name : Bytes) : Type 0 where
   pub checkpoint : Head
   pub signed : IsSignedCheckpoint bytes keys checkpoint
+  pub other : checkpoint.origin ≢ name
+
+-- the bytes are a signed checkpoint that opens, of the log with this name, and the proof was checked against it
+pub record ChecksUnder (bytes : Bytes) (keys : List Key) (name : Bytes) (entry : Option Bytes) (i o : Passage) (result : Result (Unit {0}) RunFault) : Type 0 where
+  pub checkpoint : Head
+  pub signed : IsSignedCheckpoint bytes keys checkpoint
+  pub named : checkpoint.origin ≡ name
   pub runs : Runs (CheckAboutComes (subject_of checkpoint entry)) i o result
 
 -- nothing was read and nothing was written
 abbrev pub IsIdle : Passage → Passage → Type 0
 IsIdle i o = IsUnread i × IsUnwritten o
 
--- a run under these keys with the bytes of a checkpoint: what doesn't open is refused before anything is read
-abbrev pub RunsUnder : Bytes → List Key → Option Bytes → Passage → Passage → Result (Unit {0}) RunFault → Type 0
-RunsUnder bytes keys entry i o (Err BadCheckpoint) = IsNoCheckpoint bytes × IsIdle i o
-RunsUnder bytes keys entry i o (Err (WrongSignature place)) = IsWrongNote keys bytes place × IsIdle i o
-RunsUnder bytes keys entry i o (Err Unverified) = IsUnknownNote keys bytes × IsIdle i o
-RunsUnder bytes keys entry i o (Err OutOfMemory) = IsSteady i × IsUnwritten o
-RunsUnder bytes keys entry i o result = ChecksUnder bytes keys entry i o result
+-- a run under these keys of a log with this name, with the bytes of a checkpoint: what doesn't open, or is of another
+-- log, is refused before anything is read
+abbrev pub RunsUnder : Bytes → List Key → Bytes → Option Bytes → Passage → Passage → Result (Unit {0}) RunFault → Type 0
+RunsUnder bytes keys name entry i o (Err BadCheckpoint) = IsNoCheckpoint bytes × IsIdle i o
+RunsUnder bytes keys name entry i o (Err (WrongSignature place)) = IsWrongNote keys bytes place × IsIdle i o
+RunsUnder bytes keys name entry i o (Err Unverified) = IsUnknownNote keys bytes × IsIdle i o
+RunsUnder bytes keys name entry i o (Err BadOrigin) = IsOfOther bytes keys name × IsIdle i o
+RunsUnder bytes keys name entry i o (Err OutOfMemory) = IsSteady i × IsUnwritten o
+RunsUnder bytes keys name entry i o result = ChecksUnder bytes keys name entry i o result
 
 -- a run with the text of the log's verifier's key
 abbrev pub RunsCheckOpened : Bytes → Bytes → Option Bytes → Passage → Passage → Result (Unit {0}) RunFault → Type 0
 RunsCheckOpened text bytes entry i o (Err BadKey) = IsNoKey text × IsIdle i o
-RunsCheckOpened text bytes entry i o result = IsKeyWith text (λ k. RunsUnder bytes (verifier_key k ∷ []) entry i o result)
+RunsCheckOpened text bytes entry i o result = IsKeyWith text (λ k. RunsUnder bytes (verifier_key k ∷ []) k.name entry i o result)

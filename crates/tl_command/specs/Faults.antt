@@ -2,8 +2,20 @@
 use Rattle.std.specs.Prelude.{ℕ, ◌++◌, codes, Option, Some, None}
 use Rattle.tl_hash.specs.Bytes.{Bytes}
 use Rattle.tl_text.specs.Text.{number_text}
+use Rattle.tl_device.specs.Faults.{device_words}
+use Rattle.tl_device.specs.declared.fault.DeviceFault.{DeviceFault}
+use Rattle.tl_device.specs.declared.fault.DeviceFault.TheVariants as device
+use Rattle.tl_command.specs.declared.place.Place.{Place}
+use Rattle.tl_command.specs.declared.place.Place.TheVariants.{File, State, Log, Source}
 use Rattle.tl_command.specs.declared.fault.RunFault.{RunFault}
-use Rattle.tl_command.specs.declared.fault.RunFault.TheVariants.{Refused, Read, Write, TooLarge, EntryTooLong, BadOrigin, BadIndex, BadOld, BadPath, NotThere, Malformed, Chain, Sign, Operator, Listen, Accept, OutOfMemory, BadName, BadKey, BadCheckpoint, WrongSignature, Unverified, Busy}
+use Rattle.tl_command.specs.declared.fault.RunFault.TheVariants.{Refused, Read, Write, TooLarge, EntryTooLong, BadOrigin, BadIndex, BadOld, BadPath, NotThere, Malformed, Chain, Sign, Operator, Listen, Accept, OutOfMemory, BadName, BadKey, BadCheckpoint, WrongSignature, Unverified, Device}
+
+-- a place, where no options tell more of it
+abbrev pub place_words : Place → Bytes
+place_words File = codes "file"
+place_words State = codes "state"
+place_words (Log resource) = codes "log"
+place_words (Source resource) = codes "source"
 
 -- what it says
 abbrev pub fault_words : RunFault → Bytes
@@ -29,17 +41,33 @@ fault_words BadKey = codes "bad key"
 fault_words BadCheckpoint = codes "bad checkpoint"
 fault_words (WrongSignature place) = codes "signature " ++ number_text place ++ codes " wrong"
 fault_words Unverified = codes "no known signature"
-fault_words Busy = codes "in use"
+fault_words (Device place fault) = place_words place ++ codes ": " ++ device_words fault
+
+-- what a fault of a device is told as
+abbrev pub after_device : Place → DeviceFault → RunFault
+after_device place device.OutOfMemory = OutOfMemory
+after_device place fault = Device place fault
 
 -- the line on standard error, without its newline; a refusal has none, since its answer is on standard output
 abbrev pub fault_text : RunFault → Option Bytes
 fault_text Refused = None
 fault_text fault = Some (codes "tlog: " ++ fault_words fault)
 
--- the exit status: 3 where a device failed, else 1
+-- the exit status of a fault of a device: 1 where it is in use, or has what isn't taken, or memory was refused
+abbrev pub device_status : DeviceFault → ℕ
+device_status device.Taken = 1
+device_status device.Busy = 1
+device_status device.TooLarge = 1
+device_status device.Damaged = 1
+device_status device.OutOfMemory = 1
+device_status _ = 3
+
+-- the exit status: 3 where a device failed or a source gave nothing, else 1
 abbrev pub exit_status : RunFault → ℕ
 exit_status Read = 3
 exit_status Write = 3
 exit_status Listen = 3
 exit_status Accept = 3
+exit_status (Device (Source resource) fault) = 3
+exit_status (Device place fault) = device_status fault
 exit_status _ = 1

@@ -7,7 +7,8 @@ use Rattle.tl_text.specs.Text.{line}
 use Rattle.tl_key.specs.KeyText.{IsSignerText, IsVerifierText}
 use Rattle.tl_key.specs.NoteKey.{PublicKey, SeedKey, note_kind}
 use Rattle.tl_command.specs.declared.fault.RunFault.{RunFault}
-use Rattle.tl_command.specs.declared.fault.RunFault.TheVariants.{Read, TooLarge, BadKey, OutOfMemory}
+use Rattle.tl_command.specs.declared.fault.RunFault.TheVariants.{Device, BadKey, OutOfMemory}
+use Rattle.tl_command.specs.declared.place.Place.TheVariants.{File}
 
 -- the text is that of no verifier's key of a log
 abbrev pub IsNoKey : Bytes → Type 0
@@ -43,8 +44,7 @@ ReadsPrivate kind bytes (Err fault) = ⊥
 
 -- a file may fail to be read for these reasons alone
 abbrev pub IsFileFault : RunFault → Type 0
-IsFileFault Read = Unit {0}
-IsFileFault TooLarge = Unit {0}
+IsFileFault (Device File fault) = Unit {0}
 IsFileFault OutOfMemory = Unit {0}
 IsFileFault fault = ⊥
 

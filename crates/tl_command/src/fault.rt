@@ -1,11 +1,13 @@
 //! The faults of the commands, their lines on standard error and their exit statuses.
 
 ghost use Rattle.std.specs.Prelude.{◌≡◌, IfOk, Some, option_map, string_bytes};
-ghost use Rattle.tl_command.specs.Faults.{exit_status, fault_text};
+ghost use Rattle.tl_command.specs.Faults.{after_device, device_status, exit_status, fault_text};
 
+use crate::place::Place;
 use std::alloc::{AllocError, AllocFailed, Allocator};
 use std::error::Error;
 use std::fmt::{self, Display, Formatter};
+use tl_device::DeviceFault;
 
 /// Why a command ends without success, in the order of the numbers that documents and scripts may use.
 #[derive(Clone, Copy, Debug, PartialEq, Eq)]
@@ -54,8 +56,20 @@ pub enum RunFault {
     WrongSignature(u64),
     /// No signature line is of a key that was given.
     Unverified,
-    /// Another process works on the folder or the file.
-    Busy,
+    /// A file, a folder or a host that the options name failed.
+    Device(Place, DeviceFault),
+}
+
+impl RunFault {
+    /// That a device failed over this: `Device`, and `OutOfMemory` where memory was refused.
+    pub fn of_device(place: Place, fault: DeviceFault) -> RunFault
+        ensures { result ≡ after_device place fault }
+    {
+        match fault {
+            DeviceFault::OutOfMemory => RunFault::OutOfMemory,
+            _ => RunFault::Device(place, fault),
+        }
+    }
 }
 
 impl Display for RunFault {
@@ -87,7 +101,7 @@ impl Display for RunFault {
             RunFault::BadCheckpoint => f.write_str("bad checkpoint"),
             RunFault::WrongSignature(k) => write!(f, "signature {k} wrong"),
             RunFault::Unverified => f.write_str("no known signature"),
-            RunFault::Busy => f.write_str("in use"),
+            RunFault::Device(place, fault) => write!(f, "{place}: {fault}"),
         }
     }
 }
@@ -124,12 +138,28 @@ pub fn fault_line<A: Allocator>(alloc: A, fault: &RunFault) -> Result<Option<Str
     }
 }
 
-/// The exit status of a fault: 3 where a device failed, else 1. It takes no memory.
+// The exit status of a fault of a device: 1 where it is in use, or has what isn't taken, or memory was refused.
+fn exit_of_device(fault: &DeviceFault) -> u8
+    ensures { result ≡ device_status fault.now }
+{
+    match fault {
+        DeviceFault::Taken
+        | DeviceFault::Busy
+        | DeviceFault::TooLarge
+        | DeviceFault::Damaged
+        | DeviceFault::OutOfMemory => 1,
+        _ => 3,
+    }
+}
+
+/// The exit status of a fault: 3 where a device failed or a source gave nothing, else 1. It takes no memory.
 pub fn exit_of(fault: &RunFault) -> u8
     ensures { result ≡ exit_status fault.now }
 {
     match fault {
         RunFault::Read | RunFault::Write | RunFault::Listen | RunFault::Accept => 3,
+        RunFault::Device(Place::Source(_), _) => 3,
+        RunFault::Device(_, fault) => exit_of_device(fault),
         _ => 1,
     }
 }

@@ -4,12 +4,12 @@ ghost use Rattle.tl_key.specs.Reading.{ReadsSigner, ReadsVerifier};
 ghost use Rattle.tl_command.specs.Keys.{ReadsFile, ReadsKey, ReadsPrivate};
 
 use crate::fault::RunFault;
-use crate::streams::{MOST_INPUT, read_input};
+use crate::place::Place;
+use crate::streams::MOST_INPUT;
 use std::alloc::Global;
-use std::fs::{Files, OpenOptions};
-use std::path::Path;
+use std::fs::{File, Files, metadata};
 use std::str;
-use tl_device::Counted;
+use tl_device::{Counted, DeviceFault, read_whole};
 use tl_key::{KeyFault, KeyKind, NoteVerifier, SignerKey, read_signer_key, read_verifier_key};
 
 /// The verifier's key of a log that a text is of (C2SP signed-note, "Verifier keys"). `BadKey`: the text is of none.
@@ -45,18 +45,26 @@ pub fn read_private_key<K: KeyKind>(
     }
 }
 
-/// The bytes of the plain file at this path, at most as many as an input may have. `Read`: it can't be read, or is no
-/// plain file, as a FIFO, whose opening waits for a writer. `TooLarge`: it has more.
+// The bytes of the plain file at this path, at most as many as an input may have. (The look and the opening are two
+// calls: who may write there can put another thing there in between.)
+fn read_plain<H: Files>(files: &H, alloc: Global, path: &str) -> Result<Vec<u8>, DeviceFault> {
+    if !metadata(files, path)?.is_file() {
+        return Err(DeviceFault::NotPlain);
+    }
+    let file = File::open(files, path)?;
+    match read_whole(alloc, &mut Counted::new(file), MOST_INPUT) {
+        Ok(bytes) => Ok(bytes),
+        Err(fault) => Err(DeviceFault::from(fault)),
+    }
+}
+
+/// The bytes of the plain file at this path, at most as many as an input may have. Where they aren't read, the fault
+/// says why, `NotPlain` of what is no plain file, as a FIFO, whose opening waits for a writer.
 pub fn read_file<H: Files>(files: &H, alloc: Global, path: &str) -> Result<Vec<u8>, RunFault>
     ensures { ReadsFile result }
 {
-    // (this look and the opening are two calls: who may write there can put another thing there in between)
-    if !Path::new(path).is_file(files) {
-        return Err(RunFault::Read);
+    match read_plain(files, alloc, path) {
+        Ok(bytes) => Ok(bytes),
+        Err(fault) => Err(RunFault::of_device(Place::File, fault)),
     }
-    let Ok(file) = OpenOptions::new().read(true).open(files, path) else {
-        return Err(RunFault::Read);
-    };
-    let mut reader = Counted::new(file);
-    read_input(alloc, &mut reader, MOST_INPUT)
 }

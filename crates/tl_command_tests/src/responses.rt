@@ -33,7 +33,7 @@ fn response<A: Allocator + Copy>(
 // A limit of the body, the body or the fault that is given, and the response.
 type Row = (usize, Result<&'static [u8], GetFault>, &'static [u8]);
 
-const ROWS: [Row; 30] = [
+const ROWS: [Row; 32] = [
     (
         5,
         Ok(b"hello"),
@@ -128,8 +128,18 @@ const ROWS: [Row; 30] = [
     (10, Err(GetFault::NoHead), b"hello\r\n\r\n"),
     (
         10,
-        Err(GetFault::Version),
+        Ok(b"hello"),
         b"HTTP/1.0 200 OK\r\nContent-Length: 5\r\n\r\nhello",
+    ),
+    (
+        10,
+        Ok(b"hello"),
+        b"HTTP/1.1 200 OK\r\nContent-Encoding: Identity\r\n\r\nhello",
+    ),
+    (
+        10,
+        Err(GetFault::Encoded),
+        b"HTTP/1.1 200 OK\r\nContent-Encoding: identity\r\nContent-Encoding: identity\r\n\r\nhello",
     ),
     (
         10,

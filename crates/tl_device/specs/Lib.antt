@@ -1,4 +1,5 @@
 pub mod Device
+pub mod Faults
 pub mod ReadWhole
 pub mod Inner
 pub mod Pieces

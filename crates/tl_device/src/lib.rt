@@ -1,5 +1,5 @@
 //! Readers and writers that remember whether they failed: reading a whole input, writing a whole text, also
-//! in pieces. Connections that have to end in time.
+//! in pieces. Connections that have to end in time. Why a file, a folder or a host failed.
 //!
 //! ```
 //! let mut reader = Counted::new(b"two\nlines\n".as_slice());
@@ -11,9 +11,11 @@
 #![tactic(auto)]
 
 mod counted;
+mod fault;
 mod pieces;
 mod timed;
 
 pub use counted::{Counted, InputFault, WriteFault, read_whole, write_whole};
+pub use fault::DeviceFault;
 pub use pieces::write_pieces;
 pub use timed::Timed;

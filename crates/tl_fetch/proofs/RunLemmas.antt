@@ -1,5 +1,5 @@
 -- What is printed before a fault comes, and which faults accuse a log.
-use Rattle.std.proofs.Common.{◌≡◌, ℕ, length, sym, ap, subst, inl, inr, Option, Result, Ok, Err, IfErr}
+use Rattle.std.proofs.Common.{◌≡◌, ◌⊎◌, ◌∙◌, ℕ, length, sym, ap, subst, inl, inr, Option, Result, Ok, Err, IfErr}
 use Rattle.std.proofs.Math.Seq.{take-length}
 use Rattle.std.specs.Io.KnownBytes.{Appends}
 use Rattle.tl_hash.specs.Bytes.{Bytes}
@@ -10,11 +10,15 @@ use Rattle.tl_client.specs.declared.fault.ClientFault.{ClientFault}
 use Rattle.tl_client.specs.declared.fault.ClientFault.TheVariants as client
 use Rattle.tl_hash.specs.declared.head.Head.{Head}
 use Rattle.tl_fetch.specs.declared.fault.FetchFault.{FetchFault}
+use Rattle.tl_fetch.specs.declared.fault.FetchFault.TheVariants as fetch
+use Rattle.tl_fetch.specs.declared.options.FetchOptions.{FetchOptions}
 use Rattle.tl_fetch.specs.declared.options.FetchRequest.{FetchRequest}
 use Rattle.tl_fetch.specs.declared.options.FetchRequest.TheVariants as wanted
 use Rattle.tl_fetch.specs.Faults.{IsNoAccusation, after_client}
+use Rattle.tl_fetch.specs.Command.{RunsUnder, may_have}
+use Rattle.tl_fetch.specs.Inner.Naming.{Renames}
 use Rattle.tl_fetch.specs.Inner.Judging.{IsOfGrowth, RefusesTwo, two_of}
-use Rattle.tl_fetch.specs.Fetching.{AreTwo, HasFetched, MayPrint, RefusesFetch, Two, evidence_text}
+use Rattle.tl_fetch.specs.Fetching.{AreTwo, HasFetched, IsAccused, MayPrint, RefusesFetch, Two, evidence_text}
 use Rattle.tl_fetch.specs.Trusting.{IsGrown, IsKnown, IsNoteOf, Policy}
 use Rattle.tl_fetch.proofs.Passages.{GoesOn, joined, silent_some, silent_whole, some_map}
 use Rattle.tl_fetch.specs.Printed.{FailsPrinting, IsBegun, IsWanted, PrintedSome, PrintedWhole}
@@ -84,3 +88,22 @@ pub are_two : (may_have : Option Bytes → Type 0) (policy : Policy) (last kept 
     → IsKnown policy last old → IsNoteOf policy read new → AreTwo may_have policy (two_of last old note new)
 are_two may_have policy last kept old new read note same_last same_note had known trusted =
     record { had = subst may_have (sym same_last) had; known = known; trusted = subst (λ (n : Bytes). IsNoteOf policy n new) same_note trusted }
+
+-- a log of which something isn't available isn't accused
+unaccused : (two : Two) (fault : FetchFault) → fault ≡ fetch.Unavailable → IsAccused two fault → ⊥
+unaccused two fault is (inl (shrunk, less)) = let wrong : fetch.Unavailable ≡ fetch.Shrunk = sym is ∙ shrunk in absurd (cc)
+unaccused two fault is (inr (forked, fork)) = let wrong : fetch.Unavailable ≡ fetch.Forked = sym is ∙ forked in absurd (cc)
+
+-- a refusal whose fault names what was lacked
+pub named_refusal : (may_have : Option Bytes → Type 0) (policy : Policy) (what : FetchRequest) (fault told : FetchFault) (o : Passage) → (told ≡ fault) ⊎ ((fault ≡ fetch.Unavailable) × IsNoAccusation told)
+    → RefusesFetch may_have policy what fault o → RefusesFetch may_have policy what told o
+named_refusal may_have policy what fault told o (inl same) refuses = subst (λ (f : FetchFault). RefusesFetch may_have policy what f o) (sym same) refuses
+named_refusal may_have policy what fault told o (inr (is, fair)) (inr (none, printed)) = inr (fair, printed)
+named_refusal may_have policy what fault told o (inr (is, fair)) (inl accused) = absurd (unaccused accused.two fault is accused.so)
+
+-- the end of a run whose fault names what was lacked
+pub renamed : (policy : Policy) (options : FetchOptions) (o : Passage) (outcome told : Result (Unit {0}) FetchFault) → Renames outcome told → RunsUnder policy options o outcome → RunsUnder policy options o told
+renamed policy options o (Ok done) (Ok again) same runs = runs
+renamed policy options o (Ok done) (Err other) same runs = absurd same
+renamed policy options o (Err fault) (Ok done) same runs = absurd same
+renamed policy options o (Err fault) (Err other) same runs = named_refusal (may_have options.state) policy options.wanted fault other o same runs

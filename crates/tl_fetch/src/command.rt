@@ -1,12 +1,13 @@
 //! The command `fetch`.
 
-ghost use Rattle.std.specs.Prelude.{◌≡◌, ◌<◌, ◌∷◌, [], string_bytes, IfErr, IfOk, MatchOption, length, map, vec_items};
+ghost use Rattle.std.specs.Prelude.{◌≡◌, ◌⊎◌, ◌<◌, ◌∷◌, [], string_bytes, IfErr, IfOk, MatchOption, length, map, vec_items};
 ghost use Rattle.tl_device.specs.Device.{passage};
 ghost use Rattle.tl_key.specs.KeyText.{IsVerifierText};
 ghost use Rattle.tl_key.specs.NoteKey.{PublicKey, cosignature_kind, note_kind, verifier_key};
 ghost use Rattle.tl_key.specs.Reading.{IsNoVerifierText};
 ghost use Rattle.tl_fetch.specs.Command.{IsKeyFault, RunsFetch, RunsUnder};
 ghost use Rattle.tl_fetch.specs.Faults.{IsNoAccusation};
+ghost use Rattle.tl_fetch.specs.Inner.Naming.{Renames};
 ghost use Rattle.tl_fetch.specs.Trusting.{policy_of};
 
 use crate::caching::Caching;
@@ -24,12 +25,12 @@ use std::io::Write;
 use std::net::{Net, TcpStream};
 use std::time::{Clock, Duration};
 use tl_client::ResourceSource;
-use tl_command::read_log_key;
+use tl_command::{Place, RunFault, read_log_key};
 use tl_device::Counted;
 use tl_folder::AtomicFile;
 use tl_key::{CosignerVerifier, KeyFault, read_verifier_key};
 use tl_note::Verifier;
-use tl_source::{AnySource, CachedSource, FolderSource, HttpSource, TileCache, Url};
+use tl_source::{AnySource, CachedSource, FolderSource, HttpSource, Lack, TileCache, Url};
 
 // The source that the options name: what has a scheme is an address, and all else a folder.
 fn source_of<'s, H: Files + Net<Stream = TcpStream> + Clock>(
@@ -112,7 +113,64 @@ fn fetch_with_state<H: Files<File = File>, S: ResourceSource, O: Observer, W: Wr
     fetch_under(alloc, source, policy, wanted, &mut state, observer, writer)
 }
 
-// Fetches from the source that is named, and before it from the cache of tiles, if one is named.
+// A fault, which names what the last call of the source lacked where that is why it came.
+fn name_lack(fault: FetchFault, lack: Option<Lack>) -> FetchFault
+    ensures { (result ≡ fault) ⊎ ((fault ≡ FetchFault.Unavailable) × IsNoAccusation result) }
+{
+    match (fault, lack) {
+        (FetchFault::Unavailable, Some(lack)) => {
+            FetchFault::Run(RunFault::of_device(Place::Source(lack.resource), lack.why))
+        }
+        _ => fault,
+    }
+}
+
+// How a run ended, whose fault names what the last call of the source lacked where that is why it came.
+fn with_lack(outcome: Result<(), FetchFault>, lack: Option<Lack>) -> Result<(), FetchFault>
+    ensures { Renames outcome result }
+{
+    match outcome {
+        Ok(()) => Ok(()),
+        Err(fault) => Err(name_lack(fault, lack)),
+    }
+}
+
+// Fetches from a source, and before it from the cache of tiles, if one is named.
+fn fetch_through<
+    H: Files<File = File> + Net<Stream = TcpStream> + Clock,
+    S: ResourceSource,
+    W: Write,
+    E: Write,
+>(
+    rt: &H,
+    alloc: Global,
+    source: &S,
+    policy: &Policy<'_>,
+    options: &FetchOptions,
+    writer: &mut Counted<W>,
+    errors: &mut Counted<E>,
+    is_terminal: bool,
+) -> Result<(), FetchFault>
+    ensures { RunsUnder (policy_of policy.now.origin.now (map (λ v. key v) policy.now.log.now)
+        (map (λ w. key w) policy.now.witnesses.now) policy.now.need) options.now
+        (passage W.contents writer.old writer.new) result }
+{
+    let mut progress = Progress::new(alloc, errors, is_terminal);
+    let Some(folder) = &options.cache else {
+        return fetch_with_state(rt, alloc, source, policy, options, &mut progress, writer);
+    };
+    let folder = folder.as_str();
+    let cache = FolderSource::without_links(rt, alloc, folder);
+    let mut caching = Caching {
+        alloc,
+        cache: TileCache::new(rt, folder),
+        then: progress,
+    };
+    let source = CachedSource::new(alloc, &cache, source);
+    fetch_with_state(rt, alloc, &source, policy, options, &mut caching, writer)
+}
+
+// Fetches from the source that is named.
 fn fetch_as_asked<'s, H: Files<File = File> + Net<Stream = TcpStream> + Clock, W: Write, E: Write>(
     rt: &'s H,
     alloc: Global,
@@ -130,19 +188,17 @@ fn fetch_as_asked<'s, H: Files<File = File> + Net<Stream = TcpStream> + Clock, W
         Ok(source) => source,
         Err(fault) => return Err(fault),
     };
-    let mut progress = Progress::new(alloc, errors, is_terminal);
-    let Some(folder) = &options.cache else {
-        return fetch_with_state(rt, alloc, &source, policy, options, &mut progress, writer);
-    };
-    let folder = folder.as_str();
-    let cache = FolderSource::without_links(rt, alloc, folder);
-    let mut caching = Caching {
+    let outcome = fetch_through(
+        rt,
         alloc,
-        cache: TileCache::new(rt, folder),
-        then: progress,
-    };
-    let source = CachedSource::new(alloc, &cache, &source);
-    fetch_with_state(rt, alloc, &source, policy, options, &mut caching, writer)
+        &source,
+        policy,
+        options,
+        writer,
+        errors,
+        is_terminal,
+    );
+    with_lack(outcome, source.lack())
 }
 
 // The same, where the policy is the one that the options tell.

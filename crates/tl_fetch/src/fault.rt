@@ -19,7 +19,7 @@ pub enum FetchFault {
     BadWitness(u64),
     /// Two witnesses have one name.
     Twice,
-    /// The source has not got a resource, or not in time.
+    /// The source has not got a resource, of which no more is known.
     Unavailable,
     /// The checkpoint is signed, and names another log.
     OtherLog,

@@ -7,24 +7,18 @@ use crate::policy::Policy;
 use crate::state::TrustStore;
 use std::alloc::Global;
 use std::fs::{File, Files};
-use tl_command::RunFault;
-use tl_folder::{AtomicFile, FileFault};
+use tl_command::{Place, RunFault};
+use tl_device::DeviceFault;
+use tl_folder::AtomicFile;
 
 // The most bytes of a note.
 const MOST: u64 = 65_536;
 
-/// Why the file of a state was not opened or read.
-pub(crate) fn file_refusal(fault: FileFault) -> FetchFault
+/// Why the file of a state was not opened, read or replaced.
+pub(crate) fn file_refusal(fault: DeviceFault) -> FetchFault
     ensures { IsNoAccusation result }
 {
-    match fault {
-        FileFault::System | FileFault::NotPlain | FileFault::Moved => {
-            FetchFault::Run(RunFault::Read)
-        }
-        FileFault::Busy => FetchFault::Run(RunFault::Busy),
-        FileFault::TooLarge => FetchFault::Run(RunFault::TooLarge),
-        FileFault::OutOfMemory => FetchFault::Run(RunFault::OutOfMemory),
-    }
+    FetchFault::Run(RunFault::of_device(Place::State, fault))
 }
 
 /// A state in a file, which has the note.
@@ -54,7 +48,7 @@ impl<H: Files<File = File>> TrustStore for FileState<'_, H> {
     ) -> Result<(), FetchFault> {
         match self.0.replace(note.as_bytes()) {
             Ok(()) => Ok(()),
-            Err(_) => Err(FetchFault::Run(RunFault::Write)),
+            Err(fault) => Err(file_refusal(fault)),
         }
     }
 }

@@ -2,16 +2,14 @@
 
 ghost use Rattle.tl_tile.specs.Path.{IsResource};
 
-use crate::fault::FileFault;
 use crate::file_id::FileId;
 use crate::look::{check_plain, open_folder, open_plain};
 use std::alloc::{AllocError, Allocator, Global};
 use std::fs::{File, Files, OpenFile, create_dir_all, rename};
-use std::io::{ErrorKind, Write};
+use std::io::Write;
 use std::mem;
 use std::path::Path;
-use tl_archive::ShelfReadFault;
-use tl_device::{Counted, InputFault, read_whole};
+use tl_device::{Counted, DeviceFault, read_whole};
 use tl_tile::{Resource, path_of};
 
 // The most bytes of a resource: those of a bundle of 256 of the longest entries.
@@ -40,24 +38,24 @@ pub(crate) struct FolderFiles<H> {
 }
 
 // Has what the file at this path has outlast a crash.
-fn sync_file<H: Files>(files: &H, path: &str) -> Result<(), FileFault> {
+fn sync_file<H: Files>(files: &H, path: &str) -> Result<(), DeviceFault> {
     match open_plain(files, path, files.symlink_metadata(path)) {
         Ok(Some(file)) => file.sync_all()?,
-        Ok(None) => return Err(FileFault::System),
+        Ok(None) => return Err(DeviceFault::NotThere),
         Err(fault) => return Err(fault),
     }
     Ok(())
 }
 
 // Has the names in the folder at this path outlast a crash.
-fn sync_folder<H: Files>(files: &H, path: &str) -> Result<(), FileFault> {
+fn sync_folder<H: Files>(files: &H, path: &str) -> Result<(), DeviceFault> {
     let folder = open_folder(files, path)?;
     folder.sync_all()?;
     Ok(())
 }
 
 /// Has the name of a file or folder at this path outlast a crash.
-pub(crate) fn sync_parent<H: Files>(files: &H, path: &str) -> Result<(), FileFault> {
+pub(crate) fn sync_parent<H: Files>(files: &H, path: &str) -> Result<(), DeviceFault> {
     let Some(parent) = Path::new(path).parent() else {
         return Ok(());
     };
@@ -66,7 +64,7 @@ pub(crate) fn sync_parent<H: Files>(files: &H, path: &str) -> Result<(), FileFau
 }
 
 // Has what each of the files has outlast a crash.
-fn sync_staged<H: Files>(files: &H, staged: &[Staged]) -> Result<(), FileFault> {
+fn sync_staged<H: Files>(files: &H, staged: &[Staged]) -> Result<(), DeviceFault> {
     for file in staged {
         sync_file(files, file.beside.as_str())?;
     }
@@ -74,7 +72,7 @@ fn sync_staged<H: Files>(files: &H, staged: &[Staged]) -> Result<(), FileFault> 
 }
 
 // Puts each of the files in its place.
-fn place_staged<H: Files>(files: &H, staged: &[Staged]) -> Result<(), FileFault> {
+fn place_staged<H: Files>(files: &H, staged: &[Staged]) -> Result<(), DeviceFault> {
     for file in staged {
         rename(files, file.beside.as_str(), file.place.as_str())?;
     }
@@ -82,7 +80,7 @@ fn place_staged<H: Files>(files: &H, staged: &[Staged]) -> Result<(), FileFault>
 }
 
 // Has the names in each of the folders outlast a crash.
-fn sync_folders<H: Files>(files: &H, folders: &[String]) -> Result<(), FileFault> {
+fn sync_folders<H: Files>(files: &H, folders: &[String]) -> Result<(), DeviceFault> {
     for folder in folders {
         sync_folder(files, folder.as_str())?;
     }
@@ -90,15 +88,10 @@ fn sync_folders<H: Files>(files: &H, folders: &[String]) -> Result<(), FileFault
 }
 
 // Writes a new file, in place of a plain one that may be there.
-fn write_file<H: Files>(files: &H, path: &str, bytes: &[u8]) -> Result<(), ErrorKind> {
-    let mut file = match File::create(files, path) {
-        Ok(file) => file,
-        Err(error) => return Err(error.kind()),
-    };
-    match file.write_all(bytes) {
-        Ok(()) => Ok(()),
-        Err(error) => Err(error.kind()),
-    }
+fn write_file<H: Files>(files: &H, path: &str, bytes: &[u8]) -> Result<(), DeviceFault> {
+    let mut file = File::create(files, path)?;
+    file.write_all(bytes)?;
+    Ok(())
 }
 
 /// Writes bytes beside the place of a file and then puts them there, once they outlast a crash. `NotPlain`: in one of
@@ -108,32 +101,27 @@ pub(crate) fn replace_file<H: Files>(
     beside: &str,
     path: &str,
     bytes: &[u8],
-) -> Result<(), FileFault> {
+) -> Result<(), DeviceFault> {
     check_plain(files, path)?;
     check_plain(files, beside)?;
-    if write_file(files, beside, bytes).is_err() {
-        return Err(FileFault::System);
-    }
+    write_file(files, beside, bytes)?;
     sync_file(files, beside)?;
     rename(files, beside, path)?;
     Ok(())
 }
 
 // Writes a new file, and makes its folder where it isn't there.
-fn write_in_folder<H: Files>(files: &H, path: &str, bytes: &[u8]) -> Result<(), FileFault> {
+fn write_in_folder<H: Files>(files: &H, path: &str, bytes: &[u8]) -> Result<(), DeviceFault> {
     check_plain(files, path)?;
     match write_file(files, path, bytes) {
         Ok(()) => return Ok(()),
-        Err(ErrorKind::NotFound) => {}
-        Err(_) => return Err(FileFault::System),
+        Err(DeviceFault::NotThere) => {}
+        Err(fault) => return Err(fault),
     }
     if let Some(folder) = Path::new(path).parent() {
         create_dir_all(files, folder)?;
     }
-    match write_file(files, path, bytes) {
-        Ok(()) => Ok(()),
-        Err(_) => Err(FileFault::System),
-    }
+    write_file(files, path, bytes)
 }
 
 // Whether the folder is among these.
@@ -148,7 +136,7 @@ fn has(folders: &[String], folder: &str) -> bool {
 
 impl<H: Files + Drop> FolderFiles<H> {
     /// The files under this folder, which is made where it isn't there.
-    pub(crate) fn open(files: H, alloc: Global, root: &str) -> Result<FolderFiles<H>, FileFault> {
+    pub(crate) fn open(files: H, alloc: Global, root: &str) -> Result<FolderFiles<H>, DeviceFault> {
         create_dir_all(&files, root)?;
         sync_parent(&files, root)?;
         let folder = FileId::of(&files.metadata(root)?);
@@ -164,7 +152,7 @@ impl<H: Files + Drop> FolderFiles<H> {
     }
 
     // Fails with `Moved` where another folder is at its path than the one that was opened, or none.
-    fn check_folder(&self) -> Result<(), FileFault> {
+    fn check_folder(&self) -> Result<(), DeviceFault> {
         let root = self.root.as_str();
         let path = if root.is_empty() { "/" } else { root };
         self.folder.check(self.files.metadata(path))
@@ -195,11 +183,11 @@ impl<H: Files + Drop> FolderFiles<H> {
     /// Writes the bytes beside the place of a resource. `Moved`: another folder is at its path than the one that was
     /// opened. `NotPlain`: something else than a plain file is where the bytes are to be written, as a link. Nothing
     /// was written then.
-    pub(crate) fn stage(&mut self, resource: &Resource, bytes: &[u8]) -> Result<(), FileFault>
+    pub(crate) fn stage(&mut self, resource: &Resource, bytes: &[u8]) -> Result<(), DeviceFault>
         requires { IsResource resource.now }
     {
         if self.is_broken {
-            return Err(FileFault::System);
+            return Err(DeviceFault::System);
         }
         self.check_folder()?;
         let place = self.place_of(resource)?;
@@ -214,9 +202,9 @@ impl<H: Files + Drop> FolderFiles<H> {
     /// Puts all files that were written beside their places there. It waits for the disk: what it wrote outlasts a
     /// crash. `Moved`: another folder is at its path than the one that was opened, and nothing was put there. After a
     /// failure every call fails.
-    pub(crate) fn settle(&mut self) -> Result<(), FileFault> {
+    pub(crate) fn settle(&mut self) -> Result<(), DeviceFault> {
         if self.is_broken {
-            return Err(FileFault::System);
+            return Err(DeviceFault::System);
         }
         let staged = mem::replace(&mut self.staged, Vec::new(self.alloc));
         let changed = mem::replace(&mut self.changed, Vec::new(self.alloc));
@@ -234,22 +222,19 @@ impl<H: Files + Drop> FolderFiles<H> {
         &self,
         alloc: A,
         resource: &Resource,
-    ) -> Result<Option<Vec<u8, A>>, ShelfReadFault>
+    ) -> Result<Option<Vec<u8, A>>, DeviceFault>
         requires { IsResource resource.now }
     {
-        let Ok(place) = self.place_of(resource) else {
-            return Err(ShelfReadFault::OutOfMemory);
-        };
+        let place = self.place_of(resource)?;
         let told = self.files.metadata(place.as_str());
         let file = match open_plain(&self.files, place.as_str(), told) {
             Ok(Some(file)) => file,
             Ok(None) => return Ok(None),
-            Err(_) => return Err(ShelfReadFault::Shelf),
+            Err(fault) => return Err(fault),
         };
         match read_whole(alloc, &mut Counted::new(file), LONGEST) {
             Ok(bytes) => Ok(Some(bytes)),
-            Err(InputFault::OutOfMemory) => Err(ShelfReadFault::OutOfMemory),
-            Err(_) => Err(ShelfReadFault::Shelf),
+            Err(fault) => Err(DeviceFault::from(fault)),
         }
     }
 }

@@ -5,7 +5,6 @@
 
 mod call_outcome;
 mod disk;
-mod fault;
 mod file_id;
 mod files;
 mod lines;
@@ -17,7 +16,6 @@ mod whole;
 
 pub use call_outcome::CallOutcome;
 pub use disk::{AnyOutcome, CrashOutcome};
-pub use fault::FileFault;
 pub use lines::{DurableAppend, LineFile, open_lines};
 pub use lock::{FolderLock, lock_folder};
 pub use shelf::FolderShelf;

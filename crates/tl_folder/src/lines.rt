@@ -3,7 +3,6 @@
 ghost use Rattle.std.specs.Prelude.{◌≡◌, ◌≤◌, IfOk, length, vec_items};
 ghost use Rattle.tl_folder.specs.Lines.{IsWholeFront, IsWhole};
 
-use crate::fault::FileFault;
 use crate::files::sync_parent;
 use crate::lock::LockedFile;
 use crate::record::note_bytes;
@@ -13,7 +12,7 @@ use std::alloc::Global;
 use std::fs::{File, Files, OpenOptions};
 use std::io;
 use std::io::{ErrorKind, Write};
-use tl_device::{Counted, InputFault, read_whole};
+use tl_device::{Counted, DeviceFault, read_whole};
 
 /// A file that is appended to: a write answers once what it took outlasts a crash, as far as the system says. Where
 /// another file is at its path, or none, a write fails, and nothing is written.
@@ -23,6 +22,29 @@ pub struct DurableAppend<'f, H> {
     path: &'f str,
     locked: LockedFile,
     written: Log<(), u8>,
+    fault: Option<DeviceFault>,
+}
+
+impl<H> DurableAppend<'_, H> {
+    /// Why the last write failed, if it did.
+    pub fn fault(&self) -> Option<DeviceFault> {
+        self.fault
+    }
+}
+
+// Appends some of the bytes to the file that is at this path, and has them outlast a crash.
+fn append_some<H: Files>(
+    files: &H,
+    path: &str,
+    locked: &mut LockedFile,
+    bytes: &[u8],
+) -> Result<usize, DeviceFault>
+    ensures { IfOk result (λ n. n ≤ length bytes.now) }
+{
+    locked.check_at(files, path)?;
+    let count = locked.file.write(bytes)?;
+    locked.file.sync_data()?;
+    Ok(count)
 }
 
 impl<'f, H: Files> Write for DurableAppend<'f, H> {
@@ -32,13 +54,16 @@ impl<'f, H: Files> Write for DurableAppend<'f, H> {
     ghost contents = { λ s. Some (noted s.written) };
 
     fn write(&mut self, buf: &[u8]) -> io::Result<usize> {
-        if self.locked.check_at(self.files, self.path).is_err() {
-            return Err(io::Error::from(ErrorKind::NotFound));
+        match append_some(self.files, self.path, &mut self.locked, buf) {
+            Ok(count) => {
+                note_bytes(&mut self.written, &buf[..count]);
+                Ok(count)
+            }
+            Err(fault) => {
+                self.fault = Some(fault);
+                Err(io::Error::from(ErrorKind::Other))
+            }
         }
-        let count = self.locked.file.write(buf)?;
-        self.locked.file.sync_data()?;
-        note_bytes(&mut self.written, &buf[..count]);
-        Ok(count)
     }
 
     fn flush(&mut self) -> io::Result<()> {
@@ -66,12 +91,10 @@ fn whole_front(bytes: &[u8]) -> usize
 }
 
 /// All bytes of a file. `TooLarge`: it has more than `most`.
-pub(crate) fn read_file(alloc: Global, file: &File, most: u64) -> Result<Vec<u8>, FileFault> {
+pub(crate) fn read_file(alloc: Global, file: &File, most: u64) -> Result<Vec<u8>, DeviceFault> {
     match read_whole(alloc, &mut Counted::new(file), most) {
         Ok(bytes) => Ok(bytes),
-        Err(InputFault::OutOfMemory) => Err(FileFault::OutOfMemory),
-        Err(InputFault::TooLarge) => Err(FileFault::TooLarge),
-        Err(InputFault::Read) => Err(FileFault::System),
+        Err(fault) => Err(DeviceFault::from(fault)),
     }
 }
 
@@ -83,7 +106,7 @@ pub fn open_lines<'f, H: Files<File = File>>(
     alloc: Global,
     path: &'f str,
     most: u64,
-) -> Result<LineFile<'f, H>, FileFault>
+) -> Result<LineFile<'f, H>, DeviceFault>
     ensures { IfOk result (λ file. IsWhole (vec_items file.lines)) }
 {
     let mut how = OpenOptions::new();
@@ -100,6 +123,7 @@ pub fn open_lines<'f, H: Files<File = File>>(
         path,
         locked,
         written: Log::new(),
+        fault: None,
     };
     Ok(LineFile { lines, end })
 }

@@ -3,17 +3,17 @@
 //! each that writes looks first whether what is locked is still at its path. The look and what follows it are two
 //! calls.
 
-use crate::fault::FileFault;
 use crate::file_id::FileId;
 use crate::look::{check_plain, open_folder};
 use std::fs::{File, Files, OpenOptions, TryLockError, create_dir_all};
+use tl_device::DeviceFault;
 
 // Locks a file while it is open, also where the process ends in any way. `Busy`: another has it.
-fn lock_file(file: &File) -> Result<(), FileFault> {
+fn lock_file(file: &File) -> Result<(), DeviceFault> {
     match file.try_lock() {
         Ok(()) => Ok(()),
-        Err(TryLockError::WouldBlock) => Err(FileFault::Busy),
-        Err(TryLockError::Error(_)) => Err(FileFault::System),
+        Err(TryLockError::WouldBlock) => Err(DeviceFault::Busy),
+        Err(TryLockError::Error(error)) => Err(DeviceFault::from(error)),
     }
 }
 
@@ -31,7 +31,7 @@ impl LockedFile {
         files: &H,
         how: &OpenOptions,
         path: &str,
-    ) -> Result<LockedFile, FileFault> {
+    ) -> Result<LockedFile, DeviceFault> {
         check_plain(files, path)?;
         let file = how.open(files, path)?;
         lock_file(&file)?;
@@ -42,7 +42,7 @@ impl LockedFile {
     }
 
     /// Fails with `Moved` where it isn't at this path any more.
-    pub(crate) fn check_at<H: Files>(&self, files: &H, path: &str) -> Result<(), FileFault> {
+    pub(crate) fn check_at<H: Files>(&self, files: &H, path: &str) -> Result<(), DeviceFault> {
         self.id.check(files.symlink_metadata(path))
     }
 }
@@ -65,13 +65,16 @@ impl FolderLock {
 
 /// Locks the folder at this path, which is made where it isn't there. `Busy`: another process has it. `Moved`: another
 /// folder came to the path meanwhile.
-pub fn lock_folder<H: Files<File = File>>(files: &H, path: &str) -> Result<FolderLock, FileFault> {
+pub fn lock_folder<H: Files<File = File>>(
+    files: &H,
+    path: &str,
+) -> Result<FolderLock, DeviceFault> {
     create_dir_all(files, path)?;
     let folder = open_folder(files, path)?;
     lock_file(&folder)?;
     let lock = FolderLock { folder };
     if !lock.is_at(files, path) {
-        return Err(FileFault::Moved);
+        return Err(DeviceFault::Moved);
     }
     Ok(lock)
 }

@@ -2,34 +2,34 @@
 //! what isn't as it should be is never opened. The look and the open are two calls, since std has no open that refuses
 //! a link and doesn't wait for a pipe: what comes to the path in between is opened all the same.
 
-ghost use Rattle.std.specs.Prelude.{◌≡◌, ◌≢◌, ◌↔◌, true, false, IfOk, IsErrAnd, IsOkAnd, OnSome};
+ghost use Rattle.std.specs.Prelude.{◌≡◌, ◌≢◌, ◌↔◌, true, false, IfErr, IfOk, IsErrAnd, IsOkAnd, OnSome};
 ghost use Rattle.std.specs.Fs.{IsFile, file_type};
 ghost use Rattle.std.specs.IoError.{error_kind};
+ghost use Rattle.tl_device.specs.Faults.{after_kind};
 
-use crate::fault::FileFault;
 use std::fs::{File, Files, Metadata};
 use std::io;
 use std::io::ErrorKind;
+use tl_device::DeviceFault;
 
 // Whether a plain file is at a path, by what the system told of it. `NotPlain`: something else is there.
-fn is_plain(told: io::Result<Metadata>) -> Result<bool, FileFault>
+fn is_plain(told: io::Result<Metadata>) -> Result<bool, DeviceFault>
     ensures plain { (result ≡ Ok true) ↔ IsOkAnd told (λ m. IsFile (file_type m)) }
     ensures none { (result ≡ Ok false) ↔ IsErrAnd told (λ e. error_kind e ≡ ErrorKind.NotFound) }
-    ensures other { (result ≡ Err FileFault.NotPlain) ↔
-        IsOkAnd told (λ m. ¬ IsFile (file_type m)) }
-    ensures failed { (result ≡ Err FileFault.System) ↔
-        IsErrAnd told (λ e. error_kind e ≢ ErrorKind.NotFound) }
+    ensures other { IfOk told (λ m. ¬ IsFile (file_type m) → result ≡ Err DeviceFault.NotPlain) }
+    ensures failed { IfErr told (λ e. error_kind e ≢ ErrorKind.NotFound
+        → result ≡ Err (after_kind (error_kind e))) }
 {
     match told {
         Ok(metadata) if metadata.is_file() => Ok(true),
-        Ok(_) => Err(FileFault::NotPlain),
+        Ok(_) => Err(DeviceFault::NotPlain),
         Err(error) if error.kind() == ErrorKind::NotFound => Ok(false),
-        Err(_) => Err(FileFault::System),
+        Err(error) => Err(DeviceFault::from(error)),
     }
 }
 
 /// Fails where something is at the path that isn't a plain file; a link isn't one.
-pub(crate) fn check_plain<H: Files>(files: &H, path: &str) -> Result<(), FileFault> {
+pub(crate) fn check_plain<H: Files>(files: &H, path: &str) -> Result<(), DeviceFault> {
     is_plain(files.symlink_metadata(path))?;
     Ok(())
 }
@@ -40,7 +40,7 @@ pub(crate) fn open_plain<H: Files>(
     files: &H,
     path: &str,
     told: io::Result<Metadata>,
-) -> Result<Option<H::File>, FileFault>
+) -> Result<Option<H::File>, DeviceFault>
     ensures { IfOk result
         (λ found. OnSome found (IsOkAnd told (λ m. IsFile (file_type m)))) }
 {
@@ -50,14 +50,14 @@ pub(crate) fn open_plain<H: Files>(
     match File::open(files, path) {
         Ok(file) => Ok(Some(file)),
         Err(error) if error.kind() == ErrorKind::NotFound => Ok(None),
-        Err(_) => Err(FileFault::System),
+        Err(error) => Err(DeviceFault::from(error)),
     }
 }
 
 /// Opens the folder at a path, and follows links. Anything else there is not opened.
-pub(crate) fn open_folder<H: Files>(files: &H, path: &str) -> Result<H::File, FileFault> {
+pub(crate) fn open_folder<H: Files>(files: &H, path: &str) -> Result<H::File, DeviceFault> {
     if !files.metadata(path)?.is_dir() {
-        return Err(FileFault::System);
+        return Err(DeviceFault::NotFolder);
     }
     let folder = File::open(files, path)?;
     Ok(folder)

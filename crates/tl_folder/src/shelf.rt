@@ -4,13 +4,13 @@ ghost use Rattle.std.specs.Prelude.{◌≡◌, [], IfOk};
 
 use crate::call_outcome::CallOutcome;
 use crate::disk::CrashOutcome;
-use crate::fault::FileFault;
 use crate::files::FolderFiles;
 use crate::record::Record;
 use std::alloc::{Allocator, Global};
 use std::fs::Files;
 use std::marker::Model;
-use tl_archive::{Shelf, ShelfFault, ShelfReadFault};
+use tl_archive::{Shelf, ShelfFault};
+use tl_device::DeviceFault;
 use tl_tile::Resource;
 
 /// A folder with a log in the layout of C2SP tlog-tiles: the path of each resource is that of its file. A file is
@@ -33,6 +33,17 @@ impl<D, H> Model for FolderShelf<D, H> {
     ghost view = { λ s. record { events = s.calls; failures = s.failures } };
 }
 
+// That the folder failed over a resource. Where another folder came to its path, the fault is over all of it.
+fn fault_over(resource: &Resource, why: DeviceFault) -> ShelfFault
+    ensures { result.why ≡ why }
+{
+    let resource = match why {
+        DeviceFault::Moved => None,
+        _ => Some(*resource),
+    };
+    ShelfFault { resource, why }
+}
+
 impl<D: CrashOutcome + Drop, H: Files + Drop> FolderShelf<D, H> {
     /// The folder at this path, which is made where it isn't there.
     pub fn open(
@@ -40,7 +51,7 @@ impl<D: CrashOutcome + Drop, H: Files + Drop> FolderShelf<D, H> {
         files: H,
         alloc: Global,
         path: &str,
-    ) -> Result<FolderShelf<D, H>, FileFault>
+    ) -> Result<FolderShelf<D, H>, DeviceFault>
         ensures { IfOk result (λ shelf. shelf ≡ record { events = []; failures = 0 }) }
     {
         let files = FolderFiles::open(files, alloc, path)?;
@@ -71,10 +82,10 @@ impl<D: CrashOutcome, H: Files + Drop> Shelf for FolderShelf<D, H> {
                 self.calls.note(CallOutcome::Staged(*resource), bytes);
                 Ok(())
             }
-            Err(_) => {
+            Err(why) => {
                 self.calls.note(CallOutcome::Failed, &[]);
                 self.failures = self.failures.saturating_add(1);
-                Err(ShelfFault)
+                Err(fault_over(resource, why))
             }
         }
     }
@@ -85,10 +96,13 @@ impl<D: CrashOutcome, H: Files + Drop> Shelf for FolderShelf<D, H> {
                 self.calls.note(CallOutcome::Settled, &[]);
                 Ok(())
             }
-            Err(_) => {
+            Err(why) => {
                 self.calls.note(CallOutcome::Cut, &[]);
                 self.failures = self.failures.saturating_add(1);
-                Err(ShelfFault)
+                Err(ShelfFault {
+                    resource: None,
+                    why,
+                })
             }
         }
     }
@@ -97,7 +111,10 @@ impl<D: CrashOutcome, H: Files + Drop> Shelf for FolderShelf<D, H> {
         &self,
         alloc: A,
         resource: &Resource,
-    ) -> Result<Option<Vec<u8, A>>, ShelfReadFault> {
-        self.files.read(alloc, resource)
+    ) -> Result<Option<Vec<u8, A>>, ShelfFault> {
+        match self.files.read(alloc, resource) {
+            Ok(found) => Ok(found),
+            Err(why) => Err(fault_over(resource, why)),
+        }
     }
 }

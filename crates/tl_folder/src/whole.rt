@@ -1,12 +1,12 @@
 //! A file that is replaced as a whole.
 
-use crate::fault::FileFault;
 use crate::files::{replace_file, sync_parent};
 use crate::lines::read_file;
 use crate::lock::LockedFile;
 use crate::look::open_plain;
 use std::alloc::Global;
 use std::fs::{File, Files, OpenOptions};
+use tl_device::DeviceFault;
 
 /// A file that one process at a time reads and replaces: at each moment, also where a crash comes, it has its old bytes
 /// or its new ones.
@@ -27,7 +27,7 @@ impl<'s, H: Files<File = File>> AtomicFile<'s, H> {
         files: &'s H,
         alloc: Global,
         path: &'s str,
-    ) -> Result<AtomicFile<'s, H>, FileFault> {
+    ) -> Result<AtomicFile<'s, H>, DeviceFault> {
         let lock_path = format!(in alloc; "{path}.lock")?;
         let beside = format!(in alloc; "{path}.new")?;
         let mut how = OpenOptions::new();
@@ -44,7 +44,7 @@ impl<'s, H: Files<File = File>> AtomicFile<'s, H> {
 
     /// Its bytes, `None` where there is no file. `TooLarge`: it has more than `most`. `NotPlain`: at its path is
     /// something else than a plain file, as a link.
-    pub fn read(&self, alloc: Global, most: u64) -> Result<Option<Vec<u8>>, FileFault> {
+    pub fn read(&self, alloc: Global, most: u64) -> Result<Option<Vec<u8>>, DeviceFault> {
         match open_plain(
             self.files,
             self.path,
@@ -59,7 +59,7 @@ impl<'s, H: Files<File = File>> AtomicFile<'s, H> {
     /// Replaces its bytes. It waits for the disk: the new bytes outlast a crash once it answers. `Moved`: the file that
     /// is locked isn't at its path any more. `NotPlain`: at its path, or at that of the bytes that are to come there,
     /// is something else than a plain file, as a link. Nothing was written then.
-    pub fn replace(&self, bytes: &[u8]) -> Result<(), FileFault> {
+    pub fn replace(&self, bytes: &[u8]) -> Result<(), DeviceFault> {
         self.lock.check_at(self.files, self.lock_path.as_str())?;
         replace_file(self.files, self.beside.as_str(), self.path, bytes)?;
         sync_parent(self.files, self.path)

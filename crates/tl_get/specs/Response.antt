@@ -56,7 +56,7 @@ BodyDecides limit None rest r =
 -- the rows of a head, with its minor version, status and fields
 abbrev pub HeadDecides : ℕ → ℕ → ℕ → List (Bytes × Bytes) → Bytes → Outcome → Type 0
 HeadDecides limit minor status fields rest r =
-    Unless (minor ≡ 1) (r ≡ Err Version)
+    Unless (minor ≤ 1) (r ≡ Err Version)
     (Unless (status ≡ 200) (r ≡ Err (Status status))
     (Unless (IsPlain fields) (r ≡ Err Encoded)
     (UnlessSome (HasLength fields) (r ≡ Err BadLength) (λ n.
@@ -64,9 +64,9 @@ HeadDecides limit minor status fields rest r =
 
 -- the table of what comes of an input, of which the first row that applies decides:
 --     NoHead       the input doesn't begin with the head of a response
---     Version      the head is of another version than HTTP/1.1
+--     Version      the head is of a later version than HTTP/1.1
 --     Status       its status isn't 200
---     Encoded      it has a field Transfer-Encoding or Content-Encoding
+--     Encoded      it has a field Transfer-Encoding, or Content-Encoding and not `identity` once
 --     BadLength    it has fields Content-Length that aren't one number below 2^63
 --     TooLarge     that number is above the limit
 --     OutOfMemory  some of the body came, and a growth for it was refused

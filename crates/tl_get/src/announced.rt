@@ -5,7 +5,7 @@ ghost use Rattle.httparse.specs.Spans.{IsResponseWithin, header_bytes};
 ghost use Rattle.tl_get.specs.Inner.Heads.{Announces};
 
 use crate::fault::GetFault;
-use crate::fields::{lacks_field, length_in};
+use crate::fields::{has_no_coding, lacks_field, length_in};
 use httparse::spans::{HeaderSpan, ResponseSpans};
 
 /// The length of the body that the head at the front of these bytes announces, or why none is taken.
@@ -18,7 +18,7 @@ pub(crate) fn announced(
     ensures { Announces spans.version spans.code
         (map (header_bytes bytes.now) (take spans.headers headers.now)) result }
 {
-    if spans.version != 1 {
+    if spans.version > 1 {
         return Err(GetFault::Version);
     }
     if spans.code != 200 {
@@ -28,7 +28,7 @@ pub(crate) fn announced(
     if !lacks_field(bytes, fields, b"Transfer-Encoding") {
         return Err(GetFault::Encoded);
     }
-    if !lacks_field(bytes, fields, b"Content-Encoding") {
+    if !has_no_coding(bytes, fields) {
         return Err(GetFault::Encoded);
     }
     length_in(bytes, fields)

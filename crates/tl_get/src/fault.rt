@@ -3,6 +3,7 @@
 ghost use Rattle.std.specs.Prelude.{◌≡◌};
 ghost use Rattle.tl_get.specs.declared.fault.GetFault.TheVariants as faults;
 
+use std::alloc::AllocError;
 use thiserror::Error;
 use tl_device::WriteFault;
 
@@ -19,15 +20,15 @@ pub enum GetFault {
     #[error("read failed")]
     Read,
     /// The input doesn't begin with the head of a response, of at most 8,192 bytes and 64 fields.
-    #[error("the answer is no response over HTTP/1.1")]
+    #[error("the answer is no response over HTTP/1.0 or HTTP/1.1")]
     NoHead,
-    /// The response is of another version than HTTP/1.1.
-    #[error("the response isn't of HTTP/1.1")]
+    /// The response is of a later version than HTTP/1.1.
+    #[error("the response is of a later version than HTTP/1.1")]
     Version,
     /// The response has this status, which isn't 200.
     #[error("the response has status {0}")]
     Status(u16),
-    /// The response has a field Transfer-Encoding or Content-Encoding.
+    /// The response has a field Transfer-Encoding, or Content-Encoding and not `identity` once.
     #[error("the body is encoded")]
     Encoded,
     /// The fields Content-Length of the response aren't one decimal number below 2^63.
@@ -42,6 +43,14 @@ pub enum GetFault {
     /// A growth was refused.
     #[error("out of memory")]
     OutOfMemory,
+}
+
+impl From<AllocError> for GetFault {
+    ghost from_gives = { λ _ fault. fault ≡ faults.OutOfMemory };
+
+    fn from(_fault: AllocError) -> GetFault {
+        GetFault::OutOfMemory
+    }
 }
 
 impl From<WriteFault> for GetFault {

@@ -4,7 +4,7 @@ ghost use Rattle.std.specs.Prelude.{◌≡◌, ℕ, List, [], ◌∷◌, ◌↔�
 ghost use Rattle.httparse.specs.Spans.{IsHeaderWithin, header_bytes};
 ghost use Rattle.tl_hash.specs.Bytes.{Bytes};
 ghost use Rattle.tl_http.specs.Fields.{values_of};
-ghost use Rattle.tl_get.specs.Fields.{IsLength};
+ghost use Rattle.tl_get.specs.Fields.{IsIdentity, IsLength};
 ghost use Rattle.tl_get.specs.Inner.Lengths.{SaysLength};
 
 use crate::fault::GetFault;
@@ -20,6 +20,19 @@ pub(crate) fn lacks_field(buf: &[u8], headers: &[HeaderSpan], name: &[u8]) -> bo
     ensures { IsTrue result ↔ (values_of name.now (map (header_bytes buf.now) headers.now) ≡ []) }
 {
     matches!(values_in(buf, headers, name), Values::None)
+}
+
+/// Whether no field Content-Encoding is there, or one that says that there is no coding.
+pub(crate) fn has_no_coding(buf: &[u8], headers: &[HeaderSpan]) -> bool
+    requires { All (IsHeaderWithin (length buf.now)) headers.now }
+    ensures { IsTrue result ↔ IsIdentity
+        (values_of (codes "Content-Encoding") (map (header_bytes buf.now) headers.now)) }
+{
+    match values_in(buf, headers, b"Content-Encoding") {
+        Values::None => true,
+        Values::One(value) => value.eq_ignore_ascii_case(b"identity"),
+        Values::More => false,
+    }
 }
 
 // The number below 2^63 that digits write. None where the text is no digits, or the number is larger.

@@ -13,14 +13,15 @@ use crate::log_keys::{LogKeys, keys_of};
 use crate::options::AppendOptions;
 use crate::running::{Feed, Rounds, Running};
 use crate::serving::outcome_of;
+use crate::shelf_faults::{taken, unread, unresumed};
 use std::alloc::Global;
 use std::io::{Read, Write};
-use tl_archive::{Archive, FoundLog, ReadLogFault, Shelf, read_log};
+use tl_archive::{Archive, FoundLog, Shelf, read_log};
 use tl_command::RunFault;
 use tl_device::Counted;
 use tl_heart::{Event, Heart, Step};
 use tl_note::{Signer, Verifier, is_key_name};
-use tl_publisher::{BoardReader, Operator, OperatorFault, ResumeFault};
+use tl_publisher::{BoardReader, Operator, OperatorFault};
 use tl_sequencer::{Submitter, Why};
 
 // For how many entries the lane has room.
@@ -33,17 +34,6 @@ fn rounds_of(options: &AppendOptions) -> Rounds {
         lanes: 1,
         most: None,
         word: Some(""),
-    }
-}
-
-/// Why a log was not read from its shelf.
-pub(crate) fn unread(fault: ReadLogFault) -> RunFault {
-    match fault {
-        ReadLogFault::Checkpoint => RunFault::BadCheckpoint,
-        ReadLogFault::TooLarge => RunFault::Operator,
-        ReadLogFault::Missing(_) => RunFault::NotThere,
-        ReadLogFault::Shelf => RunFault::Read,
-        ReadLogFault::OutOfMemory => RunFault::OutOfMemory,
     }
 }
 
@@ -208,15 +198,14 @@ fn append_found<H: Host, S: Shelf + Drop, R: Read, W: Write>(
                 alloc, log, submitters, readers, archive, rounds, reader, writer,
             )
         }
-        Err(ResumeFault::OutOfMemory) => Err(RunFault::OutOfMemory),
-        Err(_) => Err(RunFault::Operator),
+        Err(fault) => Err(unresumed(found.size, fault)),
     }
 }
 
 /// Appends the lines of the input to the log on the shelf, which begins one where it has none: it is published after so
 /// many entries as the options say, and at the end, and for each publication a line with size and root is printed once
 /// it is archived. The note of the checkpoint found there has to open under the log's key, and its bundles to have its
-/// root. `Operator`: there is a log, though the options want none.
+/// root. `Taken`: there is a log, though the options want none.
 pub fn run_append<H: Host, S: Shelf + Drop, R: Read, W: Write>(
     rt: &H,
     alloc: Global,
@@ -237,7 +226,7 @@ pub fn run_append<H: Host, S: Shelf + Drop, R: Read, W: Write>(
     let mut signers: Vec<Box<dyn Signer>> = Vec::new(alloc);
     signers.push(Box::new(alloc, signer)?)?;
     match read_log(&shelf, alloc, &opens) {
-        Ok(Some(_)) if options.is_new => Err(RunFault::Operator),
+        Ok(Some(_)) if options.is_new => Err(taken()),
         Ok(Some(found)) => {
             append_found(
                 rt, alloc, options, shelf, signers, &opens, found, reader, writer,

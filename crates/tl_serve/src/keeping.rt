@@ -1,7 +1,8 @@
 //! How publications are kept.
 
+use crate::shelf_faults::unarchived;
 use std::alloc::Global;
-use tl_archive::{Archive, ArchiveFault, Shelf};
+use tl_archive::{Archive, Shelf};
 use tl_command::RunFault;
 use tl_publisher::BoardReader;
 
@@ -18,15 +19,6 @@ pub(crate) struct InMemory;
 impl Keeper for InMemory {
     fn keep(&mut self, _alloc: Global, _board: &mut BoardReader<Global>) -> Result<(), RunFault> {
         Ok(())
-    }
-}
-
-// Why a publication was not archived.
-fn unarchived(fault: ArchiveFault) -> RunFault {
-    match fault {
-        ArchiveFault::Shelf => RunFault::Write,
-        ArchiveFault::OutOfMemory => RunFault::OutOfMemory,
-        ArchiveFault::Gone | ArchiveFault::Behind => RunFault::Operator,
     }
 }
 

@@ -30,6 +30,7 @@ mod saver;
 mod serve;
 mod serve_shelf;
 mod serving;
+mod shelf_faults;
 mod telling;
 mod witness;
 

@@ -6,7 +6,6 @@ ghost use Rattle.tl_publisher.specs.Operating.{IsOperating};
 ghost use Rattle.tl_sequencer.specs.Log.{IsSenderOf};
 ghost use Rattle.tl_serve.specs.Serving.{RefusesOrigin};
 
-use crate::append::unread;
 use crate::gate::OpenGate;
 use crate::host::Host;
 use crate::keeping::Archiving;
@@ -16,6 +15,7 @@ use crate::opening::{Plan, lanes_of, read_plan};
 use crate::options::ServeOptions;
 use crate::pages::OnShelf;
 use crate::serve::{Server, publish_first};
+use crate::shelf_faults::{unread, unresumed};
 use std::alloc::{AllocError, Global};
 use std::io::{Read, Write};
 use std::net::{Net, TcpListener, TcpStream};
@@ -24,7 +24,7 @@ use tl_archive::{Archive, FoundLog, Shelf, read_log};
 use tl_command::RunFault;
 use tl_device::Counted;
 use tl_note::{Signer, Verifier, is_key_name};
-use tl_publisher::{BoardReader, Operator, OperatorFault, ResumeFault};
+use tl_publisher::{BoardReader, Operator, OperatorFault};
 use tl_sequencer::Submitter;
 
 // What each thread answers from.
@@ -142,8 +142,7 @@ fn serve_found<
                 server, log_of, submitters, readers, shelves, sure, plan, reader, log,
             )
         }
-        Err(ResumeFault::OutOfMemory) => Err(RunFault::OutOfMemory),
-        Err(_) => Err(RunFault::Operator),
+        Err(fault) => Err(unresumed(found.size, fault)),
     }
 }
 

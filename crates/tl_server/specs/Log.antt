@@ -7,7 +7,7 @@ use Rattle.tl_tile.specs.declared.resource.Resource.{Resource}
 use Rattle.tl_tile.specs.declared.resource.Resource.TheVariants as resource
 use Rattle.tl_tile.specs.Path.{IsResource, path_text}
 use Rattle.tl_archive.specs.Shelves.{Held}
-use Rattle.tl_archive.specs.declared.fault.ShelfReadFault.{ShelfReadFault}
+use Rattle.tl_archive.specs.declared.fault.ShelfFault.{ShelfFault}
 use Rattle.tl_publisher.specs.Answers.{AnswersBytes}
 use Rattle.tl_publisher.specs.Boards.{shown}
 use Rattle.tl_publisher.specs.Histories.{Past}
@@ -65,7 +65,7 @@ LogDecides A old new b a = LogAnswers A old new b.head.method b.head.target a
 
 -- what a read of a shelf gave
 abbrev pub ShelfRead : Type 0 → Type 0
-ShelfRead A = Result (Option (Vec ℕ A)) ShelfReadFault
+ShelfRead A = Result (Option (Vec ℕ A)) ShelfFault
 
 -- the answer to a read: the bytes; 404 where there are none; 500 where the read failed
 abbrev pub read_answer : {A : Type 0} → Resource → ShelfRead A → Answer

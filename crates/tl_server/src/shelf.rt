@@ -15,7 +15,7 @@ use crate::sending::{refuse, refuse_method, send};
 use httparse::spans::EMPTY_HEADER_SPAN;
 use std::alloc::Allocator;
 use std::io::{Read, Write};
-use tl_archive::{Shelf, ShelfReadFault};
+use tl_archive::{Shelf, ShelfFault};
 use tl_device::Counted;
 use tl_tile::Resource;
 
@@ -23,7 +23,7 @@ use tl_tile::Resource;
 fn answer_read<A: Allocator, O: Write>(
     writer: &mut Counted<O>,
     resource: &Resource,
-    read: Result<Option<Vec<u8, A>>, ShelfReadFault>,
+    read: Result<Option<Vec<u8, A>>, ShelfFault>,
 ) -> Result<Option<u16>, ServeFault>
     ensures { Sends
         (read_answer resource.now read) (passage O.contents writer.old writer.new) result }

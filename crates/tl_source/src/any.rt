@@ -2,6 +2,7 @@
 
 use crate::folder::FolderSource;
 use crate::http::HttpSource;
+use crate::lack::Lack;
 use std::alloc::Allocator;
 use std::fs::Files;
 use std::net::{Net, TcpStream};
@@ -16,6 +17,16 @@ pub enum AnySource<'s, H: Files + Net<Stream = TcpStream> + Clock> {
     Folder(FolderSource<'s, H>),
     /// A host that answers over HTTP.
     Http(HttpSource<'s, H>),
+}
+
+impl<H: Files + Net<Stream = TcpStream> + Clock> AnySource<'_, H> {
+    /// What the last call lacked, and why, if it lacked anything.
+    pub fn lack(&self) -> Option<Lack> {
+        match self {
+            AnySource::Folder(source) => source.lack(),
+            AnySource::Http(source) => source.lack(),
+        }
+    }
 }
 
 impl<H: Files + Net<Stream = TcpStream> + Clock> ResourceSource for AnySource<'_, H> {

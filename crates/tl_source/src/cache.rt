@@ -1,11 +1,11 @@
 //! Tiles of a log that passed all checks, kept in a folder.
 
-ghost use Rattle.std.specs.Prelude.{◌≡◌, ◌↔◌, IsTrue, OnOk};
+ghost use Rattle.std.specs.Prelude.{◌≡◌, OnOk};
 ghost use Rattle.std.specs.Io.KnownBytes.{Appends};
 ghost use Rattle.tl_tile.specs.Path.{IsTile};
 ghost use Rattle.tl_source.specs.Caches.{HavePassed};
 
-use crate::place::{beside, path_under};
+use crate::place::{beside, has_path, path_under};
 use std::alloc::{AllocError, Allocator};
 use std::fs::{File, Files, OpenFile, create_dir_all, remove_file, rename, symlink_metadata};
 use std::io;
@@ -28,13 +28,6 @@ impl<'s, H: Files> Model for TileCache<'s, H> {
     ghost Value = { List ℕ };
 
     ghost view = { λ c. c.folder.now };
-}
-
-// Whether a log serves this tile under a path.
-fn is_tile(tile: Tile) -> bool
-    ensures { IsTrue result ↔ IsTile tile }
-{
-    tile.level <= 7 && tile.index < 1 << 56 && 0 < tile.width && tile.width <= 256
 }
 
 // Whether nothing is at this path, also no link to nowhere.
@@ -141,7 +134,7 @@ impl<'s, H: Files> TileCache<'s, H> {
         requires { HavePassed tiles.now }
     {
         for fetched in tiles.as_slice() {
-            if is_tile(fetched.0) {
+            if has_path(&Resource::Tile(fetched.0)) {
                 self.keep_tile(alloc, fetched.0, fetched.1.as_slice())?;
             }
         }

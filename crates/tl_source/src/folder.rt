@@ -1,14 +1,18 @@
 //! The resources of a log in a folder.
 
-ghost use Rattle.std.specs.Prelude.{◌≡◌};
+ghost use Rattle.std.specs.Prelude.{◌≡◌, ◌≤◌, IfOk, length};
+ghost use Rattle.tl_tile.specs.Path.{IsResource};
+ghost use Rattle.tl_source.specs.Limits.{most_bytes};
 
+use crate::lack::{Lack, LastLack};
+use crate::limit::most_bytes;
 use crate::place::path_under;
-use crate::reading::read_resource;
 use std::alloc::{Allocator, Global};
-use std::fs::{File, Files, metadata, symlink_metadata};
+use std::fs::{File, Files, Metadata, metadata, symlink_metadata};
+use std::io;
 use std::marker::Model;
 use tl_client::ResourceSource;
-use tl_device::Counted;
+use tl_device::{Counted, DeviceFault, read_whole};
 use tl_tile::{Resource, SourceFault};
 
 /// The resources of a log in the plain files under a folder, each at its path (C2SP tlog-tiles). Contracts see the
@@ -19,6 +23,7 @@ pub struct FolderSource<'s, H: Files> {
     alloc: Global,
     folder: &'s str,
     follows_links: bool,
+    last: LastLack,
 }
 
 impl<'s, H: Files> Model for FolderSource<'s, H> {
@@ -39,6 +44,7 @@ impl<'s, H: Files> FolderSource<'s, H> {
             alloc,
             folder,
             follows_links: true,
+            last: LastLack::new(),
         }
     }
 
@@ -51,28 +57,47 @@ impl<'s, H: Files> FolderSource<'s, H> {
             alloc,
             folder,
             follows_links: false,
+            last: LastLack::new(),
         }
     }
 
-    // Whether a plain file is at this path. All else isn't opened: that of a FIFO waits for a writer, and a device may
-    // have no end. The look and the opening are two calls: who may write into the folder can come between them.
-    fn has_file(&self, path: &str) -> bool {
-        let found = if self.follows_links {
+    /// What the last call lacked, and why, if it lacked anything.
+    pub fn lack(&self) -> Option<Lack> {
+        self.last.get()
+    }
+
+    // What is at this path, by the system's word.
+    fn look(&self, path: &str) -> io::Result<Metadata> {
+        if self.follows_links {
             metadata(self.files, path)
         } else {
             symlink_metadata(self.files, path)
-        };
-        match found {
-            Ok(found) => found.is_file(),
-            Err(_) => false,
+        }
+    }
+
+    // The bytes of the plain file of a resource. All else isn't opened: that of a FIFO waits for a writer, and a device
+    // may have no end. The look and the opening are two calls: who may write into the folder can come between them.
+    fn bytes_of<A: Allocator>(
+        &self,
+        alloc: A,
+        resource: &Resource,
+    ) -> Result<Vec<u8, A>, DeviceFault>
+        requires { IsResource resource.now }
+        ensures { IfOk result (λ bytes. length bytes.items ≤ most_bytes resource.now) }
+    {
+        let path = path_under(self.alloc, self.folder, resource)?;
+        if !self.look(path.as_str())?.is_file() {
+            return Err(DeviceFault::NotPlain);
+        }
+        let file = File::open(self.files, path.as_str())?;
+        match read_whole(alloc, &mut Counted::new(file), most_bytes(resource)) {
+            Ok(bytes) => Ok(bytes),
+            Err(fault) => Err(DeviceFault::from(fault)),
         }
     }
 }
 
 impl<H: Files> ResourceSource for FolderSource<'_, H> {
-    ghost use Rattle.std.specs.Prelude.{◌≤◌, length};
-    ghost use Rattle.tl_source.specs.Limits.{most_bytes};
-
     ghost may_answer = { λ _ r text. length text ≤ most_bytes r };
 
     ghost may_lack = { λ _ _. Unit {0} };
@@ -80,13 +105,6 @@ impl<H: Files> ResourceSource for FolderSource<'_, H> {
     /// The bytes of the resource's file. `Unavailable` where there is none, where it is no plain file, where it has
     /// more bytes than `most_bytes`, and where it can't be read.
     fn get<A: Allocator>(&self, alloc: A, resource: &Resource) -> Result<Vec<u8, A>, SourceFault> {
-        let path = path_under(self.alloc, self.folder, resource)?;
-        if !self.has_file(path.as_str()) {
-            return Err(SourceFault::Unavailable);
-        }
-        let Ok(file) = File::open(self.files, path.as_str()) else {
-            return Err(SourceFault::Unavailable);
-        };
-        read_resource(alloc, &mut Counted::new(file), resource)
+        self.last.note(resource, self.bytes_of(alloc, resource))
     }
 }

@@ -3,15 +3,18 @@
 ghost use Rattle.std.specs.Prelude.{◌≡◌, IfOk};
 ghost use Rattle.tl_tile.specs.Path.{IsResource};
 ghost use Rattle.tl_source.specs.Asking.{MayGive};
+ghost use Rattle.tl_source.specs.Inner.Asking.{after_get};
 
 use crate::asking::ask;
+use crate::lack::{Lack, LastLack};
 use crate::url::Url;
 use std::alloc::{Allocator, Global};
 use std::marker::Model;
 use std::net::{Net, TcpStream, ToSocketAddrs};
 use std::time::{Clock, Duration, Instant};
 use tl_client::ResourceSource;
-use tl_device::{Counted, Timed};
+use tl_device::{Counted, DeviceFault, Timed};
+use tl_get::GetFault;
 use tl_tile::{Resource, SourceFault};
 
 /// The resources of a log over HTTP/1.1, each at its path under an address (C2SP tlog-tiles), by a connection of its
@@ -22,6 +25,7 @@ pub struct HttpSource<'s, H: Net<Stream = TcpStream> + Clock> {
     alloc: Global,
     url: Url<'s>,
     limit: Duration,
+    last: LastLack,
 }
 
 impl<'s, H: Net<Stream = TcpStream> + Clock> Model for HttpSource<'s, H> {
@@ -38,20 +42,37 @@ fn connect<H: Net<Stream = TcpStream> + Clock>(
     url: &Url<'_>,
     start: &Instant,
     limit: Duration,
-) -> Option<TcpStream> {
+) -> Result<TcpStream, DeviceFault> {
     let Ok(addresses) = (url.host, url.port).to_socket_addrs(rt) else {
-        return None;
+        return Err(DeviceFault::NoHost);
     };
+    let mut why = DeviceFault::NoHost;
     for address in addresses {
-        let Ok(elapsed) = start.elapsed(rt) else {
-            return None;
-        };
-        let left = limit.saturating_sub(elapsed);
-        if let Ok(stream) = TcpStream::connect_timeout(rt, &address, left) {
-            return Some(stream);
+        let left = limit.saturating_sub(start.elapsed(rt)?);
+        match TcpStream::connect_timeout(rt, &address, left) {
+            Ok(stream) => return Ok(stream),
+            Err(error) => why = DeviceFault::from(error),
         }
     }
-    None
+    Err(why)
+}
+
+// Why a host gave no body, where a request failed with this, after its time or before.
+fn why_none(fault: GetFault, is_late: bool) -> DeviceFault
+    ensures { result ≡ after_get is_late fault }
+{
+    match fault {
+        GetFault::Read | GetFault::Write if is_late => DeviceFault::TimedOut,
+        GetFault::Read | GetFault::Write => DeviceFault::Broken,
+        GetFault::NoHead | GetFault::Version => DeviceFault::NotHttp,
+        GetFault::Status(status) => DeviceFault::Status(status),
+        GetFault::Encoded => DeviceFault::Encoded,
+        GetFault::BadLength => DeviceFault::BadLength,
+        GetFault::TooLarge => DeviceFault::TooLarge,
+        GetFault::Short => DeviceFault::CutShort,
+        GetFault::OutOfMemory => DeviceFault::OutOfMemory,
+        GetFault::BadTarget => DeviceFault::System,
+    }
 }
 
 impl<'s, H: Net<Stream = TcpStream> + Clock> HttpSource<'s, H> {
@@ -65,24 +86,37 @@ impl<'s, H: Net<Stream = TcpStream> + Clock> HttpSource<'s, H> {
             alloc,
             url,
             limit,
+            last: LastLack::new(),
+        }
+    }
+
+    /// What the last call lacked, and why, if it lacked anything.
+    pub fn lack(&self) -> Option<Lack> {
+        self.last.get()
+    }
+
+    // Whether the time since then is over.
+    fn is_late(&self, start: &Instant) -> bool {
+        match start.elapsed(self.rt) {
+            Ok(elapsed) => elapsed >= self.limit,
+            Err(_) => false,
         }
     }
 
     // The body that the host answers with for a resource.
-    fn body_of(&self, resource: &Resource) -> Result<Vec<u8>, SourceFault>
+    fn body_of(&self, resource: &Resource) -> Result<Vec<u8>, DeviceFault>
         requires { IsResource resource.now }
         ensures { IfOk result (λ body.
             MayGive self.now.authority.now self.now.prefix.now resource.now body.items) }
     {
-        let Ok(start) = Instant::now(self.rt) else {
-            return Err(SourceFault::Unavailable);
-        };
-        let Some(stream) = connect(self.rt, &self.url, &start, self.limit) else {
-            return Err(SourceFault::Unavailable);
-        };
+        let start = Instant::now(self.rt)?;
+        let stream = connect(self.rt, &self.url, &start, self.limit)?;
         let mut reader = Counted::new(Timed::new(self.rt, &stream, start, self.limit));
         let mut writer = Counted::new(Timed::new(self.rt, &stream, start, self.limit));
-        ask(self.alloc, &mut reader, &mut writer, &self.url, resource)
+        match ask(self.alloc, &mut reader, &mut writer, &self.url, resource) {
+            Ok(body) => Ok(body),
+            Err(fault) => Err(why_none(fault, self.is_late(&start))),
+        }
     }
 }
 
@@ -94,7 +128,7 @@ impl<H: Net<Stream = TcpStream> + Clock> ResourceSource for HttpSource<'_, H> {
     /// The bytes that the host answers with status 200. `Unavailable` where it answers otherwise, not in time, or with
     /// more bytes than `most_bytes`.
     fn get<A: Allocator>(&self, alloc: A, resource: &Resource) -> Result<Vec<u8, A>, SourceFault> {
-        let body = self.body_of(resource)?;
+        let body = self.last.note(resource, self.body_of(resource))?;
         Ok(Vec::from_slice(alloc, body.as_slice())?)
     }
 }

@@ -18,9 +18,9 @@ mod cache;
 mod cached;
 mod folder;
 mod http;
+mod lack;
 mod limit;
 mod place;
-mod reading;
 mod url;
 
 pub use any::AnySource;
@@ -28,5 +28,7 @@ pub use cache::TileCache;
 pub use cached::CachedSource;
 pub use folder::FolderSource;
 pub use http::HttpSource;
+pub use lack::Lack;
 pub use limit::most_bytes;
+pub use place::place_of;
 pub use url::Url;

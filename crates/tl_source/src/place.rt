@@ -1,7 +1,8 @@
 //! Where the resources of a log lie.
 
-ghost use Rattle.std.specs.Prelude.{◌≡◌, string_bytes, IfOk};
+ghost use Rattle.std.specs.Prelude.{◌≡◌, ◌↔◌, string_bytes, IfOk, IsTrue, MatchOption};
 ghost use Rattle.tl_tile.specs.Path.{IsResource};
+ghost use Rattle.tl_source.specs.Asking.{IsFront, IsTarget};
 ghost use Rattle.tl_source.specs.Places.{place_text};
 ghost use Rattle.tl_source.specs.Inner.Besides.{beside_text};
 
@@ -21,6 +22,46 @@ pub(crate) fn path_under<A: Allocator + Copy>(
     path.push_str("/")?;
     path.push_str(path_of(alloc, resource)?.as_str())?;
     Ok(path)
+}
+
+/// A prefix without the slash that it may end with.
+pub(crate) fn front_of(prefix: &str) -> &str
+    ensures { IsFront prefix.now result.now }
+{
+    match prefix.strip_suffix('/') {
+        Some(front) => front,
+        None => prefix,
+    }
+}
+
+/// Whether a log serves this resource under a path (C2SP tlog-tiles).
+pub(crate) fn has_path(resource: &Resource) -> bool
+    ensures { IsTrue result ↔ IsResource resource.now }
+{
+    match resource {
+        Resource::Tile(tile) => {
+            tile.level <= 7 && tile.index < 1 << 56 && 0 < tile.width && tile.width <= 256
+        }
+        Resource::Entries { index, width } => *index < 1 << 56 && 0 < *width && *width <= 256,
+        Resource::Checkpoint => true,
+    }
+}
+
+/// Where a resource lies under a folder or an address, which may end with a slash; `None`: it has no path (C2SP
+/// tlog-tiles). It fails for want of memory alone.
+pub fn place_of<A: Allocator + Copy>(
+    alloc: A,
+    prefix: &str,
+    resource: &Resource,
+) -> Result<Option<String<A>>, AllocError>
+    ensures { IfOk result (λ found. MatchOption found (IsResource resource.now → ⊥)
+        (λ place. IsTarget prefix.now resource.now (string_bytes place))) }
+{
+    if !has_path(resource) {
+        return Ok(None);
+    }
+    let place = path_under(alloc, front_of(prefix), resource)?;
+    Ok(Some(place))
 }
 
 /// Where the file with this place is written before it is put there.

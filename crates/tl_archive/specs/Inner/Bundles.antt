@@ -15,14 +15,14 @@ use Rattle.tl_archive.specs.declared.fault.ReadLogFault.TheVariants as fault
 abbrev pub LacksOne : Held → ℕ → ReadLogFault → Type 0
 LacksOne held size fault.Checkpoint = ⊥
 LacksOne held size fault.TooLarge = ⊥
-LacksOne held size (fault.Missing place) = LacksBundle held place size
-LacksOne held size fault.Shelf = ⊤
+LacksOne held size (fault.Missing index width) = LacksBundle held index width size
+LacksOne held size (fault.Shelf why) = ⊤
 LacksOne held size fault.OutOfMemory = ⊤
 
 -- why a note gave no size
 abbrev pub StatesNone : Bytes → List Key → ReadLogFault → Type 0
 StatesNone note keys fault.Checkpoint = (why : OpenCheckpointFault) × (why ≢ opening.OutOfMemory) × OpensCheckpoint {A = Global} note keys (Err why)
 StatesNone note keys fault.TooLarge = (size : ℕ) × StatesSize note keys size × (2 ^ 32 ≤ size)
-StatesNone note keys (fault.Missing place) = ⊥
-StatesNone note keys fault.Shelf = ⊥
+StatesNone note keys (fault.Missing index width) = ⊥
+StatesNone note keys (fault.Shelf why) = ⊥
 StatesNone note keys fault.OutOfMemory = ⊤

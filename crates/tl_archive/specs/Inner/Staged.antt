@@ -97,7 +97,7 @@ pub record Writes (before after : List Prefix) (resources : List Resource) (note
 
 -- why staging ended, and whether the shelf failed
 abbrev pub StagingFails : ℕ → ℕ → ArchiveFault → Type 0
-StagingFails faults now archive.Shelf = Fails faults now
+StagingFails faults now (archive.Shelf fault) = Fails faults now
 StagingFails faults now archive.Behind = ⊥
 StagingFails faults now archive.Gone = ⊤
 StagingFails faults now archive.OutOfMemory = ⊤

@@ -59,20 +59,24 @@ fn checkpoint_of(
     }
 }
 
-// Checks the proof of the input against the checkpoint, where it opens under these keys.
+// Checks the proof of the input against the checkpoint, where it opens under these keys and is of the log with this name.
 fn check_under<R: Read, W: Write>(
     alloc: Global,
     verifiers: &[Box<dyn Verifier>],
+    name: &str,
     bytes: &[u8],
     entry: Option<&[u8]>,
     reader: &mut Counted<R>,
     writer: &mut Counted<W>,
 ) -> Result<(), RunFault>
-    ensures { RunsUnder bytes.now (map (λ verifier. key verifier) verifiers.now)
+    ensures { RunsUnder bytes.now (map (λ verifier. key verifier) verifiers.now) name.now
         (option_map (λ e. e.now) entry.entry) (passage R.remaining reader.old reader.new)
         (passage W.contents writer.old writer.new) result }
 {
     let checkpoint = checkpoint_of(alloc, bytes, verifiers)?;
+    if checkpoint.origin.as_str() != name {
+        return Err(RunFault::BadOrigin);
+    }
     run_check_about(
         alloc,
         checkpoint.size,
@@ -88,24 +92,25 @@ fn check_by<R: Read, W: Write>(
     alloc: Global,
     text: &str,
     verifiers: &[Box<dyn Verifier>],
+    name: &str,
     bytes: &[u8],
     entry: Option<&[u8]>,
     reader: &mut Counted<R>,
     writer: &mut Counted<W>,
 ) -> Result<(), RunFault>
-    requires { (k : PublicKey) × IsVerifierText note_kind text.now k
+    requires { (k : PublicKey) × IsVerifierText note_kind text.now k × (name.now ≡ k.name)
         × (map (λ verifier. key verifier) verifiers.now ≡ verifier_key k ∷ []) }
     ensures { RunsCheckOpened text.now bytes.now (option_map (λ e. e.now) entry.entry) (passage
         R.remaining reader.old reader.new) (passage W.contents writer.old writer.new) result }
 {
-    check_under(alloc, verifiers, bytes, entry, reader, writer)
+    check_under(alloc, verifiers, name, bytes, entry, reader, writer)
 }
 
 /// `check` against a signed checkpoint: the bytes of a note that opens under the key that `text` is of (as for
-/// `run_open`) and whose text is a checkpoint (C2SP tlog-checkpoint). Then `accepted` is written where the proof is
+/// `run_open`) and whose text is a checkpoint of the log with the key's name (C2SP tlog-checkpoint). Then `accepted` is written where the proof is
 /// accepted and is about the checkpoint's tree, of a consistency proof the new one, and with an entry only where it is
-/// an inclusion proof of that entry. A text of no such key is `BadKey`, and what is no checkpoint that opens
-/// `BadCheckpoint`, `WrongSignature` or `Unverified`, all before anything is read.
+/// an inclusion proof of that entry. A text of no such key is `BadKey`, what is no checkpoint that opens
+/// `BadCheckpoint`, `WrongSignature` or `Unverified`, and one of another log `BadOrigin`, all before anything is read.
 pub fn run_check_opened<R: Read, W: Write>(
     alloc: Global,
     text: &str,
@@ -118,6 +123,8 @@ pub fn run_check_opened<R: Read, W: Write>(
         R.remaining reader.old reader.new) (passage W.contents writer.old writer.new) result }
 {
     let key = read_log_key(alloc, text)?;
+    let name = String::from_str(alloc, key.name())?;
     let verifier: Box<dyn Verifier> = Box::new(alloc, key)?;
-    check_by(alloc, text, &[verifier], bytes, entry, reader, writer)
+    let name = name.as_str();
+    check_by(alloc, text, &[verifier], name, bytes, entry, reader, writer)
 }

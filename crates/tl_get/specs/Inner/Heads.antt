@@ -42,7 +42,7 @@ ReadsHead i buf headers (Head len spans) = IsHeaded i buf headers len spans
 
 -- what a head announces that is taken
 pub record IsTaken (minor status : ℕ) (fields : List (Bytes × Bytes)) (n : Option ℕ) : Type 0 where
-  pub version : minor ≡ 1
+  pub version : minor ≤ 1
   pub found : status ≡ 200
   pub plain : IsPlain fields
   pub announced : HasLength fields n

@@ -1,23 +1,34 @@
--- Requests for resources that give no body, and files that can't be read.
-use Rattle.std.specs.Prelude.{ℕ, ◌≢◌, ◌⊎◌, Err}
-use Rattle.tl_hash.specs.Bytes.{Bytes}
-use Rattle.tl_device.specs.Device.{Passage, HasFailed, ReadPast}
-use Rattle.tl_tile.specs.declared.resource.Resource.{Resource}
+-- Requests for resources that gave no body, and what a call of a source tells.
+use Rattle.std.specs.Prelude.{◌≡◌, Bool, true, false, Result, Ok, Err}
+use Rattle.tl_device.specs.declared.fault.DeviceFault.{DeviceFault}
+use Rattle.tl_device.specs.declared.fault.DeviceFault.TheVariants as device
 use Rattle.tl_tile.specs.declared.source.SourceFault.{SourceFault}
 use Rattle.tl_tile.specs.declared.source.SourceFault.TheVariants as source
 use Rattle.tl_get.specs.declared.fault.GetFault.{GetFault}
 use Rattle.tl_get.specs.declared.fault.GetFault.TheVariants as get
-use Rattle.tl_source.specs.Asking.{Asks}
 
--- such a request gave no body, and not for want of memory
-abbrev pub GivesNoBody : Bytes → Bytes → Resource → Passage → Passage → Type 0
-GivesNoBody authority prefix resource i o = (why : GetFault) × (why ≢ get.OutOfMemory) × Asks authority prefix resource i o (Err why)
+-- why a host gave no body, after the fault of a request, and by whether the time was over
+abbrev pub after_get : Bool → GetFault → DeviceFault
+after_get true get.Read = device.TimedOut
+after_get false get.Read = device.Broken
+after_get true get.Write = device.TimedOut
+after_get false get.Write = device.Broken
+after_get late get.NoHead = device.NotHttp
+after_get late get.Version = device.NotHttp
+after_get late (get.Status status) = device.Status status
+after_get late get.Encoded = device.Encoded
+after_get late get.BadLength = device.BadLength
+after_get late get.TooLarge = device.TooLarge
+after_get late get.Short = device.CutShort
+after_get late get.OutOfMemory = device.OutOfMemory
+after_get late get.BadTarget = device.System
 
--- why a source hasn't a resource, after the fault of a request
-abbrev pub after_get : GetFault → SourceFault
-after_get get.OutOfMemory = source.OutOfMemory
-after_get other = source.Unavailable
+-- what the caller of a source is told of a fault
+abbrev pub after_device : DeviceFault → SourceFault
+after_device device.OutOfMemory = source.OutOfMemory
+after_device other = source.Unavailable
 
--- a read failed, or the reader gave more than so many bytes
-abbrev pub IsUnreadable : Passage → ℕ → Type 0
-IsUnreadable p most = HasFailed p ⊎ ReadPast p most
+-- what is told of a call that came to this
+abbrev pub NotedAs : {T : Type 0} → Result T DeviceFault → Result T SourceFault → Type 0
+NotedAs (Ok found) told = told ≡ Ok found
+NotedAs (Err why) told = told ≡ Err (after_device why)

@@ -1,5 +1,5 @@
 use Rattle.std.proofs.Common.{ℕ, ◌≤◌, length, subst, ◌∙◌}
-use Rattle.tl_source.proofs.Askings.{asked_fault}
+use Rattle.tl_source.proofs.Askings.{asked}
 use Rattle.tl_source.proofs.Bodies.{gets_fits}
 use Rattle.tl_source.proofs.asking.ask.Goals as goal
 
@@ -7,6 +7,6 @@ pub returns-in-Ok-clause-short : goal.returns-in-Ok-clause-short
 returns-in-Ok-clause-short g c =
     subst (λ (n : ℕ). length c.in-Ok.body.items ≤ n) c.most_bytes-most.ensures (gets_fits _ _ _ _ _ _ c.in-Ok.ensures)
 
-pub returns-clause-unavailable : goal.returns-clause-unavailable
-returns-clause-unavailable g c is =
-    asked_fault _ _ _ _ _ _ _ _ _ _ c.front_of.ensures (c.as_str.ensures.value ∙ c.in_ok-target.ensures) c.most_bytes-most.ensures c.in-Err.ensures c.fault_after.ensures is
+pub returns-clause-refused : goal.returns-clause-refused
+returns-clause-refused g c = λ other.
+    asked _ _ _ _ _ _ _ _ _ c.front_of.ensures (c.as_str.ensures.value ∙ c.in_ok-target.ensures) c.most_bytes-most.ensures c.in-Err.ensures

@@ -1,0 +1,112 @@
+-- What standard error is told of how a job ended.
+use Rattle.std.specs.Prelude.{◌≡◌, ◌⊎◌, ℕ, [], ◌++◌, codes, Result, Ok, Err, Option, Some, None, option_map, string_bytes}
+use Rattle.tl_hash.specs.Bytes.{Bytes}
+use Rattle.tl_text.specs.Text.{line}
+use Rattle.tl_tile.specs.Path.{IsResource}
+use Rattle.tl_tile.specs.declared.resource.Resource.{Resource}
+use Rattle.tl_device.specs.Device.{Passage, IsUnwritten, WroteWhole, WrotePart}
+use Rattle.tl_device.specs.Faults.{device_words}
+use Rattle.tl_device.specs.declared.fault.DeviceFault.{DeviceFault}
+use Rattle.tl_command.specs.Faults.{fault_text, place_words}
+use Rattle.tl_command.specs.declared.place.Place.{Place}
+use Rattle.tl_command.specs.declared.place.Place.TheVariants as place
+use Rattle.tl_command.specs.declared.fault.RunFault.TheVariants.{Device}
+use Rattle.tl_fetch.specs.FaultWords.{fetch_text}
+use Rattle.tl_fetch.specs.declared.fault.FetchFault.TheVariants as fetch
+use Rattle.tl_source.specs.Asking.{IsTarget}
+use Rattle.tl_serve.specs.declared.options.LogKey.{LogKey}
+use Rattle.tl_serve.specs.declared.options.LogKey.TheVariants as key
+use Rattle.tl_serve.specs.declared.options.WitnessSignerKey.{WitnessSignerKey}
+use Rattle.tl_serve.specs.declared.options.WitnessSignerKey.TheVariants as cosigner
+use Rattle.tl_cli.specs.declared.job.Job.{Job}
+use Rattle.tl_cli.specs.declared.job.Job.TheVariants.{BuildSigned, Append, CheckUnder, Serve, Witness, Fetch}
+use Rattle.tl_cli.specs.declared.fault.CommandFault.{CommandFault}
+use Rattle.tl_cli.specs.declared.fault.CommandFault.TheVariants as fault
+
+-- ---- what the options of a job name
+
+-- the file of a key
+abbrev pub key_file : LogKey → Option Bytes
+key_file (key.Secret text) = None
+key_file (key.File path) = Some (string_bytes path)
+
+abbrev pub witness_file : WitnessSignerKey → Option Bytes
+witness_file (cosigner.Secret name text) = None
+witness_file (cosigner.File path) = Some (string_bytes path)
+
+-- the file of a key or of a checkpoint
+abbrev pub file_of : Job → Option Bytes
+file_of (BuildSigned options) = Some (string_bytes options.key)
+file_of (CheckUnder options) = Some (string_bytes options.checkpoint)
+file_of (Append options) = key_file options.key
+file_of (Serve options) = key_file options.key
+file_of (Witness options) = witness_file options.key
+file_of job = None
+
+-- the file of a state
+abbrev pub state_of : Job → Option Bytes
+state_of (Witness options) = option_map string_bytes options.state
+state_of (Fetch options) = option_map string_bytes options.state
+state_of job = None
+
+-- the folder of a log
+abbrev pub log_of : Job → Option Bytes
+log_of (Append options) = Some (string_bytes options.dir)
+log_of (Serve options) = option_map string_bytes options.dir
+log_of job = None
+
+-- the folder or the address that is fetched from
+abbrev pub source_of : Job → Option Bytes
+source_of (Fetch options) = Some (string_bytes options.from)
+source_of job = None
+
+-- what they name for a place, and the resource under it that the place is, if it is one
+abbrev pub base_of : Job → Place → Option Bytes
+base_of job place.File = file_of job
+base_of job place.State = state_of job
+base_of job (place.Log resource) = log_of job
+base_of job (place.Source resource) = source_of job
+
+abbrev pub resource_of : Place → Option Resource
+resource_of place.File = None
+resource_of place.State = None
+resource_of (place.Log resource) = resource
+resource_of (place.Source resource) = Some resource
+
+-- ---- the line of a fault
+
+-- the path of a resource under that, or that itself where there is no resource or it has no path
+abbrev pub IsWhere : Bytes → Option Resource → Bytes → Type 0
+IsWhere base None path = path ≡ base
+IsWhere base (Some resource) path = IsTarget base resource path ⊎ ((IsResource resource → ⊥) × (path ≡ base))
+
+-- the line of a fault of a device: where, and why
+abbrev pub IsLineAt : Option Bytes → Place → DeviceFault → Bytes → Type 0
+IsLineAt None place why text = text ≡ line (codes "tlog: " ++ place_words place ++ codes ": " ++ device_words why)
+IsLineAt (Some base) place why text =
+    (path : Bytes) × IsWhere base (resource_of place) path × (text ≡ line (codes "tlog: " ++ path ++ codes ": " ++ device_words why))
+
+-- a line, or nothing
+abbrev pub line_or_none : Option Bytes → Bytes
+line_or_none None = []
+line_or_none (Some text) = line text
+
+-- the line of a fault of a job, if it has one
+abbrev pub IsLineOf : Job → CommandFault → Bytes → Type 0
+IsLineOf job (fault.Run (Device place why)) text = IsLineAt (base_of job place) place why text
+IsLineOf job (fault.Fetch (fetch.Run (Device place why))) text = IsLineAt (base_of job place) place why text
+IsLineOf job (fault.Run other) text = text ≡ line_or_none (fault_text other)
+IsLineOf job (fault.Fetch other) text = text ≡ line_or_none (fetch_text other)
+
+-- a text was written to standard error, or a part of it where that failed
+abbrev pub Wrote : Bytes → Passage → Type 0
+Wrote text e = WroteWhole e text ⊎ WrotePart e text
+
+-- the line of a fault of a job was written there; or nothing was, for want of memory
+abbrev pub TellsFault : Job → CommandFault → Passage → Type 0
+TellsFault job fault e = IsUnwritten e ⊎ ((text : Bytes) × IsLineOf job fault text × Wrote text e)
+
+-- what standard error is told of how a job ended: nothing where all was done, and else the fault
+abbrev pub Tells : Job → Result (Unit {0}) CommandFault → Passage → Type 0
+Tells job (Ok done) e = IsUnwritten e
+Tells job (Err fault) e = TellsFault job fault e

@@ -1,0 +1,217 @@
+//! The line of a fault on standard error, with the file, the folder or the address that the options name.
+
+ghost use Rattle.std.specs.Prelude.{◌≡◌, ◌++◌, IfOk, codes, option_map, string_bytes};
+ghost use Rattle.tl_text.specs.Text.{line};
+ghost use Rattle.tl_device.specs.Faults.{device_words};
+ghost use Rattle.tl_device.specs.Device.{passage};
+ghost use Rattle.tl_cli.specs.Told.{IsLineAt, IsLineOf, IsWhere, TellsFault, Wrote, base_of, file_of, key_file, line_or_none, log_of, resource_of, source_of, state_of, witness_file};
+
+use crate::fault::CommandFault;
+use crate::job::Job;
+use std::alloc::{AllocError, Allocator};
+use std::io::Write;
+use tl_command::{Place, RunFault, fault_line};
+use tl_device::{Counted, DeviceFault, write_whole};
+use tl_fetch::{FetchFault, fetch_fault_line};
+use tl_serve::{LogKey, WitnessSignerKey};
+use tl_source::place_of;
+use tl_tile::Resource;
+
+// The file of a log's key.
+fn key_file(key: &LogKey) -> Option<&str>
+    ensures { option_map (λ s. s.now) result ≡ key_file key.now }
+{
+    match key {
+        LogKey::Secret(_) => None,
+        LogKey::File(path) => Some(path.as_str()),
+    }
+}
+
+// The file of a witness's key.
+fn witness_file(key: &WitnessSignerKey) -> Option<&str>
+    ensures { option_map (λ s. s.now) result ≡ witness_file key.now }
+{
+    match key {
+        WitnessSignerKey::Secret(_, _) => None,
+        WitnessSignerKey::File(path) => Some(path.as_str()),
+    }
+}
+
+// The file of a key or of a checkpoint that the options name.
+fn file_of(job: &Job) -> Option<&str>
+    ensures { option_map (λ s. s.now) result ≡ file_of job.now }
+{
+    match job {
+        Job::BuildSigned(options) => Some(options.key.as_str()),
+        Job::CheckUnder(options) => Some(options.checkpoint.as_str()),
+        Job::Append(options) => key_file(&options.key),
+        Job::Serve(options) => key_file(&options.key),
+        Job::Witness(options) => witness_file(&options.key),
+        _ => None,
+    }
+}
+
+// The file of a state that the options name.
+fn state_of(job: &Job) -> Option<&str>
+    ensures { option_map (λ s. s.now) result ≡ state_of job.now }
+{
+    match job {
+        Job::Witness(options) => options.state.as_deref(),
+        Job::Fetch(options) => options.state.as_deref(),
+        _ => None,
+    }
+}
+
+// The folder of a log that the options name.
+fn log_of(job: &Job) -> Option<&str>
+    ensures { option_map (λ s. s.now) result ≡ log_of job.now }
+{
+    match job {
+        Job::Append(options) => Some(options.dir.as_str()),
+        Job::Serve(options) => options.dir.as_deref(),
+        _ => None,
+    }
+}
+
+// The folder or the address that the options name to fetch from.
+fn source_of(job: &Job) -> Option<&str>
+    ensures { option_map (λ s. s.now) result ≡ source_of job.now }
+{
+    match job {
+        Job::Fetch(options) => Some(options.from.as_str()),
+        _ => None,
+    }
+}
+
+// What the options name for a place.
+fn base_of(job: &Job, place: Place) -> Option<&str>
+    ensures { option_map (λ s. s.now) result ≡ base_of job.now place }
+{
+    match place {
+        Place::File => file_of(job),
+        Place::State => state_of(job),
+        Place::Log(_) => log_of(job),
+        Place::Source(_) => source_of(job),
+    }
+}
+
+// Which resource a place is, if it is one.
+fn resource_of(place: Place) -> Option<Resource>
+    ensures { result ≡ resource_of place }
+{
+    match place {
+        Place::File | Place::State => None,
+        Place::Log(resource) => resource,
+        Place::Source(resource) => Some(resource),
+    }
+}
+
+// Where that is: the resource under what the options name, or that itself.
+fn where_is<A: Allocator + Copy>(
+    alloc: A,
+    base: &str,
+    resource: Option<Resource>,
+) -> Result<String<A>, AllocError>
+    ensures { IfOk result (λ path. IsWhere base.now resource (string_bytes path)) }
+{
+    let Some(resource) = resource else {
+        return String::from_str(alloc, base);
+    };
+    match place_of(alloc, base, &resource)? {
+        Some(path) => Ok(path),
+        None => String::from_str(alloc, base),
+    }
+}
+
+// The line of a fault over what is there.
+fn line_at<A: Allocator + Copy>(
+    alloc: A,
+    path: String<A>,
+    fault: DeviceFault,
+) -> Result<String<A>, AllocError>
+    ensures { IfOk result (λ text. string_bytes text
+        ≡ line (codes "tlog: " ++ string_bytes path ++ codes ": " ++ device_words fault)) }
+{
+    let mut line = String::from_str(alloc, "tlog: ")?;
+    line.push_str(path.as_str())?;
+    line.push_str(": ")?;
+    line.push_str(format!(in alloc; "{fault}\n")?.as_str())?;
+    Ok(line)
+}
+
+// The line of a device's fault.
+fn device_line<A: Allocator + Copy>(
+    alloc: A,
+    job: &Job,
+    place: Place,
+    fault: DeviceFault,
+) -> Result<String<A>, AllocError>
+    ensures { IfOk result
+        (λ text. IsLineAt (base_of job.now place) place fault (string_bytes text)) }
+{
+    let Some(base) = base_of(job, place) else {
+        return format!(in alloc; "tlog: {place}: {fault}\n");
+    };
+    let path = where_is(alloc, base, resource_of(place))?;
+    line_at(alloc, path, fault)
+}
+
+// A line with its newline, or no text.
+fn whole_line<A: Allocator + Copy>(
+    alloc: A,
+    line: Option<String<A>>,
+) -> Result<String<A>, AllocError>
+    ensures { IfOk result
+        (λ text. string_bytes text ≡ line_or_none (option_map string_bytes line)) }
+{
+    let Some(mut line) = line else {
+        return String::from_str(alloc, "");
+    };
+    line.push_str("\n")?;
+    Ok(line)
+}
+
+// What is told of a fault of a job: its line, if it has one.
+fn line_of<A: Allocator + Copy>(
+    alloc: A,
+    job: &Job,
+    fault: &CommandFault,
+) -> Result<String<A>, AllocError>
+    ensures { IfOk result (λ text. IsLineOf job.now fault.now (string_bytes text)) }
+{
+    match fault {
+        CommandFault::Run(RunFault::Device(place, fault)) => {
+            device_line(alloc, job, *place, *fault)
+        }
+        CommandFault::Fetch(FetchFault::Run(RunFault::Device(place, fault))) => {
+            device_line(alloc, job, *place, *fault)
+        }
+        CommandFault::Run(fault) => whole_line(alloc, fault_line(alloc, fault)?),
+        CommandFault::Fetch(fault) => whole_line(alloc, fetch_fault_line(alloc, fault)?),
+    }
+}
+
+// Writes a text, as far as that goes.
+fn write_text<E: Write>(errors: &mut Counted<E>, text: &str)
+    ensures { Wrote text.now (passage E.contents errors.old errors.new) }
+{
+    match write_whole(errors, text.as_bytes()) {
+        Ok(()) => {}
+        Err(_) => {}
+    }
+}
+
+/// Tells a fault of a job: writes its line, if it has one and there is memory for it.
+pub(crate) fn tell<A: Allocator + Copy, E: Write>(
+    alloc: A,
+    job: &Job,
+    fault: &CommandFault,
+    errors: &mut Counted<E>,
+)
+    ensures { TellsFault job.now fault.now (passage E.contents errors.old errors.new) }
+{
+    match line_of(alloc, job, fault) {
+        Ok(line) => write_text(errors, line.as_str()),
+        Err(_) => {}
+    }
+}

@@ -1,0 +1,163 @@
+//! Why a file, a folder or a host failed.
+
+ghost use Rattle.std.specs.Prelude.{◌≡◌};
+ghost use Rattle.std.specs.IoError.{error_kind};
+ghost use Rattle.tl_device.specs.Faults.{after_input, after_kind};
+ghost use Rattle.tl_device.specs.declared.fault.DeviceFault.TheVariants.{OutOfMemory};
+
+use crate::counted::InputFault;
+use std::alloc::{AllocError, AllocFailed};
+use std::error::Error;
+use std::fmt::{self, Display, Formatter};
+use std::io::{self, ErrorKind};
+
+/// Why a file, a folder or a host failed.
+#[derive(Clone, Copy, Debug, PartialEq, Eq)]
+pub enum DeviceFault {
+    /// Nothing is there.
+    NotThere,
+    /// Something is there already.
+    Taken,
+    /// The system doesn't permit it.
+    Denied,
+    /// The file system is read only.
+    ReadOnly,
+    /// There is no room for it.
+    Full,
+    /// Something else than a plain file is there: a link, a folder, a pipe or a device.
+    NotPlain,
+    /// Something else than a folder is there.
+    NotFolder,
+    /// At the path is another file or folder than the one that was opened there, or none.
+    Moved,
+    /// Another process holds the lock.
+    Busy,
+    /// There are more bytes than are taken.
+    TooLarge,
+    /// The bytes that are there aren't those that belong there.
+    Damaged,
+    /// The name of the host can't be looked up.
+    NoHost,
+    /// Nobody listens at the address.
+    NoConnection,
+    /// The host can't be reached.
+    Unreachable,
+    /// The time was over.
+    TimedOut,
+    /// The connection broke.
+    Broken,
+    /// The host answered with this status, which isn't 200.
+    Status(u16),
+    /// What the host answered is no response over HTTP/1.0 or HTTP/1.1.
+    NotHttp,
+    /// The body of the response is encoded.
+    Encoded,
+    /// The response doesn't say how long its body is.
+    BadLength,
+    /// The connection ended before the body of the response did.
+    CutShort,
+    /// A growth was refused.
+    OutOfMemory,
+    /// The system failed in another way.
+    System,
+}
+
+impl From<ErrorKind> for DeviceFault {
+    ghost from_gives = { λ kind fault. fault ≡ after_kind kind };
+
+    fn from(kind: ErrorKind) -> DeviceFault {
+        match kind {
+            ErrorKind::NotFound => DeviceFault::NotThere,
+            ErrorKind::AlreadyExists => DeviceFault::Taken,
+            ErrorKind::PermissionDenied => DeviceFault::Denied,
+            ErrorKind::ReadOnlyFilesystem => DeviceFault::ReadOnly,
+            ErrorKind::StorageFull | ErrorKind::QuotaExceeded | ErrorKind::FileTooLarge => {
+                DeviceFault::Full
+            }
+            ErrorKind::IsADirectory => DeviceFault::NotPlain,
+            ErrorKind::NotADirectory => DeviceFault::NotFolder,
+            ErrorKind::ConnectionRefused => DeviceFault::NoConnection,
+            ErrorKind::HostUnreachable | ErrorKind::NetworkUnreachable | ErrorKind::NetworkDown =>
+                DeviceFault::Unreachable,
+            ErrorKind::TimedOut => DeviceFault::TimedOut,
+            ErrorKind::ConnectionReset | ErrorKind::ConnectionAborted | ErrorKind::BrokenPipe => {
+                DeviceFault::Broken
+            }
+            ErrorKind::OutOfMemory => DeviceFault::OutOfMemory,
+            _ => DeviceFault::System,
+        }
+    }
+}
+
+impl From<io::Error> for DeviceFault {
+    ghost from_gives = { λ error fault. fault ≡ after_kind (error_kind error) };
+
+    fn from(error: io::Error) -> DeviceFault {
+        DeviceFault::from(error.kind())
+    }
+}
+
+impl From<AllocError> for DeviceFault {
+    ghost from_gives = { λ _ fault. fault ≡ OutOfMemory };
+
+    fn from(_error: AllocError) -> DeviceFault {
+        DeviceFault::OutOfMemory
+    }
+}
+
+impl<X: Drop> From<AllocFailed<X>> for DeviceFault {
+    ghost from_gives = { λ _ fault. fault ≡ OutOfMemory };
+
+    fn from(_error: AllocFailed<X>) -> DeviceFault {
+        DeviceFault::OutOfMemory
+    }
+}
+
+impl From<InputFault> for DeviceFault {
+    ghost from_gives = { λ fault wider. wider ≡ after_input fault };
+
+    fn from(fault: InputFault) -> DeviceFault {
+        match fault {
+            InputFault::Read => DeviceFault::System,
+            InputFault::TooLarge => DeviceFault::TooLarge,
+            InputFault::OutOfMemory => DeviceFault::OutOfMemory,
+        }
+    }
+}
+
+impl Display for DeviceFault {
+    ghost use Rattle.std.specs.Prelude.{Some};
+    ghost use Rattle.tl_device.specs.Faults.{device_words};
+
+    ghost output = { λ fault. Some (device_words fault) };
+
+    fn fmt<W: fmt::Write>(&self, f: &mut Formatter<W>) -> fmt::Result {
+        match self {
+            DeviceFault::NotThere => f.write_str("not there"),
+            DeviceFault::Taken => f.write_str("already there"),
+            DeviceFault::Denied => f.write_str("permission denied"),
+            DeviceFault::ReadOnly => f.write_str("read-only file system"),
+            DeviceFault::Full => f.write_str("no space left"),
+            DeviceFault::NotPlain => f.write_str("not a plain file"),
+            DeviceFault::NotFolder => f.write_str("not a folder"),
+            DeviceFault::Moved => f.write_str("no longer at its path"),
+            DeviceFault::Busy => f.write_str("in use"),
+            DeviceFault::TooLarge => f.write_str("too large"),
+            DeviceFault::Damaged => f.write_str("damaged"),
+            DeviceFault::NoHost => f.write_str("no such host"),
+            DeviceFault::NoConnection => f.write_str("connection refused"),
+            DeviceFault::Unreachable => f.write_str("unreachable"),
+            DeviceFault::TimedOut => f.write_str("timed out"),
+            DeviceFault::Broken => f.write_str("connection broken"),
+            DeviceFault::Status(status) => write!(f, "{status}"),
+            DeviceFault::NotHttp => f.write_str("no response over HTTP"),
+            DeviceFault::Encoded => f.write_str("encoded body"),
+            DeviceFault::BadLength => f.write_str("body of no clear length"),
+            DeviceFault::CutShort => f.write_str("body cut short"),
+            DeviceFault::OutOfMemory => f.write_str("out of memory"),
+            DeviceFault::System => f.write_str("input/output error"),
+        }
+    }
+}
+
+impl Error for DeviceFault {}

@@ -1,0 +1,70 @@
+//! What a source has not got, and why.
+
+ghost use Rattle.std.specs.Prelude.{◌≡◌};
+ghost use Rattle.tl_source.specs.Inner.Asking.{NotedAs, after_device};
+
+use std::cell::Cell;
+use tl_device::DeviceFault;
+use tl_tile::{Resource, SourceFault};
+
+/// A resource that a source has not got, and why.
+#[derive(Clone, Copy, Debug, PartialEq, Eq)]
+pub struct Lack {
+    /// The resource that was asked for.
+    pub resource: Resource,
+    /// Why it didn't come.
+    pub why: DeviceFault,
+}
+
+// What the caller of a source is told.
+fn told_as(why: DeviceFault) -> SourceFault
+    ensures { result ≡ after_device why }
+{
+    match why {
+        DeviceFault::OutOfMemory => SourceFault::OutOfMemory,
+        _ => SourceFault::Unavailable,
+    }
+}
+
+/// What the last call of a source lacked. No clause tells of it.
+#[derive(Drop)]
+pub(crate) struct LastLack {
+    last: Cell<Option<Lack>>,
+}
+
+impl LastLack {
+    /// No call yet.
+    pub(crate) fn new() -> LastLack {
+        LastLack {
+            last: Cell::new(None),
+        }
+    }
+
+    /// What the last call lacked, if it lacked anything.
+    pub(crate) fn get(&self) -> Option<Lack> {
+        self.last.get()
+    }
+
+    /// Notes what came of a call for a resource.
+    pub(crate) fn note<T: Drop>(
+        &self,
+        resource: &Resource,
+        outcome: Result<T, DeviceFault>,
+    ) -> Result<T, SourceFault>
+        ensures { NotedAs outcome result }
+    {
+        match outcome {
+            Ok(found) => {
+                self.last.set(None);
+                Ok(found)
+            }
+            Err(why) => {
+                self.last.set(Some(Lack {
+                    resource: *resource,
+                    why,
+                }));
+                Err(told_as(why))
+            }
+        }
+    }
+}
