@@ -71,10 +71,15 @@ refused_two may_have policy what two fault o are (inr (fair, printed)) =
     inr (fair, some_map (λ text. text ≡ evidence_text two.last two.note) (MayPrint may_have policy what) o (λ t is. (two, are, inr is)) printed)
 
 -- what is printed of a log that goes on, after nothing was
-pub fetched_two : (may_have : Option Bytes → Type 0) (policy : Policy) (what : FetchRequest) (two : Two) (o p : Passage) → AreTwo may_have policy two → IsGrown two.old two.new
-    → GoesOn o p → IsUnwritten o → PrintedWhole (IsWanted policy.origin two.old.size two.new what) p → HasFetched may_have policy what (joined o p)
-fetched_two may_have policy what two o p are grown on none printed =
-    record { two = two; are = are; grown = grown; printed = silent_whole (IsWanted policy.origin two.old.size two.new what) o p on none printed }
+pub fetched_two : (may_have : Option Bytes → Type 0) (has_kept : Bytes → Type 0) (policy : Policy) (what : FetchRequest) (two : Two) (o p : Passage) → AreTwo may_have policy two → IsGrown two.old two.new
+    → GoesOn o p → IsUnwritten o → PrintedWhole (IsWanted policy.origin two.old.size two.new what) p → has_kept two.note → HasFetched may_have has_kept policy what (joined o p)
+fetched_two may_have has_kept policy what two o p are grown on none printed kept =
+    record { two = two; are = are; grown = grown; printed = silent_whole (IsWanted policy.origin two.old.size two.new what) o p on none printed; kept = kept }
+
+-- the same, whatever is kept
+pub fetched_any : (may_have : Option Bytes → Type 0) (has_kept : Bytes → Type 0) (policy : Policy) (what : FetchRequest) (o : Passage) → HasFetched may_have has_kept policy what o
+    → HasFetched may_have (λ note. Unit {0}) policy what o
+fetched_any may_have has_kept policy what o f = record { two = f.two; are = f.are; grown = f.grown; printed = f.printed; kept = tt }
 
 pub begun_two : (may_have : Option Bytes → Type 0) (policy : Policy) (what : FetchRequest) (two : Two) (fault : FetchFault) (o p : Passage) → AreTwo may_have policy two
     → IsGrown two.old two.new → GoesOn o p → IsUnwritten o → IsNoAccusation fault → PrintedSome (IsBegun policy.origin two.old.size two.new what) p

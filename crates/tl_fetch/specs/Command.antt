@@ -1,6 +1,7 @@
 -- The command `fetch` (C2SP signed-note, "Verifier keys").
 use Rattle.std.specs.Prelude.{◌≡◌, ◌⊎◌, ℕ, [], ◌∷◌, List, Option, Some, None, Result, Ok, Err, map, string_bytes, vec_items, slice_index_or}
 use Rattle.tl_hash.specs.Bytes.{Bytes}
+use Rattle.tl_note.specs.Key.{Key}
 use Rattle.tl_key.specs.KeyText.{IsVerifierText}
 use Rattle.tl_key.specs.NoteKey.{PublicKey, note_kind, cosignature_kind, verifier_key}
 use Rattle.tl_key.specs.Reading.{IsNoVerifierText}
@@ -20,12 +21,24 @@ witness_texts options = map string_bytes (vec_items options.witnesses)
 abbrev pub witness_text : FetchOptions → ℕ → Bytes
 witness_text options place = slice_index_or (witness_texts options) place []
 
--- whose checkpoints are trusted: the log's, of the key that was told, where so many witnesses cosigned them
+-- the key is that of a witness whose verifier's key a text is of
+abbrev pub IsWitness : Bytes → Key → Type 0
+IsWitness text key = (k : PublicKey) × IsVerifierText cosignature_kind text k × (key ≡ verifier_key k)
+
+-- the keys are those of the witnesses that the texts are of, one each, in their order
+abbrev pub AreWitnesses : List Bytes → List Key → Type 0
+AreWitnesses [] [] = Unit {0}
+AreWitnesses (text ∷ texts) (key ∷ keys) = IsWitness text key × AreWitnesses texts keys
+AreWitnesses texts keys = ⊥
+
+-- whose checkpoints are trusted: the log's, of the key that was told, where so many of the witnesses that were told
+-- cosigned them
 pub record IsPolicyOf (options : FetchOptions) (policy : Policy) : Type 0 where
   pub key : PublicKey
   pub spelled : IsVerifierText note_kind (string_bytes options.key) key
   pub origin : policy.origin ≡ key.name
   pub keys : policy.trust.keys ≡ verifier_key key ∷ []
+  pub witnesses : AreWitnesses (witness_texts options) policy.trust.witnesses
   pub need : policy.trust.need ≡ options.need
 
 -- what the state may have: without a file nothing, and a file may have anything
@@ -35,7 +48,7 @@ may_have (Some path) had = Unit {0}
 
 -- a run under a policy
 abbrev pub RunsUnder : Policy → FetchOptions → Passage → Result (Unit {0}) FetchFault → Type 0
-RunsUnder policy options o (Ok done) = HasFetched (may_have options.state) policy options.wanted o
+RunsUnder policy options o (Ok done) = HasFetched (may_have options.state) (λ note. Unit {0}) policy options.wanted o
 RunsUnder policy options o (Err fault) = RefusesFetch (may_have options.state) policy options.wanted fault o
 
 -- reading the log's key fails: the text is of no key, or memory ran out

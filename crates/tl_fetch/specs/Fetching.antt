@@ -30,12 +30,13 @@ abbrev pub evidence_text : Option Bytes → Bytes → Bytes
 evidence_text None note = note
 evidence_text (Some last) note = last ++ note
 
--- what is wanted was printed of a log that is trusted, and that goes on from what was known
-pub record HasFetched (may_have : Option Bytes → Type 0) (policy : Policy) (what : FetchRequest) (o : Passage) : Type 0 where
+-- what is wanted was printed of a log that is trusted, and that goes on from what was known; and its note is kept now
+pub record HasFetched (may_have : Option Bytes → Type 0) (has_kept : Bytes → Type 0) (policy : Policy) (what : FetchRequest) (o : Passage) : Type 0 where
   pub two : Two
   pub are : AreTwo may_have policy two
   pub grown : IsGrown two.old two.new
   pub printed : PrintedWhole (IsWanted policy.origin two.old.size two.new what) o
+  pub kept : has_kept two.note
 
 -- ---- why nothing is fetched, or not all
 

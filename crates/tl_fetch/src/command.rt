@@ -1,11 +1,11 @@
 //! The command `fetch`.
 
-ghost use Rattle.std.specs.Prelude.{◌≡◌, ◌⊎◌, ◌<◌, ◌∷◌, [], string_bytes, IfErr, IfOk, MatchOption, length, map, vec_items};
+ghost use Rattle.std.specs.Prelude.{◌≡◌, ◌⊎◌, ◌<◌, ◌≤◌, ◌∷◌, [], string_bytes, IfErr, IfOk, MatchOption, length, map, take, vec_items};
 ghost use Rattle.tl_device.specs.Device.{passage};
 ghost use Rattle.tl_key.specs.KeyText.{IsVerifierText};
 ghost use Rattle.tl_key.specs.NoteKey.{PublicKey, cosignature_kind, note_kind, verifier_key};
 ghost use Rattle.tl_key.specs.Reading.{IsNoVerifierText};
-ghost use Rattle.tl_fetch.specs.Command.{IsKeyFault, RunsFetch, RunsUnder};
+ghost use Rattle.tl_fetch.specs.Command.{AreWitnesses, IsKeyFault, RunsFetch, RunsUnder, witness_text, witness_texts};
 ghost use Rattle.tl_fetch.specs.Faults.{IsNoAccusation};
 ghost use Rattle.tl_fetch.specs.Inner.Naming.{Renames};
 ghost use Rattle.tl_fetch.specs.Trusting.{policy_of};
@@ -71,6 +71,8 @@ fn witness_key(
     place: usize,
 ) -> Result<CosignerVerifier<Global>, FetchFault>
     requires { place < length (vec_items options.now.witnesses) }
+    ensures read { IfOk result
+        (λ k. IsVerifierText cosignature_kind (witness_text options.now place) k) }
     ensures refused { IfErr result (IsKeyFault options.now) }
 {
     match read_witness(alloc, options.witnesses[place].as_str())? {
@@ -211,15 +213,63 @@ fn fetch_as_told<'s, H: Files<File = File> + Net<Stream = TcpStream> + Clock, W:
     errors: &'s mut Counted<E>,
     is_terminal: bool,
 ) -> Result<(), FetchFault>
-    requires { (k : PublicKey) × IsVerifierText note_kind (string_bytes options.now.key) k
+    requires log { (k : PublicKey) × IsVerifierText note_kind (string_bytes options.now.key) k
         × (policy.now.origin.now ≡ k.name) × (map (λ v. key v) policy.now.log.now
         ≡ verifier_key k ∷ []) × (policy.now.need ≡ options.now.need) }
+    requires witnesses { AreWitnesses
+        (witness_texts options.now) (map (λ w. key w) policy.now.witnesses.now) }
     ensures { RunsFetch options.now (passage W.contents writer.old writer.new) result }
 {
     match fetch_as_asked(rt, alloc, policy, options, writer, errors, is_terminal) {
         Ok(()) => Ok(()),
         Err(fault) => Err(fault),
     }
+}
+
+// Reads the keys of the witnesses after these, one by one, and fetches then. (Each key is boxed by a call that hands its
+// box to the next one: no contract speaks of a box that its own function made.)
+fn fetch_with<'s, H: Files<File = File> + Net<Stream = TcpStream> + Clock, W: Write, E: Write>(
+    rt: &'s H,
+    alloc: Global,
+    origin: &str,
+    log: &[Box<dyn Verifier>],
+    witnesses: Vec<Box<dyn Verifier>>,
+    options: &'s FetchOptions,
+    writer: &mut Counted<W>,
+    errors: &'s mut Counted<E>,
+    is_terminal: bool,
+) -> Result<(), FetchFault>
+    requires log { (k : PublicKey) × IsVerifierText note_kind (string_bytes options.now.key) k
+        × (origin.now ≡ k.name) × (map (λ v. key v) log.now ≡ verifier_key k ∷ []) }
+    requires witnesses { AreWitnesses (take (length witnesses.items) (witness_texts options.now))
+        (map (λ w. key w) witnesses.items) }
+    requires some { length witnesses.items ≤ length (witness_texts options.now) }
+    ensures { RunsFetch options.now (passage W.contents writer.old writer.new) result }
+{
+    let place = witnesses.len();
+    if place == options.witnesses.len() {
+        let policy = Policy {
+            origin,
+            log,
+            witnesses: witnesses.as_slice(),
+            need: options.need,
+        };
+        return fetch_as_told(rt, alloc, &policy, options, writer, errors, is_terminal);
+    }
+    let key = witness_key(alloc, options, place)?;
+    let mut more = witnesses;
+    more.push(Box::new(alloc, key)?)?;
+    fetch_with(
+        rt,
+        alloc,
+        origin,
+        log,
+        more,
+        options,
+        writer,
+        errors,
+        is_terminal,
+    )
 }
 
 /// `fetch`: reads the keys of the log and of the witnesses (C2SP signed-note, "Verifier keys"), and fetches what is
@@ -238,16 +288,16 @@ pub fn run_fetch<'s, H: Files<File = File> + Net<Stream = TcpStream> + Clock, W:
     let key = read_log_key(alloc, options.key.as_str())?;
     let origin = String::from_str(alloc, key.name())?;
     let log: Box<dyn Verifier> = Box::new(alloc, key)?;
-    let mut witnesses: Vec<Box<dyn Verifier>> = Vec::new(alloc);
-    for place in 0..options.witnesses.len() {
-        let key = witness_key(alloc, options, place)?;
-        witnesses.push(Box::new(alloc, key)?)?;
-    }
-    let policy = Policy {
-        origin: origin.as_str(),
-        log: &[log],
-        witnesses: witnesses.as_slice(),
-        need: options.need,
-    };
-    fetch_as_told(rt, alloc, &policy, options, writer, errors, is_terminal)
+    let witnesses: Vec<Box<dyn Verifier>> = Vec::new(alloc);
+    fetch_with(
+        rt,
+        alloc,
+        origin.as_str(),
+        &[log],
+        witnesses,
+        options,
+        writer,
+        errors,
+        is_terminal,
+    )
 }

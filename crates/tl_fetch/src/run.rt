@@ -164,6 +164,7 @@ fn print_and_keep<S: ResourceSource, K: TrustStore, O: Observer, W: Write>(
     requires grown { IsGrown step.now.old.now step.now.new.now }
     ensures printed { OnOk result (PrintedWhole (IsWanted policy.now.origin.now
         step.now.old.now.size step.now.new.now wanted) (passage W.contents writer.old writer.new)) }
+    ensures kept { OnOk result (K.has_kept state.new step.now.note.now) }
     ensures part { OnErr result (PrintedSome (IsBegun policy.now.origin.now
         step.now.old.now.size step.now.new.now wanted) (passage W.contents writer.old writer.new)) }
     ensures fair { IfErr result IsNoAccusation }
@@ -198,7 +199,7 @@ pub fn fetch_under<S: ResourceSource, K: TrustStore, O: Observer, W: Write>(
     observer: &mut O,
     writer: &mut Counted<W>,
 ) -> Result<(), FetchFault>
-    ensures fetched { OnOk result (HasFetched (K.may_have state.old)
+    ensures fetched { OnOk result (HasFetched (K.may_have state.old) (K.has_kept state.new)
         (policy_of policy.now.origin.now (map (λ v. key v) policy.now.log.now)
         (map (λ w. key w) policy.now.witnesses.now) policy.now.need) wanted
         (passage W.contents writer.old writer.new)) }

@@ -6,13 +6,16 @@ use std::alloc::Global;
 
 /// Who keeps the signed checkpoint of a log that was trusted last.
 pub trait TrustStore {
-    ghost use Rattle.std.specs.Prelude.{IfErr, IfOk, Option, map, option_map, string_bytes};
+    ghost use Rattle.std.specs.Prelude.{IfErr, IfOk, OnOk, Option, map, option_map, string_bytes};
     ghost use Rattle.tl_hash.specs.Bytes.{Bytes};
     ghost use Rattle.tl_fetch.specs.Faults.{IsNoAccusation};
     ghost use Rattle.tl_fetch.specs.Trusting.{IsNext, policy_of};
 
     /// Which note it may have; none before the first one.
     ghost may_have: { Self → Option Bytes → Type 0 };
+
+    /// Whether a note is the one that was kept last, as far as it shows what it keeps.
+    ghost has_kept: { Self → Bytes → Type 0 };
 
     /// The note that was kept last.
     fn last(&self, alloc: Global) -> Result<Option<String>, FetchFault>
@@ -30,6 +33,7 @@ pub trait TrustStore {
         requires { IsNext (policy_of policy.now.origin.now (map (λ v. key v) policy.now.log.now)
             (map (λ w. key w) policy.now.witnesses.now) policy.now.need)
             (option_map (λ s. s.now) last) note.now }
+        ensures kept { OnOk result (has_kept self.new note.now) }
         ensures fault { IfErr result IsNoAccusation };
 }
 
@@ -41,6 +45,8 @@ impl TrustStore for NoState {
     ghost use Rattle.std.specs.Prelude.{◌≡◌, None};
 
     ghost may_have = { λ _ note. note ≡ None };
+
+    ghost has_kept = { λ _ _. Unit {0} };
 
     fn last(&self, _alloc: Global) -> Result<Option<String>, FetchFault> {
         Ok(None)

@@ -26,7 +26,11 @@ pub(crate) fn file_refusal(fault: DeviceFault) -> FetchFault
 pub struct FileState<'s, H: Files>(pub AtomicFile<'s, H>);
 
 impl<H: Files<File = File>> TrustStore for FileState<'_, H> {
+    ghost use Rattle.std.specs.Prelude.{◌≡◌};
+
     ghost may_have = { λ _ note. Unit {0} };
+
+    ghost has_kept = { λ s note. s.0 ≡ note };
 
     fn last(&self, alloc: Global) -> Result<Option<String>, FetchFault> {
         let bytes = match self.0.read(alloc, MOST) {

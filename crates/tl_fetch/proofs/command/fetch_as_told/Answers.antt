@@ -3,10 +3,17 @@ use Rattle.tl_fetch.proofs.command.fetch_as_told.Goals as goal
 
 pub returns-in-Ok : goal.returns-in-Ok
 returns-in-Ok g c =
-    let told = c.requires in
-    (_, record { key = told.0; spelled = told.1; origin = told.2; keys = told.3; need = told.4 }, c.in-Ok.ensures)
+    let told = c.requires.log in (
+      _,
+      record { key = told.0; spelled = told.1; origin = told.2; keys = told.3; witnesses = c.requires.witnesses; need = told.4 },
+      c.in-Ok.ensures,
+    )
 
 pub returns-in-Err : goal.returns-in-Err
 returns-in-Err g c =
-    let told = c.requires in
-    inl (_, record { key = told.0; spelled = told.1; origin = told.2; keys = told.3; need = told.4 }, c.in-Err.ensures)
+    let told = c.requires.log in
+    inl (
+      _,
+      record { key = told.0; spelled = told.1; origin = told.2; keys = told.3; witnesses = c.requires.witnesses; need = told.4 },
+      c.in-Err.ensures,
+    )

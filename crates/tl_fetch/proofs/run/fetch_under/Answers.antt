@@ -14,10 +14,10 @@ returns-in-Err-clause-refused g c =
 pub returns-in-Ok-clause-fetched : goal.returns-in-Ok-clause-fetched
 returns-in-Ok-clause-fetched g c =
     let last = option_map (λ s. s.now) c.as_deref-last.result in
-    fetched_two _ _ c.args.wanted (two_of last c.in_ok-old.old c.as_str-2.result.now c.in_ok-new.new) _ _
+    fetched_two _ _ _ c.args.wanted (two_of last c.in_ok-old.old c.as_str-2.result.now c.in_ok-new.new) _ _
     (are_two _ _ last _ _ _ _ _ c.as_deref-last.ensures.value (c.as_str.ensures.value ∙ sym c.as_str-2.ensures.value)
     c.in_ok-kept.ensures.had c.in_ok-old.ensures.known c.in_ok-new.ensures.trusted)
-    c.in_default.ensures.grown (record { bytes = refl; failed = refl }) c.in_default.ensures.silent c.in-Ok.ensures.printed
+    c.in_default.ensures.grown (record { bytes = refl; failed = refl }) c.in_default.ensures.silent c.in-Ok.ensures.printed c.in-Ok.ensures.kept
 
 pub returns-clause-refused : goal.returns-clause-refused
 returns-clause-refused g c =
