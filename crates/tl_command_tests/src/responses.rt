@@ -33,7 +33,7 @@ fn response<A: Allocator + Copy>(
 // A limit of the body, the body or the fault that is given, and the response.
 type Row = (usize, Result<&'static [u8], GetFault>, &'static [u8]);
 
-const ROWS: [Row; 32] = [
+const ROWS: [Row; 35] = [
     (
         5,
         Ok(b"hello"),
@@ -158,8 +158,23 @@ const ROWS: [Row; 32] = [
     ),
     (
         10,
-        Err(GetFault::Encoded),
+        Ok(b"hello"),
         b"HTTP/1.1 200 OK\r\nTransfer-Encoding: chunked\r\n\r\n5\r\nhello\r\n0\r\n\r\n",
+    ),
+    (
+        10,
+        Err(GetFault::BadChunk),
+        b"HTTP/1.1 200 OK\r\nTransfer-Encoding: chunked\r\n\r\n5\r\nhello0\r\n\r\n",
+    ),
+    (
+        10,
+        Err(GetFault::TooLarge),
+        b"HTTP/1.1 200 OK\r\nTransfer-Encoding: chunked\r\n\r\n5\r\nhello\r\n6\r\n",
+    ),
+    (
+        10,
+        Ok(b"hello"),
+        b"HTTP/1.1 103 Early Hints\r\n\r\nHTTP/1.1 200 OK\r\n\r\nhello",
     ),
     (
         10,

@@ -1,5 +1,5 @@
 -- What was read of a body decides.
-use Rattle.std.proofs.Common.{◌≡◌, ◌<◌, ◌≤◌, ℕ, List, [], ◌∷◌, ◌++◌, Option, None, Err, Bool, false, append_assoc, ap, arith, drop, inl, inr, length, length-append, refl, sym, take, ◌∙◌}
+use Rattle.std.proofs.Common.{◌≡◌, ◌<◌, ◌≤◌, ℕ, List, [], ◌∷◌, ◌++◌, Option, Err, Bool, false, append_assoc, ap, arith, drop, inl, inr, length, length-append, refl, sym, take, ◌∙◌}
 use Rattle.std.proofs.KnownBytes.{Consumes-trans}
 use Rattle.std.proofs.lemmas.List.{length-take-le}
 use Rattle.std.specs.Io.KnownBytes.{Consumes}
@@ -8,6 +8,7 @@ use Rattle.tl_get.specs.Get.{Receives}
 use Rattle.tl_get.specs.Response.{BodyDecides}
 use Rattle.tl_get.specs.Inner.Bodies.{GrownBody, FullBody, SomeBody}
 use Rattle.tl_get.specs.declared.fault.GetFault.TheVariants.{TooLarge}
+use Rattle.tl_get.specs.declared.framing.Framing.TheVariants.{UntilEnd}
 use Rattle.tl_device.proofs.SendingLemmas.{over}
 
 -- bytes were read, and then more
@@ -43,7 +44,7 @@ full_on begun bytes more rest body n same joined =
 
 -- the input has more bytes than the limit
 pub rest_past : (a b c : Option (List ℕ)) (f g h : Bool) (begun body : List ℕ) (limit : ℕ)
-    → FullBody (over a b f g) begun limit body → (x : ℕ) × Gave (over b c g h) (x ∷ []) false → Receives (λ rest r. BodyDecides limit None (begun ++ rest) r) (over a c f h) (Err TooLarge)
+    → FullBody (over a b f g) begun limit body → (x : ℕ) × Gave (over b c g h) (x ∷ []) false → Receives (λ rest r. BodyDecides limit UntilEnd (begun ++ rest) r) (over a c f h) (Err TooLarge)
 rest_past a b c f g h begun body limit came then = inr (record {
   bytes = came.bytes ++ then.0 ∷ [];
   ended = false;
@@ -56,5 +57,5 @@ rest_past a b c f g h begun body limit came then = inr (record {
 })
 
 -- more bytes than the limit came with the head
-pub begun_past : (begun rest : List ℕ) (limit : ℕ) → limit < length begun → BodyDecides limit None (begun ++ rest) (Err TooLarge)
+pub begun_past : (begun rest : List ℕ) (limit : ℕ) → limit < length begun → BodyDecides limit UntilEnd (begun ++ rest) (Err TooLarge)
 begun_past begun rest limit past = inr (inl ((λ fits. absurd (omega (arith, length-append begun rest, past, fits))), refl))

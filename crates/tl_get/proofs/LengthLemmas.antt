@@ -3,7 +3,7 @@ use Rattle.std.proofs.Common.{◌≡◌, ◌≢◌, ◌∙◌, ℕ, List, [], �
 use Rattle.tl_get.specs.Fields.{AnnouncesLength, IsLength}
 
 -- a text writes one number
-one_number : (text : List ℕ) (m n : ℕ) → IsLength m text → IsLength n text → m ≡ n
+pub one_number : (text : List ℕ) (m n : ℕ) → IsLength m text → IsLength n text → m ≡ n
 one_number text m n a b = sym a.written.value ∙ b.written.value
 
 -- one value more, where the others aren't clear

@@ -1,5 +1,15 @@
 pub mod HeadLaws
 pub mod LengthLemmas
+pub mod FramingLemmas
 pub mod RequestLemmas
 pub mod BodyLemmas
+pub mod TakingLemmas
+pub mod WindowLemmas
+pub mod ChunkLineLemmas
+pub mod DataLemmas
+pub mod ChunkLemmas
+pub mod ChunkLaws
+pub mod PassedLemmas
 pub mod ExchangeLemmas
+pub mod ResponseLaws
+pub mod Fits

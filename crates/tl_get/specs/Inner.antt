@@ -4,6 +4,10 @@ pub
 pub
     mod Heads
 pub
-    mod Lengths
+    mod Framings
 pub
     mod Bodies
+pub
+    mod Taking
+pub
+    mod ChunkReads

@@ -5,15 +5,16 @@ ghost use Rattle.httparse.specs.Spans.{IsResponseWithin, header_bytes};
 ghost use Rattle.tl_get.specs.Inner.Heads.{Announces};
 
 use crate::fault::GetFault;
-use crate::fields::{has_no_coding, lacks_field, length_in};
+use crate::fields::has_no_coding;
+use crate::framing::{Framing, framing_in};
 use httparse::spans::{HeaderSpan, ResponseSpans};
 
-/// The length of the body that the head at the front of these bytes announces, or why none is taken.
+/// How the body is framed that the head at the front of these bytes announces, or why none is taken.
 pub(crate) fn announced(
     bytes: &[u8],
     headers: &[HeaderSpan],
     spans: ResponseSpans,
-) -> Result<Option<u64>, GetFault>
+) -> Result<Framing, GetFault>
     requires { IsResponseWithin bytes.now headers.now spans }
     ensures { Announces spans.version spans.code
         (map (header_bytes bytes.now) (take spans.headers headers.now)) result }
@@ -25,11 +26,11 @@ pub(crate) fn announced(
         return Err(GetFault::Status(spans.code));
     }
     let fields = &headers[..spans.headers];
-    if !lacks_field(bytes, fields, b"Transfer-Encoding") {
-        return Err(GetFault::Encoded);
-    }
     if !has_no_coding(bytes, fields) {
         return Err(GetFault::Encoded);
     }
-    length_in(bytes, fields)
+    match framing_in(bytes, fields, spans.version) {
+        Err(fault) => Err(fault),
+        Ok(framing) => Ok(framing),
+    }
 }

@@ -1,18 +1,20 @@
 //! Reading the body of a response.
 
-ghost use Rattle.std.specs.Prelude.{◌≡◌, ◌+◌, ◌<◌, ◌≤◌, ◌++◌, Some, None, OnOk, OnErr, length, vec_len, vec_capacity};
+ghost use Rattle.std.specs.Prelude.{◌≤◌, ◌++◌, length};
 ghost use Rattle.tl_device.specs.Device.{passage};
 ghost use Rattle.tl_get.specs.Get.{Receives};
 ghost use Rattle.tl_get.specs.Response.{BodyDecides, outcome};
 ghost use Rattle.tl_get.specs.Inner.Bodies.{ReadsUpTo, TellsEnd};
+ghost use Rattle.tl_get.specs.declared.framing.Framing.TheVariants.{Sized, UntilEnd};
 
+use crate::chunks::read_chunks;
 use crate::fault::GetFault;
-use std::alloc::{AllocError, Allocator};
+use crate::framing::Framing;
+use crate::growth::append;
+use crate::window::BLOCK;
+use std::alloc::Allocator;
 use std::io::Read;
 use tl_device::Counted;
-
-// The most bytes of one read.
-const BLOCK: usize = 16_384;
 
 // What came of reading a body.
 #[derive(Drop)]
@@ -25,45 +27,6 @@ pub(crate) enum Body<A: Allocator> {
     Ended(Vec<u8, A>),
     // As many bytes as were wanted.
     Full(Vec<u8, A>),
-}
-
-// Makes room for so many bytes more of a body that is to have at most `most`. The room doubles, up to those.
-fn make_room<A: Allocator + Copy>(
-    alloc: A,
-    body: &mut Vec<u8, A>,
-    more: usize,
-    most: usize,
-) -> Result<(), AllocError>
-    requires { vec_len body.old + more ≤ most }
-    ensures kept { OnOk result (body.new.items ≡ body.old.items) }
-    ensures room { OnOk result (vec_len body.new + more ≤ vec_capacity body.new) }
-    ensures refused { OnErr result (0 < more) }
-{
-    let len = body.len() + more;
-    if len <= body.capacity() {
-        return Ok(());
-    }
-    let room = body.capacity().saturating_mul(2).max(len).min(most);
-    let mut larger = Vec::with_capacity(alloc, room)?;
-    larger.extend_from_slice(body.as_slice())?;
-    *body = larger;
-    Ok(())
-}
-
-// Appends bytes to a body that is to have at most `most`.
-fn append<A: Allocator + Copy>(
-    alloc: A,
-    body: &mut Vec<u8, A>,
-    bytes: &[u8],
-    most: usize,
-) -> Result<(), AllocError>
-    requires { vec_len body.old + length bytes.now ≤ most }
-    ensures appended { OnOk result (body.new.items ≡ body.old.items ++ bytes.now) }
-    ensures len { OnOk result (vec_len body.new ≡ vec_len body.old + length bytes.now) }
-    ensures refused { OnErr result (0 < length bytes.now) }
-{
-    make_room(alloc, body, bytes.len(), most)?;
-    body.extend_from_slice(bytes)
 }
 
 // Reads a body up to so many bytes, of which the first may have come with the head. It grows as they come.
@@ -114,7 +77,7 @@ fn read_sized<A: Allocator + Copy, I: Read>(
     begun: &[u8],
     len: usize,
 ) -> Result<Vec<u8, A>, GetFault>
-    ensures { Receives (λ rest r. BodyDecides len (Some len) (begun.now ++ rest) r)
+    ensures { Receives (λ rest r. BodyDecides len (Sized len) (begun.now ++ rest) r)
         (passage I.remaining reader.old reader.new) (outcome result) }
 {
     match read_up_to(alloc, reader, begun, len) {
@@ -132,7 +95,7 @@ fn read_rest<A: Allocator + Copy, I: Read>(
     begun: &[u8],
     limit: usize,
 ) -> Result<Vec<u8, A>, GetFault>
-    ensures { Receives (λ rest r. BodyDecides limit None (begun.now ++ rest) r)
+    ensures { Receives (λ rest r. BodyDecides limit UntilEnd (begun.now ++ rest) r)
         (passage I.remaining reader.old reader.new) (outcome result) }
 {
     if begun.len() > limit {
@@ -156,15 +119,17 @@ pub(crate) fn read_body<A: Allocator + Copy, I: Read>(
     alloc: A,
     reader: &mut Counted<I>,
     begun: &[u8],
-    length: Option<u64>,
+    framing: Framing,
     limit: usize,
 ) -> Result<Vec<u8, A>, GetFault>
-    ensures { Receives (λ rest r. BodyDecides limit length (begun.now ++ rest) r)
+    requires { length begun.now ≤ 16384 }
+    ensures { Receives (λ rest r. BodyDecides limit framing (begun.now ++ rest) r)
         (passage I.remaining reader.old reader.new) (outcome result) }
 {
-    match length {
-        None => read_rest(alloc, reader, begun, limit),
-        Some(n) if n > limit as u64 => Err(GetFault::TooLarge),
-        Some(n) => read_sized(alloc, reader, begun, n as usize),
+    match framing {
+        Framing::UntilEnd => read_rest(alloc, reader, begun, limit),
+        Framing::Sized(n) if n > limit as u64 => Err(GetFault::TooLarge),
+        Framing::Sized(n) => read_sized(alloc, reader, begun, n as usize),
+        Framing::Chunked => read_chunks(alloc, reader, begun, limit),
     }
 }

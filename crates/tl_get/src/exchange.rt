@@ -29,21 +29,21 @@ fn read_response<A: Allocator + Copy, I: Read>(
     match read_head(reader, &mut buf, &mut headers) {
         HeadRead::Failed => Err(GetFault::Read),
         HeadRead::Missing => Err(GetFault::NoHead),
-        HeadRead::Head(len, spans) => {
-            let bytes = &buf[..len];
+        HeadRead::Head(start, len, spans) => {
+            let bytes = &buf[start..len];
             match announced(bytes, &headers, spans) {
                 Err(fault) => Err(fault),
-                Ok(length) => read_body(alloc, reader, &bytes[spans.len..], length, limit),
+                Ok(framing) => read_body(alloc, reader, &bytes[spans.len..], framing, limit),
             }
         }
     }
 }
 
-/// Asks a host for a target over HTTP/1.1 by GET, and gives the body of the response with status 200: its
-/// `Content-Length` bytes, or without that field all up to the end of the input, at most `limit` bytes (RFC 9110,
-/// section 9.3.1; RFC 9112, section 6.3). `GetFault` says in its order when there is none. No redirect is followed,
-/// and no coding taken. The body grows as it comes, whatever `Content-Length` says. The connection is of no use after
-/// it.
+/// Asks a host for a target over HTTP/1.1 by GET, and gives the body of the response with status 200, at most `limit`
+/// bytes: the data of its chunks, its `Content-Length` bytes, or else all up to the end of the input (RFC 9110, section
+/// 9.3.1; RFC 9112, sections 6.3 and 7.1). `GetFault` says in its order when there is none. Interim responses are
+/// passed over, no redirect followed, no coding taken. The body grows as it comes. No trailers are read; the connection
+/// is of no use then.
 pub fn get<A: Allocator + Copy, I: Read, O: Write>(
     alloc: A,
     reader: &mut Counted<I>,

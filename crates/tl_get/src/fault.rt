@@ -7,7 +7,8 @@ use std::alloc::AllocError;
 use thiserror::Error;
 use tl_device::WriteFault;
 
-/// Why a request gives no body, in the order in which the refusals are checked.
+/// Why a request gives no body, in the order in which the refusals are checked. Those of a body come as it is read, and
+/// the first that is met is told.
 #[derive(Clone, Copy, Debug, PartialEq, Eq, Error)]
 pub enum GetFault {
     /// Host and target can't be asked for. Nothing was written or read.
@@ -19,7 +20,8 @@ pub enum GetFault {
     /// A read failed.
     #[error("read failed")]
     Read,
-    /// The input doesn't begin with the head of a response, of at most 8,192 bytes and 64 fields.
+    /// The input doesn't begin with the head of a response, after interim ones or none, of at most 8,192 bytes together
+    /// and 64 fields each.
     #[error("the answer is no response over HTTP/1.0 or HTTP/1.1")]
     NoHead,
     /// The response is of a later version than HTTP/1.1.
@@ -28,18 +30,24 @@ pub enum GetFault {
     /// The response has this status, which isn't 200.
     #[error("the response has status {0}")]
     Status(u16),
-    /// The response has a field Transfer-Encoding, or Content-Encoding and not `identity` once.
+    /// The response has fields Transfer-Encoding and not `chunked` once over HTTP/1.1, or Content-Encoding and not
+    /// `identity` once.
     #[error("the body is encoded")]
     Encoded,
-    /// The fields Content-Length of the response aren't one decimal number below 2^63.
+    /// The fields Content-Length of the response aren't one decimal number below 2^63, or one comes beside
+    /// Transfer-Encoding.
     #[error("the length of the body isn't clear")]
     BadLength,
-    /// The body has more bytes than the limit.
+    /// The body has more bytes than the limit. Of chunks this is told by the line of the first one that would pass it.
     #[error("the body is too large")]
     TooLarge,
-    /// The input ended before Content-Length bytes of the body.
+    /// The input ended before Content-Length bytes of the body, or before the line of the last chunk.
     #[error("the body is cut short")]
     Short,
+    /// A chunk's line isn't 1 to 16 hexadecimal digits, an extension or none, and CR LF, in 256 bytes; or no CR LF
+    /// follows a chunk's data.
+    #[error("a chunk of the body isn't well formed")]
+    BadChunk,
     /// A growth was refused.
     #[error("out of memory")]
     OutOfMemory,

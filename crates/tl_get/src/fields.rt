@@ -4,8 +4,8 @@ ghost use Rattle.std.specs.Prelude.{◌≡◌, ℕ, List, [], ◌∷◌, ◌↔�
 ghost use Rattle.httparse.specs.Spans.{IsHeaderWithin, header_bytes};
 ghost use Rattle.tl_hash.specs.Bytes.{Bytes};
 ghost use Rattle.tl_http.specs.Fields.{values_of};
-ghost use Rattle.tl_get.specs.Fields.{IsIdentity, IsLength};
-ghost use Rattle.tl_get.specs.Inner.Lengths.{SaysLength};
+ghost use Rattle.tl_get.specs.Fields.{IsChunked, IsIdentity, IsLength};
+ghost use Rattle.tl_get.specs.Inner.Framings.{SaysLength};
 
 use crate::fault::GetFault;
 use httparse::spans::HeaderSpan;
@@ -31,6 +31,19 @@ pub(crate) fn has_no_coding(buf: &[u8], headers: &[HeaderSpan]) -> bool
     match values_in(buf, headers, b"Content-Encoding") {
         Values::None => true,
         Values::One(value) => value.eq_ignore_ascii_case(b"identity"),
+        Values::More => false,
+    }
+}
+
+/// Whether one field Transfer-Encoding is there, which says that the body comes in chunks.
+pub(crate) fn is_chunked(buf: &[u8], headers: &[HeaderSpan]) -> bool
+    requires { All (IsHeaderWithin (length buf.now)) headers.now }
+    ensures { IsTrue result ↔ IsChunked
+        (values_of (codes "Transfer-Encoding") (map (header_bytes buf.now) headers.now)) }
+{
+    match values_in(buf, headers, b"Transfer-Encoding") {
+        Values::None => false,
+        Values::One(value) => value.eq_ignore_ascii_case(b"chunked"),
         Values::More => false,
     }
 }

@@ -1,7 +1,8 @@
 //! Reading the head of a response.
 
-ghost use Rattle.std.specs.Prelude.{◌≡◌, length};
+ghost use Rattle.std.specs.Prelude.{◌≡◌, ◌↔◌, IsTrue, length};
 ghost use Rattle.tl_device.specs.Device.{passage};
+ghost use Rattle.tl_get.specs.Response.{IsInterimStatus};
 ghost use Rattle.tl_get.specs.Inner.Heads.{Parses, ReadsHead};
 
 use httparse::Status;
@@ -9,7 +10,7 @@ use httparse::spans::{HeaderSpan, ResponseSpans, parse_response};
 use std::io::Read;
 use tl_device::Counted;
 
-/// The most bytes of a head.
+/// The most bytes of a head and the interim ones before it.
 pub(crate) const MOST_HEAD: usize = 8192;
 
 /// The most fields of a head.
@@ -22,8 +23,8 @@ pub(crate) enum HeadRead {
     Failed,
     /// No head within the limits.
     Missing,
-    /// A head, with how many bytes were read in all and where its parts are among them.
-    Head(usize, ResponseSpans),
+    /// A head, with where it begins, how many bytes were read in all, and where its parts are from its beginning on.
+    Head(usize, usize, ResponseSpans),
 }
 
 // What the parser says of bytes.
@@ -49,7 +50,14 @@ fn parse(bytes: &[u8], headers: &mut [HeaderSpan]) -> Parsed
     }
 }
 
-/// Reads until the bytes begin with a head, can begin with none, are as many as a head may have, or end.
+// Whether a response with this status comes before another one, and changes no protocol.
+fn is_interim(status: u16) -> bool
+    ensures { IsTrue result ↔ IsInterimStatus status }
+{
+    status >= 100 && status < 200 && status != 101
+}
+
+/// Reads until the bytes hold a head after interim ones, can hold none, are as many as they may be, or end.
 pub(crate) fn read_head<I: Read>(
     reader: &mut Counted<I>,
     buf: &mut [u8],
@@ -59,21 +67,31 @@ pub(crate) fn read_head<I: Read>(
     requires fields { length headers.old ≡ 64 }
     ensures { ReadsHead (passage I.remaining reader.old reader.new) buf.new headers.new result }
 {
+    let mut start = 0;
     let mut len = 0;
-    while len < buf.len() {
-        let n = match reader.read_some(&mut buf[len..]) {
-            None => return HeadRead::Failed,
-            Some(n) => n,
-        };
-        if n == 0 {
+    'heads: loop {
+        match parse(&buf[start..len], headers) {
+            Parsed::Refused => return HeadRead::Missing,
+            Parsed::Whole(spans) => {
+                if !is_interim(spans.code) {
+                    return HeadRead::Head(start, len, spans);
+                }
+                start += spans.len;
+                continue 'heads;
+            }
+            Parsed::Partial => {}
+        }
+        if len == buf.len() {
             return HeadRead::Missing;
         }
-        len += n;
-        match parse(&buf[..len], headers) {
-            Parsed::Whole(spans) => return HeadRead::Head(len, spans),
-            Parsed::Partial => {}
-            Parsed::Refused => return HeadRead::Missing,
+        match reader.read_some(&mut buf[len..]) {
+            None => return HeadRead::Failed,
+            Some(n) => {
+                if n == 0 {
+                    return HeadRead::Missing;
+                }
+                len += n;
+            }
         }
     }
-    HeadRead::Missing
 }

@@ -13,12 +13,16 @@
 
 mod announced;
 mod body;
+mod chunks;
 mod exchange;
 mod fault;
 mod fields;
+mod framing;
+mod growth;
 mod head;
 mod sending;
 mod target;
+mod window;
 
 pub use exchange::get;
 pub use fault::GetFault;

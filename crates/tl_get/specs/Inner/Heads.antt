@@ -1,16 +1,18 @@
 -- The steps of reading a head.
-use Rattle.std.specs.Prelude.{◌≡◌, ℕ, ◌≤◌, List, false, Option, Ok, Err, Result, length, take}
+use Rattle.std.specs.Prelude.{◌≡◌, ℕ, ◌≤◌, List, ◌++◌, false, All, Ok, Err, Result, length, slice_range, take}
+use Rattle.std.specs.List.{flat_map}
 use Rattle.httparse.specs.declared.spans.HeaderSpan.{HeaderSpan}
 use Rattle.httparse.specs.declared.spans.ResponseSpans.{ResponseSpans}
 use Rattle.httparse.specs.Spans.{IsResponseWithin, IsResponseOf, ResponseOverflows}
-use Rattle.httparse.specs.Grammar.{HasNoResponse}
+use Rattle.httparse.specs.Grammar.{HasNoResponse, ResponseHead, print_response}
 use Rattle.tl_device.specs.Device.{Passage, HasFailed}
 use Rattle.tl_hash.specs.Bytes.{Bytes}
-use Rattle.tl_get.specs.Fields.{HasLength, IsPlain}
+use Rattle.tl_get.specs.Fields.{HasFraming, IsPlain}
 use Rattle.tl_device.specs.Reading.{Gave}
 use Rattle.tl_get.specs.Get.{Came}
-use Rattle.tl_get.specs.Response.{Begins, Begun, HeadDecides}
+use Rattle.tl_get.specs.Response.{Begins, Begun, HeadDecides, IsInterim, IsInterimStatus}
 use Rattle.tl_get.specs.declared.fault.GetFault.{GetFault}
+use Rattle.tl_get.specs.declared.framing.Framing.{Framing}
 use Rattle.tl_get.specs.declared.head.Parsed.{Parsed}
 use Rattle.tl_get.specs.declared.head.Parsed.TheVariants.{Whole, Partial, Refused}
 use Rattle.tl_get.specs.declared.head.HeadRead.{HeadRead}
@@ -26,29 +28,38 @@ Parses bytes headers Refused = ResponseOverflows 64 bytes
 abbrev pub HasNoHead : Bytes → Type 0
 HasNoHead input = (b : Begun) → ¬ (Begins input b)
 
--- what was read is the first bytes of the buffer, and begins with a head
-pub record IsHeaded (i : Passage) (buf : Bytes) (headers : List HeaderSpan) (len : ℕ) (spans : ResponseSpans) : Type 0 where
+-- the first bytes of the buffer are interim heads, up to a place
+pub record Passed (buf : Bytes) (start len : ℕ) : Type 0 where
+  pub heads : List ResponseHead
+  pub interim : All IsInterim heads
+  pub joined : take len buf ≡ flat_map print_response heads ++ slice_range buf start len
+
+-- what was read is the first bytes of the buffer, which hold a head after interim ones
+pub record IsHeaded (i : Passage) (buf : Bytes) (headers : List HeaderSpan) (start len : ℕ) (spans : ResponseSpans) : Type 0 where
+  pub ordered : start ≤ len
   pub fits : len ≤ 8192
   pub room : length headers ≡ 64
   pub gave : Gave i (take len buf) false
-  pub within : IsResponseWithin (take len buf) headers spans
-  pub of : IsResponseOf (take len buf) headers spans
+  pub passed : Passed buf start len
+  pub within : IsResponseWithin (slice_range buf start len) headers spans
+  pub of : IsResponseOf (slice_range buf start len) headers spans
+  pub final : ¬ (IsInterimStatus spans.code)
 
 -- reading a head into a buffer of 8,192 bytes and a list of 64 spans
 abbrev pub ReadsHead : Passage → Bytes → List HeaderSpan → HeadRead → Type 0
 ReadsHead i buf headers Failed = HasFailed i
 ReadsHead i buf headers Missing = Came HasNoHead i
-ReadsHead i buf headers (Head len spans) = IsHeaded i buf headers len spans
+ReadsHead i buf headers (Head start len spans) = IsHeaded i buf headers start len spans
 
 -- what a head announces that is taken
-pub record IsTaken (minor status : ℕ) (fields : List (Bytes × Bytes)) (n : Option ℕ) : Type 0 where
+pub record IsTaken (minor status : ℕ) (fields : List (Bytes × Bytes)) (framing : Framing) : Type 0 where
   pub version : minor ≤ 1
   pub found : status ≡ 200
-  pub plain : IsPlain fields
-  pub announced : HasLength fields n
+  pub plain : IsPlain minor fields
+  pub framed : HasFraming fields framing
 
--- a head is taken with its length, or decides alone
-abbrev pub Announces : ℕ → ℕ → List (Bytes × Bytes) → Result (Option ℕ) GetFault → Type 0
-Announces minor status fields (Ok n) = IsTaken minor status fields n
+-- a head is taken with its framing, or decides alone
+abbrev pub Announces : ℕ → ℕ → List (Bytes × Bytes) → Result Framing GetFault → Type 0
+Announces minor status fields (Ok framing) = IsTaken minor status fields framing
 Announces minor status fields (Err fault) =
     (limit : ℕ) (rest : Bytes) → HeadDecides limit minor status fields rest (Err fault)

@@ -6,8 +6,8 @@ returns-in-Missing g c = no_head _ c.args.limit c.in-Missing.ensures
 
 pub returns-in-Err : goal.returns-in-Err
 returns-in-Err g c =
-    head_alone _ c.read_head.new.buf c.read_head.new.headers c.in-Head.len c.in-Head.spans c.args.limit c.in-Err.fault c.in-Head.ensures c.in-Err.ensures
+    head_alone _ c.read_head.new.buf c.read_head.new.headers c.in-Head.start c.in-Head.len c.in-Head.spans c.args.limit c.in-Err.fault c.in-Head.ensures c.in-Err.ensures
 
 pub returns-in-Ok : goal.returns-in-Ok
 returns-in-Ok g c =
-    body_after _ _ _ _ _ _ c.read_head.new.buf c.read_head.new.headers c.in-Head.len c.in-Head.spans c.args.limit c.in-Ok.length _ c.in-Head.ensures c.in-Ok.ensures c.read_body.ensures
+    body_after _ _ _ _ _ _ c.read_head.new.buf c.read_head.new.headers c.in-Head.start c.in-Head.len c.in-Head.spans c.args.limit c.in-Ok.framing _ c.in-Head.ensures c.in-Ok.ensures c.read_body.ensures

@@ -4,7 +4,7 @@ use Rattle.std.specs.Str.{str_eq_ignore_ascii_case}
 use Rattle.std.proofs.lemmas.Slice.Eq.{bytes_eq-Decides}
 use Rattle.httparse.specs.Spans.{header_bytes}
 use Rattle.tl_http.specs.Fields.{values_of}
-use Rattle.tl_get.specs.Inner.Lengths.{SaysLength}
+use Rattle.tl_get.specs.Inner.Framings.{SaysLength}
 use Rattle.tl_http.proofs.FieldLemmas.{values_skip, values_keep, no_span, same_test}
 use Rattle.tl_get.proofs.fields.+length_in.Goals as goal
 
