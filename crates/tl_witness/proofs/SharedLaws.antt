@@ -1,9 +1,10 @@
 -- What a lock has had keeps what it began with.
-use Rattle.std.proofs.Common.{◌≡◌, ◌≤◌, ◌-◌, ℕ, List, [], ◌∷◌, ◌++◌, inl, inr, refl, sym, ap, subst, ◌∙◌, map, take, drop, length, append_assoc, arith, Ok, Err}
+use Rattle.std.proofs.Common.{◌≡◌, ◌≤◌, ◌-◌, ℕ, List, [], ◌∷◌, ◌++◌, inl, inr, refl, sym, ap, subst, ◌∙◌, map, take, drop, length, append_assoc, append-nil, arith, Ok, Err}
 use Rattle.std.specs.Prelude.{Result, IfOk, OnErr}
 use Rattle.std.proofs.lemmas.List.{map-append, take_rest, take_all, drop-map, take-map, length-drop, length-map}
 use Rattle.tl_hash.specs.Bytes.{Digest}
 use mathlib.Core.List.{IsPrefix}
+use Rattle.tl_note.specs.Key.{Key, SigningKey}
 use Rattle.tl_proof.specs.Acceptance.{Step}
 use Rattle.tl_proof.specs.Laws.{MadeOfHashes}
 use Rattle.tl_witness.specs.Book.{IsPlacedIn, Placed}
@@ -13,6 +14,7 @@ use Rattle.tl_witness.specs.declared.finding.Found.{Found}
 use Rattle.tl_witness.specs.Inner.Finding.{IsFound, IsMalformed, IsOfOther}
 use Rattle.tl_witness.specs.Inner.Offer.{asked_by}
 use Rattle.tl_witness.specs.Runs.{IsLater, IsLaterBook, IsLaterChain}
+use Rattle.tl_witness.specs.Saver.{Saved}
 use Rattle.tl_witness.specs.Shared.{Answer, DecidesLater, DecidesShared, RefusesAnswer}
 use Rattle.tl_witness.specs.Witnessed.{Witnessed}
 use Rattle.tl_witness.proofs.ChainLaws.{linked-after}
@@ -26,6 +28,14 @@ later_chain H start now begins is =
 -- the same origin, with a chain that begins with what it had
 pub later_one : (H : Digest) (one : Witnessed) (now : List Step) → IsPrefix one.chain now → IsChain H now → IsLater H one (record one { chain = now })
 later_one H one now begins is = record { origin = refl; verifiers = refl; cosigner = refl; chain = later_chain H one.chain now begins is }
+
+-- the same of a chain that is known to be later
+pub later_with : (H : Digest) (one : Witnessed) (now : List Step) → IsLaterChain H one.chain now → IsLater H one (record one { chain = now })
+later_with H one now is = record { origin = refl; verifiers = refl; cosigner = refl; chain = is }
+
+-- what was left as it was begins with itself
+pub begins_same : {A : Type 0} (before now : List A) → before ≡ now → IsPrefix before now
+begins_same before now same = ([], append-nil before ∙ same)
 
 pub begins_longer : {A : Type 0} (start now more : List A) → IsPrefix start now → IsPrefix start (now ++ more)
 begins_longer start now more p = (p.0 ++ more, sym (append_assoc start p.0 more) ∙ ap (λ (w : List _). w ++ more) p.1)
@@ -42,6 +52,15 @@ pub begins_still : {X Y : Type 0} (H : Digest) (asked : Asked) (result : Result 
 begins_still H asked (Ok x) out start old new S p made decided failed before after =
     subst (IsPrefix start) (after x) (moved_begins H (out x) start (subst (IsPrefix start) (sym (before x)) p) (moves H asked (out x) made decided))
 begins_still H asked (Err y) out start old new S p made decided failed before after = subst (IsPrefix start) (sym failed.1) p
+
+-- a decision is one of the chains that these are
+pub decided_between : (H : Digest) (asked : Asked) (status : ℕ) (body : List ℕ) (saved saved_after : Saved) (origin : List ℕ) (verifiers : List Key) (cosigner : SigningKey) (before after old new : List Step)
+    → before ≡ old → after ≡ new
+    → Decides H asked (record { status = status; body = body; saved = saved; saved_after = saved_after; one = record { origin = origin; verifiers = verifiers; cosigner = cosigner; chain = old }; one_after = record { origin = origin; verifiers = verifiers; cosigner = cosigner; chain = new } })
+    → Decides H asked (record { status = status; body = body; saved = saved; saved_after = saved_after; one = record { origin = origin; verifiers = verifiers; cosigner = cosigner; chain = before }; one_after = record { origin = origin; verifiers = verifiers; cosigner = cosigner; chain = after } })
+decided_between H asked status body saved saved_after origin verifiers cosigner before after old new is_old is_new decided =
+    subst (λ (b : List Step). Decides H asked (record { status = status; body = body; saved = saved; saved_after = saved_after; one = record { origin = origin; verifiers = verifiers; cosigner = cosigner; chain = b }; one_after = record { origin = origin; verifiers = verifiers; cosigner = cosigner; chain = after } })) (sym is_old)
+    (subst (λ (a : List Step). Decides H asked (record { status = status; body = body; saved = saved; saved_after = saved_after; one = record { origin = origin; verifiers = verifiers; cosigner = cosigner; chain = old }; one_after = record { origin = origin; verifiers = verifiers; cosigner = cosigner; chain = a } })) (sym is_new) decided)
 
 -- ---- parts of a list
 

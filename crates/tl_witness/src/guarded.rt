@@ -4,7 +4,9 @@ ghost use Rattle.std.specs.Prelude.{◌≡◌, ℕ, IfOk, List, OnErr, drop, map
 ghost use Rattle.tl_proof.specs.Acceptance.{Step, step_of};
 ghost use Rattle.tl_witness.specs.Chain.{first_head, last_head};
 ghost use Rattle.tl_witness.specs.ChainLine.{IsChainLine};
+ghost use Rattle.tl_witness.specs.Decide.{Decides};
 ghost use Rattle.tl_witness.specs.Inner.Offer.{asked_by};
+ghost use Rattle.tl_witness.specs.Inner.Outcome.{outcome_of};
 ghost use Rattle.tl_witness.specs.Runs.{IsLater, IsLaterChain};
 ghost use Rattle.tl_witness.specs.Shared.{DecidesLater, answer_of};
 
@@ -12,8 +14,8 @@ use crate::by_origin::OfOrigin;
 use crate::chain::Chain;
 use crate::cosign::Tools;
 use crate::finding::Offer;
-use crate::lock::Lock;
-use crate::origin_state::{Origin, OriginState, ShownState};
+use crate::lock::{Change, Grows, Lock};
+use crate::origin_state::{Origin, OriginState, ShownOrigin, ShownState};
 use crate::reply::Reply;
 use crate::saver::Saver;
 use counted_slot::Fits;
@@ -30,6 +32,12 @@ impl<T: TreeHash, A: Allocator> Fits for Chain<T, A> {
     type Tag = Snapshot<Chain<T, A>>;
 
     ghost fits = { λ tag chain. IsPrefix tag.value chain };
+}
+
+impl<T: TreeHash, A: Allocator> Grows for Chain<T, A> {
+    ghost use mathlib.Core.List.{IsPrefix};
+
+    ghost grows = { λ before after. IsPrefix before after };
 }
 
 /// One origin, and the links that the witness accepted for it, behind a lock. They begin with those that were
@@ -111,6 +119,33 @@ impl<T: TreeHash, A: Allocator> Guarded<T, A> {
 }
 
 impl<T: TreeHash, A: Allocator + Copy> Guarded<T, A> {
+    // Decides a request for this origin in one turn, and tells what the turn did: the chain that it put back is the
+    // decision's.
+    fn decide<R: Wait, S: Saver>(
+        &self,
+        rt: &R,
+        tools: Tools<T, A>,
+        offer: Offer<'_, A>,
+        time: u64,
+        saver: &mut S,
+    ) -> (Result<Reply<A>, AllocError>, Change<Chain<T, A>>)
+        requires { IsChainLine
+            (record { origin = string_bytes self.now.origin.name; step = step_of offer.link }) }
+        ensures later { IsLaterChain T.digest_of self.now.chain.slot.value result.1.before.value }
+        ensures ok { IfOk result.0 (λ reply. Decides T.digest_of (asked_by offer.entry time)
+            (outcome_of reply (S.saved saver.old) (S.saved saver.new)
+            (⟦<Origin<A> as ShownOrigin>⟧.shown_with self.now.origin result.1.before.value)
+            (⟦<Origin<A> as ShownOrigin>⟧.shown_with self.now.origin result.1.after.value))) }
+        ensures err { OnErr result.0 ((S.saved saver.new ≡ S.saved saver.old)
+            × (result.1.after.value ≡ result.1.before.value)) }
+    {
+        let (turn, mut chain) = self.chain.enter(rt);
+        chain.is_chain();
+        let reply = self.origin.answer(tools, &mut chain, offer, time, saver);
+        let change = turn.leave(rt, chain);
+        (reply, change)
+    }
+
     /// Decides a request for this origin, from what the lock has when its turn comes. It fails only where a growth
     /// was refused, with nothing changed.
     pub(crate) fn answer<R: Wait, S: Saver>(
@@ -128,11 +163,7 @@ impl<T: TreeHash, A: Allocator + Copy> Guarded<T, A> {
             (asked_by offer.entry time) (answer_of reply (S.saved saver.old) (S.saved saver.new))) }
         ensures err { OnErr result (S.saved saver.new ≡ S.saved saver.old) }
     {
-        let _turn = self.chain.enter(rt);
-        let mut chain = self.chain.take(rt);
-        chain.is_chain();
-        let reply = self.origin.answer(tools, &mut chain, offer, time, saver);
-        self.chain.put_back(rt, chain);
+        let (reply, _) = self.decide(rt, tools, offer, time, saver);
         reply
     }
 
@@ -153,11 +184,10 @@ impl<T: TreeHash, A: Allocator + Copy> Guarded<T, A> {
             × (result.0 ≡ (last_head (first_head T.digest_of) later).size)
             × (result.1 ≡ (last_head (first_head T.digest_of) later).root) }
     {
-        let _turn = self.chain.enter(rt);
-        let chain = self.chain.take(rt);
+        let (turn, chain) = self.chain.enter(rt);
         chain.is_chain();
         let head = chain.head();
-        self.chain.put_back(rt, chain);
+        turn.leave(rt, chain);
         head
     }
 
@@ -174,11 +204,10 @@ impl<T: TreeHash, A: Allocator + Copy> Guarded<T, A> {
             (λ links. (later : List Step) × IsLaterChain T.digest_of self.now.chain.slot.value later
             × (map step_of links.items ≡ take most (drop from later))) }
     {
-        let _turn = self.chain.enter(rt);
-        let chain = self.chain.take(rt);
+        let (turn, chain) = self.chain.enter(rt);
         chain.is_chain();
         let links = copy_links(alloc, part_of(chain.links(), from, most));
-        self.chain.put_back(rt, chain);
+        turn.leave(rt, chain);
         links
     }
 
@@ -187,11 +216,10 @@ impl<T: TreeHash, A: Allocator + Copy> Guarded<T, A> {
         ensures { IfOk result (λ links.
             IsLaterChain T.digest_of self.now.chain.slot.value (map step_of links.items)) }
     {
-        let _turn = self.chain.enter(rt);
-        let chain = self.chain.take(rt);
+        let (turn, chain) = self.chain.enter(rt);
         chain.is_chain();
         let links = copy_links(alloc, chain.links());
-        self.chain.put_back(rt, chain);
+        turn.leave(rt, chain);
         links
     }
 }

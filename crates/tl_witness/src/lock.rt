@@ -1,19 +1,39 @@
-//! A lock whose value fits a tag that was fixed when it was made.
+//! A lock whose value fits a tag that was fixed when it was made, and grows from turn to turn.
 
 ghost use Rattle.std.specs.Prelude.{◌≡◌};
 
 use counted_slot::{Counted, FREE, Fits, TAKEN};
+use std::snapshot::Snapshot;
 use std::sync::{Mutex, MutexGuard, Wait};
+
+/// A value that may stand in a lock. What a turn puts back has grown from what it took.
+pub(crate) trait Grows: Fits {
+    ghost grows: { Self → Self → Type 0 };
+}
 
 /// A value that one thread has at a time. A contract sees the tag, which each value under the lock fits. The slot
 /// is empty only while the gate is held.
 #[derive(Drop)]
-pub(crate) struct Lock<X: Fits + Drop> {
+pub(crate) struct Lock<X: Fits> {
     gate: Mutex<()>,
-    pub(crate) slot: Counted<Option<X>>,
+    slot: Counted<Option<X>>,
 }
 
-impl<X: Fits + Drop> Lock<X> {
+/// A turn at the value of a lock. It can't be dropped: it ends by `leave`, which puts a value back.
+pub(crate) struct Turn<'a, X: Fits> {
+    lock: &'a Lock<X>,
+    gate: MutexGuard<'a, ()>,
+    before: Snapshot<X>,
+}
+
+/// What a turn did: the value that it took, and the one that it put back. Only `leave` makes one.
+#[derive(Drop)]
+pub(crate) struct Change<X> {
+    before: Snapshot<X>,
+    after: Snapshot<X>,
+}
+
+impl<X: Grows> Lock<X> {
     /// A lock with this value in it.
     pub(crate) fn new(value: X, tag: &X::Tag) -> Self
         requires { X.fits tag.now value }
@@ -25,13 +45,25 @@ impl<X: Fits + Drop> Lock<X> {
         }
     }
 
-    /// Waits for its turn. The next one comes when what is answered is dropped.
-    pub(crate) fn enter<R: Wait>(&self, rt: &R) -> MutexGuard<'_, ()> {
-        self.gate.lock(rt)
+    /// Waits for its turn, and takes the value out. The next turn comes when this one is left.
+    pub(crate) fn enter<R: Wait>(&self, rt: &R) -> (Turn<'_, X>, X)
+        ensures fits { X.fits self.now.slot result.1 }
+        ensures lock { result.0.lock.now ≡ self.now }
+        ensures before { result.0.before.value ≡ result.1 }
+    {
+        let gate = self.gate.lock(rt);
+        let value = self.take(rt);
+        let before = Snapshot::of(&value);
+        let turn = Turn {
+            lock: self,
+            gate,
+            before,
+        };
+        (turn, value)
     }
 
-    /// Takes the value out, where the gate is held. It has to be put back before the gate is left.
-    pub(crate) fn take<R: Wait>(&self, rt: &R) -> X
+    // Takes the value out, where the gate is held.
+    fn take<R: Wait>(&self, rt: &R) -> X
         ensures { X.fits self.now.slot result }
     {
         for _ in rt.forever() {
@@ -40,25 +72,30 @@ impl<X: Fits + Drop> Lock<X> {
                 claim.done();
                 continue;
             }
-            if let Some(value) = claim.put(None, FREE) {
-                return value;
+            match claim.put(None, FREE) {
+                Some(value) => return value,
+                None => {}
             }
         }
         unreachable!()
     }
 
-    /// Puts the value back, where the gate is held.
-    pub(crate) fn put_back<R: Wait>(&self, rt: &R, value: X)
+    // Puts the value back, where the gate is held and the slot is empty. It would go on for ever where it found
+    // another one there.
+    fn put_back<R: Wait>(&self, rt: &R, value: X)
         requires { X.fits self.now.slot value }
     {
+        let mut value = value;
         for _ in rt.forever() {
             let (found, claim) = self.slot.turn(FREE, TAKEN);
             if found != FREE {
                 claim.done();
                 continue;
             }
-            let _ = claim.put(Some(value), FREE);
-            return;
+            match claim.put(Some(value), FREE) {
+                None => return,
+                Some(other) => value = other,
+            }
         }
         unreachable!()
     }
@@ -73,5 +110,21 @@ impl<X: Fits + Drop> Lock<X> {
             unreachable!()
         };
         value
+    }
+}
+
+impl<X: Grows> Turn<'_, X> {
+    /// Puts a value back that has grown from the one that was taken, and ends the turn.
+    pub(crate) fn leave<R: Wait>(self, rt: &R, value: X) -> Change<X>
+        requires fits { X.fits self.lock.now.slot value }
+        requires grows { X.grows self.before.value value }
+        ensures before { result.before.value ≡ self.entry.before.value }
+        ensures after { result.after.value ≡ value }
+    {
+        let Turn { lock, gate, before } = self;
+        let after = Snapshot::of(&value);
+        lock.put_back(rt, value);
+        drop(gate);
+        Change { before, after }
     }
 }

@@ -1,14 +1,20 @@
 use Rattle.std.proofs.Common.{List, drop, take, ap, ◌∙◌}
 use Rattle.std.proofs.lemmas.Result.{IfOk-weaker}
 use Rattle.tl_proof.specs.Acceptance.{Step}
-use Rattle.tl_witness.proofs.SharedLaws.{later_chain}
+use Rattle.tl_witness.proofs.SharedLaws.{begins_same, later_chain}
 use Rattle.tl_witness.proofs.guarded.Guarded.links.Goals as goal
+
+pub leave-requires : goal.leave-requires
+leave-requires g c = record {
+  fits = rw c.enter-turn.ensures.lock c.enter-turn.ensures.fits;
+  grows = begins_same _ _ c.enter-turn.ensures.before;
+}
 
 pub returns : goal.returns
 returns g c =
-    let later = later_chain g.T.TreeHash.digest_of c.args.self.now.chain.slot.value c.take-chain.result c.take-chain.ensures c.is_chain.ensures in
+    let later = later_chain g.T.TreeHash.digest_of c.args.self.now.chain.slot.value c.enter-turn.result.1 c.enter-turn.ensures.fits c.is_chain.ensures in
     IfOk-weaker c.copy_links-links.result _ _ (λ links same. (
-      c.take-chain.result,
+      c.enter-turn.result.1,
       later,
       same ∙ (c.part_of.ensures ∙ ap (λ (steps : List Step). take c.args.most (drop c.args.from steps)) c.links.ensures),
     )) c.copy_links-links.ensures
