@@ -7,7 +7,7 @@ ghost use Rattle.tl_serve.specs.Serving.{RefusesOrigin};
 
 use crate::host::Host;
 use crate::keeping::{Archiving, Keeper};
-use crate::lines::{Lines, NextLine};
+use crate::line_faults::after_lines;
 use crate::live_log::{LiveLog, MOST_ENTRIES};
 use crate::log_keys::{LogKeys, keys_of};
 use crate::options::AppendOptions;
@@ -20,6 +20,7 @@ use tl_archive::{Archive, FoundLog, Shelf, read_log};
 use tl_command::RunFault;
 use tl_device::Counted;
 use tl_heart::{Event, Heart, Step};
+use tl_lines::{Lines, NextLine};
 use tl_note::{Signer, Verifier, is_key_name};
 use tl_publisher::{BoardReader, Operator, OperatorFault};
 use tl_sequencer::{Submitter, Why};
@@ -40,7 +41,7 @@ fn rounds_of(options: &AppendOptions) -> Rounds {
 // The lines of an input, each of which goes into the one lane of a log.
 #[derive(Drop)]
 struct Appending<'r, R> {
-    lines: Lines,
+    lines: Lines<Global>,
     reader: &'r mut Counted<R>,
     submitter: Submitter<Global, Global>,
     // A line for which the lane had no room.
@@ -57,7 +58,7 @@ impl<R: Read> Appending<'_, R> {
             Ok(Some(NextLine::Entry(entry))) => Ok(Some(entry)),
             Ok(Some(NextLine::TooLong(line))) => Err(RunFault::EntryTooLong(line)),
             Ok(None) => Ok(None),
-            Err(fault) => Err(fault),
+            Err(fault) => Err(after_lines(fault)),
         }
     }
 

@@ -4,7 +4,7 @@ ghost use Rattle.std.specs.Prelude.{◌≡◌, IfOk, IfSome};
 
 use crate::awaited::Awaited;
 use crate::lanes::{EndOf, LaneThread, Sending, Sent, send_one};
-use crate::lines::{Lines, NextLine};
+use crate::line_faults::after_lines;
 use crate::news::News;
 use std::alloc::Global;
 use std::io::Read;
@@ -13,6 +13,7 @@ use std::sync::Wait;
 use std::thread::Scope;
 use tl_command::RunFault;
 use tl_device::Counted;
+use tl_lines::{Lines, NextLine};
 use tl_sequencer::Submitter;
 
 /// What came of reading on.
@@ -29,7 +30,7 @@ pub(crate) enum ReadOn {
 /// Lines that come one after the other.
 pub(crate) trait Source: Send + Drop {
     /// The next line of what was read; none where all of it was cut.
-    fn cut(&mut self) -> Result<Option<NextLine>, RunFault>;
+    fn cut(&mut self) -> Result<Option<NextLine<Global>>, RunFault>;
 
     /// Waits until there is something to read. Whether there is: the thread may have been woken.
     fn wait(&mut self) -> Result<bool, RunFault>;
@@ -41,7 +42,7 @@ pub(crate) trait Source: Send + Drop {
     fn has_ended(&self) -> bool;
 
     /// The last line, once the input has ended, if no newline ended it.
-    fn last(&mut self) -> Option<NextLine>;
+    fn last(&mut self) -> Option<NextLine<Global>>;
 
     /// How many lines came so far.
     fn count(&self) -> u64;
@@ -50,7 +51,7 @@ pub(crate) trait Source: Send + Drop {
 /// The lines of a reader, as they come.
 #[derive(Drop)]
 pub(crate) struct Followed<'r, R> {
-    pub(crate) lines: Lines,
+    pub(crate) lines: Lines<Global>,
     pub(crate) reader: &'r mut Counted<R>,
     pub(crate) input: Awaited,
     // How many lines came before those that are followed.
@@ -58,7 +59,7 @@ pub(crate) struct Followed<'r, R> {
 }
 
 impl<R: Read + Send> Source for Followed<'_, R> {
-    fn cut(&mut self) -> Result<Option<NextLine>, RunFault> {
+    fn cut(&mut self) -> Result<Option<NextLine<Global>>, RunFault> {
         Ok(self.lines.next_in_block()?)
     }
 
@@ -67,7 +68,10 @@ impl<R: Read + Send> Source for Followed<'_, R> {
     }
 
     fn read_on(&mut self) -> Result<ReadOn, RunFault> {
-        let goes_on = self.lines.fill(self.reader)?;
+        let goes_on = match self.lines.fill(self.reader) {
+            Ok(goes_on) => goes_on,
+            Err(fault) => return Err(after_lines(fault)),
+        };
         let may_go_on = self.input.note(!goes_on);
         Ok(if goes_on {
             ReadOn::More
@@ -82,7 +86,7 @@ impl<R: Read + Send> Source for Followed<'_, R> {
         self.input.has_ended()
     }
 
-    fn last(&mut self) -> Option<NextLine> {
+    fn last(&mut self) -> Option<NextLine<Global>> {
         self.lines.last()
     }
 
@@ -95,7 +99,7 @@ impl<R: Read + Send> Source for Followed<'_, R> {
 fn send_line<H: Wait>(
     rt: &H,
     submitter: &mut Submitter<Global, Global>,
-    line: NextLine,
+    line: NextLine<Global>,
     news: &News,
 ) -> Result<bool, RunFault>
     ensures { (submitter.new.ring ≡ submitter.old.ring)

@@ -1,25 +1,18 @@
 //! The connections that a thread holds, each of which waits without a thread of its own.
 
 use crate::door::{Accepted, Door, LISTENER};
+use crate::guest::{Guest, Next};
 use crate::pages::Pages;
-use crate::request::Request;
-use mio::net::TcpStream;
-use mio::{Events, Interest, Poll, Token};
+use mio::{Events, Poll, Token};
 use slab::Slab;
 use std::alloc::Global;
-use std::io::{ErrorKind, Read, Write};
 use std::net;
 use std::net::Net;
 use std::time::{Clock, Duration, Instant};
 use tl_command::RunFault;
-use tl_device::Counted;
-use tl_server::ServeFault;
 
 // How many events of the system are told at once.
 const MOST_EVENTS: usize = 1024;
-
-// How many bytes are read at once.
-const BLOCK: usize = 8192;
 
 // How many milliseconds an answer may take that is on its way when the door closes.
 const GRACE: u64 = 1000;
@@ -28,148 +21,6 @@ const GRACE: u64 = 1000;
 const TRIES: u32 = 1000;
 
 const PAUSE: u64 = 10;
-
-// A connection.
-#[derive(Drop)]
-struct Guest {
-    stream: TcpStream,
-    request: Request,
-    // The answer, once there is one, and how much of it was written.
-    answer: Option<Vec<u8>>,
-    written: usize,
-    // When it came, in milliseconds.
-    came: u64,
-    // Whether it is watched for room to write.
-    is_writing: bool,
-}
-
-// What is to be done with a connection.
-#[derive(Clone, Copy, PartialEq, Eq)]
-enum Next {
-    // It has to wait.
-    Wait,
-    // It goes on at once.
-    GoOn,
-    // It is over.
-    Leave,
-}
-
-impl Guest {
-    // When its time is over: the head of a request may take half of the time alone.
-    fn deadline(&self, limit: u64) -> u64 {
-        let time = if self.answer.is_none() && self.request.is_begun() {
-            limit - limit / 2
-        } else {
-            limit
-        };
-        self.came.saturating_add(time)
-    }
-
-    // Takes what came, until enough did to try an answer.
-    fn read_more(&mut self) -> Next {
-        let mut buf = [0u8; BLOCK];
-        for _ in 0..u64::MAX {
-            let room = self.request.room().min(BLOCK);
-            match self.stream.read(&mut buf[..room]) {
-                Ok(0) => {
-                    self.request.end();
-                    return Next::GoOn;
-                }
-                Ok(count) => {
-                    if self.request.feed(&buf[..count]).is_err() {
-                        return Next::Leave;
-                    }
-                    if self.request.is_enough() {
-                        return Next::GoOn;
-                    }
-                }
-                Err(error) if error.kind() == ErrorKind::WouldBlock => return Next::Wait,
-                Err(_) => return Next::Leave,
-            }
-        }
-        Next::Leave
-    }
-
-    // Tries an answer to what came. Where it depends on what follows, more is waited for.
-    fn try_answer<P: Pages>(&mut self, alloc: Global, pages: &mut P) -> Next {
-        let mut reader = Counted::new(self.request.reader());
-        let mut writer = Counted::new(Vec::new(alloc));
-        let outcome = pages.answer(alloc, &mut reader, &mut writer);
-        let asked = reader.into_inner().asked();
-        match outcome {
-            Ok(Some(_status)) => {
-                self.answer = Some(writer.into_inner());
-                Next::GoOn
-            }
-            Err(ServeFault::Read) if !self.request.has_ended() => {
-                self.request.want(asked);
-                Next::Wait
-            }
-            _ => Next::Leave,
-        }
-    }
-
-    // Reads and tries until there is an answer.
-    fn prepare<P: Pages>(&mut self, alloc: Global, pages: &mut P) -> Next {
-        for _ in 0..u64::MAX {
-            if self.answer.is_some() {
-                return Next::GoOn;
-            }
-            match self.read_more() {
-                Next::GoOn => {}
-                next => return next,
-            }
-            if self.try_answer(alloc, pages) == Next::Leave {
-                return Next::Leave;
-            }
-        }
-        Next::Leave
-    }
-
-    // Writes what is left of the answer once.
-    fn write_some(&mut self) -> Next {
-        let Some(answer) = &self.answer else {
-            return Next::Leave;
-        };
-        let left = answer.get(self.written..).unwrap_or(&[]);
-        if left.is_empty() {
-            return Next::Leave;
-        }
-        match self.stream.write(left) {
-            Ok(0) => Next::Leave,
-            Ok(count) => {
-                self.written = self.written.saturating_add(count);
-                Next::GoOn
-            }
-            Err(error) if error.kind() == ErrorKind::WouldBlock => Next::Wait,
-            Err(_) => Next::Leave,
-        }
-    }
-
-    // Does what can be done now.
-    fn go_on<P: Pages>(&mut self, alloc: Global, pages: &mut P) -> Next {
-        let next = self.prepare(alloc, pages);
-        if next != Next::GoOn {
-            return next;
-        }
-        for _ in 0..u64::MAX {
-            let next = self.write_some();
-            if next != Next::GoOn {
-                return next;
-            }
-        }
-        Next::Leave
-    }
-
-    // What it is to be watched for.
-    fn interest(&self) -> Interest {
-        if self.answer.is_some() {
-            Interest::WRITABLE
-        } else {
-            Interest::READABLE
-        }
-    }
-}
 
 /// The connections that a thread holds.
 #[derive(Drop)]
@@ -238,11 +89,11 @@ impl<'d> Guests<'d> {
         let Some(guest) = self.guests.get_mut(key) else {
             return false;
         };
-        let (interest, is_answered) = (guest.interest(), guest.answer.is_some());
-        if is_answered == guest.is_writing {
+        let (interest, is_to_write) = (guest.interest(), guest.wants_to_write());
+        if is_to_write == guest.is_writing {
             return true;
         }
-        guest.is_writing = is_answered;
+        guest.is_writing = is_to_write;
         self.poll
             .registry()
             .reregister(&mut guest.stream, Token(key), interest)
@@ -277,7 +128,7 @@ impl<'d> Guests<'d> {
     fn keep(&mut self, guest: Guest) -> bool {
         let mut guest = guest;
         let (key, interest) = (self.guests.vacant_key(), guest.interest());
-        guest.is_writing = guest.answer.is_some();
+        guest.is_writing = guest.wants_to_write();
         let due = guest.deadline(self.door.limit());
         let is_watched = self
             .poll
@@ -306,14 +157,7 @@ impl<'d> Guests<'d> {
 
     // Begins with a connection. Whether it is held.
     fn begin<P: Pages>(&mut self, stream: net::TcpStream, pages: &mut P) -> bool {
-        let mut guest = Guest {
-            stream: TcpStream::from_std(stream),
-            request: Request::new(self.alloc),
-            answer: None,
-            written: 0,
-            came: self.now,
-            is_writing: false,
-        };
+        let mut guest = Guest::new(self.alloc, stream, self.now);
         guest.go_on(self.alloc, pages) == Next::Wait && self.keep(guest)
     }
 
@@ -356,7 +200,7 @@ impl<'d> Guests<'d> {
         let (now, end, limit) = (self.now, self.end, self.door.limit());
         let before = self.guests.len();
         self.guests.retain(|_, guest| {
-            now < guest.deadline(limit).min(end) && (guest.answer.is_some() || !is_closed)
+            now < guest.deadline(limit).min(end) && (guest.is_answered() || !is_closed)
         });
         let gone = before.saturating_sub(self.guests.len());
         self.door.let_go(gone as u64);

@@ -1,15 +1,17 @@
 //! What the log of `serve` is opened with, and what its lanes are to send.
 
-ghost use Rattle.std.specs.Prelude.{◌≡◌, IfOk, map};
+ghost use Rattle.std.specs.Prelude.{◌≡◌, IfOk, length, map, vec_items};
+ghost use Rattle.tl_lines.specs.Dealt.{Deals};
 
 use crate::lanes::Sending;
-use crate::lines::Lines;
+use crate::line_faults::after_lines;
 use crate::options::ServeOptions;
 use std::alloc::{AllocError, Global};
 use std::io::Read;
 use tl_checkpoint::open_checkpoint;
 use tl_command::{MOST_INPUT, RunFault, read_entries};
 use tl_device::Counted;
+use tl_lines::{Lines, deal};
 use tl_note::Verifier;
 use tl_sequencer::Submitter;
 use tl_tile::{BundleFault, write_bundle};
@@ -54,7 +56,7 @@ pub(crate) fn size_of(
 pub(crate) struct Plan {
     pub(crate) base: Vec<Vec<u8>>,
     pub(crate) entries: Vec<Vec<u8>>,
-    pub(crate) lines: Lines,
+    pub(crate) lines: Lines<Global>,
     pub(crate) lanes: u32,
     pub(crate) room: usize,
 }
@@ -65,12 +67,14 @@ fn read_log<R: Read>(
     alloc: Global,
     options: &ServeOptions,
     size: u64,
-    lines: &mut Lines,
+    lines: &mut Lines<Global>,
     reader: &mut Counted<R>,
 ) -> Result<(Vec<Vec<u8>>, Vec<Vec<u8>>), RunFault> {
     if options.follow {
-        let base = lines.take(reader, size)?;
-        return Ok((base, Vec::new(alloc)));
+        return match lines.take(reader, size) {
+            Ok(base) => Ok((base, Vec::new(alloc))),
+            Err(fault) => Err(after_lines(fault)),
+        };
     }
     let mut base = read_entries(alloc, reader, MOST_INPUT)?;
     let Ok(size) = usize::try_from(size) else {
@@ -113,39 +117,21 @@ pub(crate) fn read_plan<R: Read>(
     })
 }
 
-// Deals entries out to so many lanes in turn.
-fn deal(
-    alloc: Global,
-    entries: Vec<Vec<u8>>,
-    lanes: usize,
-) -> Result<Vec<Vec<Vec<u8>>>, AllocError> {
-    let mut shares: Vec<Vec<Vec<u8>>> = Vec::new(alloc);
-    for _ in 0..lanes {
-        shares.push(Vec::new(alloc))?;
-    }
-    let mut lane = 0usize;
-    for entry in entries {
-        if let Some(share) = shares.get_mut(lane) {
-            share.push(entry)?;
-        }
-        let next = lane.saturating_add(1);
-        lane = if next < lanes { next } else { 0 };
-    }
-    Ok(shares)
-}
-
 /// What each submitter is to send: the entries are dealt out in turn.
 pub(crate) fn lanes_of(
     alloc: Global,
     submitters: Vec<Submitter<Global, Global>>,
     entries: Vec<Vec<u8>>,
 ) -> Result<Vec<Sending>, AllocError>
-    ensures { IfOk result (λ lanes. map (λ l. l.submitter) lanes.items ≡ submitters.items) }
+    ensures submitters { IfOk result
+        (λ lanes. map (λ l. l.submitter) lanes.items ≡ submitters.items) }
+    ensures entries { IfOk result (λ lanes. Deals (length submitters.items) entries.items
+        (map (λ l. vec_items l.entries) lanes.items)) }
 {
-    let mut shares = deal(alloc, entries, submitters.len())?.into_iter();
+    let mut lists = deal(alloc, entries, submitters.len())?.into_iter();
     let mut lanes = Vec::new(alloc);
     for submitter in submitters {
-        let entries = shares.next().unwrap_or(Vec::new(alloc));
+        let entries = lists.next().unwrap_or(Vec::new(alloc));
         lanes.push(Sending { submitter, entries })?;
     }
     Ok(lanes)

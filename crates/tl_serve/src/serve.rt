@@ -14,7 +14,6 @@ use crate::gate::{Gate, OpenGate};
 use crate::host::Host;
 use crate::keeping::{Archiving, InMemory, Keeper};
 use crate::lanes::Sending;
-use crate::lines::Lines;
 use crate::live_log::{LiveLog, MOST_ENTRIES};
 use crate::log_keys::{LogKeys, keys_of};
 use crate::news::News;
@@ -33,6 +32,7 @@ use std::sync::Arc;
 use std::thread::{Threads, available_parallelism};
 use tl_command::RunFault;
 use tl_device::Counted;
+use tl_lines::Lines;
 use tl_note::{Signer, Verifier, is_key_name};
 use tl_publisher::{BoardReader, Operator, OperatorFault, Published, ResumeFault};
 use tl_sequencer::Submitter;
@@ -141,7 +141,7 @@ impl<H: Host + Net<Listener = TcpListener, Stream = TcpStream>, G: Gate> Server<
     // The lines that are followed, if any are, and what wakes the thread that waits for them.
     fn follow<'r, R: Read + Send>(
         &self,
-        lines: Lines,
+        lines: Lines<Global>,
         reader: &'r mut Counted<R>,
     ) -> Result<(Option<Followed<'r, R>>, Option<Waker>), RunFault> {
         if !self.options.follow {
@@ -165,7 +165,7 @@ impl<H: Host + Net<Listener = TcpListener, Stream = TcpStream>, G: Gate> Server<
         lanes: Vec<Sending>,
         kept: Archiving<K>,
         pages: Vec<P>,
-        lines: Lines,
+        lines: Lines<Global>,
         reader: &mut Counted<R>,
         log: &mut Counted<L>,
     ) -> Result<(), RunFault>
@@ -193,7 +193,7 @@ impl<H: Host + Net<Listener = TcpListener, Stream = TcpStream>, G: Gate> Server<
         submitters: Vec<Submitter<Global, Global>>,
         readers: Vec<BoardReader<Global>>,
         entries: Vec<Vec<u8>>,
-        lines: Lines,
+        lines: Lines<Global>,
         reader: &mut Counted<R>,
         log: &mut Counted<L>,
     ) -> Result<(), RunFault>

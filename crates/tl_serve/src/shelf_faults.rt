@@ -19,7 +19,9 @@ fn unfit(resource: Resource, fault: DeviceFault) -> RunFault {
 /// Why a log was not read from its shelf.
 pub(crate) fn unread(fault: ReadLogFault) -> RunFault {
     match fault {
-        ReadLogFault::Checkpoint => RunFault::BadCheckpoint,
+        ReadLogFault::Checkpoint => {
+            RunFault::BadCheckpoint(Place::Log(Some(Resource::Checkpoint)))
+        }
         ReadLogFault::TooLarge => unfit(Resource::Checkpoint, DeviceFault::TooLarge),
         ReadLogFault::Missing { index, width } => {
             unfit(Resource::Entries { index, width }, DeviceFault::NotThere)

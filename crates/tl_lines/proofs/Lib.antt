@@ -1,0 +1,4 @@
+pub mod CuttingLemmas
+pub mod DealtLemmas
+pub mod PieceLemmas
+pub mod ReadingLemmas

@@ -1,0 +1,41 @@
+use Rattle.std.proofs.Common.{◌+◌, ◌∙◌, ◌++◌, ◌∷◌, [], ap, sym, subst, length, arith, append_assoc}
+use Rattle.std.proofs.lemmas.List.{length_push}
+use Rattle.tl_lines.specs.Dealt.{Deals}
+use Rattle.tl_lines.proofs.DealtLemmas.{none_dealt, list_pushed}
+use Rattle.tl_lines.proofs.dealing.deal.Goals as goal
+
+pub loop-entry-init : goal.loop-entry-init
+loop-entry-init g c =
+    let made = c.into_iter-entry-iterator.ensures.into_iter_gives in
+    record {
+      dealt = subst (λ lists. Deals c.args.lanes [] lists) (sym c.in_ok-lists.ensures.lists) (none_dealt c.args.lanes);
+      turn = (0, omega arith, omega arith);
+      all = made.0;
+      len = omega (arith, made.1, c.args.entries.ok.0, ap length made.0);
+    }
+
+pub loop-entry-preserved-then-lane-lanes : goal.loop-entry-preserved-then-lane-lanes
+loop-entry-preserved-then-lane-lanes g c =
+    let so_far = c.loop-entry.invariant in
+    let entry = c.in-Some.entry in
+    let step = c.in-Some.ensures.steps in
+    record {
+      dealt = list_pushed c.args.lanes c.loop-entry.yielded c.loop-entry.lists.items entry c.index_mut-list.result.now c.push.new.self so_far.turn.0 c.loop-entry.lane so_far.dealt
+          so_far.turn.1 so_far.turn.2 c.index_mut-list.ensures.value c.in_ok-push.ensures.items;
+      turn = (so_far.turn.0, omega (arith, length_push c.loop-entry.yielded entry, so_far.turn.1), c.if-lane-lanes.true);
+      all = append_assoc c.loop-entry.yielded (entry ∷ []) c.next.new.self.rest.items ∙ ap (λ rest. c.loop-entry.yielded ++ rest) (sym step.0) ∙ so_far.all;
+      len = omega (arith, ap length step.0, step.1, so_far.len);
+    }
+
+pub loop-entry-preserved : goal.loop-entry-preserved
+loop-entry-preserved g c =
+    let so_far = c.loop-entry.invariant in
+    let entry = c.in-Some.entry in
+    let step = c.in-Some.ensures.steps in
+    record {
+      dealt = list_pushed c.args.lanes c.loop-entry.yielded c.loop-entry.lists.items entry c.index_mut-list.result.now c.push.new.self so_far.turn.0 c.loop-entry.lane so_far.dealt
+          so_far.turn.1 so_far.turn.2 c.index_mut-list.ensures.value c.in_ok-push.ensures.items;
+      turn = (so_far.turn.0 + 1, omega (arith, length_push c.loop-entry.yielded entry, so_far.turn.1, so_far.turn.2, c.if-lane-lanes.false), omega (arith, so_far.turn.2));
+      all = append_assoc c.loop-entry.yielded (entry ∷ []) c.next.new.self.rest.items ∙ ap (λ rest. c.loop-entry.yielded ++ rest) (sym step.0) ∙ so_far.all;
+      len = omega (arith, ap length step.0, step.1, so_far.len);
+    }

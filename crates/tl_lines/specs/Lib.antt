@@ -1,0 +1,4 @@
+pub mod Dealt
+pub mod Inner
+pub mod Lines
+pub mod Reading

@@ -1,0 +1,214 @@
+//! One connection, which waits without a thread of its own.
+
+use crate::pages::Pages;
+use crate::request::Request;
+use mio::Interest;
+use mio::net::TcpStream;
+use std::alloc::Global;
+use std::io::{ErrorKind, Read, Write};
+use std::net;
+use tl_device::Counted;
+use tl_server::ServeFault;
+
+// How many bytes are read at once.
+const BLOCK: usize = 8192;
+
+// The longest answer that is on its way whole once it was written: it fits the first packets of a connection.
+const SHORT: usize = 14_000;
+
+// How often in turn something that nobody reads any more is read away.
+const MOST_LEFT: u32 = 256;
+
+/// A connection.
+#[derive(Drop)]
+pub(crate) struct Guest {
+    pub(crate) stream: TcpStream,
+    request: Request,
+    // The answer, once there is one, and how much of it was written.
+    answer: Option<Vec<u8>>,
+    written: usize,
+    // When it came, in milliseconds.
+    came: u64,
+    /// Whether it is watched for room to write.
+    pub(crate) is_writing: bool,
+    // Whether all was written, and the client is waited for.
+    is_leaving: bool,
+}
+
+/// What is to be done with a connection.
+#[derive(Clone, Copy, PartialEq, Eq)]
+pub(crate) enum Next {
+    /// It has to wait.
+    Wait,
+    /// It goes on at once.
+    GoOn,
+    /// It is over.
+    Leave,
+}
+
+impl Guest {
+    /// A new connection, which came at this time.
+    pub(crate) fn new(alloc: Global, stream: net::TcpStream, came: u64) -> Guest {
+        Guest {
+            stream: TcpStream::from_std(stream),
+            request: Request::new(alloc),
+            answer: None,
+            written: 0,
+            came,
+            is_writing: false,
+            is_leaving: false,
+        }
+    }
+
+    /// Whether there is an answer.
+    pub(crate) fn is_answered(&self) -> bool {
+        self.answer.is_some()
+    }
+
+    /// When its time is over: the head of a request may take half of the time alone.
+    pub(crate) fn deadline(&self, limit: u64) -> u64 {
+        let time = if self.answer.is_none() && self.request.is_begun() {
+            limit - limit / 2
+        } else {
+            limit
+        };
+        self.came.saturating_add(time)
+    }
+
+    // Takes what came, until enough did to try an answer.
+    fn read_more(&mut self) -> Next {
+        let mut buf = [0u8; BLOCK];
+        for _ in 0..u64::MAX {
+            let room = self.request.room().min(BLOCK);
+            match self.stream.read(&mut buf[..room]) {
+                Ok(0) => {
+                    self.request.end();
+                    return Next::GoOn;
+                }
+                Ok(count) => {
+                    if self.request.feed(&buf[..count]).is_err() {
+                        return Next::Leave;
+                    }
+                    if self.request.is_enough() {
+                        return Next::GoOn;
+                    }
+                }
+                Err(error) if error.kind() == ErrorKind::WouldBlock => return Next::Wait,
+                Err(_) => return Next::Leave,
+            }
+        }
+        Next::Leave
+    }
+
+    // Tries an answer to what came. Where it depends on what follows, more is waited for.
+    fn try_answer<P: Pages>(&mut self, alloc: Global, pages: &mut P) -> Next {
+        let mut reader = Counted::new(self.request.reader());
+        let mut writer = Counted::new(Vec::new(alloc));
+        let outcome = pages.answer(alloc, &mut reader, &mut writer);
+        let asked = reader.into_inner().asked();
+        match outcome {
+            Ok(Some(_status)) => {
+                self.answer = Some(writer.into_inner());
+                Next::GoOn
+            }
+            Err(ServeFault::Read) if !self.request.has_ended() => {
+                self.request.want(asked);
+                Next::Wait
+            }
+            _ => Next::Leave,
+        }
+    }
+
+    // Reads and tries until there is an answer.
+    fn prepare<P: Pages>(&mut self, alloc: Global, pages: &mut P) -> Next {
+        for _ in 0..u64::MAX {
+            if self.answer.is_some() {
+                return Next::GoOn;
+            }
+            match self.read_more() {
+                Next::GoOn => {}
+                next => return next,
+            }
+            if self.try_answer(alloc, pages) == Next::Leave {
+                return Next::Leave;
+            }
+        }
+        Next::Leave
+    }
+
+    // Writes what is left of the answer once.
+    fn write_some(&mut self) -> Next {
+        let Some(answer) = &self.answer else {
+            return Next::Leave;
+        };
+        let left = answer.get(self.written..).unwrap_or(&[]);
+        if left.is_empty() {
+            return self.say_goodbye();
+        }
+        match self.stream.write(left) {
+            Ok(0) => Next::Leave,
+            Ok(count) => {
+                self.written = self.written.saturating_add(count);
+                Next::GoOn
+            }
+            Err(error) if error.kind() == ErrorKind::WouldBlock => Next::Wait,
+            Err(_) => Next::Leave,
+        }
+    }
+
+    // Ends a short answer at once. Of a long one a part may still be on its way, which the system throws away where a
+    // connection is closed with something unread: the end is told, and the client's is waited for.
+    fn say_goodbye(&mut self) -> Next {
+        if self.written <= SHORT || self.stream.shutdown(net::Shutdown::Write).is_err() {
+            return Next::Leave;
+        }
+        self.is_leaving = true;
+        Next::GoOn
+    }
+
+    // Reads away what the client goes on to send, until it closes.
+    fn drain(&mut self) -> Next {
+        let mut buf = [0u8; BLOCK];
+        for _ in 0..MOST_LEFT {
+            match self.stream.read(&mut buf) {
+                Ok(0) => return Next::Leave,
+                Ok(_) => {}
+                Err(error) if error.kind() == ErrorKind::WouldBlock => return Next::Wait,
+                Err(_) => return Next::Leave,
+            }
+        }
+        Next::Leave
+    }
+
+    /// Does what can be done now.
+    pub(crate) fn go_on<P: Pages>(&mut self, alloc: Global, pages: &mut P) -> Next {
+        let next = self.prepare(alloc, pages);
+        if next != Next::GoOn {
+            return next;
+        }
+        for _ in 0..u64::MAX {
+            if self.is_leaving {
+                return self.drain();
+            }
+            let next = self.write_some();
+            if next != Next::GoOn {
+                return next;
+            }
+        }
+        Next::Leave
+    }
+
+    /// Whether it waits for room to write, and not for something to read.
+    pub(crate) fn wants_to_write(&self) -> bool {
+        self.answer.is_some() && !self.is_leaving
+    }
+
+    /// What it is to be watched for.
+    pub(crate) fn interest(&self) -> Interest {
+        if self.wants_to_write() {
+            Interest::WRITABLE
+        } else {
+            Interest::READABLE
+        }
+    }
+}
