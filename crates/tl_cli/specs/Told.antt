@@ -6,11 +6,11 @@ use Rattle.tl_tile.specs.Path.{IsResource}
 use Rattle.tl_tile.specs.declared.resource.Resource.{Resource}
 use Rattle.tl_device.specs.Device.{Passage, IsUnwritten, WroteWhole, WrotePart}
 use Rattle.tl_device.specs.Faults.{device_words}
-use Rattle.tl_device.specs.declared.fault.DeviceFault.{DeviceFault}
 use Rattle.tl_command.specs.Faults.{fault_text, place_words}
 use Rattle.tl_command.specs.declared.place.Place.{Place}
 use Rattle.tl_command.specs.declared.place.Place.TheVariants as place
-use Rattle.tl_command.specs.declared.fault.RunFault.TheVariants.{Device}
+use Rattle.tl_command.specs.declared.fault.RunFault.{RunFault}
+use Rattle.tl_command.specs.declared.fault.RunFault.TheVariants.{Device, BadCheckpoint, BadKeyFile}
 use Rattle.tl_fetch.specs.FaultWords.{fetch_text}
 use Rattle.tl_fetch.specs.declared.fault.FetchFault.TheVariants as fetch
 use Rattle.tl_source.specs.Asking.{IsTarget}
@@ -80,22 +80,29 @@ abbrev pub IsWhere : Bytes → Option Resource → Bytes → Type 0
 IsWhere base None path = path ≡ base
 IsWhere base (Some resource) path = IsTarget base resource path ⊎ ((IsResource resource → ⊥) × (path ≡ base))
 
--- the line of a fault of a device: where, and why
-abbrev pub IsLineAt : Option Bytes → Place → DeviceFault → Bytes → Type 0
-IsLineAt None place why text = text ≡ line (codes "tlog: " ++ place_words place ++ codes ": " ++ device_words why)
-IsLineAt (Some base) place why text =
-    (path : Bytes) × IsWhere base (resource_of place) path × (text ≡ line (codes "tlog: " ++ path ++ codes ": " ++ device_words why))
+-- the line of a fault over a place: where, and in which words why
+abbrev pub IsLineAt : Option Bytes → Place → Bytes → Bytes → Type 0
+IsLineAt None place words text = text ≡ line (codes "tlog: " ++ place_words place ++ codes ": " ++ words)
+IsLineAt (Some base) place words text =
+    (path : Bytes) × IsWhere base (resource_of place) path × (text ≡ line (codes "tlog: " ++ path ++ codes ": " ++ words))
 
 -- a line, or nothing
 abbrev pub line_or_none : Option Bytes → Bytes
 line_or_none None = []
 line_or_none (Some text) = line text
 
+-- the line of a fault that other commands have, too, if it has one: that of a device, of what is no key or no
+-- checkpoint there, or of another kind
+abbrev pub IsLineOfRun : Job → RunFault → Bytes → Type 0
+IsLineOfRun job (Device place why) text = IsLineAt (base_of job place) place (device_words why) text
+IsLineOfRun job (BadCheckpoint place) text = IsLineAt (base_of job place) place (codes "bad checkpoint") text
+IsLineOfRun job BadKeyFile text = IsLineAt (file_of job) place.File (codes "bad key") text
+IsLineOfRun job other text = text ≡ line_or_none (fault_text other)
+
 -- the line of a fault of a job, if it has one
 abbrev pub IsLineOf : Job → CommandFault → Bytes → Type 0
-IsLineOf job (fault.Run (Device place why)) text = IsLineAt (base_of job place) place why text
-IsLineOf job (fault.Fetch (fetch.Run (Device place why))) text = IsLineAt (base_of job place) place why text
-IsLineOf job (fault.Run other) text = text ≡ line_or_none (fault_text other)
+IsLineOf job (fault.Run other) text = IsLineOfRun job other text
+IsLineOf job (fault.Fetch (fetch.Run other)) text = IsLineOfRun job other text
 IsLineOf job (fault.Fetch other) text = text ≡ line_or_none (fetch_text other)
 
 -- a text was written to standard error, or a part of it where that failed

@@ -2,16 +2,15 @@
 
 ghost use Rattle.std.specs.Prelude.{◌≡◌, ◌++◌, IfOk, codes, option_map, string_bytes};
 ghost use Rattle.tl_text.specs.Text.{line};
-ghost use Rattle.tl_device.specs.Faults.{device_words};
 ghost use Rattle.tl_device.specs.Device.{passage};
-ghost use Rattle.tl_cli.specs.Told.{IsLineAt, IsLineOf, IsWhere, TellsFault, Wrote, base_of, file_of, key_file, line_or_none, log_of, resource_of, source_of, state_of, witness_file};
+ghost use Rattle.tl_cli.specs.Told.{IsLineAt, IsLineOf, IsLineOfRun, IsWhere, TellsFault, Wrote, base_of, file_of, key_file, line_or_none, log_of, resource_of, source_of, state_of, witness_file};
 
 use crate::fault::CommandFault;
 use crate::job::Job;
 use std::alloc::{AllocError, Allocator};
 use std::io::Write;
 use tl_command::{Place, RunFault, fault_line};
-use tl_device::{Counted, DeviceFault, write_whole};
+use tl_device::{Counted, write_whole};
 use tl_fetch::{FetchFault, fetch_fault_line};
 use tl_serve::{LogKey, WitnessSignerKey};
 use tl_source::place_of;
@@ -123,37 +122,35 @@ fn where_is<A: Allocator + Copy>(
     }
 }
 
-// The line of a fault over what is there.
-fn line_at<A: Allocator + Copy>(
-    alloc: A,
-    path: String<A>,
-    fault: DeviceFault,
-) -> Result<String<A>, AllocError>
+// The line of a fault that is told in these words over what is there.
+fn line_at<A: Allocator>(alloc: A, path: &str, words: &str) -> Result<String<A>, AllocError>
     ensures { IfOk result (λ text. string_bytes text
-        ≡ line (codes "tlog: " ++ string_bytes path ++ codes ": " ++ device_words fault)) }
+        ≡ line (codes "tlog: " ++ path.now ++ codes ": " ++ words.now)) }
 {
     let mut line = String::from_str(alloc, "tlog: ")?;
-    line.push_str(path.as_str())?;
+    line.push_str(path)?;
     line.push_str(": ")?;
-    line.push_str(format!(in alloc; "{fault}\n")?.as_str())?;
+    line.push_str(words)?;
+    line.push_str("\n")?;
     Ok(line)
 }
 
-// The line of a device's fault.
-fn device_line<A: Allocator + Copy>(
+// The line of a fault over a place.
+fn place_line<A: Allocator + Copy>(
     alloc: A,
     job: &Job,
     place: Place,
-    fault: DeviceFault,
+    words: &str,
 ) -> Result<String<A>, AllocError>
     ensures { IfOk result
-        (λ text. IsLineAt (base_of job.now place) place fault (string_bytes text)) }
+        (λ text. IsLineAt (base_of job.now place) place words.now (string_bytes text)) }
 {
     let Some(base) = base_of(job, place) else {
-        return format!(in alloc; "tlog: {place}: {fault}\n");
+        let name = format!(in alloc; "{place}")?;
+        return line_at(alloc, name.as_str(), words);
     };
     let path = where_is(alloc, base, resource_of(place))?;
-    line_at(alloc, path, fault)
+    line_at(alloc, path.as_str(), words)
 }
 
 // A line with its newline, or no text.
@@ -171,6 +168,25 @@ fn whole_line<A: Allocator + Copy>(
     Ok(line)
 }
 
+// What is told of a fault that other commands have, too: its line, if it has one.
+fn run_line<A: Allocator + Copy>(
+    alloc: A,
+    job: &Job,
+    fault: &RunFault,
+) -> Result<String<A>, AllocError>
+    ensures { IfOk result (λ text. IsLineOfRun job.now fault.now (string_bytes text)) }
+{
+    match fault {
+        RunFault::Device(place, why) => {
+            let words = format!(in alloc; "{why}")?;
+            place_line(alloc, job, *place, words.as_str())
+        }
+        RunFault::BadCheckpoint(place) => place_line(alloc, job, *place, "bad checkpoint"),
+        RunFault::BadKeyFile => place_line(alloc, job, Place::File, "bad key"),
+        _ => whole_line(alloc, fault_line(alloc, fault)?),
+    }
+}
+
 // What is told of a fault of a job: its line, if it has one.
 fn line_of<A: Allocator + Copy>(
     alloc: A,
@@ -180,13 +196,8 @@ fn line_of<A: Allocator + Copy>(
     ensures { IfOk result (λ text. IsLineOf job.now fault.now (string_bytes text)) }
 {
     match fault {
-        CommandFault::Run(RunFault::Device(place, fault)) => {
-            device_line(alloc, job, *place, *fault)
-        }
-        CommandFault::Fetch(FetchFault::Run(RunFault::Device(place, fault))) => {
-            device_line(alloc, job, *place, *fault)
-        }
-        CommandFault::Run(fault) => whole_line(alloc, fault_line(alloc, fault)?),
+        CommandFault::Run(fault) => run_line(alloc, job, fault),
+        CommandFault::Fetch(FetchFault::Run(fault)) => run_line(alloc, job, fault),
         CommandFault::Fetch(fault) => whole_line(alloc, fetch_fault_line(alloc, fault)?),
     }
 }
@@ -195,10 +206,7 @@ fn line_of<A: Allocator + Copy>(
 fn write_text<E: Write>(errors: &mut Counted<E>, text: &str)
     ensures { Wrote text.now (passage E.contents errors.old errors.new) }
 {
-    match write_whole(errors, text.as_bytes()) {
-        Ok(()) => {}
-        Err(_) => {}
-    }
+    let _ = write_whole(errors, text.as_bytes());
 }
 
 /// Tells a fault of a job: writes its line, if it has one and there is memory for it.

@@ -27,5 +27,5 @@ pub use fault::ClientFault;
 pub use growth::prove_growth;
 pub use head::{HeadFault, open_cosigned};
 pub use inclusion::prove_entry;
-pub use source::{ResourceSource, Tiles};
+pub use source::{ResourceSource, Tiles, is_tile};
 pub use tl_hash::Head;

@@ -32,8 +32,8 @@ pub trait ResourceSource {
 #[derive(Clone, Copy, Drop)]
 pub struct Tiles<'s, S: ResourceSource>(pub &'s S);
 
-// Whether a log serves this tile under a path.
-fn is_tile(tile: Tile) -> bool
+/// Whether a log serves this tile under a path (C2SP tlog-tiles).
+pub fn is_tile(tile: Tile) -> bool
     ensures { IsTrue result ↔ IsTile tile }
 {
     tile.level <= 7 && tile.index < 1 << 56 && 0 < tile.width && tile.width <= 256

@@ -6,7 +6,7 @@ use Rattle.tl_text.specs.Text.{IsOneLine}
 use Rattle.tl_device.specs.Device.{Passage, IsUnwritten, GaveSome}
 use Rattle.tl_command.specs.Inner.Growing.{ReadsEdge}
 use Rattle.tl_command.specs.declared.fault.RunFault.{RunFault}
-use Rattle.tl_command.specs.declared.fault.RunFault.TheVariants.{Refused, Read, Write, TooLarge, EntryTooLong, BadOrigin, BadIndex, BadOld, BadPath, NotThere, Malformed, Chain, Sign, Operator, Listen, Accept, OutOfMemory, BadName, BadKey, BadCheckpoint, WrongSignature, Unverified, Device}
+use Rattle.tl_command.specs.declared.fault.RunFault.TheVariants.{Refused, Read, Write, TooLarge, EntryTooLong, BadOrigin, BadIndex, BadOld, BadPath, NotThere, Malformed, Chain, Sign, Operator, Listen, Accept, OutOfMemory, BadName, BadKey, BadCheckpoint, WrongSignature, Unverified, Device, BadKeyFile}
 use Rattle.tl_command.specs.Lines.{entries_of, first_too_long}
 use Rattle.tl_command.specs.Run.{IsAsking, ReadEntries}
 use Rattle.tl_command.specs.Head.{HeadComes, RunsHead, head_text}
@@ -60,6 +60,7 @@ head_fault origin i o (Device place why) line none reads = absurd reads
 head_fault origin i o OutOfMemory line none reads = (line, (reads, none, asks_of_head origin i))
 head_fault origin i o BadName line none reads = absurd reads
 head_fault origin i o BadKey line none reads = absurd reads
-head_fault origin i o BadCheckpoint line none reads = absurd reads
+head_fault origin i o BadKeyFile line none reads = absurd reads
+head_fault origin i o (BadCheckpoint place) line none reads = absurd reads
 head_fault origin i o (WrongSignature place) line none reads = absurd reads
 head_fault origin i o Unverified line none reads = absurd reads

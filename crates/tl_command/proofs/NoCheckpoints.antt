@@ -24,7 +24,7 @@ other_text A bytes keys fault other known = λ c lines stated noted.
 -- why bytes are no signed checkpoint
 pub opening_fails : (A : Type 0) (bytes : List ℕ) (keys : List Key) (fault : OpenCheckpointFault) → OpensCheckpoint {A = A} bytes keys (Err fault)
     → OpensBytes {A = A} bytes keys (Err (after_opening fault))
-opening_fails A bytes keys (Unopened note.Malformed) given = λ c lines stated noted. given.0 (checkpoint_text c) lines noted
+opening_fails A bytes keys (Unopened note.Malformed) given = (refl, λ c lines stated noted. given.0 (checkpoint_text c) lines noted)
 opening_fails A bytes keys (Unopened (note.BadName place)) given = absurd given.0
 opening_fails A bytes keys (Unopened (note.Ambiguous place)) given =
     let g = given.0 in
@@ -37,7 +37,7 @@ opening_fails A bytes keys (Unopened note.Unverified) given =
     record { text = g.0; lines = g.1; noted = g.2; none = g.3 }
 opening_fails A bytes keys (Unopened (note.Sign place)) given = absurd given.0
 opening_fails A bytes keys (Unopened note.OutOfMemory) given = absurd (given.1 refl)
-opening_fails A bytes keys (NoCheckpoint fault) given = other_text A bytes keys fault given.0 given.1
+opening_fails A bytes keys (NoCheckpoint fault) given = (refl, other_text A bytes keys fault given.0 given.1)
 opening_fails A bytes keys OutOfMemory given = tt
 
 -- the same of what was answered

@@ -13,7 +13,7 @@ use Rattle.tl_checkpoint.specs.OpenCheckpoint.{IsSignedCheckpoint}
 use Rattle.tl_command.specs.ProofCommands.{CheckAboutComes}
 use Rattle.tl_command.specs.Run.{Output, Prints, Runs, CameOf, most_input}
 use Rattle.tl_command.specs.declared.fault.RunFault.{RunFault}
-use Rattle.tl_command.specs.declared.fault.RunFault.TheVariants.{Refused, Read, Write, TooLarge, EntryTooLong, BadOrigin, BadIndex, BadOld, BadPath, NotThere, Malformed, Chain, Sign, Operator, Listen, Accept, OutOfMemory, BadName, BadKey, BadCheckpoint, WrongSignature, Unverified, Device}
+use Rattle.tl_command.specs.declared.fault.RunFault.TheVariants.{Refused, Read, Write, TooLarge, EntryTooLong, BadOrigin, BadIndex, BadOld, BadPath, NotThere, Malformed, Chain, Sign, Operator, Listen, Accept, OutOfMemory, BadName, BadKey, BadCheckpoint, WrongSignature, Unverified, Device, BadKeyFile}
 use Rattle.tl_command.specs.Open.{OpenComes, RunsOpen, after_note}
 use Rattle.tl_command.specs.CheckOpened.{RunsUnder, RunsCheckOpened, subject_of}
 use Rattle.tl_command.proofs.NoteBytes.{note_some}
@@ -64,7 +64,8 @@ runs_open text k i o (Err (Device place why)) spelled runs = record { key = k; s
 runs_open text k i o (Err OutOfMemory) spelled runs = record { key = k; spelled = spelled; fact = (runs.0, runs.1) }
 runs_open text k i o (Err BadName) spelled runs = record { key = k; spelled = spelled; fact = runs }
 runs_open text k i o (Err BadKey) spelled runs = absurd runs.0.so
-runs_open text k i o (Err BadCheckpoint) spelled runs = record { key = k; spelled = spelled; fact = runs }
+runs_open text k i o (Err BadKeyFile) spelled runs = record { key = k; spelled = spelled; fact = runs }
+runs_open text k i o (Err (BadCheckpoint place)) spelled runs = record { key = k; spelled = spelled; fact = runs }
 runs_open text k i o (Err (WrongSignature place)) spelled runs = record { key = k; spelled = spelled; fact = runs }
 runs_open text k i o (Err Unverified) spelled runs = record { key = k; spelled = spelled; fact = runs }
 
@@ -92,7 +93,8 @@ runs_under bytes keys name entry c i o (Err (Device place why)) signed named run
 runs_under bytes keys name entry c i o (Err OutOfMemory) signed named runs = (runs.0, runs.1)
 runs_under bytes keys name entry c i o (Err BadName) signed named runs = record { checkpoint = c; signed = signed; named = named; runs = runs }
 runs_under bytes keys name entry c i o (Err BadKey) signed named runs = record { checkpoint = c; signed = signed; named = named; runs = runs }
-runs_under bytes keys name entry c i o (Err BadCheckpoint) signed named runs = absurd runs.0.so
+runs_under bytes keys name entry c i o (Err BadKeyFile) signed named runs = record { checkpoint = c; signed = signed; named = named; runs = runs }
+runs_under bytes keys name entry c i o (Err (BadCheckpoint place)) signed named runs = absurd runs.0.so
 runs_under bytes keys name entry c i o (Err (WrongSignature place)) signed named runs = absurd runs.0.so
 runs_under bytes keys name entry c i o (Err Unverified) signed named runs = absurd runs.0.so
 
@@ -120,7 +122,8 @@ runs_check_opened text bytes entry k i o (Err (Device place why)) spelled runs =
 runs_check_opened text bytes entry k i o (Err OutOfMemory) spelled runs = record { key = k; spelled = spelled; fact = runs }
 runs_check_opened text bytes entry k i o (Err BadName) spelled runs = record { key = k; spelled = spelled; fact = runs }
 runs_check_opened text bytes entry k i o (Err BadKey) spelled runs = absurd runs.runs.0.so
-runs_check_opened text bytes entry k i o (Err BadCheckpoint) spelled runs = record { key = k; spelled = spelled; fact = runs }
+runs_check_opened text bytes entry k i o (Err BadKeyFile) spelled runs = record { key = k; spelled = spelled; fact = runs }
+runs_check_opened text bytes entry k i o (Err (BadCheckpoint place)) spelled runs = record { key = k; spelled = spelled; fact = runs }
 runs_check_opened text bytes entry k i o (Err (WrongSignature place)) spelled runs = record { key = k; spelled = spelled; fact = runs }
 runs_check_opened text bytes entry k i o (Err Unverified) spelled runs = record { key = k; spelled = spelled; fact = runs }
 

@@ -15,7 +15,8 @@ pub runs_signed : (origin bytes : List ℕ) (get : Option (List ℕ)) (k : SeedK
     → RunsBuild (seed_log_key k) get i o r → RunsSigned origin bytes get i o r
 runs_signed origin bytes get k i o (Ok done) file named runs = record { key = k; file = file; fact = (named, runs) }
 runs_signed origin bytes get k i o (Err fault.BadOrigin) file named runs = absurd (runs.0 file.of.name)
-runs_signed origin bytes get k i o (Err fault.BadKey) file named runs = absurd runs.2.0.so
+runs_signed origin bytes get k i o (Err fault.BadKey) file named runs = record { key = k; file = file; fact = (named, runs) }
+runs_signed origin bytes get k i o (Err fault.BadKeyFile) file named runs = absurd runs.2.0.so
 runs_signed origin bytes get k i o (Err fault.OutOfMemory) file named runs = record { key = k; file = file; fact = (runs.2.0, runs.2.1) }
 runs_signed origin bytes get k i o (Err fault.Refused) file named runs = record { key = k; file = file; fact = (named, runs) }
 runs_signed origin bytes get k i o (Err fault.Read) file named runs = record { key = k; file = file; fact = (named, runs) }
@@ -34,6 +35,6 @@ runs_signed origin bytes get k i o (Err fault.Listen) file named runs = record {
 runs_signed origin bytes get k i o (Err fault.Accept) file named runs = record { key = k; file = file; fact = (named, runs) }
 runs_signed origin bytes get k i o (Err (fault.Device place why)) file named runs = record { key = k; file = file; fact = (named, runs) }
 runs_signed origin bytes get k i o (Err fault.BadName) file named runs = record { key = k; file = file; fact = (named, runs) }
-runs_signed origin bytes get k i o (Err fault.BadCheckpoint) file named runs = record { key = k; file = file; fact = (named, runs) }
+runs_signed origin bytes get k i o (Err (fault.BadCheckpoint place)) file named runs = record { key = k; file = file; fact = (named, runs) }
 runs_signed origin bytes get k i o (Err (fault.WrongSignature place)) file named runs = record { key = k; file = file; fact = (named, runs) }
 runs_signed origin bytes get k i o (Err fault.Unverified) file named runs = record { key = k; file = file; fact = (named, runs) }

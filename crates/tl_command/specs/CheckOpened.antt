@@ -11,6 +11,7 @@ use Rattle.tl_command.specs.ProofCommands.{Subject, CheckAboutComes}
 use Rattle.tl_command.specs.Run.{Runs}
 use Rattle.tl_command.specs.declared.fault.RunFault.{RunFault}
 use Rattle.tl_command.specs.declared.fault.RunFault.TheVariants.{BadKey, BadOrigin, BadCheckpoint, WrongSignature, Unverified, OutOfMemory}
+use Rattle.tl_command.specs.declared.place.Place.TheVariants.{File}
 use Rattle.tl_command.specs.Keys.{IsNoKey}
 use Rattle.tl_command.specs.Open.{IsKeyWith, IsWrongNote, IsUnknownNote}
 
@@ -42,7 +43,7 @@ IsIdle i o = IsUnread i × IsUnwritten o
 -- a run under these keys of a log with this name, with the bytes of a checkpoint: what doesn't open, or is of another
 -- log, is refused before anything is read
 abbrev pub RunsUnder : Bytes → List Key → Bytes → Option Bytes → Passage → Passage → Result (Unit {0}) RunFault → Type 0
-RunsUnder bytes keys name entry i o (Err BadCheckpoint) = IsNoCheckpoint bytes × IsIdle i o
+RunsUnder bytes keys name entry i o (Err (BadCheckpoint place)) = (place ≡ File) × IsNoCheckpoint bytes × IsIdle i o
 RunsUnder bytes keys name entry i o (Err (WrongSignature place)) = IsWrongNote keys bytes place × IsIdle i o
 RunsUnder bytes keys name entry i o (Err Unverified) = IsUnknownNote keys bytes × IsIdle i o
 RunsUnder bytes keys name entry i o (Err BadOrigin) = IsOfOther bytes keys name × IsIdle i o

@@ -8,7 +8,7 @@ use Rattle.tl_device.specs.declared.fault.DeviceFault.TheVariants as device
 use Rattle.tl_command.specs.declared.place.Place.{Place}
 use Rattle.tl_command.specs.declared.place.Place.TheVariants.{File, State, Log, Source}
 use Rattle.tl_command.specs.declared.fault.RunFault.{RunFault}
-use Rattle.tl_command.specs.declared.fault.RunFault.TheVariants.{Refused, Read, Write, TooLarge, EntryTooLong, BadOrigin, BadIndex, BadOld, BadPath, NotThere, Malformed, Chain, Sign, Operator, Listen, Accept, OutOfMemory, BadName, BadKey, BadCheckpoint, WrongSignature, Unverified, Device}
+use Rattle.tl_command.specs.declared.fault.RunFault.TheVariants.{Refused, Read, Write, TooLarge, EntryTooLong, BadOrigin, BadIndex, BadOld, BadPath, NotThere, Malformed, Chain, Sign, Operator, Listen, Accept, OutOfMemory, BadName, BadKey, BadCheckpoint, WrongSignature, Unverified, Device, BadKeyFile}
 
 -- a place, where no options tell more of it
 abbrev pub place_words : Place → Bytes
@@ -38,10 +38,11 @@ fault_words Accept = codes "accept failed"
 fault_words OutOfMemory = codes "out of memory"
 fault_words BadName = codes "bad name"
 fault_words BadKey = codes "bad key"
-fault_words BadCheckpoint = codes "bad checkpoint"
+fault_words (BadCheckpoint place) = place_words place ++ codes ": bad checkpoint"
 fault_words (WrongSignature place) = codes "signature " ++ number_text place ++ codes " wrong"
 fault_words Unverified = codes "no known signature"
 fault_words (Device place fault) = place_words place ++ codes ": " ++ device_words fault
+fault_words BadKeyFile = codes "file: bad key"
 
 -- what a fault of a device is told as
 abbrev pub after_device : Place → DeviceFault → RunFault

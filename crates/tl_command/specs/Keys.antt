@@ -7,7 +7,7 @@ use Rattle.tl_text.specs.Text.{line}
 use Rattle.tl_key.specs.KeyText.{IsSignerText, IsVerifierText}
 use Rattle.tl_key.specs.NoteKey.{PublicKey, SeedKey, note_kind}
 use Rattle.tl_command.specs.declared.fault.RunFault.{RunFault}
-use Rattle.tl_command.specs.declared.fault.RunFault.TheVariants.{Device, BadKey, OutOfMemory}
+use Rattle.tl_command.specs.declared.fault.RunFault.TheVariants.{Device, BadKey, BadKeyFile, OutOfMemory}
 use Rattle.tl_command.specs.declared.place.Place.TheVariants.{File}
 
 -- the text is that of no verifier's key of a log
@@ -38,7 +38,7 @@ IsNoPrivateFile kind bytes = ¬ (IsUtf8 bytes) ⊎ ((k : SeedKey) → IsPrivateF
 -- the key that the bytes of a file are the text of, or that there is none
 abbrev pub ReadsPrivate : ℕ → Bytes → Result SeedKey RunFault → Type 0
 ReadsPrivate kind bytes (Ok k) = IsPrivateFile kind bytes k
-ReadsPrivate kind bytes (Err BadKey) = IsNoPrivateFile kind bytes
+ReadsPrivate kind bytes (Err BadKeyFile) = IsNoPrivateFile kind bytes
 ReadsPrivate kind bytes (Err OutOfMemory) = (k : SeedKey) × IsPrivateFile kind bytes k
 ReadsPrivate kind bytes (Err fault) = ⊥
 

@@ -4,7 +4,7 @@ use Rattle.tl_hash.specs.Bytes.{Bytes}
 use Rattle.tl_key.specs.NoteKey.{SeedKey, note_kind}
 use Rattle.tl_device.specs.Device.{Passage, IsSteady, IsUnread, IsUnwritten}
 use Rattle.tl_command.specs.declared.fault.RunFault.{RunFault}
-use Rattle.tl_command.specs.declared.fault.RunFault.TheVariants.{BadKey, BadOrigin, OutOfMemory}
+use Rattle.tl_command.specs.declared.fault.RunFault.TheVariants.{BadKeyFile, BadOrigin, OutOfMemory}
 use Rattle.tl_command.specs.Keys.{IsPrivateFile, IsNoPrivateFile}
 use Rattle.tl_command.specs.Mirror.{seed_log_key}
 use Rattle.tl_command.specs.Build.{RunsBuild}
@@ -18,7 +18,7 @@ pub record IsPrivateFileWith (bytes : Bytes) (Fact : SeedKey → Type 0) : Type 
 -- a run with the bytes of a file: what is no key, or a key of another name than the log's, is refused before anything
 -- is read. Memory is asked for the key, too
 abbrev pub RunsSigned : Bytes → Bytes → Option Bytes → Passage → Passage → Result (Unit {0}) RunFault → Type 0
-RunsSigned origin bytes get i o (Err BadKey) = IsNoPrivateFile note_kind bytes × IsUnread i × IsUnwritten o
+RunsSigned origin bytes get i o (Err BadKeyFile) = IsNoPrivateFile note_kind bytes × IsUnread i × IsUnwritten o
 RunsSigned origin bytes get i o (Err BadOrigin) = IsPrivateFileWith bytes (λ k. k.name ≢ origin) × IsUnread i × IsUnwritten o
 RunsSigned origin bytes get i o (Err OutOfMemory) = IsPrivateFileWith bytes (λ k. IsSteady i × IsUnwritten o)
 RunsSigned origin bytes get i o result = IsPrivateFileWith bytes (λ k. (k.name ≡ origin) × RunsBuild (seed_log_key k) get i o result)

@@ -48,16 +48,18 @@ pub enum RunFault {
     OutOfMemory,
     /// The name can't be a key's.
     BadName,
-    /// The text is no key's.
+    /// The text of an option is no key's.
     BadKey,
-    /// The text is no signed checkpoint.
-    BadCheckpoint,
+    /// What is there is no signed checkpoint.
+    BadCheckpoint(Place),
     /// The signature line at this place, counted from 0, is wrong.
     WrongSignature(u64),
     /// No signature line is of a key that was given.
     Unverified,
     /// A file, a folder or a host that the options name failed.
     Device(Place, DeviceFault),
+    /// The file of a key has none of the type asked for.
+    BadKeyFile,
 }
 
 impl RunFault {
@@ -98,10 +100,11 @@ impl Display for RunFault {
             RunFault::OutOfMemory => f.write_str("out of memory"),
             RunFault::BadName => f.write_str("bad name"),
             RunFault::BadKey => f.write_str("bad key"),
-            RunFault::BadCheckpoint => f.write_str("bad checkpoint"),
+            RunFault::BadCheckpoint(place) => write!(f, "{place}: bad checkpoint"),
             RunFault::WrongSignature(k) => write!(f, "signature {k} wrong"),
             RunFault::Unverified => f.write_str("no known signature"),
             RunFault::Device(place, fault) => write!(f, "{place}: {fault}"),
+            RunFault::BadKeyFile => f.write_str("file: bad key"),
         }
     }
 }

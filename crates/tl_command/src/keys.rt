@@ -7,9 +7,9 @@ use crate::fault::RunFault;
 use crate::place::Place;
 use crate::streams::MOST_INPUT;
 use std::alloc::Global;
-use std::fs::{File, Files, metadata};
+use std::fs::{Files, metadata};
 use std::str;
-use tl_device::{Counted, DeviceFault, read_whole};
+use tl_device::read_plain;
 use tl_key::{KeyFault, KeyKind, NoteVerifier, SignerKey, read_signer_key, read_verifier_key};
 
 /// The verifier's key of a log that a text is of (C2SP signed-note, "Verifier keys"). `BadKey`: the text is of none.
@@ -24,7 +24,7 @@ pub fn read_log_key(alloc: Global, text: &str) -> Result<NoteVerifier<Global>, R
 }
 
 /// The private key whose text the bytes of a file are, with a newline after it or without (`tl_key::read_signer_key`).
-/// Bytes of no key of the type asked for are `BadKey`.
+/// `BadKeyFile`: they are of no key of the type asked for.
 pub fn read_private_key<K: KeyKind>(
     alloc: Global,
     bytes: &[u8],
@@ -32,7 +32,7 @@ pub fn read_private_key<K: KeyKind>(
     ensures { ReadsPrivate K.KIND bytes.now result }
 {
     let Ok(text) = str::from_utf8(bytes) else {
-        return Err(RunFault::BadKey);
+        return Err(RunFault::BadKeyFile);
     };
     let read = match text.strip_suffix("\n") {
         Some(line) => read_signer_key(alloc, line),
@@ -41,20 +41,7 @@ pub fn read_private_key<K: KeyKind>(
     match read {
         Ok(key) => Ok(key),
         Err(KeyFault::OutOfMemory) => Err(RunFault::OutOfMemory),
-        Err(_) => Err(RunFault::BadKey),
-    }
-}
-
-// The bytes of the plain file at this path, at most as many as an input may have. (The look and the opening are two
-// calls: who may write there can put another thing there in between.)
-fn read_plain<H: Files>(files: &H, alloc: Global, path: &str) -> Result<Vec<u8>, DeviceFault> {
-    if !metadata(files, path)?.is_file() {
-        return Err(DeviceFault::NotPlain);
-    }
-    let file = File::open(files, path)?;
-    match read_whole(alloc, &mut Counted::new(file), MOST_INPUT) {
-        Ok(bytes) => Ok(bytes),
-        Err(fault) => Err(DeviceFault::from(fault)),
+        Err(_) => Err(RunFault::BadKeyFile),
     }
 }
 
@@ -63,7 +50,7 @@ fn read_plain<H: Files>(files: &H, alloc: Global, path: &str) -> Result<Vec<u8>,
 pub fn read_file<H: Files>(files: &H, alloc: Global, path: &str) -> Result<Vec<u8>, RunFault>
     ensures { ReadsFile result }
 {
-    match read_plain(files, alloc, path) {
+    match read_plain(alloc, files, path, metadata(files, path), MOST_INPUT) {
         Ok(bytes) => Ok(bytes),
         Err(fault) => Err(RunFault::of_device(Place::File, fault)),
     }

@@ -5,7 +5,7 @@ use Rattle.std.specs.declared.io.ErrorKind.TheVariants as kind
 use Rattle.tl_device.specs.declared.counted.InputFault.{InputFault}
 use Rattle.tl_device.specs.declared.counted.InputFault.TheVariants as input
 use Rattle.tl_device.specs.declared.fault.DeviceFault.{DeviceFault}
-use Rattle.tl_device.specs.declared.fault.DeviceFault.TheVariants.{NotThere, Taken, Denied, ReadOnly, Full, NotPlain, NotFolder, Moved, Busy, TooLarge, Damaged, NoHost, NoConnection, Unreachable, TimedOut, Broken, Status, NotHttp, Encoded, BadLength, CutShort, OutOfMemory, System}
+use Rattle.tl_device.specs.declared.fault.DeviceFault.TheVariants.{NotThere, Taken, Denied, ReadOnly, Full, NotPlain, NotFolder, Moved, Busy, TooLarge, Damaged, NoHost, NoConnection, Unreachable, TimedOut, Broken, Status, NotHttp, Encoded, BadLength, BadChunk, CutShort, OutOfMemory, System}
 
 -- what an error of this kind is told as
 abbrev pub after_kind : ErrorKind → DeviceFault
@@ -57,6 +57,7 @@ device_words (Status status) = decimal status
 device_words NotHttp = codes "no response over HTTP"
 device_words Encoded = codes "encoded body"
 device_words BadLength = codes "body of no clear length"
+device_words BadChunk = codes "malformed chunk"
 device_words CutShort = codes "body cut short"
 device_words OutOfMemory = codes "out of memory"
 device_words System = codes "input/output error"

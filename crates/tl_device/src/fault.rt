@@ -54,6 +54,8 @@ pub enum DeviceFault {
     Encoded,
     /// The response doesn't say how long its body is.
     BadLength,
+    /// A chunk of the body isn't well formed.
+    BadChunk,
     /// The connection ended before the body of the response did.
     CutShort,
     /// A growth was refused.
@@ -62,11 +64,11 @@ pub enum DeviceFault {
     System,
 }
 
-impl From<ErrorKind> for DeviceFault {
-    ghost from_gives = { λ kind fault. fault ≡ after_kind kind };
+impl From<io::Error> for DeviceFault {
+    ghost from_gives = { λ error fault. fault ≡ after_kind (error_kind error) };
 
-    fn from(kind: ErrorKind) -> DeviceFault {
-        match kind {
+    fn from(error: io::Error) -> DeviceFault {
+        match error.kind() {
             ErrorKind::NotFound => DeviceFault::NotThere,
             ErrorKind::AlreadyExists => DeviceFault::Taken,
             ErrorKind::PermissionDenied => DeviceFault::Denied,
@@ -86,14 +88,6 @@ impl From<ErrorKind> for DeviceFault {
             ErrorKind::OutOfMemory => DeviceFault::OutOfMemory,
             _ => DeviceFault::System,
         }
-    }
-}
-
-impl From<io::Error> for DeviceFault {
-    ghost from_gives = { λ error fault. fault ≡ after_kind (error_kind error) };
-
-    fn from(error: io::Error) -> DeviceFault {
-        DeviceFault::from(error.kind())
     }
 }
 
@@ -153,6 +147,7 @@ impl Display for DeviceFault {
             DeviceFault::NotHttp => f.write_str("no response over HTTP"),
             DeviceFault::Encoded => f.write_str("encoded body"),
             DeviceFault::BadLength => f.write_str("body of no clear length"),
+            DeviceFault::BadChunk => f.write_str("malformed chunk"),
             DeviceFault::CutShort => f.write_str("body cut short"),
             DeviceFault::OutOfMemory => f.write_str("out of memory"),
             DeviceFault::System => f.write_str("input/output error"),

@@ -1,5 +1,6 @@
 //! Readers and writers that remember whether they failed: reading a whole input, writing a whole text, also
-//! in pieces. Connections that have to end in time. Why a file, a folder or a host failed.
+//! in pieces. Plain files that are read whole. Connections that have to end in time. Why a file, a folder or a host
+//! failed.
 //!
 //! ```
 //! let mut reader = Counted::new(b"two\nlines\n".as_slice());
@@ -13,9 +14,11 @@
 mod counted;
 mod fault;
 mod pieces;
+mod plain;
 mod timed;
 
 pub use counted::{Counted, InputFault, WriteFault, read_whole, write_whole};
 pub use fault::DeviceFault;
 pub use pieces::write_pieces;
+pub use plain::read_plain;
 pub use timed::Timed;

@@ -2,4 +2,3 @@ pub mod Cuts
 pub mod Hosts
 pub mod Urls
 pub mod Askings
-pub mod Bodies

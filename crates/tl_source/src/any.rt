@@ -30,10 +30,9 @@ impl<H: Files + Net<Stream = TcpStream> + Clock> AnySource<'_, H> {
 }
 
 impl<H: Files + Net<Stream = TcpStream> + Clock> ResourceSource for AnySource<'_, H> {
-    ghost use Rattle.std.specs.Prelude.{◌≤◌, length};
-    ghost use Rattle.tl_source.specs.Limits.{most_bytes};
+    ghost use Rattle.tl_source.specs.Sources.{any_answers, origin_of};
 
-    ghost may_answer = { λ _ r text. length text ≤ most_bytes r };
+    ghost may_answer = { λ s. any_answers (origin_of s) };
 
     ghost may_lack = { λ _ _. Unit {0} };
 

@@ -8,11 +8,11 @@ use crate::lack::{Lack, LastLack};
 use crate::limit::most_bytes;
 use crate::place::path_under;
 use std::alloc::{Allocator, Global};
-use std::fs::{File, Files, Metadata, metadata, symlink_metadata};
+use std::fs::{Files, Metadata, metadata, symlink_metadata};
 use std::io;
 use std::marker::Model;
 use tl_client::ResourceSource;
-use tl_device::{Counted, DeviceFault, read_whole};
+use tl_device::{DeviceFault, read_plain};
 use tl_tile::{Resource, SourceFault};
 
 /// The resources of a log in the plain files under a folder, each at its path (C2SP tlog-tiles). Contracts see the
@@ -53,11 +53,8 @@ impl<'s, H: Files> FolderSource<'s, H> {
         ensures { result ≡ folder.now }
     {
         FolderSource {
-            files,
-            alloc,
-            folder,
             follows_links: false,
-            last: LastLack::new(),
+            ..FolderSource::new(files, alloc, folder)
         }
     }
 
@@ -76,7 +73,7 @@ impl<'s, H: Files> FolderSource<'s, H> {
     }
 
     // The bytes of the plain file of a resource. All else isn't opened: that of a FIFO waits for a writer, and a device
-    // may have no end. The look and the opening are two calls: who may write into the folder can come between them.
+    // may have no end.
     fn bytes_of<A: Allocator>(
         &self,
         alloc: A,
@@ -86,14 +83,8 @@ impl<'s, H: Files> FolderSource<'s, H> {
         ensures { IfOk result (λ bytes. length bytes.items ≤ most_bytes resource.now) }
     {
         let path = path_under(self.alloc, self.folder, resource)?;
-        if !self.look(path.as_str())?.is_file() {
-            return Err(DeviceFault::NotPlain);
-        }
-        let file = File::open(self.files, path.as_str())?;
-        match read_whole(alloc, &mut Counted::new(file), most_bytes(resource)) {
-            Ok(bytes) => Ok(bytes),
-            Err(fault) => Err(DeviceFault::from(fault)),
-        }
+        let (path, most) = (path.as_str(), most_bytes(resource));
+        read_plain(alloc, self.files, path, self.look(path), most)
     }
 }
 

@@ -3,7 +3,7 @@
 ghost use Rattle.std.specs.Prelude.{◌≡◌, IfOk};
 ghost use Rattle.tl_tile.specs.Path.{IsResource};
 ghost use Rattle.tl_source.specs.Asking.{MayGive};
-ghost use Rattle.tl_source.specs.Inner.Asking.{after_get};
+ghost use Rattle.tl_source.specs.Lacking.{after_get};
 
 use crate::asking::ask;
 use crate::lack::{Lack, LastLack};
@@ -68,6 +68,7 @@ fn why_none(fault: GetFault, is_late: bool) -> DeviceFault
         GetFault::Status(status) => DeviceFault::Status(status),
         GetFault::Encoded => DeviceFault::Encoded,
         GetFault::BadLength => DeviceFault::BadLength,
+        GetFault::BadChunk => DeviceFault::BadChunk,
         GetFault::TooLarge => DeviceFault::TooLarge,
         GetFault::Short => DeviceFault::CutShort,
         GetFault::OutOfMemory => DeviceFault::OutOfMemory,

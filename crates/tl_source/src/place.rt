@@ -7,6 +7,7 @@ ghost use Rattle.tl_source.specs.Places.{place_text};
 ghost use Rattle.tl_source.specs.Inner.Besides.{beside_text};
 
 use std::alloc::{AllocError, Allocator};
+use tl_client::is_tile;
 use tl_tile::{Resource, path_of};
 
 /// A text, a slash and the path of a resource.
@@ -39,9 +40,7 @@ pub(crate) fn has_path(resource: &Resource) -> bool
     ensures { IsTrue result ↔ IsResource resource.now }
 {
     match resource {
-        Resource::Tile(tile) => {
-            tile.level <= 7 && tile.index < 1 << 56 && 0 < tile.width && tile.width <= 256
-        }
+        Resource::Tile(tile) => is_tile(*tile),
         Resource::Entries { index, width } => *index < 1 << 56 && 0 < *width && *width <= 256,
         Resource::Checkpoint => true,
     }

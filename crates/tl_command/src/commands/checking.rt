@@ -12,6 +12,7 @@ use crate::commands::check::run_check_about;
 use crate::commands::opening::note_refusal;
 use crate::fault::RunFault;
 use crate::keys::read_log_key;
+use crate::place::Place;
 use std::alloc::Global;
 use std::io::{Read, Write};
 use std::str;
@@ -35,9 +36,9 @@ fn checkpoint_refusal(fault: OpenCheckpointFault) -> RunFault
     ensures { result ≡ after_opening fault }
 {
     match fault {
-        OpenCheckpointFault::Unopened(NoteFault::Malformed) => RunFault::BadCheckpoint,
+        OpenCheckpointFault::Unopened(NoteFault::Malformed) => RunFault::BadCheckpoint(Place::File),
         OpenCheckpointFault::Unopened(fault) => note_refusal(fault),
-        OpenCheckpointFault::NoCheckpoint(_) => RunFault::BadCheckpoint,
+        OpenCheckpointFault::NoCheckpoint(_) => RunFault::BadCheckpoint(Place::File),
         OpenCheckpointFault::OutOfMemory => RunFault::OutOfMemory,
     }
 }
@@ -51,7 +52,7 @@ fn checkpoint_of(
     ensures { OpensBytes bytes.now (map (λ verifier. key verifier) verifiers.now) result }
 {
     let Ok(note) = str::from_utf8(bytes) else {
-        return Err(RunFault::BadCheckpoint);
+        return Err(RunFault::BadCheckpoint(Place::File));
     };
     match open_checkpoint(alloc, note, verifiers) {
         Ok(checkpoint) => Ok(checkpoint),
@@ -59,7 +60,8 @@ fn checkpoint_of(
     }
 }
 
-// Checks the proof of the input against the checkpoint, where it opens under these keys and is of the log with this name.
+// Checks the proof of the input against the checkpoint, where it opens under these keys and is of the log with this
+// name.
 fn check_under<R: Read, W: Write>(
     alloc: Global,
     verifiers: &[Box<dyn Verifier>],
@@ -106,11 +108,11 @@ fn check_by<R: Read, W: Write>(
     check_under(alloc, verifiers, name, bytes, entry, reader, writer)
 }
 
-/// `check` against a signed checkpoint: the bytes of a note that opens under the key that `text` is of (as for
-/// `run_open`) and whose text is a checkpoint of the log with the key's name (C2SP tlog-checkpoint). Then `accepted` is written where the proof is
-/// accepted and is about the checkpoint's tree, of a consistency proof the new one, and with an entry only where it is
-/// an inclusion proof of that entry. A text of no such key is `BadKey`, what is no checkpoint that opens
-/// `BadCheckpoint`, `WrongSignature` or `Unverified`, and one of another log `BadOrigin`, all before anything is read.
+/// `check` against a signed checkpoint: a note that opens under the key of this text, whose text is a checkpoint of
+/// the log with the key's name (C2SP tlog-checkpoint). `accepted` is written where the proof is accepted and about the
+/// checkpoint's tree, of a consistency proof the new one, and with an entry only where it is an inclusion proof of it.
+/// A text of no key is `BadKey`, what is no checkpoint that opens `BadCheckpoint`, `WrongSignature` or `Unverified`,
+/// one of another log `BadOrigin`, all before anything is read.
 pub fn run_check_opened<R: Read, W: Write>(
     alloc: Global,
     text: &str,

@@ -25,8 +25,8 @@ pub struct SignedOptions {
 }
 
 /// `build`, signed by the private key whose text the bytes are (`tl_key::read_signer_key`), with a newline after it or
-/// without: a key of notes, whose name is the origin. Bytes of no such key are `BadKey`, a key of another name is
-/// `BadOrigin`, both before anything is read.
+/// without: a key of notes, whose name is the origin. Bytes of no such key are `BadKeyFile`, a key of another name
+/// is `BadOrigin`, both before anything is read.
 pub fn run_build_signed<A: Allocator + Copy, R: Read, W: Write>(
     alloc: A,
     global: Global,

@@ -1,6 +1,6 @@
 use Rattle.std.proofs.Common.{ℕ, ◌≤◌, length, subst, ◌∙◌}
 use Rattle.tl_source.proofs.Askings.{asked}
-use Rattle.tl_source.proofs.Bodies.{gets_fits}
+use Rattle.tl_get.proofs.Fits.{gets_fits}
 use Rattle.tl_source.proofs.asking.ask.Goals as goal
 
 pub returns-in-Ok-clause-short : goal.returns-in-Ok-clause-short

@@ -1,11 +1,11 @@
-use Rattle.std.proofs.Common.{rules}
+use Rattle.std.proofs.Common.{refl, rules}
 use Rattle.tl_checkpoint.specs.Checkpoint.{checkpoint_text}
 use Rattle.tl_command.proofs.NoteBytes.{note_utf8}
 use Rattle.tl_command.proofs.NoCheckpoints.{opening_refused}
 use Rattle.tl_command.proofs.commands.checking.checkpoint_of.Goals as goal
 
 pub returns-in_default : goal.returns-in_default
-returns-in_default g c = λ head lines stated noted. c.in_default.ensures.cases.0 (note_utf8 c.args.bytes.now (checkpoint_text head) lines noted)
+returns-in_default g c = (refl, λ head lines stated noted. c.in_default.ensures.cases.0 (note_utf8 c.args.bytes.now (checkpoint_text head) lines noted))
 
 pub returns-in-Err : goal.returns-in-Err
 returns-in-Err g c = opening_refused _ c.args.bytes.now c.in-Ok.note.now _ c.in-Err.fault c.checkpoint_refusal.result c.checkpoint_refusal.ensures c.in-Err.ensures (search rules)

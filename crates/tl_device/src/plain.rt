@@ -1,0 +1,41 @@
+//! A plain file that is read whole.
+
+ghost use Rattle.std.specs.Prelude.{◌≡◌, ◌≤◌, Err, IfErr, IfOk, length};
+ghost use Rattle.std.specs.Fs.{IsFile, file_type};
+ghost use Rattle.std.specs.IoError.{error_kind};
+ghost use Rattle.tl_device.specs.Faults.{after_kind};
+
+use crate::counted::{Counted, read_whole};
+use crate::fault::DeviceFault;
+use std::alloc::Allocator;
+use std::fs::{File, Files, Metadata};
+use std::io;
+
+/// The bytes of the plain file at a path of which the system told this, at most `most` of them; a link is followed if
+/// `told` did. `NotPlain`: something else is there, as a FIFO, whose opening waits for a writer. `TooLarge`: the file
+/// has more bytes. (The look and the opening are two calls: who may write there can put another thing there in
+/// between.)
+pub fn read_plain<A: Allocator, H: Files>(
+    alloc: A,
+    files: &H,
+    path: &str,
+    told: io::Result<Metadata>,
+    most: u64,
+) -> Result<Vec<u8, A>, DeviceFault>
+    ensures short { IfOk result (λ bytes. length bytes.items ≤ most) }
+    ensures other { IfOk told (λ m. ¬ IsFile (file_type m) → result ≡ Err DeviceFault.NotPlain) }
+    ensures failed { IfErr told (λ e. result ≡ Err (after_kind (error_kind e))) }
+{
+    let found = match told {
+        Ok(found) => found,
+        Err(error) => return Err(DeviceFault::from(error)),
+    };
+    if !found.is_file() {
+        return Err(DeviceFault::NotPlain);
+    }
+    let file = File::open(files, path)?;
+    match read_whole(alloc, &mut Counted::new(file), most) {
+        Ok(bytes) => Ok(bytes),
+        Err(fault) => Err(DeviceFault::from(fault)),
+    }
+}

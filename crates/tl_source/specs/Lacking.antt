@@ -1,0 +1,23 @@
+-- Why a host gave no body.
+use Rattle.std.specs.Prelude.{Bool, true, false}
+use Rattle.tl_device.specs.declared.fault.DeviceFault.{DeviceFault}
+use Rattle.tl_device.specs.declared.fault.DeviceFault.TheVariants as device
+use Rattle.tl_get.specs.declared.fault.GetFault.{GetFault}
+use Rattle.tl_get.specs.declared.fault.GetFault.TheVariants as get
+
+-- why a host gave no body, after the fault of a request, and by whether the time was over
+abbrev pub after_get : Bool → GetFault → DeviceFault
+after_get true get.Read = device.TimedOut
+after_get false get.Read = device.Broken
+after_get true get.Write = device.TimedOut
+after_get false get.Write = device.Broken
+after_get late get.NoHead = device.NotHttp
+after_get late get.Version = device.NotHttp
+after_get late (get.Status status) = device.Status status
+after_get late get.Encoded = device.Encoded
+after_get late get.BadLength = device.BadLength
+after_get late get.TooLarge = device.TooLarge
+after_get late get.Short = device.CutShort
+after_get late get.OutOfMemory = device.OutOfMemory
+after_get late get.BadTarget = device.System
+after_get late get.BadChunk = device.BadChunk
