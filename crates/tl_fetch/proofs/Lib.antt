@@ -2,3 +2,5 @@ pub mod EntryLemmas
 pub mod Passages
 pub mod ListingLemmas
 pub mod RunLemmas
+pub mod Trusts
+pub mod KeptLemmas

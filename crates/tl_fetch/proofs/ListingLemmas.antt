@@ -1,5 +1,5 @@
 -- Entries from one index on, bundle by bundle, and what is printed of them.
-use Rattle.std.proofs.Common.{◌≡◌, ℕ, ◌+◌, ◌-◌, ◌*◌, ◌/◌, ◌%◌, ◌<◌, ◌≤◌, List, [], ◌++◌, length, take, drop, slice_index_or, sym, ap, map, subst, lt_of_lt_of_le, ◌∙◌, arith, ◌⊎◌, inl, inr, Option, refl}
+use Rattle.std.proofs.Common.{◌≡◌, ℕ, ◌+◌, ◌-◌, ◌*◌, ◌/◌, ◌%◌, ◌<◌, ◌≤◌, List, [], ◌++◌, length, take, drop, slice_index_or, sym, ap, map, subst, lt_of_lt_of_le, ◌∙◌, arith, ◌⊎◌, inl, inr, Option, Some, None, Bool, append-nil, refl}
 use Rattle.std.proofs.lemmas.List.{drop-map, take_rest, length-map, get_or-drop, length-drop, length-append, get_or_append_left, get_or-append_right}
 use Rattle.std.proofs.lemmas.List.Concat.{flat_map-append}
 use Rattle.std.proofs.lemmas.Bool.{cases_lt}
@@ -138,3 +138,13 @@ after_nothing a b c e none = e ∙ ap (λ (l : Bytes). l ++ c) none
 pub record IsPrinting (head : Head) (from next : ℕ) (o : Passage) : Type 0 where
   pub printed : PrintedWhole (AreLinesBetween head from next) o
   pub within : next ≤ head.size
+
+-- nothing is printed yet
+appends_none : (b : Option Bytes) → Appends b b []
+appends_none None = tt
+appends_none (Some bytes) = sym (append-nil bytes)
+
+pub printing_none : (head : Head) (from : ℕ) (b : Option Bytes) (f : Bool) → from ≤ head.size
+    → IsPrinting head from from (record { old = b; new = b; had_failed = f; has_failed = f })
+printing_none head from b f within =
+    record { printed = ([], lines_none head from, record { appended = appends_none b; steady = refl }); within = within }

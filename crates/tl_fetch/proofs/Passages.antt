@@ -1,5 +1,5 @@
 -- What was written before a call and in it.
-use Rattle.std.proofs.Common.{◌≡◌, ◌++◌, take, sym, ap, subst, ◌∙◌, inl, inr, Option, Some, None, Result, Ok, Err, OnErr}
+use Rattle.std.proofs.Common.{◌≡◌, ◌++◌, take, refl, sym, ap, subst, ◌∙◌, inl, inr, Bool, Option, Some, None, Result, Ok, Err, OnErr}
 use Rattle.std.proofs.KnownBytes.{Keeps-trans}
 use Rattle.std.specs.Io.KnownBytes.{Appends, Keeps}
 use Rattle.tl_hash.specs.Bytes.{Bytes}
@@ -42,6 +42,14 @@ silent_some Is o p on none (inr (t, is, count, part)) =
 pub some_map : (Is Js : Bytes → Type 0) (o : Passage) → ((t : Bytes) → Is t → Js t) → PrintedSome Is o → PrintedSome Js o
 some_map Is Js o f (inl none) = inl none
 some_map Is Js o f (inr (t, is, count, part)) = inr (t, f t is, count, part)
+
+-- nothing was written
+keeps_same : (b : Option Bytes) → Keeps b b
+keeps_same None = tt
+keeps_same (Some bytes) = refl
+
+pub still : (b : Option Bytes) (f : Bool) → IsUnwritten (record { old = b; new = b; had_failed = f; has_failed = f })
+still b f = (keeps_same b, refl)
 
 -- what holds whatever the fault
 pub on_err : {X E P : Type 0} (r : Result X E) → P → OnErr r P

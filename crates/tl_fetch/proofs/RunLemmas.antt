@@ -15,21 +15,21 @@ use Rattle.tl_fetch.specs.declared.options.FetchOptions.{FetchOptions}
 use Rattle.tl_fetch.specs.declared.options.FetchRequest.{FetchRequest}
 use Rattle.tl_fetch.specs.declared.options.FetchRequest.TheVariants as wanted
 use Rattle.tl_fetch.specs.Faults.{IsNoAccusation, after_client}
+use Rattle.tl_fetch.specs.Inner.Judging.{IsOfGrowth, two_of}
 use Rattle.tl_fetch.specs.Command.{RunsUnder, may_have}
 use Rattle.tl_fetch.specs.Inner.Naming.{Renames}
-use Rattle.tl_fetch.specs.Inner.Judging.{IsOfGrowth, RefusesTwo, two_of}
-use Rattle.tl_fetch.specs.Fetching.{AreTwo, HasFetched, IsAccused, MayPrint, RefusesFetch, Two, evidence_text}
+use Rattle.tl_fetch.specs.Fetching.{AreTwo, EndsFetch, Grounds, HasFetched, IsAccused, MayPrint, RefusesFetch, RefusesTwo, Two, evidence_text}
 use Rattle.tl_fetch.specs.Trusting.{IsGrown, IsKnown, IsNoteOf, Policy}
 use Rattle.tl_fetch.proofs.Passages.{GoesOn, joined, silent_some, silent_whole, some_map}
-use Rattle.tl_fetch.specs.Printed.{FailsPrinting, IsBegun, IsWanted, PrintedSome, PrintedWhole}
+use Rattle.tl_fetch.specs.Printed.{FailsPrinting, IsBegun, IsWanted, PrintedSome, PrintedWhole, RefusesWanted}
 
--- a refused growth that accuses the log, with the evidence printed
-pub accused : (answers : Resource → Bytes → Type 0) (lacks : Resource → Type 0) (two : Two) (fault : ClientFault) (o : Passage) → IsOfGrowth fault
-    → RefusesGrowth answers lacks two.old two.new fault → PrintedWhole (λ text. text ≡ evidence_text two.last two.note) o → RefusesTwo two (after_client fault) o
-accused answers lacks two fault o (inl shrunk) refused printed =
-    inl (inl (ap after_client shrunk, subst (λ (f : ClientFault). RefusesGrowth answers lacks two.old two.new f) shrunk refused), printed)
-accused answers lacks two fault o (inr forked) refused printed =
-    inl (inr (ap after_client forked, subst (λ (f : ClientFault). RefusesGrowth answers lacks two.old two.new f) forked refused), printed)
+-- a refused growth that accuses the log
+pub accusation : (answers : Resource → Bytes → Type 0) (lacks : Resource → Type 0) (two : Two) (fault : ClientFault) → IsOfGrowth fault
+    → RefusesGrowth answers lacks two.old two.new fault → IsAccused two (after_client fault)
+accusation answers lacks two fault (inl shrunk) refused =
+    inl (ap after_client shrunk, subst (λ (f : ClientFault). RefusesGrowth answers lacks two.old two.new f) shrunk refused)
+accusation answers lacks two fault (inr forked) refused =
+    inr (ap after_client forked, subst (λ (f : ClientFault). RefusesGrowth answers lacks two.old two.new f) forked refused)
 
 -- all that is wanted is a beginning of it
 pub whole_begun : (origin : Bytes) (known : ℕ) (head : Head) (what : FetchRequest) (text : Bytes) → IsWanted origin known head what text → IsBegun origin known head what text
@@ -64,30 +64,44 @@ fair_result Why (Ok done) shrunk forked fails = tt
 fair_result Why (Err fault) shrunk forked fails = fair_printing Why fault shrunk forked fails
 
 -- a log that is refused by its two checkpoints
-pub refused_two : (may_have : Option Bytes → Type 0) (policy : Policy) (what : FetchRequest) (two : Two) (fault : FetchFault) (o : Passage) → AreTwo may_have policy two
-    → RefusesTwo two fault o → RefusesFetch may_have policy what fault o
-refused_two may_have policy what two fault o are (inl (so, printed)) = inl (record { two = two; are = are; so = so; printed = printed })
-refused_two may_have policy what two fault o are (inr (fair, printed)) =
-    inr (fair, some_map (λ text. text ≡ evidence_text two.last two.note) (MayPrint may_have policy what) o (λ t is. (two, are, inr is)) printed)
+pub refused_two : (grounds : Grounds) (policy : Policy) (what : FetchRequest) (two : Two) (fault : FetchFault) (o : Passage) → AreTwo grounds.has policy two
+    → RefusesTwo grounds two fault o → RefusesFetch grounds policy what fault o
+refused_two grounds policy what two fault o are refused = inr (two, are, inl refused)
 
 -- what is printed of a log that goes on, after nothing was
-pub fetched_two : (may_have : Option Bytes → Type 0) (policy : Policy) (what : FetchRequest) (two : Two) (o p : Passage) → AreTwo may_have policy two → IsGrown two.old two.new
-    → GoesOn o p → IsUnwritten o → PrintedWhole (IsWanted policy.origin two.old.size two.new what) p → HasFetched may_have policy what (joined o p)
-fetched_two may_have policy what two o p are grown on none printed =
-    record { two = two; are = are; grown = grown; printed = silent_whole (IsWanted policy.origin two.old.size two.new what) o p on none printed }
+pub fetched_two : (may_have : Option Bytes → Type 0) (has_kept : Bytes → Type 0) (policy : Policy) (what : FetchRequest) (two : Two) (o p : Passage) → AreTwo may_have policy two → IsGrown two.old two.new
+    → GoesOn o p → IsUnwritten o → PrintedWhole (IsWanted policy.origin two.old.size two.new what) p → has_kept two.note → HasFetched may_have has_kept policy what (joined o p)
+fetched_two may_have has_kept policy what two o p are grown on none printed kept =
+    record { two = two; are = are; grown = grown; printed = silent_whole (IsWanted policy.origin two.old.size two.new what) o p on none printed; kept = kept }
 
-pub begun_two : (may_have : Option Bytes → Type 0) (policy : Policy) (what : FetchRequest) (two : Two) (fault : FetchFault) (o p : Passage) → AreTwo may_have policy two
+-- the same, whatever is kept
+pub fetched_any : (may_have : Option Bytes → Type 0) (has_kept : Bytes → Type 0) (policy : Policy) (what : FetchRequest) (o : Passage) → HasFetched may_have has_kept policy what o
+    → HasFetched may_have (λ note. Unit {0}) policy what o
+fetched_any may_have has_kept policy what o f = record { two = f.two; are = f.are; grown = f.grown; printed = f.printed; kept = tt }
+
+-- what was begun of a log that goes on, after nothing was printed
+pub begun_two : (grounds : Grounds) (policy : Policy) (what : FetchRequest) (two : Two) (fault : FetchFault) (o p : Passage) → AreTwo grounds.has policy two
     → IsGrown two.old two.new → GoesOn o p → IsUnwritten o → IsNoAccusation fault → PrintedSome (IsBegun policy.origin two.old.size two.new what) p
-    → RefusesFetch may_have policy what fault (joined o p)
-begun_two may_have policy what two fault o p are grown on none fair printed =
-    let Is = IsBegun policy.origin two.old.size two.new what in
-    inr (fair, some_map Is (MayPrint may_have policy what) (joined o p) (λ t is. (two, are, inl (grown, is))) (silent_some Is o p on none printed))
+    → grounds.fails fault ⊎ RefusesWanted grounds.answers grounds.lacks two.old.size two.new what fault
+    → RefusesFetch grounds policy what fault (joined o p)
+begun_two grounds policy what two fault o p are grown on none fair printed why =
+    inr (two, are, inr (record { grown = grown; why = why; fair = fair; printed = silent_some (IsBegun policy.origin two.old.size two.new what) o p on none printed }))
 
 -- the two checkpoints, by what the code has of them
 pub are_two : (may_have : Option Bytes → Type 0) (policy : Policy) (last kept : Option Bytes) (old new : Head) (read note : Bytes) → last ≡ kept → read ≡ note → may_have kept
-    → IsKnown policy last old → IsNoteOf policy read new → AreTwo may_have policy (two_of last old note new)
+    → IsKnown policy kept old → IsNoteOf policy read new → AreTwo may_have policy (two_of last old note new)
 are_two may_have policy last kept old new read note same_last same_note had known trusted =
-    record { had = subst may_have (sym same_last) had; known = known; trusted = subst (λ (n : Bytes). IsNoteOf policy n new) same_note trusted }
+    record { had = subst may_have (sym same_last) had; known = subst (λ (l : Option Bytes). IsKnown policy l old) (sym same_last) known; trusted = subst (λ (n : Bytes). IsNoteOf policy n new) same_note trusted }
+
+-- how a run ended, in short
+pub ended_in_short : (grounds : Grounds) (policy : Policy) (what : FetchRequest) (fault : FetchFault) (o : Passage) → RefusesFetch grounds policy what fault o → EndsFetch grounds.has policy what fault o
+ended_in_short grounds policy what fault o (inl (lacks, fair, none)) = inr (fair, inl none)
+ended_in_short grounds policy what fault o (inr (two, are, inl (inl (so, printed)))) = inl (record { two = two; are = are; so = so; printed = printed })
+ended_in_short grounds policy what fault o (inr (two, are, inl (inr (inl (write, accused, printed))))) =
+    inr (subst IsNoAccusation (sym write) tt, some_map (λ text. text ≡ evidence_text two.last two.note) (MayPrint grounds.has policy what) o (λ t is. (two, are, inr is)) printed)
+ended_in_short grounds policy what fault o (inr (two, are, inl (inr (inr (why, fair, none))))) = inr (fair, inl none)
+ended_in_short grounds policy what fault o (inr (two, are, inr grown)) =
+    inr (grown.fair, some_map (IsBegun policy.origin two.old.size two.new what) (MayPrint grounds.has policy what) o (λ t is. (two, are, inl (grown.grown, is))) grown.printed)
 
 -- a log of which something isn't available isn't accused
 unaccused : (two : Two) (fault : FetchFault) → fault ≡ fetch.Unavailable → IsAccused two fault → ⊥
@@ -96,8 +110,8 @@ unaccused two fault is (inr (forked, fork)) = let wrong : fetch.Unavailable ≡ 
 
 -- a refusal whose fault names what was lacked
 pub named_refusal : (may_have : Option Bytes → Type 0) (policy : Policy) (what : FetchRequest) (fault told : FetchFault) (o : Passage) → (told ≡ fault) ⊎ ((fault ≡ fetch.Unavailable) × IsNoAccusation told)
-    → RefusesFetch may_have policy what fault o → RefusesFetch may_have policy what told o
-named_refusal may_have policy what fault told o (inl same) refuses = subst (λ (f : FetchFault). RefusesFetch may_have policy what f o) (sym same) refuses
+    → EndsFetch may_have policy what fault o → EndsFetch may_have policy what told o
+named_refusal may_have policy what fault told o (inl same) refuses = subst (λ (f : FetchFault). EndsFetch may_have policy what f o) (sym same) refuses
 named_refusal may_have policy what fault told o (inr (is, fair)) (inr (none, printed)) = inr (fair, printed)
 named_refusal may_have policy what fault told o (inr (is, fair)) (inl accused) = absurd (unaccused accused.two fault is accused.so)
 

@@ -5,13 +5,14 @@ use Rattle.tl_key.specs.KeyText.{IsVerifierText}
 use Rattle.tl_key.specs.NoteKey.{PublicKey, note_kind, cosignature_kind, verifier_key}
 use Rattle.tl_key.specs.Reading.{IsNoVerifierText}
 use Rattle.tl_device.specs.Device.{Passage, IsUnwritten}
+use Rattle.tl_command.specs.declared.place.Place.TheVariants.{State}
 use Rattle.tl_command.specs.declared.fault.RunFault.{RunFault}
-use Rattle.tl_command.specs.declared.fault.RunFault.TheVariants.{OutOfMemory, BadKey}
+use Rattle.tl_command.specs.declared.fault.RunFault.TheVariants.{BadCheckpoint, BadKey, Device, OutOfMemory}
 use Rattle.tl_fetch.specs.declared.fault.FetchFault.{FetchFault}
 use Rattle.tl_fetch.specs.declared.fault.FetchFault.TheVariants.{Run, BadWitness}
 use Rattle.tl_fetch.specs.declared.options.FetchOptions.{FetchOptions}
 use Rattle.tl_fetch.specs.Trusting.{Policy}
-use Rattle.tl_fetch.specs.Fetching.{HasFetched, RefusesFetch}
+use Rattle.tl_fetch.specs.Fetching.{HasFetched, EndsFetch}
 
 -- the texts that are told as those of the witnesses' keys, and the one at a place
 abbrev pub witness_texts : FetchOptions → List Bytes
@@ -33,10 +34,17 @@ abbrev pub may_have : {A : Type 0} → Option A → Option Bytes → Type 0
 may_have None had = had ≡ None
 may_have (Some path) had = Unit {0}
 
+-- a file of a state fails: the device, memory, or what is there is no text
+abbrev pub IsStateFault : FetchFault → Type 0
+IsStateFault (Run (Device State why)) = Unit {0}
+IsStateFault (Run (BadCheckpoint State)) = Unit {0}
+IsStateFault (Run OutOfMemory) = Unit {0}
+IsStateFault fault = ⊥
+
 -- a run under a policy
 abbrev pub RunsUnder : Policy → FetchOptions → Passage → Result (Unit {0}) FetchFault → Type 0
-RunsUnder policy options o (Ok done) = HasFetched (may_have options.state) policy options.wanted o
-RunsUnder policy options o (Err fault) = RefusesFetch (may_have options.state) policy options.wanted fault o
+RunsUnder policy options o (Ok done) = HasFetched (may_have options.state) (λ note. Unit {0}) policy options.wanted o
+RunsUnder policy options o (Err fault) = EndsFetch (may_have options.state) policy options.wanted fault o
 
 -- reading the log's key fails: the text is of no key, or memory ran out
 abbrev pub IsLogKeyFault : FetchOptions → RunFault → Type 0

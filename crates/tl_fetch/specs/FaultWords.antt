@@ -4,7 +4,7 @@ use Rattle.tl_hash.specs.Bytes.{Bytes}
 use Rattle.tl_text.specs.Text.{number_text}
 use Rattle.tl_command.specs.Faults.{exit_status, fault_text, fault_words}
 use Rattle.tl_fetch.specs.declared.fault.FetchFault.{FetchFault}
-use Rattle.tl_fetch.specs.declared.fault.FetchFault.TheVariants.{Run, BadAddress, BadWitness, Twice, Unavailable, OtherLog, TooFew, BadTile, BadBundle, BadEntry, Shrunk, Forked, BadState}
+use Rattle.tl_fetch.specs.declared.fault.FetchFault.TheVariants.{Run, BadAddress, BadWitness, Twice, Unavailable, OtherLog, TooFew, BadTile, BadBundle, BadEntry, Shrunk, Forked}
 
 -- what it says
 abbrev pub fetch_words : FetchFault → Bytes
@@ -21,7 +21,6 @@ fetch_words (BadBundle index) = codes "entry bundle " ++ number_text index ++ co
 fetch_words (BadEntry index) = codes "entry " ++ number_text index ++ codes " wrong"
 fetch_words Shrunk = codes "log shrank"
 fetch_words Forked = codes "log forked"
-fetch_words BadState = codes "bad state"
 
 -- the line on standard error, without its newline, if there is one
 abbrev pub fetch_text : FetchFault → Option Bytes

@@ -4,7 +4,10 @@ use Rattle.tl_client.specs.declared.fault.ClientFault.{ClientFault}
 use Rattle.tl_client.specs.declared.fault.ClientFault.TheVariants as client
 use Rattle.tl_client.specs.declared.head.HeadFault.{HeadFault}
 use Rattle.tl_client.specs.declared.head.HeadFault.TheVariants as head
+use Rattle.tl_tile.specs.declared.resource.Resource.TheVariants as resource
 use Rattle.tl_command.specs.Open.{after_note}
+use Rattle.tl_command.specs.declared.place.Place.TheVariants as place
+use Rattle.tl_command.specs.declared.fault.RunFault.{RunFault}
 use Rattle.tl_command.specs.declared.fault.RunFault.TheVariants as run
 use Rattle.tl_fetch.specs.declared.fault.FetchFault.{FetchFault}
 use Rattle.tl_fetch.specs.declared.fault.FetchFault.TheVariants as fetch
@@ -20,12 +23,16 @@ after_client client.Shrunk = fetch.Shrunk
 after_client client.Forked = fetch.Forked
 after_client client.OutOfMemory = fetch.Run run.OutOfMemory
 
+-- what the source has for the checkpoint is none
+abbrev pub bad_checkpoint : RunFault
+bad_checkpoint = run.BadCheckpoint (place.Source resource.Checkpoint)
+
 -- a checkpoint that isn't trusted
 abbrev pub after_head : HeadFault → FetchFault
 after_head head.Twice = fetch.Twice
-after_head (head.Unopened note.Malformed) = fetch.Run run.BadCheckpoint
+after_head (head.Unopened note.Malformed) = fetch.Run bad_checkpoint
 after_head (head.Unopened fault) = fetch.Run (after_note fault)
-after_head (head.NoCheckpoint fault) = fetch.Run run.BadCheckpoint
+after_head (head.NoCheckpoint fault) = fetch.Run bad_checkpoint
 after_head (head.TooFew count) = fetch.TooFew count
 after_head head.OutOfMemory = fetch.Run run.OutOfMemory
 

@@ -2,4 +2,6 @@
 pub
     mod Judging
 pub
+    mod Trusted
+pub
     mod Naming

@@ -1,15 +1,18 @@
 -- Why a checkpoint isn't trusted (C2SP signed-note, tlog-checkpoint, tlog-cosignature).
-use Rattle.std.specs.Prelude.{◌≡◌, ◌≢◌, ◌⊎◌, Err}
+use Rattle.std.specs.Prelude.{◌≡◌, ◌≢◌, ◌⊎◌, Err, IsUtf8, Option, Some, None}
 use Rattle.std.specs.Global.{Global}
 use Rattle.tl_hash.specs.Bytes.{Bytes}
+use Rattle.tl_tile.specs.declared.resource.Resource.{Resource}
+use Rattle.tl_tile.specs.declared.resource.Resource.TheVariants.{Checkpoint}
 use Rattle.tl_checkpoint.specs.Checkpoint as checkpoint
 use Rattle.tl_client.specs.Trusted.{IsTrusted, OpensHead}
 use Rattle.tl_client.specs.declared.head.HeadFault.{HeadFault}
-use Rattle.tl_command.specs.declared.fault.RunFault.TheVariants.{OutOfMemory}
+use Rattle.tl_command.specs.declared.place.Place.TheVariants.{State}
+use Rattle.tl_command.specs.declared.fault.RunFault.TheVariants.{BadCheckpoint, OutOfMemory}
 use Rattle.tl_fetch.specs.declared.fault.FetchFault.{FetchFault}
-use Rattle.tl_fetch.specs.declared.fault.FetchFault.TheVariants.{Run, OtherLog, BadState}
-use Rattle.tl_fetch.specs.Faults.{after_head}
-use Rattle.tl_fetch.specs.Trusting.{Policy}
+use Rattle.tl_fetch.specs.declared.fault.FetchFault.TheVariants.{Run, OtherLog, Unavailable}
+use Rattle.tl_fetch.specs.Faults.{after_head, bad_checkpoint}
+use Rattle.tl_fetch.specs.Trusting.{Policy, alone}
 
 -- a note that is trusted, of a log with another name
 pub record IsOfOther (policy : Policy) (note : Bytes) : Type 0 where
@@ -26,6 +29,24 @@ IsUntrusted policy note fault =
 abbrev pub RefusesNote : Policy → Bytes → FetchFault → Type 0
 RefusesNote policy note fault = ((fault ≡ OtherLog) × IsOfOther policy note) ⊎ IsUntrusted policy note fault
 
--- a state is refused for these reasons alone
-abbrev pub RefusesState : FetchFault → Type 0
-RefusesState fault = (fault ≡ Run OutOfMemory) ⊎ (fault ≡ BadState)
+-- what is told where a state's note gives no size and root
+abbrev pub after_state : FetchFault → FetchFault
+after_state (Run OutOfMemory) = Run OutOfMemory
+after_state fault = Run (BadCheckpoint State)
+
+-- the note of a state isn't the log's, whoever cosigned it
+abbrev pub RefusesState : Policy → Option Bytes → FetchFault → Type 0
+RefusesState policy None fault = ⊥
+RefusesState policy (Some note) fault = (why : FetchFault) × RefusesNote (alone policy) note why × (fault ≡ after_state why)
+
+-- bytes that a source has for the checkpoint are no text, or a note that isn't trusted
+abbrev pub RefusesBytes : Policy → Bytes → FetchFault → Type 0
+RefusesBytes policy bytes fault = (¬ (IsUtf8 bytes) × (fault ≡ Run bad_checkpoint)) ⊎ RefusesNote policy bytes fault
+
+-- a source that may answer these texts and may lack these resources gives no checkpoint that is trusted: it lacks it,
+-- memory ran out, or what it gives is refused
+abbrev pub RefusesCheckpoint : (Resource → Bytes → Type 0) → (Resource → Type 0) → Policy → FetchFault → Type 0
+RefusesCheckpoint answers lacks policy fault =
+    ((fault ≡ Unavailable) × lacks Checkpoint)
+    ⊎ ((fault ≡ Run OutOfMemory)
+    ⊎ ((bytes : Bytes) × answers Checkpoint bytes × RefusesBytes policy bytes fault))

@@ -17,7 +17,7 @@ use Rattle.tl_tile.specs.declared.resource.Resource.{Resource}
 use Rattle.tl_client.specs.declared.fault.ClientFault.{ClientFault}
 use Rattle.tl_hash.specs.declared.head.Head.{Head}
 use Rattle.tl_fetch.specs.Faults.{after_client}
-use Rattle.tl_fetch.specs.Entries.{IsCheckedEntry, AreLinesBetween, RefusesBundle}
+use Rattle.tl_fetch.specs.Entries.{IsCheckedEntry, AreLinesBetween, RefusesBundle, RefusesOne, RefusesProof}
 
 -- lines: the log's name, its size and its root
 abbrev pub head_text : Bytes → Head → Bytes
@@ -75,3 +75,10 @@ FailsPrinting Why fault =
 abbrev pub RefusesAll : (Resource → Bytes → Type 0) → (Resource → Type 0) → Head → ℕ → FetchFault → Type 0
 RefusesAll answers lacks head from fault =
     ((head.size < from) × (fault ≡ Run BadIndex)) ⊎ FailsPrinting (λ why. (bundle : ℕ) × RefusesBundle answers lacks head bundle why) fault
+
+-- what is wanted of a log of which so many entries were known isn't printed whole, for this reason
+abbrev pub RefusesWanted : (Resource → Bytes → Type 0) → (Resource → Type 0) → ℕ → Head → FetchRequest → FetchFault → Type 0
+RefusesWanted answers lacks known head wanted.Head fault = (fault ≡ Run Write) ⊎ (fault ≡ Run OutOfMemory)
+RefusesWanted answers lacks known head (wanted.Entry index) fault = FailsPrinting (RefusesOne answers lacks head index) fault
+RefusesWanted answers lacks known head wanted.All fault = RefusesAll answers lacks head known fault
+RefusesWanted answers lacks known head (wanted.Proof index) fault = FailsPrinting (RefusesProof answers lacks head index) fault

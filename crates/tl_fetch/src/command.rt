@@ -5,7 +5,7 @@ ghost use Rattle.tl_device.specs.Device.{passage};
 ghost use Rattle.tl_key.specs.KeyText.{IsVerifierText};
 ghost use Rattle.tl_key.specs.NoteKey.{PublicKey, cosignature_kind, note_kind, verifier_key};
 ghost use Rattle.tl_key.specs.Reading.{IsNoVerifierText};
-ghost use Rattle.tl_fetch.specs.Command.{IsKeyFault, RunsFetch, RunsUnder};
+ghost use Rattle.tl_fetch.specs.Command.{IsKeyFault, RunsFetch, RunsUnder, witness_text};
 ghost use Rattle.tl_fetch.specs.Faults.{IsNoAccusation};
 ghost use Rattle.tl_fetch.specs.Inner.Naming.{Renames};
 ghost use Rattle.tl_fetch.specs.Trusting.{policy_of};
@@ -16,7 +16,7 @@ use crate::observer::Observer;
 use crate::options::FetchOptions;
 use crate::policy::Policy;
 use crate::progress::Progress;
-use crate::run::fetch_under;
+use crate::run::fetch_in_short;
 use crate::state::NoState;
 use crate::state_file::{FileState, file_refusal};
 use std::alloc::{AllocError, Global};
@@ -71,6 +71,8 @@ fn witness_key(
     place: usize,
 ) -> Result<CosignerVerifier<Global>, FetchFault>
     requires { place < length (vec_items options.now.witnesses) }
+    ensures read { IfOk result
+        (λ k. IsVerifierText cosignature_kind (witness_text options.now place) k) }
     ensures refused { IfErr result (IsKeyFault options.now) }
 {
     match read_witness(alloc, options.witnesses[place].as_str())? {
@@ -95,7 +97,7 @@ fn fetch_with_state<H: Files<File = File>, S: ResourceSource, O: Observer, W: Wr
 {
     let wanted = options.wanted;
     let Some(path) = &options.state else {
-        return fetch_under(
+        return fetch_in_short(
             alloc,
             source,
             policy,
@@ -110,7 +112,7 @@ fn fetch_with_state<H: Files<File = File>, S: ResourceSource, O: Observer, W: Wr
         Err(fault) => return Err(file_refusal(fault)),
     };
     let mut state = FileState(file);
-    fetch_under(alloc, source, policy, wanted, &mut state, observer, writer)
+    fetch_in_short(alloc, source, policy, wanted, &mut state, observer, writer)
 }
 
 // A fault, which names what the last call of the source lacked where that is why it came.

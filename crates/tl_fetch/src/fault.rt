@@ -42,8 +42,6 @@ pub enum FetchFault {
     Shrunk,
     /// The log is no continuation of the one that was trusted last.
     Forked,
-    /// The state is no checkpoint of the log.
-    BadState,
 }
 
 impl Display for FetchFault {
@@ -69,7 +67,6 @@ impl Display for FetchFault {
             FetchFault::BadEntry(i) => write!(f, "entry {i} wrong"),
             FetchFault::Shrunk => f.write_str("log shrank"),
             FetchFault::Forked => f.write_str("log forked"),
-            FetchFault::BadState => f.write_str("bad state"),
         }
     }
 }

@@ -5,8 +5,14 @@ ghost use Rattle.tl_fetch.specs.Faults.{IsNoAccusation, after_client, after_head
 
 use crate::fault::FetchFault;
 use tl_client::{ClientFault, HeadFault};
-use tl_command::{RunFault, note_refusal};
+use tl_command::{Place, RunFault, note_refusal};
 use tl_note::NoteFault;
+use tl_tile::Resource;
+
+/// That what a source has for the checkpoint is none.
+pub(crate) const BAD_CHECKPOINT: RunFault = RunFault::BadCheckpoint(Place::Source(
+    Resource::Checkpoint,
+));
 
 /// Why a check refused.
 pub(crate) fn client_refusal(fault: ClientFault) -> FetchFault
@@ -39,9 +45,9 @@ pub(crate) fn head_refusal(fault: HeadFault) -> FetchFault
 {
     match fault {
         HeadFault::Twice => FetchFault::Twice,
-        HeadFault::Unopened(NoteFault::Malformed) => FetchFault::Run(RunFault::BadCheckpoint),
+        HeadFault::Unopened(NoteFault::Malformed) => FetchFault::Run(BAD_CHECKPOINT),
         HeadFault::Unopened(fault) => FetchFault::Run(note_refusal(fault)),
-        HeadFault::NoCheckpoint(_) => FetchFault::Run(RunFault::BadCheckpoint),
+        HeadFault::NoCheckpoint(_) => FetchFault::Run(BAD_CHECKPOINT),
         HeadFault::TooFew(count) => FetchFault::TooFew(count),
         HeadFault::OutOfMemory => FetchFault::Run(RunFault::OutOfMemory),
     }

@@ -12,6 +12,7 @@ mod command;
 mod entry;
 mod fault;
 mod faults;
+mod kept;
 mod listing;
 mod observer;
 mod opening;

@@ -8,10 +8,11 @@ ghost use Rattle.tl_fetch.specs.Printed.{FailsPrinting, PrintedSome, PrintedWhol
 
 use crate::fault::FetchFault;
 use crate::faults::client_refusal;
+use crate::kept::read_bundle;
 use crate::observer::Observer;
 use std::alloc::{AllocError, Allocator};
 use std::io::Write;
-use tl_client::{Head, ResourceSource, read_entries};
+use tl_client::{Head, ResourceSource};
 use tl_command::{RunFault, print_text};
 use tl_device::Counted;
 use tl_tile::FetchedTiles;
@@ -37,6 +38,7 @@ fn lines_from<S: ResourceSource, A: Allocator + Copy, O: Observer>(
     source: &S,
     head: &Head,
     from: u64,
+    kept: &mut FetchedTiles<A>,
     observer: &mut O,
 ) -> Result<(Vec<u8, A>, u64), FetchFault>
     requires { from < head.now.size }
@@ -46,9 +48,7 @@ fn lines_from<S: ResourceSource, A: Allocator + Copy, O: Observer>(
     ensures refused { IfErr result (FailsPrinting
         (RefusesBundle (S.may_answer source.now) (S.may_lack source.now) head.now (from / 256))) }
 {
-    let Head { size, root } = *head;
-    let mut fetched = FetchedTiles::new(alloc);
-    let entries = match read_entries(alloc, source, size, root, from / 256, &mut fetched) {
+    let entries = match read_bundle(alloc, source, head, from / 256, kept) {
         Ok(entries) => entries,
         Err(fault) => return Err(client_refusal(fault)),
     };
@@ -56,7 +56,7 @@ fn lines_from<S: ResourceSource, A: Allocator + Copy, O: Observer>(
     let next = from + rest.len() as u64;
     let mut text = Vec::new(alloc);
     push_lines(&mut text, rest)?;
-    observer.checked(head, &fetched, next);
+    observer.checked(head, kept, next);
     Ok((text, next))
 }
 
@@ -66,6 +66,7 @@ fn print_bundle<S: ResourceSource, A: Allocator + Copy, O: Observer, W: Write>(
     source: &S,
     head: &Head,
     from: u64,
+    kept: &mut FetchedTiles<A>,
     observer: &mut O,
     writer: &mut Counted<W>,
 ) -> Result<u64, FetchFault>
@@ -79,14 +80,15 @@ fn print_bundle<S: ResourceSource, A: Allocator + Copy, O: Observer, W: Write>(
     ensures refused { IfErr result (FailsPrinting
         (RefusesBundle (S.may_answer source.now) (S.may_lack source.now) head.now (from / 256))) }
 {
-    let (text, next) = lines_from(alloc, source, head, from, observer)?;
+    let (text, next) = lines_from(alloc, source, head, from, kept, observer)?;
     print_text(writer, text.as_slice())?;
     Ok(next)
 }
 
 /// Prints the entries from this index on, counted from 0, up to the end of a log of this size and root, a line each.
-/// Each is checked as by `fetch_entry`, and nothing is printed of a bundle that doesn't pass its check. `BadIndex`
-/// comes where the index is above the size, or the log has more than 2^62 entries.
+/// Each is checked as by `fetch_entry`, and nothing is printed of a bundle that doesn't pass its check. A tile that was
+/// asked for isn't asked for again by the next bundle. `BadIndex` comes where the index is above the size, or the log
+/// has more than 2^62 entries.
 pub fn print_entries<S: ResourceSource, A: Allocator + Copy, O: Observer, W: Write>(
     alloc: A,
     source: &S,
@@ -105,9 +107,10 @@ pub fn print_entries<S: ResourceSource, A: Allocator + Copy, O: Observer, W: Wri
     if from > head.size {
         return Err(FetchFault::Run(RunFault::BadIndex));
     }
+    let mut kept = FetchedTiles::new(alloc);
     let mut next = from;
     while next < head.size {
-        next = print_bundle(alloc, source, head, next, observer, writer)?;
+        next = print_bundle(alloc, source, head, next, &mut kept, observer, writer)?;
     }
     Ok(())
 }

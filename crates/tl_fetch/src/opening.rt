@@ -1,21 +1,29 @@
-//! The checkpoint that a source has.
+//! The checkpoints that are trusted: the one of the state, and the one that a source has.
 
-ghost use Rattle.std.specs.Prelude.{IfOk, IfErr, map, option_map};
+ghost use Rattle.std.specs.Prelude.{◌≡◌, IfErr, IfOk, map, option_map, string_bytes};
+ghost use Rattle.tl_tile.specs.declared.resource.Resource.TheVariants.{Checkpoint};
 ghost use Rattle.tl_fetch.specs.Faults.{IsNoAccusation};
-ghost use Rattle.tl_fetch.specs.Opening.{RefusesNote, RefusesState};
+ghost use Rattle.tl_fetch.specs.Fetching.{LacksTrust, grounds_of};
+ghost use Rattle.tl_fetch.specs.Inner.Trusted.{LacksLast, RefusesText};
+ghost use Rattle.tl_fetch.specs.Opening.{RefusesCheckpoint, RefusesNote, RefusesState, after_state};
 ghost use Rattle.tl_fetch.specs.Trusting.{IsKnown, IsNoteOf, policy_of};
 
 use crate::fault::FetchFault;
-use crate::faults::head_refusal;
+use crate::faults::{BAD_CHECKPOINT, head_refusal};
 use crate::policy::Policy;
+use crate::state::TrustStore;
 use std::alloc::Global;
 use tl_client::{Head, ResourceSource, open_cosigned};
-use tl_command::RunFault;
+use tl_command::{Place, RunFault};
 use tl_hash::{Sha256Tree, empty_hash};
 use tl_tile::{Resource, SourceFault};
 
-/// The text that a source has for the checkpoint. Bytes that are no text are `BadCheckpoint`.
-pub(crate) fn read_note<S: ResourceSource>(alloc: Global, source: &S) -> Result<String, FetchFault>
+// The text that a source has for the checkpoint. Bytes that are no text are `BadCheckpoint`.
+fn read_note<S: ResourceSource>(alloc: Global, source: &S) -> Result<String, FetchFault>
+    ensures text { IfOk result
+        (λ note. S.may_answer source.now Checkpoint (string_bytes note)) }
+    ensures refused { IfErr result
+        (RefusesText (S.may_answer source.now) (S.may_lack source.now)) }
     ensures fair { IfErr result IsNoAccusation }
 {
     let bytes = match source.get(alloc, &Resource::Checkpoint) {
@@ -25,7 +33,7 @@ pub(crate) fn read_note<S: ResourceSource>(alloc: Global, source: &S) -> Result<
     };
     match String::from_utf8(bytes) {
         Ok(note) => Ok(note),
-        Err(_) => Err(FetchFault::Run(RunFault::BadCheckpoint)),
+        Err(_) => Err(FetchFault::Run(BAD_CHECKPOINT)),
     }
 }
 
@@ -54,8 +62,19 @@ pub fn open_trusted(alloc: Global, policy: &Policy<'_>, note: &str) -> Result<He
     })
 }
 
+// What is told where a state's note gives no size and root.
+fn state_refusal(fault: FetchFault) -> FetchFault
+    ensures value { result ≡ after_state fault }
+    ensures fair { IsNoAccusation result }
+{
+    match fault {
+        FetchFault::Run(RunFault::OutOfMemory) => FetchFault::Run(RunFault::OutOfMemory),
+        _ => FetchFault::Run(RunFault::BadCheckpoint(Place::State)),
+    }
+}
+
 /// The size and the root that are known by the note that was trusted last: of none those of a log of no entries. A note
-/// that isn't of the log is `BadState`.
+/// that isn't of the log is `BadCheckpoint` over the state.
 pub fn trusted_head(
     alloc: Global,
     policy: &Policy<'_>,
@@ -65,7 +84,9 @@ pub fn trusted_head(
         key v) policy.now.log.now) (map (λ w. key w) policy.now.witnesses.now) policy.now.need)
         (option_map (λ s. s.now) last.entry) head) }
     ensures fair { IfErr result IsNoAccusation }
-    ensures refused { IfErr result RefusesState }
+    ensures refused { IfErr result (RefusesState (policy_of policy.now.origin.now (map (λ v.
+        key v) policy.now.log.now) (map (λ w. key w) policy.now.witnesses.now) policy.now.need)
+        (option_map (λ s. s.now) last.entry)) }
 {
     let Some(note) = last else {
         return Ok(Head {
@@ -81,7 +102,92 @@ pub fn trusted_head(
     };
     match open_trusted(alloc, &alone, note) {
         Ok(head) => Ok(head),
-        Err(FetchFault::Run(RunFault::OutOfMemory)) => Err(FetchFault::Run(RunFault::OutOfMemory)),
-        Err(_) => Err(FetchFault::BadState),
+        Err(fault) => Err(state_refusal(fault)),
+    }
+}
+
+/// A note, and the size and the root of its log.
+#[derive(Drop)]
+pub(crate) struct Trusted<N> {
+    pub(crate) note: N,
+    pub(crate) head: Head,
+}
+
+// What a state has, and what is known by it.
+fn trusted_last<K: TrustStore>(
+    alloc: Global,
+    policy: &Policy<'_>,
+    state: &K,
+) -> Result<Trusted<Option<String>>, FetchFault>
+    ensures had { IfOk result (λ t. K.may_have state.now (option_map string_bytes t.note)) }
+    ensures known { IfOk result (λ t. IsKnown (policy_of policy.now.origin.now (map (λ v.
+        key v) policy.now.log.now) (map (λ w. key w) policy.now.witnesses.now) policy.now.need)
+        (option_map string_bytes t.note) t.head) }
+    ensures fair { IfErr result IsNoAccusation }
+    ensures refused { IfErr result (LacksLast (K.may_fail state.now) (K.may_have state.now)
+        (policy_of policy.now.origin.now (map (λ v. key v) policy.now.log.now)
+        (map (λ w. key w) policy.now.witnesses.now) policy.now.need)) }
+{
+    let note = match state.last(alloc) {
+        Ok(note) => note,
+        Err(fault) => return Err(fault),
+    };
+    match trusted_head(alloc, policy, note.as_deref()) {
+        Ok(head) => Ok(Trusted { note, head }),
+        Err(fault) => Err(fault),
+    }
+}
+
+// What a source has for the checkpoint, where it is trusted.
+fn trusted_now<S: ResourceSource>(
+    alloc: Global,
+    source: &S,
+    policy: &Policy<'_>,
+) -> Result<Trusted<String>, FetchFault>
+    ensures trusted { IfOk result
+        (λ t. IsNoteOf (policy_of policy.now.origin.now (map (λ v. key v) policy.now.log.now) (map
+        (λ w. key w) policy.now.witnesses.now) policy.now.need) (string_bytes t.note) t.head) }
+    ensures fair { IfErr result IsNoAccusation }
+    ensures refused { IfErr result (RefusesCheckpoint (S.may_answer source.now)
+        (S.may_lack source.now) (policy_of policy.now.origin.now (map (λ v. key v)
+        policy.now.log.now) (map (λ w. key w) policy.now.witnesses.now) policy.now.need)) }
+{
+    let note = match read_note(alloc, source) {
+        Ok(note) => note,
+        Err(fault) => return Err(fault),
+    };
+    match open_trusted(alloc, policy, note.as_str()) {
+        Ok(head) => Ok(Trusted { note, head }),
+        Err(fault) => Err(fault),
+    }
+}
+
+/// What a state has, and what a source has for the checkpoint, where both are trusted.
+pub(crate) fn trusted_two<S: ResourceSource, K: TrustStore>(
+    alloc: Global,
+    source: &S,
+    policy: &Policy<'_>,
+    state: &K,
+) -> Result<(Trusted<Option<String>>, Trusted<String>), FetchFault>
+    ensures had { IfOk result (λ t. K.may_have state.now (option_map string_bytes t.0.note)) }
+    ensures known { IfOk result (λ t. IsKnown (policy_of policy.now.origin.now (map (λ v.
+        key v) policy.now.log.now) (map (λ w. key w) policy.now.witnesses.now) policy.now.need)
+        (option_map string_bytes t.0.note) t.0.head) }
+    ensures trusted { IfOk result (λ t. IsNoteOf
+        (policy_of policy.now.origin.now (map (λ v. key v) policy.now.log.now) (map (λ w.
+        key w) policy.now.witnesses.now) policy.now.need) (string_bytes t.1.note) t.1.head) }
+    ensures fair { IfErr result IsNoAccusation }
+    ensures refused { IfErr result (LacksTrust (grounds_of (S.may_answer source.now)
+        (S.may_lack source.now) (K.may_have state.now) (K.may_fail state.now)) (policy_of
+        policy.now.origin.now (map (λ v. key v) policy.now.log.now)
+        (map (λ w. key w) policy.now.witnesses.now) policy.now.need)) }
+{
+    let last = match trusted_last(alloc, policy, state) {
+        Ok(last) => last,
+        Err(fault) => return Err(fault),
+    };
+    match trusted_now(alloc, source, policy) {
+        Ok(now) => Ok((last, now)),
+        Err(fault) => Err(fault),
     }
 }

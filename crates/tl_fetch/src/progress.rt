@@ -40,9 +40,7 @@ impl<'e, E: Write> Progress<'e, E> {
         let (tiles, size) = (self.tiles, head.size);
         let end = if next == size { "\n" } else { "" };
         let alloc = self.alloc;
-        let line = format!(in alloc;
-            "\r{tiles} tiles fetched, {next} of {size} entries checked{end}"
-        )?;
+        let line = format!(in alloc; "\r{tiles} tiles and {next} of {size} entries checked{end}")?;
         print_text(self.errors, line.as_bytes())
     }
 }

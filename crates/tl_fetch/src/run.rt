@@ -1,19 +1,19 @@
 //! Fetching from any source, whoever keeps the state.
 
-ghost use Rattle.std.specs.Prelude.{◌≡◌, ◌++◌, IfErr, MatchBool, OnErr, OnOk, map, option_map};
+ghost use Rattle.std.specs.Prelude.{◌≡◌, ◌⊎◌, ◌++◌, IfErr, MatchBool, OnErr, OnOk, map, option_map};
 ghost use Rattle.tl_client.specs.Refused.{RefusesGrowth};
 ghost use Rattle.tl_device.specs.Device.{IsUnwritten, passage};
 ghost use Rattle.tl_fetch.specs.Faults.{IsNoAccusation, after_client};
-ghost use Rattle.tl_fetch.specs.Fetching.{HasFetched, RefusesFetch, evidence_text};
-ghost use Rattle.tl_fetch.specs.Inner.Judging.{IsOfGrowth, RefusesTwo, two_of};
-ghost use Rattle.tl_fetch.specs.Printed.{IsBegun, IsWanted, PrintedSome, PrintedWhole};
+ghost use Rattle.tl_fetch.specs.Fetching.{EndsFetch, HasFetched, RefusesFetch, RefusesTwo, evidence_text, grounds_of};
+ghost use Rattle.tl_fetch.specs.Inner.Judging.{IsOfGrowth, two_of};
+ghost use Rattle.tl_fetch.specs.Printed.{IsBegun, IsWanted, PrintedSome, PrintedWhole, RefusesWanted};
 ghost use Rattle.tl_fetch.specs.Trusting.{IsGrown, IsKnown, IsNoteOf, policy_of};
 
 use crate::fault::FetchFault;
 use crate::faults::client_refusal;
 use crate::listing::print_entries;
 use crate::observer::Observer;
-use crate::opening::{open_trusted, read_note, trusted_head};
+use crate::opening::trusted_two;
 use crate::options::FetchRequest;
 use crate::policy::Policy;
 use crate::printing::{print_entry, print_head, print_proof};
@@ -94,6 +94,8 @@ fn print_asked<S: ResourceSource, O: Observer, W: Write>(
     ensures part { OnErr result (PrintedSome (IsBegun policy.now.origin.now
         asked.known head.now asked.wanted) (passage W.contents writer.old writer.new)) }
     ensures fair { IfErr result IsNoAccusation }
+    ensures refused { IfErr result (RefusesWanted (S.may_answer source.now) (S.may_lack source.now)
+        asked.known head.now asked.wanted) }
 {
     match asked.wanted {
         FetchRequest::Head => print_head(alloc, policy.origin, head, writer),
@@ -128,9 +130,10 @@ fn judge<S: ResourceSource, W: Write>(
 ) -> Result<(), FetchFault>
     ensures grown { OnOk result (IsGrown step.now.old.now step.now.new.now) }
     ensures silent { OnOk result (IsUnwritten (passage W.contents writer.old writer.new)) }
-    ensures refused { IfErr result
-        (λ fault. RefusesTwo (two_of (option_map (λ s. s.now) step.now.last) step.now.old.now
-        step.now.note.now step.now.new.now) fault (passage W.contents writer.old writer.new)) }
+    ensures refused { IfErr result (λ fault. RefusesTwo (grounds_of (S.may_answer source.now)
+        (S.may_lack source.now) (λ _. Unit {0}) (λ _. Unit {0})) (two_of (option_map (λ s. s.now)
+        step.now.last) step.now.old.now step.now.note.now step.now.new.now) fault
+        (passage W.contents writer.old writer.new)) }
 {
     let Err(fault) = check_grown(alloc, source, step.old, step.new) else {
         return Ok(());
@@ -164,9 +167,13 @@ fn print_and_keep<S: ResourceSource, K: TrustStore, O: Observer, W: Write>(
     requires grown { IsGrown step.now.old.now step.now.new.now }
     ensures printed { OnOk result (PrintedWhole (IsWanted policy.now.origin.now
         step.now.old.now.size step.now.new.now wanted) (passage W.contents writer.old writer.new)) }
+    ensures kept { OnOk result (K.has_kept state.new step.now.note.now) }
     ensures part { OnErr result (PrintedSome (IsBegun policy.now.origin.now
         step.now.old.now.size step.now.new.now wanted) (passage W.contents writer.old writer.new)) }
     ensures fair { IfErr result IsNoAccusation }
+    ensures refused { IfErr result (λ fault. K.may_fail state.old fault
+        ⊎ RefusesWanted (S.may_answer source.now) (S.may_lack source.now)
+        step.now.old.now.size step.now.new.now wanted fault) }
 {
     let known = step.old.size;
     if let FetchRequest::All = wanted {
@@ -174,15 +181,8 @@ fn print_and_keep<S: ResourceSource, K: TrustStore, O: Observer, W: Write>(
         return state.keep(policy, step.last, step.note);
     }
     state.keep(policy, step.last, step.note)?;
-    print_asked(
-        alloc,
-        source,
-        policy,
-        step.new,
-        Task { wanted, known },
-        observer,
-        writer,
-    )
+    let asked = Task { wanted, known };
+    print_asked(alloc, source, policy, step.new, asked, observer, writer)
 }
 
 /// Fetches what is wanted of the log of this policy. The source's checkpoint has to be trusted (`open_trusted`), and
@@ -198,25 +198,25 @@ pub fn fetch_under<S: ResourceSource, K: TrustStore, O: Observer, W: Write>(
     observer: &mut O,
     writer: &mut Counted<W>,
 ) -> Result<(), FetchFault>
-    ensures fetched { OnOk result (HasFetched (K.may_have state.old)
+    ensures fetched { OnOk result (HasFetched (K.may_have state.old) (K.has_kept state.new)
         (policy_of policy.now.origin.now (map (λ v. key v) policy.now.log.now)
         (map (λ w. key w) policy.now.witnesses.now) policy.now.need) wanted
         (passage W.contents writer.old writer.new)) }
-    ensures refused { IfErr result (λ fault. RefusesFetch (K.may_have state.old)
+    ensures refused { IfErr result (λ fault. RefusesFetch (grounds_of (S.may_answer source.now)
+        (S.may_lack source.now) (K.may_have state.old) (K.may_fail state.old))
         (policy_of policy.now.origin.now (map (λ v. key v) policy.now.log.now)
         (map (λ w. key w) policy.now.witnesses.now) policy.now.need) wanted fault
         (passage W.contents writer.old writer.new)) }
 {
-    let kept = state.last(alloc)?;
-    let last = kept.as_deref();
-    let old = trusted_head(alloc, policy, last)?;
-    let note = read_note(alloc, source)?;
-    let new = open_trusted(alloc, policy, note.as_str())?;
+    let (last, now) = match trusted_two(alloc, source, policy, state) {
+        Ok(both) => both,
+        Err(fault) => return Err(fault),
+    };
     let step = Update {
-        last,
-        old: &old,
-        note: note.as_str(),
-        new: &new,
+        last: last.note.as_deref(),
+        old: &last.head,
+        note: now.note.as_str(),
+        new: &now.head,
     };
     if let Err(fault) = judge(alloc, source, &step, writer) {
         return Err(fault);
@@ -224,6 +224,32 @@ pub fn fetch_under<S: ResourceSource, K: TrustStore, O: Observer, W: Write>(
     match print_and_keep(
         alloc, source, policy, &step, wanted, state, observer, writer,
     ) {
+        Ok(()) => Ok(()),
+        Err(fault) => Err(fault),
+    }
+}
+
+/// The same, of which less is told: who is accused and what is printed, whatever the source answers and the state
+/// keeps.
+pub(crate) fn fetch_in_short<S: ResourceSource, K: TrustStore, O: Observer, W: Write>(
+    alloc: Global,
+    source: &S,
+    policy: &Policy<'_>,
+    wanted: FetchRequest,
+    state: &mut K,
+    observer: &mut O,
+    writer: &mut Counted<W>,
+) -> Result<(), FetchFault>
+    ensures fetched { OnOk result (HasFetched (K.may_have state.old) (λ note. Unit {0})
+        (policy_of policy.now.origin.now (map (λ v. key v) policy.now.log.now)
+        (map (λ w. key w) policy.now.witnesses.now) policy.now.need) wanted
+        (passage W.contents writer.old writer.new)) }
+    ensures ended { IfErr result (λ fault. EndsFetch (K.may_have state.old)
+        (policy_of policy.now.origin.now (map (λ v. key v) policy.now.log.now)
+        (map (λ w. key w) policy.now.witnesses.now) policy.now.need) wanted fault
+        (passage W.contents writer.old writer.new)) }
+{
+    match fetch_under(alloc, source, policy, wanted, state, observer, writer) {
         Ok(()) => Ok(()),
         Err(fault) => Err(fault),
     }

@@ -6,18 +6,26 @@ use std::alloc::Global;
 
 /// Who keeps the signed checkpoint of a log that was trusted last.
 pub trait TrustStore {
-    ghost use Rattle.std.specs.Prelude.{IfErr, IfOk, Option, map, option_map, string_bytes};
+    ghost use Rattle.std.specs.Prelude.{IfErr, IfOk, OnOk, Option, map, option_map, string_bytes};
     ghost use Rattle.tl_hash.specs.Bytes.{Bytes};
     ghost use Rattle.tl_fetch.specs.Faults.{IsNoAccusation};
+    ghost use Rattle.tl_fetch.specs.declared.fault.FetchFault.{FetchFault};
     ghost use Rattle.tl_fetch.specs.Trusting.{IsNext, policy_of};
 
     /// Which note it may have; none before the first one.
     ghost may_have: { Self → Option Bytes → Type 0 };
 
+    /// Whether a note is the one that was kept last, as far as it shows what it keeps.
+    ghost has_kept: { Self → Bytes → Type 0 };
+
+    /// For which faults it may fail.
+    ghost may_fail: { Self → FetchFault → Type 0 };
+
     /// The note that was kept last.
     fn last(&self, alloc: Global) -> Result<Option<String>, FetchFault>
         ensures had { IfOk result (λ note. may_have self.now (option_map string_bytes note)) }
-        ensures fault { IfErr result IsNoAccusation };
+        ensures refused { IfErr result (may_fail self.now) }
+        ensures fair { IfErr result IsNoAccusation };
 
     /// Keeps a note in place of the last one. It is only ever asked to where that note is trusted, and its log begins
     /// with the one that is known by the last note, by a consistency proof that was accepted.
@@ -30,7 +38,9 @@ pub trait TrustStore {
         requires { IsNext (policy_of policy.now.origin.now (map (λ v. key v) policy.now.log.now)
             (map (λ w. key w) policy.now.witnesses.now) policy.now.need)
             (option_map (λ s. s.now) last) note.now }
-        ensures fault { IfErr result IsNoAccusation };
+        ensures kept { OnOk result (has_kept self.new note.now) }
+        ensures refused { IfErr result (may_fail self.old) }
+        ensures fair { IfErr result IsNoAccusation };
 }
 
 /// No state: nothing was known before, and nothing is kept.
@@ -41,6 +51,10 @@ impl TrustStore for NoState {
     ghost use Rattle.std.specs.Prelude.{◌≡◌, None};
 
     ghost may_have = { λ _ note. note ≡ None };
+
+    ghost has_kept = { λ _ _. Unit {0} };
+
+    ghost may_fail = { λ _ _. ⊥ };
 
     fn last(&self, _alloc: Global) -> Result<Option<String>, FetchFault> {
         Ok(None)

@@ -1,5 +1,6 @@
 //! A state in a file.
 
+ghost use Rattle.tl_fetch.specs.Command.{IsStateFault};
 ghost use Rattle.tl_fetch.specs.Faults.{IsNoAccusation};
 
 use crate::fault::FetchFault;
@@ -16,7 +17,8 @@ const MOST: u64 = 65_536;
 
 /// Why the file of a state was not opened, read or replaced.
 pub(crate) fn file_refusal(fault: DeviceFault) -> FetchFault
-    ensures { IsNoAccusation result }
+    ensures refused { IsStateFault result }
+    ensures fair { IsNoAccusation result }
 {
     FetchFault::Run(RunFault::of_device(Place::State, fault))
 }
@@ -26,7 +28,13 @@ pub(crate) fn file_refusal(fault: DeviceFault) -> FetchFault
 pub struct FileState<'s, H: Files>(pub AtomicFile<'s, H>);
 
 impl<H: Files<File = File>> TrustStore for FileState<'_, H> {
+    ghost use Rattle.std.specs.Prelude.{◌≡◌};
+
     ghost may_have = { λ _ note. Unit {0} };
+
+    ghost has_kept = { λ s note. s.0 ≡ note };
+
+    ghost may_fail = { λ _ fault. IsStateFault fault };
 
     fn last(&self, alloc: Global) -> Result<Option<String>, FetchFault> {
         let bytes = match self.0.read(alloc, MOST) {
@@ -36,7 +44,7 @@ impl<H: Files<File = File>> TrustStore for FileState<'_, H> {
         };
         match String::from_utf8(bytes) {
             Ok(note) => Ok(Some(note)),
-            Err(_) => Err(FetchFault::BadState),
+            Err(_) => Err(FetchFault::Run(RunFault::BadCheckpoint(Place::State))),
         }
     }
 

@@ -1,14 +1,10 @@
 -- How the growth of a log is judged by two checkpoints.
 use Rattle.std.specs.Prelude.{◌≡◌, ◌⊎◌, Option}
 use Rattle.tl_hash.specs.Bytes.{Bytes}
-use Rattle.tl_device.specs.Device.{Passage}
 use Rattle.tl_client.specs.declared.fault.ClientFault.{ClientFault}
 use Rattle.tl_client.specs.declared.fault.ClientFault.TheVariants as client
 use Rattle.tl_hash.specs.declared.head.Head.{Head}
-use Rattle.tl_fetch.specs.declared.fault.FetchFault.{FetchFault}
-use Rattle.tl_fetch.specs.Faults.{IsNoAccusation}
-use Rattle.tl_fetch.specs.Fetching.{IsAccused, Two, evidence_text}
-use Rattle.tl_fetch.specs.Printed.{PrintedSome, PrintedWhole}
+use Rattle.tl_fetch.specs.Fetching.{Two}
 
 abbrev pub two_of : Option Bytes → Head → Bytes → Head → Two
 two_of last old note new = record { last = last; old = old; note = note; new = new }
@@ -16,9 +12,3 @@ two_of last old note new = record { last = last; old = old; note = note; new = n
 -- the growth of a log is refused since it shrank or forked
 abbrev pub IsOfGrowth : ClientFault → Type 0
 IsOfGrowth fault = (fault ≡ client.Shrunk) ⊎ (fault ≡ client.Forked)
-
--- the growth from one to the other is refused: the log is accused and both notes were printed, or another fault came
-abbrev pub RefusesTwo : Two → FetchFault → Passage → Type 0
-RefusesTwo two fault o =
-    (IsAccused two fault × PrintedWhole (λ text. text ≡ evidence_text two.last two.note) o)
-    ⊎ (IsNoAccusation fault × PrintedSome (λ text. text ≡ evidence_text two.last two.note) o)

@@ -10,7 +10,7 @@ pub returns-clause-lines : goal.returns-clause-lines
 returns-clause-lines g c =
     let head = c.args.head.now in
     let items = c.deref.result.now in
-    let checked = subst (λ xs. AreCheckedEntries sha256 (tiles_of c.read_entries.new.fetched) head.size head.root (c.args.from / 256) (map vec_items xs)) (sym c.deref.ensures.value) c.in-Ok.ensures.entries in (
+    let checked = subst (λ xs. AreCheckedEntries sha256 (tiles_of c.read_bundle.new.kept) head.size head.root (c.args.from / 256) (map vec_items xs)) (sym c.deref.ensures.value) c.in-Ok.ensures.entries in (
       _,
       rest_of vec_items sha256 head c.args.from items _ refl
           (record { within = c.in-Ok.ensures.within; fetched = _; verified = c.in-Ok.ensures.verified; checked = checked })

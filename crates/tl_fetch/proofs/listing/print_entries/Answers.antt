@@ -1,6 +1,6 @@
-use Rattle.std.proofs.Common.{refl}
+use Rattle.std.proofs.Common.{arith, refl}
 use Rattle.tl_fetch.proofs.Passages.{on_err}
-use Rattle.tl_fetch.proofs.ListingLemmas.{printed_further, printed_some}
+use Rattle.tl_fetch.proofs.ListingLemmas.{printed_further, printed_some, printing_none}
 use Rattle.tl_fetch.proofs.listing.print_entries.Goals as goal
 
 pub returns-in_err-next-clause-part : goal.returns-in_err-next-clause-part
@@ -13,3 +13,6 @@ loop-next-preserved g c =
       printed = printed_further c.args.head.now c.args.from _ _ _ _ (record { bytes = refl; failed = refl }) c.loop-next.invariant.printed c.in_ok-next.ensures.printed;
       within = c.in_ok-next.ensures.within;
     }
+
+pub loop-next-init : goal.loop-next-init
+loop-next-init g c = printing_none c.args.head.now c.args.from _ _ (omega (arith, c.if-from-head.false))
