@@ -40,6 +40,11 @@ def whole(body, status='200 OK', *fields, **others):
     return [head(status, sized(body), *fields, **others), body]
 
 
+def chunked(*pieces, coding='Chunked', also=None, version='HTTP/1.1'):
+    fields = [f'Transfer-Encoding: {coding}'] + ([also] if also else [])
+    return [head('200 OK', *fields, version=version), *pieces]
+
+
 def without_end(start, piece):
     return itertools.chain([start], itertools.repeat(piece))
 
@@ -69,7 +74,19 @@ LIES = {
     'made': lambda b: whole(b, '201 Created'),
     'two_sizes': lambda b: whole(b, '200 OK', sized(b, 1)),
     'signed_size': lambda b: [head('200 OK', f'Content-Length: +{len(b)}'), b],
-    'chunked': lambda b: [head('200 OK', 'Transfer-Encoding: chunked'), b'%x\r\n%s\r\n0\r\n\r\n' % (len(b), b)],
+    'hinted': lambda b: [head('103 Early Hints', 'Link: </>') * 9, *whole(b)],
+    'chunked': lambda b: chunked(b'%x\r\n%s\r\n0\r\n\r\n' % (len(b), b)),
+    'chunks': lambda b: chunked(*(b'%04X;a=b\r\n%s\r\n' % (len(b[i:i + 7]), b[i:i + 7]) for i in range(0, len(b), 7)),
+                                b'000;last\r\nA: b\r\n\r\n'),
+    'chunks_more': lambda b: chunked(b'%x\r\n%s\r\n0\r\n' % (len(b), b), b'more'),
+    'chunks_cut': lambda b: chunked(b'%x\r\n%s\r\n' % (len(b), b)),
+    'chunks_joined': lambda b: chunked(b'%x\r\n%s1\r\n' % (len(b), b), b'0\r\n\r\n'),
+    'chunks_decimal': lambda b: chunked(b'+%x\r\n%s\r\n0\r\n\r\n' % (len(b), b)),
+    'chunks_endless': lambda b: without_end(*chunked(b'1000\r\n%s\r\n' % bytes(4096))),
+    'chunks_huge': lambda b: chunked(b'7fffffffffffffff\r\n', b),
+    'chunks_sized': lambda b: chunked(b'%x\r\n%s\r\n0\r\n\r\n' % (len(b), b), also=sized(b)),
+    'chunks_old': lambda b: chunked(b'%x\r\n%s\r\n0\r\n\r\n' % (len(b), b), version='HTTP/1.0'),
+    'chunks_zipped': lambda b: chunked(b'%x\r\n%s\r\n0\r\n\r\n' % (len(b), b), coding='gzip, chunked'),
     'zipped': lambda b: whole(gzip.compress(b), '200 OK', 'Content-Encoding: gzip'),
     'new': lambda b: whole(b, version='HTTP/2'),
     'slow': lambda b: itertools.chain([head('200 OK', sized(b))], *([b[i:i + 1], 0.2] for i in range(len(b)))),
