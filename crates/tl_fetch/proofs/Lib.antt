@@ -4,3 +4,4 @@ pub mod ListingLemmas
 pub mod RunLemmas
 pub mod Trusts
 pub mod KeptLemmas
+pub mod KeyLemmas

@@ -8,9 +8,8 @@ use Rattle.std.proofs.KnownBytes.{Appends-kept, Appends-trans}
 use Rattle.std.specs.Io.KnownBytes.{Appends, Keeps}
 use Rattle.sha2.specs.Sha256.{sha256}
 use Rattle.tl_hash.specs.Bytes.{Bytes, Digest}
-use Rattle.tl_text.specs.Text.{line}
 use Rattle.tl_device.specs.Device.{Passage}
-use Rattle.tl_command.specs.Lines.{lines_text}
+use Rattle.tl_fetch.specs.Listed.{listed, listed_text}
 use Rattle.tl_tile.specs.Needed.{bundle_width}
 use Rattle.tl_hash.specs.declared.head.Head.{Head}
 use Rattle.tl_fetch.specs.Entries.{IsCheckedBundle, IsCheckedEntry, AreEntriesBetween, AreLinesBetween}
@@ -90,7 +89,7 @@ pub lines_append : (head : Head) (a b c : ℕ) (t u : Bytes) → AreLinesBetween
 lines_append head a b c t u (xs, first, t_is) (ys, second, u_is) = (
   xs ++ ys,
   between_append sha256 head a b c xs ys first second,
-  ap (λ (l : Bytes). l ++ u) t_is ∙ ap (λ (l : Bytes). lines_text xs ++ l) u_is ∙ sym (flat_map-append line xs ys),
+  ap (λ (l : Bytes). l ++ u) t_is ∙ ap (λ (l : Bytes). listed_text xs ++ l) u_is ∙ sym (flat_map-append listed xs ys),
 )
 
 -- no entries, and no lines

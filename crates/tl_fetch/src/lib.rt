@@ -23,6 +23,7 @@ mod progress;
 mod run;
 mod state;
 mod state_file;
+mod witnesses;
 
 pub use command::run_fetch;
 pub use entry::fetch_entry;
