@@ -1,5 +1,6 @@
 pub mod EntryLemmas
 pub mod Passages
+pub mod ListedLemmas
 pub mod ListingLemmas
 pub mod RunLemmas
 pub mod Trusts
