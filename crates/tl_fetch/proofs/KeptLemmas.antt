@@ -1,6 +1,5 @@
 -- Tiles that are kept in front of a source change nothing of why a bundle isn't read.
-use Rattle.std.proofs.Common.{◌≡◌, ◌⊎◌, List, [], inl, inr, refl}
-use Rattle.std.specs.Prelude.{All}
+use Rattle.std.proofs.Common.{List, [], inl, inr, refl}
 use Rattle.tl_hash.specs.Bytes.{Bytes}
 use Rattle.tl_hash.specs.declared.head.Head.{Head}
 use Rattle.tl_tile.specs.declared.resource.Resource.{Resource}
@@ -25,7 +24,4 @@ refused_kept kept answers lacks read client.OutOfMemory refused = refused
 
 -- what the source alone serves
 pub served_alone : (answers : Resource → Bytes → Type 0) (head : Head) (fetched : List (Tile × Bytes)) → AreServed answers head.size fetched → AreServedOrPassed answers head fetched
-served_alone answers head fetched served = ([], inl refl, either fetched served) where
-  either : (fetched : List (Tile × Bytes)) → AreServed answers head.size fetched → AreServed (may_answer_either (kept_answers []) answers) head.size fetched
-  either [] all = all
-  either (f ∷ more) (first, rest) = ((first.0, inr first.1), either more rest)
+served_alone answers head fetched served = ([], inl refl, λ k d within. let each = served k d within in (each.0, inr each.1))

@@ -1,5 +1,5 @@
 -- What is printed before a fault comes, and which faults accuse a log.
-use Rattle.std.proofs.Common.{◌≡◌, ◌⊎◌, ◌∙◌, ℕ, length, sym, ap, subst, inl, inr, Option, Result, Ok, Err, IfErr}
+use Rattle.std.proofs.Common.{◌≡◌, ◌⊎◌, ◌∙◌, ℕ, ◌≤◌, length, string_bytes, sym, ap, subst, inl, inr, Option, Some, None, Result, Ok, Err, IfErr}
 use Rattle.std.proofs.Math.Seq.{take-length}
 use Rattle.std.specs.Io.KnownBytes.{Appends}
 use Rattle.tl_hash.specs.Bytes.{Bytes}
@@ -16,11 +16,13 @@ use Rattle.tl_fetch.specs.declared.options.FetchRequest.{FetchRequest}
 use Rattle.tl_fetch.specs.declared.options.FetchRequest.TheVariants as wanted
 use Rattle.tl_fetch.specs.Faults.{IsNoAccusation, after_client}
 use Rattle.tl_fetch.specs.Inner.Judging.{IsOfGrowth, two_of}
+use Rattle.tl_source.specs.Caches.{may_answer_either, may_lack_both}
 use Rattle.tl_source.specs.Fulls.{may_answer_front}
+use Rattle.tl_source.specs.Limits.{most_bytes}
 use Rattle.tl_source.specs.Sources.{Origin, any_answers}
-use Rattle.tl_fetch.specs.Command.{IsOriginOf, RunsUnder, cached_answers, cached_lacks}
+use Rattle.tl_fetch.specs.Command.{IsOriginOf, IsStateFault, RunsUnder, cached_answers, cached_lacks, may_have, state_fails}
 use Rattle.tl_fetch.specs.Inner.Naming.{Renames, RunsOver}
-use Rattle.tl_fetch.specs.Fetching.{AreTwo, Grounds, HasFetched, IsAccused, RefusesFetch, RefusesTwo, Two}
+use Rattle.tl_fetch.specs.Fetching.{AreTwo, Grounds, HasFetched, IsAccused, RefusesFetch, RefusesTwo, Two, grounds_of}
 use Rattle.tl_fetch.specs.Trusting.{IsGrown, IsKnown, IsNoteOf, Policy}
 use Rattle.tl_fetch.proofs.Passages.{GoesOn, joined, silent_some, silent_whole}
 use Rattle.tl_fetch.specs.Printed.{FailsPrinting, IsBegun, IsWanted, PrintedSome, PrintedWhole, RefusesWanted}
@@ -94,6 +96,31 @@ pub are_two : (may_have : Option Bytes → Type 0) (policy : Policy) (last kept 
     → IsKnown policy kept old → IsNoteOf policy read new → AreTwo may_have policy (two_of last old note new)
 are_two may_have policy last kept old new read note same_last same_note had known trusted =
     record { had = subst may_have (sym same_last) had; known = subst (λ (l : Option Bytes). IsKnown policy l old) (sym same_last) known; trusted = subst (λ (n : Bytes). IsNoteOf policy n new) same_note trusted }
+
+-- the grounds of a run without a file of a state, and with one
+pub no_state : {A : Type 0} (state : Option A) (answers : Resource → Bytes → Type 0) (lacks : Resource → Type 0) (policy : Policy) (what : FetchRequest) (fault : FetchFault) (o : Passage) → state ≡ None
+    → RefusesFetch (grounds_of answers lacks (λ note. note ≡ None) (λ f. ⊥)) policy what fault o → RefusesFetch (grounds_of answers lacks (may_have state) (state_fails state)) policy what fault o
+no_state state answers lacks policy what fault o none refused =
+    subst (λ s. RefusesFetch (grounds_of answers lacks (may_have s) (state_fails s)) policy what fault o) (sym none) refused
+
+pub some_state : {A : Type 0} (state : Option A) (path : A) (answers : Resource → Bytes → Type 0) (lacks : Resource → Type 0) (policy : Policy) (what : FetchRequest) (fault : FetchFault) (o : Passage) → state ≡ Some path
+    → RefusesFetch (grounds_of answers lacks (λ note. Unit {0}) IsStateFault) policy what fault o → RefusesFetch (grounds_of answers lacks (may_have state) (state_fails state)) policy what fault o
+some_state state path answers lacks policy what fault o some refused =
+    subst (λ s. RefusesFetch (grounds_of answers lacks (may_have s) (state_fails s)) policy what fault o) (sym some) refused
+
+-- a run without a cache, and with one
+pub no_cache : {A : Type 0} (cache : Option A) (answers : Resource → Bytes → Type 0) (lacks : Resource → Type 0) (policy : Policy) (options : FetchOptions) (o : Passage) (result : Result (Unit {0}) FetchFault) → cache ≡ None
+    → RunsOver answers lacks policy options o result → RunsOver (cached_answers cache answers) (cached_lacks cache lacks) policy options o result
+no_cache cache answers lacks policy options o result none runs =
+    subst (λ c. RunsOver (cached_answers c answers) (cached_lacks c lacks) policy options o result) (sym none) runs
+
+pub some_cache : {A P S : Type 0} (cache : Option A) (folder : A) (answers : S → Resource → Bytes → Type 0) (lacks : S → Resource → Type 0) (both : P × S) (first : P) (source : S) (policy : Policy) (options : FetchOptions) (o : Passage) (result : Result (Unit {0}) FetchFault)
+    → cache ≡ Some folder → both ≡ (first, source)
+    → RunsOver (may_answer_either (λ r text. length text ≤ most_bytes r) (answers both.1)) (may_lack_both (λ r. Unit {0}) (lacks both.1)) policy options o result
+    → RunsOver (cached_answers cache (answers source)) (cached_lacks cache (lacks source)) policy options o result
+some_cache {A} {P} {S} cache folder answers lacks both first source policy options o result some is runs =
+    subst (λ c. RunsOver (cached_answers c (answers source)) (cached_lacks c (lacks source)) policy options o result) (sym some)
+    (subst (λ (s : S). RunsOver (may_answer_either (λ r text. length text ≤ most_bytes r) (answers s)) (may_lack_both (λ r. Unit {0}) (lacks s)) policy options o result) (ap (λ (p : P × S). p.1) is) runs)
 
 -- the end of a run over a folder or a host, whose fault names what was lacked
 pub renamed : (policy : Policy) (options : FetchOptions) (origin : Origin) (o : Passage) (outcome told : Result (Unit {0}) FetchFault) → IsOriginOf (string_bytes options.from) origin

@@ -1,6 +1,5 @@
 -- The command `fetch` (C2SP signed-note, "Verifier keys").
 use Rattle.std.specs.Prelude.{◌≡◌, ◌⊎◌, ℕ, ◌<◌, ◌≤◌, [], ◌∷◌, ◌++◌, List, Option, Some, None, Result, Ok, Err, Contains, codes, length, map, string_bytes, vec_items, slice_index_or}
-use Rattle.core.specs.Str.Iter.{HasSubslice}
 use Rattle.tl_hash.specs.Bytes.{Bytes}
 use Rattle.tl_key.specs.KeyText.{IsVerifierText}
 use Rattle.tl_key.specs.NoteKey.{PublicKey, note_kind, cosignature_kind, verifier_key}
@@ -53,7 +52,7 @@ pub record IsPolicyOf (options : FetchOptions) (policy : Policy) : Type 0 where
 
 -- where a log is read from: a text with a scheme is an address over HTTP, and all else a folder
 abbrev pub HasScheme : Bytes → Type 0
-HasScheme text = HasSubslice text (codes "://")
+HasScheme text = (before : Bytes) × (after : Bytes) × (text ≡ before ++ (codes "://" ++ after))
 
 abbrev pub IsOriginOf : Bytes → Origin → Type 0
 IsOriginOf from (Folder folder) = (folder ≡ from) × ¬ (HasScheme from)

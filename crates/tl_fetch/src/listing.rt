@@ -144,7 +144,10 @@ pub fn print_entries<S: ResourceSource, A: Allocator + Copy, O: Observer, W: Wri
     let mut kept = FetchedTiles::new(alloc);
     let mut next = from;
     while next < head.size {
-        next = print_bundle(alloc, source, head, next, &mut kept, observer, writer)?;
+        next = match print_bundle(alloc, source, head, next, &mut kept, observer, writer) {
+            Ok(next) => next,
+            Err(fault) => return Err(fault),
+        };
     }
     Ok(())
 }

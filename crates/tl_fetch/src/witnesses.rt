@@ -1,6 +1,6 @@
 //! The keys of the witnesses that the options name.
 
-ghost use Rattle.std.specs.Prelude.{◌≡◌, ◌<◌, ◌∷◌, [], Contains, IfErr, IfOk, MatchBool, MatchOption, OnOk, length, string_bytes, vec_items};
+ghost use Rattle.std.specs.Prelude.{◌≡◌, ◌<◌, ◌↔◌, ◌∷◌, [], Contains, IfErr, IfOk, IsTrue, MatchBool, MatchOption, OnOk, length, string_bytes, vec_items};
 ghost use Rattle.tl_fetch.specs.Command.{HaveOwnKeys, IsKeyFault, witness_text, witness_texts};
 ghost use Rattle.tl_key.specs.KeyText.{IsVerifierText};
 ghost use Rattle.tl_key.specs.NoteKey.{PublicKey, cosignature_kind, note_kind};
@@ -41,12 +41,19 @@ pub(crate) fn witness_key(
     }
 }
 
+// Whether two public keys are one.
+fn is_same(one: &[u8; 32], other: &[u8; 32]) -> bool
+    ensures { IsTrue result ↔ (one.now ≡ other.now) }
+{
+    one == other
+}
+
 // Whether a public key is one of these.
 fn is_among(known: &[[u8; 32]], key: &[u8; 32]) -> bool
     ensures { MatchBool result (Contains known.now key.now) (¬ (Contains known.now key.now)) }
 {
     for one in known {
-        if one == key {
+        if is_same(one, key) {
             return true;
         }
     }
