@@ -8,13 +8,14 @@ use Rattle.std.proofs.KnownBytes.{Appends-kept, Appends-trans}
 use Rattle.std.specs.Io.KnownBytes.{Appends, Keeps}
 use Rattle.sha2.specs.Sha256.{sha256}
 use Rattle.tl_hash.specs.Bytes.{Bytes, Digest}
-use Rattle.tl_text.specs.Text.{line}
 use Rattle.tl_device.specs.Device.{Passage}
-use Rattle.tl_command.specs.Lines.{lines_text}
+use Rattle.tl_fetch.specs.Listed.{listed, listed_text}
 use Rattle.tl_tile.specs.Needed.{bundle_width}
 use Rattle.tl_hash.specs.declared.head.Head.{Head}
-use Rattle.tl_fetch.specs.Entries.{IsCheckedBundle, IsCheckedEntry, AreEntriesBetween, AreLinesBetween}
-use Rattle.tl_fetch.specs.Printed.{PrintedSome, PrintedWhole}
+use Rattle.tl_fetch.specs.Entries.{IsCheckedBundle, IsCheckedEntry, AreEntriesBetween, AreLinesBetween, RefusesBundle}
+use Rattle.tl_tile.specs.declared.resource.Resource.{Resource}
+use Rattle.tl_fetch.specs.declared.fault.FetchFault.{FetchFault}
+use Rattle.tl_fetch.specs.Printed.{FailsPrinting, PrintedSome, PrintedWhole, RefusesAll}
 use Rattle.tl_fetch.proofs.Passages.{GoesOn, joined}
 
 -- places after one in its bundle
@@ -90,7 +91,7 @@ pub lines_append : (head : Head) (a b c : ℕ) (t u : Bytes) → AreLinesBetween
 lines_append head a b c t u (xs, first, t_is) (ys, second, u_is) = (
   xs ++ ys,
   between_append sha256 head a b c xs ys first second,
-  ap (λ (l : Bytes). l ++ u) t_is ∙ ap (λ (l : Bytes). lines_text xs ++ l) u_is ∙ sym (flat_map-append line xs ys),
+  ap (λ (l : Bytes). l ++ u) t_is ∙ ap (λ (l : Bytes). listed_text xs ++ l) u_is ∙ sym (flat_map-append listed xs ys),
 )
 
 -- no entries, and no lines
@@ -148,3 +149,10 @@ pub printing_none : (head : Head) (from : ℕ) (b : Option Bytes) (f : Bool) →
     → IsPrinting head from from (record { old = b; new = b; had_failed = f; has_failed = f })
 printing_none head from b f within =
     record { printed = ([], lines_none head from, record { appended = appends_none b; steady = refl }); within = within }
+
+-- a bundle that isn't read is why not all is printed
+pub refuses_all : (answers : Resource → Bytes → Type 0) (lacks : Resource → Type 0) (head : Head) (from bundle : ℕ) (fault : FetchFault)
+    → FailsPrinting (RefusesBundle answers lacks head bundle) fault → RefusesAll answers lacks head from fault
+refuses_all answers lacks head from bundle fault (inl write) = inr (inl write)
+refuses_all answers lacks head from bundle fault (inr (inl memory)) = inr (inr (inl memory))
+refuses_all answers lacks head from bundle fault (inr (inr (why, so, told))) = inr (inr (inr (why, (bundle, so), told)))

@@ -1,5 +1,5 @@
 -- What is printed before a fault comes, and which faults accuse a log.
-use Rattle.std.proofs.Common.{◌≡◌, ◌⊎◌, ◌∙◌, ℕ, length, sym, ap, subst, inl, inr, Option, Result, Ok, Err, IfErr}
+use Rattle.std.proofs.Common.{◌≡◌, ◌⊎◌, ◌∙◌, ℕ, ◌≤◌, length, string_bytes, sym, ap, subst, inl, inr, Option, Some, None, Result, Ok, Err, IfErr}
 use Rattle.std.proofs.Math.Seq.{take-length}
 use Rattle.std.specs.Io.KnownBytes.{Appends}
 use Rattle.tl_hash.specs.Bytes.{Bytes}
@@ -16,11 +16,15 @@ use Rattle.tl_fetch.specs.declared.options.FetchRequest.{FetchRequest}
 use Rattle.tl_fetch.specs.declared.options.FetchRequest.TheVariants as wanted
 use Rattle.tl_fetch.specs.Faults.{IsNoAccusation, after_client}
 use Rattle.tl_fetch.specs.Inner.Judging.{IsOfGrowth, two_of}
-use Rattle.tl_fetch.specs.Command.{RunsUnder, may_have}
-use Rattle.tl_fetch.specs.Inner.Naming.{Renames}
-use Rattle.tl_fetch.specs.Fetching.{AreTwo, EndsFetch, Grounds, HasFetched, IsAccused, MayPrint, RefusesFetch, RefusesTwo, Two, evidence_text}
+use Rattle.tl_source.specs.Caches.{may_answer_either, may_lack_both}
+use Rattle.tl_source.specs.Fulls.{may_answer_front}
+use Rattle.tl_source.specs.Limits.{most_bytes}
+use Rattle.tl_source.specs.Sources.{Origin, any_answers}
+use Rattle.tl_fetch.specs.Command.{IsOriginOf, IsStateFault, RunsUnder, cached_answers, cached_lacks, may_have, state_fails}
+use Rattle.tl_fetch.specs.Inner.Naming.{Renames, RunsOver}
+use Rattle.tl_fetch.specs.Fetching.{AreTwo, Grounds, HasFetched, IsAccused, RefusesFetch, RefusesTwo, Two, grounds_of}
 use Rattle.tl_fetch.specs.Trusting.{IsGrown, IsKnown, IsNoteOf, Policy}
-use Rattle.tl_fetch.proofs.Passages.{GoesOn, joined, silent_some, silent_whole, some_map}
+use Rattle.tl_fetch.proofs.Passages.{GoesOn, joined, silent_some, silent_whole}
 use Rattle.tl_fetch.specs.Printed.{FailsPrinting, IsBegun, IsWanted, PrintedSome, PrintedWhole, RefusesWanted}
 
 -- a refused growth that accuses the log
@@ -93,31 +97,37 @@ pub are_two : (may_have : Option Bytes → Type 0) (policy : Policy) (last kept 
 are_two may_have policy last kept old new read note same_last same_note had known trusted =
     record { had = subst may_have (sym same_last) had; known = subst (λ (l : Option Bytes). IsKnown policy l old) (sym same_last) known; trusted = subst (λ (n : Bytes). IsNoteOf policy n new) same_note trusted }
 
--- how a run ended, in short
-pub ended_in_short : (grounds : Grounds) (policy : Policy) (what : FetchRequest) (fault : FetchFault) (o : Passage) → RefusesFetch grounds policy what fault o → EndsFetch grounds.has policy what fault o
-ended_in_short grounds policy what fault o (inl (lacks, fair, none)) = inr (fair, inl none)
-ended_in_short grounds policy what fault o (inr (two, are, inl (inl (so, printed)))) = inl (record { two = two; are = are; so = so; printed = printed })
-ended_in_short grounds policy what fault o (inr (two, are, inl (inr (inl (write, accused, printed))))) =
-    inr (subst IsNoAccusation (sym write) tt, some_map (λ text. text ≡ evidence_text two.last two.note) (MayPrint grounds.has policy what) o (λ t is. (two, are, inr is)) printed)
-ended_in_short grounds policy what fault o (inr (two, are, inl (inr (inr (why, fair, none))))) = inr (fair, inl none)
-ended_in_short grounds policy what fault o (inr (two, are, inr grown)) =
-    inr (grown.fair, some_map (IsBegun policy.origin two.old.size two.new what) (MayPrint grounds.has policy what) o (λ t is. (two, are, inl (grown.grown, is))) grown.printed)
+-- the grounds of a run without a file of a state, and with one
+pub no_state : {A : Type 0} (state : Option A) (answers : Resource → Bytes → Type 0) (lacks : Resource → Type 0) (policy : Policy) (what : FetchRequest) (fault : FetchFault) (o : Passage) → state ≡ None
+    → RefusesFetch (grounds_of answers lacks (λ note. note ≡ None) (λ f. ⊥)) policy what fault o → RefusesFetch (grounds_of answers lacks (may_have state) (state_fails state)) policy what fault o
+no_state state answers lacks policy what fault o none refused =
+    subst (λ s. RefusesFetch (grounds_of answers lacks (may_have s) (state_fails s)) policy what fault o) (sym none) refused
 
--- a log of which something isn't available isn't accused
-unaccused : (two : Two) (fault : FetchFault) → fault ≡ fetch.Unavailable → IsAccused two fault → ⊥
-unaccused two fault is (inl (shrunk, less)) = let wrong : fetch.Unavailable ≡ fetch.Shrunk = sym is ∙ shrunk in absurd (cc)
-unaccused two fault is (inr (forked, fork)) = let wrong : fetch.Unavailable ≡ fetch.Forked = sym is ∙ forked in absurd (cc)
+pub some_state : {A : Type 0} (state : Option A) (path : A) (answers : Resource → Bytes → Type 0) (lacks : Resource → Type 0) (policy : Policy) (what : FetchRequest) (fault : FetchFault) (o : Passage) → state ≡ Some path
+    → RefusesFetch (grounds_of answers lacks (λ note. Unit {0}) IsStateFault) policy what fault o → RefusesFetch (grounds_of answers lacks (may_have state) (state_fails state)) policy what fault o
+some_state state path answers lacks policy what fault o some refused =
+    subst (λ s. RefusesFetch (grounds_of answers lacks (may_have s) (state_fails s)) policy what fault o) (sym some) refused
 
--- a refusal whose fault names what was lacked
-pub named_refusal : (may_have : Option Bytes → Type 0) (policy : Policy) (what : FetchRequest) (fault told : FetchFault) (o : Passage) → (told ≡ fault) ⊎ ((fault ≡ fetch.Unavailable) × IsNoAccusation told)
-    → EndsFetch may_have policy what fault o → EndsFetch may_have policy what told o
-named_refusal may_have policy what fault told o (inl same) refuses = subst (λ (f : FetchFault). EndsFetch may_have policy what f o) (sym same) refuses
-named_refusal may_have policy what fault told o (inr (is, fair)) (inr (none, printed)) = inr (fair, printed)
-named_refusal may_have policy what fault told o (inr (is, fair)) (inl accused) = absurd (unaccused accused.two fault is accused.so)
+-- a run without a cache, and with one
+pub no_cache : {A : Type 0} (cache : Option A) (answers : Resource → Bytes → Type 0) (lacks : Resource → Type 0) (policy : Policy) (options : FetchOptions) (o : Passage) (result : Result (Unit {0}) FetchFault) → cache ≡ None
+    → RunsOver answers lacks policy options o result → RunsOver (cached_answers cache answers) (cached_lacks cache lacks) policy options o result
+no_cache cache answers lacks policy options o result none runs =
+    subst (λ c. RunsOver (cached_answers c answers) (cached_lacks c lacks) policy options o result) (sym none) runs
 
--- the end of a run whose fault names what was lacked
-pub renamed : (policy : Policy) (options : FetchOptions) (o : Passage) (outcome told : Result (Unit {0}) FetchFault) → Renames outcome told → RunsUnder policy options o outcome → RunsUnder policy options o told
-renamed policy options o (Ok done) (Ok again) same runs = runs
-renamed policy options o (Ok done) (Err other) same runs = absurd same
-renamed policy options o (Err fault) (Ok done) same runs = absurd same
-renamed policy options o (Err fault) (Err other) same runs = named_refusal (may_have options.state) policy options.wanted fault other o same runs
+pub some_cache : {A P S : Type 0} (cache : Option A) (folder : A) (answers : S → Resource → Bytes → Type 0) (lacks : S → Resource → Type 0) (both : P × S) (first : P) (source : S) (policy : Policy) (options : FetchOptions) (o : Passage) (result : Result (Unit {0}) FetchFault)
+    → cache ≡ Some folder → both ≡ (first, source)
+    → RunsOver (may_answer_either (λ r text. length text ≤ most_bytes r) (answers both.1)) (may_lack_both (λ r. Unit {0}) (lacks both.1)) policy options o result
+    → RunsOver (cached_answers cache (answers source)) (cached_lacks cache (lacks source)) policy options o result
+some_cache {A} {P} {S} cache folder answers lacks both first source policy options o result some is runs =
+    subst (λ c. RunsOver (cached_answers c (answers source)) (cached_lacks c (lacks source)) policy options o result) (sym some)
+    (subst (λ (s : S). RunsOver (may_answer_either (λ r text. length text ≤ most_bytes r) (answers s)) (may_lack_both (λ r. Unit {0}) (lacks s)) policy options o result) (ap (λ (p : P × S). p.1) is) runs)
+
+-- the end of a run over a folder or a host, whose fault names what was lacked
+pub renamed : (policy : Policy) (options : FetchOptions) (origin : Origin) (o : Passage) (outcome told : Result (Unit {0}) FetchFault) → IsOriginOf (string_bytes options.from) origin
+    → Renames outcome told
+    → RunsOver (cached_answers options.cache (may_answer_front (any_answers origin) (λ r. Unit {0}))) (cached_lacks options.cache (λ r. Unit {0})) policy options o outcome
+    → RunsUnder policy options o told
+renamed policy options origin o (Ok done) (Ok again) at same runs = runs
+renamed policy options origin o (Ok done) (Err other) at same runs = absurd same
+renamed policy options origin o (Err fault) (Ok done) at same runs = absurd same
+renamed policy options origin o (Err fault) (Err other) at same runs = inr (origin, at, (fault, same, runs))

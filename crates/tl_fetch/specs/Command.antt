@@ -1,18 +1,28 @@
 -- The command `fetch` (C2SP signed-note, "Verifier keys").
-use Rattle.std.specs.Prelude.{◌≡◌, ◌⊎◌, ℕ, [], ◌∷◌, List, Option, Some, None, Result, Ok, Err, map, string_bytes, vec_items, slice_index_or}
+use Rattle.std.specs.Prelude.{◌≡◌, ◌⊎◌, ℕ, ◌<◌, ◌≤◌, [], ◌∷◌, ◌++◌, List, Option, Some, None, Result, Ok, Err, Contains, codes, length, map, string_bytes, vec_items, slice_index_or}
 use Rattle.tl_hash.specs.Bytes.{Bytes}
 use Rattle.tl_key.specs.KeyText.{IsVerifierText}
 use Rattle.tl_key.specs.NoteKey.{PublicKey, note_kind, cosignature_kind, verifier_key}
 use Rattle.tl_key.specs.Reading.{IsNoVerifierText}
 use Rattle.tl_device.specs.Device.{Passage, IsUnwritten}
-use Rattle.tl_command.specs.declared.place.Place.TheVariants.{State}
+use Rattle.tl_device.specs.declared.fault.DeviceFault.{DeviceFault}
+use Rattle.tl_tile.specs.declared.resource.Resource.{Resource}
+use Rattle.tl_source.specs.Caches.{may_answer_either, may_lack_both}
+use Rattle.tl_source.specs.Fulls.{may_answer_front}
+use Rattle.tl_source.specs.Limits.{most_bytes}
+use Rattle.tl_source.specs.Sources.{Origin, Folder, Host, any_answers}
+use Rattle.tl_source.specs.Url.{IsNoUrl, IsUrl}
+use Rattle.tl_command.specs.Faults.{after_device}
+use Rattle.tl_command.specs.declared.place.Place.TheVariants.{State, Source}
 use Rattle.tl_command.specs.declared.fault.RunFault.{RunFault}
 use Rattle.tl_command.specs.declared.fault.RunFault.TheVariants.{BadCheckpoint, BadKey, Device, OutOfMemory}
 use Rattle.tl_fetch.specs.declared.fault.FetchFault.{FetchFault}
-use Rattle.tl_fetch.specs.declared.fault.FetchFault.TheVariants.{Run, BadWitness}
+use Rattle.tl_fetch.specs.declared.fault.FetchFault.TheVariants.{Run, BadAddress, BadWitness, SharedKey, Unavailable}
 use Rattle.tl_fetch.specs.declared.options.FetchOptions.{FetchOptions}
 use Rattle.tl_fetch.specs.Trusting.{Policy}
-use Rattle.tl_fetch.specs.Fetching.{HasFetched, EndsFetch}
+use Rattle.tl_fetch.specs.Fetching.{Grounds, HasFetched, RefusesFetch, grounds_of}
+
+-- ---- whose checkpoints are trusted
 
 -- the texts that are told as those of the witnesses' keys, and the one at a place
 abbrev pub witness_texts : FetchOptions → List Bytes
@@ -21,13 +31,41 @@ witness_texts options = map string_bytes (vec_items options.witnesses)
 abbrev pub witness_text : FetchOptions → ℕ → Bytes
 witness_text options place = slice_index_or (witness_texts options) place []
 
--- whose checkpoints are trusted: the log's, of the key that was told, where so many witnesses cosigned them
+-- each text is of a witness's key, whose public key is neither one of these nor that of a text before it
+abbrev pub HaveOwnKeys : List Bytes → List Bytes → Type 0
+HaveOwnKeys others [] = Unit {0}
+HaveOwnKeys others (text ∷ texts) =
+    (k : PublicKey) × IsVerifierText cosignature_kind text k × ¬ (Contains others k.key)
+    × HaveOwnKeys (others ++ k.key ∷ []) texts
+
+-- whose checkpoints are trusted: the log's, of the key that was told, where so many witnesses cosigned them, of whom no
+-- two have one public key, and none has the log's
 pub record IsPolicyOf (options : FetchOptions) (policy : Policy) : Type 0 where
   pub key : PublicKey
   pub spelled : IsVerifierText note_kind (string_bytes options.key) key
   pub origin : policy.origin ≡ key.name
   pub keys : policy.trust.keys ≡ verifier_key key ∷ []
   pub need : policy.trust.need ≡ options.need
+  pub own : HaveOwnKeys (key.key ∷ []) (witness_texts options)
+
+-- ---- what a run stands on
+
+-- where a log is read from: a text with a scheme is an address over HTTP, and all else a folder
+abbrev pub HasScheme : Bytes → Type 0
+HasScheme text = (before : Bytes) × (after : Bytes) × (text ≡ before ++ (codes "://" ++ after))
+
+abbrev pub IsOriginOf : Bytes → Origin → Type 0
+IsOriginOf from (Folder folder) = (folder ≡ from) × ¬ (HasScheme from)
+IsOriginOf from (Host url) = IsUrl from url.authority.now url.host.now url.port url.prefix.now
+
+-- what may be answered and be lacking where tiles are kept in a folder: there any tile may be that isn't too long
+abbrev pub cached_answers : {A : Type 0} → Option A → (Resource → Bytes → Type 0) → Resource → Bytes → Type 0
+cached_answers None answers = answers
+cached_answers (Some folder) answers = may_answer_either (λ r text. length text ≤ most_bytes r) answers
+
+abbrev pub cached_lacks : {A : Type 0} → Option A → (Resource → Type 0) → Resource → Type 0
+cached_lacks None lacks = lacks
+cached_lacks (Some folder) lacks = may_lack_both (λ r. Unit {0}) lacks
 
 -- what the state may have: without a file nothing, and a file may have anything
 abbrev pub may_have : {A : Type 0} → Option A → Option Bytes → Type 0
@@ -41,10 +79,42 @@ IsStateFault (Run (BadCheckpoint State)) = Unit {0}
 IsStateFault (Run OutOfMemory) = Unit {0}
 IsStateFault fault = ⊥
 
+-- a state fails only where it is in a file
+abbrev pub state_fails : {A : Type 0} → Option A → FetchFault → Type 0
+state_fails None fault = ⊥
+state_fails (Some path) fault = IsStateFault fault
+
+-- over a source that may answer these texts and may lack these resources
+abbrev pub grounds_over : (Resource → Bytes → Type 0) → (Resource → Type 0) → FetchOptions → Grounds
+grounds_over answers lacks options = grounds_of answers lacks (may_have options.state) (state_fails options.state)
+
+-- over the folder or the host, whose full tiles and bundles stand for partial ones that are gone, and what is kept of it
+abbrev pub run_grounds : Origin → FetchOptions → Grounds
+run_grounds origin options =
+    grounds_over (cached_answers options.cache (may_answer_front (any_answers origin) (λ r. Unit {0})))
+    (cached_lacks options.cache (λ r. Unit {0})) options
+
+-- ---- how a run ends
+
+-- the fault that is told: where nothing more was known than that something isn't available, which resource it was, and
+-- why
+abbrev pub IsToldAs : FetchFault → FetchFault → Type 0
+IsToldAs fault told =
+    (told ≡ fault)
+    ⊎ ((fault ≡ Unavailable) × ((r : Resource) × (why : DeviceFault) × (told ≡ Run (after_device (Source r) why))))
+
+-- a run under a policy is refused: the address is none, and nothing is printed; or as `RefusesFetch` has it
+abbrev pub RefusesRun : Policy → FetchOptions → FetchFault → Passage → Type 0
+RefusesRun policy options told o =
+    ((told ≡ BadAddress) × HasScheme (string_bytes options.from) × IsNoUrl (string_bytes options.from) × IsUnwritten o)
+    ⊎ ((origin : Origin) × IsOriginOf (string_bytes options.from) origin
+    × ((fault : FetchFault) × IsToldAs fault told
+    × RefusesFetch (run_grounds origin options) policy options.wanted fault o))
+
 -- a run under a policy
 abbrev pub RunsUnder : Policy → FetchOptions → Passage → Result (Unit {0}) FetchFault → Type 0
 RunsUnder policy options o (Ok done) = HasFetched (may_have options.state) (λ note. Unit {0}) policy options.wanted o
-RunsUnder policy options o (Err fault) = EndsFetch (may_have options.state) policy options.wanted fault o
+RunsUnder policy options o (Err fault) = RefusesRun policy options fault o
 
 -- reading the log's key fails: the text is of no key, or memory ran out
 abbrev pub IsLogKeyFault : FetchOptions → RunFault → Type 0
@@ -52,18 +122,27 @@ IsLogKeyFault options BadKey = IsNoVerifierText note_kind (string_bytes options.
 IsLogKeyFault options OutOfMemory = Unit {0}
 IsLogKeyFault options fault = ⊥
 
--- a fault that comes before there is a policy: a text is of no key, or memory ran out
+-- a public key is the log's, or that of the text of a witness before this one
+abbrev pub IsEarlierKey : FetchOptions → ℕ → Bytes → Type 0
+IsEarlierKey options place key =
+    ((k : PublicKey) × IsVerifierText note_kind (string_bytes options.key) k × (k.key ≡ key))
+    ⊎ ((earlier : ℕ) × (earlier < place)
+    × ((k : PublicKey) × IsVerifierText cosignature_kind (witness_text options earlier) k × (k.key ≡ key)))
+
+-- a fault that comes before there is a policy: a text is of no key, or of one that was told before, or memory ran out
 abbrev pub IsKeyFault : FetchOptions → FetchFault → Type 0
 IsKeyFault options (Run fault) = IsLogKeyFault options fault
 IsKeyFault options (BadWitness place) =
     IsNoVerifierText cosignature_kind (witness_text options place)
+IsKeyFault options (SharedKey place) =
+    (k : PublicKey) × IsVerifierText cosignature_kind (witness_text options place) k × IsEarlierKey options place k.key
 IsKeyFault options fault = ⊥
 
 -- a run under the policy that the options tell
 abbrev pub RunsAsTold : FetchOptions → Passage → Result (Unit {0}) FetchFault → Type 0
 RunsAsTold options o result = (policy : Policy) × IsPolicyOf options policy × RunsUnder policy options o result
 
--- a run: where a text is of no key, nothing is printed
+-- a run: where a text is of no key, or of one that was told before, nothing is printed
 abbrev pub RunsFetch : FetchOptions → Passage → Result (Unit {0}) FetchFault → Type 0
 RunsFetch options o (Ok done) = RunsAsTold options o (Ok done)
 RunsFetch options o (Err fault) = RunsAsTold options o (Err fault) ⊎ (IsKeyFault options fault × IsUnwritten o)

@@ -1,18 +1,21 @@
 -- Entries of a log that were checked against its size and its root (RFC 6962, section 2.1; C2SP tlog-tiles).
-use Rattle.std.specs.Prelude.{◌≡◌, ◌⊎◌, ℕ, ◌+◌, ◌/◌, ◌%◌, ◌<◌, ◌≤◌, List, [], length, slice_index_or}
+use Rattle.std.specs.Prelude.{◌≡◌, ◌⊎◌, ℕ, ◌+◌, ◌/◌, ◌%◌, ◌<◌, ◌≤◌, List, [], Some, length, slice_index_or}
 use Rattle.sha2.specs.Sha256.{sha256}
 use Rattle.tl_hash.specs.Bytes.{Bytes, Digest}
-use Rattle.tl_command.specs.Lines.{lines_text}
 use Rattle.tl_tile.specs.declared.resource.Tile.{Tile}
 use Rattle.tl_tile.specs.Fetched.{tiles_of}
 use Rattle.tl_tile.specs.Verified.{AreVerified}
 use Rattle.tl_client.specs.Checked.{AreCheckedEntries}
+use Rattle.tl_client.specs.Blame.{AreServed}
 use Rattle.tl_client.specs.Bundles.{HasBundle}
 use Rattle.tl_client.specs.Refused.{RefusesEntries, RefusesEntry}
 use Rattle.tl_client.specs.declared.fault.ClientFault.{ClientFault}
+use Rattle.tl_fetch.specs.Listed.{listed_text}
 use Rattle.tl_client.specs.declared.fault.ClientFault.TheVariants.{Range}
 use Rattle.tl_hash.specs.declared.head.Head.{Head}
 use Rattle.tl_tile.specs.declared.resource.Resource.{Resource}
+use Rattle.tl_tile.specs.declared.resource.Resource.TheVariants as resource
+use Rattle.tl_source.specs.Caches.{may_answer_either}
 
 -- entries of a bundle of a log of this size and root, checked with tiles that passed all checks
 pub record IsCheckedBundle (H : Digest) (head : Head) (bundle : ℕ) (entries : List Bytes) : Type 0 where
@@ -34,17 +37,33 @@ pub record AreEntriesBetween (H : Digest) (head : Head) (from upto : ℕ) (entri
   pub count : from + length entries ≡ upto
   pub each : (i : ℕ) → i < length entries → IsCheckedEntry H head (from + i) (slice_index_or entries i [])
 
--- they are the lines of a text
+-- they are listed in a text
 abbrev pub AreLinesBetween : Head → ℕ → ℕ → Bytes → Type 0
 AreLinesBetween head from upto text =
-    (entries : List Bytes) × AreEntriesBetween sha256 head from upto entries × (text ≡ lines_text entries)
+    (entries : List Bytes) × AreEntriesBetween sha256 head from upto entries × (text ≡ listed_text entries)
 
 -- ---- why they are not given, by a source that may answer these texts and may lack these resources
+
+-- which text is kept for a tile
+abbrev pub kept_answers : List (Tile × Bytes) → Resource → Bytes → Type 0
+kept_answers kept (resource.Tile t) text = tiles_of kept t ≡ Some text
+kept_answers kept (resource.Entries index width) text = ⊥
+kept_answers kept resource.Checkpoint text = ⊥
+
+-- no tiles, or tiles that passed all checks against this size and root
+abbrev pub HavePassed : Head → List (Tile × Bytes) → Type 0
+HavePassed head kept = (kept ≡ []) ⊎ AreVerified sha256 head.size head.root kept
+
+-- each of these tiles is one of some that passed all checks, or the source may answer it
+abbrev pub AreServedOrPassed : (Resource → Bytes → Type 0) → Head → List (Tile × Bytes) → Type 0
+AreServedOrPassed answers head fetched =
+    (kept : List (Tile × Bytes)) × HavePassed head kept
+    × AreServed (may_answer_either (kept_answers kept) answers) head.size fetched
 
 -- the entries of a bundle of a log of this size and root are not read, for this reason
 abbrev pub RefusesBundle : (Resource → Bytes → Type 0) → (Resource → Type 0) → Head → ℕ → ClientFault → Type 0
 RefusesBundle answers lacks head bundle fault =
-    (fetched : List (Tile × Bytes))
+    (fetched : List (Tile × Bytes)) × AreServedOrPassed answers head fetched
     × RefusesEntries answers lacks (record { size = head.size; root = head.root; bundle = bundle; fetched = fetched }) fault
 
 -- the log has no entry with this index, or the bundle that has it isn't read

@@ -92,24 +92,3 @@ RefusesFetch grounds policy what fault o =
     (LacksTrust grounds policy fault × IsNoAccusation fault × IsUnwritten o)
     ⊎ ((two : Two) × AreTwo grounds.has policy two
     × (RefusesTwo grounds two fault o ⊎ RefusesGrown grounds policy what two fault o))
-
--- ---- the same in short: who is accused, and what is printed
-
--- the log is accused, and both notes were printed
-pub record HasAccused (may_have : Option Bytes → Type 0) (policy : Policy) (fault : FetchFault) (o : Passage) : Type 0 where
-  pub two : Two
-  pub are : AreTwo may_have policy two
-  pub so : IsAccused two fault
-  pub printed : PrintedWhole (λ text. text ≡ evidence_text two.last two.note) o
-
--- a text that may be printed before another fault comes: of what is wanted of a log that goes on from what was known,
--- or the evidence against it
-abbrev pub MayPrint : (Option Bytes → Type 0) → Policy → FetchRequest → Bytes → Type 0
-MayPrint may_have policy what text =
-    (two : Two) × AreTwo may_have policy two
-    × ((IsGrown two.old two.new × IsBegun policy.origin two.old.size two.new what text) ⊎ (text ≡ evidence_text two.last two.note))
-
--- the log is accused, or another fault came and no more than such a text was printed
-abbrev pub EndsFetch : (Option Bytes → Type 0) → Policy → FetchRequest → FetchFault → Passage → Type 0
-EndsFetch may_have policy what fault o =
-    HasAccused may_have policy fault o ⊎ (IsNoAccusation fault × PrintedSome (MayPrint may_have policy what) o)

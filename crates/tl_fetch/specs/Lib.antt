@@ -3,6 +3,7 @@ pub mod FaultWords
 pub mod Faults
 pub mod Trusting
 pub mod Opening
+pub mod Listed
 pub mod Entries
 pub mod Printed
 pub mod Fetching

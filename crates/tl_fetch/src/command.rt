@@ -1,14 +1,14 @@
 //! The command `fetch`.
 
-ghost use Rattle.std.specs.Prelude.{◌≡◌, ◌⊎◌, ◌<◌, ◌∷◌, [], string_bytes, IfErr, IfOk, MatchOption, length, map, vec_items};
+ghost use Rattle.std.specs.Prelude.{◌≡◌, ◌∷◌, [], string_bytes, IfErr, IfOk, map};
 ghost use Rattle.tl_device.specs.Device.{passage};
 ghost use Rattle.tl_key.specs.KeyText.{IsVerifierText};
-ghost use Rattle.tl_key.specs.NoteKey.{PublicKey, cosignature_kind, note_kind, verifier_key};
-ghost use Rattle.tl_key.specs.Reading.{IsNoVerifierText};
-ghost use Rattle.tl_fetch.specs.Command.{IsKeyFault, RunsFetch, RunsUnder, witness_text};
-ghost use Rattle.tl_fetch.specs.Faults.{IsNoAccusation};
-ghost use Rattle.tl_fetch.specs.Inner.Naming.{Renames};
+ghost use Rattle.tl_key.specs.NoteKey.{PublicKey, note_kind, verifier_key};
+ghost use Rattle.tl_fetch.specs.Command.{HasScheme, HaveOwnKeys, IsOriginOf, IsToldAs, RunsFetch, RunsUnder, cached_answers, cached_lacks, witness_texts};
+ghost use Rattle.tl_fetch.specs.Inner.Naming.{Renames, RunsOver};
 ghost use Rattle.tl_fetch.specs.Trusting.{policy_of};
+ghost use Rattle.tl_source.specs.Sources.{origin_of};
+ghost use Rattle.tl_source.specs.Url.{IsNoUrl};
 
 use crate::caching::Caching;
 use crate::fault::FetchFault;
@@ -16,10 +16,11 @@ use crate::observer::Observer;
 use crate::options::FetchOptions;
 use crate::policy::Policy;
 use crate::progress::Progress;
-use crate::run::fetch_in_short;
+use crate::run::fetch_under;
 use crate::state::NoState;
 use crate::state_file::{FileState, file_refusal};
-use std::alloc::{AllocError, Global};
+use crate::witnesses::{check_keys, witness_key};
+use std::alloc::Global;
 use std::fs::{File, Files};
 use std::io::Write;
 use std::net::{Net, TcpStream};
@@ -28,9 +29,10 @@ use tl_client::ResourceSource;
 use tl_command::{Place, RunFault, read_log_key};
 use tl_device::Counted;
 use tl_folder::AtomicFile;
-use tl_key::{CosignerVerifier, KeyFault, read_verifier_key};
 use tl_note::Verifier;
-use tl_source::{AnySource, CachedSource, FolderSource, HttpSource, Lack, TileCache, Url};
+use tl_source::{
+    AnySource, CachedSource, FolderSource, FullSource, HttpSource, Lack, NamesLack, TileCache, Url,
+};
 
 // The source that the options name: what has a scheme is an address, and all else a folder.
 fn source_of<'s, H: Files + Net<Stream = TcpStream> + Clock>(
@@ -38,7 +40,10 @@ fn source_of<'s, H: Files + Net<Stream = TcpStream> + Clock>(
     alloc: Global,
     options: &'s FetchOptions,
 ) -> Result<AnySource<'s, H>, FetchFault>
-    ensures { IfErr result IsNoAccusation }
+    ensures found { IfOk result
+        (λ s. IsOriginOf (string_bytes options.now.from) (origin_of s)) }
+    ensures refused { IfErr result (λ fault. (fault ≡ FetchFault.BadAddress)
+        × HasScheme (string_bytes options.now.from) × IsNoUrl (string_bytes options.now.from)) }
 {
     let from = options.from.as_str();
     if !from.contains("://") {
@@ -51,36 +56,6 @@ fn source_of<'s, H: Files + Net<Stream = TcpStream> + Clock>(
     Ok(AnySource::Http(HttpSource::new(rt, alloc, url, limit)))
 }
 
-// The verifier's key of a witness that a text is of, if it is of one.
-fn read_witness(alloc: Global, text: &str) -> Result<Option<CosignerVerifier<Global>>, AllocError>
-    ensures { IfOk result (λ found. MatchOption found
-        (IsNoVerifierText cosignature_kind text.now)
-        (λ k. IsVerifierText cosignature_kind text.now k)) }
-{
-    match read_verifier_key(alloc, text) {
-        Ok(key) => Ok(Some(key)),
-        Err(KeyFault::OutOfMemory) => Err(AllocError),
-        Err(_) => Ok(None),
-    }
-}
-
-// The verifier's key of the witness at this place.
-fn witness_key(
-    alloc: Global,
-    options: &FetchOptions,
-    place: usize,
-) -> Result<CosignerVerifier<Global>, FetchFault>
-    requires { place < length (vec_items options.now.witnesses) }
-    ensures read { IfOk result
-        (λ k. IsVerifierText cosignature_kind (witness_text options.now place) k) }
-    ensures refused { IfErr result (IsKeyFault options.now) }
-{
-    match read_witness(alloc, options.witnesses[place].as_str())? {
-        Some(key) => Ok(key),
-        None => Err(FetchFault::BadWitness(place as u64)),
-    }
-}
-
 // Fetches with the state in a file, if one is named.
 fn fetch_with_state<H: Files<File = File>, S: ResourceSource, O: Observer, W: Write>(
     rt: &H,
@@ -91,33 +66,33 @@ fn fetch_with_state<H: Files<File = File>, S: ResourceSource, O: Observer, W: Wr
     observer: &mut O,
     writer: &mut Counted<W>,
 ) -> Result<(), FetchFault>
-    ensures { RunsUnder (policy_of policy.now.origin.now (map (λ v. key v) policy.now.log.now)
+    ensures { RunsOver (S.may_answer source.now) (S.may_lack source.now)
+        (policy_of policy.now.origin.now (map (λ v. key v) policy.now.log.now)
         (map (λ w. key w) policy.now.witnesses.now) policy.now.need) options.now
         (passage W.contents writer.old writer.new) result }
 {
     let wanted = options.wanted;
     let Some(path) = &options.state else {
-        return fetch_in_short(
-            alloc,
-            source,
-            policy,
-            wanted,
-            &mut NoState,
-            observer,
-            writer,
-        );
+        let mut state = NoState;
+        return match fetch_under(alloc, source, policy, wanted, &mut state, observer, writer) {
+            Ok(()) => Ok(()),
+            Err(fault) => Err(fault),
+        };
     };
     let file = match AtomicFile::open(rt, alloc, path.as_str()) {
         Ok(file) => file,
         Err(fault) => return Err(file_refusal(fault)),
     };
     let mut state = FileState(file);
-    fetch_in_short(alloc, source, policy, wanted, &mut state, observer, writer)
+    match fetch_under(alloc, source, policy, wanted, &mut state, observer, writer) {
+        Ok(()) => Ok(()),
+        Err(fault) => Err(fault),
+    }
 }
 
 // A fault, which names what the last call of the source lacked where that is why it came.
 fn name_lack(fault: FetchFault, lack: Option<Lack>) -> FetchFault
-    ensures { (result ≡ fault) ⊎ ((fault ≡ FetchFault.Unavailable) × IsNoAccusation result) }
+    ensures { IsToldAs fault result }
 {
     match (fault, lack) {
         (FetchFault::Unavailable, Some(lack)) => {
@@ -153,7 +128,9 @@ fn fetch_through<
     errors: &mut Counted<E>,
     is_terminal: bool,
 ) -> Result<(), FetchFault>
-    ensures { RunsUnder (policy_of policy.now.origin.now (map (λ v. key v) policy.now.log.now)
+    ensures { RunsOver (cached_answers options.now.cache (S.may_answer source.now))
+        (cached_lacks options.now.cache (S.may_lack source.now))
+        (policy_of policy.now.origin.now (map (λ v. key v) policy.now.log.now)
         (map (λ w. key w) policy.now.witnesses.now) policy.now.need) options.now
         (passage W.contents writer.old writer.new) result }
 {
@@ -190,6 +167,7 @@ fn fetch_as_asked<'s, H: Files<File = File> + Net<Stream = TcpStream> + Clock, W
         Ok(source) => source,
         Err(fault) => return Err(fault),
     };
+    let source = FullSource::new(alloc, &source);
     let outcome = fetch_through(
         rt,
         alloc,
@@ -215,7 +193,8 @@ fn fetch_as_told<'s, H: Files<File = File> + Net<Stream = TcpStream> + Clock, W:
 ) -> Result<(), FetchFault>
     requires { (k : PublicKey) × IsVerifierText note_kind (string_bytes options.now.key) k
         × (policy.now.origin.now ≡ k.name) × (map (λ v. key v) policy.now.log.now
-        ≡ verifier_key k ∷ []) × (policy.now.need ≡ options.now.need) }
+        ≡ verifier_key k ∷ []) × (policy.now.need ≡ options.now.need)
+        × HaveOwnKeys (k.key ∷ []) (witness_texts options.now) }
     ensures { RunsFetch options.now (passage W.contents writer.old writer.new) result }
 {
     match fetch_as_asked(rt, alloc, policy, options, writer, errors, is_terminal) {
@@ -238,6 +217,7 @@ pub fn run_fetch<'s, H: Files<File = File> + Net<Stream = TcpStream> + Clock, W:
     ensures { RunsFetch options.now (passage W.contents writer.old writer.new) result }
 {
     let key = read_log_key(alloc, options.key.as_str())?;
+    check_keys(alloc, options, key.public_key())?;
     let origin = String::from_str(alloc, key.name())?;
     let log: Box<dyn Verifier> = Box::new(alloc, key)?;
     let mut witnesses: Vec<Box<dyn Verifier>> = Vec::new(alloc);

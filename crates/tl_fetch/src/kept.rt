@@ -6,7 +6,7 @@ ghost use Rattle.tl_client.specs.Bundles.{HasBundle};
 ghost use Rattle.tl_client.specs.Checked.{AreCheckedEntries};
 ghost use Rattle.tl_tile.specs.Fetched.{tiles_of};
 ghost use Rattle.tl_tile.specs.Verified.{AreVerified};
-ghost use Rattle.tl_fetch.specs.Entries.{RefusesBundle};
+ghost use Rattle.tl_fetch.specs.Entries.{HavePassed, RefusesBundle};
 
 use std::alloc::Allocator;
 use tl_client::{ClientFault, Head, ResourceSource, read_entries};
@@ -20,9 +20,11 @@ struct KeptSource<'k, F: Allocator, S: ResourceSource> {
 }
 
 impl<F: Allocator, S: ResourceSource> ResourceSource for KeptSource<'_, F, S> {
+    ghost use Rattle.tl_fetch.specs.Entries.{kept_answers};
     ghost use Rattle.tl_source.specs.Caches.{may_answer_either};
 
-    ghost may_answer = { λ s. may_answer_either (λ r text. Unit {0}) (S.may_answer s.source.now) };
+    ghost may_answer = { λ s. may_answer_either
+        (kept_answers s.kept.now) (S.may_answer s.source.now) };
 
     ghost may_lack = { λ s. S.may_lack s.source.now };
 
@@ -46,6 +48,7 @@ pub(crate) fn read_bundle<S: ResourceSource, A: Allocator + Copy>(
     bundle: u64,
     kept: &mut FetchedTiles<A>,
 ) -> Result<Vec<Vec<u8, A>, A>, ClientFault>
+    requires { HavePassed head.now kept.old }
     ensures entries { IfOk result (λ entries. AreCheckedEntries sha256
         (tiles_of kept.new) head.now.size head.now.root bundle (map vec_items entries.items)) }
     ensures verified { OnOk result (AreVerified sha256 head.now.size head.now.root kept.new) }

@@ -1,15 +1,16 @@
 //! Printing entries, a bundle at a time.
 
 ghost use Rattle.std.specs.Prelude.{◌≡◌, ℕ, ◌<◌, ◌≤◌, ◌++◌, ◌/◌, IfErr, IfOk, OnErr, OnOk, map, vec_items};
-ghost use Rattle.tl_command.specs.Lines.{lines_text};
 ghost use Rattle.tl_device.specs.Device.{passage};
-ghost use Rattle.tl_fetch.specs.Entries.{AreLinesBetween, RefusesBundle};
+ghost use Rattle.tl_fetch.specs.Entries.{AreLinesBetween, HavePassed, RefusesBundle};
+ghost use Rattle.tl_fetch.specs.Listed.{length_line, listed, listed_text, needs_length};
 ghost use Rattle.tl_fetch.specs.Printed.{FailsPrinting, PrintedSome, PrintedWhole, RefusesAll};
 
 use crate::fault::FetchFault;
 use crate::faults::client_refusal;
 use crate::kept::read_bundle;
 use crate::observer::Observer;
+use itoa::Buffer;
 use std::alloc::{AllocError, Allocator};
 use std::io::Write;
 use tl_client::{Head, ResourceSource};
@@ -17,22 +18,51 @@ use tl_command::{RunFault, print_text};
 use tl_device::Counted;
 use tl_tile::FetchedTiles;
 
-// Appends entries, one a line.
+// Whether an entry is told after its length: its end isn't seen else.
+fn needs_length(entry: &[u8]) -> bool
+    ensures { result ≡ needs_length entry.now }
+{
+    entry.starts_with(b"\\") || entry.contains(&b'\n')
+}
+
+// Appends the line of an entry's length, where the entry needs it.
+fn push_length<A: Allocator>(out: &mut Vec<u8, A>, entry: &[u8]) -> Result<(), AllocError>
+    ensures { OnOk result (out.new.items ≡ out.old.items ++ length_line entry.now) }
+{
+    if !needs_length(entry) {
+        return Ok(());
+    }
+    out.push(b'\\')?;
+    out.extend_from_slice(Buffer::new().format(entry.len()).as_bytes())?;
+    out.push(b'\n')?;
+    Ok(())
+}
+
+// Appends an entry as it is listed.
+fn push_listed<A: Allocator>(out: &mut Vec<u8, A>, entry: &[u8]) -> Result<(), AllocError>
+    ensures { OnOk result (out.new.items ≡ out.old.items ++ listed entry.now) }
+{
+    push_length(out, entry)?;
+    out.extend_from_slice(entry)?;
+    out.push(b'\n')?;
+    Ok(())
+}
+
+// Appends entries as they are listed.
 fn push_lines<A: Allocator, B: Allocator>(
     out: &mut Vec<u8, A>,
     entries: &[Vec<u8, B>],
 ) -> Result<(), AllocError>
     ensures { OnOk result
-        (out.new.items ≡ out.old.items ++ lines_text (map vec_items entries.now)) }
+        (out.new.items ≡ out.old.items ++ listed_text (map vec_items entries.now)) }
 {
     for entry in entries {
-        out.extend_from_slice(entry.as_slice())?;
-        out.push(b'\n')?;
+        push_listed(out, entry.as_slice())?;
     }
     Ok(())
 }
 
-// The entries from this index on to the end of its bundle, one a line, and the index after them.
+// The entries from this index on to the end of its bundle, as they are listed, and the index after them.
 fn lines_from<S: ResourceSource, A: Allocator + Copy, O: Observer>(
     alloc: A,
     source: &S,
@@ -41,10 +71,12 @@ fn lines_from<S: ResourceSource, A: Allocator + Copy, O: Observer>(
     kept: &mut FetchedTiles<A>,
     observer: &mut O,
 ) -> Result<(Vec<u8, A>, u64), FetchFault>
-    requires { from < head.now.size }
+    requires below { from < head.now.size }
+    requires passed { HavePassed head.now kept.old }
     ensures lines { IfOk result (λ r. AreLinesBetween head.now from r.1 r.0.items) }
     ensures further { IfOk result (λ r. from < r.1) }
     ensures within { IfOk result (λ r. r.1 ≤ head.now.size) }
+    ensures passed { OnOk result (HavePassed head.now kept.new) }
     ensures refused { IfErr result (FailsPrinting
         (RefusesBundle (S.may_answer source.now) (S.may_lack source.now) head.now (from / 256))) }
 {
@@ -70,11 +102,13 @@ fn print_bundle<S: ResourceSource, A: Allocator + Copy, O: Observer, W: Write>(
     observer: &mut O,
     writer: &mut Counted<W>,
 ) -> Result<u64, FetchFault>
-    requires { from < head.now.size }
+    requires below { from < head.now.size }
+    requires passed { HavePassed head.now kept.old }
     ensures printed { IfOk result (λ next. PrintedWhole
         (AreLinesBetween head.now from next) (passage W.contents writer.old writer.new)) }
     ensures further { IfOk result (λ next. from < next) }
     ensures within { IfOk result (λ next. next ≤ head.now.size) }
+    ensures passed { OnOk result (HavePassed head.now kept.new) }
     ensures part { OnErr result (PrintedSome (λ text. (upto : ℕ)
         × AreLinesBetween head.now from upto text) (passage W.contents writer.old writer.new)) }
     ensures refused { IfErr result (FailsPrinting
@@ -85,10 +119,10 @@ fn print_bundle<S: ResourceSource, A: Allocator + Copy, O: Observer, W: Write>(
     Ok(next)
 }
 
-/// Prints the entries from this index on, counted from 0, up to the end of a log of this size and root, a line each.
-/// Each is checked as by `fetch_entry`, and nothing is printed of a bundle that doesn't pass its check. A tile that was
-/// asked for isn't asked for again by the next bundle. `BadIndex` comes where the index is above the size, or the log
-/// has more than 2^62 entries.
+/// Prints the entries from this index on, counted from 0, up to the end of a log of this size and root, a line each; one
+/// that has a newline or begins with a backslash after a line with a backslash and its length. Each is checked as by
+/// `fetch_entry`, and nothing is printed of a bundle that doesn't pass its check. A tile that was asked for isn't asked
+/// for again by the next bundle. `BadIndex`: the index is above the size, or the log has more than 2^62 entries.
 pub fn print_entries<S: ResourceSource, A: Allocator + Copy, O: Observer, W: Write>(
     alloc: A,
     source: &S,
@@ -110,7 +144,10 @@ pub fn print_entries<S: ResourceSource, A: Allocator + Copy, O: Observer, W: Wri
     let mut kept = FetchedTiles::new(alloc);
     let mut next = from;
     while next < head.size {
-        next = print_bundle(alloc, source, head, next, &mut kept, observer, writer)?;
+        next = match print_bundle(alloc, source, head, next, &mut kept, observer, writer) {
+            Ok(next) => next,
+            Err(fault) => return Err(fault),
+        };
     }
     Ok(())
 }

@@ -4,7 +4,7 @@ ghost use Rattle.std.specs.Prelude.{◌≡◌, ◌⊎◌, ◌++◌, IfErr, Match
 ghost use Rattle.tl_client.specs.Refused.{RefusesGrowth};
 ghost use Rattle.tl_device.specs.Device.{IsUnwritten, passage};
 ghost use Rattle.tl_fetch.specs.Faults.{IsNoAccusation, after_client};
-ghost use Rattle.tl_fetch.specs.Fetching.{EndsFetch, HasFetched, RefusesFetch, RefusesTwo, evidence_text, grounds_of};
+ghost use Rattle.tl_fetch.specs.Fetching.{HasFetched, RefusesFetch, RefusesTwo, evidence_text, grounds_of};
 ghost use Rattle.tl_fetch.specs.Inner.Judging.{IsOfGrowth, two_of};
 ghost use Rattle.tl_fetch.specs.Printed.{IsBegun, IsWanted, PrintedSome, PrintedWhole, RefusesWanted};
 ghost use Rattle.tl_fetch.specs.Trusting.{IsGrown, IsKnown, IsNoteOf, policy_of};
@@ -224,32 +224,6 @@ pub fn fetch_under<S: ResourceSource, K: TrustStore, O: Observer, W: Write>(
     match print_and_keep(
         alloc, source, policy, &step, wanted, state, observer, writer,
     ) {
-        Ok(()) => Ok(()),
-        Err(fault) => Err(fault),
-    }
-}
-
-/// The same, of which less is told: who is accused and what is printed, whatever the source answers and the state
-/// keeps.
-pub(crate) fn fetch_in_short<S: ResourceSource, K: TrustStore, O: Observer, W: Write>(
-    alloc: Global,
-    source: &S,
-    policy: &Policy<'_>,
-    wanted: FetchRequest,
-    state: &mut K,
-    observer: &mut O,
-    writer: &mut Counted<W>,
-) -> Result<(), FetchFault>
-    ensures fetched { OnOk result (HasFetched (K.may_have state.old) (λ note. Unit {0})
-        (policy_of policy.now.origin.now (map (λ v. key v) policy.now.log.now)
-        (map (λ w. key w) policy.now.witnesses.now) policy.now.need) wanted
-        (passage W.contents writer.old writer.new)) }
-    ensures ended { IfErr result (λ fault. EndsFetch (K.may_have state.old)
-        (policy_of policy.now.origin.now (map (λ v. key v) policy.now.log.now)
-        (map (λ w. key w) policy.now.witnesses.now) policy.now.need) wanted fault
-        (passage W.contents writer.old writer.new)) }
-{
-    match fetch_under(alloc, source, policy, wanted, state, observer, writer) {
         Ok(()) => Ok(()),
         Err(fault) => Err(fault),
     }

@@ -4,5 +4,6 @@ pub mod Places
 pub mod Asking
 pub mod Lacking
 pub mod Caches
+pub mod Fulls
 pub mod Sources
 pub mod Inner

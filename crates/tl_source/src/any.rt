@@ -2,7 +2,7 @@
 
 use crate::folder::FolderSource;
 use crate::http::HttpSource;
-use crate::lack::Lack;
+use crate::lack::{Lack, NamesLack};
 use std::alloc::Allocator;
 use std::fs::Files;
 use std::net::{Net, TcpStream};
@@ -19,9 +19,8 @@ pub enum AnySource<'s, H: Files + Net<Stream = TcpStream> + Clock> {
     Http(HttpSource<'s, H>),
 }
 
-impl<H: Files + Net<Stream = TcpStream> + Clock> AnySource<'_, H> {
-    /// What the last call lacked, and why, if it lacked anything.
-    pub fn lack(&self) -> Option<Lack> {
+impl<H: Files + Net<Stream = TcpStream> + Clock> NamesLack for AnySource<'_, H> {
+    fn lack(&self) -> Option<Lack> {
         match self {
             AnySource::Folder(source) => source.lack(),
             AnySource::Http(source) => source.lack(),

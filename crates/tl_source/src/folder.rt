@@ -4,7 +4,7 @@ ghost use Rattle.std.specs.Prelude.{◌≡◌, ◌≤◌, IfOk, length};
 ghost use Rattle.tl_tile.specs.Path.{IsResource};
 ghost use Rattle.tl_source.specs.Limits.{most_bytes};
 
-use crate::lack::{Lack, LastLack};
+use crate::lack::{Lack, LastLack, NamesLack};
 use crate::limit::most_bytes;
 use crate::place::path_under;
 use std::alloc::{Allocator, Global};
@@ -58,11 +58,6 @@ impl<'s, H: Files> FolderSource<'s, H> {
         }
     }
 
-    /// What the last call lacked, and why, if it lacked anything.
-    pub fn lack(&self) -> Option<Lack> {
-        self.last.get()
-    }
-
     // What is at this path, by the system's word.
     fn look(&self, path: &str) -> io::Result<Metadata> {
         if self.follows_links {
@@ -85,6 +80,12 @@ impl<'s, H: Files> FolderSource<'s, H> {
         let path = path_under(self.alloc, self.folder, resource)?;
         let (path, most) = (path.as_str(), most_bytes(resource));
         read_plain(alloc, self.files, path, self.look(path), most)
+    }
+}
+
+impl<H: Files> NamesLack for FolderSource<'_, H> {
+    fn lack(&self) -> Option<Lack> {
+        self.last.get()
     }
 }
 

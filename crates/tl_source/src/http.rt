@@ -6,7 +6,7 @@ ghost use Rattle.tl_source.specs.Asking.{MayGive};
 ghost use Rattle.tl_source.specs.Lacking.{after_get};
 
 use crate::asking::ask;
-use crate::lack::{Lack, LastLack};
+use crate::lack::{Lack, LastLack, NamesLack};
 use crate::url::Url;
 use std::alloc::{Allocator, Global};
 use std::marker::Model;
@@ -91,11 +91,6 @@ impl<'s, H: Net<Stream = TcpStream> + Clock> HttpSource<'s, H> {
         }
     }
 
-    /// What the last call lacked, and why, if it lacked anything.
-    pub fn lack(&self) -> Option<Lack> {
-        self.last.get()
-    }
-
     // Whether the time since then is over.
     fn is_late(&self, start: &Instant) -> bool {
         match start.elapsed(self.rt) {
@@ -118,6 +113,12 @@ impl<'s, H: Net<Stream = TcpStream> + Clock> HttpSource<'s, H> {
             Ok(body) => Ok(body),
             Err(fault) => Err(why_none(fault, self.is_late(&start))),
         }
+    }
+}
+
+impl<H: Net<Stream = TcpStream> + Clock> NamesLack for HttpSource<'_, H> {
+    fn lack(&self) -> Option<Lack> {
+        self.last.get()
     }
 }
 

@@ -16,6 +16,12 @@ pub struct Lack {
     pub why: DeviceFault,
 }
 
+/// A source that remembers what it lacked.
+pub trait NamesLack {
+    /// What the last call lacked, and why, if it lacked anything.
+    fn lack(&self) -> Option<Lack>;
+}
+
 // What the caller of a source is told.
 fn told_as(why: DeviceFault) -> SourceFault
     ensures { result ≡ after_device why }
@@ -43,6 +49,11 @@ impl LastLack {
     /// What the last call lacked, if it lacked anything.
     pub(crate) fn get(&self) -> Option<Lack> {
         self.last.get()
+    }
+
+    /// Takes this for what was lacked.
+    pub(crate) fn keep(&self, lack: Option<Lack>) {
+        self.last.set(lack);
     }
 
     /// Notes what came of a call for a resource.

@@ -114,11 +114,12 @@ of them: the checkpoint opens under the log's key (C2SP signed-note, tlog-checkp
 it (tlog-cosignature), it extends the one in the file of --state by a consistency proof, and tiles and entries are those
 of its root (RFC 6962). A checkpoint that passes is kept in that file, with --all once the entries are printed.
 Output: with --head three lines, the log's name, its size and its root; with --index the entry and a newline; with --all
-every entry from the state's size on, one a line, each checked before it is printed; with --prove the text that 'tlog
-check' reads. Where the log shrank or forked, both checkpoints: the state's and the new one.
+every entry from the state's size on, one a line, each checked before it is printed (one that has a newline or begins
+with a backslash after a line with a backslash and its length in bytes); with --prove the text that 'tlog check' reads.
+Where the log shrank or forked, both checkpoints: the state's and the new one.
 Defaults: --need all witnesses that are given, --timeout 10. With --cache tiles that passed are kept in that folder, and
 checked again when they are read.
-Exit status: 0 done; 1 refused (a bad key, a bad address, no checkpoint that opens, checkpoint of another log, cosigned
-by N witnesses, no entry at the index, a tile, a bundle or an entry wrong, bad state, out of memory); 2 wrong arguments
+Exit status: 0 done; 1 refused (a bad key, a witness with the key of another or of the log, a bad address, no checkpoint
+that opens, checkpoint of another log, cosigned by N witnesses, no entry at the index, a tile, a bundle or an entry wrong, bad state, out of memory); 2 wrong arguments
 or a call for help; 3 not available, or a read or a write failed; 4 log shrank, log forked. A refusal is one line
 'tlog: ..' on standard error.";

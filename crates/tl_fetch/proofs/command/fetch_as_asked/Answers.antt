@@ -1,5 +1,10 @@
+use Rattle.std.proofs.Common.{string_bytes, subst, sym}
+use Rattle.tl_source.specs.Sources.{origin_of}
+use Rattle.tl_fetch.specs.Command.{IsOriginOf}
 use Rattle.tl_fetch.proofs.RunLemmas.{renamed}
 use Rattle.tl_fetch.proofs.command.fetch_as_asked.Goals as goal
 
 pub returns : goal.returns
-returns g c = renamed _ c.args.options.now _ _ _ c.with_lack.ensures c.fetch_through-outcome.ensures
+returns g c =
+    let options = c.args.options.now in
+    renamed _ options (origin_of c.new-source.result) _ _ _ (subst (λ s. IsOriginOf (string_bytes options.from) (origin_of s)) (sym c.new-source.ensures) c.in-Ok.ensures.found) c.with_lack.ensures c.fetch_through-outcome.ensures

@@ -7,5 +7,6 @@ returns-in-Err-clause-refused g c =
     let head = c.args.head.now in
     let read : BundleRead = record { size = head.size; root = head.root; bundle = c.args.bundle; fetched = c.read_entries.new.fetched } in (
       c.read_entries.new.fetched,
-      refused_kept (g.S.ResourceSource.may_answer c.args.source.now) (g.S.ResourceSource.may_lack c.args.source.now) read c.in-Err.fault c.in-Err.ensures.refused,
+      (c.args.kept.now, c.requires, c.read_entries.ensures.served),
+      refused_kept c.args.kept.now (g.S.ResourceSource.may_answer c.args.source.now) (g.S.ResourceSource.may_lack c.args.source.now) read c.in-Err.fault c.in-Err.ensures.refused,
     )

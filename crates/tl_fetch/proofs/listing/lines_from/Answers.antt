@@ -14,6 +14,6 @@ returns-clause-lines g c =
       _,
       rest_of vec_items sha256 head c.args.from items _ refl
           (record { within = c.in-Ok.ensures.within; fetched = _; verified = c.in-Ok.ensures.verified; checked = checked })
-          (place_in vec_items head.size c.args.from items c.requires checked.whole.count),
+          (place_in vec_items head.size c.args.from items c.requires.below checked.whole.count),
       after_nothing _ _ _ c.in_ok-push_lines.ensures c.new-text.ensures.items,
     )
