@@ -195,7 +195,7 @@ cosigns_note a q words lines found text whole is at are same first enough (kept,
 pub operating_attaches : {A : Type 0} (a b : Operated A) (q : Prefix) (lines : List Signature) (p : Past) → IsOfSame a b → a.proposal ≡ Some q → IsAttached a b q lines p → IsOperating a → IsOperating b
 operating_attaches a b q lines p same at is before =
     let proposal : IsProposal a q = before.proposed q at in
-    operating_next a b (record { entries = q.entries; note = is.note }) same is.log is.proposal is.history proposal.beginning
+    operating_next a b (record { entries = q.entries; note = is.note }) same is.log is.proposal is.history proposal.beginning proposal.based
     (follows_under (last_of a.past.log) q is.note proposal.next) (note_cosigned a q lines is.note is.cosigned) before
 
 pub operating_answers : {A : Type 0} (r : Result Past AttachFault) (text : List ℕ) (a b : Operated A) → IsOfSame a b → Attaches text a b r → IsOperating a → IsOperating b

@@ -20,7 +20,7 @@ use Rattle.tl_publisher.specs.declared.fault.PublishFault.TheVariants as publish
 use Rattle.tl_publisher.specs.declared.fault.OperatorFault.{OperatorFault}
 use Rattle.tl_publisher.specs.declared.fault.OperatorFault.TheVariants as operator
 use Rattle.tl_checkpoint.specs.Quorum.{AreApart}
-use Rattle.tl_publisher.specs.Histories.{Prefix, Past, Begins, AreOf, IsGrowing, last_of}
+use Rattle.tl_publisher.specs.Histories.{Prefix, Past, Begins, BeginWith, AreOf, IsGrowing, last_of}
 use Rattle.tl_publisher.specs.Stages.{IsNextOf}
 use Rattle.tl_publisher.specs.Signed.{AreSigners, IsSignedNote, IsByWitness, AreSignedBy, Quorum, no_quorum, text_of_log}
 use Rattle.tl_publisher.specs.Operating.{Operated, IsOperating, IsOfSame, IsProposal, IsClosed}
@@ -60,17 +60,18 @@ module _ {A : Type 0} where
   signed_same a b history same is k d less = subst (λ (q : Quorum). IsSignedNote b.signers q (text_of_log b.origin (get_or history k d).entries) (get_or history k d).note) (sym same.quorum)
       (note_same a b a.quorum (get_or history k d).entries (get_or history k d).note same (is k d less))
 
-  proposal_more : (a b : Operated A) (more : List (List ℕ)) (p : Prefix) → IsOfSame a b → b.past ≡ a.past → entries_of b.log ≡ entries_of a.log ++ more → IsProposal a p → IsProposal b p
-  proposal_more a b more p same past entries is = record {
+  proposal_more : (a b : Operated A) (more : List (List ℕ)) (p : Prefix) → IsOfSame a b → b.past ≡ a.past → b.log.base ≡ a.log.base → entries_of b.log ≡ entries_of a.log ++ more → IsProposal a p → IsProposal b p
+  proposal_more a b more p same past base entries is = record {
     beginning = subst (Begins p.entries) (sym entries) (begins_more p.entries (entries_of a.log) more is.beginning);
+    based = subst (λ (es : List (List ℕ)). Begins es p.entries) (sym base) is.based;
     next = subst (λ (h : Past). IsNextOf (last_of h.log) p) (sym past) is.next;
     signed = note_same a b no_quorum p.entries p.note same is.signed;
   }
 
   -- nothing but the end of the log moved, and the proposal, which is one
-  pub operating_with : (a b : Operated A) (more : List (List ℕ)) → IsOfSame a b → b.past ≡ a.past → entries_of b.log ≡ entries_of a.log ++ more → IsOperating a
+  pub operating_with : (a b : Operated A) (more : List (List ℕ)) → IsOfSame a b → b.past ≡ a.past → b.log.base ≡ a.log.base → entries_of b.log ≡ entries_of a.log ++ more → IsOperating a
       → (b.quorum.need ≡ 0 → b.proposal ≡ None) → ((p : Prefix) → b.proposal ≡ Some p → IsProposal b p) → IsOperating b
-  operating_with a b more same past entries is free proposed =
+  operating_with a b more same past base entries is free proposed =
       let log : b.past.log ≡ a.past.log = ap (λ (p : Past). p.log) past in
       record {
         origin = subst IsOneLine (sym same.origin) is.origin;
@@ -80,32 +81,33 @@ module _ {A : Type 0} where
         free = free;
         proposed = proposed;
         beginnings = subst (AreOf (entries_of b.log)) (sym log) (subst (λ (l : List (List ℕ)). AreOf l a.past.log) (sym entries) (λ k d less. begins_more _ (entries_of a.log) more (is.beginnings k d less)));
+        based = subst (BeginWith b.log.base) (sym log) (subst (λ (es : List (List ℕ)). BeginWith es a.past.log) (sym base) is.based);
         growing = subst IsGrowing (sym log) is.growing;
         signed = signed_same a b b.past.log same (subst (AreSignedBy a.origin a.signers a.quorum) (sym log) is.signed);
       }
 
   -- nothing but the end of the log moved
-  operating_more : (a b : Operated A) (more : List (List ℕ)) → IsOfSame a b → b.proposal ≡ a.proposal → b.past ≡ a.past → entries_of b.log ≡ entries_of a.log ++ more → IsOperating a → IsOperating b
-  operating_more a b more same proposal past entries is =
-      operating_with a b more same past entries is
+  operating_more : (a b : Operated A) (more : List (List ℕ)) → IsOfSame a b → b.proposal ≡ a.proposal → b.past ≡ a.past → b.log.base ≡ a.log.base → entries_of b.log ≡ entries_of a.log ++ more → IsOperating a → IsOperating b
+  operating_more a b more same proposal past base entries is =
+      operating_with a b more same past base entries is
       (λ none. proposal ∙ is.free (sym (ap (λ (q : Quorum). q.need) same.quorum) ∙ none))
-      (λ p at. proposal_more a b more p same past entries (is.proposed p (sym proposal ∙ at)))
+      (λ p at. proposal_more a b more p same past base entries (is.proposed p (sym proposal ∙ at)))
 
   pub operating_still : (a b : Operated A) → IsOfSame a b → IsSame a b → IsOperating a → IsOperating b
-  operating_still a b same still is = operating_more a b [] same still.proposal still.past (ap entries_of still.log ∙ sym (append-nil (entries_of a.log))) is
+  operating_still a b same still is = operating_more a b [] same still.proposal still.past (ap (λ (l : Log A). l.base) still.log) (ap entries_of still.log ∙ sym (append-nil (entries_of a.log))) is
 
   pub operating_takes : {F : Type 0} (r : Result ℕ F) (lane : ℕ) (a b : Operated A) → IsOfSame a b → b.proposal ≡ a.proposal → b.past ≡ a.past → IfOk r (λ n. Takes lane n a.log b.log) → IfErr r (λ _. b.log ≡ a.log) → IsOperating a → IsOperating b
-  operating_takes (Ok n) lane a b same proposal past took kept is = operating_more a b took.more same proposal past (taken_entries a.log b.log took.more took.base took.taken) is
+  operating_takes (Ok n) lane a b same proposal past took kept is = operating_more a b took.more same proposal past took.base (taken_entries a.log b.log took.more took.base took.taken) is
   operating_takes (Err e) lane a b same proposal past took kept is = operating_still a b same (record { log = kept; proposal = proposal; past = past }) is
 
   pub operating_closes : {F : Type 0} (r : Result ℕ F) (end : End A) (a b : Operated A) → IsOfSame a b → b.proposal ≡ a.proposal → b.past ≡ a.past → IfOk r (λ n. Closes end n a.log b.log) → IfErr r (λ _. b.log ≡ a.log) → IsOperating a → IsOperating b
-  operating_closes (Ok n) end a b same proposal past took kept is = operating_more a b took.more same proposal past (taken_entries a.log b.log took.more took.base took.taken) is
+  operating_closes (Ok n) end a b same proposal past took kept is = operating_more a b took.more same proposal past took.base (taken_entries a.log b.log took.more took.base took.taken) is
   operating_closes (Err e) end a b same proposal past took kept is = operating_still a b same (record { log = kept; proposal = proposal; past = past }) is
 
-  -- one publication more, of a beginning of the log, after which nothing is proposed
-  pub operating_next : (a b : Operated A) (q : Prefix) → IsOfSame a b → b.log ≡ a.log → b.proposal ≡ None → b.past.log ≡ a.past.log ++ q ∷ [] → Begins q.entries (entries_of a.log) → IsNextOf (last_of a.past.log) q
+  -- one publication more, of a beginning of the log with all that it began with, after which nothing is proposed
+  pub operating_next : (a b : Operated A) (q : Prefix) → IsOfSame a b → b.log ≡ a.log → b.proposal ≡ None → b.past.log ≡ a.past.log ++ q ∷ [] → Begins q.entries (entries_of a.log) → Begins a.log.base q.entries → IsNextOf (last_of a.past.log) q
       → IsSignedNote a.signers a.quorum (text_of_log a.origin q.entries) q.note → IsOperating a → IsOperating b
-  operating_next a b q same log none history beginning next signed before = record {
+  operating_next a b q same log none history beginning based next signed before = record {
     origin = subst IsOneLine (sym same.origin) before.origin;
     signers = subst AreSigners (sym same.signers) before.signers;
     apart = subst (λ (k : Quorum). AreApart k.witnesses) (sym same.quorum) before.apart;
@@ -115,6 +117,9 @@ module _ {A : Type 0} where
     beginnings = subst (AreOf (entries_of b.log)) (sym history)
         (subst (λ (l : Log A). AreOf (entries_of l) (a.past.log ++ q ∷ [])) (sym log)
         (All-push (λ (x : Prefix). Begins x.entries (entries_of a.log)) a.past.log q before.beginnings beginning));
+    based = subst (BeginWith b.log.base) (sym history)
+        (subst (λ (l : Log A). BeginWith l.base (a.past.log ++ q ∷ [])) (sym log)
+        (All-push (λ (x : Prefix). Begins a.log.base x.entries) a.past.log q before.based based));
     growing = subst IsGrowing (sym history) (follows_growing a.past.log q before.growing next);
     signed = signed_same a b b.past.log same (subst (AreSignedBy a.origin a.signers a.quorum) (sym history)
         (All-push (λ (x : Prefix). IsSignedNote a.signers a.quorum (text_of_log a.origin x.entries) x.note) a.past.log q before.signed signed));
@@ -128,7 +133,7 @@ module _ {A : Type 0} where
   operating_publishes (Ok p) a b same is before =
       let made = is.2 in
       let text : List ℕ = text_of_log a.origin (entries_of a.log) in
-      operating_next a b (record { entries = entries_of a.log; note = made.note }) same made.log (made.proposal ∙ before.free is.0) made.history ([], append-nil (entries_of a.log))
+      operating_next a b (record { entries = entries_of a.log; note = made.note }) same made.log (made.proposal ∙ before.free is.0) made.history ([], append-nil (entries_of a.log)) (a.log.taken, refl)
       (next_of a.past.log (entries_of a.log) made.note before.beginnings is.1) (lone_note a.signers a.quorum text made.note is.0 made.signed) before
 
   pub operating_new : (words : List ℕ) (keys : List SigningKey) (o : Operated A) → IsBegun words keys o → IsOneLine words → AreSigners keys → IsOperating o
@@ -142,6 +147,7 @@ module _ {A : Type 0} where
         free = λ _. is.unproposed;
         proposed = λ p at. absurd (let no_more : None ≡ Some p = sym is.unproposed ∙ at in cc);
         beginnings = subst (AreOf (entries_of o.log)) (sym is.unpublished) (All-nil (λ (q : Prefix). Begins q.entries (entries_of o.log)));
+        based = subst (BeginWith o.log.base) (sym is.unpublished) (All-nil (λ (q : Prefix). Begins o.log.base q.entries));
         growing = subst IsGrowing (sym is.unpublished) tt;
         signed = subst (AreSignedBy o.origin o.signers o.quorum) (sym is.unpublished) (All-nil (λ (q : Prefix). IsSignedNote o.signers o.quorum (text_of_log o.origin q.entries) q.note));
       }
@@ -157,6 +163,7 @@ module _ {A : Type 0} where
         complete = whole;
         merge = merge;
         beginnings = beginnings;
+        based = subst (BeginWith complete.base) (sym history) (subst (λ (l : Log A). BeginWith l.base o.past.log) (sym log) is.based);
         growing = subst IsGrowing (sym history) is.growing;
         signed = signed;
         encoded = all_encoded o.origin o.signers o.quorum (entries_of complete) past.log beginnings signed;

@@ -11,7 +11,7 @@ use Rattle.tl_checkpoint.specs.Checkpoint.{checkpoint_text}
 use Rattle.tl_note.specs.Key.{SigningKey}
 use Rattle.tl_checkpoint.specs.Quorum.{AreApart}
 use Rattle.tl_sequencer.specs.Log.{Log, entries_of}
-use Rattle.tl_publisher.specs.Histories.{Prefix, Past, AreOf, Begins, IsGrowing, last_of}
+use Rattle.tl_publisher.specs.Histories.{Prefix, Past, AreOf, BeginWith, Begins, IsGrowing, last_of}
 use Rattle.tl_publisher.specs.Boards.{Board, face_head, head_if}
 use Rattle.tl_publisher.specs.Signed.{AreSigners, IsSignedNote, AreSignedBy, Quorum, no_quorum, text_of_log}
 use Rattle.tl_publisher.specs.Operating.{Operated, IsOperating, IsOfSame, IsProposal}
@@ -59,6 +59,7 @@ module _ {A : Type 0} where
         free = λ _. none;
         proposed = λ p at. absurd (let no_more : None ≡ Some p = sym none ∙ at in cc);
         beginnings = subst (AreOf (entries_of b.log)) (sym history) (All-nil (λ (x : Prefix). Begins x.entries (entries_of b.log)));
+        based = subst (BeginWith b.log.base) (sym history) (All-nil (λ (x : Prefix). Begins b.log.base x.entries));
         growing = subst IsGrowing (sym history) tt;
         signed = subst (AreSignedBy b.origin b.signers b.quorum) (sym history) (All-nil (λ (x : Prefix). IsSignedNote b.signers b.quorum (text_of_log b.origin x.entries) x.note));
       }
@@ -68,17 +69,18 @@ module _ {A : Type 0} where
   proposal_is a b size note same is before p at =
       let q : Prefix = record { entries = entries_of a.log; note = note } in
       let here : q ≡ p = one q p (sym is.proposal ∙ at) in
+      let based : Begins b.log.base q.entries = subst (λ (l : Log A). Begins l.base q.entries) (sym is.log) (a.log.taken, refl) in
       let next : IsNextOf (last_of b.past.log) q = subst (λ (h : Past). IsNextOf (last_of h.log) q) (sym is.past) (next_of a.past.log (entries_of a.log) note before.beginnings is.fresh) in
       let signed : IsSignedNote b.signers no_quorum (text_of_log b.origin q.entries) note =
       subst (λ (o : List ℕ). IsSignedNote b.signers no_quorum (text_of_log o q.entries) note) (sym same.origin) (subst (λ (k : List SigningKey). IsSignedNote k no_quorum (text_of_log a.origin q.entries) note) (sym same.signers) is.signed) in
-      subst (IsProposal b) here (record { beginning = ([], append-nil q.entries ∙ ap entries_of (sym is.log)); next = next; signed = signed })
+      subst (IsProposal b) here (record { beginning = ([], append-nil q.entries ∙ ap entries_of (sym is.log)); based = based; next = next; signed = signed })
     where
       one : (x y : Prefix) → Some x ≡ Some y → x ≡ y
       one x y e = cc
 
   pub operating_proposes : (a b : Operated A) (size : ℕ) (note : List ℕ) → IsOfSame a b → IsProposed a b size note → IsOperating a → IsOperating b
   operating_proposes a b size note same is before =
-      operating_with a b [] same is.past (ap entries_of is.log ∙ sym (append-nil (entries_of a.log))) before
+      operating_with a b [] same is.past (ap (λ (l : Log A). l.base) is.log) (ap entries_of is.log ∙ sym (append-nil (entries_of a.log))) before
       (λ none. absurd (is.needed (sym (ap (λ (q : Quorum). q.need) same.quorum) ∙ none)))
       (proposal_is a b size note same is before)
 

@@ -8,7 +8,7 @@ use Rattle.tl_sequencer.specs.Merge.{IsMerge}
 use Rattle.tl_sequencer.specs.Opened.{IsOpened}
 use Rattle.tl_sequencer.specs.Steps.{IsComplete, sent_of}
 use Rattle.tl_checkpoint.specs.Quorum.{AreApart}
-use Rattle.tl_publisher.specs.Histories.{Prefix, Past, AreOf, Begins, IsGrowing, last_of}
+use Rattle.tl_publisher.specs.Histories.{Prefix, Past, AreOf, BeginWith, Begins, IsGrowing, last_of}
 use Rattle.tl_publisher.specs.Signed.{AreSigners, AreSignedBy, IsSignedNote, Quorum, no_quorum, text_of_log}
 use Rattle.tl_publisher.specs.Stages.{IsNextOf}
 use Rattle.tl_publisher.specs.Encoded.{AreEncoded}
@@ -33,16 +33,17 @@ pub record IsNew {A : Type 0} (words : List ℕ) (keys : List SigningKey) (base 
   pub unproposed : o.proposal ≡ None
   pub unpublished : o.past.log ≡ []
 
--- the proposal is of a beginning of the log, goes on from the last publication, and has a note of its own checkpoint
--- with one line by each signer, in order
+-- the proposal is of a beginning of the log that has all that the log began with, goes on from the last publication, and
+-- has a note of its own checkpoint with one line by each signer, in order
 pub record IsProposal {A : Type 0} (o : Operated A) (p : Prefix) : Type 0 where
   pub beginning : Begins p.entries (entries_of o.log)
+  pub based : Begins o.log.base p.entries
   pub next : IsNextOf (last_of o.past.log) p
   pub signed : IsSignedNote o.signers no_quorum (text_of_log o.origin p.entries) p.note
 
--- its checkpoints can be signed and cosigned, and each publication is of a beginning of the log, goes on from the one
--- before, and has a note of its own checkpoint with one line by each signer, in order, and then lines of as many
--- witnesses as must cosign; there is a proposal only where witnesses must
+-- its checkpoints can be signed and cosigned, and each publication is of a beginning of the log that has all that the
+-- log began with, goes on from the one before, and has a note of its own checkpoint with one line by each signer, in
+-- order, and then lines of as many witnesses as must cosign; there is a proposal only where witnesses must
 pub record IsOperating {A : Type 0} (o : Operated A) : Type 0 where
   pub origin : IsOneLine o.origin
   pub signers : AreSigners o.signers
@@ -51,6 +52,7 @@ pub record IsOperating {A : Type 0} (o : Operated A) : Type 0 where
   pub free : o.quorum.need ≡ 0 → o.proposal ≡ None
   pub proposed : (p : Prefix) → o.proposal ≡ Some p → IsProposal o p
   pub beginnings : AreOf (entries_of o.log) o.past.log
+  pub based : BeginWith o.log.base o.past.log
   pub growing : IsGrowing o.past.log
   pub signed : AreSignedBy o.origin o.signers o.quorum o.past.log
 
@@ -73,14 +75,15 @@ pub record HaveSeen (past : Past) (count : ℕ) (readers : List Past) : Type 0 w
   pub each : All (λ seen. seen ≡ past) readers
 
 -- A log that was closed as complete: it holds each lane's entries once, in sent order, after its base, and all that was
--- published is the specifications' encoding of beginnings of it, each longer than the one before, under notes signed by
--- this operator's keys.
+-- published is the specifications' encoding of beginnings of it that have its base, each longer than the one before,
+-- under notes signed by this operator's keys.
 pub record IsClosed {A : Type 0} (o : Operated A) (whole : Log A) (kept : Past) : Type 0 where
   pub log : whole ≡ o.log
   pub past : kept ≡ o.past
   pub complete : IsComplete whole
   pub merge : IsMerge (entries_of whole) whole.base (sent_of whole)
   pub beginnings : AreOf (entries_of whole) kept.log
+  pub based : BeginWith whole.base kept.log
   pub growing : IsGrowing kept.log
   pub signed : AreSignedBy o.origin o.signers o.quorum kept.log
   pub encoded : AreEncoded o.origin o.signers o.quorum (entries_of whole) kept.log

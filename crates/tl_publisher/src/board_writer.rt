@@ -1,5 +1,5 @@
 //! The one who shows publications on the board.
-ghost use Rattle.std.specs.Prelude.{◌≡◌, ℕ, Option, Some, None, List, [], ◌∷◌, ◌++◌, take, drop, fold, length, ◌<◌, ◌≤◌, ◌^◌, IfOk, OnOk, OnErr, MatchResult, option_map};
+ghost use Rattle.std.specs.Prelude.{◌≡◌, ℕ, Option, Some, None, List, [], ◌∷◌, ◌++◌, take, drop, fold, length, ◌<◌, ◌≤◌, ◌^◌, IfErr, IfOk, IsSome, OnOk, OnErr, MatchResult, option_map};
 ghost use Rattle.left_right.specs.Sides.{view};
 ghost use Rattle.sha2.specs.Sha256.{sha256};
 ghost use Rattle.tl_sequencer.specs.Log.{entries_of};
@@ -253,8 +253,10 @@ impl<R: Wait + Drop> BoardWriter<R> {
         alloc: B,
         resource: Resource,
     ) -> Result<Option<Vec<u8, B>>, AllocError>
-        ensures { IfOk result
+        ensures bytes { IfOk result
             (λ r. option_map (λ v. v.items) r ≡ boards.shown sha256 resource self.now.past.log) }
+        ensures memory { IfErr result
+            (λ _. IsSome (boards.shown sha256 resource self.now.past.log)) }
     {
         bytes_of(self.writer.published(), alloc, resource)
     }

@@ -1,6 +1,6 @@
 //! How an operator is closed, and the board that stays.
 
-ghost use Rattle.std.specs.Prelude.{◌≡◌, IfErr, IfOk, ℕ, option_map, vec_items};
+ghost use Rattle.std.specs.Prelude.{◌≡◌, IfErr, IfOk, IsSome, ℕ, option_map, vec_items};
 ghost use Rattle.sha2.specs.Sha256.{sha256};
 ghost use Rattle.tl_publisher.specs.Boards as boards;
 ghost use Rattle.tl_publisher.specs.Histories as histories;
@@ -81,7 +81,7 @@ impl<R: Wait + Drop> Model for Board<R> {
 impl<R: Wait + Drop> Board<R> {
     /// A copy of the bytes under a resource (C2SP tlog-tiles): the signed checkpoint of the last publication, or a tile
     /// or bundle, full or partial, that some publication needed. None for any other resource. It fails only where a
-    /// growth was refused.
+    /// growth was refused, which none is for what isn't there.
     pub fn get<B: Allocator>(
         &mut self,
         alloc: B,
@@ -91,6 +91,8 @@ impl<R: Wait + Drop> Board<R> {
         ensures answer { IfOk result
             (λ r. option_map vec_items r ≡ boards.shown sha256 resource.now self.old.log) }
         ensures memory { IfErr result (λ fault. fault ≡ GetFault.OutOfMemory) }
+        ensures there { IfErr result
+            (λ _. IsSome (boards.shown sha256 resource.now self.old.log)) }
     {
         let found = self.writer.get(alloc, *resource)?;
         Ok(found)

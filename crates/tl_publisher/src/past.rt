@@ -123,8 +123,8 @@ impl Past {
     /// Goes on to what another has seen, unless that is less.
     pub(crate) fn follow(&mut self, other: &Past) -> bool
         requires { other.now.book ≡ self.old.book }
-        ensures { MatchBool result
-            ((self.new ≡ other.now) × Grew self.old self.new) (self.new ≡ self.old) }
+        ensures { MatchBool result ((self.new ≡ other.now) × Grew self.old self.new)
+            ((self.new ≡ self.old) × (length other.now.log < length self.old.log)) }
     {
         let mut both = self.seen.again();
         both.learn(&other.seen);

@@ -1,12 +1,12 @@
 //! A reader of the board.
-ghost use Rattle.std.specs.Prelude.{◌≡◌, Some, None, IfOk, option_map};
+ghost use Rattle.std.specs.Prelude.{◌≡◌, ◌<◌, Some, None, IfErr, IfOk, IsSome, MatchBool, length, option_map};
 ghost use Rattle.left_right.specs.Sides.{view};
 ghost use Rattle.sha2.specs.Sha256.{sha256};
 ghost use Rattle.tl_publisher.specs.Boards as boards;
 ghost use Rattle.tl_publisher.specs.Histories.{StartsWith, Grew, last_of};
 ghost use Rattle.tl_publisher.specs.Rules.{knows};
 ghost use Rattle.tl_publisher.specs.Stages as stages;
-ghost use Rattle.tl_publisher.specs.Answers.{AnswersBytes, AnswersHead, AnswersLatest, head_and_note};
+ghost use Rattle.tl_publisher.specs.Answers.{AnswersBytes, AnswersHead, AnswersLatest, Sees, head_and_note};
 
 use crate::board_copy::BoardCopy;
 use crate::fault::GetFault;
@@ -39,6 +39,16 @@ impl<A: Allocator> Model for BoardReader<A> {
     ghost invariant = { λ r. sides.view r.reader.place ≡ knows r.past.book };
 }
 
+// Goes on to what the copy shows, unless that is less.
+fn follow<A: Allocator>(past: &mut Past, copy: &BoardCopy<A>) -> bool
+    requires shown { stages.IsShown sha256 (stages.visible copy.now) }
+    requires book { copy.now.past.book ≡ past.old.book }
+    ensures { MatchBool result ((past.new ≡ copy.now.past) × Sees past.old past.new)
+        ((past.new ≡ past.old) × (length copy.now.past.log < length past.old.log)) }
+{
+    past.follow(copy.past())
+}
+
 /// The bytes under a resource, once more.
 pub(crate) fn bytes_of<A: Allocator, B: Allocator>(
     copy: &BoardCopy<A>,
@@ -46,8 +56,9 @@ pub(crate) fn bytes_of<A: Allocator, B: Allocator>(
     resource: Resource,
 ) -> Result<Option<Vec<u8, B>>, AllocError>
     requires { stages.IsShown sha256 (stages.visible copy.now) }
-    ensures { IfOk result
+    ensures bytes { IfOk result
         (λ r. option_map (λ v. v.items) r ≡ boards.shown sha256 resource copy.now.past.log) }
+    ensures memory { IfErr result (λ _. IsSome (boards.shown sha256 resource copy.now.past.log)) }
 {
     match copy.found(resource) {
         Some(bytes) => Ok(Some(Vec::from_slice(alloc, bytes)?)),
@@ -61,8 +72,10 @@ fn latest_of<A: Allocator, B: Allocator>(
     alloc: B,
 ) -> Result<Option<(Head, Vec<u8, B>)>, AllocError>
     requires { stages.IsShown sha256 (stages.visible copy.now) }
-    ensures { IfOk result
+    ensures latest { IfOk result
         (λ r. option_map head_and_note r ≡ boards.latest_if sha256 (last_of copy.now.past.log)) }
+    ensures memory { IfErr result
+        (λ _. IsSome (boards.latest_if sha256 (last_of copy.now.past.log))) }
 {
     let Some(head) = copy.head() else {
         return Ok(None);
@@ -86,7 +99,7 @@ fn look<A: Allocator, B: Allocator>(
     match reader.enter_as::<Look>() {
         Ok(reading) => {
             let copy = reading.get();
-            let follows = past.follow(copy.past());
+            let follows = follow(&mut past, copy);
             let bytes = bytes_of(copy, alloc, resource);
             let reader = BoardReader {
                 reader: reading.leave(),
@@ -116,7 +129,7 @@ fn look_ahead<A: Allocator>(
     match reader.enter_as::<Look>() {
         Ok(reading) => {
             let copy = reading.get();
-            let follows = past.follow(copy.past());
+            let follows = follow(&mut past, copy);
             let head = copy.head();
             let reader = BoardReader {
                 reader: reading.leave(),
@@ -144,7 +157,7 @@ fn look_at_latest<A: Allocator, B: Allocator>(
     match reader.enter_as::<Look>() {
         Ok(reading) => {
             let copy = reading.get();
-            let follows = past.follow(copy.past());
+            let follows = follow(&mut past, copy);
             let latest = latest_of(copy, alloc);
             let reader = BoardReader {
                 reader: reading.leave(),

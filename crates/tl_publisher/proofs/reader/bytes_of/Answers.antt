@@ -6,6 +6,6 @@ use Rattle.tl_publisher.proofs.reader.bytes_of.Goals as goal
 pub found-requires : goal.found-requires
 found-requires g c = shown_rising (visible c.args.copy.now) c.requires
 
-pub returns-in_ok-from_slice-in-Some : goal.returns-in_ok-from_slice-in-Some
-returns-in_ok-from_slice-in-Some g c =
+pub returns-in_ok-from_slice-in-Some-clause-bytes : goal.returns-in_ok-from_slice-in-Some-clause-bytes
+returns-in_ok-from_slice-in-Some-clause-bytes g c =
     ap Some c.in_ok-from_slice-in-Some.ensures.items ∙ c.in-Some.ensures ∙ found_is (visible c.args.copy.now) c.args.resource c.requires
