@@ -260,8 +260,8 @@ module _ (history log seen late : List Prefix) (a b : Kept) (sure size : ℕ) (a
 
   archived : IsArchived sha256 history late size b.held
   archived =
-      let goes : GoesOn [] late = record { growing = growing; begins = λ p q has. absurd (none_has p has) } in
-      whole_archived [] history seen late a b sure size added note saw sees latest is_added past ahead order writes goes (exact_archive history a sure history_grows exact) written
+      let goes : GoesOn [] late = λ p q has. absurd (none_has p has) in
+      whole_archived [] history seen late a b sure size added note saw sees latest is_added past ahead order writes goes growing (exact_archive history a sure history_grows exact) written
 
   there : IsFor sha256 one.0 b.held
   there =

@@ -17,7 +17,7 @@ use Rattle.tl_publisher.specs.Answers.{AnswersLatest, head_and_note}
 use Rattle.tl_publisher.specs.declared.fault.GetFault.{GetFault}
 use Rattle.tl_publisher.specs.declared.fault.GetFault.TheVariants as get
 use Rattle.tl_hash.specs.declared.head.Head.{Head}
-use Rattle.tl_publisher.specs.Histories.{Prefix, Past, Grew, last_of, sizes_of, StartsWith, Begins}
+use Rattle.tl_publisher.specs.Histories.{Prefix, Past, Grew, IsGrowing, last_of, sizes_of, StartsWith, Begins}
 use Rattle.tl_publisher.specs.Boards.{same_resource, needs, was_needed, tile_if, bundle_if, shown, latest_if}
 use Rattle.tl_publisher.proofs.Needs.{same_self}
 use Rattle.tl_publisher.proofs.Runs.{some_one}
@@ -60,7 +60,7 @@ no_text bytes e = cc
 
 -- ---- one publication, q, the last that was seen; before it the archive had these
 
-module _ (earlier early seen late : List Prefix) (q : Prefix) (a : Kept) (sure : ℕ) (goes : GoesOn earlier late) (past : StartsWith seen early) (ahead : StartsWith late seen) (last : last_of seen ≡ Some q)
+module _ (earlier early seen late : List Prefix) (q : Prefix) (a : Kept) (sure : ℕ) (goes : GoesOn earlier late) (growing : IsGrowing late) (past : StartsWith seen early) (ahead : StartsWith late seen) (last : last_of seen ≡ Some q)
     (order : sure ≤ length q.entries) (was : IsArchive sha256 (earlier ++ early) a sure) where
   among_late : Contains late q
   among_late = starts_has seen late q ahead (last_there seen q last)
@@ -78,8 +78,8 @@ module _ (earlier early seen late : List Prefix) (q : Prefix) (a : Kept) (sure :
   begins : (p : Prefix) → Contains (earlier ++ early) p → Begins p.entries q.entries
   begins p has =
       elim (Contains-append_cases earlier early p has) as (λ _. Begins p.entries q.entries) [
-        | inl old ↦ goes.begins p q old among_late
-        | inr new ↦ begins_last seen q (growing_start seen late ahead goes.growing) last p (starts_has early seen p past new)
+        | inl old ↦ goes p q old among_late
+        | inr new ↦ begins_last seen q (growing_start seen late ahead growing) last p (starts_has early seen p past new)
       ]
 
   is_needed : (r : Resource) → Contains (needed_resources_since sure (length q.entries)) r → Contains (needed_resources (length q.entries)) r
@@ -87,7 +87,7 @@ module _ (earlier early seen late : List Prefix) (q : Prefix) (a : Kept) (sure :
 
   shows : (r : Resource) → Contains (needed_resources (length q.entries)) r → (look : Seen seen late) → shown sha256 r look.log ≡ Some (text_of sha256 r q.entries)
   shows r has look =
-      let end = later_last seen look.log q look.past (growing_start look.log late look.ahead goes.growing) last in
+      let end = later_last seen look.log q look.past (growing_start look.log late look.ahead growing) last in
       let was_there = did_need r look.log q (starts_has seen look.log q look.past (last_there seen q last)) has in
       shown_text r look.log end.0 was_there end.1 (needed_within (length q.entries) r has).1
       ∙ ap (λ (b : List ℕ). Some b) (later_bytes q.entries end.0.entries end.2 r has)
@@ -293,12 +293,12 @@ pub none_latest : {B : Type 0} (seen : List Prefix) (found : Option (Head × Vec
 none_latest seen found is none = no_last_empty seen (latest_none (last_of seen) (sym is ∙ ap (option_map head_and_note) none))
 
 pub looked_latest : {B : Type 0} (right : Option (ℕ × List ℕ × List ℕ)) (a b : Past) (r : Result (Option (Head × Vec ℕ B)) GetFault) → AnswersLatest right a b r → Grew a b
-looked_latest right a b (Ok found) is = is.0
+looked_latest right a b (Ok found) is = is.0.0
 looked_latest right a b (Err get.Gone) is = (ap (λ (p : Past). p.book) is, subst (λ (p : Past). StartsWith p.log a.log) (sym is) (starts_self a.log))
-looked_latest right a b (Err get.OutOfMemory) is = is
+looked_latest right a b (Err get.OutOfMemory) is = is.0.0
 
 module _ (earlier early seen late : List Prefix) (a b : Kept) (sure size : ℕ) (added : List Resource) (note : List ℕ) (saw sees : List Kept) (latest : IsLatest seen size note) (is_added : added ≡ needed_resources_since sure size)
-    (past : StartsWith seen early) (ahead : StartsWith late seen) (order : sure ≤ size) (writes : Writes seen late added note a b saw sees) (goes : GoesOn earlier late) (was : IsArchive sha256 (earlier ++ early) a sure) where
+    (past : StartsWith seen early) (ahead : StartsWith late seen) (order : sure ≤ size) (writes : Writes seen late added note a b saw sees) (goes : GoesOn earlier late) (growing : IsGrowing late) (was : IsArchive sha256 (earlier ++ early) a sure) where
   at_size : sure ≤ length latest.last.entries
   at_size = omega (arith, order, latest.sized)
 
@@ -309,21 +309,21 @@ module _ (earlier early seen late : List Prefix) (a b : Kept) (sure size : ℕ) 
   wrote = subst (λ (r : List Resource). Writes seen late r note a b saw sees) as_needed writes
 
   pub kept_after : IsArchive sha256 (earlier ++ late) b sure
-  kept_after = rests_after earlier early seen late latest.last a sure goes past ahead latest.is_last at_size was note latest.noted b saw sees wrote
+  kept_after = rests_after earlier early seen late latest.last a sure goes growing past ahead latest.is_last at_size was note latest.noted b saw sees wrote
 
   pub safe_after : KeptSafe sha256 (earlier ++ late) saw sees
-  safe_after = safe_meanwhile earlier early seen late latest.last a sure goes past ahead latest.is_last at_size was note latest.noted b saw sees wrote
+  safe_after = safe_meanwhile earlier early seen late latest.last a sure goes growing past ahead latest.is_last at_size was note latest.noted b saw sees wrote
 
   module _ (written : IsWritten seen late added note a b) where
     whole : IsWritten seen late (needed_resources_since sure (length latest.last.entries)) note a b
     whole = subst (λ (r : List Resource). IsWritten seen late r note a b) as_needed written
 
     pub whole_kept : IsArchive sha256 (earlier ++ late) b size
-    whole_kept = subst (IsArchive sha256 (earlier ++ late) b) latest.sized (whole_after earlier early seen late latest.last a sure goes past ahead latest.is_last at_size was note latest.noted b saw sees wrote whole)
+    whole_kept = subst (IsArchive sha256 (earlier ++ late) b) latest.sized (whole_after earlier early seen late latest.last a sure goes growing past ahead latest.is_last at_size was note latest.noted b saw sees wrote whole)
 
     pub whole_archived : IsArchived sha256 early late size b.held
     whole_archived =
-        subst (λ (n : ℕ). IsArchived sha256 early late n b.held) latest.sized (archived_after earlier early seen late latest.last a sure goes past ahead latest.is_last at_size was note latest.noted b saw sees wrote whole)
+        subst (λ (n : ℕ). IsArchived sha256 early late n b.held) latest.sized (archived_after earlier early seen late latest.last a sure goes growing past ahead latest.is_last at_size was note latest.noted b saw sees wrote whole)
 
 pub behind : (early seen : List Prefix) (sure size : ℕ) (note : List ℕ) → IsLatest seen size note → StartsWith seen early → (size < sure) ⊎ (2 ^ 32 ≤ size) → IsBehind early seen sure
 behind early seen sure size note latest past (inl few) = record { seen = seen; past = past; ahead = starts_self seen; last = latest.last; is_last = latest.is_last; size = inl (omega (arith, few, latest.sized)) }

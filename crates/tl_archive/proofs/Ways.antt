@@ -7,7 +7,7 @@ use Rattle.std.proofs.lemmas.List.Elements.{All-nil, All-push, Contains-append_l
 use Rattle.sha2.specs.Sha256.{sha256}
 use Rattle.tl_tile.specs.declared.resource.Resource.{Resource}
 use Rattle.tl_tile.specs.declared.resource.Resource.TheVariants as resource
-use Rattle.tl_publisher.specs.Histories.{Prefix, Past, Grew, StartsWith}
+use Rattle.tl_publisher.specs.Histories.{Prefix, Past, Grew, IsGrowing, StartsWith}
 use Rattle.tl_publisher.specs.Answers.{AnswersBytes}
 use Rattle.tl_publisher.specs.declared.fault.GetFault.{GetFault}
 use Rattle.tl_publisher.specs.declared.fault.GetFault.TheVariants as get
@@ -218,9 +218,14 @@ fails_on x y z (inr (most, still)) (inr (same, end)) = inr (most, end)
 -- ---- what a look says
 
 pub looked : {B : Type 0} (right : Option (List ℕ)) (a b : Past) (r : Result (Option (Vec ℕ B)) GetFault) → AnswersBytes right a b r → Grew a b
-looked right a b (Ok found) is = is.0
+looked right a b (Ok found) is = is.0.0
 looked right a b (Err get.Gone) is = (ap (λ (p : Past). p.book) is, subst (λ (p : Past). StartsWith p.log a.log) (sym is) (starts_self a.log))
-looked right a b (Err get.OutOfMemory) is = is
+looked right a b (Err get.OutOfMemory) is = is.0.0
+
+pub looked_growing : {B : Type 0} (right : Option (List ℕ)) (a b : Past) (r : Result (Option (Vec ℕ B)) GetFault) → AnswersBytes right a b r → IsGrowing a.log → IsGrowing b.log
+looked_growing right a b (Ok found) is before = is.0.1
+looked_growing right a b (Err get.Gone) is before = subst (λ (p : Past). IsGrowing p.log) (sym is) before
+looked_growing right a b (Err get.OutOfMemory) is before = is.0.1
 
 pub found_some : {B : Type 0} (found : Option (Vec ℕ B)) (v : Vec ℕ B) (bytes : List ℕ) (right : Option (List ℕ)) → option_map vec_items found ≡ right → found ≡ Some v → bytes ≡ vec_items v → right ≡ Some bytes
 found_some found v bytes right is some same = sym is ∙ ap (option_map vec_items) some ∙ ap Some (sym same)

@@ -1,7 +1,7 @@
 -- How an archive follows a log's board.
 use Rattle.std.specs.Prelude.{◌≡◌, ℕ, ◌⊎◌, List, [], length, Option, Some, None, Result, Ok, Err, Contains}
 use Rattle.tl_hash.specs.Bytes.{Digest}
-use Rattle.tl_publisher.specs.Histories.{Prefix, Begins, IsGrowing, StartsWith, last_of}
+use Rattle.tl_publisher.specs.Histories.{Prefix, Begins, StartsWith, last_of}
 use Rattle.tl_archive.specs.Shelves.{Held, Kept}
 use Rattle.tl_archive.specs.Complete.{HasAll, IsFor, IsSafe}
 use Rattle.tl_archive.specs.declared.fault.ArchiveFault.{ArchiveFault}
@@ -22,10 +22,9 @@ pub record IsArchive (H : Digest) (history : List Prefix) (kept : Kept) (sure : 
   pub safe : IsSafe H history kept
   pub whole : IsSure H history sure kept.held
 
--- the publications of this log go on from one another, and from each earlier one
-pub record GoesOn (earlier log : List Prefix) : Type 0 where
-  pub growing : IsGrowing log
-  pub begins : (p q : Prefix) → Contains earlier p → Contains log q → Begins p.entries q.entries
+-- each publication of this log goes on from each earlier one
+abbrev pub GoesOn : List Prefix → List Prefix → Type 0
+GoesOn earlier log = (p q : Prefix) → Contains earlier p → Contains log q → Begins p.entries q.entries
 
 -- the last publication that was seen, between these two looks, is there
 pub record IsArchived (H : Digest) (before after : List Prefix) (size : ℕ) (held : Held) : Type 0 where

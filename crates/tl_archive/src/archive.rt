@@ -2,7 +2,7 @@
 
 ghost use Rattle.std.specs.Prelude.{◌≡◌, ◌++◌, List, OnOk, OnErr, IfErr};
 ghost use Rattle.sha2.specs.Sha256.{sha256};
-ghost use Rattle.tl_publisher.specs.Histories.{Prefix, Grew, IsGrowing, StartsWith};
+ghost use Rattle.tl_publisher.specs.Histories.{Prefix, Grew, StartsWith};
 ghost use Rattle.tl_archive.specs.Complete.{KeptSafe};
 ghost use Rattle.tl_archive.specs.Exact.{AnswersLast, IsExact, IsNext};
 ghost use Rattle.tl_archive.specs.Faults.{ArchiveFails};
@@ -71,8 +71,8 @@ impl<S: Shelf> Archive<S> {
             → IsArchive sha256 (earlier ++ board.old.log) (S.kept self.old.shelf) self.old.sure
             → ArchivesLast sha256 board.old.log board.new.log (S.kept self.new.shelf).held result }
         ensures exact { (history log : List Prefix)
-            → IsNext history log → StartsWith board.new.log log → IsGrowing board.new.log
-            → AnswersLast log result → IsExact sha256 history (S.kept self.old.shelf) self.old.sure
+            → IsNext history log → StartsWith board.new.log log → AnswersLast log result
+            → IsExact sha256 history (S.kept self.old.shelf) self.old.sure
             → IsExact sha256 log (S.kept self.new.shelf) self.new.sure }
         ensures sure { self.new.sure ≡ sure_after self.old.sure result }
         ensures unfailed { OnOk result (S.faults self.new.shelf ≡ S.faults self.old.shelf) }

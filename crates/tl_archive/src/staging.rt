@@ -3,7 +3,7 @@
 ghost use Rattle.std.specs.Prelude.{◌≡◌, [], OnOk, OnErr, IfErr};
 ghost use Rattle.std.specs.List.{All};
 ghost use Rattle.tl_tile.specs.Path.{IsResource};
-ghost use Rattle.tl_publisher.specs.Histories.{Grew};
+ghost use Rattle.tl_publisher.specs.Histories.{Grew, IsGrowing};
 ghost use Rattle.tl_archive.specs.Inner.Staged.{Adds, IsAdded, IsStaged, IsWritten, Puts, StagingFails, Writes};
 
 use crate::fault::ArchiveFault;
@@ -21,6 +21,7 @@ fn stage_all<S: Shelf, A: Allocator, B: Allocator + Copy>(
 ) -> Result<(), ArchiveFault>
     requires { All IsResource resources.now }
     ensures grew { Grew board.old board.new }
+    ensures growing { IsGrowing board.old.log → IsGrowing board.new.log }
     ensures adds { Adds board.old.log board.new.log resources.now
         (S.kept shelf.old) (S.kept shelf.new) (S.trace shelf.old) (S.trace shelf.new) }
     ensures all { OnOk result
@@ -45,6 +46,7 @@ fn put_all<S: Shelf, A: Allocator, B: Allocator + Copy>(
 ) -> Result<(), ArchiveFault>
     requires { All IsResource resources.now }
     ensures grew { Grew board.old board.new }
+    ensures growing { IsGrowing board.old.log → IsGrowing board.new.log }
     ensures puts { Puts board.old.log board.new.log resources.now
         (S.kept shelf.old) (S.kept shelf.new) (S.trace shelf.old) (S.trace shelf.new) }
     ensures all { OnOk result
@@ -70,6 +72,7 @@ pub(crate) fn write_all<S: Shelf, A: Allocator, B: Allocator + Copy>(
 ) -> Result<(), ArchiveFault>
     requires { All IsResource resources.now }
     ensures grew { Grew board.old board.new }
+    ensures growing { IsGrowing board.old.log → IsGrowing board.new.log }
     ensures writes { Writes board.old.log board.new.log resources.now note.now
         (S.kept shelf.old) (S.kept shelf.new) (S.trace shelf.old) (S.trace shelf.new) }
     ensures written { OnOk result (IsWritten board.old.log board.new.log resources.now note.now

@@ -35,7 +35,7 @@ returns-in_err-write_all-clause-kept g c = λ earlier goes was.
     let within : IsArchive sha256 (earlier ++ c.args.board.now.log) (g.S.Shelf.kept c.self.inside.shelf) c.self.inside.sure = inside earlier c.args.board.now.log g.S.Shelf.kept _ _ (sym c.self.view_is) was in
     let latest : IsLatest c.latest.new.self.log c.in-Some.head.size c.as_slice-2.result.now = is_latest c.latest.new.self.log c.in_ok-head.field-0 _ _ _ c.in_ok-head.ensures.1 c.in-Some.is refl c.as_slice-2.ensures.value in
     kept_after earlier c.args.board.now.log c.latest.new.self.log c.write_all.new.board.log _ _ _ _ _ _ _ _ latest (c.as_slice.ensures.value ∙ c.in_ok-added.ensures.resources) (looked_latest _ _ _ _ c.latest.ensures).1
-    c.write_all.ensures.grew.1 c.if-head-self.false c.write_all.ensures.writes goes within
+    c.write_all.ensures.grew.1 c.if-head-self.false c.write_all.ensures.writes goes (c.write_all.ensures.growing c.in_ok-head.ensures.0.1) within
 
 pub returns-in_err-write_all-clause-safe : goal.returns-in_err-write_all-clause-safe
 returns-in_err-write_all-clause-safe g c = λ earlier goes was.
@@ -43,14 +43,14 @@ returns-in_err-write_all-clause-safe g c = λ earlier goes was.
     let latest : IsLatest c.latest.new.self.log c.in-Some.head.size c.as_slice-2.result.now = is_latest c.latest.new.self.log c.in_ok-head.field-0 _ _ _ c.in_ok-head.ensures.1 c.in-Some.is refl c.as_slice-2.ensures.value in
     subst (λ (s : Archived g.row.S.Denot). KeptSafe sha256 (earlier ++ c.write_all.new.board.log) (g.S.Shelf.trace s.shelf) (g.S.Shelf.trace c.write_all.new.shelf)) c.self.view_is
     (safe_after earlier c.args.board.now.log c.latest.new.self.log c.write_all.new.board.log _ _ _ _ _ _ _ _ latest (c.as_slice.ensures.value ∙ c.in_ok-added.ensures.resources) (looked_latest _ _ _ _ c.latest.ensures).1
-    c.write_all.ensures.grew.1 c.if-head-self.false c.write_all.ensures.writes goes within)
+    c.write_all.ensures.grew.1 c.if-head-self.false c.write_all.ensures.writes goes (c.write_all.ensures.growing c.in_ok-head.ensures.0.1) within)
 
 pub returns-clause-kept : goal.returns-clause-kept
 returns-clause-kept g c = λ earlier goes was.
     let within : IsArchive sha256 (earlier ++ c.args.board.now.log) (g.S.Shelf.kept c.self.inside.shelf) c.self.inside.sure = inside earlier c.args.board.now.log g.S.Shelf.kept _ _ (sym c.self.view_is) was in
     let latest : IsLatest c.latest.new.self.log c.in-Some.head.size c.as_slice-2.result.now = is_latest c.latest.new.self.log c.in_ok-head.field-0 _ _ _ c.in_ok-head.ensures.1 c.in-Some.is refl c.as_slice-2.ensures.value in
     whole_kept earlier c.args.board.now.log c.latest.new.self.log c.write_all.new.board.log _ _ _ _ _ _ _ _ latest (c.as_slice.ensures.value ∙ c.in_ok-added.ensures.resources) (looked_latest _ _ _ _ c.latest.ensures).1
-    c.write_all.ensures.grew.1 c.if-head-self.false c.write_all.ensures.writes goes within c.in_ok-write_all.ensures.written
+    c.write_all.ensures.grew.1 c.if-head-self.false c.write_all.ensures.writes goes (c.write_all.ensures.growing c.in_ok-head.ensures.0.1) within c.in_ok-write_all.ensures.written
 
 pub returns-clause-safe : goal.returns-clause-safe
 returns-clause-safe g c = λ earlier goes was.
@@ -58,21 +58,21 @@ returns-clause-safe g c = λ earlier goes was.
     let latest : IsLatest c.latest.new.self.log c.in-Some.head.size c.as_slice-2.result.now = is_latest c.latest.new.self.log c.in_ok-head.field-0 _ _ _ c.in_ok-head.ensures.1 c.in-Some.is refl c.as_slice-2.ensures.value in
     subst (λ (s : Archived g.row.S.Denot). KeptSafe sha256 (earlier ++ c.write_all.new.board.log) (g.S.Shelf.trace s.shelf) (g.S.Shelf.trace c.write_all.new.shelf)) c.self.view_is
     (safe_after earlier c.args.board.now.log c.latest.new.self.log c.write_all.new.board.log _ _ _ _ _ _ _ _ latest (c.as_slice.ensures.value ∙ c.in_ok-added.ensures.resources) (looked_latest _ _ _ _ c.latest.ensures).1
-    c.write_all.ensures.grew.1 c.if-head-self.false c.write_all.ensures.writes goes within)
+    c.write_all.ensures.grew.1 c.if-head-self.false c.write_all.ensures.writes goes (c.write_all.ensures.growing c.in_ok-head.ensures.0.1) within)
 
 pub returns-clause-archived : goal.returns-clause-archived
 returns-clause-archived g c = λ earlier goes was.
     let within : IsArchive sha256 (earlier ++ c.args.board.now.log) (g.S.Shelf.kept c.self.inside.shelf) c.self.inside.sure = inside earlier c.args.board.now.log g.S.Shelf.kept _ _ (sym c.self.view_is) was in
     let latest : IsLatest c.latest.new.self.log c.in-Some.head.size c.as_slice-2.result.now = is_latest c.latest.new.self.log c.in_ok-head.field-0 _ _ _ c.in_ok-head.ensures.1 c.in-Some.is refl c.as_slice-2.ensures.value in
     whole_archived earlier c.args.board.now.log c.latest.new.self.log c.write_all.new.board.log _ _ _ _ _ _ _ _ latest (c.as_slice.ensures.value ∙ c.in_ok-added.ensures.resources) (looked_latest _ _ _ _ c.latest.ensures).1
-    c.write_all.ensures.grew.1 c.if-head-self.false c.write_all.ensures.writes goes within c.in_ok-write_all.ensures.written
+    c.write_all.ensures.grew.1 c.if-head-self.false c.write_all.ensures.writes goes (c.write_all.ensures.growing c.in_ok-head.ensures.0.1) within c.in_ok-write_all.ensures.written
 
 pub returns-in_default-clause-exact : goal.returns-in_default-clause-exact
-returns-in_default-clause-exact g c = λ history log next starts growing answer was. exact_none history log _ _ next answer was
+returns-in_default-clause-exact g c = λ history log next starts answer was. exact_none history log _ _ next answer was
 
 pub returns-clause-exact : goal.returns-clause-exact
-returns-clause-exact g c = λ history log next starts growing answer was.
+returns-clause-exact g c = λ history log next starts answer was.
     let within : IsExact sha256 history (g.S.Shelf.kept c.self.inside.shelf) c.self.inside.sure = exact_inside history g.S.Shelf.kept _ _ (sym c.self.view_is) was in
     let latest : IsLatest c.latest.new.self.log c.in-Some.head.size c.as_slice-2.result.now = is_latest c.latest.new.self.log c.in_ok-head.field-0 _ _ _ c.in_ok-head.ensures.1 c.in-Some.is refl c.as_slice-2.ensures.value in
     exact_written history log c.latest.new.self.log c.write_all.new.board.log _ _ _ _ _ _ _ _ latest (c.as_slice.ensures.value ∙ c.in_ok-added.ensures.resources)
-    c.write_all.ensures.grew.1 c.if-head-self.false c.write_all.ensures.writes c.in_ok-write_all.ensures.written next starts growing answer within
+    c.write_all.ensures.grew.1 c.if-head-self.false c.write_all.ensures.writes c.in_ok-write_all.ensures.written next starts (c.write_all.ensures.growing c.in_ok-head.ensures.0.1) answer within
