@@ -30,7 +30,8 @@ kind_of _ = octets
 abbrev pub Look : Type 0 → Type 0
 Look A = Result (Option (Vec ℕ A)) GetFault
 
--- the answer to a look: the bytes; 404 where there are none or the board is gone; 500 where a growth was refused
+-- the answer to a look: the bytes; 404 where there are none or the board is gone; 500 where memory for a copy was
+-- refused, which a look that finds none doesn't ask for
 abbrev pub look_answer : {A : Type 0} → Resource → Look A → Answer
 look_answer r (Ok (Some bytes)) = record { status = 200; allow = []; kind = kind_of r; body = vec_items bytes }
 look_answer r (Ok None) = bare 404

@@ -84,7 +84,7 @@ fn answer_log<A: Allocator, B: Allocator, O: Write>(
 
 /// Answers one request to a log (C2SP tlog-tiles), and gives the status, or none where no byte came: 400 or 431 without
 /// a head (RFC 9112, section 3; RFC 6585, section 5), 404 where the board has no such resource or is gone, 405 for
-/// another method than GET, 500 where memory for the bytes was refused, else 200. A body isn't read.
+/// another method than GET, 500 where memory for the bytes of one that it has was refused, else 200. A body isn't read.
 pub fn serve_log<A: Allocator, B: Allocator, I: Read, O: Write>(
     alloc: A,
     reader: &mut Counted<I>,
