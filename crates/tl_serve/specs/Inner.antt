@@ -2,4 +2,6 @@
 pub
     mod LineFaults
 pub
+    mod Live
+pub
     mod Running

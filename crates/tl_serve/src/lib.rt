@@ -34,6 +34,7 @@ mod serving;
 mod shelf_faults;
 mod telling;
 mod witness;
+mod written;
 
 pub use append::run_append;
 pub use gate::Gate;

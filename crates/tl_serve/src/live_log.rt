@@ -3,6 +3,7 @@
 ghost use Rattle.std.specs.Prelude.{◌≡◌, IfOk, IfSome};
 ghost use Rattle.tl_publisher.specs.Operating.{IsOperating};
 ghost use Rattle.tl_sequencer.specs.Log.{IsEndOf};
+ghost use Rattle.tl_serve.specs.Inner.Live.{Finishes, Shows, TakesIn, TakesRest, after_take};
 ghost use Rattle.tl_serve.specs.Inner.Running.{StaysOperating};
 
 use crate::host::Host;
@@ -19,12 +20,14 @@ pub(crate) trait LiveLog: RunningLog + Drop {
     /// Takes in at most so many entries of a lane: how many it took.
     fn take_in(&mut self, lane: u32, most: u64) -> Result<u64, RunFault>
         requires { IsOperating (Self.state self.old) }
-        ensures { StaysOperating (Self.state self.old) (Self.state self.new) };
+        ensures kept { StaysOperating (Self.state self.old) (Self.state self.new) }
+        ensures taken { TakesIn lane most (Self.state self.old) (Self.state self.new) result };
 
     /// Publishes what was taken in; none where it is published already.
     fn show(&mut self) -> Result<Option<Published>, RunFault>
         requires { IsOperating (Self.state self.old) }
         ensures kept { StaysOperating (Self.state self.old) (Self.state self.new) }
+        ensures shown { Shows (Self.state self.old) (Self.state self.new) result }
         ensures book { IfOk result
             (λ shown. IfSome shown (λ p. p.book ≡ (Self.state self.old).past.book)) };
 
@@ -32,15 +35,19 @@ pub(crate) trait LiveLog: RunningLog + Drop {
     fn end_lane(&mut self, ended: Ended<Global, Global>) -> Result<u64, RunFault>
         requires operating { IsOperating (Self.state self.old) }
         requires end { IsEndOf ended (Self.state self.old).log }
-        ensures { StaysOperating (Self.state self.old) (Self.state self.new) };
+        ensures kept { StaysOperating (Self.state self.old) (Self.state self.new) }
+        ensures taken { TakesRest ended (Self.state self.old) (Self.state self.new) result };
 
     /// Closes the log: how many entries it has.
     fn finish(self) -> Result<u64, RunFault>
-        requires { IsOperating (Self.state self) };
+        requires { IsOperating (Self.state self) }
+        ensures { Finishes (Self.state self) result };
 }
 
 // Why nothing was taken.
-fn refusal(fault: TakeFault) -> RunFault {
+fn refusal(fault: TakeFault) -> RunFault
+    ensures { result ≡ after_take fault }
+{
     match fault {
         TakeFault::OutOfMemory => RunFault::OutOfMemory,
         _ => RunFault::Operator,

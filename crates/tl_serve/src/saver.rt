@@ -1,17 +1,16 @@
 //! The saver of a witness that prints its links.
 
-ghost use Rattle.std.specs.Prelude.{◌≡◌, ◌<◌, ◌-◌, ◌^◌, ◌⊎◌, IfOk, IsErr, OnOk, string_bytes};
-ghost use Rattle.tl_device.specs.Device.{WroteWhole, passage};
+ghost use Rattle.std.specs.Prelude.{◌≡◌, ◌<◌, ◌-◌, ◌^◌, ◌⊎◌, IfOk, IsErr};
 ghost use Rattle.tl_proof.specs.Acceptance.{step_of};
-ghost use Rattle.tl_witness.specs.ChainLine.{IsChainLine, chain_line};
+ghost use Rattle.tl_witness.specs.ChainLine.{IsChainLine};
 
-use std::alloc::{AllocError, Allocator, Global};
+use crate::written::{WrittenLink, write_link};
+use std::alloc::{Allocator, Global};
 use std::io::Write;
 use std::sync::{Mutex, Wait};
-use tl_command::print_text;
 use tl_device::Counted;
 use tl_proof::Link;
-use tl_witness::{SaveFault, Saver, write_chain_line};
+use tl_witness::{SaveFault, Saver};
 
 /// A saver that writes the line of each link to a writer that several threads share, and keeps what it wrote.
 #[derive(Drop)]
@@ -20,7 +19,7 @@ pub struct LineSaver<'a, 'w, H: Wait, O> {
     alloc: Global,
     out: &'a Mutex<&'w mut Counted<O>>,
     failures: u64,
-    links: Vec<(String, Link<Global>)>,
+    links: Vec<WrittenLink>,
 }
 
 impl<'a, 'w, H: Wait, O: Write> LineSaver<'a, 'w, H, O> {
@@ -44,12 +43,13 @@ impl<'a, 'w, H: Wait, O: Write> LineSaver<'a, 'w, H, O> {
         self.failures > 0
     }
 
-    // Writes the line of a link, and says whether it was written.
-    fn print<A: Allocator>(&self, origin: &str, link: &Link<A>) -> bool
+    // Writes the line of a link.
+    fn print<A: Allocator>(&self, origin: &str, link: &Link<A>) -> Result<WrittenLink, SaveFault>
         requires { IsChainLine (record { origin = origin.now; step = step_of link.now }) }
+        ensures { IfOk result (λ written. written ≡ (origin.now, step_of link.now)) }
     {
         let mut out = self.out.lock(self.rt);
-        print_line(self.alloc, &mut *out, origin, link).is_ok()
+        write_link(self.alloc, &mut *out, origin, link)
     }
 
     // One failure more.
@@ -64,61 +64,19 @@ impl<'a, 'w, H: Wait, O: Write> LineSaver<'a, 'w, H, O> {
     }
 }
 
-// Writes the line of a link (docs/FORMATS.md, "Saved links"). Behind a line that was cut short none is written.
-fn print_line<A: Allocator, O: Write>(
-    alloc: Global,
-    out: &mut Counted<O>,
-    origin: &str,
-    link: &Link<A>,
-) -> Result<(), SaveFault>
-    requires { IsChainLine (record { origin = origin.now; step = step_of link.now }) }
-    ensures { OnOk result (WroteWhole (passage O.contents out.old out.new)
-        (chain_line (record { origin = origin.now; step = step_of link.now }))) }
-{
-    if out.failed() {
-        return Err(SaveFault);
-    }
-    let Ok(line) = write_chain_line(alloc, origin, link) else {
-        return Err(SaveFault);
-    };
-    match print_text(out, line.as_bytes()) {
-        Ok(()) => Ok(()),
-        Err(_) => Err(SaveFault),
-    }
-}
-
-// A copy of an origin and a link.
-fn copied<A: Allocator>(
-    alloc: Global,
-    origin: &str,
-    link: &Link<A>,
-) -> Result<(String, Link<Global>), AllocError>
-    ensures { IfOk result
-        (λ kept. (string_bytes kept.0 ≡ origin.now) × (step_of kept.1 ≡ step_of link.now)) }
-{
-    Ok((
-        String::from_str(alloc, origin)?,
-        Link::copy_of(alloc, link)?,
-    ))
-}
-
 impl<'a, 'w, H: Wait, O: Write> Saver for LineSaver<'a, 'w, H, O> {
-    ghost use Rattle.std.specs.Prelude.{map, string_bytes};
-    ghost use Rattle.tl_proof.specs.Acceptance.{step_of};
-
-    ghost saved = { λ s. record {
-      failures = s.failures;
-      links = map (λ p. (string_bytes p.0, step_of p.1)) s.links.items;
-    } };
+    ghost saved = { λ s. record { failures = s.failures; links = s.links.items } };
 
     fn save<A: Allocator>(&mut self, origin: &str, link: &Link<A>) -> Result<(), SaveFault> {
-        let Ok(kept) = copied(self.alloc, origin, link) else {
-            return self.fail();
-        };
-        if self.links.reserve(1).is_err() || !self.print(origin, link) {
+        if self.links.reserve(1).is_err() {
             return self.fail();
         }
-        self.links.push_reserved(kept);
-        Ok(())
+        match self.print(origin, link) {
+            Ok(written) => {
+                self.links.push_reserved(written);
+                Ok(())
+            }
+            Err(_) => self.fail(),
+        }
     }
 }

@@ -15,8 +15,8 @@ loop-ended-preserved g c =
     let step = ap length c.in-Some.ensures.steps.0 in
     let left = subst (All (λ e. IsEndOf e (g.O.RunningLog.state c.args.operator.now).log)) c.in-Some.ensures.steps.0 c.loop-ended.invariant.1 in (
       record {
-        operating = c.end_lane.ensures.operating;
-        rings = c.end_lane.ensures.rings ∙ c.loop-ended.invariant.0.rings;
+        operating = c.end_lane.ensures.kept.operating;
+        rings = c.end_lane.ensures.kept.rings ∙ c.loop-ended.invariant.0.rings;
       },
       All-tail (λ e. IsEndOf e (g.O.RunningLog.state c.args.operator.now).log) c.in-Some.ended c.next.new.self.rest.items left,
       omega (arith, step, c.in-Some.ensures.steps.1, c.loop-ended.invariant.2),
