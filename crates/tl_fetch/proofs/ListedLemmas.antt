@@ -16,7 +16,6 @@ use Rattle.tl_fetch.specs.Listed.{begins_with_backslash, length_line, listed, li
 
 -- ---- lines
 
-
 abbrev HasNoNewline : Bytes → Type 0
 HasNoNewline text = All (λ byte. byte ≢ 10) text
 
@@ -89,7 +88,7 @@ by_kind x y s t true true kx ky short_x short_y e =
     let m = number_text (length x) in
     let n = number_text (length y) in
     let both : line (92 ∷ m) ++ (line x ++ s) ≡ line (92 ∷ n) ++ (line y ++ t) =
-        sym (append_assoc (line (92 ∷ m)) (line x) s) ∙ ap (λ (l : Bytes). l ++ s) (sym (listed_long x kx)) ∙ e ∙ ap (λ (l : Bytes). l ++ t) (listed_long y ky) ∙ append_assoc (line (92 ∷ n)) (line y) t in
+    sym (append_assoc (line (92 ∷ m)) (line x) s) ∙ ap (λ (l : Bytes). l ++ s) (sym (listed_long x kx)) ∙ e ∙ ap (λ (l : Bytes). l ++ t) (listed_long y ky) ∙ append_assoc (line (92 ∷ n)) (line y) t in
     let cut = one_line (92 ∷ m) (92 ∷ n) (line x ++ s) (line y ++ t) (length_plain (length x) short_x) (length_plain (length y) short_y) both in
     let words : m ≡ n = ap (drop 1) cut.0 in
     let same : length x ≡ length y = decimal_injective (length x) (length y) (omega (arith, short_x)) (omega (arith, short_y)) words in
@@ -114,6 +113,6 @@ listed_once [] (y ∷ ys) sx sy e = absurd (listed_not_empty y (listed_text ys) 
 listed_once (x ∷ xs) [] sx sy e = absurd (listed_not_empty x (listed_text xs) (sym (flat_map-cons listed x xs) ∙ e))
 listed_once (x ∷ xs) (y ∷ ys) sx sy e =
     let cut = by_kind x y (listed_text xs) (listed_text ys) (needs_length x) (needs_length y) refl refl (All-head IsShortEntry x xs sx) (All-head IsShortEntry y ys sy)
-        (sym (flat_map-cons listed x xs) ∙ e ∙ flat_map-cons listed y ys) in
+    (sym (flat_map-cons listed x xs) ∙ e ∙ flat_map-cons listed y ys) in
     let others = listed_once xs ys (All-tail IsShortEntry x xs sx) (All-tail IsShortEntry y ys sy) cut.1 in
     ap (λ (z : Bytes). z ∷ xs) cut.0 ∙ ap (λ (zs : List Bytes). y ∷ zs) others

@@ -9,5 +9,4 @@ ghost use Rattle.tl_tile.specs.Bundle.{AreShortEntries};
 pub fn listing_is_one_list()
     ensures { (xs ys : List Bytes) → AreShortEntries xs → AreShortEntries ys
         → listed_text xs ≡ listed_text ys → xs ≡ ys }
-{
-}
+{}

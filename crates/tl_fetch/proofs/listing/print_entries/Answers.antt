@@ -10,11 +10,13 @@ returns-in-Err-clause-refused g c =
     refuses_all (g.S.ResourceSource.may_answer c.args.source.now) (g.S.ResourceSource.may_lack c.args.source.now) c.args.head.now c.args.from (c.loop-next.next / 256) c.in-Err.fault c.in-Err.ensures.refused
 
 pub loop-next-preserved : goal.loop-next-preserved
-loop-next-preserved g c =
-    (record {
-      printed = printed_further c.args.head.now c.args.from _ _ _ _ (record { bytes = refl; failed = refl }) c.loop-next.invariant.0.printed c.in-Ok.ensures.printed;
-      within = c.in-Ok.ensures.within;
-    }, c.in-Ok.ensures.passed)
+loop-next-preserved g c = (
+  record {
+    printed = printed_further c.args.head.now c.args.from _ _ _ _ (record { bytes = refl; failed = refl }) c.loop-next.invariant.0.printed c.in-Ok.ensures.printed;
+    within = c.in-Ok.ensures.within;
+  },
+  c.in-Ok.ensures.passed,
+)
 
 pub loop-next-init : goal.loop-next-init
 loop-next-init g c = (printing_none c.args.head.now c.args.from _ _ (omega (arith, c.if-from-head.false)), inl c.new-kept.ensures)
