@@ -88,7 +88,8 @@ state_fails (Some path) fault = IsStateFault fault
 abbrev pub grounds_over : (Resource → Bytes → Type 0) → (Resource → Type 0) → FetchOptions → Grounds
 grounds_over answers lacks options = grounds_of answers lacks (may_have options.state) (state_fails options.state)
 
--- over the folder or the host, whose full tiles and bundles stand for partial ones that are gone, and what is kept of it
+-- over the folder or the host, whose full tiles and bundles stand for partial ones that are gone, and over the tiles
+-- that are kept of it
 abbrev pub run_grounds : Origin → FetchOptions → Grounds
 run_grounds origin options =
     grounds_over (cached_answers options.cache (may_answer_front (any_answers origin) (λ r. Unit {0})))

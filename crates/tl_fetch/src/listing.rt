@@ -119,10 +119,10 @@ fn print_bundle<S: ResourceSource, A: Allocator + Copy, O: Observer, W: Write>(
     Ok(next)
 }
 
-/// Prints the entries from this index on, counted from 0, up to the end of a log of this size and root, a line each; one
-/// that has a newline or begins with a backslash after a line with a backslash and its length. Each is checked as by
-/// `fetch_entry`, and nothing is printed of a bundle that doesn't pass its check. A tile that was asked for isn't asked
-/// for again by the next bundle. `BadIndex`: the index is above the size, or the log has more than 2^62 entries.
+/// Prints the entries from this index on, counted from 0, up to the end of a log of this size and root, a line each;
+/// one with a newline, or a backslash in front, after a line with a backslash and its length. Each is checked as by
+/// `fetch_entry`, and nothing is printed of a bundle that doesn't pass. A tile isn't asked for again by the next
+/// bundle. `BadIndex`: the index is above the size, or the log has more than 2^62 entries.
 pub fn print_entries<S: ResourceSource, A: Allocator + Copy, O: Observer, W: Write>(
     alloc: A,
     source: &S,

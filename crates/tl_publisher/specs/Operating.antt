@@ -33,8 +33,8 @@ pub record IsNew {A : Type 0} (words : List ℕ) (keys : List SigningKey) (base 
   pub unproposed : o.proposal ≡ None
   pub unpublished : o.past.log ≡ []
 
--- the proposal is of a beginning of the log that has all that the log began with, goes on from the last publication, and
--- has a note of its own checkpoint with one line by each signer, in order
+-- the proposal is of a beginning of the log that has all that the log began with, goes on from the last publication,
+-- and has a note of its own checkpoint with one line by each signer, in order
 pub record IsProposal {A : Type 0} (o : Operated A) (p : Prefix) : Type 0 where
   pub beginning : Begins p.entries (entries_of o.log)
   pub based : Begins o.log.base p.entries

@@ -110,8 +110,8 @@ fn front_of<A: Allocator>(
 }
 
 impl<'s, S: ResourceSource + NamesLack> FullSource<'s, S> {
-    /// What the source has, with its full tiles and bundles in the place of partial ones that are gone. Nothing is asked
-    /// for yet.
+    /// What the source has, with its full tiles and bundles in the place of partial ones that are gone. Nothing is
+    /// asked for yet.
     pub fn new(alloc: Global, source: &'s S) -> FullSource<'s, S>
         ensures { result ≡ source.now }
     {

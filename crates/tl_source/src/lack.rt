@@ -1,7 +1,7 @@
 //! What a source has not got, and why.
 
 ghost use Rattle.std.specs.Prelude.{◌≡◌};
-ghost use Rattle.tl_source.specs.Inner.Asking.{NotedAs, after_device};
+ghost use Rattle.tl_source.specs.Inner.Asking.{NotedAs, after_lack};
 
 use std::cell::Cell;
 use tl_device::DeviceFault;
@@ -24,7 +24,7 @@ pub trait NamesLack {
 
 // What the caller of a source is told.
 fn told_as(why: DeviceFault) -> SourceFault
-    ensures { result ≡ after_device why }
+    ensures { result ≡ after_lack why }
 {
     match why {
         DeviceFault::OutOfMemory => SourceFault::OutOfMemory,

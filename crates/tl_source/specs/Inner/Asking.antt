@@ -6,11 +6,11 @@ use Rattle.tl_tile.specs.declared.source.SourceFault.{SourceFault}
 use Rattle.tl_tile.specs.declared.source.SourceFault.TheVariants as source
 
 -- what the caller of a source is told of a fault
-abbrev pub after_device : DeviceFault → SourceFault
-after_device device.OutOfMemory = source.OutOfMemory
-after_device other = source.Unavailable
+abbrev pub after_lack : DeviceFault → SourceFault
+after_lack device.OutOfMemory = source.OutOfMemory
+after_lack other = source.Unavailable
 
 -- what is told of a call that came to this
 abbrev pub NotedAs : {T : Type 0} → Result T DeviceFault → Result T SourceFault → Type 0
 NotedAs (Ok found) told = told ≡ Ok found
-NotedAs (Err why) told = told ≡ Err (after_device why)
+NotedAs (Err why) told = told ≡ Err (after_lack why)
