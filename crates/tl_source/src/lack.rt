@@ -16,12 +16,6 @@ pub struct Lack {
     pub why: DeviceFault,
 }
 
-/// A source that remembers what it lacked.
-pub trait NamesLack {
-    /// What the last call lacked, and why, if it lacked anything.
-    fn lack(&self) -> Option<Lack>;
-}
-
 // What the caller of a source is told.
 fn told_as(why: DeviceFault) -> SourceFault
     ensures { result ≡ after_lack why }
@@ -78,4 +72,10 @@ impl LastLack {
             }
         }
     }
+}
+
+/// A source that remembers what it lacked.
+pub trait NamesLack {
+    /// What the last call lacked, and why, if it lacked anything.
+    fn lack(&self) -> Option<Lack>;
 }
