@@ -122,6 +122,42 @@ fn is_key_refused(alloc: Global) -> bool {
     ended == Err(RunFault::Read) && errors.into_inner().is_empty() && writer.into_inner().is_empty()
 }
 
+// A system whose random bytes are 0, 1, 2 and so on.
+#[derive(Drop)]
+struct CountedBytes;
+
+impl RandomSource for CountedBytes {
+    fn fill_bytes(&self, buf: &mut [u8]) -> io::Result<()> {
+        let mut next = 0u8;
+        for byte in buf.iter_mut() {
+            *byte = next;
+            next = next.wrapping_add(1);
+        }
+        Ok(())
+    }
+}
+
+// The texts of the key with the seed 0, 1, 2 and so on to 31: the private one, and the verifier's.
+const PRIVATE: &[u8] =
+    b"PRIVATE+KEY+example.com/log+d455c521+AQABAgMEBQYHCAkKCwwNDg8QERITFBUWFxgZGhscHR4f\n";
+
+const VERIFIER: &[u8] = b"example.com/log+d455c521+AQOhB7/zzhC+HXDdGOdLwJln5NYwm6UNXx3chmQSVTG4\n";
+
+// Whether the seed of a new key is the 32 bytes that the system gives.
+fn is_seed_given(alloc: Global) -> bool {
+    let mut writer = Counted::new(Vec::new(alloc));
+    let mut errors = Counted::new(Vec::new(alloc));
+    let ended = run_keygen::<Note, CountedBytes, Vec<u8>, Vec<u8>>(
+        &CountedBytes,
+        alloc,
+        ORIGIN,
+        &mut writer,
+        &mut errors,
+    );
+    let (private, verifier) = (writer.into_inner(), errors.into_inner());
+    ended == Ok(()) && private.as_slice() == PRIVATE && verifier.as_slice() == VERIFIER
+}
+
 // Whether an input of more bytes than are read is too large, which is no read that failed.
 fn is_too_large(alloc: Global) -> bool {
     let mut reader = Counted::new(b"abc".as_slice());
@@ -155,9 +191,10 @@ fn line_needs_memory(alloc: Global, fault: RunFault) -> bool {
 }
 
 #[test]
-fn no_random_bytes_and_faults_that_need_no_memory(rt: HostRuntime) {
+fn random_bytes_and_faults_that_need_no_memory(rt: HostRuntime) {
     let alloc = rt.alloc();
     assert!(rt; is_key_refused(alloc));
+    assert!(rt; is_seed_given(alloc));
     assert!(rt; is_too_large(alloc));
     assert!(rt; needs_no_memory(&rt, alloc));
     assert!(rt; !line_needs_memory(alloc, RunFault::Refused));
