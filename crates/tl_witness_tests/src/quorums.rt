@@ -1,9 +1,9 @@
-//! A log that is shown only once two of three witnesses have cosigned it.
+//! A log that is shown only once two of three witnesses have cosigned it, and the links that these have then.
 
 ghost use Rattle.tl_publisher.specs.Operating.{IsOperating};
 
 use crate::boards::opened;
-use crate::books::{LOG_ID, ORIGIN, Origin, TIME, Witness, open_witness};
+use crate::books::{Asked, LOG_ID, ORIGIN, Origin, TIME, Witness, open_witness};
 use crate::savers::KeepingSaver;
 use base64::engine::general_purpose::STANDARD;
 use std::alloc::{AllocError, Global};
@@ -17,6 +17,7 @@ use tl_sequencer::Submitter;
 use tl_store::HashStore;
 use tl_testing::LengthKey;
 use tl_tile::Resource;
+use tl_witness::read_chain;
 
 // The witnesses, by their keys' names and identifiers, each of which trusts the log's.
 const WITNESSES: [Origin; 3] = [
@@ -26,13 +27,13 @@ const WITNESSES: [Origin; 3] = [
 ];
 
 // How often the log is published, and by how many entries it grows each time.
-const TURNS: u64 = 20;
+const TURNS: u64 = 150;
 
-const GROWTH: u64 = 7;
+const GROWTH: u64 = 2;
 
-// The checkpoint of its 140 entries, each its place in eight bytes, with the lines of all.
+// The checkpoint of its 300 entries, each its place in eight bytes, with the lines of all.
 const LAST: &str =
-    "example.com/log\n140\nz/+dh6vsGbTey9hi9rXKctnrlfTC35qhGJo/1CmFUCw=\n\n— example.com/log AQIDBAAAAAAAAABB\n— w1.example AAAAAQAAAABlU/EAAAAAAAAAAGA=\n— w2.example AAAAAgAAAABlU/EAAAAAAAAAAGA=\n— w3.example AAAAAwAAAABlU/EAAAAAAAAAAGA=\n";
+    "example.com/log\n300\nkJcpqcb0qWKBKkZXnxPSra0Dz30AFtViQ/5FhNC14Dw=\n\n— example.com/log AQIDBAAAAAAAAABB\n— w1.example AAAAAQAAAABlU/EAAAAAAAAAAGA=\n— w2.example AAAAAgAAAABlU/EAAAAAAAAAAGA=\n— w3.example AAAAAwAAAABlU/EAAAAAAAAAAGA=\n";
 
 // A witness, and who keeps what it accepts.
 #[derive(Drop)]
@@ -208,6 +209,40 @@ fn is_shown(alloc: Global, reader: &mut BoardReader<Global>) -> bool {
     }
 }
 
+// Whether a witness has the links that it saved, so many, whole and from the hundredth on, and one that goes on from
+// their lines has them too.
+fn has_links<R: Wait>(rt: &R, alloc: Global, member: Member, origin: Origin, count: usize) -> bool {
+    let Member { witness, saver } = member;
+    let lines = saver.lines.as_str();
+    let Ok(chains) = read_chain(alloc, lines.as_bytes()) else {
+        return false;
+    };
+    let Some((_origin, saved)) = chains.first() else {
+        return false;
+    };
+    let Ok(Some(links)) = witness.links(rt, ORIGIN, 100, u64::MAX) else {
+        return false;
+    };
+    let Some(again) = open_witness(alloc, alloc, &[origin], lines) else {
+        return false;
+    };
+    let saved = saved.as_slice();
+    saved.len() == count
+        && links.len().saturating_add(100) == count
+        && Asked::Shared(witness).has(rt, ORIGIN, saved, count) == Some(true)
+        && Asked::Shared(again).has(rt, ORIGIN, saved, count) == Some(true)
+}
+
+// The same of each: the first could not save in the first five turns.
+fn have_links<R: Wait>(rt: &R, alloc: Global, members: Vec<Member>) -> bool {
+    for ((member, origin), count) in members.into_iter().zip(WITNESSES).zip([145, 150, 150]) {
+        if !has_links(rt, alloc, member, origin, count) {
+            return false;
+        }
+    }
+    true
+}
+
 // Whether an operator that needs two of the witnesses publishes its log in turns, with the lines of all in the end.
 fn is_cosigned<R: Wait + Copy + Drop>(rt: R, alloc: Global) -> bool {
     let Ok((mut members, keys)) = members(alloc) else {
@@ -225,9 +260,10 @@ fn is_cosigned<R: Wait + Copy + Drop>(rt: R, alloc: Global) -> bool {
             members.as_mut_slice(),
         )
         && is_shown(alloc, &mut reader)
+        && have_links(&rt, alloc, members)
 }
 
 #[test]
-fn two_of_three_witnesses_cosign_twenty_publications(rt: HostRuntime) {
+fn two_of_three_witnesses_cosign_150_publications(rt: HostRuntime) {
     assert!(rt; is_cosigned(&rt, rt.alloc()));
 }
