@@ -91,8 +91,9 @@ fn ended<R: Wait + Drop>(rt: R, alloc: Global) -> Result<(Operator<R>, BoardRead
     ensures { IfOk result (λ r. IsOperating (⟦<Operator<R> as RunningLog>⟧.state r.0)) }
 {
     let keys = signers(alloc)?;
-    let (mut operator, mut submitters, mut readers) =
-        Operator::open(rt, alloc, ORIGIN, keys, 1, 4, 9, 1)?;
+    let (mut operator, mut submitters, mut readers) = Operator::open(
+        rt, alloc, ORIGIN, keys, 1, 4, 9, 1,
+    )?;
     if submitters.is_empty() {
         return Err(Fail::new("no submitter"));
     }
