@@ -209,34 +209,60 @@ fn is_shown(alloc: Global, reader: &mut BoardReader<Global>) -> bool {
     }
 }
 
-// Whether a witness has the links that it saved, so many, whole and from the hundredth on, and one that goes on from
-// their lines has them too.
-fn has_links<R: Wait>(rt: &R, alloc: Global, member: Member, origin: Origin, count: usize) -> bool {
+// The lines of the links that a witness saved. None where it has not these links, so many, whole and from the hundredth
+// on.
+fn lines_if_kept<R: Wait>(rt: &R, alloc: Global, member: Member, count: usize) -> Option<String> {
     let Member { witness, saver } = member;
-    let lines = saver.lines.as_str();
+    let lines = String::from_str(alloc, saver.lines.as_str()).ok()?;
+    let chains = read_chain(alloc, lines.as_bytes()).ok()?;
+    let (_origin, saved) = chains.first()?;
+    let Ok(Some(links)) = witness.links(rt, ORIGIN, 100, u64::MAX) else {
+        return None;
+    };
+    if saved.len() != count || links.len().saturating_add(100) != count {
+        return None;
+    }
+    let asked = Asked::Shared(witness);
+    if asked.has(rt, ORIGIN, saved.as_slice(), count) != Some(true) {
+        return None;
+    }
+    Some(lines)
+}
+
+// The same of each: the first could not save in the first five turns.
+fn all_lines<R: Wait>(rt: &R, alloc: Global, members: Vec<Member>) -> Option<Vec<String>> {
+    let mut all = Vec::new(alloc);
+    for (member, count) in members.into_iter().zip([145, 150, 150]) {
+        let lines = lines_if_kept(rt, alloc, member, count)?;
+        all.push(lines).ok()?;
+    }
+    Some(all)
+}
+
+// Whether a witness that goes on from these lines has their links.
+fn is_read_back<R: Wait>(rt: &R, alloc: Global, lines: &str) -> bool {
     let Ok(chains) = read_chain(alloc, lines.as_bytes()) else {
         return false;
     };
     let Some((_origin, saved)) = chains.first() else {
         return false;
     };
-    let Ok(Some(links)) = witness.links(rt, ORIGIN, 100, u64::MAX) else {
-        return false;
-    };
-    let Some(again) = open_witness(alloc, alloc, &[origin], lines) else {
-        return false;
-    };
-    let saved = saved.as_slice();
-    saved.len() == count
-        && links.len().saturating_add(100) == count
-        && Asked::Shared(witness).has(rt, ORIGIN, saved, count) == Some(true)
-        && Asked::Shared(again).has(rt, ORIGIN, saved, count) == Some(true)
+    match open_witness(alloc, alloc, &[WITNESSES[0]], lines) {
+        Some(witness) => {
+            let (asked, saved) = (Asked::Shared(witness), saved.as_slice());
+            asked.has(rt, ORIGIN, saved, saved.len()) == Some(true)
+        }
+        None => false,
+    }
 }
 
-// The same of each: the first could not save in the first five turns.
-fn have_links<R: Wait>(rt: &R, alloc: Global, members: Vec<Member>) -> bool {
-    for ((member, origin), count) in members.into_iter().zip(WITNESSES).zip([145, 150, 150]) {
-        if !has_links(rt, alloc, member, origin, count) {
+// The same of each.
+fn are_read_back<R: Wait>(rt: &R, alloc: Global, all: Option<Vec<String>>) -> bool {
+    let Some(all) = all else {
+        return false;
+    };
+    for lines in &all {
+        if !is_read_back(rt, alloc, lines.as_str()) {
             return false;
         }
     }
@@ -260,7 +286,7 @@ fn is_cosigned<R: Wait + Copy + Drop>(rt: R, alloc: Global) -> bool {
             members.as_mut_slice(),
         )
         && is_shown(alloc, &mut reader)
-        && have_links(&rt, alloc, members)
+        && are_read_back(&rt, alloc, all_lines(&rt, alloc, members))
 }
 
 #[test]
