@@ -88,14 +88,29 @@ fn edge_of(alloc: Global, count: u64) -> Result<RightEdge, AllocError> {
     Ok(edge)
 }
 
-// Puts the edge of so many full tiles behind another.
-fn join(alloc: Global, edge: &mut RightEdge, count: u64) -> Told {
-    let next = edge_of(alloc, count.saturating_mul(256))?;
+// The edge of so many full tiles.
+fn edge_of_tiles(alloc: Global, count: u64) -> Result<RightEdge, AllocError> {
+    edge_of(alloc, count.saturating_mul(256))
+}
+
+// Puts an edge of full tiles behind another.
+fn join(edge: &mut RightEdge, next: &RightEdge) -> Told {
     let are_whole = edge.size() % 256 == 0 && next.size() % 256 == 0;
-    if are_whole && edge.size() < 4 * MOST && next.size() < 65_536 {
-        edge.append_edge(&next)?;
+    if are_whole && edge.size() < 4_000_000_000 && next.size() < 65_536 {
+        edge.append_edge(next)?;
     }
     Ok(())
+}
+
+// The edge of so many copies of the edge of so many full tiles, and of some tiles more.
+fn repeated(alloc: Global, words: &mut Words<'_>, out: &mut String) -> Told {
+    let next = edge_of_tiles(alloc, words.number())?;
+    let mut edge = Edge::new(alloc, Sha256Tree);
+    for _ in 0..words.number() {
+        join(&mut edge, &next)?;
+    }
+    join(&mut edge, &edge_of_tiles(alloc, words.number())?)?;
+    put_edge(out, &edge)
 }
 
 // An edge after each of some batches: of so many of the numbers from 0 up, or of others with so many full tiles.
@@ -107,7 +122,7 @@ fn grown(alloc: Global, call: &str, counts: &str, out: &mut String) -> Told {
         if call == "batches" {
             add_batch(alloc, &mut edge, number_of(count), out)?;
         } else {
-            join(alloc, &mut edge, number_of(count))?;
+            join(&mut edge, &edge_of_tiles(alloc, number_of(count))?)?;
         }
         put_edge(out, &edge)?;
     }
@@ -120,6 +135,7 @@ pub(crate) fn answer(alloc: Global, words: &mut Words<'_>, out: &mut String) -> 
         "singly" => singly(alloc, words.next(), out),
         "batches" => grown(alloc, "batches", words.next(), out),
         "joined" => grown(alloc, "joined", words.next(), out),
+        "repeated" => repeated(alloc, words, out),
         _ => unknown(out),
     }
 }

@@ -175,13 +175,21 @@ fn proves(alloc: Global, call: &str, words: &mut Words<'_>, out: &mut String) ->
     put(out, made(alloc, call == "record", size, place, &reader))
 }
 
-// The numbers of all hashes at a size.
-fn all_numbers(alloc: Global, size: u64) -> Result<Vec<u64>, AllocError> {
-    let mut numbers = Vec::new(alloc);
+// Adds the numbers of all hashes at a size.
+fn add_numbers(numbers: &mut Vec<u64>, size: u64) -> Told {
     if size <= 100_000 {
         for number in 0..stored_count(size) {
             numbers.push(number)?;
         }
+    }
+    Ok(())
+}
+
+// The numbers of all hashes at a size, so many times one after another.
+fn all_numbers(alloc: Global, size: u64, times: u64) -> Result<Vec<u64>, AllocError> {
+    let mut numbers = Vec::new(alloc);
+    for _ in 0..times {
+        add_numbers(&mut numbers, size)?;
     }
     Ok(numbers)
 }
@@ -223,7 +231,7 @@ fn first_number(tile: Tile) -> u64 {
 // How many of the tiles of a log of this size are told where one of their bits is changed: all hashes are read, or the
 // first of the tile alone.
 fn told(alloc: Global, store: &Store, size: u64, is_first: bool) -> Result<(u64, u64), AllocError> {
-    let numbers = all_numbers(alloc, size)?;
+    let numbers = all_numbers(alloc, size, 1)?;
     let mut count = (0u64, 0u64);
     if size > 100_000 {
         return Ok(count);
@@ -245,11 +253,12 @@ fn told(alloc: Global, store: &Store, size: u64, is_first: bool) -> Result<(u64,
     Ok(count)
 }
 
-// How many hashes of the first entries of those that a word names are read, and whether as they are stored.
+// How many hashes of the first entries of those that a word names are read, so many times where that is said, and
+// whether as they are stored.
 fn honest(alloc: Global, words: &mut Words<'_>, out: &mut String) -> Told {
     let store = named_store(alloc, words.next())?;
     let size = words.number();
-    let numbers = all_numbers(alloc, size)?;
+    let numbers = all_numbers(alloc, size, words.number().max(1))?;
     let are_read = are_read(alloc, &store, size, numbers.as_slice()).unwrap_or(false);
     write!(out, "{are_read} of {} hashes", numbers.len())
 }

@@ -7,7 +7,7 @@
 //! | A log is opened by | |
 //! |---|---|
 //! | `$ log LANES CAPACITY LIMIT` | of `example.com/log`, with one reader, signed by the length key of that name |
-//! | `$ open ORIGIN SIGNERS LANES CAPACITY LIMIT READERS` | with these keys; `reluctant` refuses once |
+//! | `$ open ORIGIN SIGNERS LANES CAPACITY LIMIT READERS` | with these keys, and `reluctant` or `counting` |
 //! | `$ resume ORIGIN SIGNERS VERIFIERS LANES CAPACITY LIMIT BUNDLE..` | that goes on from a note and bundles |
 //! | `$ lanes LANES CAPACITY LIMIT [ENTRY]` | a sequencer alone, which may begin with an entry |
 //!
@@ -22,7 +22,8 @@
 //!
 //! A resource is `checkpoint`, `bundle INDEX WIDTH` or `tile LEVEL INDEX WIDTH`. How entries, bundles and keys are
 //! spelled stands at `bytes_of`, `entry_of` and `keys_of`; in lines, origins and names `|` stands for a newline and `_`
-//! for a space.
+//! for a space. The key `reluctant` refuses once; `counting` signs with how often it was asked, and with the hash of
+//! what for.
 #![tactic(auto)]
 
 mod calls;

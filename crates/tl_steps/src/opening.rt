@@ -15,7 +15,7 @@ use std::fmt::Debug;
 use std::sync::Wait;
 use tl_note::{Signer, Verifier};
 use tl_publisher::{BoardReader, Operator, RunningLog};
-use tl_testing::LengthKey;
+use tl_testing::{CountingKey, LengthKey};
 
 // An operator, what sends to its lanes, and its readers.
 type Opened<R> = (Operator<R>, Vec<Sender>, Vec<BoardReader<Global>>);
@@ -73,6 +73,9 @@ pub(crate) fn open<R: Wait + Drop>(
     }
     if keys.ends_with("reluctant") {
         signers.push(Box::new(alloc, Reluctant::new())?)?;
+    }
+    if keys.ends_with("counting") {
+        signers.push(Box::new(alloc, CountingKey::new(alloc, "counting", 7)?)?)?;
     }
     let mut witnesses: Vec<Vec<Box<dyn Verifier>>> = Vec::new(alloc);
     for keys in required(alloc, row.steps.as_slice())? {

@@ -1,11 +1,16 @@
-//! Witnesses whose growths are refused in turn, whose saver fails, that have several origins or are asked by threads,
-//! and servers over devices that fail. What the program itself shows is in the scripts of `tests/`. It has tests alone.
+//! Witnesses whose growths are refused in turn, whose saver fails, that have many origins and links or are asked by
+//! threads, what they ask their cosigner, and servers over devices that fail. What the program itself shows is in the
+//! scripts of `tests/`. It has tests alone.
 #![tactic(auto)]
 
+#[cfg(test)]
+mod asked;
 #[cfg(test)]
 mod boards;
 #[cfg(test)]
 mod books;
+#[cfg(test)]
+mod many;
 #[cfg(test)]
 mod origins;
 #[cfg(test)]

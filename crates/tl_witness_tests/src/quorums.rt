@@ -1,9 +1,9 @@
-//! A log that is shown only once two of three witnesses have cosigned it.
+//! A log that is shown only once two of three witnesses have cosigned it, and the links that these have then.
 
 ghost use Rattle.tl_publisher.specs.Operating.{IsOperating};
 
 use crate::boards::opened;
-use crate::books::{LOG_ID, ORIGIN, Origin, TIME, Witness, open_witness};
+use crate::books::{Asked, LOG_ID, ORIGIN, Origin, TIME, Witness, open_witness};
 use crate::savers::KeepingSaver;
 use base64::engine::general_purpose::STANDARD;
 use std::alloc::{AllocError, Global};
@@ -17,6 +17,7 @@ use tl_sequencer::Submitter;
 use tl_store::HashStore;
 use tl_testing::LengthKey;
 use tl_tile::Resource;
+use tl_witness::read_chain;
 
 // The witnesses, by their keys' names and identifiers, each of which trusts the log's.
 const WITNESSES: [Origin; 3] = [
@@ -26,13 +27,13 @@ const WITNESSES: [Origin; 3] = [
 ];
 
 // How often the log is published, and by how many entries it grows each time.
-const TURNS: u64 = 20;
+const TURNS: u64 = 150;
 
-const GROWTH: u64 = 7;
+const GROWTH: u64 = 2;
 
-// The checkpoint of its 140 entries, each its place in eight bytes, with the lines of all.
+// The checkpoint of its 300 entries, each its place in eight bytes, with the lines of all.
 const LAST: &str =
-    "example.com/log\n140\nz/+dh6vsGbTey9hi9rXKctnrlfTC35qhGJo/1CmFUCw=\n\n— example.com/log AQIDBAAAAAAAAABB\n— w1.example AAAAAQAAAABlU/EAAAAAAAAAAGA=\n— w2.example AAAAAgAAAABlU/EAAAAAAAAAAGA=\n— w3.example AAAAAwAAAABlU/EAAAAAAAAAAGA=\n";
+    "example.com/log\n300\nkJcpqcb0qWKBKkZXnxPSra0Dz30AFtViQ/5FhNC14Dw=\n\n— example.com/log AQIDBAAAAAAAAABB\n— w1.example AAAAAQAAAABlU/EAAAAAAAAAAGA=\n— w2.example AAAAAgAAAABlU/EAAAAAAAAAAGA=\n— w3.example AAAAAwAAAABlU/EAAAAAAAAAAGA=\n";
 
 // A witness, and who keeps what it accepts.
 #[derive(Drop)]
@@ -208,6 +209,66 @@ fn is_shown(alloc: Global, reader: &mut BoardReader<Global>) -> bool {
     }
 }
 
+// The lines of the links that a witness saved. None where it has not these links, so many, whole and from the hundredth
+// on.
+fn lines_if_kept<R: Wait>(rt: &R, alloc: Global, member: Member, count: usize) -> Option<String> {
+    let Member { witness, saver } = member;
+    let lines = String::from_str(alloc, saver.lines.as_str()).ok()?;
+    let chains = read_chain(alloc, lines.as_bytes()).ok()?;
+    let (_origin, saved) = chains.first()?;
+    let Ok(Some(links)) = witness.links(rt, ORIGIN, 100, u64::MAX) else {
+        return None;
+    };
+    if saved.len() != count || links.len().saturating_add(100) != count {
+        return None;
+    }
+    let asked = Asked::Shared(witness);
+    if asked.has(rt, ORIGIN, saved.as_slice(), count) != Some(true) {
+        return None;
+    }
+    Some(lines)
+}
+
+// The same of each: the first could not save in the first five turns.
+fn all_lines<R: Wait>(rt: &R, alloc: Global, members: Vec<Member>) -> Option<Vec<String>> {
+    let mut all = Vec::new(alloc);
+    for (member, count) in members.into_iter().zip([145, 150, 150]) {
+        let lines = lines_if_kept(rt, alloc, member, count)?;
+        all.push(lines).ok()?;
+    }
+    Some(all)
+}
+
+// Whether a witness that goes on from these lines has their links.
+fn is_read_back<R: Wait>(rt: &R, alloc: Global, lines: &str) -> bool {
+    let Ok(chains) = read_chain(alloc, lines.as_bytes()) else {
+        return false;
+    };
+    let Some((_origin, saved)) = chains.first() else {
+        return false;
+    };
+    match open_witness(alloc, alloc, &[WITNESSES[0]], lines) {
+        Some(witness) => {
+            let (asked, saved) = (Asked::Shared(witness), saved.as_slice());
+            asked.has(rt, ORIGIN, saved, saved.len()) == Some(true)
+        }
+        None => false,
+    }
+}
+
+// The same of each.
+fn are_read_back<R: Wait>(rt: &R, alloc: Global, all: Option<Vec<String>>) -> bool {
+    let Some(all) = all else {
+        return false;
+    };
+    for lines in &all {
+        if !is_read_back(rt, alloc, lines.as_str()) {
+            return false;
+        }
+    }
+    true
+}
+
 // Whether an operator that needs two of the witnesses publishes its log in turns, with the lines of all in the end.
 fn is_cosigned<R: Wait + Copy + Drop>(rt: R, alloc: Global) -> bool {
     let Ok((mut members, keys)) = members(alloc) else {
@@ -225,9 +286,10 @@ fn is_cosigned<R: Wait + Copy + Drop>(rt: R, alloc: Global) -> bool {
             members.as_mut_slice(),
         )
         && is_shown(alloc, &mut reader)
+        && are_read_back(&rt, alloc, all_lines(&rt, alloc, members))
 }
 
 #[test]
-fn two_of_three_witnesses_cosign_twenty_publications(rt: HostRuntime) {
+fn two_of_three_witnesses_cosign_150_publications(rt: HostRuntime) {
     assert!(rt; is_cosigned(&rt, rt.alloc()));
 }
