@@ -34,7 +34,7 @@ use Rattle.tl_client.specs.Bundles.{HasBundle}
 use Rattle.tl_client.specs.Faults.{after_prove, after_read}
 use Rattle.tl_client.specs.Refused.{BundleRead, IsBetween, LeafRead, RefusesEntries, RefusesEntry}
 use Rattle.tl_client.specs.Inner.Growing.{RefusesProof}
-use Rattle.tl_client.specs.Inner.Leaves.{IsOfOne, RefusesBundle}
+use Rattle.tl_client.specs.Inner.Leaves.{RefusesBundle}
 use Rattle.tl_client.specs.declared.fault.ClientFault.{ClientFault}
 use Rattle.tl_client.specs.declared.fault.ClientFault.TheVariants as client
 
@@ -233,11 +233,3 @@ pub bundle_refused : (answers : Resource → List ℕ → Type 0) (lacks : Resou
     → width ≡ bundle_width read.size read.bundle → RefusesBundle answers lacks read.bundle width fault → RefusesEntries answers lacks read fault
 bundle_refused answers lacks read width fault has is refused =
     bundle_cases answers lacks read fault has (subst (λ (w : ℕ). RefusesBundle answers lacks read.bundle w fault) is refused)
-
--- an entry that isn't the log's is one of the bundle
-pub other_refused : (answers : Resource → List ℕ → Type 0) (lacks : Resource → Type 0) (read : BundleRead) (width count : ℕ) (fault : ClientFault) → HasBundle read.size read.bundle
-    → width ≡ bundle_width read.size read.bundle → count ≡ width → AreVerified sha256 read.size read.root read.fetched → IsOfOne (256 * read.bundle) count fault
-    → RefusesEntries answers lacks read fault
-other_refused answers lacks read width count fault has is many verified one =
-    subst (RefusesEntries answers lacks read) (sym one.named)
-    (has, record { from = omega arith; below = omega (arith, one.below, many, is) }, verified)

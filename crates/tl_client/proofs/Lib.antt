@@ -3,4 +3,5 @@ pub mod Blamed
 pub mod Forks
 pub mod Heads
 pub mod LeafReads
+pub mod OtherEntries
 pub mod SameEntries

@@ -40,6 +40,29 @@ same_or_differ (x ∷ xs) (y ∷ ys) same =
           ]
     ]
 
+-- the leaf hashes that are stored are those of the entries
+pub leaf_at : (H : Digest) (first count i : ℕ) (leaves all : List (List ℕ)) → first + count ≤ length all → i < count
+    → leaves ≡ map (stored_hash H all) (leaf_numbers first count) → slice_index_or leaves i [] ≡ H (leaf_input (slice_index_or all (first + i) []))
+leaf_at H first count i leaves all inside less stored =
+    let number : slice_index_or (leaf_numbers first count) i 0 ≡ stored_index 0 (first + i) = get_or-map-range_with_len (λ x. stored_index 0 (first + x)) 0 count i i 0 less (omega arith) in
+    let numbers : length (leaf_numbers first count) ≡ count = length-map-range_with_len (λ x. stored_index 0 (first + x)) 0 count in
+    ap (λ (xs : List (List ℕ)). slice_index_or xs i []) stored
+    ∙ get_or-map (stored_hash H all) (leaf_numbers first count) i 0 [] (omega (arith, less, numbers))
+    ∙ ap (stored_hash H all) number
+    ∙ leaf_stored H all (first + i) (omega (arith, less, inside))
+
+-- an entry whose leaf hash isn't the authentic one is another
+pub other_entry : (H : Digest) (first count size : ℕ) (root : List ℕ) (fetched : List (Tile × List ℕ)) (entries leaves : List (List ℕ)) (place : ℕ) → first + count ≤ size → place < count
+    → AreAuthentic H (record { size = size; root = root; indexes = leaf_numbers first count; fetched = fetched }) leaves
+    → H (leaf_input (slice_index_or entries place [])) ≢ slice_index_or leaves place []
+    → (all : List (List ℕ)) → length all ≡ size → tree_hash H all ≡ root
+    → (slice_index_or entries place [] ≢ slice_index_or all (first + place) []) ⊎ TilesCollide H (tiles_of fetched) size all
+other_entry H first count size root fetched entries leaves place inside less authentic other all sized rooted =
+    elim (authentic.stored all sized rooted) as (λ _. (slice_index_or entries place [] ≢ slice_index_or all (first + place) []) ⊎ TilesCollide H (tiles_of fetched) size all) [
+      | inr collide ↦ inr collide
+      | inl stored ↦ inl (λ same. other (ap (λ (e : List ℕ). H (leaf_input e)) same ∙ sym (leaf_at H first count place leaves all (omega (arith, inside, sized)) less stored)))
+    ]
+
 -- the leaf hash of an entry that is another at a place is also that of the log's
 leaf_collides : (H : Digest) (first count : ℕ) (entries leaves all : List (List ℕ)) → first + count ≤ length all → length entries ≡ count
     → leaves ≡ map (stored_hash H all) (leaf_numbers first count) → HaveLeaves H entries leaves → DifferAt entries (take count (drop first all))
@@ -49,13 +72,7 @@ leaf_collides H first count entries leaves all inside many stored have at =
     let less : i < count = omega (arith, at.below, many) in
     let own : List ℕ = slice_index_or entries i [] in
     let there : List ℕ = slice_index_or all (first + i) [] in
-    let number : slice_index_or (leaf_numbers first count) i 0 ≡ stored_index 0 (first + i) = get_or-map-range_with_len (λ x. stored_index 0 (first + x)) 0 count i i 0 less (omega arith) in
-    let numbers : length (leaf_numbers first count) ≡ count = length-map-range_with_len (λ x. stored_index 0 (first + x)) 0 count in
-    let hash : slice_index_or leaves i [] ≡ H (leaf_input there) =
-    ap (λ (xs : List (List ℕ)). slice_index_or xs i []) stored
-    ∙ get_or-map (stored_hash H all) (leaf_numbers first count) i 0 [] (omega (arith, less, numbers))
-    ∙ ap (stored_hash H all) number
-    ∙ leaf_stored H all (first + i) (omega (arith, less, inside)) in
+    let hash : slice_index_or leaves i [] ≡ H (leaf_input there) = leaf_at H first count i leaves all inside less stored in
     let part : slice_index_or (take count (drop first all)) i [] ≡ there = get_or-take count (drop first all) i [] less ∙ get_or-drop first all i [] in (
       leaf_input own,
       leaf_input there,

@@ -7,6 +7,7 @@ use Rattle.tl_proof.specs.ProveFaults.{IsIndex}
 use Rattle.tl_tile.specs.declared.resource.Resource.{Resource}
 use Rattle.tl_tile.specs.declared.resource.Resource.TheVariants as resource
 use Rattle.tl_tile.specs.declared.resource.Tile.{Tile}
+use Rattle.tl_tile.specs.Bundle.{AreEntries, bundle_text}
 use Rattle.tl_tile.specs.Folds.{TilesCollide}
 use Rattle.tl_tile.specs.Fetched.{tiles_of}
 use Rattle.tl_tile.specs.Source.{AreAnswers}
@@ -37,6 +38,16 @@ abbrev pub LacksEntries : (Resource → Type 0) → BundleRead → Type 0
 LacksEntries lacks read =
     lacks (resource.Entries read.bundle (bundle_width read.size read.bundle)) ⊎ LacksTile lacks (bundle_leaves read)
 
+-- an entry of a bundle that the source may answer is another than the one with this index in each list of the size and
+-- the root, or an input of the list and a string that was hashed for the tiles that were fetched collide
+abbrev pub AnswersOtherEntry : (Resource → Bytes → Type 0) → BundleRead → ℕ → Type 0
+AnswersOtherEntry answers read index =
+    (entries : List Bytes) × AreEntries (bundle_width read.size read.bundle) entries
+    × answers (resource.Entries read.bundle (bundle_width read.size read.bundle)) (bundle_text entries)
+    × ((all : List Bytes) → length all ≡ read.size → tree_hash sha256 all ≡ read.root
+    → (slice_index_or entries (index - 256 * read.bundle) [] ≢ slice_index_or all index [])
+    ⊎ TilesCollide sha256 (tiles_of read.fetched) read.size all)
+
 -- when the entries of a bundle are not read from a source, by the fault; a tile is bad among those that were fetched,
 -- and an entry only where the tiles passed all checks
 abbrev pub RefusesEntries : (Resource → Bytes → Type 0) → (Resource → Type 0) → BundleRead → ClientFault → Type 0
@@ -49,7 +60,7 @@ RefusesEntries answers lacks read (client.BadBundle bundle) =
     (bundle ≡ read.bundle) × HasBundle read.size bundle × AnswersNoBundle answers bundle (bundle_width read.size bundle)
 RefusesEntries answers lacks read (client.BadEntry index) =
     HasBundle read.size read.bundle × IsInBundle read.size read.bundle index
-    × AreVerified sha256 read.size read.root read.fetched
+    × AreVerified sha256 read.size read.root read.fetched × AnswersOtherEntry answers read index
 RefusesEntries answers lacks read client.Shrunk = ⊥
 RefusesEntries answers lacks read client.Forked = ⊥
 RefusesEntries answers lacks read client.OutOfMemory = HasBundle read.size read.bundle

@@ -2,7 +2,8 @@
 
 ghost use Rattle.std.specs.Prelude.{◌≡◌, ◌↔◌, ◌<◌, ◌≤◌, ◌+◌, ◌*◌, ◌^◌, map, vec_items, IsTrue, IfOk, IfErr, OnOk};
 ghost use Rattle.sha2.specs.Sha256.{sha256};
-ghost use Rattle.tl_tile.specs.Bundle.{AreEntries};
+ghost use Rattle.tl_tile.specs.Bundle.{AreEntries, bundle_text};
+ghost use Rattle.tl_tile.specs.declared.resource.Resource.TheVariants as resource;
 ghost use Rattle.tl_tile.specs.Fetched.{tiles_of};
 ghost use Rattle.tl_tile.specs.Verified.{AreVerified};
 ghost use Rattle.tl_client.specs.Blame.{AreServed};
@@ -48,6 +49,8 @@ fn fetch_bundle<S: ResourceSource, A: Allocator + Copy>(
     requires some { 0 < width }
     requires most { width ≤ 256 }
     ensures entries { IfOk result (λ entries. AreEntries width (map vec_items entries.items)) }
+    ensures answered { IfOk result (λ entries. S.may_answer source.now
+        (resource.Entries bundle width) (bundle_text (map vec_items entries.items))) }
     ensures refused { IfErr result
         (RefusesBundle (S.may_answer source.now) (S.may_lack source.now) bundle width) }
 {

@@ -72,7 +72,7 @@ pub(crate) fn check_leaves<A: Allocator>(
     requires count { length leaves.now ≡ length entries.now }
     requires limit { first + length entries.now ≤ 2 ^ 62 }
     ensures leaves { OnOk result (HaveLeaves sha256 (map vec_items entries.now) leaves.now) }
-    ensures fault { IfErr result (IsOfOne first (length entries.now)) }
+    ensures fault { IfErr result (IsOfOne first (map vec_items entries.now) leaves.now) }
 {
     for i in 0..entries.len() {
         if !is_leaf(&entries[i], leaves[i]) {

@@ -1,5 +1,5 @@
 -- Bundles, and the leaves of their entries.
-use Rattle.std.specs.Prelude.{◌≡◌, ℕ, ◌+◌, ◌<◌, List, [], length, slice_index_or}
+use Rattle.std.specs.Prelude.{◌≡◌, ◌≢◌, ℕ, ◌+◌, ◌<◌, List, [], length, slice_index_or}
 use Rattle.sha2.specs.Sha256.{sha256}
 use Rattle.tl_hash.specs.Bytes.{Bytes, Digest}
 use Rattle.tl_hash.specs.Tree.{leaf_input}
@@ -15,11 +15,12 @@ use Rattle.tl_client.specs.declared.fault.ClientFault.TheVariants as client
 abbrev pub HaveLeaves : Digest → List Bytes → List Bytes → Type 0
 HaveLeaves H entries leaves = (i : ℕ) → i < length entries → H (leaf_input (slice_index_or entries i [])) ≡ slice_index_or leaves i []
 
--- the fault names one of so many entries, from this index on
-pub record IsOfOne (first count : ℕ) (fault : ClientFault) : Type 0 where
+-- the fault names one of these entries, from this index on, whose leaf hash is another
+pub record IsOfOne (first : ℕ) (entries leaves : List Bytes) (fault : ClientFault) : Type 0 where
   pub place : ℕ
-  pub below : place < count
+  pub below : place < length entries
   pub named : fault ≡ client.BadEntry (first + place)
+  pub other : sha256 (leaf_input (slice_index_or entries place [])) ≢ slice_index_or leaves place []
 
 -- a fault of fetching a bundle of this index and width
 abbrev pub RefusesBundle : (Resource → Bytes → Type 0) → (Resource → Type 0) → ℕ → ℕ → ClientFault → Type 0

@@ -1,8 +1,8 @@
-use Rattle.std.proofs.Common.{arith, length, refl, vec_items}
-use Rattle.std.proofs.lemmas.List.{length-map}
+use Rattle.std.proofs.Common.{map, refl, vec_items}
 use Rattle.std.proofs.lemmas.Result.{err_from_is_err_and}
 use Rattle.sha2.specs.Sha256.{sha256}
-use Rattle.tl_client.proofs.Blamed.{bundle_refused, other_refused}
+use Rattle.tl_client.proofs.Blamed.{bundle_refused}
+use Rattle.tl_client.proofs.OtherEntries.{other_refused}
 use Rattle.tl_client.proofs.SameEntries.{checked_entries}
 use Rattle.tl_client.proofs.entries.read_entries.Goals as goal
 
@@ -25,6 +25,6 @@ returns-in_err-check_leaves-clause-refused g c =
     let p = err_from_is_err_and c.from_residual-in_err-check_leaves.result c.from_residual-in_err-check_leaves.ensures.1 in
     rw (p.1, p.2)
     (other_refused (g.S.ResourceSource.may_answer c.args.source.now) (g.S.ResourceSource.may_lack c.args.source.now)
-    (record { size = c.args.size; root = c.args.root; bundle = c.args.bundle; fetched = c.read_leaves.new.fetched }) c.bundle_width-width.result (length c.in_ok-entries.entries.items) c.in_err-check_leaves.field-0.0
-    (c.if-not-has_bundle.ensures.0 refl) c.bundle_width-width.ensures.value (omega (arith, length-map c.in_ok-entries.entries.items vec_items, c.in_ok-entries.ensures.entries.count)) c.in_ok-leaves.ensures.verified
-    (rw (c.deref.ensures.value) at c.in_err-check_leaves.ensures.fault))
+    (record { size = c.args.size; root = c.args.root; bundle = c.args.bundle; fetched = c.read_leaves.new.fetched }) c.bundle_width-width.result (map vec_items c.in_ok-entries.entries.items) c.in_ok-leaves.leaves.items
+    c.in_err-check_leaves.field-0.0 (c.if-not-has_bundle.ensures.0 refl) c.bundle_width-width.ensures.value c.bundle_width-width.ensures.inside c.in_ok-entries.ensures.entries c.in_ok-entries.ensures.answered
+    c.in_ok-leaves.ensures.verified c.in_ok-leaves.ensures.authentic (rw (c.deref.ensures.value, c.deref-2.ensures.value) at c.in_err-check_leaves.ensures.fault))
