@@ -108,18 +108,24 @@ impl RandomSource for NoBytes {
     }
 }
 
-// Whether `keygen` without random bytes is a read that failed, with nothing written.
-fn is_key_refused(alloc: Global) -> bool {
+// How `keygen` ends by these random bytes, and the private text and the verifier's that it writes.
+fn new_key<H: RandomSource>(rt: &H, alloc: Global) -> (Result<(), RunFault>, Vec<u8>, Vec<u8>) {
     let mut writer = Counted::new(Vec::new(alloc));
     let mut errors = Counted::new(Vec::new(alloc));
-    let ended = run_keygen::<Note, NoBytes, Vec<u8>, Vec<u8>>(
-        &NoBytes,
+    let ended = run_keygen::<Note, H, Vec<u8>, Vec<u8>>(
+        rt,
         alloc,
         ORIGIN,
         &mut writer,
         &mut errors,
     );
-    ended == Err(RunFault::Read) && errors.into_inner().is_empty() && writer.into_inner().is_empty()
+    (ended, writer.into_inner(), errors.into_inner())
+}
+
+// Whether `keygen` without random bytes is a read that failed, with nothing written.
+fn is_key_refused(alloc: Global) -> bool {
+    let (ended, private, verifier) = new_key(&NoBytes, alloc);
+    ended == Err(RunFault::Read) && private.is_empty() && verifier.is_empty()
 }
 
 // A system whose random bytes are 0, 1, 2 and so on.
@@ -145,16 +151,7 @@ const VERIFIER: &[u8] = b"example.com/log+d455c521+AQOhB7/zzhC+HXDdGOdLwJln5NYwm
 
 // Whether the seed of a new key is the 32 bytes that the system gives.
 fn is_seed_given(alloc: Global) -> bool {
-    let mut writer = Counted::new(Vec::new(alloc));
-    let mut errors = Counted::new(Vec::new(alloc));
-    let ended = run_keygen::<Note, CountedBytes, Vec<u8>, Vec<u8>>(
-        &CountedBytes,
-        alloc,
-        ORIGIN,
-        &mut writer,
-        &mut errors,
-    );
-    let (private, verifier) = (writer.into_inner(), errors.into_inner());
+    let (ended, private, verifier) = new_key(&CountedBytes, alloc);
     ended == Ok(()) && private.as_slice() == PRIVATE && verifier.as_slice() == VERIFIER
 }
 
