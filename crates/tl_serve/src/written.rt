@@ -1,6 +1,6 @@
 //! Links whose lines were written.
 
-ghost use Rattle.std.specs.Prelude.{◌≡◌, IfOk, OnOk, string_bytes};
+ghost use Rattle.std.specs.Prelude.{◌≡◌, IfOk, OnOk, false, string_bytes};
 ghost use Rattle.tl_device.specs.Device.{WroteWhole, passage};
 ghost use Rattle.tl_proof.specs.Acceptance.{step_of};
 ghost use Rattle.tl_witness.specs.ChainLine.{IsChainLine, chain_line};
@@ -55,6 +55,7 @@ pub(crate) fn write_link<A: Allocator, O: Write>(
     requires { IsChainLine (record { origin = origin.now; step = step_of link.now }) }
     ensures whole { OnOk result (WroteWhole (passage O.contents out.old out.new)
         (chain_line (record { origin = origin.now; step = step_of link.now }))) }
+    ensures behind { OnOk result ((passage O.contents out.old out.new).had_failed ≡ false) }
     ensures link { IfOk result (λ written. written ≡ (origin.now, step_of link.now)) }
 {
     if out.failed() {
