@@ -9,6 +9,7 @@ ghost use Rattle.tl_tile.specs.Inner.Adds.{Adds};
 ghost use Rattle.tl_tile.specs.Fetched.{texts_of};
 
 mod joined;
+mod restored;
 
 use crate::fold::{fill, fold_level};
 use crate::resource::Tile;
