@@ -129,6 +129,10 @@ rest-more H size level start width kept below after low width_is place step entr
 pub shifted_count : (size level : ℕ) → size / 2 ^ (8 * level) ≡ level_count size level
 shifted_count size level = ap (λ (x : ℕ). size / x) (tile_height level)
 
+-- the name of a level's partial tile, by the count of its places
+pub partial-named : (size level : ℕ) → record { level = level; index = size / 2 ^ (8 * level) / 256; width = size / 2 ^ (8 * level) % 256 } ≡ partial_tile size level
+partial-named size level = (λ i. record { level = level; index = shifted_count size level i / 256; width = shifted_count size level i % 256 })
+
 -- there is room for it below the end
 pub partial_fits : (size level count length : ℕ) → level ≤ 7 → count ≡ count_below size level → length ≡ count_below size 8 → size / 2 ^ (8 * level) % 256 + count ≤ length
 partial_fits size level count length low count_is length_is =

@@ -8,6 +8,7 @@ use Rattle.tl_hash.specs.Tree.{tree_hash, leaf_input}
 use Rattle.tl_hash.proofs.TreeLemmas.{tree_hash-one}
 use Rattle.tl_tile.specs.declared.resource.Tile.{Tile}
 use Rattle.tl_tile.specs.TileText.{level_count, full_tile, tile_text}
+use Rattle.tl_tile.specs.Fetched.{tiles_in}
 use Rattle.tl_tile.specs.RightEdge.{shown, filled_tiles, shown_filled, hashes_below, count_below}
 use Rattle.tl_tile.specs.Inner.PartialHashes.{hash_at, partial_hashes}
 use Rattle.tl_tile.specs.Inner.PlaceAfter.{IsPlaceAfter}
@@ -30,6 +31,10 @@ pub record AreFilling (H : Digest) (was lowest : ℕ) (root : List ℕ) (kept : 
 -- what is so of the tiles: they are those of the levels below
 abbrev pub AreTilesBelow : Digest → ℕ → ℕ → List ℕ → List (List ℕ) → ℕ → List (Tile × List ℕ) → Type 0
 AreTilesBelow H was lowest root kept level tiles = lowest ≡ 0 → (entries added : List (List ℕ)) → IsPlaceAfter H was lowest kept root entries added → tiles ≡ map (shown H (entries ++ added)) (tiles_below (was + 256 ^ lowest) level)
+
+-- what is so of the tiles' names: they are those of the levels below
+abbrev pub AreNamesBelow : ℕ → ℕ → ℕ → List (Tile × List ℕ) → Type 0
+AreNamesBelow was lowest level tiles = lowest ≡ 0 → tiles_in tiles ≡ tiles_below (was + 256 ^ lowest) level
 
 followed : (H : Digest) (was lowest : ℕ) (root : List ℕ) (kept entries added : List (List ℕ)) → was % 256 ^ lowest ≡ 0 → IsPlaceAfter H was lowest kept root entries added → AreFollowed entries added lowest (was + 256 ^ lowest)
 followed H was lowest root kept entries added whole after = record {
@@ -71,6 +76,9 @@ filling-start H was lowest root kept count left whole count_is left_is =
 
 pub tiles-start : (H : Digest) (was lowest : ℕ) (root : List ℕ) (kept : List (List ℕ)) (tiles : List (Tile × List ℕ)) → tiles ≡ [] → AreTilesBelow H was lowest root kept lowest tiles
 tiles-start H was lowest root kept tiles none is_zero entries added after = none ∙ sym (ap (λ (level : ℕ). map (shown H (entries ++ added)) (tiles_below (was + 256 ^ lowest) level)) is_zero)
+
+pub names-start : (was lowest : ℕ) (tiles : List (Tile × List ℕ)) → tiles ≡ [] → AreNamesBelow was lowest lowest tiles
+names-start was lowest tiles none is_zero = ap tiles_in none ∙ sym (ap (tiles_below (was + 256 ^ lowest)) is_zero)
 
 -- the level was one short of a full tile
 wide_was : (H : Digest) (was lowest : ℕ) (root : List ℕ) (kept : List (List ℕ)) (level count left : ℕ) (hash : List ℕ) → AreFilling H was lowest root kept level count left hash → count % 256 ≡ 0 → wide_of was level ≡ 255
@@ -139,7 +147,30 @@ tiles-more H was lowest root kept level count left start width hash old new byte
     tiles_more H (entries ++ added) size level (count / 256 - 1) old new bytes pushed (tiles is_zero entries added after) index
     (text_step H entries added size level count (take width (drop start kept)) hash bytes (followed H was lowest root kept entries added at.whole after) at.up at.filled whole slice (at.told entries added after) bytes_are)
 
+-- the name of one tile more
+pub names-more : (H : Digest) (was lowest : ℕ) (root : List ℕ) (kept : List (List ℕ)) (level count left : ℕ) (hash : List ℕ) (old new : List (Tile × List ℕ)) (bytes : List ℕ)
+    → AreFilling H was lowest root kept level count left hash → AreNamesBelow was lowest level old → count % 256 ≡ 0
+    → new ≡ old ++ (full_tile level (count / 256 - 1), bytes) ∷ [] → AreNamesBelow was lowest (level + 1) new
+names-more H was lowest root kept level count left hash old new bytes at names whole pushed is_zero =
+    let size : ℕ = was + 256 ^ lowest in
+    let f : ℕ → Tile = λ l. full_tile l (size / 256 ^ (l + 1) - 1) in
+    let next = next_filled size level count at.filled whole in
+    let index : count / 256 - 1 ≡ size / 256 ^ (level + 1) - 1 = ap (λ (x : ℕ). x - 1) (sym (count_is size (level + 1) (count / 256) next)) in
+    let own : full_tile level (count / 256 - 1) ≡ f level = ap (full_tile level) index in
+    let more : tiles_below size (level + 1) ≡ tiles_below size level ++ f level ∷ [] = map-range_with_len_more f 0 level level (omega arith) in
+    ap tiles_in pushed ∙ map-append (λ (t : Tile × List ℕ). t.0) old ((full_tile level (count / 256 - 1), bytes) ∷ [])
+    ∙ (λ i. names is_zero i ++ own i ∷ []) ∙ sym more
+
 -- ---- at the end of the loop
+
+pub filling-names : (H : Digest) (was lowest : ℕ) (root : List ℕ) (kept : List (List ℕ)) (level count left : ℕ) (hash : List ℕ) (tiles : List (Tile × List ℕ)) → was + 256 ^ lowest < 2 ^ 32
+    → AreFilling H was lowest root kept level count left hash → AreNamesBelow was lowest level tiles → (count % 256 ≡ 0 → ⊥) → lowest ≡ 0
+    → tiles_in tiles ≡ filled_tiles (was + 256 ^ lowest)
+filling-names H was lowest root kept level count left hash tiles small at names partly is_zero =
+    let size : ℕ = was + 256 ^ lowest in
+    let low = low_level size level count small at.filled in
+    let levels = filled_levels_are size level count at.filled partly (omega (arith, low)) in
+    names is_zero ∙ sym (ap (map (λ l. full_tile l (size / 256 ^ (l + 1) - 1))) levels)
 
 pub filling-kept : (H : Digest) (was lowest : ℕ) (root : List ℕ) (kept : List (List ℕ)) (level count left : ℕ) (hash : List ℕ) → was + 256 ^ lowest < 2 ^ 32
     → AreFilling H was lowest root kept level count left hash → (count % 256 ≡ 0 → ⊥) → (entries added : List (List ℕ)) → IsPlaceAfter H was lowest kept root entries added

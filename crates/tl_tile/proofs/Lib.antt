@@ -36,3 +36,4 @@ pub mod FourEntries
 pub mod Adding
 pub mod TreeKeys
 pub mod TreeReads
+pub mod Restored

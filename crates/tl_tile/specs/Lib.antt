@@ -5,6 +5,7 @@ pub mod Needed
 pub mod TileText
 pub mod ReadTile
 pub mod RightEdge
+pub mod EdgeNumbers
 pub mod Law
 pub mod Folds
 pub mod FetchedEdge

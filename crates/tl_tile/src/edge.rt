@@ -1,14 +1,15 @@
 //! The right edge of a growing log: its size and the hashes of its partial tiles.
 
-ghost use Rattle.std.specs.Prelude.{◌≡◌, ◌≤◌, ◌<◌, ◌+◌, ◌-◌, ◌%◌, ◌^◌, ◌⊎◌, [], ◌∷◌, ◌++◌, List, length, map, take, vec_items, option_map, MatchOption, IfOk, OnOk, OnErr};
+ghost use Rattle.std.specs.Prelude.{◌≡◌, ◌≤◌, ◌<◌, ◌+◌, ◌-◌, ◌%◌, ◌^◌, ◌⊎◌, [], ◌∷◌, ◌++◌, List, length, map, take, vec_items, option_map, MatchOption, IfSome, IfOk, OnOk, OnErr};
 ghost use Rattle.tl_hash.specs.Bytes.{Bytes};
 ghost use Rattle.tl_hash.specs.Tree.{leaf_input, tree_hash};
-ghost use Rattle.tl_tile.specs.TileText.{level_count};
-ghost use Rattle.tl_tile.specs.RightEdge.{shown_partial, shown_filled, shown_since, hashes_below, count_below, IsEdgeOf};
+ghost use Rattle.tl_tile.specs.TileText.{level_count, partial_tile};
+ghost use Rattle.tl_tile.specs.RightEdge.{filled_tiles, shown_partial, shown_filled, shown_since, hashes_below, count_below, IsEdgeOf};
 ghost use Rattle.tl_tile.specs.Inner.Adds.{Adds};
-ghost use Rattle.tl_tile.specs.Fetched.{texts_of};
+ghost use Rattle.tl_tile.specs.Fetched.{texts_of, tiles_in};
 
 mod joined;
+mod restored;
 
 use crate::fold::{fill, fold_level};
 use crate::resource::Tile;
@@ -113,6 +114,8 @@ impl<T: TreeHash, A: Allocator + Copy> Edge<T, A> {
             → IsEdgeOf self.now T.digest_of entries
             → IfOk result (λ found. option_map (λ t. (t.0, vec_items t.1)) found
             ≡ shown_partial T.digest_of entries level) }
+        ensures named { IfOk result
+            (λ found. IfSome found (λ t. t.0 ≡ partial_tile self.now.size level)) }
         ensures memory { OnErr result (0 < level_count self.now.size level % 256) }
     {
         let end = self.kept.len() - count_of(self.size, level);
@@ -144,6 +147,8 @@ impl<T: TreeHash, A: Allocator + Copy> Edge<T, A> {
             → IsEdgeOf self.old T.digest_of entries
             → IfOk result (λ tiles. map (λ t. (t.0, vec_items t.1)) tiles.items
             ≡ shown_filled T.digest_of (entries ++ entry.now ∷ [])) }
+        ensures named { IfOk result
+            (λ tiles. tiles_in (texts_of tiles.items) ≡ filled_tiles (self.old.size + 1)) }
         ensures size { OnOk result (self.new.size ≡ self.old.size + 1) }
         ensures unchanged { OnErr result (self.new ≡ self.old) }
         ensures full { OnErr result

@@ -8,8 +8,8 @@ ghost use Rattle.tl_tile.specs.Inner.Rest.{IsRest};
 ghost use Rattle.tl_tile.specs.Inner.PartialHashes.{partial_hashes};
 ghost use Rattle.tl_tile.specs.Inner.PlaceAfter.{IsPlaceAfter};
 ghost use Rattle.std.specs.List.{flat_map};
-ghost use Rattle.tl_tile.specs.Fetched.{texts_of};
-ghost use Rattle.tl_tile.specs.RightEdge.{shown_filled, hashes_below, count_below};
+ghost use Rattle.tl_tile.specs.Fetched.{texts_of, tiles_in};
+ghost use Rattle.tl_tile.specs.RightEdge.{filled_tiles, shown_filled, hashes_below, count_below};
 
 use crate::four_runs::fold_full;
 use crate::resource::Tile;
@@ -111,6 +111,8 @@ pub(crate) fn fill<T: TreeHash, A: Allocator + Copy>(
     ensures tiles { IsTrue wanted → lowest ≡ 0 → (entries added : List Bytes)
         → IsPlaceAfter T.digest_of size lowest kept.now root entries added → IfOk result
         (λ filled. texts_of filled.tiles.items ≡ shown_filled T.digest_of (entries ++ added)) }
+    ensures named { IsTrue wanted → lowest ≡ 0 → IfOk result
+        (λ filled. tiles_in (texts_of filled.tiles.items) ≡ filled_tiles (size + 256 ^ lowest)) }
     ensures memory { OnErr result (IsTrue wanted × ((size + 256 ^ lowest) % 256 ≡ 0)) }
 {
     let mut tiles = Vec::new(alloc);

@@ -1,7 +1,8 @@
 use Rattle.std.proofs.Common.{ℕ, ◌-◌, ◌/◌, ◌%◌, ◌*◌, ◌^◌, ap, sym, ◌∙◌, arith}
 use Rattle.std.proofs.lemmas.Result.{err_from_is_err_and}
 use Rattle.tl_tile.proofs.TileTexts.{tile_height}
-use Rattle.tl_tile.proofs.Below.{partial_fits, partial-none, partial-some}
+use Rattle.tl_tile.specs.TileText.{partial_tile}
+use Rattle.tl_tile.proofs.Below.{partial_fits, partial-named, partial-none, partial-some}
 use Rattle.tl_tile.proofs.edge.Edge.partial.Goals as goal
 
 pub overflow_sub-end : goal.overflow_sub-end
@@ -24,6 +25,10 @@ returns-clause-tile g c entries is =
     let fits = partial_fits c.self.inside.size c.args.level c.count_of.result c.len.result c.requires c.count_of.ensures (omega (arith, c.len.ensures, c.self.inside.kept.ok.0, c.self.invariant.0)) in
     partial-some g.T.TreeHash.digest_of entries c.self.inside.size c.args.level (end - width) (end - (end - width)) c.deref.result.now c.in_ok-bytes.bytes.items c.requires sized kept
     c.if-width-eq0.false (omega (arith, fits)) (omega (arith, fits, c.len.ensures, c.count_of.ensures, c.deref.ensures.len, c.self.inside.kept.ok.0)) c.in_ok-bytes.ensures
+
+pub returns-clause-named : goal.returns-clause-named
+returns-clause-named g c =
+    partial-named c.self.inside.size c.args.level ∙ ap (λ e. partial_tile e.size c.args.level) c.self.view_is
 
 pub returns-in_err-bytes-clause-memory : goal.returns-in_err-bytes-clause-memory
 returns-in_err-bytes-clause-memory g c =
