@@ -1,0 +1,50 @@
+-- How a log that is on a shelf is opened (C2SP tlog-checkpoint; C2SP tlog-tiles, "Partial Tiles").
+use Rattle.std.specs.Prelude.{◌≡◌, ℕ, ◌⊎◌, List, [], length, Option, Some, None, ⊤}
+use Rattle.tl_hash.specs.Bytes.{Bytes, Digest}
+use Rattle.tl_hash.specs.Tree.{tree_hash}
+use Rattle.tl_hash.specs.declared.head.Head.{Head}
+use Rattle.tl_note.specs.Key.{Key}
+use Rattle.tl_tile.specs.declared.resource.Tile.{Tile}
+use Rattle.tl_tile.specs.Fetched.{tiles_of}
+use Rattle.tl_tile.specs.Folds.{TilesCollide}
+use Rattle.tl_checkpoint.specs.Checkpoint as checkpoint
+use Rattle.tl_checkpoint.specs.OpenCheckpoint.{IsSignedCheckpoint}
+use Rattle.tl_client.specs.Checked.{LeavesCollide}
+use Rattle.tl_ledger.specs.Standing.{Ledger, IsStanding}
+
+-- what was read of a log where it was opened: the size and the root of its checkpoint, where it has one; the tiles from
+-- which its right edge was made; the entries of its partial bundle, and the tiles over them
+pub record Found : Type 0 where
+  pub head : Option Head
+  pub edge_tiles : List (Tile × Bytes)
+  pub entries : List Bytes
+  pub entry_tiles : List (Tile × Bytes)
+
+-- the number of entries that the checkpoint states, 0 where there is none
+abbrev pub found_size : Option Head → ℕ
+found_size None = 0
+found_size (Some head) = head.size
+
+-- these are the entries of the log that was found: none, or a list with the size and the root of its checkpoint
+abbrev pub IsLogOf : Digest → Option Head → List Bytes → Type 0
+IsLogOf H None log = log ≡ []
+IsLogOf H (Some head) log = (length log ≡ head.size) × (tree_hash H log ≡ head.root)
+
+-- an input of the tree over these entries collides with a string that was hashed for what was read
+abbrev pub FoundCollides : Digest → Found → List Bytes → Type 0
+FoundCollides H found log =
+    TilesCollide H (tiles_of found.edge_tiles) (found_size found.head) log
+    ⊎ (LeavesCollide H found.entries log ⊎ TilesCollide H (tiles_of found.entry_tiles) (found_size found.head) log)
+
+-- the size and the root are those of a checkpoint whose note these keys open
+abbrev pub IsOfSigned : List Key → Option Head → Type 0
+IsOfSigned keys None = ⊤
+IsOfSigned keys (Some head) =
+    (note : Bytes) × (signed : checkpoint.Head) × IsSignedCheckpoint note keys signed
+    × (signed.size ≡ head.size) × (signed.root ≡ head.root)
+
+-- a ledger of what was found: it stands at each log with the size and the root of the checkpoint, or inputs collide
+pub record Opens (H : Digest) (keys : List Key) (found : Found) (ledger : Ledger) : Type 0 where
+  pub signed : IsOfSigned keys found.head
+  pub sized : ledger.edge.size ≡ found_size found.head
+  pub stands : (log : List Bytes) → IsLogOf H found.head log → IsStanding H log ledger ⊎ FoundCollides H found log
