@@ -18,7 +18,7 @@ use Rattle.tl_command.specs.Keys.{IsFileFault}
 use Rattle.tl_command.specs.Keygen.{GivesKey}
 use Rattle.tl_command.specs.Open.{RunsOpen}
 use Rattle.tl_fetch.specs.Command.{RunsFetch}
-use Rattle.tl_serve.specs.Serving.{RefusesOrigin}
+use Rattle.tl_command.specs.Origins.{RefusesOrigin}
 use Rattle.tl_hash.specs.Bytes.{Bytes}
 use Rattle.tl_fetch.specs.declared.fault.FetchFault.{FetchFault}
 use Rattle.tl_cli.specs.declared.fault.CommandFault.{CommandFault}

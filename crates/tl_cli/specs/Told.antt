@@ -14,8 +14,8 @@ use Rattle.tl_command.specs.declared.fault.RunFault.TheVariants.{Device, BadChec
 use Rattle.tl_fetch.specs.FaultWords.{fetch_text}
 use Rattle.tl_fetch.specs.declared.fault.FetchFault.TheVariants as fetch
 use Rattle.tl_source.specs.Asking.{IsTarget}
-use Rattle.tl_serve.specs.declared.options.LogKey.{LogKey}
-use Rattle.tl_serve.specs.declared.options.LogKey.TheVariants as key
+use Rattle.tl_command.specs.declared.keys.LogKey.{LogKey}
+use Rattle.tl_command.specs.declared.keys.LogKey.TheVariants as key
 use Rattle.tl_serve.specs.declared.options.WitnessSignerKey.{WitnessSignerKey}
 use Rattle.tl_serve.specs.declared.options.WitnessSignerKey.TheVariants as cosigner
 use Rattle.tl_cli.specs.declared.job.Job.{Job}

@@ -9,10 +9,10 @@ use crate::fault::CommandFault;
 use crate::job::Job;
 use std::alloc::{AllocError, Allocator};
 use std::io::Write;
-use tl_command::{Place, RunFault, fault_line};
+use tl_command::{LogKey, Place, RunFault, fault_line};
 use tl_device::{Counted, write_whole};
 use tl_fetch::{FetchFault, fetch_fault_line};
-use tl_serve::{LogKey, WitnessSignerKey};
+use tl_serve::WitnessSignerKey;
 use tl_source::place_of;
 use tl_tile::Resource;
 

@@ -13,6 +13,7 @@ pub mod Keygen
 pub mod Open
 pub mod CheckOpened
 pub mod Mirror
+pub mod Origins
 pub mod Build
 pub mod Signed
 pub mod Inner

@@ -12,6 +12,15 @@ use std::str;
 use tl_device::read_plain;
 use tl_key::{KeyFault, KeyKind, NoteVerifier, SignerKey, read_signer_key, read_verifier_key};
 
+/// By which key a log is signed.
+#[derive(Drop)]
+pub enum LogKey {
+    /// The demonstration key of the log's name and this secret.
+    Secret(String),
+    /// The private key whose text is in this file.
+    File(String),
+}
+
 /// The verifier's key of a log that a text is of (C2SP signed-note, "Verifier keys"). `BadKey`: the text is of none.
 pub fn read_log_key(alloc: Global, text: &str) -> Result<NoteVerifier<Global>, RunFault>
     ensures { ReadsKey text.now result }

@@ -29,6 +29,7 @@ mod streams;
 mod whole_lines;
 
 pub use commands::audit::run_audit;
+pub use commands::build::checkpoint_note::sign_checkpoint;
 pub use commands::build::log_signer::{HmacLogSigner, LogSigner};
 pub use commands::build::signed::{SignedOptions, run_build_signed};
 pub use commands::build::{BuildOptions, run_build};
@@ -40,7 +41,7 @@ pub use commands::opening::{note_refusal, run_open};
 pub use commands::proving::{run_consistency, run_inclusion};
 pub use entries::read_entries;
 pub use fault::{RunFault, exit_of, fault_line};
-pub use keys::{read_file, read_log_key, read_private_key};
+pub use keys::{LogKey, read_file, read_log_key, read_private_key};
 pub use place::Place;
 pub use proof_text::{InclusionProof, inclusion_bytes};
 pub use streams::{MOST_INPUT, print_text, read_input};

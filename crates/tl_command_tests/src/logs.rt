@@ -8,10 +8,10 @@ use std::fs::{File, Files, create_dir};
 use std::io::Read;
 use std::net::{Net, TcpListener, TcpStream};
 use std::str;
-use tl_command::{HmacLogSigner, RunFault, run_build};
+use tl_command::{HmacLogSigner, LogKey, RunFault, run_build};
 use tl_device::Counted;
 use tl_folder::{AnyOutcome, FolderShelf};
-use tl_serve::{AppendOptions, Host, LogKey, run_append, run_serve_shelf};
+use tl_serve::{AppendOptions, Host, run_append, run_serve_shelf};
 
 /// A new folder.
 pub fn room<H: Files>(rt: &H, alloc: Global) -> Option<String> {

@@ -2,7 +2,8 @@
 
 use crate::runs::ORIGIN;
 use std::alloc::{AllocError, Global};
-use tl_serve::{ListenOptions, LogKey, ServeOptions};
+use tl_command::LogKey;
+use tl_serve::{ListenOptions, ServeOptions};
 
 /// Quiet options of `serve` with the demonstration key of the secret `s`, of a log in memory or in this folder, at any
 /// address, where it answers no connection.

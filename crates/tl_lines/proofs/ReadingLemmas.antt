@@ -7,7 +7,7 @@ use Rattle.std.proofs.KnownBytes.{Consumes-nil, Consumes-trans}
 use Rattle.std.proofs.lemmas.List.{length-append, length-map, length_push, map_push}
 use Rattle.tl_device.specs.Device.{Passage}
 use Rattle.tl_lines.specs.Lines.{Closes, Entry, HoldsNoLine, IsAtLine, Tells, Told, Uncut, to_come}
-use Rattle.tl_lines.specs.Reading.{FillsBlock, HeardEnd, Hears, ReadBlock, ReadEnd, ReadsLine, ReadsLines, TellsAll, TellsNone, TellsOf, TellsShort, all_entries, told}
+use Rattle.tl_lines.specs.Reading.{FillsBlock, HeardEnd, Hears, ReadBlock, ReadEnd, ReadsLine, ReadsMost, TellsAll, TellsNone, TellsOf, TellsShort, all_entries, told}
 use Rattle.tl_lines.specs.declared.next_line.NextLine.{NextLine}
 use Rattle.tl_lines.specs.declared.fault.LineFault.{LineFault}
 use Rattle.tl_lines.specs.declared.fault.LineFault.TheVariants as faults
@@ -189,7 +189,7 @@ module _ (u v w : Uncut) (a b c : Option (List ℕ)) (f g h : Bool) (lines : Lis
   all_read next = record { lines = none_more next.lines; ended = next.ended; at_line = next.at_line }
 
   -- a line that isn't given
-  pub line_failed : (A : Type 0) (count : ℕ) (fault : LineFault) → length lines < count → (length lines ≡ 0 → v ≡ u) → ReadsLine {A = A} v w (over b c g h) (Err fault) → ReadsLines {A = A} count u w (over a c f h) (Err fault)
+  pub line_failed : (A : Type 0) (count : ℕ) (fault : LineFault) → length lines < count → (length lines ≡ 0 → v ≡ u) → ReadsLine {A = A} v w (over b c g h) (Err fault) → ReadsMost {A = A} count u w (over a c f h) (Err fault)
   line_failed A count faults.Read few first next = (
     lines,
     few,

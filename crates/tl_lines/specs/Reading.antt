@@ -113,3 +113,15 @@ ReadsLines count u v p (Err faults.TooFew) = (lines : List Bytes) × (length lin
 ReadsLines count u v p (Err faults.Read) = (lines : List Bytes) × (length lines < count) × TellsUntil u v p (all_entries lines)
 ReadsLines count u v p (Err faults.OutOfMemory) = (lines : List Bytes) × (length lines ≤ count) × (0 < count) × TellsShort u v p (all_entries lines)
 ReadsLines count u v p (Err faults.Endless) = (lines : List Bytes) × (length lines < count) × TellsNone u v p (all_entries lines)
+
+-- reading the next lines, at most so many and fewer only where the input ended, none of which is too long
+abbrev pub ReadsMost : {A : Type 0} → ℕ → Uncut → Uncut → Passage → Result (Vec (Vec ℕ A) A) LineFault → Type 0
+ReadsMost count u v p (Ok lines) =
+    (length (vec_items lines) ≤ count) × TellsOf u v p (all_entries (map vec_items (vec_items lines)))
+    × (length (vec_items lines) < count → TellsAll u v p (all_entries (map vec_items (vec_items lines))))
+ReadsMost count u v p (Err (faults.TooLong number)) =
+    (lines : List Bytes) × (length lines < count) × TellsOf u v p (all_entries lines ++ TooLong number ∷ [])
+ReadsMost count u v p (Err faults.TooFew) = ⊥
+ReadsMost count u v p (Err faults.Read) = (lines : List Bytes) × (length lines < count) × TellsUntil u v p (all_entries lines)
+ReadsMost count u v p (Err faults.OutOfMemory) = (lines : List Bytes) × (length lines ≤ count) × (0 < count) × TellsShort u v p (all_entries lines)
+ReadsMost count u v p (Err faults.Endless) = (lines : List Bytes) × (length lines < count) × TellsNone u v p (all_entries lines)

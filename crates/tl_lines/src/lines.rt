@@ -4,7 +4,7 @@ ghost use Rattle.std.specs.Prelude.{◌≡◌, ◌≤◌, ◌<◌, [], true, fal
 ghost use Rattle.std.specs.Option.{option_to_list};
 ghost use Rattle.tl_device.specs.Device.{passage};
 ghost use Rattle.tl_lines.specs.Lines.{Closes, Entry, HasNoNewline, Tells, TooLong, entries_seen, one_more, unread};
-ghost use Rattle.tl_lines.specs.Reading.{CutsLine, FillsBlock, ReadsLine, ReadsLines, told};
+ghost use Rattle.tl_lines.specs.Reading.{CutsLine, FillsBlock, ReadsLine, ReadsLines, ReadsMost, told};
 ghost use Rattle.tl_lines.specs.Inner.Cutting.{Extends, IsKept};
 
 use crate::fault::LineFault;
@@ -254,6 +254,28 @@ impl<A: Allocator + Copy> Lines<A> {
         Err(LineFault::Endless)
     }
 
+    /// The next lines, at most so many of them, and fewer only where the input ended. `TooLong`: one is too long. After
+    /// a fault those before it are gone.
+    pub fn take_most<R: Read>(
+        &mut self,
+        reader: &mut Counted<R>,
+        count: u64,
+    ) -> Result<Vec<Vec<u8, A>, A>, LineFault>
+        ensures { ReadsMost count self.old self.new
+            (passage R.remaining reader.old reader.new) result }
+    {
+        let mut lines = Vec::new(self.alloc);
+        for _line in 0..count {
+            match self.next(reader) {
+                Ok(Some(NextLine::Entry(line))) => lines.push(line)?,
+                Ok(Some(NextLine::TooLong(number))) => return Err(LineFault::TooLong(number)),
+                Ok(None) => return Ok(lines),
+                Err(fault) => return Err(fault),
+            }
+        }
+        Ok(lines)
+    }
+
     /// The next lines, so many of them. `TooFew`: there are fewer. `TooLong`: one is too long. After a fault those
     /// before it are gone.
     pub fn take<R: Read>(
@@ -264,16 +286,11 @@ impl<A: Allocator + Copy> Lines<A> {
         ensures { ReadsLines count self.old self.new
             (passage R.remaining reader.old reader.new) result }
     {
-        let mut lines = Vec::new(self.alloc);
-        for _line in 0..count {
-            match self.next(reader) {
-                Ok(Some(NextLine::Entry(line))) => lines.push(line)?,
-                Ok(Some(NextLine::TooLong(number))) => return Err(LineFault::TooLong(number)),
-                Ok(None) => return Err(LineFault::TooFew),
-                Err(fault) => return Err(fault),
-            }
+        match self.take_most(reader, count) {
+            Ok(lines) if (lines.len() as u64) < count => Err(LineFault::TooFew),
+            Ok(lines) => Ok(lines),
+            Err(fault) => Err(fault),
         }
-        Ok(lines)
     }
 
     /// How many lines were cut so far that were not too long.

@@ -3,7 +3,7 @@
 ghost use Rattle.std.specs.Prelude.{string_bytes};
 ghost use Rattle.tl_device.specs.Device.{passage};
 ghost use Rattle.tl_publisher.specs.Operating.{IsOperating};
-ghost use Rattle.tl_serve.specs.Serving.{RefusesOrigin};
+ghost use Rattle.tl_command.specs.Origins.{RefusesOrigin};
 
 use crate::host::Host;
 use crate::keeping::{Archiving, Keeper};

@@ -40,8 +40,7 @@ pub use append::run_append;
 pub use gate::Gate;
 pub use host::Host;
 pub use options::{
-    AppendOptions, ListenOptions, LogKey, LogVerifierKey, ServeOptions, WitnessOptions,
-    WitnessSignerKey,
+    AppendOptions, ListenOptions, LogVerifierKey, ServeOptions, WitnessOptions, WitnessSignerKey,
 };
 pub use saver::LineSaver;
 pub use serve::{run_serve, serve_gated, threads_of};

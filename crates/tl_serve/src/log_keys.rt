@@ -1,9 +1,8 @@
 //! The keys of a log.
 
-use crate::options::LogKey;
 use std::alloc::Global;
 use std::fs::Files;
-use tl_command::{RunFault, read_file, read_private_key};
+use tl_command::{LogKey, RunFault, read_file, read_private_key};
 use tl_key::{DemoKey, Note, SignerKey, VerifierKey, demo_key};
 use tl_note::{NoteFault, SignFault, Signer, Verifier};
 

@@ -1,13 +1,6 @@
 //! Options of the commands `append`, `serve` and `witness`.
 
-/// By which key a log is signed.
-#[derive(Drop)]
-pub enum LogKey {
-    /// The demonstration key of the log's name and this secret.
-    Secret(String),
-    /// The private key whose text is in this file.
-    File(String),
-}
+use tl_command::LogKey;
 
 /// The options of `append`, and of `build` into a folder.
 #[derive(Drop)]

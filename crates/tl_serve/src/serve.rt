@@ -5,7 +5,7 @@ ghost use Rattle.tl_device.specs.Device.{passage};
 ghost use Rattle.tl_publisher.specs.Operating.{IsOperating};
 ghost use Rattle.tl_sequencer.specs.Log.{IsSenderOf};
 ghost use Rattle.tl_serve.specs.Inner.Running.{StaysOperating};
-ghost use Rattle.tl_serve.specs.Serving.{RefusesOrigin};
+ghost use Rattle.tl_command.specs.Origins.{RefusesOrigin};
 
 use crate::awaited::Awaited;
 use crate::door::Door;

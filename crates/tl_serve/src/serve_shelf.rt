@@ -4,7 +4,7 @@ ghost use Rattle.std.specs.Prelude.{◌≡◌, All, string_bytes};
 ghost use Rattle.tl_device.specs.Device.{passage};
 ghost use Rattle.tl_publisher.specs.Operating.{IsOperating};
 ghost use Rattle.tl_sequencer.specs.Log.{IsSenderOf};
-ghost use Rattle.tl_serve.specs.Serving.{RefusesOrigin};
+ghost use Rattle.tl_command.specs.Origins.{RefusesOrigin};
 
 use crate::gate::OpenGate;
 use crate::host::Host;

@@ -2,7 +2,7 @@
 
 ghost use Rattle.std.specs.Prelude.{string_bytes};
 ghost use Rattle.tl_device.specs.Device.{passage};
-ghost use Rattle.tl_serve.specs.Serving.{RefusesOrigin};
+ghost use Rattle.tl_command.specs.Origins.{RefusesOrigin};
 
 use crate::answering::answer;
 use crate::door::Door;

@@ -1,4 +1,4 @@
--- What the servers refuse before they read (C2SP signed-note, "Format", for the names of keys).
+-- What is refused before anything is read (C2SP signed-note, "Format", for the names of keys).
 use Rattle.std.specs.Prelude.{◌≡◌, List, ℕ, Result, Err}
 use Rattle.tl_note.specs.Key.{IsKeyName}
 use Rattle.tl_device.specs.Device.{Passage, IsUnread}

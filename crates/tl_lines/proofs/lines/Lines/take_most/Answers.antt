@@ -5,7 +5,7 @@ use Rattle.tl_device.specs.Device.{passage}
 use Rattle.tl_lines.specs.Lines.{TooLong}
 use Rattle.tl_lines.specs.Reading.{TellsOf, all_entries}
 use Rattle.tl_lines.proofs.ReadingLemmas.{all_read, entry_more, entry_short, line_failed, of_then}
-use Rattle.tl_lines.proofs.lines.Lines.take.Goals as goal
+use Rattle.tl_lines.proofs.lines.Lines.take_most.Goals as goal
 
 pub returns-in_err-push-in-Ok-Some-Entry : goal.returns-in_err-push-in-Ok-Some-Entry
 returns-in_err-push-in-Ok-Some-Entry g c =
@@ -42,12 +42,10 @@ returns-in-Ok-None g c =
     let at = c.loop-line in
     let before = c.args.reader.now in
     let after = c.next.new.reader in
-    let lines = map vec_items at.lines.items in (
-      lines,
-      omega (arith, length-map at.lines.items vec_items, at.invariant.count, c.loop-line-test.true),
-      all_read c.args.self.now at.self c.next.new.self (g.R.Read.remaining before.device) (g.R.Read.remaining at.reader.device) (g.R.Read.remaining after.device)
-          before.failed at.reader.failed after.failed lines at.invariant.lines (rw c.in-Ok-None.field-0-is at c.in-Ok-None.ensures),
-    )
+    let lines = map vec_items at.lines.items in
+    let all = all_read c.args.self.now at.self c.next.new.self (g.R.Read.remaining before.device) (g.R.Read.remaining at.reader.device) (g.R.Read.remaining after.device)
+    before.failed at.reader.failed after.failed lines at.invariant.lines (rw c.in-Ok-None.field-0-is at c.in-Ok-None.ensures) in
+    (omega (arith, at.invariant.count, c.loop-line-test.true), all.lines, λ few. all)
 
 pub returns-in-Err : goal.returns-in-Err
 returns-in-Err g c =

@@ -1,7 +1,7 @@
 use Rattle.std.proofs.Common.{◌≡◌, length, map, vec_items}
 use Rattle.tl_device.specs.Device.{passage}
 use Rattle.tl_lines.specs.Reading.{TellsOf, all_entries}
-use Rattle.tl_lines.proofs.lines.Lines.take.Given as goal
+use Rattle.tl_lines.proofs.lines.Lines.take_most.Given as goal
 
 -- the lines so far were told
 abbrev pub invariant-loop-line : goal.invariant-loop-line
