@@ -1,8 +1,9 @@
 //! The commands of the program with their options.
 
+use tl_append::AppendOptions;
 use tl_command::{BuildOptions, CheckOptions, HeadOptions, KeygenOptions, SignedOptions};
 use tl_fetch::FetchOptions;
-use tl_serve::{AppendOptions, ServeOptions, WitnessOptions};
+use tl_serve::{ServeOptions, WitnessOptions};
 
 /// A command of the program, with its options.
 #[derive(Drop)]

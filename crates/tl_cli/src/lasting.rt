@@ -9,13 +9,14 @@ use std::fs::{File, Files};
 use std::io::{Read, Write};
 use std::net::{Net, TcpListener, TcpStream};
 use std::os::fd::RawFd;
+use tl_append::{AppendOptions, run_append};
 use tl_command::{MOST_INPUT, Place, RunFault};
 use tl_device::{Counted, DeviceFault};
 use tl_folder::{AnyOutcome, FolderLock, FolderShelf, LineFile, lock_folder, open_lines};
+use tl_ledger::Found;
 use tl_note::is_key_name;
 use tl_serve::{
-    AppendOptions, Host, ServeOptions, WitnessOptions, run_append, run_serve, run_serve_shelf,
-    run_witness, threads_of,
+    Host, ServeOptions, WitnessOptions, run_serve, run_serve_shelf, run_witness, threads_of,
 };
 
 // That the folder of a log failed.
@@ -54,7 +55,7 @@ fn own_folder<H: Files<File = File> + Copy + Drop>(
 }
 
 /// Appends the lines of the input to the log in a folder, where no other process works meanwhile.
-pub(crate) fn append<H: Host + Files<File = File>, R: Read, W: Write>(
+pub(crate) fn append<H: Files<File = File> + Copy + Drop, R: Read, W: Write>(
     rt: &H,
     alloc: Global,
     options: &AppendOptions,
@@ -67,8 +68,11 @@ pub(crate) fn append<H: Host + Files<File = File>, R: Read, W: Write>(
     if !is_key_name(options.origin.as_str()) {
         return Err(RunFault::BadOrigin);
     }
-    let (_lock, shelf) = own_folder(rt, alloc, options.dir.as_str())?;
-    run_append(rt, alloc, options, shelf, reader, writer)
+    let (_lock, mut shelf) = own_folder(rt, alloc, options.dir.as_str())?;
+    let mut found = Found::new(alloc);
+    run_append(
+        rt, alloc, options, &mut shelf, &mut found, reader, writer,
+    )
 }
 
 /// Serves a log that is in a folder, where one is given and no other process works there, and else in memory.

@@ -8,10 +8,12 @@ use std::fs::{File, Files, create_dir};
 use std::io::Read;
 use std::net::{Net, TcpListener, TcpStream};
 use std::str;
+use tl_append::{AppendOptions, run_append};
 use tl_command::{HmacLogSigner, LogKey, RunFault, run_build};
 use tl_device::Counted;
 use tl_folder::{AnyOutcome, FolderShelf};
-use tl_serve::{AppendOptions, Host, run_append, run_serve_shelf};
+use tl_ledger::Found;
+use tl_serve::{Host, run_serve_shelf};
 
 /// A new folder.
 pub fn room<H: Files>(rt: &H, alloc: Global) -> Option<String> {
@@ -92,11 +94,19 @@ pub fn go_on<
         is_new: false,
     };
     let files = FailingFiles { files: rt, calls };
-    let Ok(shelf) = FolderShelf::open(AnyOutcome, files, alloc, dir) else {
+    let Ok(mut shelf) = FolderShelf::open(AnyOutcome, files, alloc, dir) else {
         return Err(RunFault::Write);
     };
-    let mut reader = Counted::new(input);
-    run_append(rt, alloc, &options, shelf, &mut reader, printed)
+    let (mut found, mut reader) = (Found::new(alloc), Counted::new(input));
+    run_append(
+        rt,
+        alloc,
+        &options,
+        &mut shelf,
+        &mut found,
+        &mut reader,
+        printed,
+    )
 }
 
 // The bytes of a file under a folder.

@@ -1,5 +1,5 @@
 //! The commands of the program `tlog` that run a log or a witness: `serve`, in memory or on a shelf, and `witness` over
-//! HTTP, each answered by several threads, and `append` on a shelf.
+//! HTTP, each answered by several threads.
 //!
 //! ```
 //! let options = ServeOptions { origin, key: LogKey::Secret(secret), .. };
@@ -8,7 +8,6 @@
 #![tactic(auto)]
 
 mod answering;
-mod append;
 mod awaited;
 mod door;
 mod following;
@@ -36,11 +35,10 @@ mod telling;
 mod witness;
 mod written;
 
-pub use append::run_append;
 pub use gate::Gate;
 pub use host::Host;
 pub use options::{
-    AppendOptions, ListenOptions, LogVerifierKey, ServeOptions, WitnessOptions, WitnessSignerKey,
+    ListenOptions, LogVerifierKey, ServeOptions, WitnessOptions, WitnessSignerKey,
 };
 pub use saver::LineSaver;
 pub use serve::{run_serve, serve_gated, threads_of};

@@ -1,21 +1,6 @@
-//! Options of the commands `append`, `serve` and `witness`.
+//! Options of the commands `serve` and `witness`.
 
 use tl_command::LogKey;
-
-/// The options of `append`, and of `build` into a folder.
-#[derive(Drop)]
-pub struct AppendOptions {
-    /// The folder of the log.
-    pub dir: String,
-    /// The name of the log, a key's name.
-    pub origin: String,
-    /// The log's key.
-    pub key: LogKey,
-    /// After how many entries it is published, at least 1; without it at the end alone.
-    pub batch: Option<u64>,
-    /// Whether the folder may have no log yet.
-    pub is_new: bool,
-}
 
 /// By which key a witness knows a log.
 #[derive(Drop)]

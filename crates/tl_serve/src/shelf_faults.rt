@@ -45,11 +45,6 @@ pub(crate) fn unresumed(size: u64, fault: ResumeFault) -> RunFault {
     }
 }
 
-/// That a log is on the shelf, where none is to be.
-pub(crate) fn taken() -> RunFault {
-    unfit(Resource::Checkpoint, DeviceFault::Taken)
-}
-
 /// Why a publication was not archived.
 pub(crate) fn unarchived(fault: ArchiveFault) -> RunFault {
     match fault {

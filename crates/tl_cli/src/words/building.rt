@@ -6,8 +6,8 @@ use super::{EITHER_KEY, WordsFault, texts};
 use crate::job::Job;
 use clap::ArgMatches;
 use std::alloc::Global;
+use tl_append::AppendOptions;
 use tl_command::{BuildOptions, LogKey, SignedOptions};
-use tl_serve::AppendOptions;
 
 // What is said where a resource and a folder are given.
 const ONE_OUTPUT: &str = "--get and --dir are not given together";
