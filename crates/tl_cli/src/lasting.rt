@@ -70,9 +70,7 @@ pub(crate) fn append<H: Files<File = File> + Copy + Drop, R: Read, W: Write>(
     }
     let (_lock, mut shelf) = own_folder(rt, alloc, options.dir.as_str())?;
     let mut found = Found::new(alloc);
-    run_append(
-        rt, alloc, options, &mut shelf, &mut found, reader, writer,
-    )
+    run_append(rt, alloc, options, &mut shelf, &mut found, reader, writer)
 }
 
 /// Serves a log that is in a folder, where one is given and no other process works there, and else in memory.

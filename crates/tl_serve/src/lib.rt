@@ -37,9 +37,7 @@ mod written;
 
 pub use gate::Gate;
 pub use host::Host;
-pub use options::{
-    ListenOptions, LogVerifierKey, ServeOptions, WitnessOptions, WitnessSignerKey,
-};
+pub use options::{ListenOptions, LogVerifierKey, ServeOptions, WitnessOptions, WitnessSignerKey};
 pub use saver::LineSaver;
 pub use serve::{run_serve, serve_gated, threads_of};
 pub use serve_shelf::run_serve_shelf;
