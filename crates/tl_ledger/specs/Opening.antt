@@ -5,11 +5,14 @@ use Rattle.tl_hash.specs.Tree.{tree_hash}
 use Rattle.tl_hash.specs.declared.head.Head.{Head}
 use Rattle.tl_note.specs.Key.{Key}
 use Rattle.tl_tile.specs.declared.resource.Tile.{Tile}
+use Rattle.tl_tile.specs.declared.resource.Resource.TheVariants as resource
 use Rattle.tl_tile.specs.Fetched.{tiles_of}
 use Rattle.tl_tile.specs.Folds.{TilesCollide}
 use Rattle.tl_checkpoint.specs.Checkpoint as checkpoint
 use Rattle.tl_checkpoint.specs.OpenCheckpoint.{IsSignedCheckpoint}
 use Rattle.tl_client.specs.Checked.{LeavesCollide}
+use Rattle.tl_archive.specs.Shelves.{Held}
+use Rattle.tl_archive.specs.Complete.{HasAll}
 use Rattle.tl_ledger.specs.Standing.{Ledger, IsStanding}
 
 -- what was read of a log where it was opened: the size and the root of its checkpoint, where it has one; the tiles from
@@ -36,15 +39,29 @@ FoundCollides H found log =
     TilesCollide H (tiles_of found.edge_tiles) (found_size found.head) log
     ⊎ (LeavesCollide H found.entries log ⊎ TilesCollide H (tiles_of found.entry_tiles) (found_size found.head) log)
 
+-- the note is that of a checkpoint with this size and this root, and opens under these keys
+abbrev pub IsOfNote : Bytes → List Key → Head → Type 0
+IsOfNote note keys head =
+    (signed : checkpoint.Head) × IsSignedCheckpoint note keys signed
+    × (signed.size ≡ head.size) × (signed.root ≡ head.root)
+
 -- the size and the root are those of a checkpoint whose note these keys open
 abbrev pub IsOfSigned : List Key → Option Head → Type 0
 IsOfSigned keys None = ⊤
-IsOfSigned keys (Some head) =
-    (note : Bytes) × (signed : checkpoint.Head) × IsSignedCheckpoint note keys signed
-    × (signed.size ≡ head.size) × (signed.root ≡ head.root)
+IsOfSigned keys (Some head) = (note : Bytes) × IsOfNote note keys head
+
+-- there is no checkpoint, or what is there is a note that states the size and the root
+abbrev pub IsOfHeld : Held → List Key → Option Head → Type 0
+IsOfHeld held keys None = held resource.Checkpoint ≡ None
+IsOfHeld held keys (Some head) = (note : Bytes) × (held resource.Checkpoint ≡ Some note) × IsOfNote note keys head
 
 -- a ledger of what was found: it stands at each log with the size and the root of the checkpoint, or inputs collide
 pub record Opens (H : Digest) (keys : List Key) (found : Found) (ledger : Ledger) : Type 0 where
   pub signed : IsOfSigned keys found.head
   pub sized : ledger.edge.size ≡ found_size found.head
   pub stands : (log : List Bytes) → IsLogOf H found.head log → IsStanding H log ledger ⊎ FoundCollides H found log
+
+-- the ledger stands at each log of the size that was found, of which all that it needs is there
+abbrev pub StandsWhereWhole : Digest → Held → Found → Ledger → Type 0
+StandsWhereWhole H held found ledger =
+    (log : List Bytes) → length log ≡ found_size found.head → HasAll H log held → IsStanding H log ledger

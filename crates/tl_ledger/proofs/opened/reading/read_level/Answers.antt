@@ -1,0 +1,8 @@
+use Rattle.std.proofs.Common.{arith}
+use Rattle.tl_tile.specs.declared.resource.Resource.TheVariants as resource
+use Rattle.tl_ledger.proofs.Reopening.{level_partial, partial_needed}
+use Rattle.tl_ledger.proofs.opened.reading.read_level.Goals as goal
+
+pub read_one-requires-clause-needed : goal.read_one-requires-clause-needed
+read_one-requires-clause-needed g c =
+    partial_needed c.args.size (resource.Tile c.partial_of-tile.result) (level_partial c.args.size c.args.level c.partial_of-tile.result c.requires.level c.partial_of-tile.ensures (omega (arith, c.if-tile-eq0.false)))

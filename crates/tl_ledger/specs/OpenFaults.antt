@@ -1,0 +1,70 @@
+-- When a log that is on a shelf is not opened.
+use Rattle.std.specs.Prelude.{◌≡◌, ◌≢◌, ℕ, ◌≤◌, ◌/◌, ◌%◌, ◌^◌, ◌⊎◌, Bool, true, List, map, Option, Some, None, Contains, ⊤}
+use Rattle.sha2.specs.Sha256.{sha256}
+use Rattle.tl_hash.specs.Bytes.{Bytes}
+use Rattle.tl_hash.specs.declared.head.Head.{Head}
+use Rattle.tl_note.specs.Key.{Key}
+use Rattle.tl_tile.specs.declared.resource.Resource.{Resource}
+use Rattle.tl_tile.specs.declared.resource.Resource.TheVariants as resource
+use Rattle.tl_tile.specs.declared.resource.Tile.{Tile}
+use Rattle.tl_tile.specs.Bundle.{bundle_text}
+use Rattle.tl_tile.specs.Fetched.{tiles_of}
+use Rattle.tl_tile.specs.Needed.{needed_resources}
+use Rattle.tl_tile.specs.SourceFaults.{IsBadTile}
+use Rattle.tl_client.specs.Blame.{AnswersNoBundle}
+use Rattle.tl_client.specs.Checked.{AreCheckedEntries}
+use Rattle.tl_client.specs.Refused.{AnswersOtherEntry, BundleRead}
+use Rattle.tl_archive.specs.Shelves.{Held}
+use Rattle.tl_archive.specs.Reading.{HasStated, HasUnopened}
+use Rattle.tl_ledger.specs.Opening.{Found, IsOfSigned, found_size}
+use Rattle.tl_ledger.specs.declared.opened.fault.OpenFault.{OpenFault}
+use Rattle.tl_ledger.specs.declared.opened.fault.OpenFault.TheVariants as opening
+
+-- which bytes a shelf may answer for a resource: where it is honest, those that are there
+abbrev pub MayRead : Bool → Held → Resource → Bytes → Type 0
+MayRead honest held r text = honest ≡ true → held r ≡ Some text
+
+-- a log of this size needs the resource, which isn't there, where the shelf is honest
+pub record IsMissing (honest : Bool) (held : Held) (size : ℕ) (r : Resource) : Type 0 where
+  pub needed : Contains (needed_resources size) r
+  pub none : honest ≡ true → held r ≡ None
+
+-- the read of the partial bundle of a log of this size and root, and the tiles over it
+abbrev pub last_read : Head → List (Tile × Bytes) → BundleRead
+last_read head fetched = record { size = head.size; root = head.root; bundle = head.size / 256; fetched = fetched }
+
+-- the bytes that were read are not those of the entries that were checked
+pub record AnswersOtherBytes (answers : Resource → Bytes → Type 0) (read : BundleRead) (width : ℕ) : Type 0 where
+  pub text : Bytes
+  pub entries : List Bytes
+  pub answered : answers (resource.Entries read.bundle width) text
+  pub checked : AreCheckedEntries sha256 (tiles_of read.fetched) read.size read.root read.bundle entries
+  pub other : text ≢ bundle_text entries
+
+-- bytes that may be read for the partial bundle are none of its width, or an entry in them isn't the log's
+abbrev pub IsBadBundle : (Resource → Bytes → Type 0) → BundleRead → ℕ → Type 0
+IsBadBundle answers read width =
+    AnswersNoBundle answers read.bundle width
+    ⊎ (((entry : ℕ) × AnswersOtherEntry answers read entry) ⊎ AnswersOtherBytes answers read width)
+
+-- a partial tile or the partial bundle of a log of this size and root is wrong, by what was read
+abbrev pub IsDamaged : (Resource → Bytes → Type 0) → Head → List (Tile × Bytes) → List (Tile × Bytes) → Resource → Type 0
+IsDamaged answers head edge_tiles entry_tiles (resource.Tile t) =
+    IsBadTile sha256 head.size head.root edge_tiles t ⊎ IsBadTile sha256 head.size head.root entry_tiles t
+IsDamaged answers head edge_tiles entry_tiles (resource.Entries index width) =
+    (index ≡ head.size / 256) × (width ≡ head.size % 256) × IsBadBundle answers (last_read head entry_tiles) width
+IsDamaged answers head edge_tiles entry_tiles resource.Checkpoint = ⊥
+
+-- the checkpoint that was found is signed, and what this says of its size and root holds
+abbrev pub HasSigned : List Key → Option Head → (Head → Type 0) → Type 0
+HasSigned keys found Holds = IsOfSigned keys found × ((head : Head) × (found ≡ Some head) × Holds head)
+
+-- when each fault comes, by what was read
+abbrev pub OpenFails : Bool → Held → List Key → Found → OpenFault → Type 0
+OpenFails honest held keys found opening.Checkpoint = honest ≡ true → HasUnopened held keys
+OpenFails honest held keys found opening.TooLarge = honest ≡ true → HasStated held keys (λ size. 2 ^ 32 ≤ size)
+OpenFails honest held keys found (opening.Missing r) = HasSigned keys found.head (λ head. IsMissing honest held head.size r)
+OpenFails honest held keys found (opening.Damaged r) =
+    HasSigned keys found.head (λ head. IsDamaged (MayRead honest held) head found.edge_tiles found.entry_tiles r)
+OpenFails honest held keys found (opening.Shelf fault) = ⊤
+OpenFails honest held keys found opening.OutOfMemory = ⊤
