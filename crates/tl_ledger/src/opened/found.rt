@@ -7,7 +7,8 @@ use std::marker::Model;
 use tl_hash::Head;
 use tl_tile::FetchedTiles;
 
-/// What was read of a log where it was opened: what it has to be, if it isn't the log of its checkpoint, is found here.
+/// What was read of a log where it was opened, and was checked against its checkpoint: where the log that it stands for is
+/// another, two inputs collide, of which one was hashed for this.
 #[derive(Drop)]
 pub struct Found<A: Allocator> {
     /// The size and the root of its checkpoint, where it has one.
