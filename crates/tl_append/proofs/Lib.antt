@@ -1,0 +1,3 @@
+pub mod Loops
+pub mod Reading
+pub mod Turns

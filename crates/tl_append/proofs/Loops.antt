@@ -1,0 +1,107 @@
+-- The loop over batches.
+use Rattle.std.proofs.Common.{inl, inr, ◌≡◌, ◌⊎◌, ℕ, Bool, List, [], ◌∷◌, ◌++◌, Option, refl, sym, ap, subst, ◌∙◌, append_assoc}
+use Rattle.std.specs.Prelude.{Err}
+use Rattle.std.proofs.KnownBytes.{Appends-nil}
+use Rattle.std.proofs.lemmas.List.{append-nil}
+use Rattle.tl_hash.specs.Bytes.{Bytes}
+use Rattle.tl_device.specs.Device.{HasFailed, Passage}
+use Rattle.tl_lines.specs.Lines.{Uncut, unread}
+use Rattle.tl_lines.specs.Reading.{ReadsMost, TellsAll, TellsOf, all_entries}
+use Rattle.tl_lines.specs.declared.fault.LineFault.{LineFault}
+use Rattle.tl_lines.proofs.ReadingLemmas.{over}
+use Rattle.tl_archive.specs.Shelves.{Kept}
+use Rattle.tl_ledger.specs.Standing.{Ledger}
+use Rattle.tl_command.specs.Mirror.{LogKey}
+use Rattle.tl_append.specs.Appending.{Appends, AppendsLines, AppendsSome, AreFirst, Course, PrintsHeads, joined}
+use Rattle.tl_append.specs.Inner.Turns.{Publishes, PublishesPart}
+use Rattle.tl_append.proofs.Turns.{along, appends_on, appends_then_on, heads_on, joined_on, joined_one, none_appended, nothing_then}
+use Rattle.tl_append.proofs.Reading.{all_on, are_first, first_failed, lines_on, none_told}
+
+-- batches that were appended so far
+pub record IsSoFar (key : LogKey) (c : Course) (i o : Passage) (now : Uncut) : Type 0 where
+  pub batches : List (List Bytes)
+  pub appends : Appends key batches c
+  pub lines : TellsOf unread now i (all_entries (joined batches))
+  pub heads : PrintsHeads key batches c o
+
+pub begun : (key : LogKey) (a : Kept) (saw : List Kept) (was : Ledger) (x y : Option (List ℕ)) (f g : Bool) (now : Uncut) → now ≡ unread
+    → IsSoFar key (along a a saw saw was was) (over x x f f) (over y y g g) now
+begun key a saw was x y f g now same = record {
+  batches = [];
+  appends = none_appended key a saw was;
+  lines = subst (λ (u : Uncut). TellsOf unread u (over x x f f) (all_entries [])) (sym same) (none_told x f);
+  heads = record { lines = λ h log keeps. record { appended = Appends-nil y; steady = refl } };
+}
+
+-- nothing was done
+pub none_begun : (key : LogKey) (a : Kept) (saw : List Kept) (was : Ledger) (x : Option (List ℕ)) (f : Bool) → AppendsSome key (along a a saw saw was was) (over x x f f)
+none_begun key a saw was x f = record {
+  batches = [];
+  rest = [];
+  appends = nothing_then key [] a a saw saw was was (none_appended key a saw was);
+  lines = inr (unread, [], none_told x f);
+}
+
+module _ (key : LogKey) (a m : Kept) (saw mid : List Kept) (was now : Ledger) (x y z r s t : Option (List ℕ)) (f g h i j k : Bool) (u v : Uncut)
+    (so_far : IsSoFar key (along a m saw mid was now) (over x y f g) (over r s i j) u) where
+  -- no lines were read, or too few turns there were
+  pub ended_some : HasFailed (over x z f h) ⊎ AreFirst (over x z f h) (joined so_far.batches) → AppendsSome key (along a m saw mid was now) (over x z f h)
+  ended_some lines = record {
+    batches = so_far.batches;
+    rest = [];
+    appends = nothing_then key so_far.batches a m saw mid was now so_far.appends;
+    lines = subst (λ (es : List Bytes). HasFailed (over x z f h) ⊎ AreFirst (over x z f h) es) (sym (append-nil (joined so_far.batches))) lines;
+  }
+
+  pub not_read : (A : Type 0) (count : ℕ) (fault : LineFault) → ReadsMost {A = A} count u v (over y z g h) (Err fault) → AppendsSome key (along a m saw mid was now) (over x z f h)
+  not_read A count fault failed = ended_some (first_failed u v x y z f g h (joined so_far.batches) so_far.lines A count fault failed)
+
+  -- there were no more lines
+  pub none_left : TellsAll u v (over y z g h) [] → AppendsLines key (along a m saw mid was now) (over x z f h) (over r s i j)
+  none_left all = record {
+    batches = so_far.batches;
+    last = v;
+    appends = so_far.appends;
+    lines = subst (λ (es : List Bytes). TellsAll unread v (over x z f h) (all_entries es)) (append-nil (joined so_far.batches)) (all_on u v x y z f g h (joined so_far.batches) so_far.lines [] all);
+    heads = so_far.heads;
+  }
+
+  module _ (b : Kept) (sees : List Kept) (is : Ledger) (batch : List Bytes) (told : TellsOf u v (over y z g h) (all_entries batch)) where
+    abbrev Batches : List (List Bytes)
+    Batches = so_far.batches ++ batch ∷ []
+
+    same_lines : joined so_far.batches ++ batch ≡ joined Batches
+    same_lines = sym (joined_on so_far.batches (batch ∷ []) ∙ ap (λ (es : List Bytes). joined so_far.batches ++ es) (joined_one batch))
+
+    -- a batch was published
+    module _ (one : Publishes key batch (along m b mid sees now is) (over s t j k)) where
+      pub one_more_batch : IsSoFar key (along a b saw sees was is) (over x z f h) (over r t i k) v
+      one_more_batch = record {
+        batches = Batches;
+        appends = appends_on key so_far.batches (batch ∷ []) a m b saw mid sees was now is so_far.appends one.appends;
+        lines = subst (λ (es : List Bytes). TellsOf unread v (over x z f h) (all_entries es)) same_lines (lines_on u v x y z f g h (joined so_far.batches) so_far.lines batch told);
+        heads = heads_on key so_far.batches (batch ∷ []) a m b saw mid sees was now is so_far.appends r s t i j k so_far.heads one.heads;
+      }
+
+      -- it was the last one
+      pub last_batch : TellsAll u v (over y z g h) (all_entries batch) → AppendsLines key (along a b saw sees was is) (over x z f h) (over r t i k)
+      unfolding one_more_batch
+      last_batch all = record {
+        batches = Batches;
+        last = v;
+        appends = one_more_batch.appends;
+        lines = subst (λ (es : List Bytes). TellsAll unread v (over x z f h) (all_entries es)) same_lines (all_on u v x y z f g h (joined so_far.batches) so_far.lines batch all);
+        heads = one_more_batch.heads;
+      }
+
+    -- it was not, or not told
+    pub not_published : PublishesPart key batch (along m b mid sees now is) → AppendsSome key (along a b saw sees was is) (over x z f h)
+    not_published part = record {
+      batches = so_far.batches ++ part.batches;
+      rest = part.rest;
+      appends = appends_then_on key so_far.batches part.batches a m b saw mid sees was now is so_far.appends part.rest part.appends;
+      lines = inr
+          (subst (AreFirst (over x z f h))
+          (sym (append_assoc (joined so_far.batches) (joined part.batches) part.rest) ∙ ap (λ (es : List Bytes). es ++ part.rest) (sym (joined_on so_far.batches part.batches)))
+          (are_first v (over x z f h) (joined so_far.batches) batch (joined part.batches ++ part.rest) part.own (lines_on u v x y z f g h (joined so_far.batches) so_far.lines batch told)));
+    }

@@ -1,0 +1,2 @@
+-- Private words: what contracts of private functions and proofs need.
+pub mod Turns

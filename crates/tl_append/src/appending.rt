@@ -1,0 +1,137 @@
+//! Lines of an input that are appended to a log in batches.
+
+ghost use Rattle.std.specs.Prelude.{◌≡◌, ◌+◌, ◌<◌, ◌^◌, ◌++◌, List, length, map, vec_items, OnErr, OnOk};
+ghost use Rattle.sha2.specs.Sha256.{sha256};
+ghost use Rattle.tl_hash.specs.Bytes.{Bytes};
+ghost use Rattle.tl_device.specs.Device.{passage};
+ghost use Rattle.tl_note.specs.Key.{IsKeyName};
+ghost use Rattle.tl_tile.specs.Bundle.{AreShortEntries};
+ghost use Rattle.tl_publisher.specs.Histories.{Prefix};
+ghost use Rattle.tl_archive.specs.Complete.{KeptSafe};
+ghost use Rattle.tl_ledger.specs.Keeping.{IsKeeping};
+ghost use Rattle.tl_append.specs.Appending.{AppendsLines, AppendsSome, course};
+ghost use Rattle.tl_append.specs.Inner.Turns.{Publishes, PublishesPart};
+
+use crate::faults::{unkept, unput, unread};
+use crate::printing::print_head;
+use std::alloc::Global;
+use std::io::{Read, Write};
+use tl_archive::Shelf;
+use tl_command::{LogSigner, RunFault, sign_checkpoint};
+use tl_device::Counted;
+use tl_ledger::Ledger;
+use tl_lines::Lines;
+
+// The most entries of a log.
+const MOST_ENTRIES: u64 = 4_294_967_295;
+
+// Puts a batch behind a log. `Operator`: it has no room for it, and nothing was put.
+fn put_batch<S: Shelf>(
+    shelf: &mut S,
+    ledger: &mut Ledger<Global>,
+    batch: &[Vec<u8>],
+) -> Result<(), RunFault>
+    requires { AreShortEntries (map vec_items batch.now) }
+    ensures kept { (history : List Prefix) (log : List Bytes)
+        → IsKeeping sha256 history log (S.kept shelf.old) ledger.old
+        → OnOk result (IsKeeping sha256 history (log ++ map vec_items batch.now)
+        (S.kept shelf.new) ledger.new) }
+    ensures stayed { (history : List Prefix) (log : List Bytes)
+        → IsKeeping sha256 history log (S.kept shelf.old) ledger.old
+        → OnErr result (IsKeeping sha256 history log (S.kept shelf.new) ledger.new) }
+    ensures safe { (history : List Prefix) (log : List Bytes)
+        → IsKeeping sha256 history log (S.kept shelf.old) ledger.old
+        → KeptSafe sha256 history (S.trace shelf.old) (S.trace shelf.new) }
+    ensures small { OnOk result (ledger.new.edge.size < 2 ^ 32) }
+{
+    if ledger.size().saturating_add(batch.len() as u64) > MOST_ENTRIES {
+        return Err(RunFault::Operator);
+    }
+    match ledger.put(shelf, batch) {
+        Ok(()) => Ok(()),
+        Err(fault) => Err(unput(fault)),
+    }
+}
+
+// Appends a batch to a log, publishes that, and prints its head.
+fn publish<K: LogSigner, S: Shelf, W: Write>(
+    alloc: Global,
+    key: &K,
+    batch: &[Vec<u8>],
+    shelf: &mut S,
+    ledger: &mut Ledger<Global>,
+    writer: &mut Counted<W>,
+) -> Result<(), RunFault>
+    requires origin { IsKeyName (K.log_key key.now).name }
+    requires short { AreShortEntries (map vec_items batch.now) }
+    ensures all { OnOk result (Publishes (K.log_key key.now) (map vec_items batch.now)
+        (course S.kept S.trace shelf.old shelf.new ledger.old ledger.new)
+        (passage W.contents writer.old writer.new)) }
+    ensures part { OnErr result (PublishesPart (K.log_key key.now) (map vec_items batch.now)
+        (course S.kept S.trace shelf.old shelf.new ledger.old ledger.new)) }
+{
+    match put_batch(shelf, ledger, batch) {
+        Ok(()) => {}
+        Err(fault) => return Err(fault),
+    }
+    let (size, root) = (ledger.size(), ledger.root());
+    let note = match sign_checkpoint(alloc, alloc, key, size, root) {
+        Ok(note) => note,
+        Err(fault) => return Err(fault),
+    };
+    match ledger.seal(shelf, note.as_bytes()) {
+        Ok(()) => {}
+        Err(fault) => return Err(unkept(fault)),
+    }
+    match print_head(alloc, writer, size, root) {
+        Ok(()) => Ok(()),
+        Err(fault) => Err(fault),
+    }
+}
+
+/// Appends the lines of the input to the log on the shelf, which is the ledger's, and publishes it after each `batch`
+/// lines, at least 1, and at the end, where lines were put or `is_first`: each time under a note of its checkpoint by
+/// the key, whose name is the log's. Its size and root are then printed. It keeps one batch and the ledger, whatever
+/// the log's size. `Operator`: the log would have more than 2^32 - 1 entries.
+pub fn append_lines<K: LogSigner, S: Shelf, R: Read, W: Write>(
+    alloc: Global,
+    key: &K,
+    batch: u64,
+    is_first: bool,
+    shelf: &mut S,
+    ledger: &mut Ledger<Global>,
+    reader: &mut Counted<R>,
+    writer: &mut Counted<W>,
+) -> Result<(), RunFault>
+    requires origin { IsKeyName (K.log_key key.now).name }
+    requires batch { 0 < batch }
+    ensures all { OnOk result (AppendsLines (K.log_key key.now)
+        (course S.kept S.trace shelf.old shelf.new ledger.old ledger.new)
+        (passage R.remaining reader.old reader.new) (passage W.contents writer.old writer.new)) }
+    ensures some { OnErr result (AppendsSome (K.log_key key.now)
+        (course S.kept S.trace shelf.old shelf.new ledger.old ledger.new)
+        (passage R.remaining reader.old reader.new)) }
+{
+    let mut lines = match Lines::new(alloc) {
+        Ok(lines) => lines,
+        Err(_) => return Err(RunFault::OutOfMemory),
+    };
+    let mut is_due = is_first;
+    for _turn in 0..u64::MAX {
+        let entries = match lines.take_most(reader, batch) {
+            Ok(entries) => entries,
+            Err(fault) => return Err(unread(fault)),
+        };
+        if entries.is_empty() && !is_due {
+            return Ok(());
+        }
+        match publish(alloc, key, entries.as_slice(), shelf, ledger, writer) {
+            Ok(()) => is_due = false,
+            Err(fault) => return Err(fault),
+        }
+        if (entries.len() as u64) < batch {
+            return Ok(());
+        }
+    }
+    Err(RunFault::Operator)
+}
