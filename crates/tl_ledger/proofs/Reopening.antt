@@ -1,16 +1,14 @@
 -- How a log is opened from what was read of a shelf.
-use Rattle.std.proofs.Common.{◌≡◌, ◌≢◌, ℕ, zero, suc, ◌+◌, ◌-◌, ◌*◌, ◌/◌, ◌%◌, ◌^◌, ◌<◌, ◌≤◌, inl, inr, ◌⊎◌, Bool, true, List, [], ◌∷◌, ◌++◌, length, map, take, drop, vec_items, Some, None, Option, Err, refl, sym, ap, subst, ◌∙◌, arith}
+use Rattle.std.proofs.Common.{◌≡◌, ℕ, zero, suc, ◌+◌, ◌*◌, ◌/◌, ◌%◌, ◌^◌, ◌<◌, ◌≤◌, inl, inr, ◌⊎◌, Bool, true, List, [], ◌∷◌, ◌++◌, length, map, take, drop, vec_items, Some, None, Option, Err, refl, sym, ap, subst, ◌∙◌, arith}
 use Rattle.std.specs.Prelude.{Contains, Any, IsTrue, false, get_or, slice_index_or}
 use Rattle.std.specs.Global.{Global}
 use Rattle.std.specs.declared.vec.Vec.{Vec}
-use Rattle.std.specs.List.{range_with_len}
 use Rattle.std.proofs.Math.Seq.{take-suc}
 use Rattle.std.proofs.lemmas.Bool.{cases_lt, le-ltb}
 use Rattle.std.proofs.lemmas.List.{drop_all, length-drop, map-append, take_all}
 use Rattle.std.proofs.lemmas.List.Elements.{Contains-append_cases, Contains-append_left, Contains-append_right, Contains-get_or}
 use Rattle.sha2.specs.Sha256.{sha256}
 use Rattle.tl_hash.specs.Bytes.{Bytes, Digest}
-use Rattle.tl_hash.specs.Tree.{tree_hash}
 use Rattle.tl_hash.specs.declared.head.Head.{Head}
 use Rattle.tl_store.specs.Stored.{stored_index}
 use Rattle.tl_store.specs.Reader.{readable_count}
@@ -33,7 +31,6 @@ use Rattle.tl_tile.specs.TileLaws.{AreHonest}
 use Rattle.tl_tile.proofs.Edges.{Some-injective}
 use Rattle.tl_tile.specs.TileReader.{GivesNumbersFault, LacksNeeded, Reading}
 use Rattle.tl_tile.specs.TileText.{level_count, partial_tile}
-use Rattle.tl_tile.proofs.Levels.{base}
 use Rattle.tl_client.specs.Blame.{leaf_numbers, leaf_reading}
 use Rattle.tl_client.specs.Refused.{BundleRead, RefusesEntries, bundle_leaves}
 use Rattle.tl_client.specs.declared.fault.ClientFault.{ClientFault}
