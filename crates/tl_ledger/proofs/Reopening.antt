@@ -220,10 +220,8 @@ refused_any A note keys unopened.OutOfMemory is = is
 
 pub unstated : (A : Type 0) (honest : Bool) (held : Held) (keys : List Key) (note : Bytes) (f : OpenFault) → (honest ≡ true → held resource.Checkpoint ≡ Some note)
     → StatesNone A note keys f → FindsNone honest held keys f
-unstated A honest held keys note opening.Checkpoint there (why, known, is) = λ own.
-    record { bytes = note; there = there own; unopened = inr (why, known, refused_any A note keys why is) }
-unstated A honest held keys note opening.TooLarge there states = λ own.
-    record { note = note; size = states.0; there = there own; states = states.1; holds = states.2 }
+unstated A honest held keys note opening.Checkpoint there (why, known, is) = (note, there, inr (why, known, refused_any A note keys why is))
+unstated A honest held keys note opening.TooLarge there states = (note, there, states)
 unstated A honest held keys note (opening.Missing r) there none = absurd none
 unstated A honest held keys note (opening.Damaged r) there none = absurd none
 unstated A honest held keys note (opening.Shelf fault) there none = absurd none
