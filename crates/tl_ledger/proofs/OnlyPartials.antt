@@ -1,5 +1,5 @@
 -- The hashes of the partial tiles need no other tiles.
-use Rattle.std.proofs.Common.{◌≡◌, ℕ, zero, suc, ◌+◌, ◌-◌, ◌*◌, ◌/◌, ◌%◌, ◌^◌, ◌<◌, ◌≤◌, inl, inr, ◌⊎◌, List, [], ◌∷◌, ◌++◌, length, map, All, Any, refl, sym, ap, subst, ◌∙◌, arith}
+use Rattle.std.proofs.Common.{◌≡◌, ℕ, zero, suc, ◌+◌, ◌-◌, ◌*◌, ◌/◌, ◌%◌, ◌^◌, ◌<◌, ◌≤◌, List, map, All, Any, sym, ap, subst, ◌∙◌, arith}
 use Rattle.std.specs.List.{range_with_len}
 use Rattle.std.proofs.Math.Nat.{div-div-eq-div-mul, div-mul-le_self, eq_of_mul-eq-mul_right}
 use Rattle.std.proofs.lemmas.List.Elements.{All-nil, All-cons, All-append}
@@ -8,7 +8,7 @@ use Rattle.tl_store.specs.Stored.{stored_count, stored_index}
 use Rattle.tl_store.specs.Reader.{readable_count}
 use Rattle.tl_store.proofs.Readable.{index-in_count, count-in_index, is-readable}
 use Rattle.tl_tile.specs.declared.resource.Tile.{Tile}
-use Rattle.tl_tile.specs.TileText.{level_count, full_tile}
+use Rattle.tl_tile.specs.TileText.{level_count}
 use Rattle.tl_tile.specs.EdgeNumbers.{level_numbers, numbers_below}
 use Rattle.tl_tile.specs.Fetching.{IsOverNumber}
 use Rattle.tl_tile.proofs.TileTexts.{scaled_le, tile_height}

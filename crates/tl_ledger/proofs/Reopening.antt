@@ -1,16 +1,14 @@
 -- How a log is opened from what was read of a shelf.
-use Rattle.std.proofs.Common.{◌≡◌, ◌≢◌, ℕ, zero, suc, ◌+◌, ◌-◌, ◌*◌, ◌/◌, ◌%◌, ◌^◌, ◌<◌, ◌≤◌, inl, inr, ◌⊎◌, Bool, true, List, [], ◌∷◌, ◌++◌, length, map, take, drop, vec_items, Some, None, Option, Err, refl, sym, ap, subst, ◌∙◌, arith}
+use Rattle.std.proofs.Common.{◌≡◌, ℕ, zero, suc, ◌+◌, ◌*◌, ◌/◌, ◌%◌, ◌^◌, ◌<◌, ◌≤◌, inl, inr, ◌⊎◌, Bool, true, List, [], ◌∷◌, ◌++◌, length, map, take, drop, vec_items, Some, None, Option, Err, refl, sym, ap, subst, ◌∙◌, arith}
 use Rattle.std.specs.Prelude.{Contains, Any, IsTrue, false, get_or, slice_index_or}
 use Rattle.std.specs.Global.{Global}
 use Rattle.std.specs.declared.vec.Vec.{Vec}
-use Rattle.std.specs.List.{range_with_len}
 use Rattle.std.proofs.Math.Seq.{take-suc}
 use Rattle.std.proofs.lemmas.Bool.{cases_lt, le-ltb}
 use Rattle.std.proofs.lemmas.List.{drop_all, length-drop, map-append, take_all}
-use Rattle.std.proofs.lemmas.List.Elements.{Contains-append_cases, Contains-append_left, Contains-append_right, Contains-get_or}
+use Rattle.std.proofs.lemmas.List.Elements.{Contains-append_cases, Contains-append_left, Contains-append_right}
 use Rattle.sha2.specs.Sha256.{sha256}
 use Rattle.tl_hash.specs.Bytes.{Bytes, Digest}
-use Rattle.tl_hash.specs.Tree.{tree_hash}
 use Rattle.tl_hash.specs.declared.head.Head.{Head}
 use Rattle.tl_store.specs.Stored.{stored_index}
 use Rattle.tl_store.specs.Reader.{readable_count}
@@ -33,7 +31,6 @@ use Rattle.tl_tile.specs.TileLaws.{AreHonest}
 use Rattle.tl_tile.proofs.Edges.{Some-injective}
 use Rattle.tl_tile.specs.TileReader.{GivesNumbersFault, LacksNeeded, Reading}
 use Rattle.tl_tile.specs.TileText.{level_count, partial_tile}
-use Rattle.tl_tile.proofs.Levels.{base}
 use Rattle.tl_client.specs.Blame.{leaf_numbers, leaf_reading}
 use Rattle.tl_client.specs.Refused.{BundleRead, RefusesEntries, bundle_leaves}
 use Rattle.tl_client.specs.declared.fault.ClientFault.{ClientFault}
@@ -48,7 +45,6 @@ use Rattle.tl_checkpoint.specs.declared.checkpoint.CheckpointFault.{CheckpointFa
 use Rattle.tl_checkpoint.specs.declared.checkpoint.CheckpointFault.TheVariants as checkpoint_fault
 use Rattle.tl_checkpoint.specs.declared.opening.OpenCheckpointFault.{OpenCheckpointFault}
 use Rattle.tl_checkpoint.specs.declared.opening.OpenCheckpointFault.TheVariants as unopened
-use Rattle.tl_tile.proofs.Members.{map_has}
 use Rattle.tl_client.proofs.Blamed.{tile_has_path}
 use Rattle.tl_archive.specs.Shelves.{Held, Item}
 use Rattle.tl_ledger.specs.Inner.Putting.{IsPartial}
@@ -167,22 +163,13 @@ entries_there items size root fetched fault small part has is refused =
 
 -- ---- items
 
-pub item_has : {A : Type 0} (items : List (Resource × Vec ℕ A)) (i : ℕ) (v : Resource × Vec ℕ A) (r : Resource) → i < length items → v ≡ get_or items i v → v.0 ≡ r → Contains (items_of items) (r, vec_items v.1)
-item_has items i v r less is own =
-    let f : Resource × Vec ℕ _ → Item = λ x. (x.0, vec_items x.1) in
-    let there : Contains items v = subst (λ (x : Resource × Vec ℕ _). Contains items x) (sym is) (Contains-get_or items i v less) in
-    subst (λ (x : Resource). Contains (items_of items) (x, vec_items v.1)) own (map_has f items v there)
-
-pub lacks_none : {A : Type 0} (items : List (Resource × Vec ℕ A)) (r : Resource) → LacksItem (items_of (take 0 items)) r
-lacks_none items r = λ text has. none_has (r, text) has
-
 pub lacks_more : {A : Type 0} (items : List (Resource × Vec ℕ A)) (i : ℕ) (v : Resource × Vec ℕ A) (r : Resource) → i < length items → v ≡ get_or items i v → (v.0 ≡ r → ⊥)
     → LacksItem (items_of (take i items)) r → LacksItem (items_of (take (i + 1) items)) r
-lacks_more items i v r less is other lacks = λ text has.
-    let f : Resource × Vec ℕ _ → Item = λ x. (x.0, vec_items x.1) in
+lacks_more {A = A} items i v r less is other lacks = λ text has.
     let next : i + 1 ≡ suc i = omega arith in
+    let f : Resource × Vec ℕ A → Item = λ x. (x.0, vec_items x.1) in
     let split : items_of (take (i + 1) items) ≡ items_of (take i items) ++ f v ∷ [] =
-    ap (λ (n : ℕ). map f (take n items)) next ∙ ap (map f) (take-suc items i v less) ∙ map-append f (take i items) (get_or items i v ∷ []) ∙ ap (λ (x : Resource × Vec ℕ _). map f (take i items) ++ f x ∷ []) (sym is) in
+    ap (λ (n : ℕ). map f (take n items)) next ∙ ap (map f) (take-suc items i v less) ∙ map-append f (take i items) (get_or items i v ∷ []) ∙ ap (λ (x : Resource × Vec ℕ A). map f (take i items) ++ f x ∷ []) (sym is) in
     elim (Contains-append_cases (items_of (take i items)) (f v ∷ []) (r, text) (subst (λ (xs : List Item). Contains xs (r, text)) split has)) as (λ _. ⊥) [
       | inl before ↦ lacks text before
       | inr last ↦

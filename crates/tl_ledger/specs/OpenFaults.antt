@@ -1,5 +1,5 @@
 -- When a log that is on a shelf is not opened.
-use Rattle.std.specs.Prelude.{◌≡◌, ◌≢◌, ℕ, ◌≤◌, ◌/◌, ◌%◌, ◌^◌, ◌⊎◌, Bool, true, List, map, Option, Some, None, Contains, ⊤}
+use Rattle.std.specs.Prelude.{◌≡◌, ◌≢◌, ℕ, ◌≤◌, ◌/◌, ◌%◌, ◌^◌, ◌⊎◌, Bool, true, List, Option, Some, None, Contains, ⊤}
 use Rattle.sha2.specs.Sha256.{sha256}
 use Rattle.tl_hash.specs.Bytes.{Bytes}
 use Rattle.tl_hash.specs.declared.head.Head.{Head}
@@ -16,7 +16,7 @@ use Rattle.tl_client.specs.Checked.{AreCheckedEntries}
 use Rattle.tl_client.specs.Refused.{AnswersOtherEntry, BundleRead}
 use Rattle.tl_archive.specs.Shelves.{Held}
 use Rattle.tl_archive.specs.Reading.{IsUnopened, StatesSize}
-use Rattle.tl_ledger.specs.Opening.{Found, IsOfSigned, found_size}
+use Rattle.tl_ledger.specs.Opening.{Found, IsOfSigned}
 use Rattle.tl_ledger.specs.declared.opened.fault.OpenFault.{OpenFault}
 use Rattle.tl_ledger.specs.declared.opened.fault.OpenFault.TheVariants as opening
 

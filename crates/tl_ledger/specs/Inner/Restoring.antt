@@ -1,19 +1,16 @@
 -- The parts of a log that is opened.
-use Rattle.std.specs.Prelude.{◌≡◌, ◌≢◌, ℕ, ◌*◌, ◌/◌, ◌^◌, ◌≤◌, ◌⊎◌, Bool, true, List, length, drop, Option, Some, None, Err, IsUtf8, ⊤}
-use Rattle.std.specs.Global.{Global}
+use Rattle.std.specs.Prelude.{◌≡◌, ◌≢◌, ℕ, ◌*◌, ◌/◌, ◌⊎◌, Bool, List, length, drop, Err, ⊤}
 use Rattle.sha2.specs.Sha256.{sha256}
 use Rattle.tl_hash.specs.Bytes.{Bytes}
 use Rattle.tl_hash.specs.Tree.{tree_hash}
 use Rattle.tl_hash.specs.declared.head.Head.{Head}
 use Rattle.tl_note.specs.Key.{Key}
 use Rattle.tl_tile.specs.declared.resource.Resource.{Resource}
-use Rattle.tl_tile.specs.declared.resource.Resource.TheVariants as resource
 use Rattle.tl_tile.specs.declared.resource.Tile.{Tile}
 use Rattle.tl_tile.specs.Bundle.{bundle_text}
 use Rattle.tl_tile.specs.Fetched.{tiles_of}
 use Rattle.tl_tile.specs.Folds.{TilesCollide}
-use Rattle.tl_checkpoint.specs.Checkpoint as checkpoint
-use Rattle.tl_checkpoint.specs.OpenCheckpoint.{IsSignedCheckpoint, OpensCheckpoint}
+use Rattle.tl_checkpoint.specs.OpenCheckpoint.{OpensCheckpoint}
 use Rattle.tl_checkpoint.specs.declared.opening.OpenCheckpointFault.{OpenCheckpointFault}
 use Rattle.tl_checkpoint.specs.declared.opening.OpenCheckpointFault.TheVariants as unopened
 use Rattle.tl_client.specs.Checked.{LeavesCollide}

@@ -1,4 +1,4 @@
-use Rattle.std.proofs.Common.{◌≡◌, List, ap, sym, ◌∙◌, subst}
+use Rattle.std.proofs.Common.{◌≡◌, List, ap, ◌∙◌, subst}
 use Rattle.std.specs.Prelude.{Contains, MatchOption}
 use Rattle.tl_archive.specs.Shelves.{Item}
 use Rattle.tl_ledger.specs.Inner.Reads.{LacksItem, items_of}
