@@ -31,6 +31,8 @@ use Rattle.tl_tile.specs.TileLaws.{AreHonest}
 use Rattle.tl_tile.proofs.Edges.{Some-injective}
 use Rattle.tl_tile.specs.TileReader.{GivesNumbersFault, LacksNeeded, Reading}
 use Rattle.tl_tile.specs.TileText.{level_count, partial_tile}
+use Rattle.tl_client.specs.Bundles.{bundle_entries}
+use Rattle.tl_client.specs.Checked.{AreCheckedEntries, LeavesCollide}
 use Rattle.tl_client.specs.Blame.{leaf_numbers, leaf_reading}
 use Rattle.tl_client.specs.Refused.{BundleRead, RefusesEntries, bundle_leaves}
 use Rattle.tl_client.specs.declared.fault.ClientFault.{ClientFault}
@@ -276,6 +278,21 @@ all_partials honest held size level before after end so_far on last (resource.En
 all_partials honest held size level before after end so_far on last resource.Checkpoint none = absurd none
 
 -- ---- the ledger
+
+last_entries : (size : ℕ) (log : List Bytes) → length log ≡ size → bundle_entries size (size / 256) log ≡ drop (length log / 256 * 256) log
+last_entries size log sized =
+    let rest : List Bytes = drop (256 * (size / 256)) log in
+    let short : length rest ≤ size % 256 = omega (arith, length-drop (256 * (size / 256)) log, sized) in
+    let start : 256 * (size / 256) ≡ length log / 256 * 256 = omega (arith, ap (λ (n : ℕ). n / 256) sized) in
+    ap (λ (w : ℕ). take w rest) (last_width size) ∙ take_all (size % 256) rest short ∙ ap (λ (n : ℕ). drop n log) start
+
+pub checked_bundle : (head : Head) (entries : List Bytes) (fetched : List (Tile × Bytes)) (bundle : Bytes) → AreCheckedEntries sha256 (tiles_of fetched) head.size head.root (head.size / 256) entries
+    → bundle ≡ bundle_text entries → IsBundleOf head entries fetched bundle
+checked_bundle head entries fetched bundle checked is = λ log is_log.
+    elim (checked.those log is_log.0 is_log.1) as (λ _. (bundle ≡ bundle_text (drop (length log / 256 * 256) log)) ⊎ (LeavesCollide sha256 entries log ⊎ TilesCollide sha256 (tiles_of fetched) head.size log)) [
+      | inl same ↦ inl (is ∙ ap bundle_text (same ∙ last_entries head.size log is_log.0))
+      | inr collide ↦ inr collide
+    ]
 
 pub restored : (head : Head) (edge_tiles entry_tiles : List (Tile × Bytes)) (entries : List Bytes) (edge : EdgeContents) (bundle : Bytes) (ledger : Ledger)
     → ledger ≡ record { edge = edge; bundle = bundle } → edge.size ≡ head.size
