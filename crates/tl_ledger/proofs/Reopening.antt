@@ -6,7 +6,7 @@ use Rattle.std.specs.declared.vec.Vec.{Vec}
 use Rattle.std.proofs.Math.Seq.{take-suc}
 use Rattle.std.proofs.lemmas.Bool.{cases_lt, le-ltb}
 use Rattle.std.proofs.lemmas.List.{drop_all, length-drop, map-append, take_all}
-use Rattle.std.proofs.lemmas.List.Elements.{Contains-append_cases, Contains-append_left, Contains-append_right, Contains-get_or}
+use Rattle.std.proofs.lemmas.List.Elements.{Contains-append_cases, Contains-append_left, Contains-append_right}
 use Rattle.sha2.specs.Sha256.{sha256}
 use Rattle.tl_hash.specs.Bytes.{Bytes, Digest}
 use Rattle.tl_hash.specs.declared.head.Head.{Head}
@@ -31,6 +31,8 @@ use Rattle.tl_tile.specs.TileLaws.{AreHonest}
 use Rattle.tl_tile.proofs.Edges.{Some-injective}
 use Rattle.tl_tile.specs.TileReader.{GivesNumbersFault, LacksNeeded, Reading}
 use Rattle.tl_tile.specs.TileText.{level_count, partial_tile}
+use Rattle.tl_client.specs.Bundles.{bundle_entries}
+use Rattle.tl_client.specs.Checked.{AreCheckedEntries, LeavesCollide}
 use Rattle.tl_client.specs.Blame.{leaf_numbers, leaf_reading}
 use Rattle.tl_client.specs.Refused.{BundleRead, RefusesEntries, bundle_leaves}
 use Rattle.tl_client.specs.declared.fault.ClientFault.{ClientFault}
@@ -45,7 +47,6 @@ use Rattle.tl_checkpoint.specs.declared.checkpoint.CheckpointFault.{CheckpointFa
 use Rattle.tl_checkpoint.specs.declared.checkpoint.CheckpointFault.TheVariants as checkpoint_fault
 use Rattle.tl_checkpoint.specs.declared.opening.OpenCheckpointFault.{OpenCheckpointFault}
 use Rattle.tl_checkpoint.specs.declared.opening.OpenCheckpointFault.TheVariants as unopened
-use Rattle.tl_tile.proofs.Members.{map_has}
 use Rattle.tl_client.proofs.Blamed.{tile_has_path}
 use Rattle.tl_archive.specs.Shelves.{Held, Item}
 use Rattle.tl_ledger.specs.Inner.Putting.{IsPartial}
@@ -164,22 +165,13 @@ entries_there items size root fetched fault small part has is refused =
 
 -- ---- items
 
-pub item_has : {A : Type 0} (items : List (Resource × Vec ℕ A)) (i : ℕ) (v : Resource × Vec ℕ A) (r : Resource) → i < length items → v ≡ get_or items i v → v.0 ≡ r → Contains (items_of items) (r, vec_items v.1)
-item_has items i v r less is own =
-    let f : Resource × Vec ℕ _ → Item = λ x. (x.0, vec_items x.1) in
-    let there : Contains items v = subst (λ (x : Resource × Vec ℕ _). Contains items x) (sym is) (Contains-get_or items i v less) in
-    subst (λ (x : Resource). Contains (items_of items) (x, vec_items v.1)) own (map_has f items v there)
-
-pub lacks_none : {A : Type 0} (items : List (Resource × Vec ℕ A)) (r : Resource) → LacksItem (items_of (take 0 items)) r
-lacks_none items r = λ text has. none_has (r, text) has
-
 pub lacks_more : {A : Type 0} (items : List (Resource × Vec ℕ A)) (i : ℕ) (v : Resource × Vec ℕ A) (r : Resource) → i < length items → v ≡ get_or items i v → (v.0 ≡ r → ⊥)
     → LacksItem (items_of (take i items)) r → LacksItem (items_of (take (i + 1) items)) r
-lacks_more items i v r less is other lacks = λ text has.
-    let f : Resource × Vec ℕ _ → Item = λ x. (x.0, vec_items x.1) in
+lacks_more {A = A} items i v r less is other lacks = λ text has.
     let next : i + 1 ≡ suc i = omega arith in
+    let f : Resource × Vec ℕ A → Item = λ x. (x.0, vec_items x.1) in
     let split : items_of (take (i + 1) items) ≡ items_of (take i items) ++ f v ∷ [] =
-    ap (λ (n : ℕ). map f (take n items)) next ∙ ap (map f) (take-suc items i v less) ∙ map-append f (take i items) (get_or items i v ∷ []) ∙ ap (λ (x : Resource × Vec ℕ _). map f (take i items) ++ f x ∷ []) (sym is) in
+    ap (λ (n : ℕ). map f (take n items)) next ∙ ap (map f) (take-suc items i v less) ∙ map-append f (take i items) (get_or items i v ∷ []) ∙ ap (λ (x : Resource × Vec ℕ A). map f (take i items) ++ f x ∷ []) (sym is) in
     elim (Contains-append_cases (items_of (take i items)) (f v ∷ []) (r, text) (subst (λ (xs : List Item). Contains xs (r, text)) split has)) as (λ _. ⊥) [
       | inl before ↦ lacks text before
       | inr last ↦
@@ -217,10 +209,8 @@ refused_any A note keys unopened.OutOfMemory is = is
 
 pub unstated : (A : Type 0) (honest : Bool) (held : Held) (keys : List Key) (note : Bytes) (f : OpenFault) → (honest ≡ true → held resource.Checkpoint ≡ Some note)
     → StatesNone A note keys f → FindsNone honest held keys f
-unstated A honest held keys note opening.Checkpoint there (why, known, is) = λ own.
-    record { bytes = note; there = there own; unopened = inr (why, known, refused_any A note keys why is) }
-unstated A honest held keys note opening.TooLarge there states = λ own.
-    record { note = note; size = states.0; there = there own; states = states.1; holds = states.2 }
+unstated A honest held keys note opening.Checkpoint there (why, known, is) = (note, there, inr (why, known, refused_any A note keys why is))
+unstated A honest held keys note opening.TooLarge there states = (note, there, states)
 unstated A honest held keys note (opening.Missing r) there none = absurd none
 unstated A honest held keys note (opening.Damaged r) there none = absurd none
 unstated A honest held keys note (opening.Shelf fault) there none = absurd none
@@ -288,6 +278,21 @@ all_partials honest held size level before after end so_far on last (resource.En
 all_partials honest held size level before after end so_far on last resource.Checkpoint none = absurd none
 
 -- ---- the ledger
+
+last_entries : (size : ℕ) (log : List Bytes) → length log ≡ size → bundle_entries size (size / 256) log ≡ drop (length log / 256 * 256) log
+last_entries size log sized =
+    let rest : List Bytes = drop (256 * (size / 256)) log in
+    let short : length rest ≤ size % 256 = omega (arith, length-drop (256 * (size / 256)) log, sized) in
+    let start : 256 * (size / 256) ≡ length log / 256 * 256 = omega (arith, ap (λ (n : ℕ). n / 256) sized) in
+    ap (λ (w : ℕ). take w rest) (last_width size) ∙ take_all (size % 256) rest short ∙ ap (λ (n : ℕ). drop n log) start
+
+pub checked_bundle : (head : Head) (entries : List Bytes) (fetched : List (Tile × Bytes)) (bundle : Bytes) → AreCheckedEntries sha256 (tiles_of fetched) head.size head.root (head.size / 256) entries
+    → bundle ≡ bundle_text entries → IsBundleOf head entries fetched bundle
+checked_bundle head entries fetched bundle checked is = λ log is_log.
+    elim (checked.those log is_log.0 is_log.1) as (λ _. (bundle ≡ bundle_text (drop (length log / 256 * 256) log)) ⊎ (LeavesCollide sha256 entries log ⊎ TilesCollide sha256 (tiles_of fetched) head.size log)) [
+      | inl same ↦ inl (is ∙ ap bundle_text (same ∙ last_entries head.size log is_log.0))
+      | inr collide ↦ inr collide
+    ]
 
 pub restored : (head : Head) (edge_tiles entry_tiles : List (Tile × Bytes)) (entries : List Bytes) (edge : EdgeContents) (bundle : Bytes) (ledger : Ledger)
     → ledger ≡ record { edge = edge; bundle = bundle } → edge.size ≡ head.size

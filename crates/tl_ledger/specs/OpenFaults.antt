@@ -15,7 +15,7 @@ use Rattle.tl_client.specs.Blame.{AnswersNoBundle}
 use Rattle.tl_client.specs.Checked.{AreCheckedEntries}
 use Rattle.tl_client.specs.Refused.{AnswersOtherEntry, BundleRead}
 use Rattle.tl_archive.specs.Shelves.{Held}
-use Rattle.tl_archive.specs.Reading.{HasStated, HasUnopened}
+use Rattle.tl_archive.specs.Reading.{IsUnopened, StatesSize}
 use Rattle.tl_ledger.specs.Opening.{Found, IsOfSigned}
 use Rattle.tl_ledger.specs.declared.opened.fault.OpenFault.{OpenFault}
 use Rattle.tl_ledger.specs.declared.opened.fault.OpenFault.TheVariants as opening
@@ -59,10 +59,18 @@ IsDamaged answers head edge_tiles entry_tiles resource.Checkpoint = ⊥
 abbrev pub HasSigned : List Key → Option Head → (Head → Type 0) → Type 0
 HasSigned keys found Holds = IsOfSigned keys found × ((head : Head) × (found ≡ Some head) × Holds head)
 
+-- the shelf may answer bytes for the checkpoint of which this holds
+abbrev pub HasRead : Bool → Held → (Bytes → Type 0) → Type 0
+HasRead honest held Holds = (bytes : Bytes) × MayRead honest held resource.Checkpoint bytes × Holds bytes
+
+-- the note opens under these keys, and states more entries than a log takes
+abbrev pub StatesTooMany : List Key → Bytes → Type 0
+StatesTooMany keys note = (size : ℕ) × StatesSize note keys size × (2 ^ 32 ≤ size)
+
 -- when each fault comes, by what was read
 abbrev pub OpenFails : Bool → Held → List Key → Found → OpenFault → Type 0
-OpenFails honest held keys found opening.Checkpoint = honest ≡ true → HasUnopened held keys
-OpenFails honest held keys found opening.TooLarge = honest ≡ true → HasStated held keys (λ size. 2 ^ 32 ≤ size)
+OpenFails honest held keys found opening.Checkpoint = HasRead honest held (λ bytes. IsUnopened bytes keys)
+OpenFails honest held keys found opening.TooLarge = HasRead honest held (StatesTooMany keys)
 OpenFails honest held keys found (opening.Missing r) = HasSigned keys found.head (λ head. IsMissing honest held head.size r)
 OpenFails honest held keys found (opening.Damaged r) =
     HasSigned keys found.head (λ head. IsDamaged (MayRead honest held) head found.edge_tiles found.entry_tiles r)

@@ -1,5 +1,5 @@
 -- The parts of a log that is opened.
-use Rattle.std.specs.Prelude.{◌≡◌, ◌≢◌, ℕ, ◌*◌, ◌/◌, ◌^◌, ◌≤◌, ◌⊎◌, Bool, true, List, length, drop, Err, ⊤}
+use Rattle.std.specs.Prelude.{◌≡◌, ◌≢◌, ℕ, ◌*◌, ◌/◌, ◌⊎◌, Bool, List, length, drop, Err, ⊤}
 use Rattle.sha2.specs.Sha256.{sha256}
 use Rattle.tl_hash.specs.Bytes.{Bytes}
 use Rattle.tl_hash.specs.Tree.{tree_hash}
@@ -16,10 +16,10 @@ use Rattle.tl_checkpoint.specs.declared.opening.OpenCheckpointFault.TheVariants 
 use Rattle.tl_client.specs.Checked.{LeavesCollide}
 use Rattle.tl_archive.specs.Shelves.{Held, Item}
 use Rattle.tl_archive.specs.Complete.{HasAll}
-use Rattle.tl_archive.specs.Reading.{HasStated, HasUnopened, StatesSize}
+use Rattle.tl_archive.specs.Reading.{IsUnopened}
 use Rattle.tl_ledger.specs.Standing.{Ledger, IsStanding}
 use Rattle.tl_ledger.specs.Opening.{Found, FoundCollides}
-use Rattle.tl_ledger.specs.OpenFaults.{IsDamaged}
+use Rattle.tl_ledger.specs.OpenFaults.{HasRead, IsDamaged, StatesTooMany}
 use Rattle.tl_ledger.specs.Inner.Reads.{AreThere}
 use Rattle.tl_ledger.specs.declared.opened.fault.OpenFault.{OpenFault}
 use Rattle.tl_ledger.specs.declared.opened.fault.OpenFault.TheVariants as opening
@@ -29,7 +29,7 @@ use Rattle.tl_ledger.specs.declared.opened.fault.OpenFault.TheVariants as openin
 -- why a note gave no size and root
 abbrev pub StatesNone : Type 0 → Bytes → List Key → OpenFault → Type 0
 StatesNone A note keys opening.Checkpoint = (why : OpenCheckpointFault) × (why ≢ unopened.OutOfMemory) × OpensCheckpoint {A = A} note keys (Err why)
-StatesNone A note keys opening.TooLarge = (size : ℕ) × StatesSize note keys size × (2 ^ 32 ≤ size)
+StatesNone A note keys opening.TooLarge = StatesTooMany keys note
 StatesNone A note keys (opening.Missing r) = ⊥
 StatesNone A note keys (opening.Damaged r) = ⊥
 StatesNone A note keys (opening.Shelf fault) = ⊥
@@ -37,8 +37,8 @@ StatesNone A note keys opening.OutOfMemory = ⊤
 
 -- why no checkpoint was found
 abbrev pub FindsNone : Bool → Held → List Key → OpenFault → Type 0
-FindsNone honest held keys opening.Checkpoint = honest ≡ true → HasUnopened held keys
-FindsNone honest held keys opening.TooLarge = honest ≡ true → HasStated held keys (λ size. 2 ^ 32 ≤ size)
+FindsNone honest held keys opening.Checkpoint = HasRead honest held (λ bytes. IsUnopened bytes keys)
+FindsNone honest held keys opening.TooLarge = HasRead honest held (StatesTooMany keys)
 FindsNone honest held keys (opening.Missing r) = ⊥
 FindsNone honest held keys (opening.Damaged r) = ⊥
 FindsNone honest held keys (opening.Shelf fault) = ⊤
