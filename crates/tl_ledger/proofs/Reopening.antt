@@ -52,12 +52,12 @@ use Rattle.tl_archive.specs.Shelves.{Held, Item}
 use Rattle.tl_ledger.specs.Inner.Putting.{IsPartial}
 use Rattle.tl_ledger.specs.Inner.Reads.{AreHeld, AreThere, HasBundle, HasItem, HasLevel, HasLevels, HasPartials, IsBundleRead, LacksItem, ReadsOn, items_of}
 use Rattle.tl_ledger.specs.Standing.{Ledger, IsStanding}
-use Rattle.tl_ledger.specs.Opening.{Found, FoundCollides, IsLogOf, IsOfSigned, Opens, StandsWhereWhole, found_size}
+use Rattle.tl_ledger.specs.Opening.{Found, FoundCollides, IsLogOf, IsOfHeld, IsOfSigned, Opens, StandsWhereWhole, found_size}
 use Rattle.tl_ledger.proofs.Adding.{needs_has}
 use Rattle.tl_ledger.specs.Inner.Restoring.{FindsNone, IsBundleOf, IsLogAt, PartFails, Restores, StandsWhereRead, StatesNone}
 use Rattle.tl_ledger.specs.declared.opened.fault.OpenFault.{OpenFault}
 use Rattle.tl_ledger.specs.declared.opened.fault.OpenFault.TheVariants as opening
-use Rattle.tl_ledger.specs.OpenFaults.{IsBadBundle, IsDamaged, MayRead, OpenFails, last_read}
+use Rattle.tl_ledger.specs.OpenFaults.{HasSigned, IsBadBundle, IsDamaged, MayRead, OpenFails, last_read}
 use Rattle.tl_ledger.proofs.Opening.{complete_tiles}
 use Rattle.tl_archive.specs.Complete.{HasAll}
 use Rattle.tl_ledger.proofs.OnlyPartials.{all_mapped, all_numbers, none_of, number_in_range, no_full_over}
@@ -381,14 +381,24 @@ more_damage A B head edge_tiles entry_tiles (resource.Tile t) f is = is
 more_damage A B head edge_tiles entry_tiles (resource.Entries index width) f is = (is.0, is.1, more_bundle A B (last_read head entry_tiles) width f is.2)
 more_damage A B head edge_tiles entry_tiles resource.Checkpoint f none = absurd none
 
-pub part_failed : (honest : Bool) (held : Held) (keys : List Key) (items : List Item) (head : Head) (found : Found) (fault : OpenFault) → AreHeld honest held items → found.head ≡ Some head → IsOfSigned keys (Some head)
-    → PartFails (λ r text. Contains items (r, text)) head found.edge_tiles found.entry_tiles fault → OpenFails honest held keys found fault
-part_failed honest held keys items head found opening.Checkpoint there is signed none = absurd none
-part_failed honest held keys items head found opening.TooLarge there is signed none = absurd none
-part_failed honest held keys items head found (opening.Missing r) there is signed none = absurd none
-part_failed honest held keys items head found (opening.Damaged r) there is signed damaged = (
-  subst (IsOfSigned keys) (sym is) signed,
-  (head, is, more_damage (λ r text. Contains items (r, text)) (MayRead honest held) head found.edge_tiles found.entry_tiles r (λ q text has own. there own q text has) damaged),
-)
-part_failed honest held keys items head found (opening.Shelf fault) there is signed none = absurd none
-part_failed honest held keys items head found opening.OutOfMemory there is signed memory = tt
+-- the checkpoint that was found
+has_signed : (honest : Bool) (held : Held) (keys : List Key) (stated : Option Head) (head : Head) (found : Found) (Holds : Head → Type 0) → found.head ≡ Some head → stated ≡ Some head → IsOfSigned keys stated
+    → (honest ≡ true → IsOfHeld held keys stated) → Holds head → HasSigned honest held keys found.head Holds
+has_signed honest held keys stated head found Holds is own_is signed there holds = record {
+  signed = subst (IsOfSigned keys) (own_is ∙ sym is) signed;
+  there = λ own. subst (IsOfHeld held keys) (own_is ∙ sym is) (there own);
+  head = head;
+  is = is;
+  holds = holds;
+}
+
+pub part_failed : (honest : Bool) (held : Held) (keys : List Key) (items : List Item) (stated : Option Head) (head : Head) (found : Found) (fault : OpenFault) → AreHeld honest held items → found.head ≡ Some head → stated ≡ Some head
+    → IsOfSigned keys stated → (honest ≡ true → IsOfHeld held keys stated) → PartFails (λ r text. Contains items (r, text)) head found.edge_tiles found.entry_tiles fault → OpenFails honest held keys found fault
+part_failed honest held keys items stated head found opening.Checkpoint read is own_is signed there none = absurd none
+part_failed honest held keys items stated head found opening.TooLarge read is own_is signed there none = absurd none
+part_failed honest held keys items stated head found (opening.Missing r) read is own_is signed there none = absurd none
+part_failed honest held keys items stated head found (opening.Damaged r) read is own_is signed there damaged =
+    has_signed honest held keys stated head found (λ head. IsDamaged (MayRead honest held) head found.edge_tiles found.entry_tiles r) is own_is signed there
+    (more_damage (λ r text. Contains items (r, text)) (MayRead honest held) head found.edge_tiles found.entry_tiles r (λ q text has own. read own q text has) damaged)
+part_failed honest held keys items stated head found (opening.Shelf fault) read is own_is signed there none = absurd none
+part_failed honest held keys items stated head found opening.OutOfMemory read is own_is signed there memory = tt

@@ -16,7 +16,7 @@ use Rattle.tl_client.specs.Checked.{AreCheckedEntries}
 use Rattle.tl_client.specs.Refused.{AnswersOtherEntry, BundleRead}
 use Rattle.tl_archive.specs.Shelves.{Held}
 use Rattle.tl_archive.specs.Reading.{IsUnopened, StatesSize}
-use Rattle.tl_ledger.specs.Opening.{Found, IsOfSigned}
+use Rattle.tl_ledger.specs.Opening.{Found, IsOfHeld, IsOfSigned}
 use Rattle.tl_ledger.specs.declared.opened.fault.OpenFault.{OpenFault}
 use Rattle.tl_ledger.specs.declared.opened.fault.OpenFault.TheVariants as opening
 
@@ -55,9 +55,14 @@ IsDamaged answers head edge_tiles entry_tiles (resource.Entries index width) =
     (index ≡ head.size / 256) × (width ≡ head.size % 256) × IsBadBundle answers (last_read head entry_tiles) width
 IsDamaged answers head edge_tiles entry_tiles resource.Checkpoint = ⊥
 
--- the checkpoint that was found is signed, and what this says of its size and root holds
-abbrev pub HasSigned : List Key → Option Head → (Head → Type 0) → Type 0
-HasSigned keys found Holds = IsOfSigned keys found × ((head : Head) × (found ≡ Some head) × Holds head)
+-- the checkpoint that was found is signed, and the one that is there, where the shelf is honest; and this holds of its
+-- size and root
+pub record HasSigned (honest : Bool) (held : Held) (keys : List Key) (found : Option Head) (Holds : Head → Type 0) : Type 0 where
+  pub signed : IsOfSigned keys found
+  pub there : honest ≡ true → IsOfHeld held keys found
+  pub head : Head
+  pub is : found ≡ Some head
+  pub holds : Holds head
 
 -- the shelf may answer bytes for the checkpoint of which this holds
 abbrev pub HasRead : Bool → Held → (Bytes → Type 0) → Type 0
@@ -71,8 +76,9 @@ StatesTooMany keys note = (size : ℕ) × StatesSize note keys size × (2 ^ 32 �
 abbrev pub OpenFails : Bool → Held → List Key → Found → OpenFault → Type 0
 OpenFails honest held keys found opening.Checkpoint = HasRead honest held (λ bytes. IsUnopened bytes keys)
 OpenFails honest held keys found opening.TooLarge = HasRead honest held (StatesTooMany keys)
-OpenFails honest held keys found (opening.Missing r) = HasSigned keys found.head (λ head. IsMissing honest held head.size r)
+OpenFails honest held keys found (opening.Missing r) =
+    HasSigned honest held keys found.head (λ head. IsMissing honest held head.size r)
 OpenFails honest held keys found (opening.Damaged r) =
-    HasSigned keys found.head (λ head. IsDamaged (MayRead honest held) head found.edge_tiles found.entry_tiles r)
+    HasSigned honest held keys found.head (λ head. IsDamaged (MayRead honest held) head found.edge_tiles found.entry_tiles r)
 OpenFails honest held keys found (opening.Shelf fault) = ⊤
 OpenFails honest held keys found opening.OutOfMemory = ⊤

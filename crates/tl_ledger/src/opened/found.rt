@@ -7,8 +7,8 @@ use std::marker::Model;
 use tl_hash::Head;
 use tl_tile::FetchedTiles;
 
-/// What was read of a log where it was opened, and was checked against its checkpoint: where the log that it stands for
-/// is another, two inputs collide, of which one was hashed for this.
+/// What was read of a log where it was opened. A ledger that stands at another log than that of the checkpoint shows
+/// here which inputs collide.
 #[derive(Drop)]
 pub struct Found<A: Allocator> {
     /// The size and the root of its checkpoint, where it has one.

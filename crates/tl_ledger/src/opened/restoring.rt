@@ -133,7 +133,7 @@ fn was_read<A: Allocator>(source: &ShelfSource<A>, size: u64, bytes: &[u8]) -> b
     }
 }
 
-/// The partial bundle of a log of this size and root, from the bytes that were read, and its entries, which are
+/// The partial bundle of a log of this size and root, from the bytes that were read, and its entries, which were
 /// checked.
 pub(crate) fn restore_bundle<A: Allocator + Copy>(
     alloc: A,
