@@ -1,3 +1,4 @@
 pub mod Loops
 pub mod Reading
+pub mod Runs
 pub mod Turns

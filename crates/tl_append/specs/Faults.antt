@@ -1,4 +1,7 @@
 -- What the faults of lines, of a ledger and of its shelf are told as.
+use Rattle.std.specs.Prelude.{Some}
+use Rattle.tl_device.specs.declared.fault.DeviceFault.TheVariants as device
+use Rattle.tl_tile.specs.declared.resource.Resource.TheVariants as resource
 use Rattle.tl_archive.specs.declared.fault.ShelfFault.{ShelfFault}
 use Rattle.tl_command.specs.Faults.{after_device}
 use Rattle.tl_command.specs.declared.fault.RunFault.{RunFault}
@@ -6,6 +9,8 @@ use Rattle.tl_command.specs.declared.fault.RunFault.TheVariants as run
 use Rattle.tl_command.specs.declared.place.Place.TheVariants.{Log}
 use Rattle.tl_ledger.specs.declared.fault.LedgerFault.{LedgerFault}
 use Rattle.tl_ledger.specs.declared.fault.LedgerFault.TheVariants as ledger
+use Rattle.tl_ledger.specs.declared.opened.fault.OpenFault.{OpenFault}
+use Rattle.tl_ledger.specs.declared.opened.fault.OpenFault.TheVariants as opening
 use Rattle.tl_lines.specs.declared.fault.LineFault.{LineFault}
 use Rattle.tl_lines.specs.declared.fault.LineFault.TheVariants as lines
 
@@ -25,3 +30,16 @@ after_shelf fault = after_device (Log fault.resource) fault.why
 abbrev pub after_ledger : LedgerFault → RunFault
 after_ledger (ledger.Shelf fault) = after_shelf fault
 after_ledger ledger.OutOfMemory = run.OutOfMemory
+
+-- where a log was not opened
+abbrev pub after_open : OpenFault → RunFault
+after_open opening.Checkpoint = run.BadCheckpoint (Log (Some resource.Checkpoint))
+after_open opening.TooLarge = after_device (Log (Some resource.Checkpoint)) device.TooLarge
+after_open (opening.Missing r) = after_device (Log (Some r)) device.NotThere
+after_open (opening.Damaged r) = after_device (Log (Some r)) device.Damaged
+after_open (opening.Shelf fault) = after_shelf fault
+after_open opening.OutOfMemory = run.OutOfMemory
+
+-- where there is a log, and none is to be
+abbrev pub is_taken : RunFault
+is_taken = after_device (Log (Some resource.Checkpoint)) device.Taken

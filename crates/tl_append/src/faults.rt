@@ -1,12 +1,16 @@
 //! What the faults of lines, of a ledger and of its shelf are told as.
 
-ghost use Rattle.std.specs.Prelude.{◌≡◌};
-ghost use Rattle.tl_append.specs.Faults.{after_ledger, after_lines, after_shelf};
+ghost use Rattle.std.specs.Prelude.{◌≡◌, Some};
+ghost use Rattle.tl_command.specs.Faults.{after_device};
+ghost use Rattle.tl_command.specs.declared.place.Place.TheVariants.{Log};
+ghost use Rattle.tl_append.specs.Faults.{after_ledger, after_lines, after_open, after_shelf, is_taken};
 
 use tl_archive::ShelfFault;
 use tl_command::{Place, RunFault};
-use tl_ledger::LedgerFault;
+use tl_device::DeviceFault;
+use tl_ledger::{LedgerFault, OpenFault};
 use tl_lines::LineFault;
+use tl_tile::Resource;
 
 /// What a command ends with where lines were not read.
 pub(crate) fn unread(fault: LineFault) -> RunFault
@@ -36,4 +40,32 @@ pub(crate) fn unput(fault: LedgerFault) -> RunFault
         LedgerFault::Shelf(fault) => unkept(fault),
         LedgerFault::OutOfMemory => RunFault::OutOfMemory,
     }
+}
+
+// What a command ends with where a resource on the shelf isn't as it has to be.
+fn unfit(resource: Resource, fault: DeviceFault) -> RunFault
+    ensures { result ≡ after_device (Log (Some resource)) fault }
+{
+    RunFault::of_device(Place::Log(Some(resource)), fault)
+}
+
+/// What a command ends with where a log was not opened.
+pub(crate) fn unopened(fault: OpenFault) -> RunFault
+    ensures { result ≡ after_open fault }
+{
+    match fault {
+        OpenFault::Checkpoint => RunFault::BadCheckpoint(Place::Log(Some(Resource::Checkpoint))),
+        OpenFault::TooLarge => unfit(Resource::Checkpoint, DeviceFault::TooLarge),
+        OpenFault::Missing(resource) => unfit(resource, DeviceFault::NotThere),
+        OpenFault::Damaged(resource) => unfit(resource, DeviceFault::Damaged),
+        OpenFault::Shelf(fault) => unkept(fault),
+        OpenFault::OutOfMemory => RunFault::OutOfMemory,
+    }
+}
+
+/// What a command ends with where there is a log, and none is to be.
+pub(crate) fn taken() -> RunFault
+    ensures { result ≡ is_taken }
+{
+    unfit(Resource::Checkpoint, DeviceFault::Taken)
 }

@@ -1,0 +1,75 @@
+-- A run of the command `append`: it goes on from the log on a shelf.
+use Rattle.std.specs.Prelude.{◌≡◌, ◌⊎◌, List, [], ◌++◌, Contains, Result, Ok, Err}
+use Rattle.std.specs.List.{flat_map}
+use Rattle.sha2.specs.Sha256.{sha256}
+use Rattle.tl_hash.specs.Bytes.{Bytes, Digest}
+use Rattle.tl_device.specs.Device.{Passage, HasFailed, WroteWhole}
+use Rattle.tl_lines.specs.Lines.{Uncut, unread}
+use Rattle.tl_lines.specs.Reading.{TellsAll, all_entries}
+use Rattle.tl_publisher.specs.Histories.{Prefix, Begins}
+use Rattle.tl_archive.specs.Shelves.{Kept}
+use Rattle.tl_archive.specs.Complete.{HasAll, IsSafe, KeptSafe}
+use Rattle.tl_ledger.specs.Opening.{Found, FoundCollides, IsLogOf}
+use Rattle.tl_command.specs.Mirror.{LogKey}
+use Rattle.tl_command.specs.declared.fault.RunFault.{RunFault}
+use Rattle.tl_append.specs.Appending.{AreFirst, joined, publication_line, published_after}
+
+-- a shelf at rest with the log of these entries, after these publications: each is of a beginning of them, nothing is
+-- staged, whatever a crash leaves is complete for one of the publications, and all that a log of the entries needs is
+-- there
+pub record IsResting (H : Digest) (history : List Prefix) (entries : List Bytes) (kept : Kept) : Type 0 where
+  pub begins : (p : Prefix) → Contains history p → Begins p.entries entries
+  pub rests : kept.staged ≡ []
+  pub safe : IsSafe H history kept
+  pub whole : HasAll H entries kept.held
+
+-- a shelf before and after: what it kept, and what it kept after each call so far
+pub record Visit : Type 0 where
+  pub before : Kept
+  pub after : Kept
+  pub saw : List Kept
+  pub sees : List Kept
+
+-- what became of a shelf
+abbrev pub visit : {S : Type 0} → (S → Kept) → (S → List Kept) → S → S → Visit
+visit kept trace a b = record { before = kept a; after = kept b; saw = trace a; sees = trace b }
+
+-- batches were appended to the log and published, and then these entries put: the shelf rests with all of them, and
+-- whatever a crash leaves at any moment in between is complete for one of the publications
+pub record Grows (key : LogKey) (batches : List (List Bytes)) (rest : List Bytes) (v : Visit) (history : List Prefix) (log : List Bytes) : Type 0 where
+  pub rests : IsResting sha256 (history ++ published_after key log batches) ((log ++ joined batches) ++ rest) v.after
+  pub safe : KeptSafe sha256 (history ++ published_after key log batches) v.saw v.sees
+
+-- this comes of each log with the size and the root that were found, at rest on the shelf, or inputs collide
+abbrev pub OfFound : Found → Kept → (List Prefix → List Bytes → Type 0) → Type 0
+OfFound found before Comes =
+    (history : List Prefix) (log : List Bytes) → IsLogOf sha256 found.head log → IsResting sha256 history log before
+    → FoundCollides sha256 found log ⊎ Comes history log
+
+-- the writer took the lines of the publications, in order
+abbrev pub WroteHeads : LogKey → List (List Bytes) → Passage → List Prefix → List Bytes → Type 0
+WroteHeads key batches o history log = WroteWhole o (flat_map publication_line (published_after key log batches))
+
+-- all lines of the input were appended in batches, under a key of the log's name, and the heads of these were printed
+pub record GoesOnWhole (name : Bytes) (found : Found) (v : Visit) (i o : Passage) : Type 0 where
+  pub key : LogKey
+  pub named : key.name ≡ name
+  pub batches : List (List Bytes)
+  pub last : Uncut
+  pub grows : OfFound found v.before (Grows key batches [] v)
+  pub lines : TellsAll unread last i (all_entries (joined batches))
+  pub heads : OfFound found v.before (WroteHeads key batches o)
+
+-- some were before a fault: the first of them, unless a read failed
+pub record GoesOnPart (name : Bytes) (found : Found) (v : Visit) (i : Passage) : Type 0 where
+  pub key : LogKey
+  pub named : key.name ≡ name
+  pub batches : List (List Bytes)
+  pub rest : List Bytes
+  pub grows : OfFound found v.before (Grows key batches rest v)
+  pub lines : HasFailed i ⊎ AreFirst i (joined batches ++ rest)
+
+-- how a log goes on
+abbrev pub GoesOn : Bytes → Found → Visit → Passage → Passage → Result (Unit {0}) RunFault → Type 0
+GoesOn name found v i o (Ok done) = GoesOnWhole name found v i o
+GoesOn name found v i o (Err fault) = GoesOnPart name found v i

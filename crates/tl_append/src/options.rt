@@ -1,0 +1,29 @@
+//! Options of the command `append`.
+
+ghost use Rattle.std.specs.Prelude.{◌<◌};
+
+use tl_command::LogKey;
+
+/// The options of `append`, and of `build` into a folder.
+#[derive(Drop)]
+pub struct AppendOptions {
+    /// The folder of the log.
+    pub dir: String,
+    /// The name of the log, a key's name.
+    pub origin: String,
+    /// The log's key.
+    pub key: LogKey,
+    /// After how many entries it is published, at least 1; without it at the end alone.
+    pub batch: Option<u64>,
+    /// Whether the folder may have no log yet.
+    pub is_new: bool,
+}
+
+impl AppendOptions {
+    // After how many entries the log is published.
+    pub(crate) fn batch_size(&self) -> u64
+        ensures { 0 < result }
+    {
+        self.batch.unwrap_or(u64::MAX).max(1)
+    }
+}
