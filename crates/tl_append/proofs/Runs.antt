@@ -1,5 +1,5 @@
 -- A run over the log on a shelf.
-use Rattle.std.proofs.Common.{inl, inr, ◌≡◌, ◌⊎◌, ℕ, Bool, List, [], ◌∷◌, ◌++◌, Option, refl, sym, ap, subst, ◌∙◌}
+use Rattle.std.proofs.Common.{inl, inr, ◌⊎◌, ℕ, Bool, List, [], ◌++◌, Option, refl, sym, subst, ◌∙◌}
 use Rattle.std.proofs.lemmas.List.{append-nil}
 use Rattle.std.proofs.lemmas.List.Elements.{All-nil}
 use Rattle.sha2.specs.Sha256.{sha256}
@@ -13,7 +13,7 @@ use Rattle.tl_archive.specs.Shelves.{Kept}
 use Rattle.tl_archive.specs.Complete.{IsSafe}
 use Rattle.tl_ledger.specs.Standing.{Ledger, IsStanding}
 use Rattle.tl_ledger.specs.Keeping.{IsKeeping}
-use Rattle.tl_ledger.specs.Opening.{Found, FoundCollides, IsLogOf, Opens}
+use Rattle.tl_ledger.specs.Opening.{Found, FoundCollides, Opens}
 use Rattle.tl_command.specs.Mirror.{LogKey, demo_log_key}
 use Rattle.tl_append.specs.Appending.{AppendsLines, AppendsSome, joined, published_after}
 use Rattle.tl_append.specs.Running.{GoesOnPart, GoesOnWhole, Grows, IsResting, OfFound, Visit, WroteHeads}

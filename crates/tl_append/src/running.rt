@@ -44,16 +44,7 @@ fn append_under<K: LogSigner, S: Shelf, R: Read, W: Write>(
         return Err(taken());
     }
     let batch = options.batch_size();
-    match append_lines(
-        alloc,
-        key,
-        batch,
-        is_first,
-        shelf,
-        &mut ledger,
-        reader,
-        writer,
-    ) {
+    match append_lines(alloc, key, batch, shelf, &mut ledger, reader, writer) {
         Ok(()) => Ok(()),
         Err(fault) => Err(fault),
     }

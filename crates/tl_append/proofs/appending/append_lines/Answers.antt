@@ -1,11 +1,11 @@
-use Rattle.std.proofs.Common.{Global, ◌≡◌, ◌<◌, inr, [], length, map, vec_items, refl, sym, subst, ◌∙◌, arith, append-nil}
+use Rattle.std.proofs.Common.{Global, ◌≡◌, ◌<◌, inr, [], length, map, vec_items, sym, subst, arith, append-nil}
 use Rattle.std.specs.Vec.{vec_len}
 use Rattle.std.proofs.lemmas.Bool.{eqb-true}
 use Rattle.tl_device.specs.Device.{passage}
 use Rattle.tl_lines.specs.Lines.{unread}
 use Rattle.tl_lines.specs.Reading.{TellsAll, TellsOf, all_entries}
 use Rattle.tl_lines.proofs.CuttingLemmas.{nothing_in}
-use Rattle.tl_append.specs.Appending.{AreFirst, joined}
+use Rattle.tl_append.specs.Appending.{joined}
 use Rattle.tl_append.proofs.Loops.{begun, ended_some, last_batch, none_begun, none_left, not_published, not_read, one_more_batch}
 use Rattle.tl_append.proofs.Reading.{entries_are_short}
 use Rattle.tl_append.proofs.appending.append_lines.Goals as goal
