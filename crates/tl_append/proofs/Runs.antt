@@ -1,24 +1,22 @@
 -- A run over the log on a shelf.
-use Rattle.std.proofs.Common.{inl, inr, ◌⊎◌, ℕ, Bool, List, [], ◌++◌, Option, refl, sym, subst, ◌∙◌}
+use Rattle.std.proofs.Common.{inl, inr, ◌≡◌, ◌⊎◌, ℕ, Bool, true, false, not, None, List, [], ◌++◌, Option, refl, sym, ap, subst}
+use Rattle.std.specs.Option.{is_some}
+use Rattle.std.proofs.KnownBytes.{Keeps-refl}
 use Rattle.std.proofs.lemmas.List.{append-nil}
-use Rattle.std.proofs.lemmas.List.Elements.{All-nil}
 use Rattle.sha2.specs.Sha256.{sha256}
 use Rattle.tl_hash.specs.Bytes.{Bytes}
 use Rattle.tl_note.specs.Key.{Key}
 use Rattle.tl_device.specs.Device.{Passage}
-use Rattle.tl_lines.specs.Lines.{unread}
 use Rattle.tl_lines.proofs.ReadingLemmas.{over}
 use Rattle.tl_publisher.specs.Histories.{Prefix}
 use Rattle.tl_archive.specs.Shelves.{Kept}
-use Rattle.tl_archive.specs.Complete.{IsSafe}
 use Rattle.tl_ledger.specs.Standing.{Ledger, IsStanding}
 use Rattle.tl_ledger.specs.Keeping.{IsKeeping}
 use Rattle.tl_ledger.specs.Opening.{Found, FoundCollides, Opens}
-use Rattle.tl_command.specs.Mirror.{LogKey, demo_log_key}
-use Rattle.tl_append.specs.Appending.{AppendsLines, AppendsSome, joined, published_after}
-use Rattle.tl_append.specs.Running.{GoesOnPart, GoesOnWhole, Grows, IsResting, OfFound, Visit, WroteHeads}
+use Rattle.tl_command.specs.Mirror.{LogKey}
+use Rattle.tl_append.specs.Appending.{AppendsLines, AppendsSome, AreBatches, joined, published_after}
+use Rattle.tl_append.specs.Running.{GoesOnPart, GoesOnWhole, Grows, IsResting, OfFound, Stays, Visit, WroteHeads}
 use Rattle.tl_append.proofs.Turns.{along}
-use Rattle.tl_append.proofs.Reading.{none_told}
 
 -- a shelf before and after
 abbrev pub between : Kept → Kept → List Kept → List Kept → Visit
@@ -31,20 +29,16 @@ resting h l k x keeps = record { begins = keeps.begins; rests = keeps.rests; saf
 keeping : (h : List Prefix) (l : List Bytes) (k : Kept) (x : Ledger) → IsStanding sha256 l x → IsResting sha256 h l k → IsKeeping sha256 h l k x
 keeping h l k x stands rests = record { stands = stands; begins = rests.begins; rests = rests.rests; safe = rests.safe; whole = rests.whole }
 
--- nothing was written
-pub unvisited : (name : Bytes) (found : Found) (a : Kept) (saw : List Kept) (x : Option (List ℕ)) (f : Bool) → GoesOnPart name found (between a a saw saw) (over x x f f)
-unvisited name found a saw x f = record {
-  key = demo_log_key (record { name = name; secret = [] });
-  named = refl;
-  batches = [];
-  rest = [];
-  grows = λ h log is rests. inr (record {
-    rests = subst (λ (t : List Prefix). IsResting sha256 t ((log ++ []) ++ []) a) (sym (append-nil h))
-        (subst (λ (t : List Bytes). IsResting sha256 h t a) (sym (append-nil (log ++ []) ∙ append-nil log)) rests);
-    safe = record { steps = []; trace = sym (append-nil saw); each = All-nil (IsSafe sha256 (h ++ [])) };
-  });
-  lines = inr (unread, [], none_told x f);
-}
+-- there was no log
+pub none_first : {X : Type 0} (head : Option X) (is_first : Bool) → is_some head ≡ not is_first → head ≡ None → is_first ≡ true
+none_first head true same none = refl
+none_first head false same none =
+    let some : is_some head ≡ false = ap is_some none in
+    absurd cc
+
+-- nothing was done
+pub stayed : (a : Kept) (saw : List Kept) (x : Option (List ℕ)) (f : Bool) → Stays (between a a saw saw) (over x x f f)
+stayed a saw x f = record { kept = refl; trace = refl; unread = (Keeps-refl x, refl) }
 
 module _ (key : LogKey) (keys : List Key) (found : Found) (a b : Kept) (saw sees : List Kept) (was is : Ledger) (opens : Opens sha256 keys found was) where
   -- what comes of a log at which the ledger stands
@@ -55,11 +49,12 @@ module _ (key : LogKey) (keys : List Key) (found : Found) (a b : Kept) (saw sees
         | inr collides ↦ inl collides
       ]
 
-  pub whole_run : (i o : Passage) → AppendsLines key (along a b saw sees was is) i o → GoesOnWhole key.name found (between a b saw sees) i o
-  whole_run i o all = record {
-    key = key;
-    named = refl;
+  pub whole_run : (i o : Passage) (size batch : ℕ) (is_first : Bool) → batch ≡ size → (found.head ≡ None → is_first ≡ true)
+      → AppendsLines key batch is_first (along a b saw sees was is) i o → GoesOnWhole key size found (between a b saw sees) i o
+  whole_run i o size batch is_first same first all = record {
     batches = all.batches;
+    sized = subst (λ (n : ℕ). AreBatches n all.batches) same all.sized;
+    first = λ none. all.first (first none);
     last = all.last;
     grows = of_found (Grows key all.batches [] (between a b saw sees)) (λ h log keeps. record {
       rests = subst (λ (t : List Bytes). IsResting sha256 (h ++ published_after key log all.batches) t b) (sym (append-nil (log ++ joined all.batches))) (resting _ (log ++ joined all.batches) b is (all.appends.kept h log keeps));
@@ -69,10 +64,8 @@ module _ (key : LogKey) (keys : List Key) (found : Found) (a b : Kept) (saw sees
     heads = of_found (WroteHeads key all.batches o) (λ h log keeps. all.heads.lines h log keeps);
   }
 
-  pub part_run : (i : Passage) → AppendsSome key (along a b saw sees was is) i → GoesOnPart key.name found (between a b saw sees) i
+  pub part_run : (i : Passage) → AppendsSome key (along a b saw sees was is) i → GoesOnPart key found (between a b saw sees) i
   part_run i some = record {
-    key = key;
-    named = refl;
     batches = some.batches;
     rest = some.rest;
     grows = of_found (Grows key some.batches some.rest (between a b saw sees)) (λ h log keeps. record {

@@ -1,5 +1,5 @@
 -- Entries that are appended to a log in batches, each of them published.
-use Rattle.std.specs.Prelude.{ℕ, ◌⊎◌, List, [], ◌∷◌, ◌++◌, length}
+use Rattle.std.specs.Prelude.{◌≡◌, ℕ, ◌<◌, ◌≤◌, ◌⊎◌, ⊤, Bool, true, List, [], ◌∷◌, ◌++◌, length}
 use Rattle.std.specs.List.{flat_map}
 use Rattle.sha2.specs.Sha256.{sha256}
 use Rattle.tl_hash.specs.Bytes.{Bytes}
@@ -67,9 +67,18 @@ pub record PrintsHeads (key : LogKey) (batches : List (List Bytes)) (c : Course)
   pub lines : (history : List Prefix) (log : List Bytes) → IsKeeping sha256 history log c.before c.was
       → WroteWhole o (flat_map publication_line (published_after key log batches))
 
--- all lines that were to come of an input were appended in batches, and the heads of these were printed
-pub record AppendsLines (key : LogKey) (c : Course) (i o : Passage) : Type 0 where
+-- batches of so many entries, of which the last one may have fewer
+abbrev pub AreBatches : ℕ → List (List Bytes) → Type 0
+AreBatches size [] = ⊤
+AreBatches size (last ∷ []) = length last ≤ size
+AreBatches size (batch ∷ next ∷ more) = (length batch ≡ size) × AreBatches size (next ∷ more)
+
+-- all lines that were to come of an input were appended in batches, one at least where it is asked for, and the heads
+-- of these were printed
+pub record AppendsLines (key : LogKey) (size : ℕ) (is_first : Bool) (c : Course) (i o : Passage) : Type 0 where
   pub batches : List (List Bytes)
+  pub sized : AreBatches size batches
+  pub first : is_first ≡ true → 0 < length batches
   pub last : Uncut
   pub appends : Appends key batches c
   pub lines : TellsAll unread last i (all_entries (joined batches))

@@ -1,18 +1,22 @@
 -- A run of the command `append`: it goes on from the log on a shelf.
-use Rattle.std.specs.Prelude.{◌≡◌, ◌⊎◌, List, [], ◌++◌, Contains, Result, Ok, Err}
+use Rattle.std.specs.Prelude.{◌≡◌, ◌<◌, ◌⊎◌, ℕ, ◌-◌, ◌^◌, max, length, Option, Some, None, List, [], ◌++◌, Contains, Result, Ok, Err, string_bytes}
 use Rattle.std.specs.List.{flat_map}
 use Rattle.sha2.specs.Sha256.{sha256}
 use Rattle.tl_hash.specs.Bytes.{Bytes, Digest}
-use Rattle.tl_device.specs.Device.{Passage, HasFailed, WroteWhole}
+use Rattle.tl_device.specs.Device.{Passage, HasFailed, IsUnread, WroteWhole}
+use Rattle.tl_key.specs.NoteKey.{SeedKey, note_kind}
 use Rattle.tl_lines.specs.Lines.{Uncut, unread}
 use Rattle.tl_lines.specs.Reading.{TellsAll, all_entries}
 use Rattle.tl_publisher.specs.Histories.{Prefix, Begins}
 use Rattle.tl_archive.specs.Shelves.{Kept}
 use Rattle.tl_archive.specs.Complete.{HasAll, IsSafe, KeptSafe}
 use Rattle.tl_ledger.specs.Opening.{Found, FoundCollides, IsLogOf}
-use Rattle.tl_command.specs.Mirror.{LogKey}
+use Rattle.tl_command.specs.Mirror.{LogKey, demo_log_key, seed_log_key}
+use Rattle.tl_command.specs.Keys.{IsPrivateFile}
+use Rattle.tl_command.specs.declared.keys.LogKey.{LogKey as GivenKey}
+use Rattle.tl_command.specs.declared.keys.LogKey.TheVariants as given
 use Rattle.tl_command.specs.declared.fault.RunFault.{RunFault}
-use Rattle.tl_append.specs.Appending.{AreFirst, joined, publication_line, published_after}
+use Rattle.tl_append.specs.Appending.{AreBatches, AreFirst, joined, publication_line, published_after}
 
 -- a shelf at rest with the log of these entries, after these publications: each is of a beginning of them, nothing is
 -- staged, whatever a crash leaves is complete for one of the publications, and all that a log of the entries needs is
@@ -50,26 +54,49 @@ OfFound found before Comes =
 abbrev pub WroteHeads : LogKey → List (List Bytes) → Passage → List Prefix → List Bytes → Type 0
 WroteHeads key batches o history log = WroteWhole o (flat_map publication_line (published_after key log batches))
 
--- all lines of the input were appended in batches, under a key of the log's name, and the heads of these were printed
-pub record GoesOnWhole (name : Bytes) (found : Found) (v : Visit) (i o : Passage) : Type 0 where
-  pub key : LogKey
-  pub named : key.name ≡ name
+-- the key of a log of this name that its options tell: the demonstration key of the name and a secret, or the private
+-- key of the name that a file has
+abbrev pub IsLogKey : GivenKey → Bytes → LogKey → Type 0
+IsLogKey (given.Secret secret) name key = key ≡ demo_log_key (record { name = name; secret = string_bytes secret })
+IsLogKey (given.File path) name key =
+    (bytes : Bytes) × (k : SeedKey) × IsPrivateFile note_kind bytes k × (k.name ≡ name) × (key ≡ seed_log_key k)
+
+-- the number of entries of a batch: as many as the options tell, one at least
+abbrev pub batch_size : Option ℕ → ℕ
+batch_size None = 2 ^ 64 - 1
+batch_size (Some count) = max count 1
+
+-- all lines of the input were appended in batches, one at least where there was no log, and the heads of these were
+-- printed
+pub record GoesOnWhole (key : LogKey) (size : ℕ) (found : Found) (v : Visit) (i o : Passage) : Type 0 where
   pub batches : List (List Bytes)
+  pub sized : AreBatches size batches
+  pub first : found.head ≡ None → 0 < length batches
   pub last : Uncut
   pub grows : OfFound found v.before (Grows key batches [] v)
   pub lines : TellsAll unread last i (all_entries (joined batches))
   pub heads : OfFound found v.before (WroteHeads key batches o)
 
 -- some were before a fault: the first of them, unless a read failed
-pub record GoesOnPart (name : Bytes) (found : Found) (v : Visit) (i : Passage) : Type 0 where
-  pub key : LogKey
-  pub named : key.name ≡ name
+pub record GoesOnPart (key : LogKey) (found : Found) (v : Visit) (i : Passage) : Type 0 where
   pub batches : List (List Bytes)
   pub rest : List Bytes
   pub grows : OfFound found v.before (Grows key batches rest v)
   pub lines : HasFailed i ⊎ AreFirst i (joined batches ++ rest)
 
--- how a log goes on
-abbrev pub GoesOn : Bytes → Found → Visit → Passage → Passage → Result (Unit {0}) RunFault → Type 0
-GoesOn name found v i o (Ok done) = GoesOnWhole name found v i o
-GoesOn name found v i o (Err fault) = GoesOnPart name found v i
+-- nothing was written, and nothing read of the input
+pub record Stays (v : Visit) (i : Passage) : Type 0 where
+  pub kept : v.after ≡ v.before
+  pub trace : v.sees ≡ v.saw
+  pub unread : IsUnread i
+
+-- how a log goes on under its key, in batches of this size
+abbrev pub GoesOnUnder : LogKey → ℕ → Found → Visit → Passage → Passage → Result (Unit {0}) RunFault → Type 0
+GoesOnUnder key size found v i o (Ok done) = GoesOnWhole key size found v i o
+GoesOnUnder key size found v i o (Err fault) = Stays v i ⊎ GoesOnPart key found v i
+
+-- how a log of this name goes on, under the key that is given, in batches of this size
+abbrev pub GoesOn : GivenKey → Bytes → ℕ → Found → Visit → Passage → Passage → Result (Unit {0}) RunFault → Type 0
+GoesOn key name size found v i o (Ok done) = (own : LogKey) × IsLogKey key name own × GoesOnWhole own size found v i o
+GoesOn key name size found v i o (Err fault) =
+    Stays v i ⊎ ((own : LogKey) × IsLogKey key name own × GoesOnPart own found v i)

@@ -104,7 +104,7 @@ pub fn append_lines<K: LogSigner, S: Shelf, R: Read, W: Write>(
 ) -> Result<(), RunFault>
     requires origin { IsKeyName (K.log_key key.now).name }
     requires batch { 0 < batch }
-    ensures all { OnOk result (AppendsLines (K.log_key key.now)
+    ensures all { OnOk result (AppendsLines (K.log_key key.now) batch is_first
         (course S.kept S.trace shelf.old shelf.new ledger.old ledger.new)
         (passage R.remaining reader.old reader.new) (passage W.contents writer.old writer.new)) }
     ensures some { OnErr result (AppendsSome (K.log_key key.now)

@@ -1,6 +1,6 @@
 //! Options of the command `append`.
 
-ghost use Rattle.std.specs.Prelude.{◌<◌};
+ghost use Rattle.std.specs.Prelude.{◌≡◌, ◌<◌};
 
 use tl_command::LogKey;
 
@@ -20,9 +20,12 @@ pub struct AppendOptions {
 }
 
 impl AppendOptions {
+    ghost use Rattle.tl_append.specs.Running.{batch_size};
+
     // After how many entries the log is published.
     pub(crate) fn batch_size(&self) -> u64
-        ensures { 0 < result }
+        ensures size { result ≡ batch_size self.now.batch }
+        ensures some { 0 < result }
     {
         self.batch.unwrap_or(u64::MAX).max(1)
     }

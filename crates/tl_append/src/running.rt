@@ -1,10 +1,11 @@
 //! A run of the command `append`.
 
-ghost use Rattle.std.specs.Prelude.{◌≡◌, string_bytes};
+ghost use Rattle.std.specs.Prelude.{◌≡◌, ◌⊎◌, true, string_bytes, OnErr, OnOk, None};
 ghost use Rattle.tl_device.specs.Device.{passage};
 ghost use Rattle.tl_note.specs.Key.{IsKeyName};
 ghost use Rattle.tl_command.specs.Origins.{RefusesOrigin};
-ghost use Rattle.tl_append.specs.Running.{GoesOn, visit};
+ghost use Rattle.tl_command.specs.Mirror.{demo_log_key, seed_log_key};
+ghost use Rattle.tl_append.specs.Running.{GoesOn, GoesOnUnder, Stays, batch_size, visit};
 
 use crate::appending::append_lines;
 use crate::faults::{taken, unopened};
@@ -31,9 +32,13 @@ fn append_under<K: LogSigner, S: Shelf, R: Read, W: Write>(
     writer: &mut Counted<W>,
 ) -> Result<(), RunFault>
     requires { IsKeyName (K.log_key key.now).name }
-    ensures { GoesOn (K.log_key key.now).name found.new
+    ensures goes_on { GoesOnUnder (K.log_key key.now) (batch_size options.now.batch) found.new
         (visit S.kept S.trace shelf.old shelf.new) (passage R.remaining reader.old reader.new)
         (passage W.contents writer.old writer.new) result }
+    ensures fresh { options.now.is_new ≡ true → OnOk result (found.new.head ≡ None) }
+    ensures left { options.now.is_new ≡ true → OnErr result ((found.new.head ≡ None)
+        ⊎ Stays (visit S.kept S.trace shelf.old shelf.new)
+        (passage R.remaining reader.old reader.new)) }
 {
     let mut ledger = match Ledger::open(alloc, shelf, verifiers, found) {
         Ok(ledger) => ledger,
@@ -61,9 +66,16 @@ fn append_by_secret<S: Shelf, R: Read, W: Write>(
     writer: &mut Counted<W>,
 ) -> Result<(), RunFault>
     requires { IsKeyName (string_bytes options.now.origin) }
-    ensures { GoesOn (string_bytes options.now.origin) found.new
+    ensures goes_on { GoesOnUnder (demo_log_key (record {
+      name = string_bytes options.now.origin;
+      secret = secret.now;
+    })) (batch_size options.now.batch) found.new
         (visit S.kept S.trace shelf.old shelf.new) (passage R.remaining reader.old reader.new)
         (passage W.contents writer.old writer.new) result }
+    ensures fresh { options.now.is_new ≡ true → OnOk result (found.new.head ≡ None) }
+    ensures left { options.now.is_new ≡ true → OnErr result ((found.new.head ≡ None)
+        ⊎ Stays (visit S.kept S.trace shelf.old shelf.new)
+        (passage R.remaining reader.old reader.new)) }
 {
     let origin = options.origin.as_str();
     let key = HmacLogSigner::new(origin, secret.as_bytes());
@@ -103,9 +115,13 @@ fn append_by_key<S: Shelf, R: Read, W: Write>(
 ) -> Result<(), RunFault>
     requires named { key.now.name ≡ string_bytes options.now.origin }
     requires name { IsKeyName (string_bytes options.now.origin) }
-    ensures { GoesOn (string_bytes options.now.origin) found.new
+    ensures goes_on { GoesOnUnder (seed_log_key key.now) (batch_size options.now.batch) found.new
         (visit S.kept S.trace shelf.old shelf.new) (passage R.remaining reader.old reader.new)
         (passage W.contents writer.old writer.new) result }
+    ensures fresh { options.now.is_new ≡ true → OnOk result (found.new.head ≡ None) }
+    ensures left { options.now.is_new ≡ true → OnErr result ((found.new.head ≡ None)
+        ⊎ Stays (visit S.kept S.trace shelf.old shelf.new)
+        (passage R.remaining reader.old reader.new)) }
 {
     let verifier = match key.verifier(alloc) {
         Ok(verifier) => verifier,
@@ -145,9 +161,14 @@ pub fn run_append<H: Files, S: Shelf, R: Read, W: Write>(
 ) -> Result<(), RunFault>
     ensures refuses { RefusesOrigin
         (string_bytes options.now.origin) (passage R.remaining reader.old reader.new) result }
-    ensures goes_on { GoesOn (string_bytes options.now.origin) found.new
+    ensures goes_on { GoesOn options.now.key (string_bytes options.now.origin)
+        (batch_size options.now.batch) found.new
         (visit S.kept S.trace shelf.old shelf.new) (passage R.remaining reader.old reader.new)
         (passage W.contents writer.old writer.new) result }
+    ensures fresh { options.now.is_new ≡ true → OnOk result (found.new.head ≡ None) }
+    ensures left { options.now.is_new ≡ true → OnErr result ((found.new.head ≡ None)
+        ⊎ Stays (visit S.kept S.trace shelf.old shelf.new)
+        (passage R.remaining reader.old reader.new)) }
 {
     let origin = options.origin.as_str();
     if !is_key_name(origin) {
