@@ -1,6 +1,5 @@
 -- A run over the log on a shelf.
-use Rattle.std.proofs.Common.{inl, inr, ◌≡◌, ◌⊎◌, ℕ, Bool, true, false, not, None, List, [], ◌++◌, Option, refl, sym, ap, subst}
-use Rattle.std.specs.Option.{is_some}
+use Rattle.std.proofs.Common.{inl, inr, ◌≡◌, ◌⊎◌, ℕ, Bool, true, List, [], ◌++◌, Option, refl, sym, subst}
 use Rattle.std.proofs.KnownBytes.{Keeps-refl}
 use Rattle.std.proofs.lemmas.List.{append-nil}
 use Rattle.sha2.specs.Sha256.{sha256}
@@ -29,13 +28,6 @@ resting h l k x keeps = record { begins = keeps.begins; rests = keeps.rests; saf
 keeping : (h : List Prefix) (l : List Bytes) (k : Kept) (x : Ledger) → IsStanding sha256 l x → IsResting sha256 h l k → IsKeeping sha256 h l k x
 keeping h l k x stands rests = record { stands = stands; begins = rests.begins; rests = rests.rests; safe = rests.safe; whole = rests.whole }
 
--- there was no log
-pub none_first : {X : Type 0} (head : Option X) (is_first : Bool) → is_some head ≡ not is_first → head ≡ None → is_first ≡ true
-none_first head true same none = refl
-none_first head false same none =
-    let some : is_some head ≡ false = ap is_some none in
-    absurd cc
-
 -- nothing was done
 pub stayed : (a : Kept) (saw : List Kept) (x : Option (List ℕ)) (f : Bool) → Stays (between a a saw saw) (over x x f f)
 stayed a saw x f = record { kept = refl; trace = refl; unread = (Keeps-refl x, refl) }
@@ -49,12 +41,12 @@ module _ (key : LogKey) (keys : List Key) (found : Found) (a b : Kept) (saw sees
         | inr collides ↦ inl collides
       ]
 
-  pub whole_run : (i o : Passage) (size batch : ℕ) (is_first : Bool) → batch ≡ size → (found.head ≡ None → is_first ≡ true)
-      → AppendsLines key batch is_first (along a b saw sees was is) i o → GoesOnWhole key size found (between a b saw sees) i o
-  whole_run i o size batch is_first same first all = record {
+  pub whole_run : (i o : Passage) (size batch : ℕ) → batch ≡ size
+      → AppendsLines key batch true (along a b saw sees was is) i o → GoesOnWhole key size found (between a b saw sees) i o
+  whole_run i o size batch same all = record {
     batches = all.batches;
     sized = subst (λ (n : ℕ). AreBatches n all.batches) same all.sized;
-    first = λ none. all.first (first none);
+    some = all.first refl;
     last = all.last;
     grows = of_found (Grows key all.batches [] (between a b saw sees)) (λ h log keeps. record {
       rests = subst (λ (t : List Bytes). IsResting sha256 (h ++ published_after key log all.batches) t b) (sym (append-nil (log ++ joined all.batches))) (resting _ (log ++ joined all.batches) b is (all.appends.kept h log keeps));

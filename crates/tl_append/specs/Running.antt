@@ -66,12 +66,11 @@ abbrev pub batch_size : Option ℕ → ℕ
 batch_size None = 2 ^ 64 - 1
 batch_size (Some count) = max count 1
 
--- all lines of the input were appended in batches, one at least where there was no log, and the heads of these were
--- printed
+-- all lines of the input were appended in batches, one at least, and the heads of these were printed
 pub record GoesOnWhole (key : LogKey) (size : ℕ) (found : Found) (v : Visit) (i o : Passage) : Type 0 where
   pub batches : List (List Bytes)
   pub sized : AreBatches size batches
-  pub first : found.head ≡ None → 0 < length batches
+  pub some : 0 < length batches
   pub last : Uncut
   pub grows : OfFound found v.before (Grows key batches [] v)
   pub lines : TellsAll unread last i (all_entries (joined batches))

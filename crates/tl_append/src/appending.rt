@@ -90,13 +90,14 @@ fn publish<K: LogSigner, S: Shelf, W: Write>(
 }
 
 /// Appends the lines of the input to the log on the shelf, which is the ledger's, and publishes it after each `batch`
-/// lines, at least 1, and at the end, once at least: each time under a note of its checkpoint by the key, whose name is
-/// the log's. Its size and root are then printed. It keeps one batch and the ledger, whatever the log's size.
-/// `Operator`: the log would have more than 2^32 - 1 entries.
+/// lines, at least 1, and at the end, where lines were put or `is_first`: each time under a note of its checkpoint by
+/// the key, whose name is the log's. Its size and root are then printed. It keeps one batch and the ledger, whatever
+/// the log's size. `Operator`: the log would have more than 2^32 - 1 entries.
 pub fn append_lines<K: LogSigner, S: Shelf, R: Read, W: Write>(
     alloc: Global,
     key: &K,
     batch: u64,
+    is_first: bool,
     shelf: &mut S,
     ledger: &mut Ledger<Global>,
     reader: &mut Counted<R>,
@@ -115,7 +116,7 @@ pub fn append_lines<K: LogSigner, S: Shelf, R: Read, W: Write>(
         Ok(lines) => lines,
         Err(_) => return Err(RunFault::OutOfMemory),
     };
-    let mut is_due = true;
+    let mut is_due = is_first;
     for _turn in 0..u64::MAX {
         let entries = match lines.take_most(reader, batch) {
             Ok(entries) => entries,

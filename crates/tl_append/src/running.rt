@@ -49,7 +49,8 @@ fn append_under<K: LogSigner, S: Shelf, R: Read, W: Write>(
         return Err(taken());
     }
     let batch = options.batch_size();
-    match append_lines(alloc, key, batch, shelf, &mut ledger, reader, writer) {
+    // (a run of no lines publishes what is there once more, and tells it)
+    match append_lines(alloc, key, batch, true, shelf, &mut ledger, reader, writer) {
         Ok(()) => Ok(()),
         Err(fault) => Err(fault),
     }

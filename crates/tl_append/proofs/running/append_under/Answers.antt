@@ -1,7 +1,6 @@
-use Rattle.std.proofs.Common.{inl, inr, ap, ◌∙◌}
-use Rattle.tl_ledger.specs.Opening.{Found}
+use Rattle.std.proofs.Common.{inl, inr}
 use Rattle.tl_device.specs.Device.{passage}
-use Rattle.tl_append.proofs.Runs.{none_first, part_run, stayed, whole_run}
+use Rattle.tl_append.proofs.Runs.{part_run, stayed, whole_run}
 use Rattle.tl_append.proofs.running.append_under.Goals as goal
 
 pub returns-in-Err-clause-goes_on : goal.returns-in-Err-clause-goes_on
@@ -13,7 +12,7 @@ returns-then-not-is_first-clause-goes_on g c = inl (stayed (g.S.Shelf.kept c.arg
 pub returns-in-Ok-append_lines-clause-goes_on : goal.returns-in-Ok-append_lines-clause-goes_on
 returns-in-Ok-append_lines-clause-goes_on g c =
     whole_run (g.K.LogSigner.log_key c.args.key.now) _ c.open.new.found (g.S.Shelf.kept c.args.shelf.now) (g.S.Shelf.kept c.append_lines.new.shelf) (g.S.Shelf.trace c.args.shelf.now) (g.S.Shelf.trace c.append_lines.new.shelf) c.in-Ok.ledger c.append_lines.new.ledger c.in-Ok.ensures.opens
-    (passage g.R.Read.remaining c.args.reader.now c.append_lines.new.reader) (passage g.W.Write.contents c.args.writer.now c.append_lines.new.writer) _ c.batch_size-batch.result c.is_none-is_first.result c.batch_size-batch.ensures.size (λ none. none_first _ _ c.is_none-is_first.ensures (ap (λ (f : Found). f.head) c.found.view_is ∙ none)) c.in-Ok-append_lines.ensures.all
+    (passage g.R.Read.remaining c.args.reader.now c.append_lines.new.reader) (passage g.W.Write.contents c.args.writer.now c.append_lines.new.writer) _ c.batch_size-batch.result c.batch_size-batch.ensures.size c.in-Ok-append_lines.ensures.all
 
 pub returns-clause-goes_on : goal.returns-clause-goes_on
 returns-clause-goes_on g c =
