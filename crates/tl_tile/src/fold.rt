@@ -102,8 +102,7 @@ pub(crate) fn fill<T: TreeHash, A: Allocator + Copy>(
     requires whole { size % 256 ^ lowest ≡ 0 }
     requires small { size + 256 ^ lowest < 2 ^ 32 }
     requires counted { length kept.now ≡ count_below size 8 }
-    ensures counted { IfOk result
-        (λ filled. filled.left + 1 ≡ count_below (size + 256 ^ lowest) 8) }
+    ensures counted { IfOk result (λ f. f.left + 1 ≡ count_below (size + 256 ^ lowest) 8) }
     ensures within { IfOk result (λ filled. filled.left ≤ length kept.now) }
     ensures kept { (entries added : List Bytes) → IsPlaceAfter T.digest_of size lowest kept.now
         root entries added → IfOk result (λ filled. take filled.left kept.now ++ filled.hash ∷ []

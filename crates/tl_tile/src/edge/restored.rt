@@ -3,7 +3,7 @@
 ghost use Rattle.std.specs.Prelude.{◌≡◌, ◌<◌, ◌≤◌, ◌^◌, ◌⊎◌, ◌++◌, List, length, All, IfOk, IfErr, OnOk};
 ghost use Rattle.tl_hash.specs.Bytes.{Bytes};
 ghost use Rattle.tl_hash.specs.Tree.{tree_hash};
-ghost use Rattle.tl_tile.specs.EdgeNumbers.{level_numbers, numbers_below};
+ghost use Rattle.tl_tile.specs.EdgeNumbers.{edge_reading, level_numbers, numbers_below};
 ghost use Rattle.tl_tile.specs.Fetched.{tiles_of};
 ghost use Rattle.tl_tile.specs.Fetching.{IsNeededFor};
 ghost use Rattle.tl_tile.specs.Folds.{TilesCollide};
@@ -76,12 +76,8 @@ impl<T: TreeHash, A: Allocator + Copy> Edge<T, A> {
         ensures needed { All (λ f. IsNeededFor size (numbers_below size 8) f.0) fetched.new }
         ensures order { AreInOrder T.digest_of size root fetched.new }
         ensures faults { IfErr result (λ fault. (fault ≡ ReadFault.OutOfMemory)
-            ⊎ GivesNumbersFault T.digest_of (S.may_lack source) (record {
-              size = size;
-              root = root;
-              indexes = numbers_below size 8;
-              fetched = fetched.new;
-            }) fault) }
+            ⊎ GivesNumbersFault T.digest_of (S.may_lack source)
+            (edge_reading size root fetched.new) fault) }
     {
         fetched.clear();
         let numbers = edge_numbers(alloc, size)?;
