@@ -37,20 +37,20 @@ are_batches size (batch ∷ []) full = omega (arith, full.0)
 are_batches size (batch ∷ next ∷ more) full = (full.0, are_batches size (next ∷ more) full.1)
 
 -- batches that were appended so far
-pub record IsSoFar (key : LogKey) (size : ℕ) (is_first is_due : Bool) (c : Course) (i o : Passage) (now : Uncut) : Type 0 where
+pub record IsSoFar (key : LogKey) (size : ℕ) (is_due : Bool) (c : Course) (i o : Passage) (now : Uncut) : Type 0 where
   pub batches : List (List Bytes)
   pub full : AreFull size batches
-  pub first : is_due ≡ false → is_first ≡ true → 0 < length batches
+  pub some : is_due ≡ false → 0 < length batches
   pub appends : Appends key batches c
   pub lines : TellsOf unread now i (all_entries (joined batches))
   pub heads : PrintsHeads key batches c o
 
-pub begun : (key : LogKey) (size : ℕ) (is_first : Bool) (a : Kept) (saw : List Kept) (was : Ledger) (x y : Option (List ℕ)) (f g : Bool) (now : Uncut) → now ≡ unread
-    → IsSoFar key size is_first is_first (along a a saw saw was was) (over x x f f) (over y y g g) now
-begun key size is_first a saw was x y f g now same = record {
+pub begun : (key : LogKey) (size : ℕ) (a : Kept) (saw : List Kept) (was : Ledger) (x y : Option (List ℕ)) (f g : Bool) (now : Uncut) → now ≡ unread
+    → IsSoFar key size true (along a a saw saw was was) (over x x f f) (over y y g g) now
+begun key size a saw was x y f g now same = record {
   batches = [];
   full = tt;
-  first = λ not is. absurd cc;
+  some = λ not. absurd cc;
   appends = none_appended key a saw was;
   lines = subst (λ (u : Uncut). TellsOf unread u (over x x f f) (all_entries [])) (sym same) (none_told x f);
   heads = record { lines = λ h log keeps. record { appended = Appends-nil y; steady = refl } };
@@ -65,8 +65,8 @@ none_begun key a saw was x f = record {
   lines = inr (unread, [], none_told x f);
 }
 
-module _ (key : LogKey) (size : ℕ) (is_first is_due : Bool) (a m : Kept) (saw mid : List Kept) (was now : Ledger) (x y z r s t : Option (List ℕ)) (f g h i j k : Bool) (u v : Uncut)
-    (so_far : IsSoFar key size is_first is_due (along a m saw mid was now) (over x y f g) (over r s i j) u) where
+module _ (key : LogKey) (size : ℕ) (is_due : Bool) (a m : Kept) (saw mid : List Kept) (was now : Ledger) (x y z r s t : Option (List ℕ)) (f g h i j k : Bool) (u v : Uncut)
+    (so_far : IsSoFar key size is_due (along a m saw mid was now) (over x y f g) (over r s i j) u) where
   -- no lines were read, or too few turns there were
   pub ended_some : HasFailed (over x z f h) ⊎ AreFirst (over x z f h) (joined so_far.batches) → AppendsSome key (along a m saw mid was now) (over x z f h)
   ended_some lines = record {
@@ -80,11 +80,11 @@ module _ (key : LogKey) (size : ℕ) (is_first is_due : Bool) (a m : Kept) (saw 
   not_read A count fault failed = ended_some (first_failed u v x y z f g h (joined so_far.batches) so_far.lines A count fault failed)
 
   -- there were no more lines
-  pub none_left : is_due ≡ false → TellsAll u v (over y z g h) [] → AppendsLines key size is_first (along a m saw mid was now) (over x z f h) (over r s i j)
+  pub none_left : is_due ≡ false → TellsAll u v (over y z g h) [] → AppendsLines key size (along a m saw mid was now) (over x z f h) (over r s i j)
   none_left not all = record {
     batches = so_far.batches;
     sized = are_batches size so_far.batches so_far.full;
-    first = so_far.first not;
+    some = so_far.some not;
     last = v;
     appends = so_far.appends;
     lines = subst (λ (es : List Bytes). TellsAll unread v (over x z f h) (all_entries es)) (append-nil (joined so_far.batches)) (all_on u v x y z f g h (joined so_far.batches) so_far.lines [] all);
@@ -103,22 +103,22 @@ module _ (key : LogKey) (size : ℕ) (is_first is_due : Bool) (a m : Kept) (saw 
 
     -- a batch was published
     module _ (one : Publishes key batch (along m b mid sees now is) (over s t j k)) where
-      pub one_more_batch : (due : Bool) → length batch ≡ size → IsSoFar key size is_first due (along a b saw sees was is) (over x z f h) (over r t i k) v
+      pub one_more_batch : (due : Bool) → length batch ≡ size → IsSoFar key size due (along a b saw sees was is) (over x z f h) (over r t i k) v
       one_more_batch due whole = record {
         batches = Batches;
         full = full_push size so_far.batches batch so_far.full whole;
-        first = λ not asked. some_pushed;
+        some = λ not. some_pushed;
         appends = appends_on key so_far.batches (batch ∷ []) a m b saw mid sees was now is so_far.appends one.appends;
         lines = subst (λ (es : List Bytes). TellsOf unread v (over x z f h) (all_entries es)) same_lines (lines_on u v x y z f g h (joined so_far.batches) so_far.lines batch told);
         heads = heads_on key so_far.batches (batch ∷ []) a m b saw mid sees was now is so_far.appends r s t i j k so_far.heads one.heads;
       }
 
       -- it was the last one
-      pub last_batch : length batch ≤ size → TellsAll u v (over y z g h) (all_entries batch) → AppendsLines key size is_first (along a b saw sees was is) (over x z f h) (over r t i k)
+      pub last_batch : length batch ≤ size → TellsAll u v (over y z g h) (all_entries batch) → AppendsLines key size (along a b saw sees was is) (over x z f h) (over r t i k)
       last_batch few all = record {
         batches = Batches;
         sized = full_then size so_far.batches batch so_far.full few;
-        first = λ asked. some_pushed;
+        some = some_pushed;
         last = v;
         appends = appends_on key so_far.batches (batch ∷ []) a m b saw mid sees was now is so_far.appends one.appends;
         lines = subst (λ (es : List Bytes). TellsAll unread v (over x z f h) (all_entries es)) same_lines (all_on u v x y z f g h (joined so_far.batches) so_far.lines batch all);

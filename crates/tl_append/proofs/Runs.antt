@@ -1,5 +1,5 @@
 -- A run over the log on a shelf.
-use Rattle.std.proofs.Common.{inl, inr, ◌≡◌, ◌⊎◌, ℕ, Bool, true, List, [], ◌++◌, Option, refl, sym, subst}
+use Rattle.std.proofs.Common.{inl, inr, ◌≡◌, ◌⊎◌, ℕ, Bool, List, [], ◌++◌, Option, refl, sym, subst}
 use Rattle.std.proofs.KnownBytes.{Keeps-refl}
 use Rattle.std.proofs.lemmas.List.{append-nil}
 use Rattle.sha2.specs.Sha256.{sha256}
@@ -42,11 +42,11 @@ module _ (key : LogKey) (keys : List Key) (found : Found) (a b : Kept) (saw sees
       ]
 
   pub whole_run : (i o : Passage) (size batch : ℕ) → batch ≡ size
-      → AppendsLines key batch true (along a b saw sees was is) i o → GoesOnWhole key size found (between a b saw sees) i o
+      → AppendsLines key batch (along a b saw sees was is) i o → GoesOnWhole key size found (between a b saw sees) i o
   whole_run i o size batch same all = record {
     batches = all.batches;
     sized = subst (λ (n : ℕ). AreBatches n all.batches) same all.sized;
-    some = all.first refl;
+    some = all.some;
     last = all.last;
     grows = of_found (Grows key all.batches [] (between a b saw sees)) (λ h log keeps. record {
       rests = subst (λ (t : List Bytes). IsResting sha256 (h ++ published_after key log all.batches) t b) (sym (append-nil (log ++ joined all.batches))) (resting _ (log ++ joined all.batches) b is (all.appends.kept h log keeps));

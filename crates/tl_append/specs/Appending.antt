@@ -1,5 +1,5 @@
 -- Entries that are appended to a log in batches, each of them published.
-use Rattle.std.specs.Prelude.{◌≡◌, ℕ, ◌<◌, ◌≤◌, ◌⊎◌, ⊤, Bool, true, List, [], ◌∷◌, ◌++◌, length}
+use Rattle.std.specs.Prelude.{◌≡◌, ℕ, ◌<◌, ◌≤◌, ◌⊎◌, ⊤, List, [], ◌∷◌, ◌++◌, length}
 use Rattle.std.specs.List.{flat_map}
 use Rattle.sha2.specs.Sha256.{sha256}
 use Rattle.tl_hash.specs.Bytes.{Bytes}
@@ -73,12 +73,11 @@ AreBatches size [] = ⊤
 AreBatches size (last ∷ []) = length last ≤ size
 AreBatches size (batch ∷ next ∷ more) = (length batch ≡ size) × AreBatches size (next ∷ more)
 
--- all lines that were to come of an input were appended in batches, one at least where it is asked for, and the heads
--- of these were printed
-pub record AppendsLines (key : LogKey) (size : ℕ) (is_first : Bool) (c : Course) (i o : Passage) : Type 0 where
+-- all lines that were to come of an input were appended in batches, one at least, and the heads of these were printed
+pub record AppendsLines (key : LogKey) (size : ℕ) (c : Course) (i o : Passage) : Type 0 where
   pub batches : List (List Bytes)
   pub sized : AreBatches size batches
-  pub first : is_first ≡ true → 0 < length batches
+  pub some : 0 < length batches
   pub last : Uncut
   pub appends : Appends key batches c
   pub lines : TellsAll unread last i (all_entries (joined batches))

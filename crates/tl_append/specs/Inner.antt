@@ -1,2 +1,7 @@
 -- Private words: what contracts of private functions and proofs need.
-pub mod Turns
+pub
+    mod Faults
+pub
+    mod Turns
+pub
+    mod Under

@@ -1,5 +1,4 @@
 -- The definitions of the command `append`.
 pub mod Appending
-pub mod Faults
 pub mod Running
 pub mod Inner

@@ -89,11 +89,6 @@ pub record Stays (v : Visit) (i : Passage) : Type 0 where
   pub trace : v.sees ≡ v.saw
   pub unread : IsUnread i
 
--- how a log goes on under its key, in batches of this size
-abbrev pub GoesOnUnder : LogKey → ℕ → Found → Visit → Passage → Passage → Result (Unit {0}) RunFault → Type 0
-GoesOnUnder key size found v i o (Ok done) = GoesOnWhole key size found v i o
-GoesOnUnder key size found v i o (Err fault) = Stays v i ⊎ GoesOnPart key found v i
-
 -- how a log of this name goes on, under the key that is given, in batches of this size
 abbrev pub GoesOn : GivenKey → Bytes → ℕ → Found → Visit → Passage → Passage → Result (Unit {0}) RunFault → Type 0
 GoesOn key name size found v i o (Ok done) = (own : LogKey) × IsLogKey key name own × GoesOnWhole own size found v i o

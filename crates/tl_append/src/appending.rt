@@ -90,14 +90,13 @@ fn publish<K: LogSigner, S: Shelf, W: Write>(
 }
 
 /// Appends the lines of the input to the log on the shelf, which is the ledger's, and publishes it after each `batch`
-/// lines, at least 1, and at the end, where lines were put or `is_first`: each time under a note of its checkpoint by
-/// the key, whose name is the log's. Its size and root are then printed. It keeps one batch and the ledger, whatever
-/// the log's size. `Operator`: the log would have more than 2^32 - 1 entries.
+/// lines, at least 1, and at the end, once at least: each time under a note of its checkpoint by the key, whose name is
+/// the log's. Its size and root are then printed. It keeps one batch and the ledger, whatever the log's size.
+/// `Operator`: the log would have more than 2^32 - 1 entries.
 pub fn append_lines<K: LogSigner, S: Shelf, R: Read, W: Write>(
     alloc: Global,
     key: &K,
     batch: u64,
-    is_first: bool,
     shelf: &mut S,
     ledger: &mut Ledger<Global>,
     reader: &mut Counted<R>,
@@ -105,7 +104,7 @@ pub fn append_lines<K: LogSigner, S: Shelf, R: Read, W: Write>(
 ) -> Result<(), RunFault>
     requires origin { IsKeyName (K.log_key key.now).name }
     requires batch { 0 < batch }
-    ensures all { OnOk result (AppendsLines (K.log_key key.now) batch is_first
+    ensures all { OnOk result (AppendsLines (K.log_key key.now) batch
         (course S.kept S.trace shelf.old shelf.new ledger.old ledger.new)
         (passage R.remaining reader.old reader.new) (passage W.contents writer.old writer.new)) }
     ensures some { OnErr result (AppendsSome (K.log_key key.now)
@@ -116,7 +115,7 @@ pub fn append_lines<K: LogSigner, S: Shelf, R: Read, W: Write>(
         Ok(lines) => lines,
         Err(_) => return Err(RunFault::OutOfMemory),
     };
-    let mut is_due = is_first;
+    let mut is_due = true;
     for _turn in 0..u64::MAX {
         let entries = match lines.take_most(reader, batch) {
             Ok(entries) => entries,

@@ -3,7 +3,7 @@
 ghost use Rattle.std.specs.Prelude.{◌≡◌, Some};
 ghost use Rattle.tl_command.specs.Faults.{after_device};
 ghost use Rattle.tl_command.specs.declared.place.Place.TheVariants.{Log};
-ghost use Rattle.tl_append.specs.Faults.{after_ledger, after_lines, after_open, after_shelf, is_taken};
+ghost use Rattle.tl_append.specs.Inner.Faults.{after_ledger, after_lines, after_open, after_shelf, is_taken};
 
 use tl_archive::ShelfFault;
 use tl_command::{Place, RunFault};

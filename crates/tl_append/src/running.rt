@@ -5,7 +5,8 @@ ghost use Rattle.tl_device.specs.Device.{passage};
 ghost use Rattle.tl_note.specs.Key.{IsKeyName};
 ghost use Rattle.tl_command.specs.Origins.{RefusesOrigin};
 ghost use Rattle.tl_command.specs.Mirror.{demo_log_key, seed_log_key};
-ghost use Rattle.tl_append.specs.Running.{GoesOn, GoesOnUnder, Stays, batch_size, visit};
+ghost use Rattle.tl_append.specs.Running.{GoesOn, Stays, batch_size, visit};
+ghost use Rattle.tl_append.specs.Inner.Under.{GoesOnUnder};
 
 use crate::appending::append_lines;
 use crate::faults::{taken, unopened};
@@ -49,8 +50,7 @@ fn append_under<K: LogSigner, S: Shelf, R: Read, W: Write>(
         return Err(taken());
     }
     let batch = options.batch_size();
-    // (a run of no lines publishes what is there once more, and tells it)
-    match append_lines(alloc, key, batch, true, shelf, &mut ledger, reader, writer) {
+    match append_lines(alloc, key, batch, shelf, &mut ledger, reader, writer) {
         Ok(()) => Ok(()),
         Err(fault) => Err(fault),
     }

@@ -17,11 +17,11 @@ returns-in-Err-clause-some g c =
 
 pub loop-turn-init : goal.loop-turn-init
 loop-turn-init g c =
-    begun (g.K.LogSigner.log_key c.args.key.now) c.args.batch c.args.is_first (g.S.Shelf.kept c.args.shelf.now) (g.S.Shelf.trace c.args.shelf.now) c.args.ledger.now (g.R.Read.remaining c.args.reader.now.device) (g.W.Write.contents c.args.writer.now.device) c.args.reader.now.failed c.args.writer.now.failed c.in-Ok.lines c.in-Ok.ensures
+    begun (g.K.LogSigner.log_key c.args.key.now) c.args.batch (g.S.Shelf.kept c.args.shelf.now) (g.S.Shelf.trace c.args.shelf.now) c.args.ledger.now (g.R.Read.remaining c.args.reader.now.device) (g.W.Write.contents c.args.writer.now.device) c.args.reader.now.failed c.args.writer.now.failed c.in-Ok.lines c.in-Ok.ensures
 
 pub returns-in-Err-take_most-clause-some : goal.returns-in-Err-take_most-clause-some
 returns-in-Err-take_most-clause-some g c =
-    not_read (g.K.LogSigner.log_key c.args.key.now) c.args.batch c.args.is_first c.loop-turn.is_due (g.S.Shelf.kept c.args.shelf.now) (g.S.Shelf.kept c.loop-turn.shelf) (g.S.Shelf.trace c.args.shelf.now) (g.S.Shelf.trace c.loop-turn.shelf) c.args.ledger.now c.loop-turn.ledger
+    not_read (g.K.LogSigner.log_key c.args.key.now) c.args.batch c.loop-turn.is_due (g.S.Shelf.kept c.args.shelf.now) (g.S.Shelf.kept c.loop-turn.shelf) (g.S.Shelf.trace c.args.shelf.now) (g.S.Shelf.trace c.loop-turn.shelf) c.args.ledger.now c.loop-turn.ledger
     (g.R.Read.remaining c.args.reader.now.device) (g.R.Read.remaining c.loop-turn.reader.device) (g.R.Read.remaining c.take_most.new.reader.device) (g.W.Write.contents c.args.writer.now.device) (g.W.Write.contents c.loop-turn.writer.device) (g.W.Write.contents c.loop-turn.writer.device)
     c.args.reader.now.failed c.loop-turn.reader.failed c.take_most.new.reader.failed c.args.writer.now.failed c.loop-turn.writer.failed c.loop-turn.writer.failed c.loop-turn.lines c.take_most.new.self c.loop-turn.invariant
     Global c.args.batch c.in-Err-take_most.fault c.in-Err-take_most.ensures
@@ -32,7 +32,7 @@ returns-then-not-is_due-clause-all g c =
     let none : length items ≡ 0 = omega (arith, eqb-true (vec_len c.in-Ok-take_most.entries) 0 (sym c.if-is_empty.ensures), c.in-Ok-take_most.entries.ok.0) in
     let all : TellsAll c.loop-turn.lines c.take_most.new.self (passage g.R.Read.remaining c.loop-turn.reader c.take_most.new.reader) (all_entries (map vec_items items)) =
     c.in-Ok-take_most.ensures.2 (omega (arith, none, c.requires.batch)) in
-    none_left (g.K.LogSigner.log_key c.args.key.now) c.args.batch c.args.is_first c.loop-turn.is_due (g.S.Shelf.kept c.args.shelf.now) (g.S.Shelf.kept c.loop-turn.shelf) (g.S.Shelf.trace c.args.shelf.now) (g.S.Shelf.trace c.loop-turn.shelf) c.args.ledger.now c.loop-turn.ledger
+    none_left (g.K.LogSigner.log_key c.args.key.now) c.args.batch c.loop-turn.is_due (g.S.Shelf.kept c.args.shelf.now) (g.S.Shelf.kept c.loop-turn.shelf) (g.S.Shelf.trace c.args.shelf.now) (g.S.Shelf.trace c.loop-turn.shelf) c.args.ledger.now c.loop-turn.ledger
     (g.R.Read.remaining c.args.reader.now.device) (g.R.Read.remaining c.loop-turn.reader.device) (g.R.Read.remaining c.take_most.new.reader.device) (g.W.Write.contents c.args.writer.now.device) (g.W.Write.contents c.loop-turn.writer.device) (g.W.Write.contents c.loop-turn.writer.device)
     c.args.reader.now.failed c.loop-turn.reader.failed c.take_most.new.reader.failed c.args.writer.now.failed c.loop-turn.writer.failed c.loop-turn.writer.failed c.loop-turn.lines c.take_most.new.self c.loop-turn.invariant
     c.if-not-is_due.true (rw (nothing_in items none) at all)
@@ -47,7 +47,7 @@ pub returns-in-Err-publish-clause-some : goal.returns-in-Err-publish-clause-some
 returns-in-Err-publish-clause-some g c =
     let told : TellsOf c.loop-turn.lines c.take_most.new.self (passage g.R.Read.remaining c.loop-turn.reader c.take_most.new.reader) (all_entries (map vec_items c.as_slice.result.now)) =
     rw c.as_slice.ensures.value c.in-Ok-take_most.ensures.1 in
-    not_published (g.K.LogSigner.log_key c.args.key.now) c.args.batch c.args.is_first c.loop-turn.is_due (g.S.Shelf.kept c.args.shelf.now) (g.S.Shelf.kept c.loop-turn.shelf) (g.S.Shelf.trace c.args.shelf.now) (g.S.Shelf.trace c.loop-turn.shelf) c.args.ledger.now c.loop-turn.ledger
+    not_published (g.K.LogSigner.log_key c.args.key.now) c.args.batch c.loop-turn.is_due (g.S.Shelf.kept c.args.shelf.now) (g.S.Shelf.kept c.loop-turn.shelf) (g.S.Shelf.trace c.args.shelf.now) (g.S.Shelf.trace c.loop-turn.shelf) c.args.ledger.now c.loop-turn.ledger
     (g.R.Read.remaining c.args.reader.now.device) (g.R.Read.remaining c.loop-turn.reader.device) (g.R.Read.remaining c.take_most.new.reader.device) (g.W.Write.contents c.args.writer.now.device) (g.W.Write.contents c.loop-turn.writer.device) (g.W.Write.contents c.publish.new.writer.device)
     c.args.reader.now.failed c.loop-turn.reader.failed c.take_most.new.reader.failed c.args.writer.now.failed c.loop-turn.writer.failed c.publish.new.writer.failed c.loop-turn.lines c.take_most.new.self c.loop-turn.invariant
     (g.S.Shelf.kept c.publish.new.shelf) (g.S.Shelf.trace c.publish.new.shelf) c.publish.new.ledger (map vec_items c.as_slice.result.now) told c.in-Err-publish.ensures.part
@@ -59,7 +59,7 @@ returns-then-len-batch-clause-all g c =
     let few : length c.in-Ok-take_most.entries.items < c.args.batch = omega (arith, c.len.ensures, c.in-Ok-take_most.entries.ok.0, c.if-len-batch.true) in
     let all : TellsAll c.loop-turn.lines c.take_most.new.self (passage g.R.Read.remaining c.loop-turn.reader c.take_most.new.reader) (all_entries (map vec_items c.as_slice.result.now)) =
     rw c.as_slice.ensures.value (c.in-Ok-take_most.ensures.2 few) in
-    last_batch (g.K.LogSigner.log_key c.args.key.now) c.args.batch c.args.is_first c.loop-turn.is_due (g.S.Shelf.kept c.args.shelf.now) (g.S.Shelf.kept c.loop-turn.shelf) (g.S.Shelf.trace c.args.shelf.now) (g.S.Shelf.trace c.loop-turn.shelf) c.args.ledger.now c.loop-turn.ledger
+    last_batch (g.K.LogSigner.log_key c.args.key.now) c.args.batch c.loop-turn.is_due (g.S.Shelf.kept c.args.shelf.now) (g.S.Shelf.kept c.loop-turn.shelf) (g.S.Shelf.trace c.args.shelf.now) (g.S.Shelf.trace c.loop-turn.shelf) c.args.ledger.now c.loop-turn.ledger
     (g.R.Read.remaining c.args.reader.now.device) (g.R.Read.remaining c.loop-turn.reader.device) (g.R.Read.remaining c.take_most.new.reader.device) (g.W.Write.contents c.args.writer.now.device) (g.W.Write.contents c.loop-turn.writer.device) (g.W.Write.contents c.publish.new.writer.device)
     c.args.reader.now.failed c.loop-turn.reader.failed c.take_most.new.reader.failed c.args.writer.now.failed c.loop-turn.writer.failed c.publish.new.writer.failed c.loop-turn.lines c.take_most.new.self c.loop-turn.invariant
     (g.S.Shelf.kept c.publish.new.shelf) (g.S.Shelf.trace c.publish.new.shelf) c.publish.new.ledger (map vec_items c.as_slice.result.now) told c.in-Ok-publish.ensures.all
@@ -69,7 +69,7 @@ pub loop-turn-preserved : goal.loop-turn-preserved
 loop-turn-preserved g c =
     let told : TellsOf c.loop-turn.lines c.take_most.new.self (passage g.R.Read.remaining c.loop-turn.reader c.take_most.new.reader) (all_entries (map vec_items c.as_slice.result.now)) =
     rw c.as_slice.ensures.value c.in-Ok-take_most.ensures.1 in
-    one_more_batch (g.K.LogSigner.log_key c.args.key.now) c.args.batch c.args.is_first c.loop-turn.is_due (g.S.Shelf.kept c.args.shelf.now) (g.S.Shelf.kept c.loop-turn.shelf) (g.S.Shelf.trace c.args.shelf.now) (g.S.Shelf.trace c.loop-turn.shelf) c.args.ledger.now c.loop-turn.ledger
+    one_more_batch (g.K.LogSigner.log_key c.args.key.now) c.args.batch c.loop-turn.is_due (g.S.Shelf.kept c.args.shelf.now) (g.S.Shelf.kept c.loop-turn.shelf) (g.S.Shelf.trace c.args.shelf.now) (g.S.Shelf.trace c.loop-turn.shelf) c.args.ledger.now c.loop-turn.ledger
     (g.R.Read.remaining c.args.reader.now.device) (g.R.Read.remaining c.loop-turn.reader.device) (g.R.Read.remaining c.take_most.new.reader.device) (g.W.Write.contents c.args.writer.now.device) (g.W.Write.contents c.loop-turn.writer.device) (g.W.Write.contents c.publish.new.writer.device)
     c.args.reader.now.failed c.loop-turn.reader.failed c.take_most.new.reader.failed c.args.writer.now.failed c.loop-turn.writer.failed c.publish.new.writer.failed c.loop-turn.lines c.take_most.new.self c.loop-turn.invariant
     (g.S.Shelf.kept c.publish.new.shelf) (g.S.Shelf.trace c.publish.new.shelf) c.publish.new.ledger (map vec_items c.as_slice.result.now) told c.in-Ok-publish.ensures.all _
@@ -78,7 +78,7 @@ loop-turn-preserved g c =
 pub returns-clause-some : goal.returns-clause-some
 returns-clause-some g c =
     let so_far = c.loop-turn.invariant in
-    ended_some (g.K.LogSigner.log_key c.args.key.now) c.args.batch c.args.is_first c.loop-turn.is_due (g.S.Shelf.kept c.args.shelf.now) (g.S.Shelf.kept c.loop-turn.shelf) (g.S.Shelf.trace c.args.shelf.now) (g.S.Shelf.trace c.loop-turn.shelf) c.args.ledger.now c.loop-turn.ledger
+    ended_some (g.K.LogSigner.log_key c.args.key.now) c.args.batch c.loop-turn.is_due (g.S.Shelf.kept c.args.shelf.now) (g.S.Shelf.kept c.loop-turn.shelf) (g.S.Shelf.trace c.args.shelf.now) (g.S.Shelf.trace c.loop-turn.shelf) c.args.ledger.now c.loop-turn.ledger
     (g.R.Read.remaining c.args.reader.now.device) (g.R.Read.remaining c.loop-turn.reader.device) (g.R.Read.remaining c.loop-turn.reader.device) (g.W.Write.contents c.args.writer.now.device) (g.W.Write.contents c.loop-turn.writer.device) (g.W.Write.contents c.loop-turn.writer.device)
     c.args.reader.now.failed c.loop-turn.reader.failed c.loop-turn.reader.failed c.args.writer.now.failed c.loop-turn.writer.failed c.loop-turn.writer.failed c.loop-turn.lines c.loop-turn.lines c.loop-turn.invariant
     (inr (c.loop-turn.lines, [], subst (TellsOf unread c.loop-turn.lines (passage g.R.Read.remaining c.args.reader.now c.loop-turn.reader)) (sym (append-nil (all_entries (joined so_far.batches)))) so_far.lines))

@@ -6,5 +6,5 @@ use Rattle.tl_append.proofs.appending.append_lines.Given as goal
 -- the lines so far were appended
 abbrev pub invariant-loop-turn : goal.invariant-loop-turn
 invariant-loop-turn g l =
-    IsSoFar (g.K.LogSigner.log_key l.key) l.batch l.is_first l.is_due (course g.S.Shelf.kept g.S.Shelf.trace l.fn.shelf l.shelf l.fn.ledger l.ledger)
+    IsSoFar (g.K.LogSigner.log_key l.key) l.batch l.is_due (course g.S.Shelf.kept g.S.Shelf.trace l.fn.shelf l.shelf l.fn.ledger l.ledger)
     (passage g.R.Read.remaining l.fn.reader l.reader) (passage g.W.Write.contents l.fn.writer l.writer) l.lines
