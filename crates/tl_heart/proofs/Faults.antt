@@ -20,7 +20,6 @@ first_fails : {F : Type 0} (fault : F) (d : Doing F) → IsRunning d → after_f
 first_fails fault doing.Waiting runs = refl
 first_fails fault doing.Taking runs = refl
 first_fails fault (doing.Publishing last) runs = refl
-first_fails fault (doing.Archiving last) runs = refl
 first_fails fault (doing.Telling last) runs = refl
 first_fails fault (doing.TellingTooLong line) runs = refl
 first_fails fault doing.TellingInputEnded runs = refl

@@ -9,14 +9,13 @@ use Rattle.tl_heart.specs.declared.heart.Doing.{Doing}
 use Rattle.tl_heart.specs.declared.heart.Doing.TheVariants as doing
 use Rattle.tl_heart.specs.declared.heart.Heart.{Heart}
 use Rattle.tl_heart.specs.Heart.{after, after_done, after_failure, after_nothing, if_waiting, is_waiting, next_rest, next_taking, now_doing, step_of, with_taken}
-use Rattle.tl_heart.specs.Order.{Begins, MayDo, Owed, nothing, publication, archiving, telling, after_all, once_done, once_nothing, owed_after, owed_all, owed_new, with_entries}
+use Rattle.tl_heart.specs.Order.{Begins, MayDo, Owed, nothing, publication, telling, after_all, once_done, once_nothing, owed_after, owed_all, owed_new, with_entries}
 
 -- what is done, whether something is new, and what is owed meanwhile
 abbrev pub Fits : {F : Type 0} → Doing F → Bool → Owed → Type 0
 Fits doing.Waiting new owed = owed ≡ owed_new new
 Fits doing.Taking new owed = owed ≡ owed_new new
 Fits (doing.Publishing last) new owed = owed ≡ publication
-Fits (doing.Archiving last) new owed = (owed ≡ archiving) × (new ≡ false)
 Fits (doing.Telling last) new owed = (owed ≡ telling) × (new ≡ false)
 Fits (doing.TellingTooLong line) new owed = owed ≡ owed_new new
 Fits doing.TellingInputEnded new owed = owed ≡ owed_new new
@@ -33,7 +32,6 @@ fits_step : {F : Type 0} (d : Doing F) (new : Bool) (owed : Owed) → Fits d new
 fits_step doing.Waiting new owed fits = tt
 fits_step doing.Taking new owed fits = tt
 fits_step (doing.Publishing last) new owed fits = fits
-fits_step (doing.Archiving last) new owed fits = fits.0
 fits_step (doing.Telling last) new owed fits = fits.0
 fits_step (doing.TellingTooLong line) new owed fits = tt
 fits_step doing.TellingInputEnded new owed fits = tt
@@ -100,7 +98,6 @@ fits_done doing.Waiting count h owed fits = fits
 fits_done doing.Taking count h owed fits =
     fits_taking (with_taken h count) count (with_entries count owed) (owed_more h.has_new count owed fits)
 fits_done (doing.Publishing last) count h owed fits = (refl, refl)
-fits_done (doing.Archiving last) count h owed fits = (refl, fits.1)
 fits_done (doing.Telling true) count h owed fits = refl
 fits_done (doing.Telling false) count h owed fits = sym (ap owed_new fits.1)
 fits_done (doing.TellingTooLong line) count h owed fits = fits
@@ -120,7 +117,6 @@ fits_nothing doing.Waiting h owed fits = fits
 fits_nothing doing.Taking h owed fits = fits
 fits_nothing (doing.Publishing true) h owed fits = refl
 fits_nothing (doing.Publishing false) h owed fits = refl
-fits_nothing (doing.Archiving last) h owed fits = fits
 fits_nothing (doing.Telling last) h owed fits = fits
 fits_nothing (doing.TellingTooLong line) h owed fits = fits
 fits_nothing doing.TellingInputEnded h owed fits = fits
@@ -140,7 +136,6 @@ fits_failure fault (doing.Ended (Err first)) new owed fits = tt
 fits_failure fault doing.Waiting new owed fits = tt
 fits_failure fault doing.Taking new owed fits = tt
 fits_failure fault (doing.Publishing last) new owed fits = tt
-fits_failure fault (doing.Archiving last) new owed fits = tt
 fits_failure fault (doing.Telling last) new owed fits = tt
 fits_failure fault (doing.TellingTooLong line) new owed fits = tt
 fits_failure fault doing.TellingInputEnded new owed fits = tt
@@ -153,7 +148,6 @@ waits : {F : Type 0} (d : Doing F) → is_waiting d ≡ true → d ≡ doing.Wai
 waits doing.Waiting is = refl
 waits doing.Taking is = absurd (true≢false (sym is))
 waits (doing.Publishing last) is = absurd (true≢false (sym is))
-waits (doing.Archiving last) is = absurd (true≢false (sym is))
 waits (doing.Telling last) is = absurd (true≢false (sym is))
 waits (doing.TellingTooLong line) is = absurd (true≢false (sym is))
 waits doing.TellingInputEnded is = absurd (true≢false (sym is))

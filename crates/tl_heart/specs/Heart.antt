@@ -13,7 +13,6 @@ abbrev pub step_of : {F : Type 0} → Doing F → Step F
 step_of doing.Waiting = step.Wait
 step_of doing.Taking = step.Take
 step_of (doing.Publishing last) = step.Publish
-step_of (doing.Archiving last) = step.Archive
 step_of (doing.Telling last) = step.TellHead
 step_of (doing.TellingTooLong line) = step.TellTooLong line
 step_of doing.TellingInputEnded = step.TellInputEnded
@@ -53,8 +52,7 @@ next_rest h = if h.has_new then doing.Publishing true else doing.Sealing
 abbrev pub after_done : {F : Type 0} → Doing F → ℕ → Heart F → Heart F
 after_done doing.Waiting count h = now_doing h doing.Taking
 after_done doing.Taking count h = now_doing (with_taken h count) (next_taking (with_taken h count) count)
-after_done (doing.Publishing last) count h = now_doing (without_new h) (doing.Archiving last)
-after_done (doing.Archiving last) count h = now_doing h (doing.Telling last)
+after_done (doing.Publishing last) count h = now_doing (without_new h) (doing.Telling last)
 after_done (doing.Telling true) count h = now_doing h doing.Sealing
 after_done (doing.Telling false) count h = now_doing h doing.Taking
 after_done (doing.TellingTooLong line) count h = now_doing h doing.Taking

@@ -14,12 +14,10 @@ abbrev pub after_all : {F : Type 0} → Heart F → List (Event F) → Heart F
 after_all h [] = h
 after_all h (e ∷ es) = after_all (after h e) es
 
--- what a log owes its readers: nothing, to publish what it took in, to archive what it published, to tell what it
--- archived
+-- what a log owes its readers: nothing, to publish what it took in, to tell what it published
 pub data Owed : Type 0 where
   nothing : Owed
   publication : Owed
-  archiving : Owed
   telling : Owed
 
 -- what is owed once entries were taken in
@@ -31,8 +29,7 @@ with_entries n owed = owed
 abbrev pub once_done : {F : Type 0} → Step F → ℕ → Owed → Owed
 once_done step.Take count owed = with_entries count owed
 once_done step.TakeRest count owed = with_entries count owed
-once_done step.Publish count owed = archiving
-once_done step.Archive count owed = telling
+once_done step.Publish count owed = telling
 once_done step.TellHead count owed = nothing
 once_done _ count owed = owed
 
@@ -57,17 +54,16 @@ abbrev pub owed_new : Bool → Owed
 owed_new true = publication
 owed_new false = nothing
 
--- a log that begins, and what it owes: it was archived, which it tells first, or it waits
+-- a log that begins, and what it owes: it was published, which it tells first, or it waits
 abbrev pub Begins : {F : Type 0} → Heart F → Owed → Type 0
 Begins h owed =
     ((h.doing ≡ doing.Telling false) × (h.has_new ≡ false) × (owed ≡ telling))
     ⊎ ((h.doing ≡ doing.Waiting) × (owed ≡ owed_new h.has_new))
 
--- a step that may be done where this is owed: only what was taken in is published, only what was published is archived,
--- only what was archived is told, and a log is closed, told to be closed and ended well only where nothing is owed
+-- a step that may be done where this is owed: only what was taken in is published, only what was published is told, and
+-- a log is closed, told to be closed and ended well only where nothing is owed
 abbrev pub MayDo : {F : Type 0} → Owed → Step F → Type 0
 MayDo owed step.Publish = owed ≡ publication
-MayDo owed step.Archive = owed ≡ archiving
 MayDo owed step.TellHead = owed ≡ telling
 MayDo owed step.CloseLog = owed ≡ nothing
 MayDo owed (step.TellClosed size) = owed ≡ nothing

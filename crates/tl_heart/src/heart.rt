@@ -32,9 +32,7 @@ pub enum Step<F> {
     Take,
     /// Publish what was taken in.
     Publish,
-    /// Archive what was published.
-    Archive,
-    /// Tell what was archived.
+    /// Tell what was published.
     TellHead,
     /// Tell that the line with this number is too long.
     TellTooLong(u64),
@@ -61,9 +59,7 @@ pub enum Doing<F> {
     Taking,
     /// It publishes; `true` for the last time, likewise below.
     Publishing(bool),
-    /// It archives what was published.
-    Archiving(bool),
-    /// It tells what was archived.
+    /// It tells what was published.
     Telling(bool),
     /// It tells that a line was too long.
     TellingTooLong(u64),
@@ -101,7 +97,7 @@ pub struct Heart<F> {
 }
 
 impl<F: Copy> Heart<F> {
-    /// A log that is served: it was published and archived, which is told first, and publishes what comes.
+    /// A log that is served: it was published, which is told first, and publishes what comes.
     pub fn serving(batch: u64) -> Heart<F>
         ensures value { result ≡ record {
           doing = doing.Telling false;
@@ -154,7 +150,6 @@ impl<F: Copy> Heart<F> {
             Doing::Waiting => Step::Wait,
             Doing::Taking => Step::Take,
             Doing::Publishing(_) => Step::Publish,
-            Doing::Archiving(_) => Step::Archive,
             Doing::Telling(_) => Step::TellHead,
             Doing::TellingTooLong(line) => Step::TellTooLong(line),
             Doing::TellingInputEnded => Step::TellInputEnded,
@@ -241,8 +236,7 @@ impl<F: Copy> Heart<F> {
             | Doing::TellingTooLong(_)
             | Doing::TellingInputEnded => self.now_doing(Doing::Taking),
             Doing::Taking => self.after_taking(count),
-            Doing::Publishing(is_last) => self.without_new().now_doing(Doing::Archiving(is_last)),
-            Doing::Archiving(is_last) => self.now_doing(Doing::Telling(is_last)),
+            Doing::Publishing(is_last) => self.without_new().now_doing(Doing::Telling(is_last)),
             Doing::Telling(true) => self.now_doing(Doing::Sealing),
             Doing::Closing => self.now_doing(Doing::TakingRest),
             Doing::TakingRest => self.after_rest(count),

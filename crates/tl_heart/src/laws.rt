@@ -7,15 +7,15 @@ ghost use Rattle.tl_heart.specs.declared.heart.Event.{Event};
 ghost use Rattle.tl_heart.specs.declared.heart.Event.TheVariants as event;
 ghost use Rattle.tl_heart.specs.declared.heart.Heart.{Heart};
 
-/// Whatever events come: nothing is published that isn't new, archived that isn't published, or told that isn't
-/// archived; and the log is closed, and ends well, only once all that was taken in is published, archived and told.
+/// Whatever events come: nothing is published that isn't new, or told that isn't published; and the log is closed, and
+/// ends well, only once all that was taken in is published and told.
 pub fn steps_come_in_order<F>()
     ensures { (h : Heart F) (owed : Owed) → Begins h owed → (events : List (Event F))
         → MayDo (owed_all h events owed) (step_of (after_all h events).doing) }
 {}
 
 /// Whatever events come after the first failure: the door is closed, and the log ends with that fault. Nothing is
-/// taken, published, archived or told any more.
+/// taken, published or told any more.
 pub fn first_fault_ends_all<F>()
     ensures { (h : Heart F) (fault : F) → IsRunning h.doing → (events : List (Event F))
         → EndsWith fault (step_of (after_all (after h (event.Failed fault)) events).doing) }
