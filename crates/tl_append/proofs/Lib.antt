@@ -1,4 +1,5 @@
 pub mod Loops
+pub mod Onward
 pub mod Reading
 pub mod Runs
 pub mod Turns

@@ -1,5 +1,5 @@
 -- The loop over batches.
-use Rattle.std.proofs.Common.{inr, ◌≡◌, ◌⊎◌, ℕ, ◌<◌, ◌≤◌, Bool, true, false, length, arith, List, [], ◌∷◌, ◌++◌, Option, refl, sym, ap, subst, ◌∙◌, append_assoc}
+use Rattle.std.proofs.Common.{inl, inr, ◌≡◌, ◌⊎◌, ℕ, ◌<◌, ◌≤◌, Bool, true, false, length, arith, List, [], ◌∷◌, ◌++◌, Option, refl, sym, ap, subst, ◌∙◌, append_assoc}
 use Rattle.std.specs.Prelude.{Err, ⊤}
 use Rattle.std.proofs.KnownBytes.{Appends-nil}
 use Rattle.std.proofs.lemmas.List.{append-nil, length_push}
@@ -12,8 +12,8 @@ use Rattle.tl_lines.proofs.ReadingLemmas.{over}
 use Rattle.tl_archive.specs.Shelves.{Kept}
 use Rattle.tl_ledger.specs.Standing.{Ledger}
 use Rattle.tl_command.specs.Mirror.{LogKey}
-use Rattle.tl_append.specs.Appending.{Appends, AppendsLines, AppendsSome, AreBatches, AreFirst, Course, PrintsHeads, joined}
-use Rattle.tl_append.specs.Inner.Turns.{Publishes, PublishesPart}
+use Rattle.tl_append.specs.Appending.{Appends, AppendsAtMost, AppendsLines, AppendsSome, AreBatches, AreFirst, Course, IsPutOrNot, PrintsHeads, joined}
+use Rattle.tl_append.specs.Inner.Turns.{Publishes}
 use Rattle.tl_append.proofs.Turns.{along, appends_on, appends_then_on, heads_on, joined_on, joined_one, none_appended, nothing_then}
 use Rattle.tl_append.proofs.Reading.{all_on, are_first, first_failed, lines_on, none_told}
 
@@ -35,6 +35,10 @@ are_batches : (size : ℕ) (batches : List (List Bytes)) → AreFull size batche
 are_batches size [] full = tt
 are_batches size (batch ∷ []) full = omega (arith, full.0)
 are_batches size (batch ∷ next ∷ more) full = (full.0, are_batches size (next ∷ more) full.1)
+
+put_or_not : (batch put : List Bytes) (c : Course) → IsPutOrNot batch put c → (put ≡ []) ⊎ (put ≡ batch)
+put_or_not batch put c (inl none) = inl none.0
+put_or_not batch put c (inr all) = inr all.0
 
 -- batches that were appended so far
 pub record IsSoFar (key : LogKey) (size : ℕ) (is_due : Bool) (c : Course) (i o : Passage) (now : Uncut) : Type 0 where
@@ -126,7 +130,7 @@ module _ (key : LogKey) (size : ℕ) (is_due : Bool) (a m : Kept) (saw mid : Lis
       }
 
     -- it was not, or not told
-    pub not_published : PublishesPart key batch (along m b mid sees now is) → AppendsSome key (along a b saw sees was is) (over x z f h)
+    pub not_published : AppendsAtMost key batch (along m b mid sees now is) → AppendsSome key (along a b saw sees was is) (over x z f h)
     not_published part = record {
       batches = so_far.batches ++ part.batches;
       rest = part.rest;
@@ -134,5 +138,5 @@ module _ (key : LogKey) (size : ℕ) (is_due : Bool) (a m : Kept) (saw mid : Lis
       lines = inr
           (subst (AreFirst (over x z f h))
           (sym (append_assoc (joined so_far.batches) (joined part.batches) part.rest) ∙ ap (λ (es : List Bytes). es ++ part.rest) (sym (joined_on so_far.batches part.batches)))
-          (are_first v (over x z f h) (joined so_far.batches) batch (joined part.batches ++ part.rest) part.own (lines_on u v x y z f g h (joined so_far.batches) so_far.lines batch told)));
+          (are_first v (over x z f h) (joined so_far.batches) batch (joined part.batches ++ part.rest) (put_or_not batch (joined part.batches ++ part.rest) (along m b mid sees now is) part.own) (lines_on u v x y z f g h (joined so_far.batches) so_far.lines batch told)));
     }

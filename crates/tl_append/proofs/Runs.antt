@@ -13,7 +13,7 @@ use Rattle.tl_ledger.specs.Standing.{Ledger, IsStanding}
 use Rattle.tl_ledger.specs.Keeping.{IsKeeping}
 use Rattle.tl_ledger.specs.Opening.{Found, FoundCollides, Opens}
 use Rattle.tl_command.specs.Mirror.{LogKey}
-use Rattle.tl_append.specs.Appending.{AppendsLines, AppendsSome, AreBatches, joined, published_after}
+use Rattle.tl_append.specs.Appending.{AppendsLines, AppendsSome, AppendsThen, AreBatches, joined, published_after}
 use Rattle.tl_append.specs.Running.{GoesOnPart, GoesOnWhole, Grows, IsResting, OfFound, Stays, Visit, WroteHeads}
 use Rattle.tl_append.proofs.Turns.{along}
 
@@ -56,13 +56,18 @@ module _ (key : LogKey) (keys : List Key) (found : Found) (a b : Kept) (saw sees
     heads = of_found (WroteHeads key all.batches o) (λ h log keeps. all.heads.lines h log keeps);
   }
 
+  -- batches that were appended, and what was put after them
+  pub grows_then : (batches : List (List Bytes)) (rest : List Bytes) → AppendsThen key batches rest (along a b saw sees was is)
+      → OfFound found a (Grows key batches rest (between a b saw sees))
+  grows_then batches rest appends = of_found (Grows key batches rest (between a b saw sees)) (λ h log keeps. record {
+    rests = resting _ _ b is (appends.kept h log keeps);
+    safe = appends.safe h log keeps;
+  })
+
   pub part_run : (i : Passage) → AppendsSome key (along a b saw sees was is) i → GoesOnPart key found (between a b saw sees) i
   part_run i some = record {
     batches = some.batches;
     rest = some.rest;
-    grows = of_found (Grows key some.batches some.rest (between a b saw sees)) (λ h log keeps. record {
-      rests = resting _ _ b is (some.appends.kept h log keeps);
-      safe = some.appends.safe h log keeps;
-    });
+    grows = grows_then some.batches some.rest some.appends;
     lines = some.lines;
   }

@@ -1,5 +1,5 @@
 -- Batches that are appended one after another.
-use Rattle.std.proofs.Common.{inl, inr, ◌≡◌, ℕ, Bool, List, [], ◌∷◌, ◌++◌, Option, length, refl, sym, ap, subst, ◌∙◌, append_assoc}
+use Rattle.std.proofs.Common.{inl, inr, ◌≡◌, ℕ, ◌+◌, Bool, List, [], ◌∷◌, ◌++◌, Option, length, refl, sym, ap, subst, ◌∙◌, append_assoc}
 use Rattle.std.specs.Prelude.{All}
 use Rattle.std.specs.List.{flat_map}
 use Rattle.std.proofs.KnownBytes.{Appends-trans}
@@ -16,18 +16,18 @@ use Rattle.tl_archive.specs.Complete.{IsComplete, IsSafe, KeptSafe}
 use Rattle.tl_ledger.specs.Standing.{Ledger, IsStanding}
 use Rattle.tl_ledger.specs.Keeping.{IsKeeping, published}
 use Rattle.tl_command.specs.Mirror.{LogKey, checkpoint_note}
-use Rattle.tl_append.specs.Appending.{Appends, AppendsThen, Course, PrintsHeads, head_line, joined, publication_line, published_after}
-use Rattle.tl_append.specs.Inner.Turns.{Publishes, PublishesPart}
+use Rattle.tl_append.specs.Appending.{Appends, AppendsAtMost, AppendsThen, Course, PrintsHeads, head_line, joined, publication_line, published_after}
+use Rattle.tl_append.specs.Inner.Turns.{Publishes}
 
 -- a shelf and a ledger before and after
 abbrev pub along : Kept → Kept → List Kept → List Kept → Ledger → Ledger → Course
 along a b saw sees was is = record { before = a; after = b; saw = saw; sees = sees; was = was; is = is }
 
 -- what is kept, where the lists are the same
-kept_as : (h h' : List Prefix) (l l' : List Bytes) (k : Kept) (x : Ledger) → h ≡ h' → l ≡ l' → IsKeeping sha256 h l k x → IsKeeping sha256 h' l' k x
+pub kept_as : (h h' : List Prefix) (l l' : List Bytes) (k : Kept) (x : Ledger) → h ≡ h' → l ≡ l' → IsKeeping sha256 h l k x → IsKeeping sha256 h' l' k x
 kept_as h h' l l' k x eh el is = subst (λ (t : List Prefix). IsKeeping sha256 t l' k x) eh (subst (λ (t : List Bytes). IsKeeping sha256 h t k x) el is)
 
-safe_as : (h h' : List Prefix) (saw sees : List Kept) → h ≡ h' → KeptSafe sha256 h saw sees → KeptSafe sha256 h' saw sees
+pub safe_as : (h h' : List Prefix) (saw sees : List Kept) → h ≡ h' → KeptSafe sha256 h saw sees → KeptSafe sha256 h' saw sees
 safe_as h h' saw sees eh is = subst (λ (t : List Prefix). KeptSafe sha256 t saw sees) eh is
 
 -- what is safe stays so as the history grows
@@ -41,7 +41,7 @@ safe_wider h more k safe left may =
 all_wider : (h more : List Prefix) (steps : List Kept) → All (IsSafe sha256 h) steps → All (IsSafe sha256 (h ++ more)) steps
 all_wider h more steps all k d less = safe_wider h more _ (all k d less)
 
-safe_on : (h more : List Prefix) (saw mid sees : List Kept) → KeptSafe sha256 h saw mid → KeptSafe sha256 (h ++ more) mid sees → KeptSafe sha256 (h ++ more) saw sees
+pub safe_on : (h more : List Prefix) (saw mid sees : List Kept) → KeptSafe sha256 h saw mid → KeptSafe sha256 (h ++ more) mid sees → KeptSafe sha256 (h ++ more) saw sees
 safe_on h more saw mid sees first then = record {
   steps = first.steps ++ then.steps;
   trace = then.trace ∙ ap (λ (t : List Kept). t ++ then.steps) first.trace ∙ append_assoc saw first.steps then.steps;
@@ -65,10 +65,10 @@ published_on key log (x ∷ xs) ys =
 -- ---- one turn after others
 
 module _ (key : LogKey) (xs ys : List (List Bytes)) (a m b : Kept) (saw mid sees : List Kept) (was now is : Ledger) where
-  history_on : (h : List Prefix) (log : List Bytes) → (h ++ published_after key log xs) ++ published_after key (log ++ joined xs) ys ≡ h ++ published_after key log (xs ++ ys)
+  pub history_on : (h : List Prefix) (log : List Bytes) → (h ++ published_after key log xs) ++ published_after key (log ++ joined xs) ys ≡ h ++ published_after key log (xs ++ ys)
   history_on h log = append_assoc h (published_after key log xs) (published_after key (log ++ joined xs) ys) ∙ ap (λ (ps : List Prefix). h ++ ps) (sym (published_on key log xs ys))
 
-  log_on : (log : List Bytes) → (log ++ joined xs) ++ joined ys ≡ log ++ joined (xs ++ ys)
+  pub log_on : (log : List Bytes) → (log ++ joined xs) ++ joined ys ≡ log ++ joined (xs ++ ys)
   log_on log = append_assoc log (joined xs) (joined ys) ∙ ap (λ (es : List Bytes). log ++ es) (sym (joined_on xs ys))
 
   module _ (first : Appends key xs (along a m saw mid was now)) where
@@ -121,7 +121,35 @@ nothing_then key xs a b saw sees was is all = record {
   safe = all.safe;
 }
 
--- ---- one turn
+-- ---- one batch
+
+-- it was published, which is no more than at most
+pub at_most : (key : LogKey) (batch : List Bytes) (a b : Kept) (saw sees : List Kept) (was is : Ledger) → is.edge.size ≡ was.edge.size + length batch
+    → Appends key (batch ∷ []) (along a b saw sees was is) → AppendsAtMost key batch (along a b saw sees was is)
+at_most key batch a b saw sees was is grown all = record {
+  batches = batch ∷ [];
+  rest = [];
+  appends = nothing_then key (batch ∷ []) a b saw sees was is all;
+  own = inr (append-nil (batch ++ []) ∙ append-nil batch, grown);
+}
+
+-- and its head was printed
+pub one_told : (key : LogKey) (batch : List Bytes) (a b : Kept) (saw sees : List Kept) (was is : Ledger) (size : ℕ) (root : Bytes) (o : Passage)
+    → Appends key (batch ∷ []) (along a b saw sees was is)
+    → size ≡ is.edge.size
+    → ((entries : List Bytes) → IsStanding sha256 entries is → root ≡ tree_hash sha256 entries)
+    → WroteWhole o (head_line size root) → Publishes key batch (along a b saw sees was is) o
+one_told key batch a b saw sees was is size root o all sized rooted wrote = record {
+  appends = all;
+  heads = record {
+    lines = λ h log keeps.
+        let stands : IsStanding sha256 (log ++ batch) is =
+        subst (λ (es : List Bytes). IsStanding sha256 (log ++ es) is) (joined_one batch) (all.kept h log keeps).stands in
+        let told : head_line size root ≡ head_line (length (log ++ batch)) (tree_hash sha256 (log ++ batch)) =
+        ap (λ (n : ℕ). head_line n root) (sized ∙ sym stands.at_edge.0) ∙ ap (head_line (length (log ++ batch))) (rooted (log ++ batch) stands) in
+        subst (WroteWhole o) (told ∙ sym (append-nil (head_line (length (log ++ batch)) (tree_hash sha256 (log ++ batch))))) wrote;
+  };
+}
 
 module _ (key : LogKey) (batch : List Bytes) (a m : Kept) (saw mid : List Kept) (was now : Ledger)
     (safe : (h : List Prefix) (log : List Bytes) → IsKeeping sha256 h log a was → KeptSafe sha256 h saw mid) where
@@ -129,20 +157,21 @@ module _ (key : LogKey) (batch : List Bytes) (a m : Kept) (saw mid : List Kept) 
   safe_none h log keeps = safe_as _ _ saw mid (sym (append-nil h)) (safe h log keeps)
 
   -- it was not put
-  pub not_put : ((h : List Prefix) (log : List Bytes) → IsKeeping sha256 h log a was → IsKeeping sha256 h log m now) → PublishesPart key batch (along a m saw mid was now)
-  not_put stayed = record {
+  pub not_put : ((h : List Prefix) (log : List Bytes) → IsKeeping sha256 h log a was → IsKeeping sha256 h log m now) → now ≡ was → AppendsAtMost key batch (along a m saw mid was now)
+  not_put stayed same = record {
     batches = [];
     rest = [];
     appends = record {
       kept = λ h log keeps. kept_as _ _ _ _ m now (sym (append-nil h)) (sym (append-nil (log ++ []) ∙ append-nil log)) (stayed h log keeps);
       safe = safe_none;
     };
-    own = inl refl;
+    own = inl (refl, ap (λ (l : Ledger). l.edge.size) same);
   }
 
-  module _ (put : (h : List Prefix) (log : List Bytes) → IsKeeping sha256 h log a was → IsKeeping sha256 h (log ++ batch) m now) where
+  module _ (put : (h : List Prefix) (log : List Bytes) → IsKeeping sha256 h log a was → IsKeeping sha256 h (log ++ batch) m now)
+      (grown : now.edge.size ≡ was.edge.size + length batch) where
     -- its checkpoint was not signed
-    pub not_signed : PublishesPart key batch (along a m saw mid was now)
+    pub not_signed : AppendsAtMost key batch (along a m saw mid was now)
     not_signed = record {
       batches = [];
       rest = batch;
@@ -150,7 +179,7 @@ module _ (key : LogKey) (batch : List Bytes) (a m : Kept) (saw mid : List Kept) 
         kept = λ h log keeps. kept_as _ _ _ _ m now (sym (append-nil h)) (ap (λ (l : List Bytes). l ++ batch) (sym (append-nil log))) (put h log keeps);
         safe = safe_none;
       };
-      own = inr refl;
+      own = inr (refl, grown);
     }
 
     -- its checkpoint was sealed, or may be
@@ -174,22 +203,5 @@ module _ (key : LogKey) (batch : List Bytes) (a m : Kept) (saw mid : List Kept) 
             safe_on h _ saw mid sees (safe h log keeps) (safe_as _ _ mid sees (noted h (log ++ batch) after) (kept_safe h (log ++ batch) after));
       }
 
-      pub not_told : PublishesPart key batch (along a b saw sees was now)
-      not_told = record {
-        batches = batch ∷ [];
-        rest = [];
-        appends = nothing_then key (batch ∷ []) a b saw sees was now one_appended;
-        own = inr (append-nil (batch ++ []) ∙ append-nil batch);
-      }
-
-      pub one_told : (o : Passage) → WroteWhole o (head_line size root) → Publishes key batch (along a b saw sees was now) o
-      one_told o wrote = record {
-        appends = one_appended;
-        heads = record {
-          lines = λ h log keeps.
-              let after = put h log keeps in
-              let is : head_line size root ≡ head_line (length (log ++ batch)) (tree_hash sha256 (log ++ batch)) =
-              ap (λ (n : ℕ). head_line n root) (sized ∙ sym after.stands.at_edge.0) ∙ ap (head_line (length (log ++ batch))) (rooted (log ++ batch) after.stands) in
-              subst (WroteWhole o) (is ∙ sym (append-nil (head_line (length (log ++ batch)) (tree_hash sha256 (log ++ batch))))) wrote;
-        };
-      }
+      pub not_sealed : AppendsAtMost key batch (along a b saw sees was now)
+      not_sealed = at_most key batch a b saw sees was now grown one_appended

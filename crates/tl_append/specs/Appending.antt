@@ -1,5 +1,5 @@
 -- Entries that are appended to a log in batches, each of them published.
-use Rattle.std.specs.Prelude.{◌≡◌, ℕ, ◌<◌, ◌≤◌, ◌⊎◌, ⊤, List, [], ◌∷◌, ◌++◌, length}
+use Rattle.std.specs.Prelude.{◌≡◌, ℕ, ◌+◌, ◌<◌, ◌≤◌, ◌⊎◌, ⊤, List, [], ◌∷◌, ◌++◌, length}
 use Rattle.std.specs.List.{flat_map}
 use Rattle.sha2.specs.Sha256.{sha256}
 use Rattle.tl_hash.specs.Bytes.{Bytes}
@@ -53,6 +53,19 @@ pub record AppendsThen (key : LogKey) (batches : List (List Bytes)) (rest : List
       → IsKeeping sha256 (history ++ published_after key log batches) ((log ++ joined batches) ++ rest) c.after c.is
   pub safe : (history : List Prefix) (log : List Bytes) → IsKeeping sha256 history log c.before c.was
       → KeptSafe sha256 (history ++ published_after key log batches) c.saw c.sees
+
+-- what was appended of a batch, by the ledger's size: all of it, or nothing
+abbrev pub IsPutOrNot : List Bytes → List Bytes → Course → Type 0
+IsPutOrNot batch put c =
+    ((put ≡ []) × (c.is.edge.size ≡ c.was.edge.size))
+    ⊎ ((put ≡ batch) × (c.is.edge.size ≡ c.was.edge.size + length batch))
+
+-- a batch was appended at most: it was published, or put behind the log and not published, or neither
+pub record AppendsAtMost (key : LogKey) (batch : List Bytes) (c : Course) : Type 0 where
+  pub batches : List (List Bytes)
+  pub rest : List Bytes
+  pub appends : AppendsThen key batches rest c
+  pub own : IsPutOrNot batch (joined batches ++ rest) c
 
 -- the line of a size and a root
 abbrev pub head_line : ℕ → Bytes → Bytes

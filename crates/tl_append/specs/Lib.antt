@@ -1,4 +1,5 @@
 -- The definitions of the command `append`.
 pub mod Appending
+pub mod Keys
 pub mod Running
 pub mod Inner

@@ -1,57 +1,22 @@
 //! Lines of an input that are appended to a log in batches.
 
-ghost use Rattle.std.specs.Prelude.{◌≡◌, ◌+◌, ◌<◌, ◌^◌, ◌++◌, List, length, map, vec_items, OnErr, OnOk};
-ghost use Rattle.sha2.specs.Sha256.{sha256};
-ghost use Rattle.tl_hash.specs.Bytes.{Bytes};
+ghost use Rattle.std.specs.Prelude.{◌<◌, map, vec_items, OnErr, OnOk};
 ghost use Rattle.tl_device.specs.Device.{passage};
 ghost use Rattle.tl_note.specs.Key.{IsKeyName};
 ghost use Rattle.tl_tile.specs.Bundle.{AreShortEntries};
-ghost use Rattle.tl_publisher.specs.Histories.{Prefix};
-ghost use Rattle.tl_archive.specs.Complete.{KeptSafe};
-ghost use Rattle.tl_ledger.specs.Keeping.{IsKeeping};
-ghost use Rattle.tl_append.specs.Appending.{AppendsLines, AppendsSome, course};
-ghost use Rattle.tl_append.specs.Inner.Turns.{Publishes, PublishesPart};
+ghost use Rattle.tl_append.specs.Appending.{AppendsAtMost, AppendsLines, AppendsSome, course};
+ghost use Rattle.tl_append.specs.Inner.Turns.{Publishes};
 
-use crate::faults::{unkept, unput, unread};
+use crate::batch::append_batch;
+use crate::faults::unread;
 use crate::printing::print_head;
 use std::alloc::Global;
 use std::io::{Read, Write};
 use tl_archive::Shelf;
-use tl_command::{LogSigner, RunFault, sign_checkpoint};
+use tl_command::{LogSigner, RunFault};
 use tl_device::Counted;
 use tl_ledger::Ledger;
 use tl_lines::Lines;
-
-// The most entries of a log.
-const MOST_ENTRIES: u64 = 4_294_967_295;
-
-// Puts a batch behind a log. `Operator`: it has no room for it, and nothing was put.
-fn put_batch<S: Shelf>(
-    shelf: &mut S,
-    ledger: &mut Ledger<Global>,
-    batch: &[Vec<u8>],
-) -> Result<(), RunFault>
-    requires { AreShortEntries (map vec_items batch.now) }
-    ensures kept { (history : List Prefix) (log : List Bytes)
-        → IsKeeping sha256 history log (S.kept shelf.old) ledger.old
-        → OnOk result (IsKeeping sha256 history (log ++ map vec_items batch.now)
-        (S.kept shelf.new) ledger.new) }
-    ensures stayed { (history : List Prefix) (log : List Bytes)
-        → IsKeeping sha256 history log (S.kept shelf.old) ledger.old
-        → OnErr result (IsKeeping sha256 history log (S.kept shelf.new) ledger.new) }
-    ensures safe { (history : List Prefix) (log : List Bytes)
-        → IsKeeping sha256 history log (S.kept shelf.old) ledger.old
-        → KeptSafe sha256 history (S.trace shelf.old) (S.trace shelf.new) }
-    ensures small { OnOk result (ledger.new.edge.size < 2 ^ 32) }
-{
-    if ledger.size().saturating_add(batch.len() as u64) > MOST_ENTRIES {
-        return Err(RunFault::Operator);
-    }
-    match ledger.put(shelf, batch) {
-        Ok(()) => Ok(()),
-        Err(fault) => Err(unput(fault)),
-    }
-}
 
 // Appends a batch to a log, publishes that, and prints its head.
 fn publish<K: LogSigner, S: Shelf, W: Write>(
@@ -67,23 +32,14 @@ fn publish<K: LogSigner, S: Shelf, W: Write>(
     ensures all { OnOk result (Publishes (K.log_key key.now) (map vec_items batch.now)
         (course S.kept S.trace shelf.old shelf.new ledger.old ledger.new)
         (passage W.contents writer.old writer.new)) }
-    ensures part { OnErr result (PublishesPart (K.log_key key.now) (map vec_items batch.now)
+    ensures part { OnErr result (AppendsAtMost (K.log_key key.now) (map vec_items batch.now)
         (course S.kept S.trace shelf.old shelf.new ledger.old ledger.new)) }
 {
-    match put_batch(shelf, ledger, batch) {
+    match append_batch(alloc, key, batch, shelf, ledger) {
         Ok(()) => {}
         Err(fault) => return Err(fault),
     }
-    let (size, root) = (ledger.size(), ledger.root());
-    let note = match sign_checkpoint(alloc, alloc, key, size, root) {
-        Ok(note) => note,
-        Err(fault) => return Err(fault),
-    };
-    match ledger.seal(shelf, note.as_bytes()) {
-        Ok(()) => {}
-        Err(fault) => return Err(unkept(fault)),
-    }
-    match print_head(alloc, writer, size, root) {
+    match print_head(alloc, writer, ledger.size(), ledger.root()) {
         Ok(()) => Ok(()),
         Err(fault) => Err(fault),
     }

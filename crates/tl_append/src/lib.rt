@@ -7,11 +7,17 @@
 #![tactic(auto)]
 
 mod appending;
+mod batch;
 mod faults;
+mod keys;
+mod opening;
 mod options;
 mod printing;
 mod running;
 
 pub use appending::append_lines;
+pub use batch::append_batch;
+pub use keys::{LogKeys, LogOpeningKey, LogSigningKey, keys_of};
+pub use opening::open_ledger;
 pub use options::AppendOptions;
 pub use running::run_append;

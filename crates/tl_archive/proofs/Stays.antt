@@ -1,13 +1,20 @@
 -- What was needed once has the same bytes over a longer log.
-use Rattle.std.proofs.Common.{◌≡◌, ℕ, zero, suc, ◌+◌, ◌-◌, ◌*◌, ◌^◌, ◌≤◌, List, ◌++◌, length, take, drop, refl, ap, ◌∙◌, arith}
+use Rattle.std.proofs.Common.{◌≡◌, ℕ, zero, suc, ◌+◌, ◌-◌, ◌*◌, ◌^◌, ◌≤◌, List, ◌++◌, length, take, drop, true, refl, sym, ap, ◌∙◌, arith}
+use Rattle.std.specs.Prelude.{Contains}
 use Rattle.std.specs.List.{flat_map, range_with_len}
+use Rattle.std.proofs.lemmas.List.Folds.{list_any-from_Any}
 use Rattle.std.proofs.lemmas.List.{take-append-le, drop-append-le, length-drop}
+use Rattle.sha2.specs.Sha256.{sha256}
 use Rattle.tl_hash.specs.Tree.{tree_hash}
 use Rattle.tl_tile.specs.declared.resource.Resource.{Resource}
 use Rattle.tl_tile.specs.declared.resource.Resource.TheVariants as resource
 use Rattle.tl_tile.specs.TileText.{entries_under}
 use Rattle.tl_tile.specs.Bundle.{bundle_text}
+use Rattle.tl_tile.specs.Needed.{needed_resources}
 use Rattle.tl_tile.proofs.TileTexts.{scaled_le}
+use Rattle.tl_publisher.specs.Histories.{Begins}
+use Rattle.tl_publisher.specs.Boards.{same_resource, needs}
+use Rattle.tl_publisher.proofs.Needs.{same_self}
 use Rattle.tl_archive.specs.Inner.Pieces.{LiesWithin}
 use Rattle.tl_archive.specs.Complete.{text_of}
 use Rattle.tl_archive.specs.Inner.Laws.{NeededBytesStay}
@@ -43,3 +50,11 @@ text_stays H entries more resource.Checkpoint within = refl
 
 pub needed_bytes_stay : NeededBytesStay
 needed_bytes_stay H entries more r has = text_stays H entries more r (needed_within (length entries) r has).0
+
+-- the bytes of what a beginning needs, over the whole
+pub later_bytes : (front whole : List (List ℕ)) → Begins front whole → (r : Resource) → Contains (needed_resources (length front)) r → text_of sha256 r whole ≡ text_of sha256 r front
+later_bytes front whole begins r has = ap (text_of sha256 r) (sym begins.1) ∙ needed_bytes_stay sha256 front begins.0 r has
+
+-- what is needed is found to be
+pub does_need : (r : Resource) (size : ℕ) → Contains (needed_resources size) r → needs r size ≡ true
+does_need r size has = list_any-from_Any (same_resource r) (needed_resources size) (has.0, r, has.1, has.2, same_self r)

@@ -1,7 +1,4 @@
+-- The definitions of shelves.
 pub mod Shelves
 pub mod Complete
-pub mod Exact
-pub mod Faults
-pub mod Publishing
-pub mod Reading
 pub mod Inner

@@ -1,9 +1,14 @@
 -- When a log that is on a shelf is not opened.
-use Rattle.std.specs.Prelude.{◌≡◌, ◌≢◌, ℕ, ◌≤◌, ◌/◌, ◌%◌, ◌^◌, ◌⊎◌, Bool, true, List, Option, Some, None, Contains, ⊤}
+use Rattle.std.specs.Prelude.{◌≡◌, ◌≢◌, ℕ, ◌≤◌, ◌/◌, ◌%◌, ◌^◌, ◌⊎◌, Bool, true, List, Option, Some, None, Err, Contains, IsUtf8, ⊤}
+use Rattle.std.specs.Global.{Global}
 use Rattle.sha2.specs.Sha256.{sha256}
 use Rattle.tl_hash.specs.Bytes.{Bytes}
 use Rattle.tl_hash.specs.declared.head.Head.{Head}
 use Rattle.tl_note.specs.Key.{Key}
+use Rattle.tl_checkpoint.specs.Checkpoint.{Head as Checkpoint}
+use Rattle.tl_checkpoint.specs.OpenCheckpoint.{IsSignedCheckpoint, OpensCheckpoint}
+use Rattle.tl_checkpoint.specs.declared.opening.OpenCheckpointFault.{OpenCheckpointFault}
+use Rattle.tl_checkpoint.specs.declared.opening.OpenCheckpointFault.TheVariants as unopened
 use Rattle.tl_tile.specs.declared.resource.Resource.{Resource}
 use Rattle.tl_tile.specs.declared.resource.Resource.TheVariants as resource
 use Rattle.tl_tile.specs.declared.resource.Tile.{Tile}
@@ -15,7 +20,6 @@ use Rattle.tl_client.specs.Blame.{AnswersNoBundle}
 use Rattle.tl_client.specs.Checked.{AreCheckedEntries}
 use Rattle.tl_client.specs.Refused.{AnswersOtherEntry, BundleRead}
 use Rattle.tl_archive.specs.Shelves.{Held}
-use Rattle.tl_archive.specs.Reading.{IsUnopened, StatesSize}
 use Rattle.tl_ledger.specs.Opening.{Found, IsOfHeld, IsOfSigned}
 use Rattle.tl_ledger.specs.declared.opened.fault.OpenFault.{OpenFault}
 use Rattle.tl_ledger.specs.declared.opened.fault.OpenFault.TheVariants as opening
@@ -67,6 +71,17 @@ pub record HasSigned (honest : Bool) (held : Held) (keys : List Key) (found : Op
 -- the shelf may answer bytes for the checkpoint of which this holds
 abbrev pub HasRead : Bool → Held → (Bytes → Type 0) → Type 0
 HasRead honest held Holds = (bytes : Bytes) × MayRead honest held resource.Checkpoint bytes × Holds bytes
+
+-- the bytes are no text, or no note of a checkpoint that opens under these keys
+abbrev pub IsUnopened : Bytes → List Key → Type 0
+IsUnopened bytes keys =
+    (IsUtf8 bytes → ⊥) ⊎ ((fault : OpenCheckpointFault) × (fault ≢ unopened.OutOfMemory) × OpensCheckpoint {A = Global} bytes keys (Err fault))
+
+-- the note is that of a checkpoint of so many entries, and opens under these keys
+pub record StatesSize (note : Bytes) (keys : List Key) (size : ℕ) : Type 0 where
+  pub checkpoint : Checkpoint
+  pub signed : IsSignedCheckpoint note keys checkpoint
+  pub sized : checkpoint.size ≡ size
 
 -- the note opens under these keys, and states more entries than a log takes
 abbrev pub StatesTooMany : List Key → Bytes → Type 0

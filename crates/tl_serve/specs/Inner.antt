@@ -5,3 +5,5 @@ pub
     mod Live
 pub
     mod Running
+pub
+    mod Shelved

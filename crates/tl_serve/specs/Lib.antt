@@ -1,3 +1,3 @@
 -- The definitions of the commands that serve.
-pub mod LogKeys
+pub mod Serving
 pub mod Inner

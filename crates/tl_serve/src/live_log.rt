@@ -1,88 +1,75 @@
-//! A log that runs, as the threads that serve it see it.
+//! A log that runs, as the thread that carries its steps out sees it.
 
-ghost use Rattle.std.specs.Prelude.{◌≡◌, IfOk, IfSome};
-ghost use Rattle.tl_publisher.specs.Operating.{IsOperating};
+ghost use Rattle.std.specs.Prelude.{◌≡◌};
 ghost use Rattle.tl_sequencer.specs.Log.{IsEndOf};
-ghost use Rattle.tl_serve.specs.Inner.Live.{Finishes, Shows, TakesIn, TakesRest, after_take};
-ghost use Rattle.tl_serve.specs.Inner.Running.{StaysOperating};
+ghost use Rattle.tl_serve.specs.Inner.Live.{TakesIn, TakesRest, after_take};
+ghost use Rattle.tl_serve.specs.Inner.Running.{StaysRunning};
 
-use crate::host::Host;
 use std::alloc::Global;
 use tl_command::RunFault;
-use tl_publisher::{Operator, PublishFault, Published, RunningLog};
+use tl_hash::Head;
 use tl_sequencer::{Ended, TakeFault};
 
 /// The most entries of a log.
 pub(crate) const MOST_ENTRIES: u64 = 0xFFFF_FFFF;
 
 /// A log that runs: entries are taken in from its lanes, and published, until it is closed.
-pub(crate) trait LiveLog: RunningLog + Drop {
+pub(crate) trait LiveLog: Drop {
+    ghost use Rattle.std.specs.Global.{Global as GlobalValue};
+    ghost use Rattle.std.specs.Prelude.{Bool, Option, Result};
+    ghost use Rattle.tl_sequencer.specs.Log.{Log};
+    ghost use Rattle.tl_command.specs.declared.fault.RunFault.{RunFault};
+    ghost use Rattle.tl_serve.specs.Inner.Running.{Begun};
+
+    /// What its lanes gave.
+    ghost log: { Self → Log GlobalValue };
+
+    /// What holds of it from its opening on, whatever calls moved it.
+    ghost holds: { Self → Type 0 };
+
+    /// What it began with, where it is on a shelf.
+    ghost begun: { Self → Option Begun };
+
+    /// All but what its lanes gave is as it was.
+    ghost rests: { Self → Self → Type 0 };
+
+    /// What publishing it makes of it, by the answer.
+    ghost shows: { Self → Self → Result Bool RunFault → Type 0 };
+
     /// Takes in at most so many entries of a lane: how many it took.
     fn take_in(&mut self, lane: u32, most: u64) -> Result<u64, RunFault>
-        requires { IsOperating (Self.state self.old) }
-        ensures kept { StaysOperating (Self.state self.old) (Self.state self.new) }
-        ensures taken { TakesIn lane most (Self.state self.old) (Self.state self.new) result };
-
-    /// Publishes what was taken in; none where it is published already.
-    fn show(&mut self) -> Result<Option<Published>, RunFault>
-        requires { IsOperating (Self.state self.old) }
-        ensures kept { StaysOperating (Self.state self.old) (Self.state self.new) }
-        ensures shown { Shows (Self.state self.old) (Self.state self.new) result }
-        ensures book { IfOk result
-            (λ shown. IfSome shown (λ p. p.book ≡ (Self.state self.old).past.book)) };
+        requires { holds self.old }
+        ensures kept { StaysRunning holds log begun self.old self.new }
+        ensures taken { TakesIn lane most (log self.old) (log self.new) result }
+        ensures rests { rests self.old self.new };
 
     /// Takes in all that is left of the lane of an end: how many entries.
     fn end_lane(&mut self, ended: Ended<Global, Global>) -> Result<u64, RunFault>
-        requires operating { IsOperating (Self.state self.old) }
-        requires end { IsEndOf ended (Self.state self.old).log }
-        ensures kept { StaysOperating (Self.state self.old) (Self.state self.new) }
-        ensures taken { TakesRest ended (Self.state self.old) (Self.state self.new) result };
+        requires holds { holds self.old }
+        requires end { IsEndOf ended (log self.old) }
+        ensures kept { StaysRunning holds log begun self.old self.new }
+        ensures taken { TakesRest ended (log self.old) (log self.new) result }
+        ensures rests { rests self.old self.new };
 
-    /// Closes the log: how many entries it has.
-    fn finish(self) -> Result<u64, RunFault>
-        requires { IsOperating (Self.state self) }
-        ensures { Finishes (Self.state self) result };
+    /// Publishes what was taken in, so that it outlasts a crash where the log is to. Whether there was something new.
+    fn show(&mut self) -> Result<bool, RunFault>
+        requires { holds self.old }
+        ensures kept { StaysRunning holds log begun self.old self.new }
+        ensures same { log self.new ≡ log self.old }
+        ensures shown { shows self.old self.new result };
+
+    /// Size and root of the last publication, if there is one that can be told.
+    fn head(&mut self) -> Option<Head>
+        requires { holds self.old }
+        ensures { StaysRunning holds log begun self.old self.new };
 }
 
-// Why nothing was taken.
-fn refusal(fault: TakeFault) -> RunFault
+/// Why nothing was taken.
+pub(crate) fn refusal(fault: TakeFault) -> RunFault
     ensures { result ≡ after_take fault }
 {
     match fault {
         TakeFault::OutOfMemory => RunFault::OutOfMemory,
         _ => RunFault::Operator,
-    }
-}
-
-impl<H: Host> LiveLog for Operator<H> {
-    fn take_in(&mut self, lane: u32, most: u64) -> Result<u64, RunFault> {
-        match self.take(lane, most) {
-            Ok(taken) => Ok(taken),
-            Err(fault) => Err(refusal(fault)),
-        }
-    }
-
-    fn show(&mut self) -> Result<Option<Published>, RunFault> {
-        match self.publish() {
-            Ok(published) => Ok(Some(published)),
-            Err(PublishFault::NothingNew) => Ok(None),
-            Err(PublishFault::OutOfMemory) => Err(RunFault::OutOfMemory),
-            Err(PublishFault::Sign(_)) => Err(RunFault::Sign),
-            Err(PublishFault::Quorum) => Err(RunFault::Operator),
-        }
-    }
-
-    fn end_lane(&mut self, ended: Ended<Global, Global>) -> Result<u64, RunFault> {
-        match self.end(ended) {
-            Ok(taken) => Ok(taken),
-            Err(refused) => Err(refusal(refused.why)),
-        }
-    }
-
-    fn finish(self) -> Result<u64, RunFault> {
-        match self.close() {
-            Ok((complete, _board)) => Ok(complete.len()),
-            Err(_back) => Err(RunFault::Operator),
-        }
     }
 }

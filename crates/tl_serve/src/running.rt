@@ -1,11 +1,9 @@
 //! A log that runs, by the thread that carries its steps out.
 
 ghost use Rattle.std.specs.Prelude.{◌≡◌, All};
-ghost use Rattle.tl_publisher.specs.Operating.{IsOperating};
 ghost use Rattle.tl_sequencer.specs.Log.{IsEndOf};
-ghost use Rattle.tl_serve.specs.Inner.Running.{StaysOperating};
+ghost use Rattle.tl_serve.specs.Inner.Running.{StaysRunning};
 
-use crate::keeping::{Archiving, Keeper};
 use crate::live_log::LiveLog;
 use crate::telling::{tell_head, tell_input_ended, tell_not_published, tell_too_long};
 use std::alloc::Global;
@@ -34,14 +32,13 @@ pub(crate) struct Rounds {
     pub(crate) word: Option<&'static str>,
 }
 
-/// A log that runs, who keeps what it publishes, and how many entries were taken and kept.
+/// A log that runs, and how many entries were taken and published.
 #[derive(Drop)]
-pub(crate) struct Running<O, K> {
-    pub(crate) operator: O,
-    pub(crate) kept: Archiving<K>,
+pub(crate) struct Running<O> {
+    pub(crate) log: O,
     pub(crate) rounds: Rounds,
     pub(crate) taken: u64,
-    pub(crate) archived: u64,
+    pub(crate) published: u64,
 }
 
 // What came of a call that counts nothing.
@@ -53,46 +50,42 @@ fn done(outcome: Result<(), RunFault>) -> Event<RunFault> {
 }
 
 // Takes from each lane in turn: how many entries in all.
-fn take_round<O: LiveLog>(operator: &mut O, lanes: u32, most: u64) -> Result<u64, RunFault>
-    requires { IsOperating (O.state operator.old) }
-    ensures { StaysOperating (O.state operator.old) (O.state operator.new) }
+fn take_round<O: LiveLog>(log: &mut O, lanes: u32, most: u64) -> Result<u64, RunFault>
+    requires { O.holds log.old }
+    ensures { StaysRunning O.holds O.log O.begun log.old log.new }
 {
     let mut count = 0u64;
     for lane in 0..lanes {
-        let taken = operator.take_in(lane, most)?;
+        let taken = log.take_in(lane, most)?;
         count = count.saturating_add(taken);
     }
     Ok(count)
 }
 
 // Takes in what is left of the lanes of these ends: how many entries.
-fn take_ends<O: LiveLog>(
-    operator: &mut O,
-    ends: Vec<Ended<Global, Global>>,
-) -> Result<u64, RunFault>
-    requires operating { IsOperating (O.state operator.old) }
-    requires ends { All (λ e. IsEndOf e (O.state operator.old).log) ends.items }
-    ensures { StaysOperating (O.state operator.old) (O.state operator.new) }
+fn take_ends<O: LiveLog>(log: &mut O, ends: Vec<Ended<Global, Global>>) -> Result<u64, RunFault>
+    requires holds { O.holds log.old }
+    requires ends { All (λ e. IsEndOf e (O.log log.old)) ends.items }
+    ensures { StaysRunning O.holds O.log O.begun log.old log.new }
 {
     let mut count = 0u64;
     for ended in ends {
-        let taken = operator.end_lane(ended)?;
+        let taken = log.end_lane(ended)?;
         count = count.saturating_add(taken);
     }
     Ok(count)
 }
 
-impl<O: LiveLog, K: Keeper> Running<O, K> {
+impl<O: LiveLog> Running<O> {
     /// A log of which nothing is taken yet.
-    pub(crate) fn new(operator: O, kept: Archiving<K>, rounds: Rounds) -> Running<O, K>
-        ensures { result.operator ≡ operator }
+    pub(crate) fn new(log: O, rounds: Rounds) -> Running<O>
+        ensures { result.log ≡ log }
     {
         Running {
-            operator,
-            kept,
+            log,
             rounds,
             taken: 0,
-            archived: 0,
+            published: 0,
         }
     }
 
@@ -103,7 +96,7 @@ impl<O: LiveLog, K: Keeper> Running<O, K> {
 
     // Counts entries that were taken.
     fn count(&mut self, outcome: Result<u64, RunFault>) -> Event<RunFault>
-        ensures { self.new.operator ≡ self.old.operator }
+        ensures { self.new.log ≡ self.old.log }
     {
         match outcome {
             Ok(count) => {
@@ -116,63 +109,57 @@ impl<O: LiveLog, K: Keeper> Running<O, K> {
 
     // Takes in what waits, of each lane at most as many as a round takes.
     fn take(&mut self, left: u64) -> Event<RunFault>
-        requires { IsOperating (O.state self.old.operator) }
-        ensures { StaysOperating (O.state self.old.operator) (O.state self.new.operator) }
+        requires { O.holds self.old.log }
+        ensures { StaysRunning O.holds O.log O.begun self.old.log self.new.log }
     {
         let most = self.rounds.most.unwrap_or(left);
-        let outcome = take_round(&mut self.operator, self.rounds.lanes, most);
+        let outcome = take_round(&mut self.log, self.rounds.lanes, most);
         self.count(outcome)
     }
 
     /// Takes in all that is left of the lanes of these ends.
     pub(crate) fn take_rest(&mut self, ends: Vec<Ended<Global, Global>>) -> Event<RunFault>
-        requires operating { IsOperating (O.state self.old.operator) }
-        requires ends { All (λ e. IsEndOf e (O.state self.old.operator).log) ends.items }
-        ensures { StaysOperating (O.state self.old.operator) (O.state self.new.operator) }
+        requires holds { O.holds self.old.log }
+        requires ends { All (λ e. IsEndOf e (O.log self.old.log)) ends.items }
+        ensures { StaysRunning O.holds O.log O.begun self.old.log self.new.log }
     {
-        let outcome = take_ends(&mut self.operator, ends);
+        let outcome = take_ends(&mut self.log, ends);
         self.count(outcome)
     }
 
     // Publishes what was taken in.
     fn publish(&mut self) -> Event<RunFault>
-        requires { IsOperating (O.state self.old.operator) }
-        ensures { StaysOperating (O.state self.old.operator) (O.state self.new.operator) }
+        requires { O.holds self.old.log }
+        ensures { StaysRunning O.holds O.log O.begun self.old.log self.new.log }
     {
-        match self.operator.show() {
-            Ok(Some(_published)) => Event::Done(0),
-            Ok(None) => Event::NothingNew,
-            Err(fault) => Event::Failed(fault),
-        }
-    }
-
-    // Archives what was published.
-    fn archive(&mut self, alloc: Global) -> Event<RunFault>
-        ensures { self.new.operator ≡ self.old.operator }
-    {
-        match self.kept.keep(alloc) {
-            Ok(()) => {
-                self.archived = self.taken;
+        match self.log.show() {
+            Ok(true) => {
+                self.published = self.taken;
                 Event::Done(0)
             }
+            Ok(false) => Event::NothingNew,
             Err(fault) => Event::Failed(fault),
         }
     }
 
-    // Tells what was archived.
-    fn tell_head<L: Write>(&mut self, alloc: Global, log: &mut Counted<L>) -> Event<RunFault>
-        ensures { self.new.operator ≡ self.old.operator }
+    // Tells size and root of what was published.
+    fn tell_head<L: Write>(&mut self, alloc: Global, out: &mut Counted<L>) -> Event<RunFault>
+        requires { O.holds self.old.log }
+        ensures { StaysRunning O.holds O.log O.begun self.old.log self.new.log }
     {
-        match self.rounds.word {
-            Some(word) => done(tell_head(alloc, log, &mut self.kept.board, word)),
+        let Some(word) = self.rounds.word else {
+            return Event::Done(0);
+        };
+        match self.log.head() {
+            Some(head) => done(tell_head(alloc, out, word, head)),
             None => Event::Done(0),
         }
     }
 
     // Tells that the input has ended.
-    fn tell_input_ended<L: Write>(&self, log: &mut Counted<L>) -> Event<RunFault> {
+    fn tell_input_ended<L: Write>(&self, out: &mut Counted<L>) -> Event<RunFault> {
         match self.rounds.word {
-            Some(_) => done(tell_input_ended(log)),
+            Some(_) => done(tell_input_ended(out)),
             None => Event::Done(0),
         }
     }
@@ -183,19 +170,18 @@ impl<O: LiveLog, K: Keeper> Running<O, K> {
         alloc: Global,
         heart: Heart<RunFault>,
         feed: &mut F,
-        log: &mut Counted<L>,
+        out: &mut Counted<L>,
     ) -> Option<Event<RunFault>>
-        requires { IsOperating (O.state self.old.operator) }
-        ensures { StaysOperating (O.state self.old.operator) (O.state self.new.operator) }
+        requires { O.holds self.old.log }
+        ensures { StaysRunning O.holds O.log O.begun self.old.log self.new.log }
     {
         match heart.step() {
             Step::Wait => Some(feed.wait()),
             Step::Take => Some(self.take(heart.left)),
             Step::Publish => Some(self.publish()),
-            Step::Archive => Some(self.archive(alloc)),
-            Step::TellHead => Some(self.tell_head(alloc, log)),
-            Step::TellTooLong(line) => Some(done(tell_too_long(alloc, log, line))),
-            Step::TellInputEnded => Some(self.tell_input_ended(log)),
+            Step::TellHead => Some(self.tell_head(alloc, out)),
+            Step::TellTooLong(line) => Some(done(tell_too_long(alloc, out, line))),
+            Step::TellInputEnded => Some(self.tell_input_ended(out)),
             _ => None,
         }
     }
@@ -206,14 +192,14 @@ impl<O: LiveLog, K: Keeper> Running<O, K> {
         alloc: Global,
         heart: Heart<RunFault>,
         feed: &mut F,
-        log: &mut Counted<L>,
+        out: &mut Counted<L>,
     ) -> Heart<RunFault>
-        requires { IsOperating (O.state self.old.operator) }
-        ensures { StaysOperating (O.state self.old.operator) (O.state self.new.operator) }
+        requires { O.holds self.old.log }
+        ensures { StaysRunning O.holds O.log O.begun self.old.log self.new.log }
     {
         let mut heart = heart;
         for _ in 0..u64::MAX {
-            let Some(event) = self.carry_out(alloc, heart, feed, log) else {
+            let Some(event) = self.carry_out(alloc, heart, feed, out) else {
                 break;
             };
             heart = heart.after(event);
@@ -225,13 +211,13 @@ impl<O: LiveLog, K: Keeper> Running<O, K> {
     pub(crate) fn tell_rest<L: Write>(
         &self,
         alloc: Global,
-        log: &mut Counted<L>,
+        out: &mut Counted<L>,
         lines: u64,
     ) -> Result<(), RunFault> {
-        let rest = lines.saturating_sub(self.archived);
+        let rest = lines.saturating_sub(self.published);
         if rest == 0 {
             return Ok(());
         }
-        tell_not_published(alloc, log, rest)
+        tell_not_published(alloc, out, rest)
     }
 }

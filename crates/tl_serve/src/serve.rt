@@ -3,8 +3,8 @@
 ghost use Rattle.std.specs.Prelude.{◌≡◌, ◌≤◌, All, string_bytes};
 ghost use Rattle.tl_device.specs.Device.{passage};
 ghost use Rattle.tl_publisher.specs.Operating.{IsOperating};
-ghost use Rattle.tl_sequencer.specs.Log.{IsSenderOf};
-ghost use Rattle.tl_serve.specs.Inner.Running.{StaysOperating};
+ghost use Rattle.tl_sequencer.specs.Log.{IsSenderOf, rings_of};
+ghost use Rattle.tl_serve.specs.Inner.Running.{StaysRunning};
 ghost use Rattle.tl_command.specs.Origins.{RefusesOrigin};
 
 use crate::awaited::Awaited;
@@ -12,16 +12,15 @@ use crate::door::Door;
 use crate::following::Followed;
 use crate::gate::{Gate, OpenGate};
 use crate::host::Host;
-use crate::keeping::{Archiving, InMemory, Keeper};
 use crate::lanes::Sending;
 use crate::live_log::{LiveLog, MOST_ENTRIES};
-use crate::log_keys::{LogKeys, keys_of};
+use crate::memory_log::{BoardLog, MemoryLog};
 use crate::news::News;
 use crate::opening::{bundles_of, lanes_of, read_plan, size_of, with_newline};
 use crate::options::ServeOptions;
 use crate::pages::Pages;
-use crate::running::Rounds;
-use crate::serving::{Common, run_log};
+use crate::running::{Rounds, Running};
+use crate::serving::{Common, Ran, check_closing, run_log, tell_end};
 use crate::telling::tell_in_memory;
 use mio::Waker;
 use std::alloc::Global;
@@ -30,6 +29,7 @@ use std::net::{Net, TcpListener, TcpStream};
 use std::os::fd::RawFd;
 use std::sync::Arc;
 use std::thread::{Threads, available_parallelism};
+use tl_append::{LogKeys, keys_of};
 use tl_command::RunFault;
 use tl_device::Counted;
 use tl_lines::Lines;
@@ -68,16 +68,17 @@ fn learn(readers: Vec<BoardReader<Global>>, published: &Published) -> Vec<BoardR
     readers
 }
 
-/// Publishes the log as it was opened, which each reader then sees.
-pub(crate) fn publish_first<O: LiveLog>(
+// Publishes the log as it was opened, which each reader then sees.
+fn publish_first<O: BoardLog>(
     log: &mut O,
     readers: Vec<BoardReader<Global>>,
 ) -> Result<Vec<BoardReader<Global>>, RunFault>
     requires operating { IsOperating (O.state log.old) }
     requires seen { All (λ w. w ≡ (O.state log.old).past) readers.items }
-    ensures { StaysOperating (O.state log.old) (O.state log.new) }
+    ensures operating { IsOperating (O.state log.new) }
+    ensures same { (O.state log.new).log ≡ (O.state log.old).log }
 {
-    match log.show() {
+    match log.publish_new() {
         Ok(Some(published)) => Ok(learn(readers, &published)),
         Ok(None) => Ok(readers),
         Err(fault) => Err(fault),
@@ -96,6 +97,14 @@ pub(crate) struct Server<'s, H, G> {
     // The descriptor of the input, if there is one to wait for.
     pub(crate) input: Option<RawFd>,
     pub(crate) gate: &'s G,
+}
+
+// What a log is served with beside its pages.
+#[derive(Drop)]
+struct Prepared<'r, R> {
+    followed: Option<Followed<'r, R>>,
+    news: News,
+    door: Door,
 }
 
 impl<H: Host + Net<Listener = TcpListener, Stream = TcpStream>, G: Gate> Server<'_, H, G> {
@@ -158,23 +167,52 @@ impl<H: Host + Net<Listener = TcpListener, Stream = TcpStream>, G: Gate> Server<
         Ok((Some(followed), Some(waker)))
     }
 
-    /// Serves a log that was published once.
-    pub(crate) fn serve_published<O: LiveLog, K: Keeper, P: Pages + Send, R: Read + Send, L: Write>(
+    // What a log is served with beside its pages: what is followed, what the threads tell, and the door.
+    fn prepare<'r, R: Read + Send, L: Write>(
         &self,
-        operator: O,
+        lines: Lines<Global>,
+        reader: &'r mut Counted<R>,
+        threads: usize,
+        out: &mut Counted<L>,
+    ) -> Result<Prepared<'r, R>, RunFault> {
+        let (followed, following) = self.follow(lines, reader)?;
+        let news = News::new(self.rt, self.alloc, following)?;
+        let door = self.open_door(threads, out)?;
+        Ok(Prepared {
+            followed,
+            news,
+            door,
+        })
+    }
+
+    /// Serves a log that was published once, and hands it back.
+    pub(crate) fn serve_published<O: LiveLog, P: Pages + Send, R: Read + Send, L: Write>(
+        &self,
+        log: O,
         lanes: Vec<Sending>,
-        kept: Archiving<K>,
         pages: Vec<P>,
         lines: Lines<Global>,
         reader: &mut Counted<R>,
-        log: &mut Counted<L>,
-    ) -> Result<(), RunFault>
-        requires operating { IsOperating (O.state operator) }
-        requires senders { All (λ l. IsSenderOf l.submitter (O.state operator).log) lanes.items }
+        out: &mut Counted<L>,
+    ) -> Ran<O>
+        requires holds { O.holds log }
+        requires senders { All (λ l. IsSenderOf l.submitter (O.log log)) lanes.items }
+        ensures { StaysRunning O.holds O.log O.begun log result.running.log }
     {
-        let (followed, following) = self.follow(lines, reader)?;
-        let news = News::new(self.rt, self.alloc, following)?;
-        let door = self.open_door(pages.len(), log)?;
+        let running = Running::new(log, self.rounds(lanes.len()));
+        let Prepared {
+            followed,
+            news,
+            door,
+        } = match self.prepare(lines, reader, pages.len(), out) {
+            Ok(prepared) => prepared,
+            Err(fault) => {
+                return Ran {
+                    running,
+                    heart: Err(fault),
+                };
+            }
+        };
         let common = Common {
             rt: self.rt,
             alloc: self.alloc,
@@ -182,12 +220,11 @@ impl<H: Host + Net<Listener = TcpListener, Stream = TcpStream>, G: Gate> Server<
             gate: self.gate,
             news: &news,
         };
-        let rounds = self.rounds(lanes.len());
-        run_log(common, operator, kept, rounds, pages, lanes, followed, log)
+        run_log(common, running, pages, lanes, followed, out)
     }
 
     // Serves a log in memory that was opened, and is to be sent these entries.
-    fn serve_opened<O: LiveLog, R: Read + Send, L: Write>(
+    fn serve_opened<O: BoardLog, R: Read + Send, L: Write>(
         &self,
         opened: O,
         submitters: Vec<Submitter<Global, Global>>,
@@ -195,7 +232,7 @@ impl<H: Host + Net<Listener = TcpListener, Stream = TcpStream>, G: Gate> Server<
         entries: Vec<Vec<u8>>,
         lines: Lines<Global>,
         reader: &mut Counted<R>,
-        log: &mut Counted<L>,
+        out: &mut Counted<L>,
     ) -> Result<(), RunFault>
         requires operating { IsOperating (O.state opened) }
         requires senders { All (λ s. IsSenderOf s (O.state opened).log) submitters.items }
@@ -207,9 +244,12 @@ impl<H: Host + Net<Listener = TcpListener, Stream = TcpStream>, G: Gate> Server<
         let Some(board) = pages.pop() else {
             return Err(RunFault::Operator);
         };
-        let keeper = InMemory;
-        let kept = Archiving { keeper, board };
-        self.serve_published(operator, lanes, kept, pages, lines, reader, log)
+        let log = MemoryLog { operator, board };
+        let Ran { running, heart } = self.serve_published(log, lanes, pages, lines, reader, out);
+        let heart = check_closing(heart)?;
+        let Running { log, .. } = running;
+        let size = log.operator.finish()?;
+        tell_end(self.alloc, heart, size, self.options.server.quiet, out)
     }
 
     // Serves a log in memory that begins with no entry.

@@ -1,31 +1,50 @@
 //! The command `serve` on a shelf: a running log over HTTP that outlasts its server.
 
-ghost use Rattle.std.specs.Prelude.{◌≡◌, All, string_bytes};
+ghost use Rattle.std.specs.Prelude.{◌≡◌, ◌∷◌, [], All, IfOk, OnOk, string_bytes};
+ghost use Rattle.sha2.specs.Sha256.{sha256};
 ghost use Rattle.tl_device.specs.Device.{passage};
-ghost use Rattle.tl_publisher.specs.Operating.{IsOperating};
+ghost use Rattle.tl_note.specs.Key.{IsKeyName};
 ghost use Rattle.tl_sequencer.specs.Log.{IsSenderOf};
+ghost use Rattle.tl_ledger.specs.Opening.{Opens};
 ghost use Rattle.tl_command.specs.Origins.{RefusesOrigin};
+ghost use Rattle.tl_append.specs.Keys.{log_key_of, opening_key_of};
+ghost use Rattle.tl_append.specs.Running.{visit};
+ghost use Rattle.tl_serve.specs.Serving.{Serves};
+ghost use Rattle.tl_serve.specs.Inner.Shelved.{IsClosed, ServesUnder};
 
 use crate::gate::OpenGate;
 use crate::host::Host;
-use crate::keeping::Archiving;
+use crate::lanes::Sending;
 use crate::live_log::{LiveLog, MOST_ENTRIES};
-use crate::log_keys::{LogKeys, keys_of};
 use crate::opening::{Plan, lanes_of, read_plan};
 use crate::options::ServeOptions;
 use crate::pages::OnShelf;
-use crate::serve::{Server, publish_first};
-use crate::shelf_faults::{unread, unresumed};
+use crate::running::Running;
+use crate::serve::Server;
+use crate::serving::{Ran, check_closing, tell_end};
+use crate::shelf_log::ShelfLog;
 use std::alloc::{AllocError, Global};
 use std::io::{Read, Write};
 use std::net::{Net, TcpListener, TcpStream};
 use std::os::fd::RawFd;
-use tl_archive::{Archive, FoundLog, Shelf, read_log};
+use tl_append::{LogKeys, LogOpeningKey, keys_of, open_ledger};
+use tl_archive::Shelf;
 use tl_command::RunFault;
 use tl_device::Counted;
-use tl_note::{Signer, Verifier, is_key_name};
-use tl_publisher::{BoardReader, Operator, OperatorFault};
-use tl_sequencer::Submitter;
+use tl_heart::Heart;
+use tl_ledger::{Found, Ledger};
+use tl_lines::Lines;
+use tl_note::is_key_name;
+use tl_sequencer::{Intake, OpenFault, Submitter};
+
+/// A shelf that is given back, and how the server that had it ended.
+#[derive(Drop)]
+pub struct Served<S> {
+    /// The shelf.
+    pub shelf: S,
+    /// How it ended.
+    pub outcome: Result<(), RunFault>,
+}
 
 // What each thread answers from.
 fn pages_of<P: Drop>(alloc: Global, shown: Vec<P>) -> Result<Vec<OnShelf<P>>, AllocError> {
@@ -36,82 +55,101 @@ fn pages_of<P: Drop>(alloc: Global, shown: Vec<P>) -> Result<Vec<OnShelf<P>>, Al
     Ok(pages)
 }
 
-// The shelves of a log: one where publications are put, and one for each thread that answers.
-#[derive(Drop)]
-struct Shelves<S, P> {
-    shelf: S,
-    shown: Vec<P>,
-}
-
-// Serves a log on a shelf that was opened, and is to be sent what was planned.
-fn serve_opened<
-    H: Host + Net<Listener = TcpListener, Stream = TcpStream>,
-    O: LiveLog,
-    S: Shelf + Drop,
-    P: Shelf + Send + Drop,
-    R: Read + Send,
-    L: Write,
->(
-    server: &Server<'_, H, OpenGate>,
-    opened: O,
-    submitters: Vec<Submitter<Global, Global>>,
-    readers: Vec<BoardReader<Global>>,
-    shelves: Shelves<S, P>,
-    sure: u64,
-    plan: Plan,
-    reader: &mut Counted<R>,
-    log: &mut Counted<L>,
-) -> Result<(), RunFault>
-    requires operating { IsOperating (O.state opened) }
-    requires senders { All (λ s. IsSenderOf s (O.state opened).log) submitters.items }
-    requires seen { All (λ w. w ≡ (O.state opened).past) readers.items }
+// The lanes of a log that has so many entries already, and their submitters.
+fn open_lanes(
+    alloc: Global,
+    before: u64,
+    lanes: u32,
+    room: usize,
+) -> Result<(Intake<Global, Global>, Vec<Submitter<Global, Global>>), RunFault>
+    ensures own { IfOk result (λ r. All (λ s. IsSenderOf s r.0.log) r.1.items) }
+    ensures none { IfOk result (λ r. (r.0.drained ≡ []) × (r.0.waiting ≡ [])) }
 {
-    let mut operator = opened;
-    let lanes = lanes_of(server.alloc, submitters, plan.entries)?;
-    let mut readers = publish_first(&mut operator, readers)?;
-    let Some(board) = readers.pop() else {
+    if before > MOST_ENTRIES {
         return Err(RunFault::Operator);
-    };
-    let keeper = Archive::new(shelves.shelf, sure);
-    let mut kept = Archiving { keeper, board };
-    kept.keep(server.alloc)?;
-    let pages = pages_of(server.alloc, shelves.shown)?;
-    server.serve_published(operator, lanes, kept, pages, plan.lines, reader, log)
-}
-
-// Serves a log of which the shelf has nothing yet.
-fn serve_new<
-    H: Host + Net<Listener = TcpListener, Stream = TcpStream>,
-    S: Shelf + Drop,
-    P: Shelf + Send + Drop,
-    R: Read + Send,
-    L: Write,
->(
-    server: &Server<'_, H, OpenGate>,
-    signers: Vec<Box<dyn Signer>>,
-    shelves: Shelves<S, P>,
-    reader: &mut Counted<R>,
-    log: &mut Counted<L>,
-) -> Result<(), RunFault> {
-    let (rt, alloc, origin) = (*server.rt, server.alloc, server.options.origin.as_str());
-    let plan = match read_plan(alloc, server.options, 0, reader) {
-        Ok(plan) => plan,
-        Err(fault) => return Err(fault),
-    };
-    let (lanes, room) = (plan.lanes, plan.room);
-    match Operator::open(rt, alloc, origin, signers, lanes, room, MOST_ENTRIES, 1) {
-        Ok((log_of, submitters, readers)) => {
-            serve_opened(
-                server, log_of, submitters, readers, shelves, 0, plan, reader, log,
-            )
-        }
-        Err(OperatorFault::OutOfMemory) => Err(RunFault::OutOfMemory),
+    }
+    match Intake::open(alloc, before, lanes, room, MOST_ENTRIES) {
+        Ok(opened) => Ok(opened),
+        Err(OpenFault::OutOfMemory) => Err(RunFault::OutOfMemory),
         Err(_) => Err(RunFault::Operator),
     }
 }
 
-// Serves the log that was found on the shelf, which goes on from there.
-fn serve_found<
+// A log that was found on a shelf, its lanes, and what answers.
+#[derive(Drop)]
+struct Opened<P> {
+    ledger: Ledger<Global>,
+    is_first: bool,
+    intake: Intake<Global, Global>,
+    lanes: Vec<Sending>,
+    pages: Vec<OnShelf<P>>,
+    lines: Lines<Global>,
+}
+
+// Opens the log on a shelf, and the lanes that the options want.
+fn open_log<S: Shelf, P: Drop, R: Read>(
+    alloc: Global,
+    options: &ServeOptions,
+    verifier: LogOpeningKey,
+    shelf: &S,
+    shown: Vec<P>,
+    found: &mut Found<Global>,
+    reader: &mut Counted<R>,
+) -> Result<Opened<P>, RunFault>
+    ensures opens { IfOk result (λ o.
+        Opens sha256 (opening_key_of verifier ∷ []) found.new o.ledger) }
+    ensures lanes { IfOk result
+        (λ o. All (λ l. IsSenderOf l.submitter o.intake.log) o.lanes.items) }
+    ensures none { IfOk result (λ o. (o.intake.drained ≡ []) × (o.intake.waiting ≡ [])) }
+{
+    let ledger = match open_ledger(alloc, verifier, shelf, found) {
+        Ok(ledger) => ledger,
+        Err(fault) => return Err(fault),
+    };
+    let plan = match read_plan(alloc, options, 0, reader) {
+        Ok(plan) => plan,
+        Err(fault) => return Err(fault),
+    };
+    let (intake, submitters) = match open_lanes(alloc, ledger.size(), plan.lanes, plan.room) {
+        Ok(opened) => opened,
+        Err(fault) => return Err(fault),
+    };
+    let Plan { entries, lines, .. } = plan;
+    let lanes = lanes_of(alloc, submitters, entries)?;
+    let pages = pages_of(alloc, shown)?;
+    Ok(Opened {
+        ledger,
+        is_first: found.head.is_none(),
+        intake,
+        lanes,
+        pages,
+        lines,
+    })
+}
+
+// Closes a log that ran, where its heart says so, and tells that.
+fn close<S: Shelf + Drop, L: Write>(
+    alloc: Global,
+    log: &ShelfLog<S>,
+    heart: Result<Heart<RunFault>, RunFault>,
+    is_quiet: bool,
+    out: &mut Counted<L>,
+) -> Result<(), RunFault>
+    ensures { OnOk result (IsClosed log.now.intake log.now.is_due) }
+{
+    let heart = match check_closing(heart) {
+        Ok(heart) => heart,
+        Err(fault) => return Err(fault),
+    };
+    let size = match log.finish() {
+        Ok(size) => size,
+        Err(fault) => return Err(fault),
+    };
+    tell_end(alloc, heart, size, is_quiet, out)
+}
+
+// Serves the log on a shelf under these keys.
+fn serve_under<
     H: Host + Net<Listener = TcpListener, Stream = TcpStream>,
     S: Shelf + Drop,
     P: Shelf + Send + Drop,
@@ -119,36 +157,51 @@ fn serve_found<
     L: Write,
 >(
     server: &Server<'_, H, OpenGate>,
-    signers: Vec<Box<dyn Signer>>,
-    opens: &[Box<dyn Verifier>],
-    found: FoundLog,
-    shelves: Shelves<S, P>,
+    keys: LogKeys,
+    shelf: S,
+    shown: Vec<P>,
+    found: &mut Found<Global>,
     reader: &mut Counted<R>,
-    log: &mut Counted<L>,
-) -> Result<(), RunFault> {
-    let (rt, alloc, origin) = (*server.rt, server.alloc, server.options.origin.as_str());
-    let plan = match read_plan(alloc, server.options, 0, reader) {
-        Ok(plan) => plan,
-        Err(fault) => return Err(fault),
-    };
-    let (lanes, room, most) = (plan.lanes, plan.room, MOST_ENTRIES);
-    let (note, base) = (found.note.as_str(), found.bundles.as_slice());
-    match Operator::resume(
-        rt, alloc, origin, signers, opens, lanes, room, most, 1, note, base,
-    ) {
-        Ok((log_of, submitters, readers)) => {
-            let sure = found.size;
-            serve_opened(
-                server, log_of, submitters, readers, shelves, sure, plan, reader, log,
-            )
+    out: &mut Counted<L>,
+) -> Served<S>
+    requires { IsKeyName (log_key_of keys.signer).name }
+    ensures { ServesUnder (log_key_of keys.signer) found.new
+        (visit S.kept S.trace shelf result.shelf) result.outcome }
+{
+    let LogKeys { signer, verifier } = keys;
+    let (alloc, options) = (server.alloc, server.options);
+    let opened = match open_log(alloc, options, verifier, &shelf, shown, found, reader) {
+        Ok(opened) => opened,
+        Err(fault) => {
+            let outcome = Err(fault);
+            return Served { shelf, outcome };
         }
-        Err(fault) => Err(unresumed(found.size, fault)),
+    };
+    let Opened {
+        ledger,
+        is_first,
+        intake,
+        lanes,
+        pages,
+        lines,
+    } = opened;
+    let mut log = ShelfLog::new(alloc, signer, shelf, ledger, intake, is_first);
+    if let Err(fault) = log.show() {
+        let (shelf, outcome) = (log.into_shelf(), Err(fault));
+        return Served { shelf, outcome };
     }
+    let Ran { running, heart } = server.serve_published(log, lanes, pages, lines, reader, out);
+    let outcome = close(alloc, &running.log, heart, options.server.quiet, out);
+    let Running { log, .. } = running;
+    let shelf = log.into_shelf();
+    Served { shelf, outcome }
 }
 
-/// As `run_serve`, but the log is on a shelf, and goes on from what is there: a thread for each of `shown`, which are
-/// to be of the same shelf (`threads_of` tells how many the options ask for), answers by `tl_server::serve_shelf` with
-/// what is there, and a publication is told once it is archived. Where that fails, the server ends. It may wait.
+/// As `run_serve`, but the log is on a shelf, and goes on from what is there: what its lanes give is put behind it and
+/// published, as `append` does, and told once it outlasts a crash. A thread for each of `shown`, which are to be of the
+/// same shelf (`threads_of` tells how many the options ask for), answers by `tl_server::serve_shelf` with what is there.
+/// Where the shelf fails, the server ends. Memory has what waits to be put there, whatever the log's size. The shelf is
+/// given back; `found` has what was read of it. It may wait.
 pub fn run_serve_shelf<
     H: Host + Net<Listener = TcpListener, Stream = TcpStream>,
     S: Shelf + Drop,
@@ -161,21 +214,28 @@ pub fn run_serve_shelf<
     options: &ServeOptions,
     shelf: S,
     shown: Vec<P>,
+    found: &mut Found<Global>,
     input: Option<RawFd>,
     reader: &mut Counted<R>,
-    log: &mut Counted<L>,
-) -> Result<(), RunFault>
-    ensures { RefusesOrigin
-        (string_bytes options.now.origin) (passage R.remaining reader.old reader.new) result }
+    out: &mut Counted<L>,
+) -> Served<S>
+    ensures refuses { RefusesOrigin (string_bytes options.now.origin)
+        (passage R.remaining reader.old reader.new) result.outcome }
+    ensures serves { Serves options.now.key (string_bytes options.now.origin) found.new
+        (visit S.kept S.trace shelf result.shelf) result.outcome }
 {
     let origin = options.origin.as_str();
     if !is_key_name(origin) {
-        return Err(RunFault::BadOrigin);
+        let outcome = Err(RunFault::BadOrigin);
+        return Served { shelf, outcome };
     }
-    let LogKeys { signer, verifier } = keys_of(rt, alloc, origin, &options.key)?;
-    let opens: [Box<dyn Verifier>; 1] = [Box::new(alloc, verifier)?];
-    let mut signers: Vec<Box<dyn Signer>> = Vec::new(alloc);
-    signers.push(Box::new(alloc, signer)?)?;
+    let keys = match keys_of(rt, alloc, origin, &options.key) {
+        Ok(keys) => keys,
+        Err(fault) => {
+            let outcome = Err(fault);
+            return Served { shelf, outcome };
+        }
+    };
     let server = Server {
         rt,
         alloc,
@@ -183,10 +243,5 @@ pub fn run_serve_shelf<
         input,
         gate: &OpenGate,
     };
-    let shelves = Shelves { shelf, shown };
-    match read_log(&shelves.shelf, alloc, &opens) {
-        Ok(Some(found)) => serve_found(&server, signers, &opens, found, shelves, reader, log),
-        Ok(None) => serve_new(&server, signers, shelves, reader, log),
-        Err(fault) => Err(unread(fault)),
-    }
+    serve_under(&server, keys, shelf, shown, found, reader, out)
 }

@@ -2,21 +2,19 @@
 
 ghost use Rattle.std.specs.Global.{Global as GlobalValue};
 ghost use Rattle.std.specs.Prelude.{All, IfOk};
-ghost use Rattle.tl_publisher.specs.Operating.{IsOperating};
 ghost use Rattle.tl_sequencer.specs.Log.{IsEndOf, IsSenderOf, Log};
-ghost use Rattle.tl_serve.specs.Inner.Running.{StaysOperating};
+ghost use Rattle.tl_serve.specs.Inner.Running.{StaysRunning};
 
 use crate::answering::{end_answering, start_answering};
 use crate::door::Door;
 use crate::following::{Source, start_following};
 use crate::gate::Gate;
 use crate::host::Host;
-use crate::keeping::{Archiving, Keeper};
 use crate::lanes::{AllSent, LaneThread, Sending, join_lanes, start_lanes};
 use crate::live_log::LiveLog;
 use crate::news::{News, Told};
 use crate::pages::Pages;
-use crate::running::{Feed, Rounds, Running};
+use crate::running::{Feed, Running};
 use crate::telling::tell_closed;
 use std::alloc::Global;
 use std::io::Write;
@@ -63,68 +61,76 @@ fn start_sending<'s, E, H: Host, S: Source + 's, G: Gate>(
     Ok(threads)
 }
 
-/// How a log ended, of which the last step was carried out.
-pub(crate) fn outcome_of(heart: Heart<RunFault>) -> Result<(), RunFault> {
+/// A log that ran, and its heart once all threads have ended; or why they weren't started.
+#[derive(Drop)]
+pub(crate) struct Ran<O> {
+    pub(crate) running: Running<O>,
+    pub(crate) heart: Result<Heart<RunFault>, RunFault>,
+}
+
+/// What a log ends with that isn't to be closed: the fault that its heart has.
+pub(crate) fn fault_of(heart: Heart<RunFault>) -> RunFault {
     match heart.after(Event::Done(0)).step() {
-        Step::End(outcome) => outcome,
+        Step::End(Err(fault)) => fault,
+        _ => RunFault::Operator,
+    }
+}
+
+/// Whether the log is to be closed now, since nothing is owed any more. Else the fault that its heart has.
+pub(crate) fn check_closing(
+    heart: Result<Heart<RunFault>, RunFault>,
+) -> Result<Heart<RunFault>, RunFault> {
+    let heart = heart?;
+    match heart.step() {
+        Step::CloseLog => Ok(heart),
+        _ => Err(fault_of(heart)),
+    }
+}
+
+/// Tells that the log is closed with so many entries, unless nothing is told.
+pub(crate) fn tell_end<L: Write>(
+    alloc: Global,
+    heart: Heart<RunFault>,
+    size: u64,
+    is_quiet: bool,
+    out: &mut Counted<L>,
+) -> Result<(), RunFault> {
+    match heart.after(Event::Done(size)).step() {
+        Step::TellClosed(size) if !is_quiet => tell_closed(alloc, out, size),
+        Step::TellClosed(_) => Ok(()),
         _ => Err(RunFault::Operator),
     }
 }
 
-// Closes the log, where nothing is owed any more, and tells that unless nothing is told: how it ended.
-fn close<O: LiveLog, K: Keeper, L: Write>(
-    alloc: Global,
-    running: Running<O, K>,
-    heart: Heart<RunFault>,
-    log: &mut Counted<L>,
-) -> Result<(), RunFault>
-    requires { IsOperating (O.state running.operator) }
-{
-    let Step::CloseLog = heart.step() else {
-        return outcome_of(heart);
-    };
-    let is_quiet = running.rounds.word.is_none();
-    let heart = match running.operator.finish() {
-        Ok(size) => heart.after(Event::Done(size)),
-        Err(fault) => heart.after(Event::Failed(fault)),
-    };
-    match heart.step() {
-        Step::TellClosed(size) if !is_quiet => tell_closed(alloc, log, size),
-        Step::TellClosed(_) => Ok(()),
-        _ => outcome_of(heart),
-    }
-}
-
 // Takes in what is left of what was sent, where that is the step, and goes on.
-fn drive_rest<O: LiveLog, K: Keeper, F: Feed, L: Write>(
+fn drive_rest<O: LiveLog, F: Feed, L: Write>(
     alloc: Global,
-    running: &mut Running<O, K>,
+    running: &mut Running<O>,
     heart: Heart<RunFault>,
     sent: AllSent,
     feed: &mut F,
-    log: &mut Counted<L>,
+    out: &mut Counted<L>,
 ) -> Heart<RunFault>
-    requires operating { IsOperating (O.state running.old.operator) }
-    requires ends { All (λ e. IsEndOf e (O.state running.old.operator).log) sent.ends.items }
-    ensures { StaysOperating (O.state running.old.operator) (O.state running.new.operator) }
+    requires holds { O.holds running.old.log }
+    requires ends { All (λ e. IsEndOf e (O.log running.old.log)) sent.ends.items }
+    ensures { StaysRunning O.holds O.log O.begun running.old.log running.new.log }
 {
     let AllSent { ends, count } = sent;
     let mut heart = heart;
     if let Step::TakeRest = heart.step() {
         heart = heart.after(running.take_rest(ends));
-        heart = running.drive(alloc, heart, feed, log);
+        heart = running.drive(alloc, heart, feed, out);
     }
-    let _ = running.tell_rest(alloc, log, count);
+    let _ = running.tell_rest(alloc, out, count);
     heart
 }
 
-// Starts the threads, carries the log's steps out and takes in the ends of its lanes: how it ended.
+// Starts the threads, carries the log's steps out and takes in the ends of its lanes: what its heart comes to.
 fn run_threads<
     's,
     E,
     H: Host + Net<Listener = TcpListener, Stream = TcpStream>,
     O: LiveLog,
-    K: Keeper,
     P: Pages + Send + 's,
     S: Source + 's,
     L: Write,
@@ -132,28 +138,26 @@ fn run_threads<
 >(
     scope: &'s Scope<'s, E>,
     common: &Common<'s, H, G>,
-    running: Running<O, K>,
+    running: &mut Running<O>,
     pages: Vec<P>,
     lanes: Vec<Sending>,
     followed: Option<S>,
-    log: &mut Counted<L>,
-) -> Result<(), RunFault>
-    requires operating { IsOperating (O.state running.operator) }
-    requires senders { All
-        (λ l. IsSenderOf l.submitter (O.state running.operator).log) lanes.items }
+    out: &mut Counted<L>,
+) -> Result<Heart<RunFault>, RunFault>
+    requires holds { O.holds running.old.log }
+    requires senders { All (λ l. IsSenderOf l.submitter (O.log running.old.log)) lanes.items }
+    ensures { StaysRunning O.holds O.log O.begun running.old.log running.new.log }
 {
     let (rt, alloc, door, news) = (common.rt, common.alloc, common.door, common.news);
-    let mut running = running;
     let mut feed = Told { rt, news };
     let sending = start_sending(scope, rt, alloc, lanes, followed, common.gate, news)?;
     let answering = start_answering(scope, rt, alloc, door, pages, news)?;
-    let heart = running.drive(alloc, running.begin(), &mut feed, log);
+    let heart = running.drive(alloc, running.begin(), &mut feed, out);
     news.stop();
     end_answering(rt, door, answering);
     let sent = join_lanes(rt, alloc, sending)?;
     let heart = heart.after(Event::Done(0));
-    let heart = drive_rest(alloc, &mut running, heart, sent, &mut feed, log);
-    close(alloc, running, heart, log)
+    Ok(drive_rest(alloc, running, heart, sent, &mut feed, out))
 }
 
 // The same; however it ended, all threads end.
@@ -162,7 +166,6 @@ fn run_in<
     E,
     H: Host + Net<Listener = TcpListener, Stream = TcpStream>,
     O: LiveLog,
-    K: Keeper,
     P: Pages + Send + 's,
     S: Source + 's,
     L: Write,
@@ -170,57 +173,52 @@ fn run_in<
 >(
     scope: &'s Scope<'s, E>,
     common: Common<'s, H, G>,
-    operator: O,
-    kept: Archiving<K>,
-    rounds: Rounds,
+    running: Running<O>,
     pages: Vec<P>,
     lanes: Vec<Sending>,
     followed: Option<S>,
-    log: &mut Counted<L>,
-) -> Result<(), RunFault>
-    requires operating { IsOperating (O.state operator) }
-    requires senders { All (λ l. IsSenderOf l.submitter (O.state operator).log) lanes.items }
+    out: &mut Counted<L>,
+) -> Ran<O>
+    requires holds { O.holds running.log }
+    requires senders { All (λ l. IsSenderOf l.submitter (O.log running.log)) lanes.items }
+    ensures { StaysRunning O.holds O.log O.begun running.log result.running.log }
 {
-    let running = Running::new(operator, kept, rounds);
-    let outcome = run_threads(scope, &common, running, pages, lanes, followed, log);
+    let mut running = running;
+    let heart = run_threads(scope, &common, &mut running, pages, lanes, followed, out);
     common.door.close();
     common.news.stop();
-    outcome
+    Ran { running, heart }
 }
 
-/// Runs a log that was opened and published once, until its connections are answered or something fails, and closes it.
+/// Runs a log that was opened and published once, until its connections are answered or something fails, and hands it
+/// back. It isn't closed yet.
 pub(crate) fn run_log<
     H: Host + Net<Listener = TcpListener, Stream = TcpStream>,
     O: LiveLog,
-    K: Keeper,
     P: Pages + Send,
     S: Source,
     L: Write,
     G: Gate,
 >(
     common: Common<'_, H, G>,
-    operator: O,
-    kept: Archiving<K>,
-    rounds: Rounds,
+    running: Running<O>,
     pages: Vec<P>,
     lanes: Vec<Sending>,
     followed: Option<S>,
-    log: &mut Counted<L>,
-) -> Result<(), RunFault>
-    requires operating { IsOperating (O.state operator) }
-    requires senders { All (λ l. IsSenderOf l.submitter (O.state operator).log) lanes.items }
+    out: &mut Counted<L>,
+) -> Ran<O>
+    requires holds { O.holds running.log }
+    requires senders { All (λ l. IsSenderOf l.submitter (O.log running.log)) lanes.items }
+    ensures { StaysRunning O.holds O.log O.begun running.log result.running.log }
 {
     thread::scope(
         thread::scope_env(),
         common.rt,
-        |scope|
-            requires operating { IsOperating (O.state operator) }
+        |scope| -> Ran<O>
+            requires holds { O.holds running.log }
             requires senders { All
-                (λ l. IsSenderOf l.submitter (O.state operator).log) lanes.items }
-        {
-            run_in(
-                scope, common, operator, kept, rounds, pages, lanes, followed, log,
-            )
-        },
+                (λ l. IsSenderOf l.submitter (O.log running.log)) lanes.items }
+            ensures { StaysRunning O.holds O.log O.begun running.log result.running.log }
+        { run_in(scope, common, running, pages, lanes, followed, out) },
     )
 }

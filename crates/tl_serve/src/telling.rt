@@ -5,22 +5,19 @@ use std::alloc::Global;
 use std::io::Write;
 use tl_command::{RunFault, print_text};
 use tl_device::Counted;
-use tl_publisher::BoardReader;
+use tl_hash::Head;
 
 // What is told of a log that is nowhere but in memory.
 const IN_MEMORY: &str =
     "in memory: nothing of this log outlasts the program; readers who kept a checkpoint will find it shrunk\n";
 
-/// Tells size and root of the last publication that a reader of the board sees, after this word.
+/// Tells size and root of a publication, after this word.
 pub(crate) fn tell_head<L: Write>(
     alloc: Global,
     log: &mut Counted<L>,
-    board: &mut BoardReader<Global>,
     word: &str,
+    head: Head,
 ) -> Result<(), RunFault> {
-    let Ok(Some(head)) = board.head() else {
-        return Ok(());
-    };
     let root = STANDARD.encode(alloc, head.root.as_bytes())?;
     let line = format!(in alloc; "{word}{} {root}\n", head.size)?;
     print_text(log, line.as_bytes())

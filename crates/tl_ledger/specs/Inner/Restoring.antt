@@ -16,10 +16,9 @@ use Rattle.tl_checkpoint.specs.declared.opening.OpenCheckpointFault.TheVariants 
 use Rattle.tl_client.specs.Checked.{LeavesCollide}
 use Rattle.tl_archive.specs.Shelves.{Held, Item}
 use Rattle.tl_archive.specs.Complete.{HasAll}
-use Rattle.tl_archive.specs.Reading.{IsUnopened}
 use Rattle.tl_ledger.specs.Standing.{Ledger, IsStanding}
 use Rattle.tl_ledger.specs.Opening.{Found, FoundCollides}
-use Rattle.tl_ledger.specs.OpenFaults.{HasRead, IsDamaged, StatesTooMany}
+use Rattle.tl_ledger.specs.OpenFaults.{HasRead, IsDamaged, IsUnopened, StatesTooMany}
 use Rattle.tl_ledger.specs.Inner.Reads.{AreThere}
 use Rattle.tl_ledger.specs.declared.opened.fault.OpenFault.{OpenFault}
 use Rattle.tl_ledger.specs.declared.opened.fault.OpenFault.TheVariants as opening

@@ -1,9 +1,20 @@
--- What an operator is after it took in what was submitted, and published.
-use Rattle.std.specs.Prelude.{◌≡◌}
-use Rattle.tl_sequencer.specs.Log.{rings_of}
-use Rattle.tl_publisher.specs.Operating.{Operated, IsOperating}
+-- A log that runs, after it took in what was submitted, and published.
+use Rattle.std.specs.Prelude.{◌≡◌, List, Option}
+use Rattle.tl_sequencer.specs.Log.{Log, rings_of}
+use Rattle.tl_archive.specs.Shelves.{Kept}
+use Rattle.tl_ledger.specs.Standing.{Ledger}
+use Rattle.tl_command.specs.Mirror.{LogKey}
 
--- it operates, and its lanes are those that it had: the ends of its submitters are its ends
-pub record StaysOperating {A : Type 0} (before after : Operated A) : Type 0 where
-  pub operating : IsOperating after
-  pub rings : rings_of after.log ≡ rings_of before.log
+-- what a log on a shelf began with: its key, what the shelf kept then and after each call before, and its ledger
+pub record Begun : Type 0 where
+  pub key : LogKey
+  pub kept : Kept
+  pub saw : List Kept
+  pub was : Ledger
+
+-- what holds of it holds, and its lanes are those that it had, and what it began with: the ends of its submitters are
+-- its ends
+pub record StaysRunning {S A : Type 0} (Holds : S → Type 0) (log_of : S → Log A) (begun_of : S → Option Begun) (before after : S) : Type 0 where
+  pub holds : Holds after
+  pub rings : rings_of (log_of after) ≡ rings_of (log_of before)
+  pub begun : begun_of after ≡ begun_of before

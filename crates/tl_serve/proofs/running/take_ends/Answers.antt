@@ -6,18 +6,19 @@ use Rattle.tl_serve.proofs.running.take_ends.Goals as goal
 
 pub end_lane-requires-clause-end : goal.end_lane-requires-clause-end
 end_lane-requires-clause-end g c =
-    let left = subst (All (λ e. IsEndOf e (g.O.RunningLog.state c.args.operator.now).log)) c.in-Some.ensures.steps.0 c.loop-ended.invariant.1 in
-    end_stays c.in-Some.ended (g.O.RunningLog.state c.args.operator.now).log (g.O.RunningLog.state c.loop-ended.operator).log c.loop-ended.invariant.0.rings
-    (All-head (λ e. IsEndOf e (g.O.RunningLog.state c.args.operator.now).log) c.in-Some.ended c.next.new.self.rest.items left)
+    let left = subst (All (λ e. IsEndOf e (g.O.LiveLog.log c.args.log.now))) c.in-Some.ensures.steps.0 c.loop-ended.invariant.1 in
+    end_stays c.in-Some.ended (g.O.LiveLog.log c.args.log.now) (g.O.LiveLog.log c.loop-ended.log) c.loop-ended.invariant.0.rings
+    (All-head (λ e. IsEndOf e (g.O.LiveLog.log c.args.log.now)) c.in-Some.ended c.next.new.self.rest.items left)
 
 pub loop-ended-preserved : goal.loop-ended-preserved
 loop-ended-preserved g c =
     let step = ap length c.in-Some.ensures.steps.0 in
-    let left = subst (All (λ e. IsEndOf e (g.O.RunningLog.state c.args.operator.now).log)) c.in-Some.ensures.steps.0 c.loop-ended.invariant.1 in (
+    let left = subst (All (λ e. IsEndOf e (g.O.LiveLog.log c.args.log.now))) c.in-Some.ensures.steps.0 c.loop-ended.invariant.1 in (
       record {
-        operating = c.end_lane.ensures.kept.operating;
+        holds = c.end_lane.ensures.kept.holds;
         rings = c.end_lane.ensures.kept.rings ∙ c.loop-ended.invariant.0.rings;
+        begun = c.end_lane.ensures.kept.begun ∙ c.loop-ended.invariant.0.begun;
       },
-      All-tail (λ e. IsEndOf e (g.O.RunningLog.state c.args.operator.now).log) c.in-Some.ended c.next.new.self.rest.items left,
+      All-tail (λ e. IsEndOf e (g.O.LiveLog.log c.args.log.now)) c.in-Some.ended c.next.new.self.rest.items left,
       omega (arith, step, c.in-Some.ensures.steps.1, c.loop-ended.invariant.2),
     )

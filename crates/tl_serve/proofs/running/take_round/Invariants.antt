@@ -1,6 +1,6 @@
-use Rattle.tl_serve.specs.Inner.Running.{StaysOperating}
+use Rattle.tl_serve.specs.Inner.Running.{StaysRunning}
 use Rattle.tl_serve.proofs.running.take_round.Given as goal
 
--- it operates, and its lanes stay
+-- what holds of it holds, and its lanes stay
 abbrev pub invariant-loop-lane : goal.invariant-loop-lane
-invariant-loop-lane g l = StaysOperating (g.O.RunningLog.state l.fn.operator) (g.O.RunningLog.state l.operator)
+invariant-loop-lane g l = StaysRunning g.O.LiveLog.holds g.O.LiveLog.log g.O.LiveLog.begun l.fn.log l.log

@@ -1,6 +1,6 @@
-use Rattle.tl_serve.specs.Inner.Running.{StaysOperating}
+use Rattle.tl_serve.specs.Inner.Running.{StaysRunning}
 use Rattle.tl_serve.proofs.running.Running.drive.Given as goal
 
--- the operator operates and has its lanes
+-- what holds of it holds, and its lanes stay
 abbrev pub invariant-loop : goal.invariant-loop
-invariant-loop g l = StaysOperating (g.O.RunningLog.state l.fn.self.operator) (g.O.RunningLog.state l.self.operator)
+invariant-loop g l = StaysRunning g.O.LiveLog.holds g.O.LiveLog.log g.O.LiveLog.begun l.fn.self.log l.self.log

@@ -1,7 +1,2 @@
 use Rattle.tl_serve.proofs.Ends.{senders_of}
 use Rattle.tl_serve.proofs.serve.Server.serve_opened.Goals as goal
-
-pub serve_published-requires-clause-senders : goal.serve_published-requires-clause-senders
-serve_published-requires-clause-senders g c κs within =
-    senders_of (λ l. l.submitter) c.in_ok-lanes.lanes.items c.args.submitters.items (g.O.RunningLog.state c.args.opened).log (g.O.RunningLog.state c.publish_first.new.log).log
-    c.in_ok-lanes.ensures.submitters c.requires.senders c.publish_first.ensures.rings

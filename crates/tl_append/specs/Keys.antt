@@ -2,15 +2,21 @@
 use Rattle.tl_note.specs.Key.{Key, SigningKey}
 use Rattle.tl_key.specs.DemoKey.{demo_signing_key, demo_verifier_key}
 use Rattle.tl_key.specs.NoteKey.{signer_key, verifier_key}
-use Rattle.tl_serve.specs.declared.log_keys.LogSigningKey.{LogSigningKey}
-use Rattle.tl_serve.specs.declared.log_keys.LogSigningKey.TheVariants as signing
-use Rattle.tl_serve.specs.declared.log_keys.LogOpeningKey.{LogOpeningKey}
-use Rattle.tl_serve.specs.declared.log_keys.LogOpeningKey.TheVariants as opening
+use Rattle.tl_command.specs.Mirror.{LogKey, demo_log_key, seed_log_key}
+use Rattle.tl_append.specs.declared.keys.LogSigningKey.{LogSigningKey}
+use Rattle.tl_append.specs.declared.keys.LogSigningKey.TheVariants as signing
+use Rattle.tl_append.specs.declared.keys.LogOpeningKey.{LogOpeningKey}
+use Rattle.tl_append.specs.declared.keys.LogOpeningKey.TheVariants as opening
 
 -- what it signs
 abbrev pub signing_key_of : LogSigningKey → SigningKey
 signing_key_of (signing.Demonstration k) = demo_signing_key k
 signing_key_of (signing.Private k) = signer_key k
+
+-- the log's key, as which it signs
+abbrev pub log_key_of : LogSigningKey → LogKey
+log_key_of (signing.Demonstration k) = demo_log_key k
+log_key_of (signing.Private k) = seed_log_key k
 
 -- what it opens
 abbrev pub opening_key_of : LogOpeningKey → Key

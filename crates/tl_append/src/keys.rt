@@ -1,20 +1,26 @@
 //! The keys of a log.
 
-use std::alloc::Global;
+ghost use Rattle.std.specs.Prelude.{◌≡◌, IfOk};
+ghost use Rattle.tl_append.specs.Keys.{log_key_of};
+ghost use Rattle.tl_append.specs.Running.{IsLogKey};
+
+use std::alloc::{AllocError, Allocator, Global};
 use std::fs::Files;
-use tl_command::{LogKey, RunFault, read_file, read_private_key};
+use tl_command::{LogKey, LogSigner, RunFault, read_file, read_private_key};
 use tl_key::{DemoKey, Note, SignerKey, VerifierKey, demo_key};
-use tl_note::{NoteFault, SignFault, Signer, Verifier};
+use tl_note::{NoteFault, SignFault, Signer, Verifier, write_signature_line};
 
 /// The key with which a log signs.
 #[derive(Drop)]
-pub(crate) enum LogSigningKey {
+pub enum LogSigningKey {
+    /// The demonstration key of the log's name and a secret.
     Demonstration(DemoKey<Global>),
+    /// An Ed25519 key of the log's name.
     Private(SignerKey<Note, Global>),
 }
 
 impl Signer for LogSigningKey {
-    ghost use Rattle.tl_serve.specs.LogKeys.{signing_key_of};
+    ghost use Rattle.tl_append.specs.Keys.{signing_key_of};
 
     ghost signing_key = { λ k. signing_key_of k };
 
@@ -40,15 +46,47 @@ impl Signer for LogSigningKey {
     }
 }
 
+impl LogSigner for LogSigningKey {
+    ghost use Rattle.tl_append.specs.Keys.{log_key_of};
+
+    ghost log_key = { λ k. log_key_of k };
+
+    fn origin(&self) -> &str {
+        match self {
+            LogSigningKey::Demonstration(key) => Signer::name(key),
+            LogSigningKey::Private(key) => Signer::name(key),
+        }
+    }
+
+    fn line<A: Allocator + Copy>(
+        &self,
+        alloc: A,
+        global: Global,
+        text: &str,
+    ) -> Result<String<A>, AllocError> {
+        match self {
+            LogSigningKey::Demonstration(key) => {
+                let Ok(signature) = key.sign(global, text.as_bytes()) else {
+                    return Err(AllocError);
+                };
+                write_signature_line(alloc, Signer::name(key), key.key_id(), signature.as_slice())
+            }
+            LogSigningKey::Private(key) => key.line(alloc, global, text),
+        }
+    }
+}
+
 /// The key that opens what a log signed.
 #[derive(Drop)]
-pub(crate) enum LogOpeningKey {
+pub enum LogOpeningKey {
+    /// The demonstration key of the log's name and a secret.
     Demonstration(DemoKey<Global>),
+    /// An Ed25519 key of the log's name.
     Public(VerifierKey<Note, Global>),
 }
 
 impl Verifier for LogOpeningKey {
-    ghost use Rattle.tl_serve.specs.LogKeys.{opening_key_of};
+    ghost use Rattle.tl_append.specs.Keys.{opening_key_of};
 
     ghost key = { λ k. opening_key_of k };
 
@@ -76,13 +114,17 @@ impl Verifier for LogOpeningKey {
 
 /// The keys of a log: one that signs, and one that opens what it signed.
 #[derive(Drop)]
-pub(crate) struct LogKeys {
-    pub(crate) signer: LogSigningKey,
-    pub(crate) verifier: LogOpeningKey,
+pub struct LogKeys {
+    /// It signs.
+    pub signer: LogSigningKey,
+    /// It opens what the other signed.
+    pub verifier: LogOpeningKey,
 }
 
 // The demonstration key of the log.
-fn demonstration(alloc: Global, origin: &str, secret: &str) -> Result<DemoKey<Global>, RunFault> {
+fn demonstration(alloc: Global, origin: &str, secret: &str) -> Result<DemoKey<Global>, RunFault>
+    ensures { IfOk result (λ key. key ≡ record { name = origin.now; secret = secret.now }) }
+{
     match demo_key(alloc, origin, secret.as_bytes()) {
         Ok(key) => Ok(key),
         Err(NoteFault::OutOfMemory) => Err(RunFault::OutOfMemory),
@@ -90,13 +132,15 @@ fn demonstration(alloc: Global, origin: &str, secret: &str) -> Result<DemoKey<Gl
     }
 }
 
-/// The keys of a log of this name. `BadOrigin`: they are of another name.
-pub(crate) fn keys_of<H: Files>(
+/// The keys of a log of this name, by the key that its options tell. `BadOrigin`: they are of another name.
+pub fn keys_of<H: Files>(
     rt: &H,
     alloc: Global,
     origin: &str,
     key: &LogKey,
-) -> Result<LogKeys, RunFault> {
+) -> Result<LogKeys, RunFault>
+    ensures { IfOk result (λ keys. IsLogKey key.now origin.now (log_key_of keys.signer)) }
+{
     match key {
         LogKey::Secret(secret) => Ok(LogKeys {
             signer: LogSigningKey::Demonstration(demonstration(alloc, origin, secret)?),

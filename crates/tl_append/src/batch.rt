@@ -1,0 +1,86 @@
+//! One batch of entries that is appended to a log and published.
+
+ghost use Rattle.std.specs.Prelude.{◌≡◌, ◌+◌, ◌<◌, ◌^◌, ◌∷◌, ◌++◌, [], List, length, map, vec_items, OnErr, OnOk};
+ghost use Rattle.sha2.specs.Sha256.{sha256};
+ghost use Rattle.tl_hash.specs.Bytes.{Bytes};
+ghost use Rattle.tl_note.specs.Key.{IsKeyName};
+ghost use Rattle.tl_tile.specs.Bundle.{AreShortEntries};
+ghost use Rattle.tl_publisher.specs.Histories.{Prefix};
+ghost use Rattle.tl_archive.specs.Complete.{KeptSafe};
+ghost use Rattle.tl_ledger.specs.Keeping.{IsKeeping};
+ghost use Rattle.tl_append.specs.Appending.{Appends, AppendsAtMost, course};
+
+use crate::faults::{unkept, unput};
+use std::alloc::Global;
+use tl_archive::Shelf;
+use tl_command::{LogSigner, RunFault, sign_checkpoint};
+use tl_ledger::Ledger;
+
+// The most entries of a log.
+const MOST_ENTRIES: u64 = 4_294_967_295;
+
+// Puts a batch behind a log. `Operator`: it has no room for it, and nothing was put.
+fn put_batch<S: Shelf>(
+    shelf: &mut S,
+    ledger: &mut Ledger<Global>,
+    batch: &[Vec<u8>],
+) -> Result<(), RunFault>
+    requires { AreShortEntries (map vec_items batch.now) }
+    ensures kept { (history : List Prefix) (log : List Bytes)
+        → IsKeeping sha256 history log (S.kept shelf.old) ledger.old
+        → OnOk result (IsKeeping sha256 history (log ++ map vec_items batch.now)
+        (S.kept shelf.new) ledger.new) }
+    ensures stayed { (history : List Prefix) (log : List Bytes)
+        → IsKeeping sha256 history log (S.kept shelf.old) ledger.old
+        → OnErr result (IsKeeping sha256 history log (S.kept shelf.new) ledger.new) }
+    ensures safe { (history : List Prefix) (log : List Bytes)
+        → IsKeeping sha256 history log (S.kept shelf.old) ledger.old
+        → KeptSafe sha256 history (S.trace shelf.old) (S.trace shelf.new) }
+    ensures sized { OnOk result
+        (ledger.new.edge.size ≡ ledger.old.edge.size + length batch.now) }
+    ensures same { OnErr result (ledger.new ≡ ledger.old) }
+    ensures small { OnOk result (ledger.new.edge.size < 2 ^ 32) }
+{
+    if ledger.size().saturating_add(batch.len() as u64) > MOST_ENTRIES {
+        return Err(RunFault::Operator);
+    }
+    match ledger.put(shelf, batch) {
+        Ok(()) => Ok(()),
+        Err(fault) => Err(unput(fault)),
+    }
+}
+
+/// Puts a batch of entries behind the log on the shelf, which is the ledger's, and publishes it, once its tiles and
+/// bundles outlast a crash, under a note of its checkpoint by the key, whose name is the log's (C2SP tlog-checkpoint,
+/// tlog-tiles). At a fault the ledger's size tells whether the batch was put. `Operator`: the log would have more than
+/// 2^32 - 1 entries.
+pub fn append_batch<K: LogSigner, S: Shelf>(
+    alloc: Global,
+    key: &K,
+    batch: &[Vec<u8>],
+    shelf: &mut S,
+    ledger: &mut Ledger<Global>,
+) -> Result<(), RunFault>
+    requires origin { IsKeyName (K.log_key key.now).name }
+    requires short { AreShortEntries (map vec_items batch.now) }
+    ensures all { OnOk result (Appends (K.log_key key.now) (map vec_items batch.now ∷ [])
+        (course S.kept S.trace shelf.old shelf.new ledger.old ledger.new)) }
+    ensures sized { OnOk result
+        (ledger.new.edge.size ≡ ledger.old.edge.size + length batch.now) }
+    ensures small { OnOk result (ledger.new.edge.size < 2 ^ 32) }
+    ensures part { OnErr result (AppendsAtMost (K.log_key key.now) (map vec_items batch.now)
+        (course S.kept S.trace shelf.old shelf.new ledger.old ledger.new)) }
+{
+    match put_batch(shelf, ledger, batch) {
+        Ok(()) => {}
+        Err(fault) => return Err(fault),
+    }
+    let note = match sign_checkpoint(alloc, alloc, key, ledger.size(), ledger.root()) {
+        Ok(note) => note,
+        Err(fault) => return Err(fault),
+    };
+    match ledger.seal(shelf, note.as_bytes()) {
+        Ok(()) => Ok(()),
+        Err(fault) => Err(unkept(fault)),
+    }
+}

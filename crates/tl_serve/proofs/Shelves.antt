@@ -1,0 +1,152 @@
+-- A log on a shelf, from its opening to the shelf that it gives back.
+use Rattle.std.proofs.Common.{◌≡◌, ◌≢◌, inl, inr, ℕ, zero, suc, ◌+◌, Bool, true, false, true≢false, List, [], ◌∷◌, ◌++◌, Option, Some, length, refl, sym, ap, subst, ◌∙◌, arith, append_assoc}
+use Rattle.std.proofs.lemmas.List.{append-nil}
+use Rattle.sha2.specs.Sha256.{sha256}
+use Rattle.tl_hash.specs.Bytes.{Bytes}
+use Rattle.tl_note.specs.Key.{IsKeyName, Key}
+use Rattle.tl_sequencer.specs.Intake.{Intake}
+use Rattle.tl_sequencer.specs.Log.{entries_of}
+use Rattle.tl_archive.specs.Shelves.{Kept}
+use Rattle.tl_ledger.specs.Standing.{Ledger}
+use Rattle.tl_ledger.specs.Opening.{Found, Opens}
+use Rattle.tl_command.specs.Mirror.{LogKey}
+use Rattle.tl_append.specs.Appending.{Appends, AppendsAtMost, AppendsThen, Course, IsPutOrNot, joined}
+use Rattle.tl_append.specs.Running.{Grows, OfFound}
+use Rattle.tl_append.proofs.Onward.{same_entries, then_batches, then_put}
+use Rattle.tl_append.proofs.Runs.{between, grows_then}
+use Rattle.tl_append.proofs.Turns.{along, none_appended, nothing_then}
+use Rattle.tl_serve.specs.Serving.{ServesPart, ServesWhole}
+use Rattle.tl_serve.specs.Inner.Running.{Begun}
+use Rattle.tl_serve.specs.Inner.Shelved.{IsClosed, IsServing}
+
+-- ---- at first
+
+pub serving_new : {A : Type 0} (key : LogKey) (k : Kept) (saw : List Kept) (was : Ledger) (i : Intake A) (is_due : Bool)
+    → IsKeyName key.name → i.drained ≡ [] → i.waiting ≡ [] → IsServing key (along k k saw saw was was) i is_due
+serving_new key k saw was i is_due named drained waiting = record {
+  named = named;
+  batches = [];
+  rest = [];
+  appends = nothing_then key [] k k saw saw was was (none_appended key k saw was);
+  own = sym drained;
+  all = λ _. refl;
+  none = λ _. waiting;
+}
+
+-- ---- once entries were taken
+
+no_more : (waiting more : List Bytes) → length more ≡ 0 → waiting ++ more ≡ waiting
+no_more waiting [] none = append-nil waiting
+no_more waiting (x ∷ xs) none = absurd (omega (arith, none))
+
+pub serving_taken : {A : Type 0} (key : LogKey) (c : Course) (i j : Intake A) (due due' : Bool) (taken : ℕ) (more : List Bytes)
+    → IsServing key c i due → j.drained ≡ i.drained → j.waiting ≡ i.waiting ++ more → length more ≡ taken
+    → (due' ≡ false → (due ≡ false) × (taken ≡ 0)) → IsServing key c j due'
+serving_taken key c i j due due' taken more is drained waiting counted none = record {
+  named = is.named;
+  batches = is.batches;
+  rest = is.rest;
+  appends = is.appends;
+  own = is.own ∙ sym drained;
+  all = λ not. is.all (none not).0;
+  none = λ not. waiting ∙ no_more i.waiting more (counted ∙ (none not).1) ∙ is.none (none not).0;
+}
+
+-- ---- once what waits was appended
+
+-- an intake before and after, with the sizes of the ledger, of which what waits is let go where the size grew
+record LetsGo {A : Type 0} (i j : Intake A) (c : Course) (before after : ℕ) : Type 0 where
+  pub parts : i.log.taken ≡ i.drained ++ i.waiting
+  pub old : before ≡ c.was.edge.size
+  pub new : after ≡ c.is.edge.size
+  pub gone : before ≢ after → (j.drained ≡ i.log.taken) × (j.waiting ≡ [])
+  pub left : before ≡ after → j ≡ i
+
+-- all that waited was put: it is let go, or nothing waited
+let_all : {A : Type 0} (i j : Intake A) (c : Course) (before after : ℕ) → LetsGo i j c before after
+    → c.is.edge.size ≡ c.was.edge.size + length i.waiting → (w : List Bytes) → i.waiting ≡ w → (j.drained ≡ i.log.taken) × (j.waiting ≡ [])
+let_all i j c before after goes grown [] none =
+    let same = goes.left (omega (arith, goes.old, goes.new, grown, ap length none)) in
+    (ap (λ (x : Intake _). x.drained) same ∙ sym (goes.parts ∙ ap (λ (es : List Bytes). i.drained ++ es) none ∙ append-nil i.drained), ap (λ (x : Intake _). x.waiting) same ∙ none)
+let_all i j c before after goes grown (x ∷ xs) some =
+    goes.gone (λ same. absurd (omega (arith, same, goes.old, goes.new, grown, ap length some)))
+
+pub all_gone : {A : Type 0} (i j : Intake A) (c : Course) (before after : ℕ) → LetsGo i j c before after
+    → c.is.edge.size ≡ c.was.edge.size + length i.waiting → (j.drained ≡ i.log.taken) × (j.waiting ≡ [])
+all_gone i j c before after goes grown = let_all i j c before after goes grown i.waiting refl
+
+-- what was put is let go
+put_gone : {A : Type 0} (i j : Intake A) (put : List Bytes) (c : Course) (before after : ℕ) → LetsGo i j c before after
+    → IsPutOrNot i.waiting put c → i.drained ++ put ≡ j.drained
+put_gone i j put c before after goes (inl none) =
+    ap (λ (es : List Bytes). i.drained ++ es) none.0 ∙ append-nil i.drained
+    ∙ sym (ap (λ (x : Intake _). x.drained) (goes.left (omega (arith, goes.old, goes.new, none.1))))
+put_gone i j put c before after goes (inr all) =
+    ap (λ (es : List Bytes). i.drained ++ es) all.0 ∙ sym ((all_gone i j c before after goes all.1).0 ∙ goes.parts)
+
+module _ {A : Type 0} (key : LogKey) (a m b : Kept) (saw mid sees : List Kept) (was now is : Ledger) (i j : Intake A) (due : Bool) (before after : ℕ)
+    (serving : IsServing key (along a m saw mid was now) i due) (goes : LetsGo i j (along m b mid sees now is) before after) where
+  -- all of it was published
+  pub serving_shown : is.edge.size ≡ now.edge.size + length i.waiting → Appends key (i.waiting ∷ []) (along m b mid sees now is)
+      → IsServing key (along a b saw sees was is) j false
+  serving_shown grown all =
+      let gone = all_gone i j (along m b mid sees now is) before after goes grown in
+      record {
+        named = serving.named;
+        batches = serving.batches ++ (serving.rest ++ i.waiting) ∷ [];
+        rest = [];
+        appends = then_batches key serving.batches serving.rest a m b saw mid sees was now is serving.appends i.waiting [] []
+            (nothing_then key (i.waiting ∷ []) m b mid sees now is all);
+        own = same_entries serving.batches serving.rest i.waiting [] []
+            ∙ ap (λ (es : List Bytes). (joined serving.batches ++ serving.rest) ++ es) (append-nil (i.waiting ++ []) ∙ append-nil i.waiting)
+            ∙ ap (λ (es : List Bytes). es ++ i.waiting) serving.own ∙ sym (gone.0 ∙ goes.parts);
+        all = λ _. refl;
+        none = λ _. gone.1;
+      }
+
+  -- it was at most: by what of it was published
+  serving_part : (ys : List (List Bytes)) (more : List Bytes) → AppendsThen key ys more (along m b mid sees now is)
+      → IsPutOrNot i.waiting (joined ys ++ more) (along m b mid sees now is) → IsServing key (along a b saw sees was is) j true
+  serving_part [] more then own = record {
+    named = serving.named;
+    batches = serving.batches;
+    rest = serving.rest ++ more;
+    appends = then_put key serving.batches serving.rest a m b saw mid sees was now is serving.appends more then;
+    own = sym (append_assoc (joined serving.batches) serving.rest more)
+        ∙ ap (λ (es : List Bytes). es ++ more) serving.own ∙ put_gone i j more (along m b mid sees now is) before after goes own;
+    all = λ not. absurd (true≢false not);
+    none = λ not. absurd (true≢false not);
+  }
+  serving_part (y ∷ ys) more then own = record {
+    named = serving.named;
+    batches = serving.batches ++ (serving.rest ++ y) ∷ ys;
+    rest = more;
+    appends = then_batches key serving.batches serving.rest a m b saw mid sees was now is serving.appends y ys more then;
+    own = same_entries serving.batches serving.rest y ys more
+        ∙ ap (λ (es : List Bytes). es ++ (joined (y ∷ ys) ++ more)) serving.own
+        ∙ put_gone i j (joined (y ∷ ys) ++ more) (along m b mid sees now is) before after goes own;
+    all = λ not. absurd (true≢false not);
+    none = λ not. absurd (true≢false not);
+  }
+
+  pub serving_failed : AppendsAtMost key i.waiting (along m b mid sees now is) → IsServing key (along a b saw sees was is) j true
+  serving_failed part = serving_part part.batches part.rest part.appends part.own
+
+-- ---- at the end
+
+begun_one : (x y : Begun) → Some x ≡ Some y → x ≡ y
+begun_one x y same = ap (λ (o : Option Begun). unwrap_or o x) same
+
+module _ {A : Type 0} (key : LogKey) (keys : List Key) (found : Found) (a b : Kept) (saw sees : List Kept) (was is : Ledger) (i : Intake A) (due : Bool) (first : Begun)
+    (begun : Some (record { key = key; kept = a; saw = saw; was = was }) ≡ Some first) (opens : Opens sha256 keys found first.was)
+    (serving : IsServing key (along a b saw sees was is) i due) where
+  pub serves_part : ServesPart first.key found (between first.kept b first.saw sees)
+  serves_part =
+      subst (λ (x : Begun). Opens sha256 keys found x.was → ServesPart x.key found (between x.kept b x.saw sees)) (begun_one _ _ begun)
+      (λ own. record {
+        batches = serving.batches;
+        rest = serving.rest;
+        grows = grows_then key keys found a b saw sees was is own serving.batches serving.rest serving.appends;
+      })
+      opens
+

@@ -1,0 +1,43 @@
+-- A log on a shelf that runs: what came of its lanes is put behind what the shelf had.
+use Rattle.std.specs.Prelude.{◌≡◌, ◌⊎◌, Bool, true, false, List, [], ◌∷◌, ◌++◌, Result, Ok, Err}
+use Rattle.tl_hash.specs.Bytes.{Bytes}
+use Rattle.tl_note.specs.Key.{IsKeyName}
+use Rattle.tl_sequencer.specs.Intake.{Intake}
+use Rattle.tl_sequencer.specs.Log.{entries_of}
+use Rattle.tl_sequencer.specs.Merge.{IsMerge}
+use Rattle.tl_sequencer.specs.Steps.{IsComplete, sent_of}
+use Rattle.tl_ledger.specs.Opening.{Found}
+use Rattle.tl_command.specs.Mirror.{LogKey}
+use Rattle.tl_command.specs.declared.fault.RunFault.{RunFault}
+use Rattle.tl_append.specs.Appending.{Appends, AppendsAtMost, AppendsThen, Course, joined}
+use Rattle.tl_append.specs.Running.{Visit}
+use Rattle.tl_serve.specs.Serving.{IsLeft, ServesPart, ServesWhole}
+
+-- since it began, what was let go of what its lanes gave was appended in batches, each published under the log's key, and
+-- then put behind the log; where no publication is due all is published, and nothing waits
+pub record IsServing {A : Type 0} (key : LogKey) (c : Course) (intake : Intake A) (is_due : Bool) : Type 0 where
+  pub named : IsKeyName key.name
+  pub batches : List (List Bytes)
+  pub rest : List Bytes
+  pub appends : AppendsThen key batches rest c
+  pub own : joined batches ++ rest ≡ intake.drained
+  pub all : is_due ≡ false → rest ≡ []
+  pub none : is_due ≡ false → intake.waiting ≡ []
+
+-- what waited is published, and let go; or nothing was due; or it was published, put, or left, as the shelf failed
+abbrev pub Seals : {A : Type 0} → LogKey → Course → Intake A → Intake A → Result Bool RunFault → Type 0
+Seals key c a b (Ok true) = Appends key (a.waiting ∷ []) c × (b.drained ≡ a.log.taken) × (b.log ≡ a.log)
+Seals key c a b (Ok false) = (a.waiting ≡ []) × (b ≡ a) × (c.is ≡ c.was) × (c.after ≡ c.before) × (c.sees ≡ c.saw)
+Seals key c a b (Err told) = AppendsAtMost key a.waiting c × (b.log ≡ a.log)
+
+-- the log of the lanes is complete, a merge of what was sent, and nothing of it is unpublished
+pub record IsClosed {A : Type 0} (intake : Intake A) (is_due : Bool) : Type 0 where
+  pub none_due : is_due ≡ false
+  pub complete : IsComplete intake.log
+  pub merge : IsMerge (entries_of intake.log) [] (sent_of intake.log)
+  pub given : entries_of intake.log ≡ intake.drained ++ intake.waiting
+
+-- how a log is served once its key is known
+abbrev pub ServesUnder : LogKey → Found → Visit → Result (Unit {0}) RunFault → Type 0
+ServesUnder key found v (Ok done) = ServesWhole key found v
+ServesUnder key found v (Err fault) = IsLeft v ⊎ ServesPart key found v

@@ -1,0 +1,174 @@
+//! A log that runs on a shelf.
+
+ghost use Rattle.std.specs.Prelude.{◌≡◌, ◌↔◌, [], Some, true, false, IfOk};
+ghost use Rattle.tl_note.specs.Key.{IsKeyName};
+ghost use Rattle.tl_append.specs.Keys.{log_key_of};
+ghost use Rattle.tl_serve.specs.Inner.Shelved.{IsClosed};
+
+use crate::live_log::{LiveLog, refusal};
+use std::alloc::Global;
+use std::snapshot::Snapshot;
+use tl_append::{LogSigningKey, append_batch};
+use tl_archive::Shelf;
+use tl_command::RunFault;
+use tl_hash::Head;
+use tl_ledger::Ledger;
+use tl_sequencer::{Ended, Intake};
+
+/// A log on a shelf: its lanes, and the ledger of what is on the shelf. Memory has what waits to be put there. What it
+/// began with stands beside it in contracts alone.
+#[derive(Drop)]
+pub(crate) struct ShelfLog<S> {
+    alloc: Global,
+    key: LogSigningKey,
+    shelf: S,
+    ledger: Ledger<Global>,
+    pub(crate) intake: Intake<Global, Global>,
+    // Whether something waits, or was put and isn't published, or the log was never published.
+    pub(crate) is_due: bool,
+    began: Snapshot<S>,
+    was: Snapshot<Ledger<Global>>,
+}
+
+// Lets go of what waits, where it was put.
+fn let_go(intake: &mut Intake<Global, Global>, is_put: bool)
+    ensures log { intake.new.log ≡ intake.old.log }
+    ensures put { is_put ≡ true → (intake.new.drained ≡ intake.old.log.taken)
+        × (intake.new.waiting ≡ []) }
+    ensures left { is_put ≡ false → intake.new ≡ intake.old }
+{
+    if is_put {
+        intake.drain();
+    }
+}
+
+// Whether a publication is due once so many entries were taken.
+fn is_due_after(is_due: bool, taken: u64) -> bool
+    ensures { (result ≡ false) ↔ ((is_due ≡ false) × (taken ≡ 0)) }
+{
+    is_due || taken > 0
+}
+
+impl<S: Shelf + Drop> ShelfLog<S> {
+    /// A log on this shelf, of which the ledger is, whose lanes gave nothing yet. `is_due`: it was never published.
+    pub(crate) fn new(
+        alloc: Global,
+        key: LogSigningKey,
+        shelf: S,
+        ledger: Ledger<Global>,
+        intake: Intake<Global, Global>,
+        is_due: bool,
+    ) -> ShelfLog<S>
+        requires name { IsKeyName (log_key_of key).name }
+        requires drained { intake.drained ≡ [] }
+        requires waiting { intake.waiting ≡ [] }
+        ensures holds { ⟦<ShelfLog<S> as LiveLog>⟧.holds result }
+        ensures begun { ⟦<ShelfLog<S> as LiveLog>⟧.begun result ≡ Some (record {
+          key = log_key_of key;
+          kept = S.kept shelf;
+          saw = S.trace shelf;
+          was = ledger;
+        }) }
+        ensures log { ⟦<ShelfLog<S> as LiveLog>⟧.log result ≡ intake.log }
+    {
+        let (began, was) = (Snapshot::of(&shelf), Snapshot::of(&ledger));
+        ShelfLog {
+            alloc,
+            key,
+            shelf,
+            ledger,
+            intake,
+            is_due,
+            began,
+            was,
+        }
+    }
+
+    /// How many entries the log has, where it is complete: the end of each lane was taken in, and all is published.
+    pub(crate) fn finish(&self) -> Result<u64, RunFault>
+        ensures { IfOk result (λ _. IsClosed self.now.intake self.now.is_due) }
+    {
+        match self.intake.completed() {
+            Ok(_taken) if !self.is_due => Ok(self.ledger.size()),
+            _ => Err(RunFault::Operator),
+        }
+    }
+
+    /// The shelf.
+    pub(crate) fn into_shelf(self) -> S
+        ensures { result ≡ self.shelf }
+    {
+        let ShelfLog { shelf, .. } = self;
+        shelf
+    }
+}
+
+impl<S: Shelf + Drop> LiveLog for ShelfLog<S> {
+    ghost use Rattle.std.specs.Prelude.{◌≡◌, Some};
+    ghost use Rattle.tl_append.specs.Appending.{course};
+    ghost use Rattle.tl_append.specs.Keys.{log_key_of};
+    ghost use Rattle.tl_serve.specs.Inner.Shelved.{IsServing, Seals};
+
+    ghost log = { λ l. l.intake.log };
+
+    ghost holds = { λ l. IsServing (log_key_of l.key)
+        (course S.kept S.trace l.began.value l.shelf l.was.value l.ledger) l.intake l.is_due };
+
+    ghost begun = { λ l. Some (record {
+      key = log_key_of l.key;
+      kept = S.kept l.began.value;
+      saw = S.trace l.began.value;
+      was = l.was.value;
+    }) };
+
+    ghost rests = { λ a b. (b.shelf ≡ a.shelf) × (b.ledger ≡ a.ledger)
+        × (b.intake.drained ≡ a.intake.drained) };
+
+    ghost shows = { λ a b. Seals (log_key_of a.key)
+        (course S.kept S.trace a.shelf b.shelf a.ledger b.ledger) a.intake b.intake };
+
+    fn take_in(&mut self, lane: u32, most: u64) -> Result<u64, RunFault> {
+        match self.intake.take(lane, most) {
+            Ok(taken) => {
+                self.is_due = is_due_after(self.is_due, taken);
+                Ok(taken)
+            }
+            Err(fault) => Err(refusal(fault)),
+        }
+    }
+
+    fn end_lane(&mut self, ended: Ended<Global, Global>) -> Result<u64, RunFault> {
+        match self.intake.end(ended) {
+            Ok(taken) => {
+                self.is_due = is_due_after(self.is_due, taken);
+                Ok(taken)
+            }
+            Err(refused) => Err(refusal(refused.why)),
+        }
+    }
+
+    fn show(&mut self) -> Result<bool, RunFault> {
+        if !self.is_due {
+            return Ok(false);
+        }
+        let size = self.ledger.size();
+        let waiting = self.intake.waiting();
+        let (shelf, ledger) = (&mut self.shelf, &mut self.ledger);
+        let outcome = append_batch(self.alloc, &self.key, waiting, shelf, ledger);
+        let_go(&mut self.intake, self.ledger.size() != size);
+        match outcome {
+            Ok(()) => {
+                self.is_due = false;
+                Ok(true)
+            }
+            Err(fault) => Err(fault),
+        }
+    }
+
+    fn head(&mut self) -> Option<Head> {
+        Some(Head {
+            size: self.ledger.size(),
+            root: self.ledger.root(),
+        })
+    }
+}
