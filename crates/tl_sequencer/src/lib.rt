@@ -15,6 +15,7 @@
 mod complete;
 mod ended;
 mod fault;
+mod intake;
 mod lane;
 mod opening;
 mod sequencer;
@@ -23,6 +24,7 @@ mod submitter;
 pub use complete::{Complete, Incomplete};
 pub use ended::Ended;
 pub use fault::{OpenFault, TakeFault, Why};
+pub use intake::Intake;
 pub use opening::{BaseBack, open, open_from};
 pub use sequencer::{EndRefused, Sequencer};
 pub use submitter::{Refused, Submitter};
