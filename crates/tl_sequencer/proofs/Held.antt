@@ -1,5 +1,5 @@
 -- Laws of what the fields of an intake hold.
-use Rattle.std.proofs.Common.{◌≡◌, ℕ, ◌+◌, ◌-◌, ◌<◌, ◌≤◌, List, [], ◌∷◌, ◌++◌, length, take, replicate, get_or, set, map, vec_items, None, refl, sym, ◌∙◌, ap, subst, arith}
+use Rattle.std.proofs.Common.{◌≡◌, ℕ, ◌+◌, ◌-◌, ◌<◌, ◌≤◌, List, [], ◌∷◌, ◌++◌, length, take, get_or, set, map, vec_items, None, refl, sym, ◌∙◌, ap, subst, arith}
 use Rattle.std.specs.List.{All}
 use Rattle.std.specs.declared.vec.Vec.{Vec}
 use Rattle.std.proofs.lemmas.List.{length-append, append_assoc, length-map, map-append, set-get_or}
@@ -7,7 +7,6 @@ use Rattle.std.proofs.lemmas.List.Elements.{All-drop}
 use Rattle.std.proofs.Math.Seq.{take-append_seam, drop-append_seam}
 use Rattle.tl_sequencer.specs.Log.{Lane, End, IsShort, entries_of}
 use Rattle.tl_sequencer.specs.Rings.{log_of}
-use Rattle.tl_sequencer.specs.Intake.{Intake}
 use Rattle.tl_sequencer.specs.Inner.Lanes.{Gives, Ends}
 use Rattle.tl_sequencer.specs.Inner.Held.{taken_of, who_of, drained_of, intake_of, SameDrained, IsHeld}
 use Rattle.tl_sequencer.specs.Steps.{IsLog}

@@ -1,5 +1,4 @@
 use Rattle.tl_sequencer.proofs.Logs.{complete-merge, all-ended}
-use Rattle.tl_sequencer.specs.Inner.Held.{intake_of}
 use Rattle.tl_sequencer.proofs.intake.Intake.completed.Goals as goal
 
 pub returns-in-None-clause-merge : goal.returns-in-None-clause-merge

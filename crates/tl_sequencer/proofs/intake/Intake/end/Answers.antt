@@ -1,4 +1,4 @@
-use Rattle.std.proofs.Common.{◌<◌, [], length, arith, sym}
+use Rattle.std.proofs.Common.{◌<◌, [], length, sym}
 use Rattle.tl_sequencer.specs.Rings.{log_of}
 use Rattle.tl_sequencer.specs.Inner.Held.{taken_of, who_of}
 use Rattle.tl_sequencer.proofs.Logs.{Ends-closes, Ends-fits, same-rings, end-inside, given-is, refuses-log}
