@@ -4,3 +4,4 @@ pub mod Places
 pub mod Logs
 pub mod Openings
 pub mod Keeps
+pub mod Held

@@ -1,16 +1,17 @@
 -- Laws of a log.
 use Rattle.std.proofs.Common.{◌≡◌, ℕ, zero, suc, ◌+◌, ◌<◌, ◌≤◌, List, [], ◌∷◌, ◌++◌, length, replicate, get_or, set, map, vec_items, Option, None, Some, IfSome, IsSome, refl, sym, ◌∙◌, ap, subst, arith}
-use Rattle.std.specs.List.{All}
+use Rattle.std.specs.List.{All, slice_get}
 use Rattle.std.specs.Option.{unwrap_or}
 use Rattle.std.specs.declared.vec.Vec.{Vec}
 use Rattle.std.proofs.lemmas.List.{length-append, length-set, append_assoc, length-map, map-append, map-set, get_or_default, append-nil, set-get_or, get_or-map}
 use Rattle.std.proofs.lemmas.List.Elements.{All-append, All-set, All-map, All-head, All-tail}
+use Rattle.std.proofs.lemmas.Option.{slice_get_within}
 use Rattle.std.proofs.Math.Seq.{map-set_same}
 use Rattle.tl_sequencer.specs.Merge.{IsMergeBy, IsMerge}
 use Rattle.tl_sequencer.specs.Log.{Ring, Lane, Log, End, IsShort, entries_of, given_of, given_at, end_at}
 use Rattle.tl_sequencer.specs.Rings.{log_of}
-use Rattle.tl_sequencer.specs.Inner.Lanes.{Gives, Ends, LaneRefuses}
-use Rattle.tl_sequencer.specs.Steps.{IsLog, IsComplete, IsFirstOpen, sent_of, Takes, Closes}
+use Rattle.tl_sequencer.specs.Inner.Lanes.{Gives, Ends, LaneRefuses, IsFirstOpenOf}
+use Rattle.tl_sequencer.specs.Steps.{IsLog, IsComplete, sent_of, Takes, Closes}
 use Rattle.tl_sequencer.specs.Faults.{RestFits, EndRefuses}
 use Rattle.tl_sequencer.specs.declared.fault.TakeFault.{TakeFault}
 use Rattle.tl_sequencer.specs.declared.fault.TakeFault.TheVariants.{NoLane, LogFull, OutOfMemory}
@@ -80,13 +81,17 @@ module _ {A : Type 0} where
   sent-is : (log : Log A) (lane : ℕ) (l : Lane A) → lane < length log.lanes → l ≡ get_or log.lanes lane l → l.sent ≡ end_at log lane
   sent-is log lane l in' at = ap sent at ∙ sym (get_or-map sent log.lanes lane l None in')
 
+  -- the lane of an end is there
+  pub end-inside : (lanes : List (Lane A)) (end : End A) (lane : ℕ) → lane ≡ end.lane → slice_get (map ring lanes) end.lane ≡ Some end.ring → lane < length lanes
+  end-inside lanes end lane is mine = omega (arith, slice_get_within (map ring lanes) end.lane end.ring mine, length-map lanes ring)
+
   -- the first lane that has not ended
-  pub first-open : (log : Log A) (lane : ℕ) (l : Lane A) → lane < length log.lanes → l ≡ get_or log.lanes lane l → (IsSome l.sent → ⊥) → ((k : ℕ) (d : Lane A) → k < lane → IsSome (get_or log.lanes k d).sent)
-      → IsFirstOpen log lane
-  first-open log lane l in' at not before = (
+  pub first-open : (lanes : List (Lane A)) (lane : ℕ) (l : Lane A) → lane < length lanes → l ≡ get_or lanes lane l → (IsSome l.sent → ⊥) → ((k : ℕ) (d : Lane A) → k < lane → IsSome (get_or lanes k d).sent)
+      → IsFirstOpenOf lanes lane
+  first-open lanes lane l in' at not before = (
     in',
-    sym (sent-is log lane l in' at) ∙ is-none l.sent not,
-    λ k h. subst IsSome (sym (get_or-map sent log.lanes k l None (omega arith))) (before k l h),
+    get_or-map sent lanes lane l None in' ∙ sym (ap sent at) ∙ is-none l.sent not,
+    λ k h. subst IsSome (sym (get_or-map sent lanes k l None (omega arith))) (before k l h),
   )
 
   -- a lane that keeps its ring keeps all rings

@@ -1,3 +1,3 @@
 -- Private words: what contracts of private functions and proofs need.
-pub
-    mod Lanes
+pub mod Lanes
+pub mod Held

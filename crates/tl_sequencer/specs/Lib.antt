@@ -7,3 +7,4 @@ pub mod Opened
 pub mod Rings
 pub mod Places
 pub mod Inner
+pub mod Intake

@@ -1,12 +1,14 @@
 //! The end of a lane that the sequencer has.
-ghost use Rattle.std.specs.Prelude.{◌≡◌, ◌+◌, ◌≤◌, ◌<◌, ◌++◌, ◌↔◌, [], length, vec_len, vec_capacity, None, IsTrue, IsSome, IfOk, IfErr, OnErr};
-ghost use Rattle.std.specs.List.{range_with_len};
+ghost use Rattle.std.specs.Prelude.{◌≡◌, ◌+◌, ◌≤◌, ◌<◌, ◌++◌, ◌↔◌, [], length, vec_len, vec_capacity, None, IsTrue, IsSome, MatchOption, IfOk, IfErr, OnErr};
+ghost use Rattle.std.specs.List.{All, range_with_len};
 ghost use Rattle.rtrb.specs.Ring.{known_items, received};
 ghost use Rattle.tl_sequencer.specs.Rings.{ring_of, Pours};
-ghost use Rattle.tl_sequencer.specs.Inner.Lanes.{Gives, Ends, LaneRefuses};
+ghost use Rattle.tl_sequencer.specs.Inner.Lanes.{Gives, Ends, LaneRefuses, IsFirstOpenOf};
+ghost use Rattle.tl_sequencer.specs.Inner.Held.{taken_of, who_of, SameDrained};
 
 use crate::ended::Ended;
 use crate::fault::TakeFault;
+use http_server::Log;
 use rtrb::{Consumer, Protocol};
 use std::alloc::{AllocError, Allocator};
 use std::marker::Model;
@@ -67,6 +69,43 @@ fn pour<E: Allocator, A: Allocator>(
         entries.push_reserved(ring.pop_known());
         who.push_reserved(lane);
     }
+}
+
+// Pops so many entries to the end of those that wait, and notes each in a history.
+fn pour_noted<E: Allocator, A: Allocator>(
+    ring: &mut Consumer<Vec<u8, E>, A, ShortEntries>,
+    count: usize,
+    lane: u32,
+    waiting: &mut Vec<Vec<u8, E>, A>,
+    history: &mut Log<Vec<u8, E>, u32>,
+)
+    requires known { count ≤ length (known_items ring.old) }
+    requires room { vec_len waiting.old + count ≤ vec_capacity waiting.old }
+    ensures poured { Pours count lane ring.old ring.new
+        (taken_of history.old.items) (taken_of history.new.items)
+        (who_of history.old.items) (who_of history.new.items) }
+    ensures drained { SameDrained (taken_of history.old.items) (taken_of history.new.items)
+        waiting.old.items waiting.new.items }
+{
+    for _ in 0..count {
+        let entry = ring.pop_known();
+        *history = history.and(&entry, &lane);
+        waiting.push_reserved(entry);
+    }
+}
+
+// The smallest lane that has not ended.
+pub(crate) fn first_open<E: Allocator, A: Allocator>(lanes: &[Lane<E, A>]) -> Option<u32>
+    requires { length lanes.now ≤ 64 }
+    ensures { MatchOption result
+        (All (λ l. IsSome l.sent) lanes.now) (IsFirstOpenOf lanes.now) }
+{
+    for lane in 0..lanes.len() {
+        if !lanes[lane].has_ended() {
+            return Some(lane as u32);
+        }
+    }
+    None
 }
 
 impl<E: Allocator, A: Allocator> Lane<E, A> {
@@ -159,6 +198,69 @@ impl<E: Allocator, A: Allocator> Lane<E, A> {
             return Err(TakeFault::OutOfMemory);
         }
         pour(&mut self.entries, count, lane, entries, who, places);
+        self.ended = true;
+        Ok(count as u64)
+    }
+
+    // `take` to what waits, with each entry noted in a history.
+    pub(crate) fn take_noted(
+        &mut self,
+        lane: u32,
+        most: u64,
+        waiting: &mut Vec<Vec<u8, E>, A>,
+        history: &mut Log<Vec<u8, E>, u32>,
+    ) -> Result<u64, AllocError>
+        ensures ring { self.new.ring ≡ self.old.ring }
+        ensures most { IfOk result (λ n. n ≤ most) }
+        ensures taken { IfOk result (λ n. Gives n lane self.old self.new
+            (taken_of history.old.items) (taken_of history.new.items)
+            (who_of history.old.items) (who_of history.new.items)) }
+        ensures drained { SameDrained (taken_of history.old.items) (taken_of history.new.items)
+            waiting.old.items waiting.new.items }
+        ensures some { OnErr result ((0 < most) × (self.old.sent ≡ None)) }
+        ensures err { OnErr result ((self.new ≡ self.old)
+            × (history.new.items ≡ history.old.items) × (waiting.new.items ≡ waiting.old.items)) }
+    {
+        if self.ended {
+            return Ok(0);
+        }
+        let ready = self.entries.slots() as u64;
+        let count = ready.min(most) as usize;
+        waiting.reserve(count)?;
+        pour_noted(&mut self.entries, count, lane, waiting, history);
+        Ok(count as u64)
+    }
+
+    // `end` to what waits, with each entry noted in a history.
+    pub(crate) fn end_noted(
+        &mut self,
+        ended: &mut Ended<E, A>,
+        lane: u32,
+        room: u64,
+        waiting: &mut Vec<Vec<u8, E>, A>,
+        history: &mut Log<Vec<u8, E>, u32>,
+    ) -> Result<u64, TakeFault>
+        requires { self.old.ring ≡ ended.old.ring }
+        ensures ring { self.new.ring ≡ self.old.ring }
+        ensures same { ended.new ≡ ended.old }
+        ensures room { IfOk result (λ n. n ≤ room) }
+        ensures taken { IfOk result (λ n. Ends ended.old n lane self.old self.new
+            (taken_of history.old.items) (taken_of history.new.items)
+            (who_of history.old.items) (who_of history.new.items)) }
+        ensures drained { SameDrained (taken_of history.old.items) (taken_of history.new.items)
+            waiting.old.items waiting.new.items }
+        ensures err { IfErr result (λ _. (self.new ≡ self.old)
+            × (history.new.items ≡ history.old.items) × (waiting.new.items ≡ waiting.old.items)) }
+        ensures why { IfErr result (λ why. LaneRefuses room self.old.given ended.old.sent why) }
+    {
+        let count = self.entries.slots_after(&mut ended.entries);
+        if count as u64 > room {
+            return Err(TakeFault::LogFull);
+        }
+        if waiting.reserve(count).is_err() {
+            return Err(TakeFault::OutOfMemory);
+        }
+        pour_noted(&mut self.entries, count, lane, waiting, history);
         self.ended = true;
         Ok(count as u64)
     }

@@ -10,11 +10,24 @@
 //! log.end(submitter.close().unwrap())?; // and now the rest
 //! assert_eq!(log.close()?.len(), 2);
 //! ```
+//!
+//! A log whose entries are on a disk needs no list in memory: what an intake takes waits until it is there.
+//!
+//! ```
+//! let (mut intake, mut submitters) = Intake::open(alloc, 700, 1, 16, 1000)?; // 700 entries are on the disk
+//! submitters[0].submit(cat)?;
+//! assert_eq!(intake.take(0, 16), Ok(1));
+//! put_on_disk(intake.waiting())?;
+//! intake.drain(); // and the cat is let go
+//! intake.end(submitters.pop().unwrap().close().unwrap())?;
+//! assert_eq!(intake.completed(), Ok(1)); // one entry was taken in all
+//! ```
 #![tactic(auto)]
 
 mod complete;
 mod ended;
 mod fault;
+mod intake;
 mod lane;
 mod opening;
 mod sequencer;
@@ -23,6 +36,7 @@ mod submitter;
 pub use complete::{Complete, Incomplete};
 pub use ended::Ended;
 pub use fault::{OpenFault, TakeFault, Why};
+pub use intake::Intake;
 pub use opening::{BaseBack, open, open_from};
 pub use sequencer::{EndRefused, Sequencer};
 pub use submitter::{Refused, Submitter};

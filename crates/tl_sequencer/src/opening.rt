@@ -42,7 +42,7 @@ fn new_lane<E: Allocator, A: Allocator + Copy>(
 }
 
 // So many new lanes.
-fn new_lanes<E: Allocator, A: Allocator + Copy>(
+pub(crate) fn new_lanes<E: Allocator, A: Allocator + Copy>(
     alloc: A,
     count: u32,
     capacity: usize,
@@ -72,7 +72,7 @@ fn no_places<A: Allocator + Copy>(alloc: A, count: usize) -> Result<Vec<Vec<u64,
 }
 
 // The first of the numbers that is outside its bounds.
-fn fault_of(lanes: u32, capacity: usize, limit: u64) -> Option<OpenFault>
+pub(crate) fn fault_of(lanes: u32, capacity: usize, limit: u64) -> Option<OpenFault>
     ensures { MatchOption result (MayOpen lanes capacity limit) (OpenRefuses lanes capacity limit) }
 {
     if lanes < 1 || lanes > MOST_LANES {

@@ -10,7 +10,7 @@ ghost use Rattle.tl_sequencer.specs.Faults.{MayTake, TakeRefuses, RestFits, EndR
 use crate::complete::{Complete, Incomplete};
 use crate::ended::Ended;
 use crate::fault::TakeFault;
-use crate::lane::Lane;
+use crate::lane::{Lane, first_open};
 use std::alloc::Allocator;
 use std::marker::Model;
 
@@ -192,12 +192,7 @@ impl<E: Allocator, A: Allocator> Sequencer<E, A> {
             (All (λ l. IsSome l.sent) self.now.lanes) (IsFirstOpen self.now) }
         ensures kept { IsLog self.now }
     {
-        for lane in 0..self.lanes.len() {
-            if !self.lanes[lane].has_ended() {
-                return Some(lane as u32);
-            }
-        }
-        None
+        first_open(&self.lanes)
     }
 
     /// Closes the log. Where the end of each lane was taken in, the log is complete: the entries that it began with,

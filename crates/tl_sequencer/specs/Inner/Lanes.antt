@@ -1,5 +1,5 @@
 -- What one lane gives, and the lanes of a new log.
-use Rattle.std.specs.Prelude.{◌≡◌, ℕ, ◌+◌, ◌≤◌, ◌<◌, List, map, length, [], Some, None, slice_get, ◌++◌, vec_items, replicate, IsSome}
+use Rattle.std.specs.Prelude.{◌≡◌, ℕ, ◌+◌, ◌≤◌, ◌<◌, List, map, length, [], Some, None, slice_get, slice_index_or, ◌++◌, vec_items, replicate, IsSome}
 use Rattle.std.specs.List.{All, range_with_len}
 use Rattle.tl_sequencer.specs.declared.fault.TakeFault.{TakeFault}
 use Rattle.tl_sequencer.specs.declared.fault.TakeFault.TheVariants.{NoLane, LogFull, OutOfMemory}
@@ -32,6 +32,12 @@ abbrev pub LaneRefuses : ℕ → List (List ℕ) → List (List ℕ) → TakeFau
 LaneRefuses room given sent NoLane = ⊥
 LaneRefuses room given sent LogFull = length given + room < length sent
 LaneRefuses room given sent OutOfMemory = (length sent ≤ length given + room) × (length given < length sent)
+
+-- the smallest of these lanes whose end was not taken in
+abbrev pub IsFirstOpenOf : {A : Type 0} → List (Lane A) → ℕ → Type 0
+IsFirstOpenOf lanes lane =
+    let ends = map (λ l. l.sent) lanes in
+    (lane < length lanes) × (slice_index_or ends lane None ≡ None) × ((k : ℕ) → k < lane → IsSome (slice_index_or ends k None))
 
 -- the two ends of one new ring
 abbrev pub IsNewLane : {A : Type 0} → ℕ → ℕ → ℕ → Lane A → Sender A → Type 0

@@ -1,0 +1,6 @@
+use Rattle.tl_sequencer.proofs.Logs.{complete-merge, all-ended}
+use Rattle.tl_sequencer.proofs.intake.Intake.completed.Goals as goal
+
+pub returns-in-None-clause-merge : goal.returns-in-None-clause-merge
+returns-in-None-clause-merge g c =
+    rw (← c.self.view_is) (complete-merge _ c.self.invariant.log (all-ended _ c.self.invariant.log (rw c.deref.ensures.value at c.in-None.ensures)))

@@ -1,0 +1,7 @@
+use Rattle.std.proofs.Common.{refl}
+use Rattle.tl_sequencer.proofs.intake.Intake.open.Goals as goal
+
+pub returns-clause-opened : goal.returns-clause-opened
+returns-clause-opened g c =
+    let new = c.in-Ok.ensures in
+    rw c.new.ensures record { base = refl; taken = refl; who = refl; limited = refl; counted = new.counted; fresh = new.fresh; as_many = new.as_many; order = new.order; own = new.own; unsent = new.unsent }

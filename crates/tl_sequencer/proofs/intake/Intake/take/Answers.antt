@@ -1,0 +1,13 @@
+use Rattle.std.proofs.Common.{[], arith}
+use Rattle.tl_sequencer.proofs.Logs.{Gives-takes, same-rings}
+use Rattle.tl_sequencer.proofs.Held.{Gives-held, fits-log}
+use Rattle.tl_sequencer.proofs.intake.Intake.take.Goals as goal
+
+pub invariant_of-self-2 : goal.invariant_of-self-2
+invariant_of-self-2 g c = Gives-held _ _ _ _ _ _ _ _ _ _ (omega arith) c.index_mut-from.ensures.value c.take_noted.ensures.drained c.self.invariant _ (omega (arith, c.in-Ok.ensures.most)) c.in-Ok.ensures.taken
+
+pub returns-clause-rings : goal.returns-clause-rings
+returns-clause-rings g c = rw (← c.self.view_is) (same-rings c.self.inside.lanes.items c.args.lane c.index_mut-from.result.now c.take_noted.new.self c.index_mut-from.ensures.value c.take_noted.ensures.ring)
+
+pub returns-clause-taken : goal.returns-clause-taken
+returns-clause-taken g c = rw (← c.self.view_is) (Gives-takes [] _ _ _ _ _ _ _ _ _ (omega arith) c.index_mut-from.ensures.value _ (fits-log _ _ _ _ _ c.self.invariant c.in-Ok.n (omega (arith, c.in-Ok.ensures.most))) c.in-Ok.ensures.taken)
