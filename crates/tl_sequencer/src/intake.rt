@@ -159,6 +159,7 @@ impl<E: Allocator, A: Allocator> Intake<E, A> {
     pub fn waiting(&self) -> &[Vec<u8, E>]
         ensures waiting { map vec_items result.now ≡ self.now.waiting }
         ensures short { All IsShort self.now.waiting }
+        ensures parts { self.now.log.taken ≡ self.now.drained ++ self.now.waiting }
     {
         &self.waiting
     }
@@ -180,6 +181,8 @@ impl<E: Allocator, A: Allocator> Intake<E, A> {
         ensures merge { IfOk result
             (λ _. IsMerge (entries_of self.now.log) self.now.log.base (sent_of self.now.log)) }
         ensures lane { IfErr result (λ lane. IsFirstOpen self.now.log lane) }
+        ensures base { self.now.log.base ≡ [] }
+        ensures parts { self.now.log.taken ≡ self.now.drained ++ self.now.waiting }
     {
         match first_open(&self.lanes) {
             Some(lane) => Err(lane),
