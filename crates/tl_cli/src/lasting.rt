@@ -103,7 +103,11 @@ pub(crate) fn serve<
     for _ in 0..threads_of(rt, options.server.threads) {
         shown.push(open_folder(*rt, alloc, dir)?)?;
     }
-    run_serve_shelf(rt, alloc, options, shelf, shown, input, reader, errors)
+    let mut found = Found::new(alloc);
+    let served = run_serve_shelf(
+        rt, alloc, options, shelf, shown, &mut found, input, reader, errors,
+    );
+    served.outcome
 }
 
 /// Serves a witness whose lines are those of a file, where one is given, and else of the input and the output.

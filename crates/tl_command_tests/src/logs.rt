@@ -54,18 +54,20 @@ fn serve<
     };
     let mut shown = Vec::new(alloc);
     shown.push(own)?;
-    let mut reader = Counted::new(input);
+    let (mut found, mut reader) = (Found::new(alloc), Counted::new(input));
     let mut log = Counted::new(Vec::new(alloc));
-    run_serve_shelf(
+    let served = run_serve_shelf(
         rt,
         alloc,
         &options,
         shelf,
         shown,
+        &mut found,
         None,
         &mut reader,
         &mut log,
-    )
+    );
+    served.outcome
 }
 
 /// Appends these lines to the log in a folder whose calls may fail, in batches of so many, or serves it with them where

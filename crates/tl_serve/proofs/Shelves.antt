@@ -1,5 +1,7 @@
 -- A log on a shelf, from its opening to the shelf that it gives back.
-use Rattle.std.proofs.Common.{◌≡◌, ◌≢◌, inl, inr, ℕ, zero, suc, ◌+◌, Bool, true, false, true≢false, List, [], ◌∷◌, ◌++◌, Option, Some, length, refl, sym, ap, subst, ◌∙◌, arith, append_assoc}
+use Rattle.std.proofs.Common.{◌≡◌, ◌≢◌, inl, inr, ℕ, ◌+◌, Bool, true, false, true≢false, List, [], ◌∷◌, ◌++◌, Option, Some, length, refl, sym, ap, subst, ◌∙◌, arith, append_assoc}
+use Rattle.std.specs.Global.{Global}
+use Rattle.std.specs.Option.{unwrap_or}
 use Rattle.std.proofs.lemmas.List.{append-nil}
 use Rattle.sha2.specs.Sha256.{sha256}
 use Rattle.tl_hash.specs.Bytes.{Bytes}
@@ -35,21 +37,16 @@ serving_new key k saw was i is_due named drained waiting = record {
 
 -- ---- once entries were taken
 
-no_more : (waiting more : List Bytes) → length more ≡ 0 → waiting ++ more ≡ waiting
-no_more waiting [] none = append-nil waiting
-no_more waiting (x ∷ xs) none = absurd (omega (arith, none))
-
-pub serving_taken : {A : Type 0} (key : LogKey) (c : Course) (i j : Intake A) (due due' : Bool) (taken : ℕ) (more : List Bytes)
-    → IsServing key c i due → j.drained ≡ i.drained → j.waiting ≡ i.waiting ++ more → length more ≡ taken
-    → (due' ≡ false → (due ≡ false) × (taken ≡ 0)) → IsServing key c j due'
-serving_taken key c i j due due' taken more is drained waiting counted none = record {
+pub serving_taken : {A : Type 0} (key : LogKey) (c : Course) (i j : Intake A) (due due' : Bool)
+    → IsServing key c i due → j.drained ≡ i.drained → (due' ≡ false → (due ≡ false) × (j.waiting ≡ [])) → IsServing key c j due'
+serving_taken key c i j due due' is drained none = record {
   named = is.named;
   batches = is.batches;
   rest = is.rest;
   appends = is.appends;
   own = is.own ∙ sym drained;
   all = λ not. is.all (none not).0;
-  none = λ not. waiting ∙ no_more i.waiting more (counted ∙ (none not).1) ∙ is.none (none not).0;
+  none = λ not. (none not).1;
 }
 
 -- ---- once what waits was appended
@@ -137,7 +134,7 @@ module _ {A : Type 0} (key : LogKey) (a m b : Kept) (saw mid sees : List Kept) (
 begun_one : (x y : Begun) → Some x ≡ Some y → x ≡ y
 begun_one x y same = ap (λ (o : Option Begun). unwrap_or o x) same
 
-module _ {A : Type 0} (key : LogKey) (keys : List Key) (found : Found) (a b : Kept) (saw sees : List Kept) (was is : Ledger) (i : Intake A) (due : Bool) (first : Begun)
+module _ (key : LogKey) (keys : List Key) (found : Found) (a b : Kept) (saw sees : List Kept) (was is : Ledger) (i : Intake Global) (due : Bool) (first : Begun)
     (begun : Some (record { key = key; kept = a; saw = saw; was = was }) ≡ Some first) (opens : Opens sha256 keys found first.was)
     (serving : IsServing key (along a b saw sees was is) i due) where
   pub serves_part : ServesPart first.key found (between first.kept b first.saw sees)
@@ -150,3 +147,19 @@ module _ {A : Type 0} (key : LogKey) (keys : List Key) (found : Found) (a b : Ke
       })
       opens
 
+  pub serves_whole : IsClosed i due → ServesWhole first.key found (between first.kept b first.saw sees)
+  serves_whole closed =
+      let all : serving.rest ≡ [] = serving.all closed.none_due in
+      let none : i.waiting ≡ [] = serving.none closed.none_due in
+      subst (λ (x : Begun). Opens sha256 keys found x.was → ServesWhole x.key found (between x.kept b x.saw sees)) (begun_one _ _ begun)
+      (λ own. record {
+        batches = serving.batches;
+        grows = subst (λ (r : List Bytes). OfFound found a (Grows key serving.batches r (between a b saw sees))) all
+            (grows_then key keys found a b saw sees was is own serving.batches serving.rest serving.appends);
+        lanes = i.log;
+        complete = closed.complete;
+        merge = closed.merge;
+        given = sym (append-nil (joined serving.batches)) ∙ sym (ap (λ (r : List Bytes). joined serving.batches ++ r) all) ∙ serving.own
+            ∙ sym (closed.given ∙ ap (λ (w : List Bytes). i.drained ++ w) none ∙ append-nil i.drained);
+      })
+      opens

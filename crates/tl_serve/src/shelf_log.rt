@@ -1,6 +1,6 @@
 //! A log that runs on a shelf.
 
-ghost use Rattle.std.specs.Prelude.{◌≡◌, ◌↔◌, [], Some, true, false, IfOk};
+ghost use Rattle.std.specs.Prelude.{◌≡◌, ◌≢◌, [], Some, false, IfOk};
 ghost use Rattle.tl_note.specs.Key.{IsKeyName};
 ghost use Rattle.tl_append.specs.Keys.{log_key_of};
 ghost use Rattle.tl_serve.specs.Inner.Shelved.{IsClosed};
@@ -30,23 +30,23 @@ pub(crate) struct ShelfLog<S> {
     was: Snapshot<Ledger<Global>>,
 }
 
-// Lets go of what waits, where it was put.
-fn let_go(intake: &mut Intake<Global, Global>, is_put: bool)
-    ensures log { intake.new.log ≡ intake.old.log }
-    ensures put { is_put ≡ true → (intake.new.drained ≡ intake.old.log.taken)
-        × (intake.new.waiting ≡ []) }
-    ensures left { is_put ≡ false → intake.new ≡ intake.old }
+// Whether a publication is due, as it was before, or since something waits.
+fn is_due_now(was_due: bool, intake: &Intake<Global, Global>) -> bool
+    ensures { result ≡ false → (was_due ≡ false) × (intake.now.waiting ≡ []) }
 {
-    if is_put {
-        intake.drain();
-    }
+    was_due || !intake.waiting().is_empty()
 }
 
-// Whether a publication is due once so many entries were taken.
-fn is_due_after(is_due: bool, taken: u64) -> bool
-    ensures { (result ≡ false) ↔ ((is_due ≡ false) × (taken ≡ 0)) }
+// Lets go of what waits, where the log grew by it.
+fn let_go(intake: &mut Intake<Global, Global>, before: u64, after: u64)
+    ensures log { intake.new.log ≡ intake.old.log }
+    ensures gone { before ≢ after → (intake.new.drained ≡ intake.old.log.taken)
+        × (intake.new.waiting ≡ []) }
+    ensures left { before ≡ after → intake.new ≡ intake.old }
 {
-    is_due || taken > 0
+    if before != after {
+        intake.drain();
+    }
 }
 
 impl<S: Shelf + Drop> ShelfLog<S> {
@@ -130,7 +130,7 @@ impl<S: Shelf + Drop> LiveLog for ShelfLog<S> {
     fn take_in(&mut self, lane: u32, most: u64) -> Result<u64, RunFault> {
         match self.intake.take(lane, most) {
             Ok(taken) => {
-                self.is_due = is_due_after(self.is_due, taken);
+                self.is_due = is_due_now(self.is_due, &self.intake);
                 Ok(taken)
             }
             Err(fault) => Err(refusal(fault)),
@@ -140,7 +140,7 @@ impl<S: Shelf + Drop> LiveLog for ShelfLog<S> {
     fn end_lane(&mut self, ended: Ended<Global, Global>) -> Result<u64, RunFault> {
         match self.intake.end(ended) {
             Ok(taken) => {
-                self.is_due = is_due_after(self.is_due, taken);
+                self.is_due = is_due_now(self.is_due, &self.intake);
                 Ok(taken)
             }
             Err(refused) => Err(refusal(refused.why)),
@@ -155,7 +155,7 @@ impl<S: Shelf + Drop> LiveLog for ShelfLog<S> {
         let waiting = self.intake.waiting();
         let (shelf, ledger) = (&mut self.shelf, &mut self.ledger);
         let outcome = append_batch(self.alloc, &self.key, waiting, shelf, ledger);
-        let_go(&mut self.intake, self.ledger.size() != size);
+        let_go(&mut self.intake, size, self.ledger.size());
         match outcome {
             Ok(()) => {
                 self.is_due = false;
