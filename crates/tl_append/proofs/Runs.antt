@@ -1,10 +1,10 @@
 -- A run over the log on a shelf.
-use Rattle.std.proofs.Common.{inl, inr, ◌≡◌, ◌⊎◌, ℕ, Bool, List, [], ◌++◌, Option, refl, sym, subst}
+use Rattle.std.proofs.Common.{inl, inr, ◌≡◌, ◌⊎◌, ℕ, Bool, List, [], ◌++◌, Option, refl, sym, ap, subst, ◌∙◌}
 use Rattle.std.proofs.KnownBytes.{Keeps-refl}
 use Rattle.std.proofs.lemmas.List.{append-nil}
 use Rattle.sha2.specs.Sha256.{sha256}
 use Rattle.tl_hash.specs.Bytes.{Bytes}
-use Rattle.tl_note.specs.Key.{Key}
+use Rattle.tl_note.specs.Key.{IsKeyName, Key}
 use Rattle.tl_device.specs.Device.{Passage}
 use Rattle.tl_lines.proofs.ReadingLemmas.{over}
 use Rattle.tl_publisher.specs.Histories.{Prefix}
@@ -13,8 +13,10 @@ use Rattle.tl_ledger.specs.Standing.{Ledger, IsStanding}
 use Rattle.tl_ledger.specs.Keeping.{IsKeeping}
 use Rattle.tl_ledger.specs.Opening.{Found, FoundCollides, Opens}
 use Rattle.tl_command.specs.Mirror.{LogKey}
+use Rattle.tl_command.specs.declared.keys.LogKey.{LogKey as GivenKey}
+use Rattle.tl_command.specs.declared.keys.LogKey.TheVariants as given
 use Rattle.tl_append.specs.Appending.{AppendsLines, AppendsSome, AppendsThen, AreBatches, joined, published_after}
-use Rattle.tl_append.specs.Running.{GoesOnPart, GoesOnWhole, Grows, IsResting, OfFound, Stays, Visit, WroteHeads}
+use Rattle.tl_append.specs.Running.{GoesOnPart, GoesOnWhole, Grows, IsLogKey, IsResting, OfFound, Stays, Visit, WroteHeads}
 use Rattle.tl_append.proofs.Turns.{along}
 
 -- a shelf before and after
@@ -71,3 +73,19 @@ module _ (key : LogKey) (keys : List Key) (found : Found) (a b : Kept) (saw sees
     grows = grows_then some.batches some.rest some.appends;
     lines = some.lines;
   }
+
+-- ---- the key
+
+-- the name of a key that options tell
+pub key_named : (given : GivenKey) (name : Bytes) (key : LogKey) → IsLogKey given name key → key.name ≡ name
+key_named (given.Secret secret) name key is = ap (λ (k : LogKey). k.name) is
+key_named (given.File path) name key (bytes, k, file, named, is) = ap (λ (x : LogKey). x.name) is ∙ named
+
+pub key_name : (given : GivenKey) (name : Bytes) (key : LogKey) → IsLogKey given name key → IsKeyName name → IsKeyName key.name
+key_name given name key is lawful = subst IsKeyName (sym (key_named given name key is)) lawful
+
+-- how a log goes on in part, under the key that is known
+pub under_part : (given : GivenKey) (name own_name : Bytes) (key : LogKey) (found : Found) (v : Visit) (i : Passage) → name ≡ own_name → IsLogKey given name key
+    → Stays v i ⊎ GoesOnPart key found v i → Stays v i ⊎ ((own : LogKey) × IsLogKey given own_name own × GoesOnPart own found v i)
+under_part given name own_name key found v i same is (inl stays) = inl stays
+under_part given name own_name key found v i same is (inr part) = inr (key, subst (λ (n : Bytes). IsLogKey given n key) same is, part)

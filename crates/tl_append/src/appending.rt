@@ -8,7 +8,7 @@ ghost use Rattle.tl_append.specs.Appending.{AppendsAtMost, AppendsLines, Appends
 ghost use Rattle.tl_append.specs.Inner.Turns.{Publishes};
 
 use crate::batch::append_batch;
-use crate::faults::unread;
+use crate::faults::line_fault;
 use crate::printing::print_head;
 use std::alloc::Global;
 use std::io::{Read, Write};
@@ -75,7 +75,7 @@ pub fn append_lines<K: LogSigner, S: Shelf, R: Read, W: Write>(
     for _turn in 0..u64::MAX {
         let entries = match lines.take_most(reader, batch) {
             Ok(entries) => entries,
-            Err(fault) => return Err(unread(fault)),
+            Err(fault) => return Err(line_fault(fault)),
         };
         if entries.is_empty() && !is_due {
             return Ok(());

@@ -75,7 +75,8 @@ pub fn append_batch<K: LogSigner, S: Shelf>(
         Ok(()) => {}
         Err(fault) => return Err(fault),
     }
-    let note = match sign_checkpoint(alloc, alloc, key, ledger.size(), ledger.root()) {
+    let (size, root) = (ledger.size(), ledger.root());
+    let note = match sign_checkpoint(alloc, alloc, key, size, root) {
         Ok(note) => note,
         Err(fault) => return Err(fault),
     };

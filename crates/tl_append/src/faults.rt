@@ -3,7 +3,8 @@
 ghost use Rattle.std.specs.Prelude.{◌≡◌, Some};
 ghost use Rattle.tl_command.specs.Faults.{after_device};
 ghost use Rattle.tl_command.specs.declared.place.Place.TheVariants.{Log};
-ghost use Rattle.tl_append.specs.Inner.Faults.{after_ledger, after_lines, after_open, after_shelf, is_taken};
+ghost use Rattle.tl_append.specs.Faults.{after_lines};
+ghost use Rattle.tl_append.specs.Inner.Faults.{after_ledger, after_open, after_shelf, is_taken};
 
 use tl_archive::ShelfFault;
 use tl_command::{Place, RunFault};
@@ -13,7 +14,7 @@ use tl_lines::LineFault;
 use tl_tile::Resource;
 
 /// What a command ends with where lines were not read.
-pub(crate) fn unread(fault: LineFault) -> RunFault
+pub fn line_fault(fault: LineFault) -> RunFault
     ensures { result ≡ after_lines fault }
 {
     match fault {

@@ -69,7 +69,8 @@ impl LogSigner for LogSigningKey {
                 let Ok(signature) = key.sign(global, text.as_bytes()) else {
                     return Err(AllocError);
                 };
-                write_signature_line(alloc, Signer::name(key), key.key_id(), signature.as_slice())
+                let (name, id) = (Signer::name(key), Signer::key_id(key));
+                write_signature_line(alloc, name, id, signature.as_slice())
             }
             LogSigningKey::Private(key) => key.line(alloc, global, text),
         }

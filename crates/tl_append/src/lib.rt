@@ -17,6 +17,7 @@ mod running;
 
 pub use appending::append_lines;
 pub use batch::append_batch;
+pub use faults::line_fault;
 pub use keys::{LogKeys, LogOpeningKey, LogSigningKey, keys_of};
 pub use opening::open_ledger;
 pub use options::AppendOptions;

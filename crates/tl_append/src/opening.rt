@@ -1,6 +1,6 @@
 //! Opening the log on a shelf under the key of its operator.
 
-ghost use Rattle.std.specs.Prelude.{◌≡◌, ◌∷◌, [], IfOk, OnErr};
+ghost use Rattle.std.specs.Prelude.{◌≡◌, ◌∷◌, [], map, IfOk};
 ghost use Rattle.sha2.specs.Sha256.{sha256};
 ghost use Rattle.tl_ledger.specs.Opening.{Opens};
 ghost use Rattle.tl_append.specs.Keys.{opening_key_of};
@@ -8,10 +8,28 @@ ghost use Rattle.tl_append.specs.Keys.{opening_key_of};
 use crate::faults::unopened;
 use crate::keys::LogOpeningKey;
 use std::alloc::Global;
+use std::snapshot::Snapshot;
 use tl_archive::Shelf;
 use tl_command::RunFault;
 use tl_ledger::{Found, Ledger};
 use tl_note::Verifier;
+
+// The ledger of the log on this shelf, whose checkpoint these verifiers open, of which this one is the only one.
+fn open_by<S: Shelf>(
+    alloc: Global,
+    own: &Snapshot<LogOpeningKey>,
+    verifiers: &[Box<dyn Verifier>],
+    shelf: &S,
+    found: &mut Found<Global>,
+) -> Result<Ledger<Global>, RunFault>
+    requires { map (λ v. key v) verifiers.now ≡ opening_key_of own.now.value ∷ [] }
+    ensures { IfOk result (Opens sha256 (opening_key_of own.now.value ∷ []) found.new) }
+{
+    match Ledger::open(alloc, shelf, verifiers, found) {
+        Ok(ledger) => Ok(ledger),
+        Err(fault) => Err(unopened(fault)),
+    }
+}
 
 /// The ledger of the log on this shelf, whose checkpoint the verifier has to open (C2SP tlog-checkpoint): of no entries
 /// where there is none. `found` holds what was read.
@@ -23,12 +41,13 @@ pub fn open_ledger<S: Shelf>(
 ) -> Result<Ledger<Global>, RunFault>
     ensures { IfOk result (Opens sha256 (opening_key_of verifier ∷ []) found.new) }
 {
+    let own = Snapshot::of(&verifier);
     let verifier: Box<dyn Verifier> = match Box::new(alloc, verifier) {
         Ok(verifier) => verifier,
         Err(_) => return Err(RunFault::OutOfMemory),
     };
-    match Ledger::open(alloc, shelf, &[verifier], found) {
+    match open_by(alloc, &own, &[verifier], shelf, found) {
         Ok(ledger) => Ok(ledger),
-        Err(fault) => Err(unopened(fault)),
+        Err(fault) => Err(fault),
     }
 }

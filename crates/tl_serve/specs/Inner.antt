@@ -1,7 +1,5 @@
 -- Private words: what contracts of private functions and proofs need.
 pub
-    mod LineFaults
-pub
     mod Live
 pub
     mod Running

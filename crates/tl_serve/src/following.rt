@@ -4,13 +4,13 @@ ghost use Rattle.std.specs.Prelude.{◌≡◌, IfOk, IfSome};
 
 use crate::awaited::Awaited;
 use crate::lanes::{EndOf, LaneThread, Sending, Sent, send_one};
-use crate::line_faults::after_lines;
 use crate::news::News;
 use std::alloc::Global;
 use std::io::Read;
 use std::snapshot::Snapshot;
 use std::sync::Wait;
 use std::thread::Scope;
+use tl_append::line_fault;
 use tl_command::RunFault;
 use tl_device::Counted;
 use tl_lines::{Lines, NextLine};
@@ -70,7 +70,7 @@ impl<R: Read + Send> Source for Followed<'_, R> {
     fn read_on(&mut self) -> Result<ReadOn, RunFault> {
         let goes_on = match self.lines.fill(self.reader) {
             Ok(goes_on) => goes_on,
-            Err(fault) => return Err(after_lines(fault)),
+            Err(fault) => return Err(line_fault(fault)),
         };
         let may_go_on = self.input.note(!goes_on);
         Ok(if goes_on {

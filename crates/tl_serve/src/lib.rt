@@ -16,7 +16,6 @@ mod guest;
 mod guests;
 mod host;
 mod lanes;
-mod line_faults;
 mod live_log;
 mod memory_log;
 mod news;

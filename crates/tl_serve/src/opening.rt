@@ -4,10 +4,10 @@ ghost use Rattle.std.specs.Prelude.{◌≡◌, IfOk, length, map, vec_items};
 ghost use Rattle.tl_lines.specs.Dealt.{Deals};
 
 use crate::lanes::Sending;
-use crate::line_faults::after_lines;
 use crate::options::ServeOptions;
 use std::alloc::{AllocError, Global};
 use std::io::Read;
+use tl_append::line_fault;
 use tl_checkpoint::open_checkpoint;
 use tl_command::{MOST_INPUT, RunFault, read_entries};
 use tl_device::Counted;
@@ -73,7 +73,7 @@ fn read_log<R: Read>(
     if options.follow {
         return match lines.take(reader, size) {
             Ok(base) => Ok((base, Vec::new(alloc))),
-            Err(fault) => Err(after_lines(fault)),
+            Err(fault) => Err(line_fault(fault)),
         };
     }
     let mut base = read_entries(alloc, reader, MOST_INPUT)?;

@@ -1,4 +1,4 @@
--- What the faults of lines, of a ledger and of its shelf are told as.
+-- What the faults of a ledger and of its shelf are told as.
 use Rattle.std.specs.Prelude.{Some}
 use Rattle.tl_device.specs.declared.fault.DeviceFault.TheVariants as device
 use Rattle.tl_tile.specs.declared.resource.Resource.TheVariants as resource
@@ -11,16 +11,6 @@ use Rattle.tl_ledger.specs.declared.fault.LedgerFault.{LedgerFault}
 use Rattle.tl_ledger.specs.declared.fault.LedgerFault.TheVariants as ledger
 use Rattle.tl_ledger.specs.declared.opened.fault.OpenFault.{OpenFault}
 use Rattle.tl_ledger.specs.declared.opened.fault.OpenFault.TheVariants as opening
-use Rattle.tl_lines.specs.declared.fault.LineFault.{LineFault}
-use Rattle.tl_lines.specs.declared.fault.LineFault.TheVariants as lines
-
--- where lines were not read
-abbrev pub after_lines : LineFault → RunFault
-after_lines lines.Read = run.Read
-after_lines lines.TooFew = run.Malformed
-after_lines (lines.TooLong number) = run.EntryTooLong number
-after_lines lines.Endless = run.TooLarge
-after_lines lines.OutOfMemory = run.OutOfMemory
 
 -- where a shelf failed
 abbrev pub after_shelf : ShelfFault → RunFault
