@@ -15,11 +15,12 @@
 //!
 //! ```
 //! let (mut intake, mut submitters) = Intake::open(alloc, 700, 1, 16, 1000)?; // 700 entries are on the disk
-//! submitters[0].submit(cat)?;
-//! assert_eq!(intake.take(0, 16), Ok(1));
+//! let mut submitter = submitters.pop().unwrap();
+//! assert_eq!(submitter.submit(cat), Ok(0));
+//! assert_eq!(intake.take(0, 16), Ok(1)); // it waits
 //! put_on_disk(intake.waiting())?;
-//! intake.drain(); // and the cat is let go
-//! intake.end(submitters.pop().unwrap().close().unwrap())?;
+//! intake.drain(); // and is let go
+//! intake.end(submitter.close().unwrap())?;
 //! assert_eq!(intake.completed(), Ok(1)); // one entry was taken in all
 //! ```
 #![tactic(auto)]
