@@ -12,7 +12,7 @@ use Rattle.tl_archive.specs.Shelves.{Kept}
 use Rattle.tl_ledger.specs.Standing.{Ledger}
 use Rattle.tl_ledger.specs.Opening.{Found, Opens}
 use Rattle.tl_command.specs.Mirror.{LogKey}
-use Rattle.tl_append.specs.Appending.{Appends, AppendsAtMost, AppendsThen, Course, IsPutOrNot, joined}
+use Rattle.tl_append.specs.Appending.{Appends, AppendsAtMost, AppendsThen, Course, IsPutOrNot, course, joined}
 use Rattle.tl_append.specs.Running.{Grows, OfFound}
 use Rattle.tl_append.proofs.Onward.{same_entries, then_batches, then_put}
 use Rattle.tl_append.proofs.Runs.{between, grows_then}
@@ -35,6 +35,14 @@ serving_new key k saw was i is_due named drained waiting = record {
   none = λ _. waiting;
 }
 
+pub serving_begun : {A S : Type 0} (key : LogKey) (kept : S → Kept) (trace : S → List Kept) (began shelf : S) (was ledger : Ledger) (i : Intake A) (is_due : Bool)
+    → began ≡ shelf → was ≡ ledger → IsKeyName key.name → i.drained ≡ [] → i.waiting ≡ []
+    → IsServing key (course kept trace began shelf was ledger) i is_due
+serving_begun {A} {S} key kept trace began shelf was ledger i is_due same is named drained waiting =
+    subst (λ (b : S). IsServing key (course kept trace b shelf was ledger) i is_due) (sym same)
+    (subst (λ (w : Ledger). IsServing key (course kept trace shelf shelf w ledger) i is_due) (sym is)
+    (serving_new key (kept shelf) (trace shelf) ledger i is_due named drained waiting))
+
 -- ---- once entries were taken
 
 pub serving_taken : {A : Type 0} (key : LogKey) (c : Course) (i j : Intake A) (due due' : Bool)
@@ -52,7 +60,7 @@ serving_taken key c i j due due' is drained none = record {
 -- ---- once what waits was appended
 
 -- an intake before and after, with the sizes of the ledger, of which what waits is let go where the size grew
-record LetsGo {A : Type 0} (i j : Intake A) (c : Course) (before after : ℕ) : Type 0 where
+pub record LetsGo {A : Type 0} (i j : Intake A) (c : Course) (before after : ℕ) : Type 0 where
   pub parts : i.log.taken ≡ i.drained ++ i.waiting
   pub old : before ≡ c.was.edge.size
   pub new : after ≡ c.is.edge.size
@@ -126,8 +134,9 @@ module _ {A : Type 0} (key : LogKey) (a m b : Kept) (saw mid sees : List Kept) (
     none = λ not. absurd (true≢false not);
   }
 
-  pub serving_failed : AppendsAtMost key i.waiting (along m b mid sees now is) → IsServing key (along a b saw sees was is) j true
-  serving_failed part = serving_part part.batches part.rest part.appends part.own
+  pub serving_failed : AppendsAtMost key i.waiting (along m b mid sees now is) → due ≡ true → IsServing key (along a b saw sees was is) j due
+  serving_failed part is_due =
+      subst (λ (d : Bool). IsServing key (along a b saw sees was is) j d) (sym is_due) (serving_part part.batches part.rest part.appends part.own)
 
 -- ---- at the end
 
