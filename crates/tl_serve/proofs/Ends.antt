@@ -23,3 +23,8 @@ senders_of f xs ss before after same all rings = λ k d less.
     let here = all k (f d) (subst (λ n. k < n) (sym (length-map xs f) ∙ ap length same) less) in
     let own = subst (λ s. IsSenderOf s before) (ap (λ t. slice_index_or t k (f d)) (sym same) ∙ at) here in
     ap (λ t. slice_get t (f (slice_index_or xs k d)).lane) rings ∙ own
+
+-- submitters of a log are of the log that has its rings
+pub senders_stay : {A X : Type 0} (f : X → Sender A) (xs : List X) (before after : Log A) → All (λ x. IsSenderOf (f x) before) xs
+    → rings_of after ≡ rings_of before → All (λ x. IsSenderOf (f x) after) xs
+senders_stay f xs before after all rings = λ k d less. ap (λ t. slice_get t (f (slice_index_or xs k d)).lane) rings ∙ all k d less

@@ -1,5 +1,6 @@
 -- A log on a shelf, from its opening to the shelf that it gives back.
 use Rattle.std.proofs.Common.{◌≡◌, ◌≢◌, inl, inr, ℕ, ◌+◌, Bool, true, false, true≢false, List, [], ◌∷◌, ◌++◌, Option, Some, length, refl, sym, ap, subst, ◌∙◌, arith, append_assoc}
+use Rattle.std.specs.Prelude.{Err, Ok, OnOk, Result}
 use Rattle.std.specs.Global.{Global}
 use Rattle.std.specs.Option.{unwrap_or}
 use Rattle.std.proofs.lemmas.List.{append-nil}
@@ -12,14 +13,16 @@ use Rattle.tl_archive.specs.Shelves.{Kept}
 use Rattle.tl_ledger.specs.Standing.{Ledger}
 use Rattle.tl_ledger.specs.Opening.{Found, Opens}
 use Rattle.tl_command.specs.Mirror.{LogKey}
+use Rattle.tl_command.specs.declared.keys.LogKey.{LogKey as GivenKey}
+use Rattle.tl_command.specs.declared.fault.RunFault.{RunFault}
 use Rattle.tl_append.specs.Appending.{Appends, AppendsAtMost, AppendsThen, Course, IsPutOrNot, course, joined}
-use Rattle.tl_append.specs.Running.{Grows, OfFound}
+use Rattle.tl_append.specs.Running.{Grows, IsLogKey, OfFound, Visit}
 use Rattle.tl_append.proofs.Onward.{same_entries, then_batches, then_put}
 use Rattle.tl_append.proofs.Runs.{between, grows_then}
 use Rattle.tl_append.proofs.Turns.{along, none_appended, nothing_then}
-use Rattle.tl_serve.specs.Serving.{ServesPart, ServesWhole}
+use Rattle.tl_serve.specs.Serving.{Serves, ServesPart, ServesWhole}
 use Rattle.tl_serve.specs.Inner.Running.{Begun}
-use Rattle.tl_serve.specs.Inner.Shelved.{IsClosed, IsServing}
+use Rattle.tl_serve.specs.Inner.Shelved.{IsClosed, IsServing, ServesUnder}
 
 -- ---- at first
 
@@ -138,6 +141,15 @@ module _ {A : Type 0} (key : LogKey) (a m b : Kept) (saw mid sees : List Kept) (
   serving_failed part is_due =
       subst (λ (d : Bool). IsServing key (along a b saw sees was is) j d) (sym is_due) (serving_part part.batches part.rest part.appends part.own)
 
+-- ---- the key
+
+-- how a log is served under the key that is known
+pub serves_given : (given : GivenKey) (name own_name : Bytes) (key : LogKey) (found : Found) (v : Visit) (outcome : Result (Unit {0}) RunFault) → name ≡ own_name
+    → IsLogKey given name key → ServesUnder key found v outcome → Serves given own_name found v outcome
+serves_given given name own_name key found v (Ok done) same is all = (key, subst (λ (n : Bytes). IsLogKey given n key) same is, all)
+serves_given given name own_name key found v (Err fault) same is (inl left) = inl left
+serves_given given name own_name key found v (Err fault) same is (inr part) = inr (key, subst (λ (n : Bytes). IsLogKey given n key) same is, part)
+
 -- ---- at the end
 
 begun_one : (x y : Begun) → Some x ≡ Some y → x ≡ y
@@ -172,3 +184,8 @@ module _ (key : LogKey) (keys : List Key) (found : Found) (a b : Kept) (saw sees
             ∙ sym (closed.given ∙ ap (λ (w : List Bytes). i.drained ++ w) none ∙ append-nil i.drained);
       })
       opens
+
+  -- however it ended
+  pub serves_under : (outcome : Result (Unit {0}) RunFault) → OnOk outcome (IsClosed i due) → ServesUnder first.key found (between first.kept b first.saw sees) outcome
+  serves_under (Ok done) closed = serves_whole closed
+  serves_under (Err fault) closed = inr serves_part

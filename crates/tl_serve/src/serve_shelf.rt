@@ -164,7 +164,7 @@ fn serve_under<
     reader: &mut Counted<R>,
     out: &mut Counted<L>,
 ) -> Served<S>
-    requires { IsKeyName (log_key_of keys.signer).name }
+    requires name { IsKeyName (log_key_of keys.signer).name }
     ensures { ServesUnder (log_key_of keys.signer) found.new
         (visit S.kept S.trace shelf result.shelf) result.outcome }
 {
