@@ -3,15 +3,20 @@
 //! of them.
 #![tactic(auto)]
 
+mod call_log;
 mod call_outcome;
 mod disk;
+mod file_calls;
 mod file_id;
 mod files;
+mod folders;
 mod lines;
 mod lock;
 mod look;
 mod record;
 mod shelf;
+mod staged;
+mod system;
 mod whole;
 
 pub use call_outcome::CallOutcome;

@@ -6,6 +6,7 @@ use crate::call_outcome::CallOutcome;
 use crate::disk::CrashOutcome;
 use crate::files::FolderFiles;
 use crate::record::Record;
+use crate::system::SystemCalls;
 use std::alloc::{Allocator, Global};
 use std::fs::Files;
 use std::marker::Model;
@@ -20,7 +21,7 @@ use tl_tile::Resource;
 #[derive(Drop)]
 pub struct FolderShelf<D, H> {
     disk: D,
-    files: FolderFiles<H>,
+    files: FolderFiles<SystemCalls<H>>,
     calls: Record,
     failures: u64,
 }
@@ -54,7 +55,7 @@ impl<D: CrashOutcome + Drop, H: Files + Drop> FolderShelf<D, H> {
     ) -> Result<FolderShelf<D, H>, DeviceFault>
         ensures { IfOk result (λ shelf. shelf ≡ record { events = []; failures = 0 }) }
     {
-        let files = FolderFiles::open(files, alloc, path)?;
+        let files = FolderFiles::open(SystemCalls::new(files), alloc, path)?;
         Ok(FolderShelf {
             disk,
             files,
