@@ -64,19 +64,19 @@ Spares (step.MakeFolder folder) q = Unit {0}
 moved_other : (from to q : Path) (a b : At) (disk : Disk) → q ≢ from → q ≢ to → put to b (put from a disk) q ≡ disk q
 moved_other from to q a b disk not_from not_to = put_other to q b (put from a disk) not_to ∙ put_other from q a disk not_from
 
-sync_spares : (path : Path) (disk : Disk) (q : Path) → LeavesNoMore (disk q) (after (step.Sync path) disk q)
+pub sync_spares : (path : Path) (disk : Disk) (q : Path) → LeavesNoMore (disk q) (after (step.Sync path) disk q)
 sync_spares path disk q =
     put_is (λ x. LeavesNoMore (disk q) x) path q (changed synced (disk path)) disk
     (λ e. subst (λ (p : Path). LeavesNoMore (disk q) (changed synced (disk p))) e (may_be_changed synced (disk q) (λ left stays. stay_synced (disk q).there left stays)))
     (λ left may. may)
 
-spoil_spares : (path : Path) (rest : Bytes) (disk : Disk) (q : Path) → LeavesNoMore (disk q) (after_failed (step.Sync path) rest disk q)
+pub spoil_spares : (path : Path) (rest : Bytes) (disk : Disk) (q : Path) → LeavesNoMore (disk q) (after_failed (step.Sync path) rest disk q)
 spoil_spares path rest disk q =
     put_is (λ x. LeavesNoMore (disk q) x) path q (changed (spoiled rest) (disk path)) disk
     (λ e. subst (λ (p : Path). LeavesNoMore (disk q) (changed (spoiled rest) (disk p))) e (may_be_changed (spoiled rest) (disk q) (λ left stays. stay_spoiled rest (disk q).there left stays)))
     (λ left may. may)
 
-name_spares : (folder : Path) (disk : Disk) (q : Path) → LeavesNoMore (disk q) (after (step.SyncFolder folder) disk q)
+pub name_spares : (folder : Path) (disk : Disk) (q : Path) → LeavesNoMore (disk q) (after (step.SyncFolder folder) disk q)
 name_spares folder disk q =
     pick (λ (x : At). LeavesNoMore (disk q) x) (is_in folder (folder_of q)) (record { there = (disk q).there; older = [] }) (disk q)
     (λ e. none_older (disk q).there (disk q).older) (λ left may. may)

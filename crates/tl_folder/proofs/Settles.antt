@@ -1,21 +1,22 @@
 -- What a settling leaves at each path.
 use Rattle.std.proofs.Common.{◌≡◌, ◌≢◌, true, false, inl, inr, ◌⊎◌, List, [], ◌∷◌, ◌++◌, map, Some, None, refl, sym, ap, subst, ◌∙◌}
-use Rattle.std.specs.Prelude.{Bool, Option, option_map, Contains, if◌then◌else◌}
+use Rattle.std.specs.Prelude.{Bool, Option, option_map, Contains, ◌||◌, if◌then◌else◌}
 use Rattle.std.specs.Str.{bytes_eq}
+use Rattle.std.specs.Path.{path_parent}
 use Rattle.std.proofs.lemmas.Slice.Eq.{bytes_eq-Decides}
 use Rattle.tl_archive.proofs.Lists.{none_has, has_head, has_tail, cons_cases}
 use Rattle.tl_folder.specs.Step.{Path, Bytes, Step}
 use Rattle.tl_folder.specs.Step as step
 use Rattle.tl_folder.specs.FileCalls.{Call, done, Begins}
-use Rattle.tl_folder.specs.Posix.{File, Whole, Torn, At, Disk, MayHave, MayStay, MayBe, put, is_in, folder_of, synced, changed, bytes_of, after, Becomes, MayLeave}
-use Rattle.tl_folder.specs.Settling.{Move, syncing, placing, naming, settling, naming_in, replacing}
+use Rattle.tl_folder.specs.Posix.{File, Whole, Torn, At, Disk, MayHave, MayStay, MayBe, put, is_in, spelled, folder_of, synced, changed, bytes_of, after, Becomes, MayLeave}
+use Rattle.tl_folder.specs.Settling.{Move, syncing, placing, naming, settling, naming_in, replacing, has_path, IsAbove, nearest, AreCovered}
 use Rattle.tl_folder.specs.Laws.{HasBytes, IsAtRest, LeavesNoMore, LeavesOldOrNew, AreTwo, IsApart, AreApart, IsElsewhere}
 use Rattle.tl_folder.proofs.Disks.{pick, put_is, put_own, put_other, Spares, Places, LeavesOldOr, rename_there, rename_other, run, IsFine, at_each_moment, all_done, done_begins, run_append, fine_append}
 
 -- ---- syncs
 
 -- the file there has all its bytes on the disk
-abbrev IsWhole : Bytes → At → Type 0
+abbrev pub IsWhole : Bytes → At → Type 0
 IsWhole bytes at = at.there ≡ Some (Whole bytes)
 
 whole_now : (file : File) (bytes : Bytes) → bytes_of file ≡ bytes → synced file ≡ Whole bytes
@@ -44,7 +45,7 @@ whole_synced p q disk bytes is =
     put_is (λ x. IsWhole bytes x) p q (changed synced (disk p)) disk
     (λ e. sync_whole (disk p).there bytes (subst (λ (x : Path). HasBytes (disk x) bytes) e (ap (λ (x : Option File). option_map bytes_of x) is))) is
 
-own_synced : (p : Path) (disk : Disk) (bytes : Bytes) → HasBytes (disk p) bytes → IsWhole bytes (after (step.Sync p) disk p)
+pub own_synced : (p : Path) (disk : Disk) (bytes : Bytes) → HasBytes (disk p) bytes → IsWhole bytes (after (step.Sync p) disk p)
 own_synced p disk bytes has = ap (λ (x : At). x.there) (put_own p (changed synced (disk p)) disk) ∙ sync_whole (disk p).there bytes has
 
 all_whole : (moves : List Move) (q : Path) (disk : Disk) (bytes : Bytes) → IsWhole bytes (disk q) → IsWhole bytes (run (map syncing moves) disk q)
@@ -126,21 +127,21 @@ elsewhere_fine New (m ∷ more) disk q apart = (inl (apart.0, apart.1), elsewher
 
 -- ---- folders
 
-names_fine : (New : Option Bytes → Type 0) (folders : List Path) (disk : Disk) (q : Path) → IsFine New disk (map naming folders) q
+pub names_fine : (New : Option Bytes → Type 0) (folders : List Path) (disk : Disk) (q : Path) → IsFine New disk (map naming folders) q
 names_fine New [] disk q = tt
 names_fine New (folder ∷ more) disk q = (inl tt, names_fine New more (after (naming folder) disk) q)
 
-named_there : (folder : Path) (disk : Disk) (q : Path) → (after (naming folder) disk q).there ≡ (disk q).there
+pub named_there : (folder : Path) (disk : Disk) (q : Path) → (after (naming folder) disk q).there ≡ (disk q).there
 named_there folder disk q = pick (λ (x : At). x.there ≡ (disk q).there) (is_in folder (folder_of q)) (record { there = (disk q).there; older = [] }) (disk q) (λ _. refl) refl
 
-named_none : (folder : Path) (disk : Disk) (q : Path) → (disk q).older ≡ [] → (after (naming folder) disk q).older ≡ []
+pub named_none : (folder : Path) (disk : Disk) (q : Path) → (disk q).older ≡ [] → (after (naming folder) disk q).older ≡ []
 named_none folder disk q none = pick (λ (x : At). x.older ≡ []) (is_in folder (folder_of q)) (record { there = (disk q).there; older = [] }) (disk q) (λ _. refl) none
 
 is_there : (folder : Path) (own : Option Path) → own ≡ Some folder → is_in folder own ≡ true
 is_there folder own is = ap (λ (x : Option Path). is_in folder x) is ∙ (bytes_eq-Decides folder folder).1 refl
 
-named_own : (folder : Path) (disk : Disk) (q : Path) → folder_of q ≡ Some folder → (after (naming folder) disk q).older ≡ []
-named_own folder disk q own = ap (λ (b : Bool). (if b then record { there = (disk q).there; older = [] } else disk q).older) (is_there folder (folder_of q) own)
+pub named_own : (folder : Path) (disk : Disk) (q : Path) → folder_of q ≡ Some folder → (after (naming folder) disk q).older ≡ []
+named_own folder disk q within = ap (λ (b : Bool). (if b then record { there = (disk q).there; older = [] } else disk q).older) (is_there folder (folder_of q) within)
 
 names_there : (folders : List Path) (disk : Disk) (q : Path) → (run (map naming folders) disk q).there ≡ (disk q).there
 names_there [] disk q = refl
@@ -150,12 +151,16 @@ names_none : (folders : List Path) (disk : Disk) (q : Path) → (disk q).older �
 names_none [] disk q none = none
 names_none (folder ∷ more) disk q none = names_none more (after (naming folder) disk) q (named_none folder disk q none)
 
-pub after_names : (folders : List Path) (folder : Path) (disk : Disk) (q : Path) → Contains folders folder → folder_of q ≡ Some folder → (run (map naming folders) disk q).older ≡ []
-after_names [] folder disk q has own = absurd (none_has folder has)
-after_names (first ∷ more) folder disk q has own =
-    elim (cons_cases first more folder has) as (λ _. (run (map naming (first ∷ more)) disk q).older ≡ []) [
-      | inl same ↦ names_none more (after (naming first) disk) q (named_own first disk q (own ∙ ap (λ (x : Path). Some x) (sym same)))
-      | inr later ↦ after_names more folder (after (naming first) disk) q later own
+first_or : (b c : Bool) → (b || c) ≡ true → (b ≡ true) ⊎ (c ≡ true)
+first_or true c is = inl refl
+first_or false c is = inr is
+
+pub after_names : (folders : List Path) (folder : Path) (disk : Disk) (q : Path) → has_path folders folder ≡ true → folder_of q ≡ Some folder → (run (map naming folders) disk q).older ≡ []
+after_names [] folder disk q has within = absurd (cc)
+after_names (first ∷ more) folder disk q has within =
+    elim (first_or (bytes_eq first folder) (has_path more folder) has) as (λ _. (run (map naming (first ∷ more)) disk q).older ≡ []) [
+      | inl same ↦ names_none more (after (naming first) disk) q (named_own first disk q (within ∙ ap (λ (x : Path). Some x) (sym ((bytes_eq-Decides first folder).0 same))))
+      | inr later ↦ after_names more folder (after (naming first) disk) q later within
     ]
 
 -- ---- the whole
@@ -173,27 +178,22 @@ settling_fine New moves folders disk q fine =
     (fine_append New (map syncing moves) (map placing moves) disk q (syncs_fine New moves disk q) fine)
     (names_fine New folders (run (map syncing moves ++ map placing moves) disk) q)
 
-rest_leaves : (at : At) (bytes : Bytes) → IsAtRest at bytes → (left : Option Bytes) → MayBe at left → left ≡ Some bytes
+pub rest_leaves : (at : At) (bytes : Bytes) → IsAtRest at bytes → (left : Option Bytes) → MayBe at left → left ≡ Some bytes
 rest_leaves at bytes rest left (inl stays) =
     let it : MayStay (Some (Whole bytes)) left = subst (λ (x : Option File). MayStay x left) rest.0 stays in
     it.1 ∙ ap (λ (b : Bytes). Some b) it.2
 rest_leaves at bytes rest left (inr (file, has, stays)) = absurd (none_has file (subst (λ (x : List (Option File)). Contains x file) rest.1 has))
 
-pub settled_rests : (disk now : Disk) (moves : List Move) (folders : List Path) (m : Move) (folder : Path) (bytes : Bytes)
-    → AreApart moves → Contains moves m → HasBytes (disk m.0) bytes → folder_of m.1 ≡ Some folder → Contains folders folder
+pub settled_rests : (disk now : Disk) (moves : List Move) (root : Path) (folders : List Path) (m : Move) (folder : Path) (bytes : Bytes)
+    → AreApart moves → AreCovered root folders moves → Contains moves m → path_parent m.1 ≡ Some folder → HasBytes (disk m.0) bytes
     → Becomes disk (done (settling moves folders)) now → IsAtRest (now m.1) bytes
-settled_rests disk now moves folders m folder bytes apart has there own folder_has becomes =
+settled_rests disk now moves root folders m folder bytes apart covered has above there becomes =
     let second : Disk = run (map placing moves) (run (map syncing moves) disk) in
     let is : now ≡ run (map naming folders) second = all_done (settling moves folders) disk now becomes ∙ run_settling moves folders disk in
     let at : now m.1 ≡ run (map naming folders) second m.1 = ap (λ (x : Disk). x m.1) is in
     let whole : IsWhole bytes (second m.1) = after_renames moves m (run (map syncing moves) disk) bytes apart has (after_syncs moves m disk bytes has there) in
-    (ap (λ (x : At). x.there) at ∙ names_there folders second m.1 ∙ whole, ap (λ (x : At). x.older) at ∙ after_names folders folder second m.1 folder_has own)
-
-pub settled_files_last : (disk : Disk) (moves : List Move) (folders : List Path) (m : Move) (folder : Path) (bytes : Bytes) (left : Option Bytes)
-    → AreApart moves → Contains moves m → HasBytes (disk m.0) bytes → folder_of m.1 ≡ Some folder → Contains folders folder
-    → MayLeave disk (done (settling moves folders)) m.1 left → left ≡ Some bytes
-settled_files_last disk moves folders m folder bytes left apart has there own folder_has (now, becomes, may) =
-    rest_leaves (now m.1) bytes (settled_rests disk now moves folders m folder bytes apart has there own folder_has becomes) left may
+    (ap (λ (x : At). x.there) at ∙ names_there folders second m.1 ∙ whole,
+    ap (λ (x : At). x.older) at ∙ after_names folders (spelled folder) second m.1 (covered m folder has (nearest above)) (ap (λ (x : Option Path). option_map spelled x) above))
 
 pub settling_is_gentle : (disk : Disk) (moves : List Move) (folders : List Path) (calls : List Call) (m : Move) (bytes : Bytes) (left : Option Bytes)
     → AreApart moves → Contains moves m → HasBytes (disk m.0) bytes → Begins (settling moves folders) calls

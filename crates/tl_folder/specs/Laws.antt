@@ -1,12 +1,17 @@
 -- Words of the laws on what a crash leaves.
-use Rattle.std.specs.Prelude.{◌≡◌, ◌≢◌, ◌⊎◌, List, [], ◌∷◌, ◌++◌, Option, Some, option_map, Contains}
+use Rattle.std.specs.Prelude.{◌≡◌, ◌≢◌, ◌⊎◌, List, [], ◌∷◌, ◌++◌, Option, Some, None, option_map, Contains}
 use Rattle.tl_folder.specs.Step.{Path, Bytes}
-use Rattle.tl_folder.specs.Posix.{At, Whole, MayBe, bytes_of}
+use Rattle.tl_folder.specs.Posix.{File, At, Whole, MayBe, bytes_of}
 use Rattle.tl_folder.specs.Settling.{Move}
 
 -- a file is there that has these bytes now
 abbrev pub HasBytes : At → Bytes → Type 0
 HasBytes at bytes = option_map bytes_of at.there ≡ Some bytes
+
+-- what a file has now, or no bytes where there is none
+abbrev pub bytes_there : Option File → Bytes
+bytes_there None = []
+bytes_there (Some file) = bytes_of file
 
 -- a file is there with these bytes, and a crash leaves nothing else
 abbrev pub IsAtRest : At → Bytes → Type 0

@@ -1,5 +1,6 @@
 -- The calls by which files are written beside their places, and then put there together.
-use Rattle.std.specs.Prelude.{◌≡◌, ◌≤◌, ◌⊎◌, true, false, List, [], ◌∷◌, ◌++◌, length, map, Option, Some, None, Contains, Result, Ok, Err}
+use Rattle.std.specs.Prelude.{◌≡◌, ◌<◌, ◌⊎◌, Bool, true, false, ◌||◌, IsTrue, List, [], ◌∷◌, ◌++◌, length, map, Option, Some, None, Contains, Result, Ok, Err}
+use Rattle.std.specs.Str.{bytes_eq}
 use Rattle.std.specs.Path.{path_parent}
 use Rattle.tl_folder.specs.Step.{Path, Bytes, Step}
 use Rattle.tl_folder.specs.Step as step
@@ -11,12 +12,12 @@ abbrev pub Move : Type 0
 Move = Path × Path
 
 -- the path beside a place: with `.new` behind it
-abbrev pub beside : Path → Path
-beside place = place ++ 46 ∷ 110 ∷ 101 ∷ 119 ∷ []
+abbrev pub new_path : Path → Path
+new_path place = place ++ 46 ∷ 110 ∷ 101 ∷ 119 ∷ []
 
 -- the file and its place
 abbrev pub move_to : Path → Move
-move_to place = (beside place, place)
+move_to place = (new_path place, place)
 
 -- ---- staging
 
@@ -61,16 +62,19 @@ naming folder = step.SyncFolder folder
 abbrev pub settling : List Move → List Path → List Step
 settling moves folders = map syncing moves ++ map placing moves ++ map naming folders
 
--- the folder of a path is among these, and those above it up to the root
-pub data IsCovered (root : Path) (folders : List Path) : Path → Type 0 where
-  is_top : (path : Path) → path_parent path ≡ None → IsCovered root folders path
-  is_last : (path folder : Path) → path_parent path ≡ Some folder → Contains folders (spelled folder) → length folder ≤ length root → IsCovered root folders path
-  is_next : (path folder : Path) → path_parent path ≡ Some folder → Contains folders (spelled folder) → IsCovered root folders folder → IsCovered root folders path
+-- whether the path is among these
+abbrev pub has_path : List Path → Path → Bool
+has_path [] path = false
+has_path (first ∷ more) path = bytes_eq first path || has_path more path
 
--- so it is with the places of all files
+-- the folder is that of the path or above it, and the first that is no longer than the root is the last
+pub data IsAbove (root : Path) : Path → Path → Type 0 where
+  nearest : {path folder : Path} → path_parent path ≡ Some folder → IsAbove root path folder
+  farther : {path between folder : Path} → path_parent path ≡ Some between → length root < length between → IsAbove root between folder → IsAbove root path folder
+
+-- each folder above a place, up to the root, is among the folders
 abbrev pub AreCovered : Path → List Path → List Move → Type 0
-AreCovered root folders [] = Unit {0}
-AreCovered root folders (move ∷ more) = IsCovered root folders move.1 × AreCovered root folders more
+AreCovered root folders moves = (move : Move) (folder : Path) → Contains moves move → IsAbove root move.1 folder → IsTrue (has_path folders (spelled folder))
 
 -- ---- a name, and a file that is replaced
 
@@ -80,8 +84,8 @@ naming_in None = []
 naming_in (Some folder) = naming folder ∷ []
 
 -- the path of the lock of a file that is replaced
-abbrev pub lock_path : Path → Path
-lock_path path = path ++ 46 ∷ 108 ∷ 111 ∷ 99 ∷ 107 ∷ []
+abbrev pub lock_path_of : Path → Path
+lock_path_of path = path ++ 46 ∷ 108 ∷ 111 ∷ 99 ∷ 107 ∷ []
 
 -- writes the bytes beside the file, has them outlast a crash, puts them in its place and has the name outlast one
 abbrev pub replacing : Path → Path → Bytes → List Step

@@ -9,7 +9,7 @@ use tl_device::DeviceFault;
 /// What a folder asks of a system: one call of it each, and nothing else changes files. Contracts see those that were
 /// made, in order.
 pub(crate) trait FileCalls {
-    ghost use Rattle.std.specs.Prelude.{◌≡◌, true, false, List, [], ◌∷◌, ◌++◌, length, take, is_ok, IfOk, MatchResult};
+    ghost use Rattle.std.specs.Prelude.{◌≡◌, ◌≤◌, true, false, List, [], ◌∷◌, ◌++◌, length, take, is_ok, IfOk, MatchResult};
     ghost use Rattle.tl_folder.specs.FileCalls.{Call};
     ghost use Rattle.tl_folder.specs.Step as step;
 

@@ -1,9 +1,9 @@
 //! The folders above a path.
 
-ghost use Rattle.std.specs.Prelude.{◌≡◌, true, map, vec_items, string_bytes, OnOk, Contains};
-ghost use Rattle.tl_folder.specs.Step.{Path};
+ghost use Rattle.std.specs.Prelude.{◌≡◌, map, vec_items, string_bytes, IsTrue, OnOk, option_copied};
+ghost use Rattle.tl_folder.specs.Step as step;
 ghost use Rattle.tl_folder.specs.Posix.{spelled, folder_of};
-ghost use Rattle.tl_folder.specs.Settling.{IsCovered};
+ghost use Rattle.tl_folder.specs.Settling.{IsAbove, has_path};
 
 use std::alloc::{AllocError, Global};
 use std::path::Path;
@@ -27,25 +27,22 @@ pub(crate) fn folder_of(path: &str) -> Option<&str>
 
 // Whether the folder is among these.
 fn has(folders: &[String], folder: &str) -> bool
-    ensures { result ≡ true → Contains (map string_bytes folders.now) folder.now }
+    ensures { result ≡ has_path (map string_bytes folders.now) folder.now }
 {
-    for it in folders {
-        if it.as_str() == folder {
-            return true;
-        }
-    }
-    false
+    folders.iter().any(|it| it.as_str() == folder)
 }
 
 // Notes a folder, if it isn't noted yet.
+#[tactic(auto, using(crate::proofs::Above::has_more, crate::proofs::Above::has_last))]
 fn note_folder(
     alloc: Global,
     folders: &mut Vec<String>,
     folder: &str,
 ) -> Result<(), AllocError>
-    ensures kept { (it : Path) → Contains (map string_bytes (vec_items folders.old)) it
-        → Contains (map string_bytes (vec_items folders.new)) it }
-    ensures noted { OnOk result (Contains (map string_bytes (vec_items folders.new)) folder.now) }
+    ensures kept { (it : step.Path) → IsTrue (has_path (map string_bytes (vec_items folders.old)) it)
+        → IsTrue (has_path (map string_bytes (vec_items folders.new)) it) }
+    ensures noted { OnOk result
+        (IsTrue (has_path (map string_bytes (vec_items folders.new)) folder.now)) }
 {
     if !has(folders.as_slice(), folder) {
         folders.push(String::from_str(alloc, folder)?)?;
@@ -60,10 +57,10 @@ pub(crate) fn note_folders(
     root: &str,
     place: &str,
 ) -> Result<(), AllocError>
-    ensures kept { (it : Path) → Contains (map string_bytes (vec_items folders.old)) it
-        → Contains (map string_bytes (vec_items folders.new)) it }
-    ensures covered { OnOk result
-        (IsCovered root.now (map string_bytes (vec_items folders.new)) place.now) }
+    ensures kept { (it : step.Path) → IsTrue (has_path (map string_bytes (vec_items folders.old)) it)
+        → IsTrue (has_path (map string_bytes (vec_items folders.new)) it) }
+    ensures covered { OnOk result ((folder : step.Path) → IsAbove root.now place.now folder
+        → IsTrue (has_path (map string_bytes (vec_items folders.new)) (spelled folder))) }
 {
     let mut path = place;
     while let Some(parent) = Path::new(path).parent() {

@@ -10,6 +10,7 @@ mod file_calls;
 mod file_id;
 mod files;
 mod folders;
+pub mod law;
 mod lines;
 mod lock;
 mod look;

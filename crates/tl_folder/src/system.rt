@@ -1,8 +1,7 @@
 //! The calls of the system. That the one line of each method that is no note does what the method is named for is
 //! trusted here, and nowhere else.
 
-ghost use Rattle.std.specs.Prelude.{◌≡◌, [], is_ok, IfOk, OnSome, IsOkAnd, length};
-ghost use Rattle.std.specs.Fs.{IsFile, file_type};
+ghost use Rattle.std.specs.Prelude.{◌≡◌, ◌≤◌, [], length, is_ok, IfOk};
 
 use crate::call_log::{Asked, CallLog};
 use crate::file_calls::FileCalls;

@@ -3,7 +3,7 @@
 ghost use Rattle.std.specs.Prelude.{◌≡◌, [], ◌∷◌, ◌++◌, IfOk, OnOk};
 ghost use Rattle.tl_folder.specs.Step as step;
 ghost use Rattle.tl_folder.specs.FileCalls.{Takes, done};
-ghost use Rattle.tl_folder.specs.Settling.{beside, lock_path, replacing};
+ghost use Rattle.tl_folder.specs.Settling.{lock_path_of, new_path, replacing};
 
 use crate::file_calls::FileCalls;
 use crate::files::sync_parent;
@@ -32,14 +32,14 @@ pub struct AtomicFile<'s, H: Files> {
 impl<'s, H: Files> Model for AtomicFile<'s, H> {
     ghost use Rattle.std.specs.Prelude.{◌≡◌, string_bytes};
     ghost use Rattle.tl_folder.specs.Events.{noted};
-    ghost use Rattle.tl_folder.specs.Settling.{beside};
+    ghost use Rattle.tl_folder.specs.Settling.{new_path};
     ghost use Rattle.tl_folder.specs.Opened as seen;
 
     ghost Value = { seen.Replaced };
 
     ghost view = { λ f. record { path = f.path.now; bytes = noted f.last; calls = f.calls.log } };
 
-    ghost invariant = { λ f. string_bytes f.beside ≡ beside f.path.now };
+    ghost invariant = { λ f. string_bytes f.beside ≡ new_path f.path.now };
 }
 
 /// Writes bytes beside the place of a file and then puts them there, once they outlast a crash, and then has the name
@@ -73,7 +73,7 @@ impl<'s, H: Files<File = File>> AtomicFile<'s, H> {
         ensures { IfOk result (λ file. file ≡ record {
             path = path.now;
             bytes = [];
-            calls = done (step.Create (lock_path path.now) ∷ []) }) }
+            calls = done (step.Create (lock_path_of path.now) ∷ []) }) }
     {
         let lock_path = format!(in alloc; "{path}.lock")?;
         let beside = format!(in alloc; "{path}.new")?;
@@ -104,7 +104,7 @@ impl<'s, H: Files<File = File>> AtomicFile<'s, H> {
     pub fn replace(&mut self, bytes: &[u8]) -> Result<(), DeviceFault>
         ensures path { self.new.path ≡ self.old.path }
         ensures replaced { OnOk result (self.new.bytes ≡ bytes.now) }
-        ensures calls { Takes (replacing (beside self.old.path) self.old.path bytes.now)
+        ensures calls { Takes (replacing (new_path self.old.path) self.old.path bytes.now)
             self.old.calls self.new.calls result }
     {
         let told = self.calls.symlink_metadata(self.lock_path.as_str());
