@@ -40,9 +40,9 @@ IsAside path bytes (call ∷ more) =
     × IsAside path bytes more
 
 -- Ok: the file was written. Err: at most a part of it was.
-abbrev pub Stages : {T E : Type 0} → Path → Bytes → List Call → List Call → Result T E → Type 0
-Stages path bytes before after (Ok it) = (made : List Call) × (after ≡ before ++ made) × IsStaging path bytes made
-Stages path bytes before after (Err fault) = (made : List Call) × (after ≡ before ++ made) × IsAside path bytes made
+abbrev pub WritesAside : {T E : Type 0} → Path → Bytes → List Call → List Call → Result T E → Type 0
+WritesAside path bytes before after (Ok it) = (made : List Call) × (after ≡ before ++ made) × IsStaging path bytes made
+WritesAside path bytes before after (Err fault) = (made : List Call) × (after ≡ before ++ made) × IsAside path bytes made
 
 -- ---- settling
 

@@ -5,7 +5,7 @@ ghost use Rattle.tl_tile.specs.Path.{IsResource};
 ghost use Rattle.tl_folder.specs.Step as step;
 ghost use Rattle.tl_folder.specs.FileCalls.{Takes, done};
 ghost use Rattle.tl_folder.specs.Posix.{folder_of};
-ghost use Rattle.tl_folder.specs.Settling.{AreCovered, Stages, new_path, move_to, settling, naming_in};
+ghost use Rattle.tl_folder.specs.Settling.{AreCovered, WritesAside, new_path, move_to, settling, naming_in};
 ghost use Rattle.tl_folder.specs.Places.{place_of};
 ghost use Rattle.tl_folder.specs.Inner.Staged.{move_of};
 
@@ -57,8 +57,9 @@ impl<C: FileCalls + Drop> FolderFiles<C> {
         alloc: Global,
         root: &str,
     ) -> Result<FolderFiles<C>, DeviceFault>
-        ensures { IfOk result (λ files. C.calls files.calls ≡ C.calls calls
+        ensures calls { IfOk result (λ files. C.calls files.calls ≡ C.calls calls
             ++ done (step.MakeFolder root.now ∷ naming_in (folder_of root.now))) }
+        ensures unstaged { IfOk result (λ files. vec_items files.staged ≡ []) }
     {
         calls.make_folder(root)?;
         sync_parent(&mut calls, root)?;
@@ -98,7 +99,7 @@ impl<C: FileCalls + Drop> FolderFiles<C> {
     /// was written then.
     pub(crate) fn stage(&mut self, resource: &Resource, bytes: &[u8]) -> Result<(), DeviceFault>
         requires { IsResource resource.now }
-        ensures calls { Stages (new_path (place_of (string_bytes self.old.root) resource.now)) bytes.now
+        ensures calls { WritesAside (new_path (place_of (string_bytes self.old.root) resource.now)) bytes.now
             (C.calls self.old.calls) (C.calls self.new.calls) result }
         ensures staged { OnOk result (map move_of (vec_items self.new.staged)
             ≡ map move_of (vec_items self.old.staged)

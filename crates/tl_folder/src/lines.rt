@@ -66,9 +66,19 @@ fn append_some<C: FileCalls<File = File>>(
 impl<'f, H: Files<File = File>> Write for DurableAppend<'f, H> {
     ghost use Rattle.std.specs.Prelude.{Some};
 
+    ghost use Rattle.std.specs.Prelude.{◌≡◌};
+    ghost use Rattle.std.specs.Io.{WritesAtMost};
+    ghost use Rattle.std.specs.Io.KnownBytes.{WriteAppends};
+    ghost use Rattle.tl_folder.specs.Lines.{AppendsSome};
+
     ghost contents = { λ s. Some s.written };
 
-    fn write(&mut self, buf: &[u8]) -> io::Result<usize> {
+    fn write(&mut self, buf: &[u8]) -> io::Result<usize>
+        ensures bound { WritesAtMost result buf.now }
+        ensures bytes { WriteAppends (Some self.old.written) (Some self.new.written) result buf.now }
+        ensures calls { AppendsSome self.old.path buf.now self.old.calls self.new.calls result }
+        ensures path { self.new.path ≡ self.old.path }
+    {
         match append_some(&mut self.calls, self.path, &mut self.locked, buf) {
             Ok(count) => {
                 note_bytes(&mut self.written, &buf[..count]);

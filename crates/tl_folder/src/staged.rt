@@ -2,7 +2,7 @@
 
 ghost use Rattle.std.specs.Prelude.{map, string_bytes, ◌++◌};
 ghost use Rattle.tl_folder.specs.FileCalls.{Takes};
-ghost use Rattle.tl_folder.specs.Settling.{syncing, placing, naming, settling, Stages};
+ghost use Rattle.tl_folder.specs.Settling.{syncing, placing, naming, settling, WritesAside};
 ghost use Rattle.tl_folder.specs.Inner.Staged.{move_of};
 
 use crate::file_calls::FileCalls;
@@ -70,7 +70,7 @@ pub(crate) fn write_in_folder<C: FileCalls>(
     path: &str,
     bytes: &[u8],
 ) -> Result<(), DeviceFault>
-    ensures { Stages path.now bytes.now (C.calls calls.old) (C.calls calls.new) result }
+    ensures { WritesAside path.now bytes.now (C.calls calls.old) (C.calls calls.new) result }
 {
     check_plain(calls.symlink_metadata(path))?;
     match calls.write(path, bytes) {
