@@ -1,17 +1,16 @@
 -- What the opening of a file of lines, and what is appended to it, leave there.
-use Rattle.std.proofs.Common.{◌≡◌, ◌≢◌, ℕ, zero, suc, ◌-◌, ◌+◌, ◌≤◌, true, false, inl, inr, ◌⊎◌, List, [], ◌∷◌, ◌++◌, length, take, Some, None, refl, sym, ap, subst, ◌∙◌, arith, append_assoc}
-use Rattle.std.specs.Prelude.{Option, Contains, option_map}
-use Rattle.std.proofs.lemmas.List.{append-nil, take-append-le, length-append}
-use Rattle.std.proofs.Math.Seq.{take-nil, take-append-add, take-length}
+use Rattle.std.proofs.Common.{◌≡◌, ℕ, zero, suc, ◌-◌, ◌+◌, ◌≤◌, true, false, inl, inr, List, [], ◌∷◌, ◌++◌, length, take, Some, None, refl, sym, ap, subst, ◌∙◌, arith, append_assoc}
+use Rattle.std.specs.Prelude.{Option, option_map}
+use Rattle.std.proofs.lemmas.List.{append-nil}
+use Rattle.std.proofs.Math.Seq.{take-nil, take-append-add}
 use Rattle.tl_folder.specs.Step.{Path, Bytes, Step}
 use Rattle.tl_folder.specs.Step as step
 use Rattle.tl_folder.specs.FileCalls.{Call, done, Begins}
-use Rattle.tl_folder.specs.Posix.{File, Whole, Torn, At, Disk, MayStay, MayBe, put, folder_of, made, or_lost, longer, shorter, synced, spoiled, changed, bytes_of, after, after_failed, Becomes, MayLeave}
+use Rattle.tl_folder.specs.Posix.{File, Whole, Torn, At, Disk, folder_of, made, or_lost, longer, shorter, synced, changed, after, after_failed, Becomes, MayLeave}
 use Rattle.tl_folder.specs.Settling.{naming_in}
 use Rattle.tl_folder.specs.Lines.{opening, appending}
 use Rattle.tl_folder.specs.Laws.{IsAtRest, LeavesFront, LeavesNoMore, bytes_there}
 use Rattle.tl_folder.proofs.Disks.{put_own, sync_spares, spoil_spares, name_spares}
-use Rattle.tl_folder.proofs.Settles.{rest_leaves}
 use Rattle.tl_folder.proofs.Asides.{named_rests}
 
 -- ---- after an append that was done
@@ -147,9 +146,10 @@ cut_both count front rest fits =
 -- what is left of a file of which this much is sure
 cut_leaves : (kept front : Bytes) (count : ℕ) (left : Option Bytes) → ((rest : Bytes) × (kept ≡ front ++ rest)) → length front ≤ count
     → ((now : Bytes) × (left ≡ Some now) × ((rest : Bytes) × (now ≡ take count kept ++ rest))) → (rest : Bytes) × (left ≡ Some (front ++ rest))
-cut_leaves kept front count left (old, begins) fits (now, is, (rest, are)) =
-    (take (count - length front) old ++ rest,
-    is ∙ ap (λ (x : Bytes). Some x) (are ∙ ap (λ (x : Bytes). take count x ++ rest) begins ∙ ap (λ (x : Bytes). x ++ rest) (cut_both count front old fits) ∙ append_assoc front (take (count - length front) old) rest))
+cut_leaves kept front count left (old, begins) fits (now, is, (rest, are)) = (
+  take (count - length front) old ++ rest,
+  is ∙ ap (λ (x : Bytes). Some x) (are ∙ ap (λ (x : Bytes). take count x ++ rest) begins ∙ ap (λ (x : Bytes). x ++ rest) (cut_both count front old fits) ∙ append_assoc front (take (count - length front) old) rest),
+)
 
 some_front : (bytes front rest : Bytes) → Some bytes ≡ Some (front ++ rest) → bytes ≡ front ++ rest
 some_front bytes front rest is = cc
@@ -179,8 +179,11 @@ names_keep path (Some folder) front = (name_keeps path folder front, tt)
 pub open_is_gentle : (disk : Disk) (path : Path) (front : Bytes) (count : ℕ) (calls : List Call) (left : Option Bytes)
     → LeavesFront (disk path) front → length front ≤ count → Begins (opening path count) calls → MayLeave disk calls path left → (rest : Bytes) × (left ≡ Some (front ++ rest))
 open_is_gentle disk path front count calls left leaves fits begins (now, becomes, may) =
-    front_moments path front (opening path count) calls disk now
-    (λ d l. (create_front path front d l, λ rest. create_front path front d l),
-    (λ d l. (cut_front path count front d fits l, λ rest. cut_front path count front d fits l),
-    (sync_keeps path front, names_keep path (folder_of path) front)))
+    front_moments path front (opening path count) calls disk now (
+      λ d l. (create_front path front d l, λ rest. create_front path front d l),
+      (
+        λ d l. (cut_front path count front d fits l, λ rest. cut_front path count front d fits l),
+        (sync_keeps path front, names_keep path (folder_of path) front),
+      ),
+    )
     begins leaves becomes left may

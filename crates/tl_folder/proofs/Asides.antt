@@ -1,15 +1,15 @@
 -- What staging, and the replacing of a file, leave at each path.
 use Rattle.std.proofs.Common.{◌≡◌, ◌≢◌, true, false, inl, inr, ◌⊎◌, List, [], ◌∷◌, ◌++◌, Some, None, refl, sym, ap, subst, ◌∙◌}
-use Rattle.std.specs.Prelude.{Option, Contains}
+use Rattle.std.specs.Prelude.{Option}
 use Rattle.std.specs.Path.{path_parent}
 use Rattle.tl_folder.specs.Step.{Path, Bytes, Step}
 use Rattle.tl_folder.specs.Step as step
 use Rattle.tl_folder.specs.FileCalls.{Call, done, Begins}
-use Rattle.tl_folder.specs.Posix.{File, Whole, Torn, At, Disk, MayBe, folder_of, or_lost, after, after_failed, Becomes, MayLeave}
+use Rattle.tl_folder.specs.Posix.{Torn, At, Disk, MayBe, folder_of, or_lost, after, after_failed, Becomes, MayLeave}
 use Rattle.tl_folder.specs.Settling.{naming, naming_in, replacing, folder_made, IsStaging, IsAside}
 use Rattle.tl_folder.specs.Laws.{HasBytes, IsAtRest}
-use Rattle.tl_folder.proofs.Disks.{put_own, put_other, rename_there, run, IsFine, at_each_moment, all_done}
-use Rattle.tl_folder.proofs.Settles.{IsWhole, own_synced, named_there, named_own, rest_leaves}
+use Rattle.tl_folder.proofs.Disks.{put_own, put_other, rename_there, IsFine, at_each_moment}
+use Rattle.tl_folder.proofs.Settles.{IsWhole, own_synced, named_there, named_own}
 
 -- ---- staging
 

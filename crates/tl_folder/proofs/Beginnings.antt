@@ -1,6 +1,6 @@
 -- Beginnings of the calls of steps.
 use Rattle.std.proofs.Common.{◌≡◌, ℕ, zero, suc, ◌+◌, ◌<◌, Bool, true, false, List, [], ◌∷◌, ◌++◌, length, map, take, get_or, refl, sym, ap, subst, ◌∙◌, arith, append_assoc}
-use Rattle.std.specs.Prelude.{Result, Ok, Err, is_err, IsErr, vec_items, MatchResult}
+use Rattle.std.specs.Prelude.{Result, Ok, Err, is_err, IsErr}
 use Rattle.std.specs.Global.{Vec}
 use Rattle.std.proofs.lemmas.List.{append-nil, map_more}
 use Rattle.std.proofs.Math.Seq.{take-length}
@@ -9,7 +9,7 @@ use Rattle.tl_folder.specs.Step as step
 use Rattle.tl_folder.specs.FileCalls.{Call, done, Begins, Takes}
 use Rattle.tl_folder.specs.Posix.{folder_of}
 use Rattle.tl_folder.specs.Settling.{Move, syncing, placing, naming, settling, naming_in}
-use Rattle.tl_folder.specs.Lines.{opening, appending, OpensLines, AppendsSome}
+use Rattle.tl_folder.specs.Lines.{OpensLines, AppendsSome}
 
 pub is_err_at : {T E : Type 0} (r : Result T E) (y : E) → r ≡ Err y → IsErr r
 is_err_at r y is = ap is_err is

@@ -1,14 +1,14 @@
 -- What steps make of one path.
-use Rattle.std.proofs.Common.{◌≡◌, ◌≢◌, true, false, inl, inr, ◌⊎◌, List, [], ◌∷◌, ◌++◌, Some, None, refl, sym, ap, subst, ◌∙◌, append_assoc}
-use Rattle.std.specs.Prelude.{Bool, Option, option_map, Contains, if◌then◌else◌}
+use Rattle.std.proofs.Common.{◌≡◌, ◌≢◌, true, false, inl, inr, ◌⊎◌, List, [], ◌∷◌, ◌++◌, Some, None, refl, sym, ap, subst, ◌∙◌}
+use Rattle.std.specs.Prelude.{Bool, Option, option_map, if◌then◌else◌}
 use Rattle.std.specs.Str.{bytes_eq}
 use Rattle.std.proofs.lemmas.Slice.Eq.{bytes_eq-Decides}
-use Rattle.tl_archive.proofs.Lists.{none_has, has_head, has_tail, cons_cases}
+use Rattle.tl_archive.proofs.Lists.{none_has, cons_cases}
 use Rattle.tl_folder.specs.Step.{Path, Bytes, Step}
 use Rattle.tl_folder.specs.Step as step
 use Rattle.tl_folder.specs.FileCalls.{Call, done, Begins}
-use Rattle.tl_folder.specs.Posix.{File, Whole, Torn, At, Disk, MayHave, MayStay, MayBe, put, is_in, folder_of, unknown, made, or_lost, longer, shorter, synced, spoiled, changed, bytes_of, after, after_failed, Becomes}
-use Rattle.tl_folder.specs.Laws.{HasBytes, IsAtRest, LeavesNoMore, LeavesOldOrNew, LeavesFront}
+use Rattle.tl_folder.specs.Posix.{File, Whole, Torn, At, Disk, MayStay, MayBe, put, is_in, folder_of, unknown, synced, spoiled, changed, after, after_failed, Becomes}
+use Rattle.tl_folder.specs.Laws.{LeavesNoMore}
 
 -- ---- one path or another
 

@@ -4,14 +4,14 @@ use Rattle.std.specs.Prelude.{Bool, Option, option_map, Contains, ◌||◌, if�
 use Rattle.std.specs.Str.{bytes_eq}
 use Rattle.std.specs.Path.{path_parent}
 use Rattle.std.proofs.lemmas.Slice.Eq.{bytes_eq-Decides}
-use Rattle.tl_archive.proofs.Lists.{none_has, has_head, has_tail, cons_cases}
+use Rattle.tl_archive.proofs.Lists.{none_has, cons_cases}
 use Rattle.tl_folder.specs.Step.{Path, Bytes, Step}
 use Rattle.tl_folder.specs.Step as step
 use Rattle.tl_folder.specs.FileCalls.{Call, done, Begins}
-use Rattle.tl_folder.specs.Posix.{File, Whole, Torn, At, Disk, MayHave, MayStay, MayBe, put, is_in, spelled, folder_of, synced, changed, bytes_of, after, Becomes, MayLeave}
-use Rattle.tl_folder.specs.Settling.{Move, syncing, placing, naming, settling, naming_in, replacing, has_path, IsAbove, nearest, AreCovered}
-use Rattle.tl_folder.specs.Laws.{HasBytes, IsAtRest, LeavesNoMore, LeavesOldOrNew, AreTwo, IsApart, AreApart, IsElsewhere}
-use Rattle.tl_folder.proofs.Disks.{pick, put_is, put_own, put_other, Spares, Places, LeavesOldOr, rename_there, rename_other, run, IsFine, at_each_moment, all_done, done_begins, run_append, fine_append}
+use Rattle.tl_folder.specs.Posix.{File, Whole, Torn, At, Disk, MayStay, MayBe, is_in, spelled, folder_of, synced, changed, bytes_of, after, Becomes, MayLeave}
+use Rattle.tl_folder.specs.Settling.{Move, syncing, placing, naming, settling, has_path, nearest, AreCovered}
+use Rattle.tl_folder.specs.Laws.{HasBytes, IsAtRest, AreTwo, IsApart, AreApart, IsElsewhere}
+use Rattle.tl_folder.proofs.Disks.{pick, put_is, put_own, rename_there, rename_other, run, IsFine, at_each_moment, all_done, run_append, fine_append}
 
 -- ---- syncs
 
@@ -100,13 +100,15 @@ pub renames_fine : (New : Option Bytes → Type 0) (moves : List Move) (m : Move
 renames_fine New [] m disk bytes apart has whole new = absurd (none_has m has)
 renames_fine New (first ∷ more) m disk bytes apart has whole new =
     elim (cons_cases first more m has) as (λ _. IsFine New disk (map placing (first ∷ more)) m.1) [
-      | inl same ↦
-          (inr (m.0, bytes, ap (λ (x : Move). placing x) same, whole, new),
-          others_fine New m more (after (placing first) disk) (subst (λ (x : Move). IsApart x more) same apart.1))
+      | inl same ↦ (
+        inr (m.0, bytes, ap (λ (x : Move). placing x) same, whole, new),
+        others_fine New m more (after (placing first) disk) (subst (λ (x : Move). IsApart x more) same apart.1),
+      )
       | inr later ↦
-          let two : AreTwo first m = is_apart first more m apart.1 later in
-          (inl (back _ _ two.first, back _ _ two.places),
-          renames_fine New more m (after (placing first) disk) bytes apart.2 later (ap (λ (x : At). x.there) (beside_stays m first disk two) ∙ whole) new)
+          let two : AreTwo first m = is_apart first more m apart.1 later in (
+            inl (back _ _ two.first, back _ _ two.places),
+            renames_fine New more m (after (placing first) disk) bytes apart.2 later (ap (λ (x : At). x.there) (beside_stays m first disk two) ∙ whole) new,
+          )
     ]
 
 pub after_renames : (moves : List Move) (m : Move) (disk : Disk) (bytes : Bytes) → AreApart moves → Contains moves m → IsWhole bytes (disk m.0) → IsWhole bytes (run (map placing moves) disk m.1)
@@ -191,9 +193,10 @@ settled_rests disk now moves root folders m folder bytes apart covered has above
     let second : Disk = run (map placing moves) (run (map syncing moves) disk) in
     let is : now ≡ run (map naming folders) second = all_done (settling moves folders) disk now becomes ∙ run_settling moves folders disk in
     let at : now m.1 ≡ run (map naming folders) second m.1 = ap (λ (x : Disk). x m.1) is in
-    let whole : IsWhole bytes (second m.1) = after_renames moves m (run (map syncing moves) disk) bytes apart has (after_syncs moves m disk bytes has there) in
-    (ap (λ (x : At). x.there) at ∙ names_there folders second m.1 ∙ whole,
-    ap (λ (x : At). x.older) at ∙ after_names folders (spelled folder) second m.1 (covered m folder has (nearest above)) (ap (λ (x : Option Path). option_map spelled x) above))
+    let whole : IsWhole bytes (second m.1) = after_renames moves m (run (map syncing moves) disk) bytes apart has (after_syncs moves m disk bytes has there) in (
+      ap (λ (x : At). x.there) at ∙ names_there folders second m.1 ∙ whole,
+      ap (λ (x : At). x.older) at ∙ after_names folders (spelled folder) second m.1 (covered m folder has (nearest above)) (ap (λ (x : Option Path). option_map spelled x) above),
+    )
 
 pub settling_is_gentle : (disk : Disk) (moves : List Move) (folders : List Path) (calls : List Call) (m : Move) (bytes : Bytes) (left : Option Bytes)
     → AreApart moves → Contains moves m → HasBytes (disk m.0) bytes → Begins (settling moves folders) calls

@@ -1,5 +1,5 @@
 -- Words of the laws on what a crash leaves.
-use Rattle.std.specs.Prelude.{◌≡◌, ◌≢◌, ◌⊎◌, List, [], ◌∷◌, ◌++◌, Option, Some, None, option_map, Contains}
+use Rattle.std.specs.Prelude.{◌≡◌, ◌≢◌, ◌⊎◌, List, [], ◌∷◌, ◌++◌, Option, Some, None, option_map}
 use Rattle.tl_folder.specs.Step.{Path, Bytes}
 use Rattle.tl_folder.specs.Posix.{File, At, Whole, MayBe, bytes_of}
 use Rattle.tl_folder.specs.Settling.{Move}

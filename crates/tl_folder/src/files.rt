@@ -114,7 +114,12 @@ impl<C: FileCalls + Drop> FolderFiles<C> {
         self.check_folder()?;
         let place = self.place_of(resource)?;
         let beside = format!(in self.alloc; "{place}.new")?;
-        note_folders(self.alloc, &mut self.changed, self.root.as_str(), place.as_str())?;
+        note_folders(
+            self.alloc,
+            &mut self.changed,
+            self.root.as_str(),
+            place.as_str(),
+        )?;
         self.staged.reserve(1)?;
         write_in_folder(&mut self.calls, beside.as_str(), bytes)?;
         self.staged.push_reserved(Staged { beside, place });

@@ -34,11 +34,7 @@ fn has(folders: &[String], folder: &str) -> bool
 
 // Notes a folder, if it isn't noted yet.
 #[tactic(auto, using(crate::proofs::Above::has_more, crate::proofs::Above::has_last))]
-fn note_folder(
-    alloc: Global,
-    folders: &mut Vec<String>,
-    folder: &str,
-) -> Result<(), AllocError>
+fn note_folder(alloc: Global, folders: &mut Vec<String>, folder: &str) -> Result<(), AllocError>
     ensures kept { (it : step.Path) → IsTrue (has_path (map string_bytes (vec_items folders.old)) it)
         → IsTrue (has_path (map string_bytes (vec_items folders.new)) it) }
     ensures noted { OnOk result

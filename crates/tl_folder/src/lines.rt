@@ -65,7 +65,6 @@ fn append_some<C: FileCalls<File = File>>(
 
 impl<'f, H: Files<File = File>> Write for DurableAppend<'f, H> {
     ghost use Rattle.std.specs.Prelude.{Some};
-
     ghost use Rattle.std.specs.Prelude.{◌≡◌};
     ghost use Rattle.std.specs.Io.{WritesAtMost};
     ghost use Rattle.std.specs.Io.KnownBytes.{WriteAppends};
@@ -156,10 +155,11 @@ pub fn open_lines<'f, H: Files<File = File>>(
 ) -> Result<LineFile<'f, H>, DeviceFault>
     ensures whole { IfOk result (λ file. IsWhole (vec_items file.lines)) }
     ensures end { IfOk result (λ file. file.end ≡ record {
-        path = path.now;
-        written = [];
-        calls = done (opening path.now (length (vec_items file.lines)));
-        fault = None }) }
+      path = path.now;
+      written = [];
+      calls = done (opening path.now (length (vec_items file.lines)));
+      fault = None;
+    }) }
 {
     let mut calls = SystemCalls::new(files);
     let (lines, locked) = open_by(&mut calls, alloc, path, most)?;

@@ -35,11 +35,12 @@ impl<D, H> Model for FolderShelf<D, H> {
     ghost use Rattle.tl_folder.specs.Inner.Staged.{move_of};
 
     ghost view = { λ s. record {
-        events = s.calls;
-        failures = s.failures;
-        root = string_bytes s.files.root;
-        moves = map move_of (vec_items s.files.staged);
-        made = s.files.calls.log } };
+      events = s.calls;
+      failures = s.failures;
+      root = string_bytes s.files.root;
+      moves = map move_of (vec_items s.files.staged);
+      made = s.files.calls.log;
+    } };
 }
 
 // That the folder failed over a resource. Where another folder came to its path, the fault is over all of it.

@@ -71,9 +71,10 @@ impl<'s, H: Files<File = File>> AtomicFile<'s, H> {
         path: &'s str,
     ) -> Result<AtomicFile<'s, H>, DeviceFault>
         ensures { IfOk result (λ file. file ≡ record {
-            path = path.now;
-            bytes = [];
-            calls = done (step.Create (lock_path_of path.now) ∷ []) }) }
+          path = path.now;
+          bytes = [];
+          calls = done (step.Create (lock_path_of path.now) ∷ []);
+        }) }
     {
         let lock_path = format!(in alloc; "{path}.lock")?;
         let beside = format!(in alloc; "{path}.new")?;

@@ -1,5 +1,4 @@
 -- A call as it is noted.
-use Rattle.std.specs.Prelude.{List, map}
 use Rattle.tl_folder.specs.declared.call_log.Asked.{Asked}
 use Rattle.tl_folder.specs.declared.call_log.Asked.TheVariants as asked
 use Rattle.tl_folder.specs.declared.call_log.Noted.{Noted}

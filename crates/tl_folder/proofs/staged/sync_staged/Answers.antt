@@ -1,4 +1,4 @@
-use Rattle.std.proofs.Common.{ap, is_ok, rules}
+use Rattle.std.proofs.Common.{ap, is_ok}
 use Rattle.std.proofs.lemmas.Result.{err_from_is_err_and}
 use Rattle.tl_folder.specs.Step.{Path}
 use Rattle.tl_folder.specs.Step as step
