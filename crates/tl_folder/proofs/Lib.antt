@@ -6,3 +6,5 @@ pub mod Asides
 pub mod Appends
 pub mod Above
 pub mod Beginnings
+pub mod Ends
+pub mod ShelfDisk

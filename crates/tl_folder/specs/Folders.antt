@@ -51,8 +51,8 @@ after_each reached n (event ∷ more) kept = after_call reached n event kept ∷
 abbrev pub at_first : Held → Kept
 at_first held = record { held = held; staged = [] }
 
--- a folder: what came of its calls so far and how many of them failed; its path, the files that are staged, and the calls
--- of the system so far
+-- a folder: what came of its calls so far and how many of them failed; its path, the files that are staged, and the
+-- calls of the system so far
 pub record Calls : Type 0 where
   pub events : List Event
   pub failures : ℕ

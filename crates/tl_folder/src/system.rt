@@ -1,5 +1,5 @@
-//! The calls of the system. That the one line of each method that is no note does what the method is named for is
-//! trusted here, and nowhere else.
+//! The calls of the system. That the line before the note of each method does what the method is named for is trusted
+//! here, and nowhere else.
 
 ghost use Rattle.std.specs.Prelude.{◌≡◌, ◌≤◌, [], length, is_ok, IfOk};
 
@@ -55,8 +55,8 @@ fn sync_names<H: Files>(files: &H, path: &str) -> Result<(), DeviceFault> {
     Ok(())
 }
 
-// An answer of the system, whose error is a fault of ours.
-fn told<T>(answer: io::Result<T>) -> Result<T, DeviceFault>
+// An answer of the system, with its error as a fault.
+fn or_fault<T>(answer: io::Result<T>) -> Result<T, DeviceFault>
     ensures { is_ok result ≡ is_ok answer }
 {
     match answer {
@@ -91,7 +91,7 @@ impl<H: Files> FileCalls for SystemCalls<H> {
     }
 
     fn rename(&mut self, from: &str, to: &str) -> Result<(), DeviceFault> {
-        let outcome = told(rename(&self.files, from, to));
+        let outcome = or_fault(rename(&self.files, from, to));
         self.log
             .note(Asked::Rename, from, to.as_bytes(), outcome.is_ok());
         outcome
@@ -104,13 +104,13 @@ impl<H: Files> FileCalls for SystemCalls<H> {
     }
 
     fn make_folder(&mut self, path: &str) -> Result<(), DeviceFault> {
-        let outcome = told(create_dir_all(&self.files, path));
+        let outcome = or_fault(create_dir_all(&self.files, path));
         self.log.note(Asked::MakeFolder, path, &[], outcome.is_ok());
         outcome
     }
 
     fn create(&mut self, how: &OpenOptions, path: &str) -> Result<H::File, DeviceFault> {
-        let outcome = told(how.open(&self.files, path));
+        let outcome = or_fault(how.open(&self.files, path));
         self.log.note(Asked::Create, path, &[], outcome.is_ok());
         outcome
     }
@@ -134,19 +134,19 @@ impl<H: Files> FileCalls for SystemCalls<H> {
     }
 
     fn cut(&mut self, file: &H::File, path: &str, count: u64) -> Result<(), DeviceFault> {
-        let outcome = told(file.set_len(count));
+        let outcome = or_fault(file.set_len(count));
         self.log.note(Asked::Cut(count), path, &[], outcome.is_ok());
         outcome
     }
 
     fn sync_data(&mut self, file: &H::File, path: &str) -> Result<(), DeviceFault> {
-        let outcome = told(file.sync_data());
+        let outcome = or_fault(file.sync_data());
         self.log.note(Asked::Sync, path, &[], outcome.is_ok());
         outcome
     }
 
     fn sync_all(&mut self, file: &H::File, path: &str) -> Result<(), DeviceFault> {
-        let outcome = told(file.sync_all());
+        let outcome = or_fault(file.sync_all());
         self.log.note(Asked::Sync, path, &[], outcome.is_ok());
         outcome
     }
