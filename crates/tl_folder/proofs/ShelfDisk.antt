@@ -1,20 +1,19 @@
 -- What the calls of a shelf leave on its disk.
-use Rattle.std.proofs.Common.{◌≡◌, ◌≢◌, true, false, inl, inr, ◌⊎◌, List, [], ◌∷◌, ◌++◌, map, Some, None, refl, sym, ap, subst, ◌∙◌}
-use Rattle.std.specs.Prelude.{Bool, Option, Contains}
-use Rattle.std.specs.Path.{path_parent}
+use Rattle.std.proofs.Common.{◌≡◌, ◌≢◌, true, false, inl, inr, ◌⊎◌, List, [], ◌∷◌, ◌++◌, Some, refl, sym, ap, subst, ◌∙◌}
+use Rattle.std.specs.Prelude.{Bool, Contains}
 use Rattle.std.proofs.lemmas.List.{append_cancel_left, append_cancel_right}
 use Rattle.tl_tile.specs.declared.resource.Resource.{Resource}
 use Rattle.tl_tile.specs.Path.{IsResource, path_text}
 use Rattle.tl_tile.proofs.OnePath.{one_path}
-use Rattle.tl_archive.specs.Shelves.{Item, Held, Kept}
+use Rattle.tl_archive.specs.Shelves.{Item, Held}
 use Rattle.tl_archive.proofs.Lists.{none_has, has_head, has_tail, cons_cases}
 use Rattle.tl_folder.specs.Step.{Path, Bytes}
 use Rattle.tl_folder.specs.FileCalls.{Call, Begins, done}
 use Rattle.tl_folder.specs.Posix.{At, Disk, MayBe, after, after_failed, Becomes}
-use Rattle.tl_folder.specs.Settling.{Move, AreCovered, IsAside, IsStaging, settling, new_path, move_to}
+use Rattle.tl_folder.specs.Settling.{AreCovered, IsAside, settling, new_path, move_to}
 use Rattle.tl_folder.specs.Places.{place_of}
 use Rattle.tl_folder.specs.Folders.{is_same, put}
-use Rattle.tl_folder.specs.Laws.{HasBytes, AreTwo, IsApart, AreApart, IsElsewhere}
+use Rattle.tl_folder.specs.Laws.{HasBytes, IsApart, AreApart, IsElsewhere}
 use Rattle.tl_folder.specs.OnDisk.{Reflects, ReflectsEither, moves_of, AreStaged, IsNew, AreOnce}
 use Rattle.tl_folder.proofs.Puts.{same_self, same_is, put_between, put_there}
 use Rattle.tl_folder.proofs.Disks.{done_begins}
