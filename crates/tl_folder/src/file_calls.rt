@@ -1,13 +1,12 @@
 //! The calls of a system by which a folder is kept.
 
 use std::alloc::Allocator;
-use std::fs::{Metadata, OpenFile, OpenOptions};
+use std::fs::{Metadata, OpenOptions};
 use std::io;
-use std::io::{Read, Write};
 use tl_device::DeviceFault;
 
-/// What a folder asks of a system: one call of it each, and nothing else changes files. Contracts see those that were
-/// made, in order.
+/// What a folder asks of a system; nothing else changes files. Contracts see what was asked, in order, and whether the
+/// system said that it was done.
 pub(crate) trait FileCalls {
     ghost use Rattle.std.specs.Prelude.{◌≡◌, ◌≤◌, true, false, List, [], ◌∷◌, ◌++◌, length, take, is_ok, IfOk, MatchResult};
     ghost use Rattle.tl_folder.specs.FileCalls.{Call};
@@ -16,8 +15,8 @@ pub(crate) trait FileCalls {
     /// The calls that were made, the first of them first.
     ghost calls: { Self → List Call };
 
-    /// A file that is kept open.
-    type File: Read + Write + OpenFile + Drop;
+    /// A file or a folder that is kept open. Nothing but these calls changes it.
+    type File: Drop;
 
     /// Writes a file with these bytes, in place of those that a file at the path has. A failure leaves any part of it.
     fn write(&mut self, path: &str, bytes: &[u8]) -> Result<(), DeviceFault>

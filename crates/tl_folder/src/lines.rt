@@ -8,7 +8,7 @@ use crate::file_calls::FileCalls;
 use crate::files::sync_parent;
 use crate::lock::LockedFile;
 use crate::record::note_bytes;
-use crate::system::SystemCalls;
+use crate::system::{OpenedFile, SystemCalls};
 use http_server::Log;
 use memchr::memrchr;
 use std::alloc::Global;
@@ -16,7 +16,7 @@ use std::fs::{File, Files, OpenOptions};
 use std::io;
 use std::io::{ErrorKind, Write};
 use std::marker::Model;
-use tl_device::{Counted, DeviceFault, read_whole};
+use tl_device::DeviceFault;
 
 /// A file that is appended to: a write answers once what it took outlasts a crash, as far as the system says. Where
 /// another file is at its path, or none, a write fails, and nothing is written. Contracts see the calls of the system.
@@ -48,7 +48,7 @@ impl<H: Files> DurableAppend<'_, H> {
 }
 
 // Appends some of the bytes to the file that is at this path, and has them outlast a crash.
-fn append_some<C: FileCalls<File = File>>(
+fn append_some<C: FileCalls<File = OpenedFile<File>>>(
     calls: &mut C,
     path: &str,
     locked: &mut LockedFile,
@@ -114,16 +114,8 @@ fn whole_front(bytes: &[u8]) -> usize
     }
 }
 
-// All bytes of a file. `TooLarge`: it has more than `most`.
-fn read_file(alloc: Global, file: &File, most: u64) -> Result<Vec<u8>, DeviceFault> {
-    match read_whole(alloc, &mut Counted::new(file), most) {
-        Ok(bytes) => Ok(bytes),
-        Err(fault) => Err(DeviceFault::from(fault)),
-    }
-}
-
 // Opens and locks the file, cuts off a last line without a newline, and has the rest and the name outlast a crash.
-fn open_by<C: FileCalls<File = File>>(
+fn open_by<C: FileCalls<File = OpenedFile<File>>>(
     calls: &mut C,
     alloc: Global,
     path: &str,
@@ -135,7 +127,7 @@ fn open_by<C: FileCalls<File = File>>(
     let mut how = OpenOptions::new();
     how.read(true).append(true).create(true);
     let locked = LockedFile::open(calls, &how, path)?;
-    let mut lines = read_file(alloc, &locked.file, most)?;
+    let mut lines = locked.file.read(alloc, most)?;
     let whole = whole_front(lines.as_slice());
     calls.cut(&locked.file, path, whole as u64)?;
     lines.truncate(whole);

@@ -10,31 +10,22 @@ ghost use Rattle.tl_folder.specs.FileCalls.{Takes};
 use crate::file_calls::FileCalls;
 use crate::file_id::FileId;
 use crate::look::check_plain;
-use crate::system::SystemCalls;
-use std::fs::{File, Files, Metadata, OpenOptions, TryLockError};
+use crate::system::{OpenedFile, SystemCalls};
+use std::fs::{File, Files, Metadata, OpenOptions};
 use std::io;
 use tl_device::DeviceFault;
-
-// Locks a file while it is open, also where the process ends in any way. `Busy`: another has it.
-fn lock_file(file: &File) -> Result<(), DeviceFault> {
-    match file.try_lock() {
-        Ok(()) => Ok(()),
-        Err(TryLockError::WouldBlock) => Err(DeviceFault::Busy),
-        Err(TryLockError::Error(error)) => Err(DeviceFault::from(error)),
-    }
-}
 
 /// A plain file that is open and locked.
 #[derive(Drop)]
 pub(crate) struct LockedFile {
-    pub(crate) file: File,
+    pub(crate) file: OpenedFile<File>,
     id: FileId,
 }
 
 impl LockedFile {
     /// Opens the file at this path in this way, and locks it. `Busy`: another process has it. `NotPlain`: something
     /// else than a plain file is there, as a link.
-    pub(crate) fn open<C: FileCalls<File = File>>(
+    pub(crate) fn open<C: FileCalls<File = OpenedFile<File>>>(
         calls: &mut C,
         how: &OpenOptions,
         path: &str,
@@ -43,7 +34,7 @@ impl LockedFile {
     {
         check_plain(calls.symlink_metadata(path))?;
         let file = calls.create(how, path)?;
-        lock_file(&file)?;
+        file.lock()?;
         let id = FileId::of(&file.metadata()?);
         let locked = LockedFile { file, id };
         locked.check_at(calls.symlink_metadata(path))?;
@@ -61,7 +52,7 @@ impl LockedFile {
 /// A lock on a folder. It is given back where it is dropped, and where the process ends in any way.
 #[derive(Drop)]
 pub struct FolderLock {
-    folder: File,
+    folder: OpenedFile<File>,
 }
 
 impl FolderLock {
@@ -80,12 +71,15 @@ impl FolderLock {
 }
 
 // Locks the folder at this path, which is made where it isn't there.
-fn lock_by<C: FileCalls<File = File>>(calls: &mut C, path: &str) -> Result<FolderLock, DeviceFault>
+fn lock_by<C: FileCalls<File = OpenedFile<File>>>(
+    calls: &mut C,
+    path: &str,
+) -> Result<FolderLock, DeviceFault>
     ensures { Takes (step.MakeFolder path.now ∷ []) (C.calls calls.old) (C.calls calls.new) result }
 {
     calls.make_folder(path)?;
     let folder = calls.open_folder(path)?;
-    lock_file(&folder)?;
+    folder.lock()?;
     let lock = FolderLock { folder };
     if !lock.is_told(calls.metadata(path)) {
         return Err(DeviceFault::Moved);

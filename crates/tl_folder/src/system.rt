@@ -1,4 +1,4 @@
-//! The calls of the system. That the line before the note of each method does what the method is named for is trusted
+//! The calls of the system. That the call before the note in each method does what the method is named for is trusted
 //! here, and nowhere else.
 
 ghost use Rattle.std.specs.Prelude.{◌≡◌, ◌≤◌, [], length, is_ok, IfOk};
@@ -6,8 +6,8 @@ ghost use Rattle.std.specs.Prelude.{◌≡◌, ◌≤◌, [], length, is_ok, IfO
 use crate::call_log::{Asked, CallLog};
 use crate::file_calls::FileCalls;
 use crate::look::{open_folder, open_plain};
-use std::alloc::Allocator;
-use std::fs::{File, Files, Metadata, OpenFile, OpenOptions, create_dir_all, rename};
+use std::alloc::{Allocator, Global};
+use std::fs::{File, Files, Metadata, OpenFile, OpenOptions, TryLockError, create_dir_all, rename};
 use std::io;
 use std::io::Write;
 use tl_device::{Counted, DeviceFault, read_whole};
@@ -27,6 +27,38 @@ impl<H> SystemCalls<H> {
         SystemCalls {
             files,
             log: CallLog::new(),
+        }
+    }
+}
+
+/// A file or a folder that is open. Only this file of the crate can write to it.
+#[derive(Drop)]
+pub(crate) struct OpenedFile<F> {
+    file: F,
+}
+
+impl<F: OpenFile> OpenedFile<F> {
+    /// What the system tells of it.
+    pub(crate) fn metadata(&self) -> io::Result<Metadata> {
+        self.file.metadata()
+    }
+}
+
+impl OpenedFile<File> {
+    /// Locks it while it is open, also where the process ends in any way. `Busy`: another has it.
+    pub(crate) fn lock(&self) -> Result<(), DeviceFault> {
+        match self.file.try_lock() {
+            Ok(()) => Ok(()),
+            Err(TryLockError::WouldBlock) => Err(DeviceFault::Busy),
+            Err(TryLockError::Error(error)) => Err(DeviceFault::from(error)),
+        }
+    }
+
+    /// All its bytes. `TooLarge`: it has more than `most`.
+    pub(crate) fn read(&self, alloc: Global, most: u64) -> Result<Vec<u8>, DeviceFault> {
+        match read_whole(alloc, &mut Counted::new(&self.file), most) {
+            Ok(bytes) => Ok(bytes),
+            Err(fault) => Err(DeviceFault::from(fault)),
         }
     }
 }
@@ -76,7 +108,7 @@ fn append_to<F: Write>(file: &mut F, bytes: &[u8]) -> Result<usize, DeviceFault>
 impl<H: Files> FileCalls for SystemCalls<H> {
     ghost calls = { λ s. s.log };
 
-    type File = H::File;
+    type File = OpenedFile<H::File>;
 
     fn write(&mut self, path: &str, bytes: &[u8]) -> Result<(), DeviceFault> {
         let outcome = write_file(&self.files, path, bytes);
@@ -109,19 +141,30 @@ impl<H: Files> FileCalls for SystemCalls<H> {
         outcome
     }
 
-    fn create(&mut self, how: &OpenOptions, path: &str) -> Result<H::File, DeviceFault> {
-        let outcome = or_fault(how.open(&self.files, path));
-        self.log.note(Asked::Create, path, &[], outcome.is_ok());
-        outcome
+    fn create(
+        &mut self,
+        how: &OpenOptions,
+        path: &str,
+    ) -> Result<OpenedFile<H::File>, DeviceFault> {
+        match how.open(&self.files, path) {
+            Ok(file) => {
+                self.log.note(Asked::Create, path, &[], true);
+                Ok(OpenedFile { file })
+            }
+            Err(error) => {
+                self.log.note(Asked::Create, path, &[], false);
+                Err(DeviceFault::from(error))
+            }
+        }
     }
 
     fn append(
         &mut self,
-        file: &mut H::File,
+        file: &mut OpenedFile<H::File>,
         path: &str,
         bytes: &[u8],
     ) -> Result<usize, DeviceFault> {
-        match append_to(file, bytes) {
+        match append_to(&mut file.file, bytes) {
             Ok(count) => {
                 self.log.note(Asked::Append, path, &bytes[..count], true);
                 Ok(count)
@@ -133,20 +176,25 @@ impl<H: Files> FileCalls for SystemCalls<H> {
         }
     }
 
-    fn cut(&mut self, file: &H::File, path: &str, count: u64) -> Result<(), DeviceFault> {
-        let outcome = or_fault(file.set_len(count));
+    fn cut(
+        &mut self,
+        file: &OpenedFile<H::File>,
+        path: &str,
+        count: u64,
+    ) -> Result<(), DeviceFault> {
+        let outcome = or_fault(file.file.set_len(count));
         self.log.note(Asked::Cut(count), path, &[], outcome.is_ok());
         outcome
     }
 
-    fn sync_data(&mut self, file: &H::File, path: &str) -> Result<(), DeviceFault> {
-        let outcome = or_fault(file.sync_data());
+    fn sync_data(&mut self, file: &OpenedFile<H::File>, path: &str) -> Result<(), DeviceFault> {
+        let outcome = or_fault(file.file.sync_data());
         self.log.note(Asked::Sync, path, &[], outcome.is_ok());
         outcome
     }
 
-    fn sync_all(&mut self, file: &H::File, path: &str) -> Result<(), DeviceFault> {
-        let outcome = or_fault(file.sync_all());
+    fn sync_all(&mut self, file: &OpenedFile<H::File>, path: &str) -> Result<(), DeviceFault> {
+        let outcome = or_fault(file.file.sync_all());
         self.log.note(Asked::Sync, path, &[], outcome.is_ok());
         outcome
     }
@@ -159,8 +207,9 @@ impl<H: Files> FileCalls for SystemCalls<H> {
         self.files.symlink_metadata(path)
     }
 
-    fn open_folder(&self, path: &str) -> Result<H::File, DeviceFault> {
-        open_folder(&self.files, path)
+    fn open_folder(&self, path: &str) -> Result<OpenedFile<H::File>, DeviceFault> {
+        let file = open_folder(&self.files, path)?;
+        Ok(OpenedFile { file })
     }
 
     fn read<A: Allocator>(
