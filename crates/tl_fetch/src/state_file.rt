@@ -32,7 +32,7 @@ impl<H: Files<File = File>> TrustStore for FileState<'_, H> {
 
     ghost may_have = { λ _ note. Unit {0} };
 
-    ghost has_kept = { λ s note. s.0 ≡ note };
+    ghost has_kept = { λ s note. s.0.bytes ≡ note };
 
     ghost may_fail = { λ _ fault. IsStateFault fault };
 

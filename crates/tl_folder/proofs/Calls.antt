@@ -5,6 +5,9 @@ use Rattle.tl_tile.specs.declared.resource.Resource.{Resource}
 use Rattle.tl_archive.specs.Shelves.{Kept, Stages, Unstages, Settles}
 use Rattle.tl_folder.specs.declared.call_outcome.CallOutcome.TheVariants as call
 use Rattle.tl_folder.specs.Events.{Event}
+use Rattle.tl_folder.specs.Step.{Path}
+use Rattle.tl_folder.specs.FileCalls.{Call, Begins, done}
+use Rattle.tl_folder.specs.Settling.{Move, AreCovered, settling}
 use Rattle.tl_folder.specs.Folders.{Reached, Calls, put, after_call, after_calls, after_each}
 use Rattle.tl_folder.proofs.Puts.{put_between, put_there}
 
@@ -88,5 +91,21 @@ each_now reached inside events now event kept same is =
     (each_more reached 0 events event kept)
 
 -- what a folder noted is what its model has
-pub same_events : (events : List Event) (failures : ℕ) (shown : Calls) → ◌≡◌ {A = Calls} (record { events = events; failures = failures }) shown → events ≡ shown.events
-same_events events failures shown is = ap (λ (x : Calls). x.events) is
+pub same_events : (events : List Event) (failures : ℕ) (root : Path) (moves : List Move) (made : List Call) (shown : Calls)
+    → ◌≡◌ {A = Calls} (record { events = events; failures = failures; root = root; moves = moves; made = made }) shown → events ≡ shown.events
+same_events events failures root moves made shown is = ap (λ (x : Calls). x.events) is
+
+-- the folder as it is shown settled by calls of what it has
+pub settled_calls : (events : List Event) (failures : ℕ) (root : Path) (moves : List Move) (made : List Call) (shown : Calls) (folders : List Path) (after : List Call)
+    → ◌≡◌ {A = Calls} (record { events = events; failures = failures; root = root; moves = moves; made = made }) shown
+    → AreCovered root folders moves → after ≡ made ++ done (settling moves folders)
+    → (them : List Path) × AreCovered shown.root them shown.moves × (after ≡ shown.made ++ done (settling shown.moves them))
+settled_calls events failures root moves made shown folders after is covered takes =
+    subst (λ (x : Calls). (them : List Path) × AreCovered x.root them x.moves × (after ≡ x.made ++ done (settling x.moves them))) is (folders, covered, takes)
+
+pub cut_calls : (events : List Event) (failures : ℕ) (root : Path) (moves : List Move) (made : List Call) (shown : Calls) (folders : List Path) (after : List Call)
+    → ◌≡◌ {A = Calls} (record { events = events; failures = failures; root = root; moves = moves; made = made }) shown
+    → AreCovered root folders moves → ((some : List Call) × (after ≡ made ++ some) × Begins (settling moves folders) some)
+    → (them : List Path) × AreCovered shown.root them shown.moves × ((some : List Call) × (after ≡ shown.made ++ some) × Begins (settling shown.moves them) some)
+cut_calls events failures root moves made shown folders after is covered takes =
+    subst (λ (x : Calls). (them : List Path) × AreCovered x.root them x.moves × ((some : List Call) × (after ≡ x.made ++ some) × Begins (settling x.moves them) some)) is (folders, covered, takes)

@@ -1,2 +1,10 @@
 pub mod Puts
 pub mod Calls
+pub mod Disks
+pub mod Settles
+pub mod Asides
+pub mod Appends
+pub mod Above
+pub mod Beginnings
+pub mod Ends
+pub mod ShelfDisk

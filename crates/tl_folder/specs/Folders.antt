@@ -1,10 +1,13 @@
 -- A folder as a shelf: what its calls made of what it had.
-use Rattle.std.specs.Prelude.{ℕ, ◌+◌, Bool, true, false, List, [], ◌∷◌, ◌++◌, Some, ◌==◌, if◌then◌else◌}
+use Rattle.std.specs.Prelude.{ℕ, ◌+◌, Bool, true, false, List, [], ◌∷◌, ◌++◌, Some, ◌==◌, if◌then◌else◌, Result}
 use Rattle.tl_tile.specs.declared.resource.Resource.{Resource}
 use Rattle.tl_tile.specs.declared.resource.Resource.TheVariants as resource
 use Rattle.tl_archive.specs.Shelves.{Item, Held, Kept}
 use Rattle.tl_folder.specs.declared.call_outcome.CallOutcome.TheVariants as call
 use Rattle.tl_folder.specs.Events.{Event}
+use Rattle.tl_folder.specs.Step.{Path}
+use Rattle.tl_folder.specs.FileCalls.{Call, Takes}
+use Rattle.tl_folder.specs.Settling.{Move, AreCovered, settling}
 
 -- whether two resources are the same
 abbrev pub is_same : Resource → Resource → Bool
@@ -48,7 +51,25 @@ after_each reached n (event ∷ more) kept = after_call reached n event kept ∷
 abbrev pub at_first : Held → Kept
 at_first held = record { held = held; staged = [] }
 
--- a folder, by its calls so far and how many of them failed
+-- a folder: what came of its calls so far and how many of them failed; its path, the files that are staged, and the
+-- calls of the system so far
 pub record Calls : Type 0 where
   pub events : List Event
   pub failures : ℕ
+  pub root : Path
+  pub moves : List Move
+  pub made : List Call
+
+-- what a folder keeps, by what it had at first and its calls
+abbrev pub kept_by : Held → Reached → Calls → Kept
+kept_by held reached calls = after_calls reached 0 calls.events (at_first held)
+
+-- the same after each call so far
+abbrev pub traced_by : Held → Reached → Calls → List Kept
+traced_by held reached calls = after_each reached 0 calls.events (at_first held)
+
+-- All files that are staged were put in their places, and the names in each folder above a place, up to that of the
+-- folder, were synced. Err: a beginning of the calls for that was made.
+abbrev pub SettlesFiles : {T E : Type 0} → Calls → List Call → Result T E → Type 0
+SettlesFiles folder after result =
+    (folders : List Path) × AreCovered folder.root folders folder.moves × Takes (settling folder.moves folders) folder.made after result

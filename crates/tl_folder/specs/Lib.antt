@@ -1,3 +1,12 @@
 pub mod Events
+pub mod FileCalls
 pub mod Folders
 pub mod Lines
+pub mod Laws
+pub mod OnDisk
+pub mod Opened
+pub mod Places
+pub mod Posix
+pub mod Settling
+pub mod Step
+pub mod Inner

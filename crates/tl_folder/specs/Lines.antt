@@ -1,5 +1,11 @@
 -- Lines of a file, each with its newline.
-use Rattle.std.specs.Prelude.{◌≡◌, ◌≢◌, ℕ, ◌+◌, ◌<◌, ◌≤◌, ◌⊎◌, List, [], ◌∷◌, ◌++◌, length, slice_index_or}
+use Rattle.std.specs.Prelude.{◌≡◌, ◌≢◌, ℕ, ◌+◌, ◌<◌, ◌≤◌, ◌⊎◌, List, [], ◌∷◌, ◌++◌, length, take, slice_index_or, vec_items, Result, Ok, Err}
+use Rattle.std.specs.Global.{Vec}
+use Rattle.tl_folder.specs.Step.{Path, Bytes, Step}
+use Rattle.tl_folder.specs.Step as step
+use Rattle.tl_folder.specs.FileCalls.{Call, Begins, done}
+use Rattle.tl_folder.specs.Posix.{folder_of}
+use Rattle.tl_folder.specs.Settling.{naming_in}
 
 -- no bytes, or the last is a newline
 abbrev pub IsWhole : List ℕ → Type 0
@@ -10,3 +16,23 @@ pub record IsWholeFront (bytes : List ℕ) (count : ℕ) : Type 0 where
   pub within : count ≤ length bytes
   pub ended : (count ≡ 0) ⊎ ((at : ℕ) × (count ≡ at + 1) × (slice_index_or bytes at 0 ≡ 10))
   pub last : (at : ℕ) → count ≤ at → at < length bytes → slice_index_or bytes at 0 ≢ 10
+
+-- ---- the calls on the file
+
+-- makes the file where none is, cuts it to so many bytes, and has it and its name outlast a crash
+abbrev pub opening : Path → ℕ → List Step
+opening path count = step.Create path ∷ step.Cut path count ∷ step.Sync path ∷ naming_in (folder_of path)
+
+-- writes the bytes behind those of the file, and has them outlast a crash
+abbrev pub appending : Path → Bytes → List Step
+appending path bytes = step.Append path bytes ∷ step.Sync path ∷ []
+
+-- Ok: the file was cut to the lines that it has, and all calls were done. Err: a beginning of the calls was made.
+abbrev pub OpensLines : {L E : Type 0} → Path → List Call → List Call → Result (Vec ℕ × L) E → Type 0
+OpensLines path before after (Ok (lines, locked)) = after ≡ before ++ done (opening path (length (vec_items lines)))
+OpensLines path before after (Err fault) = (made : List Call) × (after ≡ before ++ made) × ((count : ℕ) × Begins (opening path count) made)
+
+-- Ok: the first so many bytes were appended, and all calls were done. Err: a beginning of the calls was made.
+abbrev pub AppendsSome : {E : Type 0} → Path → Bytes → List Call → List Call → Result ℕ E → Type 0
+AppendsSome path bytes before after (Ok count) = after ≡ before ++ done (appending path (take count bytes))
+AppendsSome path bytes before after (Err fault) = (made : List Call) × (after ≡ before ++ made) × ((count : ℕ) × Begins (appending path (take count bytes)) made)

@@ -1,31 +1,30 @@
 //! The files of a folder: each is written beside its place, and all that were written are put there together.
 
+ghost use Rattle.std.specs.Prelude.{◌≡◌, [], ◌∷◌, ◌++◌, map, string_bytes, vec_items, IfOk, OnOk, OnErr};
 ghost use Rattle.tl_tile.specs.Path.{IsResource};
+ghost use Rattle.tl_folder.specs.Step as step;
+ghost use Rattle.tl_folder.specs.FileCalls.{Takes, done};
+ghost use Rattle.tl_folder.specs.Posix.{folder_of};
+ghost use Rattle.tl_folder.specs.Settling.{AreCovered, WritesAside, new_path, move_to, settling, naming_in};
+ghost use Rattle.tl_folder.specs.Places.{place_of};
+ghost use Rattle.tl_folder.specs.Inner.Staged.{move_of};
 
+use crate::file_calls::FileCalls;
 use crate::file_id::FileId;
-use crate::look::{check_plain, open_folder, open_plain};
+use crate::folders::{folder_of, note_folders};
+use crate::staged::{Staged, put_staged, write_in_folder};
 use std::alloc::{AllocError, Allocator, Global};
-use std::fs::{File, Files, OpenFile, create_dir_all, rename};
-use std::io::Write;
 use std::mem;
-use std::path::Path;
-use tl_device::{Counted, DeviceFault, read_whole};
+use tl_device::DeviceFault;
 use tl_tile::{Resource, path_of};
 
 // The most bytes of a resource: those of a bundle of 256 of the longest entries.
 const LONGEST: u64 = 256 * 65_537;
 
-/// A file that was written beside its place.
-#[derive(Drop)]
-struct Staged {
-    beside: String,
-    place: String,
-}
-
 /// The files under a folder.
 #[derive(Drop)]
-pub(crate) struct FolderFiles<H> {
-    files: H,
+pub(crate) struct FolderFiles<C> {
+    pub(crate) calls: C,
     alloc: Global,
     root: String,
     // Which folder was at its path when it was opened.
@@ -35,113 +34,38 @@ pub(crate) struct FolderFiles<H> {
     changed: Vec<String>,
     // Whether a settling failed: what of it outlasts a crash isn't known then.
     is_broken: bool,
-}
-
-// Has what the file at this path has outlast a crash.
-fn sync_file<H: Files>(files: &H, path: &str) -> Result<(), DeviceFault> {
-    match open_plain(files, path, files.symlink_metadata(path)) {
-        Ok(Some(file)) => file.sync_all()?,
-        Ok(None) => return Err(DeviceFault::NotThere),
-        Err(fault) => return Err(fault),
-    }
-    Ok(())
-}
-
-// Has the names in the folder at this path outlast a crash.
-fn sync_folder<H: Files>(files: &H, path: &str) -> Result<(), DeviceFault> {
-    let folder = open_folder(files, path)?;
-    folder.sync_all()?;
-    Ok(())
+    // Of each place the folder and those above it up to the root.
+    ghost covered: { AreCovered (string_bytes root)
+        (map string_bytes (vec_items changed)) (map move_of (vec_items staged)) },
 }
 
 /// Has the name of a file or folder at this path outlast a crash.
-pub(crate) fn sync_parent<H: Files>(files: &H, path: &str) -> Result<(), DeviceFault> {
-    let Some(parent) = Path::new(path).parent() else {
-        return Ok(());
-    };
-    let parent = parent.as_str();
-    sync_folder(files, if parent.is_empty() { "." } else { parent })
-}
-
-// Has what each of the files has outlast a crash.
-fn sync_staged<H: Files>(files: &H, staged: &[Staged]) -> Result<(), DeviceFault> {
-    for file in staged {
-        sync_file(files, file.beside.as_str())?;
+pub(crate) fn sync_parent<C: FileCalls>(calls: &mut C, path: &str) -> Result<(), DeviceFault>
+    ensures { Takes (naming_in (folder_of path.now))
+        (C.calls calls.old) (C.calls calls.new) result }
+{
+    match folder_of(path) {
+        Some(folder) => calls.sync_folder(folder),
+        None => Ok(()),
     }
-    Ok(())
 }
 
-// Puts each of the files in its place.
-fn place_staged<H: Files>(files: &H, staged: &[Staged]) -> Result<(), DeviceFault> {
-    for file in staged {
-        rename(files, file.beside.as_str(), file.place.as_str())?;
-    }
-    Ok(())
-}
-
-// Has the names in each of the folders outlast a crash.
-fn sync_folders<H: Files>(files: &H, folders: &[String]) -> Result<(), DeviceFault> {
-    for folder in folders {
-        sync_folder(files, folder.as_str())?;
-    }
-    Ok(())
-}
-
-// Writes a new file, in place of a plain one that may be there.
-fn write_file<H: Files>(files: &H, path: &str, bytes: &[u8]) -> Result<(), DeviceFault> {
-    let mut file = File::create(files, path)?;
-    file.write_all(bytes)?;
-    Ok(())
-}
-
-/// Writes bytes beside the place of a file and then puts them there, once they outlast a crash. `NotPlain`: in one of
-/// the two places is something else than a plain file, and nothing was written.
-pub(crate) fn replace_file<H: Files>(
-    files: &H,
-    beside: &str,
-    path: &str,
-    bytes: &[u8],
-) -> Result<(), DeviceFault> {
-    check_plain(files, path)?;
-    check_plain(files, beside)?;
-    write_file(files, beside, bytes)?;
-    sync_file(files, beside)?;
-    rename(files, beside, path)?;
-    Ok(())
-}
-
-// Writes a new file, and makes its folder where it isn't there.
-fn write_in_folder<H: Files>(files: &H, path: &str, bytes: &[u8]) -> Result<(), DeviceFault> {
-    check_plain(files, path)?;
-    match write_file(files, path, bytes) {
-        Ok(()) => return Ok(()),
-        Err(DeviceFault::NotThere) => {}
-        Err(fault) => return Err(fault),
-    }
-    if let Some(folder) = Path::new(path).parent() {
-        create_dir_all(files, folder)?;
-    }
-    write_file(files, path, bytes)
-}
-
-// Whether the folder is among these.
-fn has(folders: &[String], folder: &str) -> bool {
-    for it in folders {
-        if it.as_str() == folder {
-            return true;
-        }
-    }
-    false
-}
-
-impl<H: Files + Drop> FolderFiles<H> {
+impl<C: FileCalls + Drop> FolderFiles<C> {
     /// The files under this folder, which is made where it isn't there.
-    pub(crate) fn open(files: H, alloc: Global, root: &str) -> Result<FolderFiles<H>, DeviceFault> {
-        create_dir_all(&files, root)?;
-        sync_parent(&files, root)?;
-        let folder = FileId::of(&files.metadata(root)?);
+    pub(crate) fn open(
+        mut calls: C,
+        alloc: Global,
+        root: &str,
+    ) -> Result<FolderFiles<C>, DeviceFault>
+        ensures calls { IfOk result (λ files. C.calls files.calls ≡ C.calls calls
+            ++ done (step.MakeFolder root.now ∷ naming_in (folder_of root.now))) }
+        ensures unstaged { IfOk result (λ files. vec_items files.staged ≡ []) }
+    {
+        calls.make_folder(root)?;
+        sync_parent(&mut calls, root)?;
+        let folder = FileId::of(&calls.metadata(root)?);
         Ok(FolderFiles {
-            files,
+            calls,
             alloc,
             root: String::from_str(alloc, root.trim_end_matches('/'))?,
             folder,
@@ -155,12 +79,14 @@ impl<H: Files + Drop> FolderFiles<H> {
     fn check_folder(&self) -> Result<(), DeviceFault> {
         let root = self.root.as_str();
         let path = if root.is_empty() { "/" } else { root };
-        self.folder.check(self.files.metadata(path))
+        self.folder.check(self.calls.metadata(path))
     }
 
     // The path of a resource's file.
     fn place_of(&self, resource: &Resource) -> Result<String, AllocError>
         requires { IsResource resource.now }
+        ensures { IfOk result (λ place. string_bytes place
+            ≡ place_of (string_bytes self.now.root) resource.now) }
     {
         let mut place = String::from_str(self.alloc, self.root.as_str())?;
         place.push_str("/")?;
@@ -168,23 +94,19 @@ impl<H: Files + Drop> FolderFiles<H> {
         Ok(place)
     }
 
-    // Notes the folders that change where a file is put in this place: its own, and those above it up to the root.
-    fn note_changed(&mut self, place: &str) -> Result<(), AllocError> {
-        for folder in Path::new(place).ancestors().skip(1) {
-            let folder = folder.as_str();
-            if folder.len() < self.root.len() || has(self.changed.as_slice(), folder) {
-                return Ok(());
-            }
-            self.changed.push(String::from_str(self.alloc, folder)?)?;
-        }
-        Ok(())
-    }
-
     /// Writes the bytes beside the place of a resource. `Moved`: another folder is at its path than the one that was
     /// opened. `NotPlain`: something else than a plain file is where the bytes are to be written, as a link. Nothing
     /// was written then.
     pub(crate) fn stage(&mut self, resource: &Resource, bytes: &[u8]) -> Result<(), DeviceFault>
         requires { IsResource resource.now }
+        ensures calls { WritesAside (new_path (place_of (string_bytes self.old.root) resource.now)) bytes.now
+            (C.calls self.old.calls) (C.calls self.new.calls) result }
+        ensures staged { OnOk result (map move_of (vec_items self.new.staged)
+            ≡ map move_of (vec_items self.old.staged)
+            ++ move_to (place_of (string_bytes self.old.root) resource.now) ∷ []) }
+        ensures unstaged { OnErr result (map move_of (vec_items self.new.staged)
+            ≡ map move_of (vec_items self.old.staged)) }
+        ensures root { string_bytes self.new.root ≡ string_bytes self.old.root }
     {
         if self.is_broken {
             return Err(DeviceFault::System);
@@ -192,9 +114,14 @@ impl<H: Files + Drop> FolderFiles<H> {
         self.check_folder()?;
         let place = self.place_of(resource)?;
         let beside = format!(in self.alloc; "{place}.new")?;
-        self.note_changed(place.as_str())?;
+        note_folders(
+            self.alloc,
+            &mut self.changed,
+            self.root.as_str(),
+            place.as_str(),
+        )?;
         self.staged.reserve(1)?;
-        write_in_folder(&self.files, beside.as_str(), bytes)?;
+        write_in_folder(&mut self.calls, beside.as_str(), bytes)?;
         self.staged.push_reserved(Staged { beside, place });
         Ok(())
     }
@@ -202,7 +129,15 @@ impl<H: Files + Drop> FolderFiles<H> {
     /// Puts all files that were written beside their places there. It waits for the disk: what it wrote outlasts a
     /// crash. `Moved`: another folder is at its path than the one that was opened, and nothing was put there. After a
     /// failure every call fails.
-    pub(crate) fn settle(&mut self) -> Result<(), DeviceFault> {
+    pub(crate) fn settle(&mut self) -> Result<(), DeviceFault>
+        ensures calls { Takes (settling (map move_of (vec_items self.old.staged))
+            (map string_bytes (vec_items self.old.changed)))
+            (C.calls self.old.calls) (C.calls self.new.calls) result }
+        ensures covered { AreCovered (string_bytes self.old.root)
+            (map string_bytes (vec_items self.old.changed)) (map move_of (vec_items self.old.staged)) }
+        ensures root { string_bytes self.new.root ≡ string_bytes self.old.root }
+        ensures unstaged { OnOk result (vec_items self.new.staged ≡ []) }
+    {
         if self.is_broken {
             return Err(DeviceFault::System);
         }
@@ -210,9 +145,7 @@ impl<H: Files + Drop> FolderFiles<H> {
         let changed = mem::replace(&mut self.changed, Vec::new(self.alloc));
         self.is_broken = true;
         self.check_folder()?;
-        sync_staged(&self.files, staged.as_slice())?;
-        place_staged(&self.files, staged.as_slice())?;
-        sync_folders(&self.files, changed.as_slice())?;
+        put_staged(&mut self.calls, staged.as_slice(), changed.as_slice())?;
         self.is_broken = false;
         Ok(())
     }
@@ -226,15 +159,7 @@ impl<H: Files + Drop> FolderFiles<H> {
         requires { IsResource resource.now }
     {
         let place = self.place_of(resource)?;
-        let told = self.files.metadata(place.as_str());
-        let file = match open_plain(&self.files, place.as_str(), told) {
-            Ok(Some(file)) => file,
-            Ok(None) => return Ok(None),
-            Err(fault) => return Err(fault),
-        };
-        match read_whole(alloc, &mut Counted::new(file), LONGEST) {
-            Ok(bytes) => Ok(Some(bytes)),
-            Err(fault) => Err(DeviceFault::from(fault)),
-        }
+        let told = self.calls.metadata(place.as_str());
+        self.calls.read(alloc, place.as_str(), told, LONGEST)
     }
 }

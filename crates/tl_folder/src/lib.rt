@@ -1,17 +1,24 @@
 //! A log in a folder that outlasts a crash: a shelf whose resources are files in the layout of C2SP tlog-tiles, a file
 //! of lines each of which outlasts a crash before it is answered, a file that is replaced as a whole, and locks on all
-//! of them.
+//! of them. Contracts see the calls of the system that each makes, and laws say what a crash after them leaves.
 #![tactic(auto)]
 
+mod call_log;
 mod call_outcome;
 mod disk;
+mod file_calls;
 mod file_id;
 mod files;
+mod folders;
+pub mod law;
 mod lines;
 mod lock;
 mod look;
 mod record;
 mod shelf;
+pub mod shelf_law;
+mod staged;
+mod system;
 mod whole;
 
 pub use call_outcome::CallOutcome;

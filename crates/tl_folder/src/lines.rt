@@ -1,60 +1,84 @@
 //! A file of lines that outlast a crash.
 
-ghost use Rattle.std.specs.Prelude.{◌≡◌, ◌≤◌, IfOk, length, vec_items};
-ghost use Rattle.tl_folder.specs.Lines.{IsWholeFront, IsWhole};
+ghost use Rattle.std.specs.Prelude.{◌≡◌, ◌≤◌, [], ◌∷◌, IfOk, length, vec_items};
+ghost use Rattle.tl_folder.specs.FileCalls.{done};
+ghost use Rattle.tl_folder.specs.Lines.{IsWholeFront, IsWhole, OpensLines, AppendsSome, opening};
 
+use crate::file_calls::FileCalls;
 use crate::files::sync_parent;
 use crate::lock::LockedFile;
 use crate::record::note_bytes;
+use crate::system::{OpenedFile, SystemCalls};
 use http_server::Log;
 use memchr::memrchr;
 use std::alloc::Global;
 use std::fs::{File, Files, OpenOptions};
 use std::io;
 use std::io::{ErrorKind, Write};
-use tl_device::{Counted, DeviceFault, read_whole};
+use std::marker::Model;
+use tl_device::DeviceFault;
 
 /// A file that is appended to: a write answers once what it took outlasts a crash, as far as the system says. Where
-/// another file is at its path, or none, a write fails, and nothing is written.
+/// another file is at its path, or none, a write fails, and nothing is written. Contracts see the calls of the system.
 #[derive(Drop)]
-pub struct DurableAppend<'f, H> {
-    files: &'f H,
+pub struct DurableAppend<'f, H: Files> {
+    calls: SystemCalls<&'f H>,
     path: &'f str,
     locked: LockedFile,
     written: Log<(), u8>,
     fault: Option<DeviceFault>,
 }
 
-impl<H> DurableAppend<'_, H> {
+impl<'f, H: Files> Model for DurableAppend<'f, H> {
+    ghost use Rattle.tl_folder.specs.Events.{noted};
+    ghost use Rattle.tl_folder.specs.Opened as seen;
+
+    ghost Value = { seen.Appended };
+
+    ghost view = { λ s. record { path = s.path.now; written = noted s.written; calls = s.calls.log; fault = s.fault } };
+}
+
+impl<H: Files> DurableAppend<'_, H> {
     /// Why the last write failed, if it did.
-    pub fn fault(&self) -> Option<DeviceFault> {
+    pub fn fault(&self) -> Option<DeviceFault>
+        ensures { result ≡ self.now.fault }
+    {
         self.fault
     }
 }
 
 // Appends some of the bytes to the file that is at this path, and has them outlast a crash.
-fn append_some<H: Files>(
-    files: &H,
+fn append_some<C: FileCalls<File = OpenedFile<File>>>(
+    calls: &mut C,
     path: &str,
     locked: &mut LockedFile,
     bytes: &[u8],
 ) -> Result<usize, DeviceFault>
-    ensures { IfOk result (λ n. n ≤ length bytes.now) }
+    ensures count { IfOk result (λ n. n ≤ length bytes.now) }
+    ensures calls { AppendsSome path.now bytes.now (C.calls calls.old) (C.calls calls.new) result }
 {
-    locked.check_at(files, path)?;
-    let count = locked.file.write(bytes)?;
-    locked.file.sync_data()?;
+    locked.check_at(calls.symlink_metadata(path))?;
+    let count = calls.append(&mut locked.file, path, bytes)?;
+    calls.sync_data(&locked.file, path)?;
     Ok(count)
 }
 
-impl<'f, H: Files> Write for DurableAppend<'f, H> {
+impl<'f, H: Files<File = File>> Write for DurableAppend<'f, H> {
     ghost use Rattle.std.specs.Prelude.{Some};
-    ghost use Rattle.tl_folder.specs.Events.{noted};
+    ghost use Rattle.std.specs.Prelude.{◌≡◌};
+    ghost use Rattle.std.specs.Io.{WritesAtMost};
+    ghost use Rattle.std.specs.Io.KnownBytes.{WriteAppends};
+    ghost use Rattle.tl_folder.specs.Lines.{AppendsSome};
 
-    ghost contents = { λ s. Some (noted s.written) };
+    ghost contents = { λ s. Some s.written };
 
-    fn write(&mut self, buf: &[u8]) -> io::Result<usize> {
-        match append_some(self.files, self.path, &mut self.locked, buf) {
+    fn write(&mut self, buf: &[u8]) -> io::Result<usize>
+        ensures bound { WritesAtMost result buf.now }
+        ensures bytes { WriteAppends (Some self.old.written) (Some self.new.written) result buf.now }
+        ensures calls { AppendsSome self.old.path buf.now self.old.calls self.new.calls result }
+        ensures path { self.new.path ≡ self.old.path }
+    {
+        match append_some(&mut self.calls, self.path, &mut self.locked, buf) {
             Ok(count) => {
                 note_bytes(&mut self.written, &buf[..count]);
                 Ok(count)
@@ -73,7 +97,7 @@ impl<'f, H: Files> Write for DurableAppend<'f, H> {
 
 /// A file of lines: what it had, and the file to append to.
 #[derive(Drop)]
-pub struct LineFile<'f, H> {
+pub struct LineFile<'f, H: Files> {
     /// The lines that it had, each with its newline.
     pub lines: Vec<u8>,
     /// The same file, after them.
@@ -90,12 +114,26 @@ fn whole_front(bytes: &[u8]) -> usize
     }
 }
 
-/// All bytes of a file. `TooLarge`: it has more than `most`.
-pub(crate) fn read_file(alloc: Global, file: &File, most: u64) -> Result<Vec<u8>, DeviceFault> {
-    match read_whole(alloc, &mut Counted::new(file), most) {
-        Ok(bytes) => Ok(bytes),
-        Err(fault) => Err(DeviceFault::from(fault)),
-    }
+// Opens and locks the file, cuts off a last line without a newline, and has the rest and the name outlast a crash.
+fn open_by<C: FileCalls<File = OpenedFile<File>>>(
+    calls: &mut C,
+    alloc: Global,
+    path: &str,
+    most: u64,
+) -> Result<(Vec<u8>, LockedFile), DeviceFault>
+    ensures whole { IfOk result (λ it. IsWhole (vec_items it.0)) }
+    ensures calls { OpensLines path.now (C.calls calls.old) (C.calls calls.new) result }
+{
+    let mut how = OpenOptions::new();
+    how.read(true).append(true).create(true);
+    let locked = LockedFile::open(calls, &how, path)?;
+    let mut lines = locked.file.read(alloc, most)?;
+    let whole = whole_front(lines.as_slice());
+    calls.cut(&locked.file, path, whole as u64)?;
+    lines.truncate(whole);
+    calls.sync_all(&locked.file, path)?;
+    sync_parent(calls, path)?;
+    Ok((lines, locked))
 }
 
 /// The file of lines at this path, which is made where there is none, and locked. A last line without a newline, as a
@@ -107,19 +145,18 @@ pub fn open_lines<'f, H: Files<File = File>>(
     path: &'f str,
     most: u64,
 ) -> Result<LineFile<'f, H>, DeviceFault>
-    ensures { IfOk result (λ file. IsWhole (vec_items file.lines)) }
+    ensures whole { IfOk result (λ file. IsWhole (vec_items file.lines)) }
+    ensures end { IfOk result (λ file. file.end ≡ record {
+      path = path.now;
+      written = [];
+      calls = done (opening path.now (length (vec_items file.lines)));
+      fault = None;
+    }) }
 {
-    let mut how = OpenOptions::new();
-    how.read(true).append(true).create(true);
-    let locked = LockedFile::open(files, &how, path)?;
-    let mut lines = read_file(alloc, &locked.file, most)?;
-    let whole = whole_front(lines.as_slice());
-    locked.file.set_len(whole as u64)?;
-    lines.truncate(whole);
-    locked.file.sync_all()?;
-    sync_parent(files, path)?;
+    let mut calls = SystemCalls::new(files);
+    let (lines, locked) = open_by(&mut calls, alloc, path, most)?;
     let end = DurableAppend {
-        files,
+        calls,
         path,
         locked,
         written: Log::new(),

@@ -3,64 +3,88 @@
 //! each that writes looks first whether what is locked is still at its path. The look and what follows it are two
 //! calls.
 
-use crate::file_id::FileId;
-use crate::look::{check_plain, open_folder};
-use std::fs::{File, Files, OpenOptions, TryLockError, create_dir_all};
-use tl_device::DeviceFault;
+ghost use Rattle.std.specs.Prelude.{[], ◌∷◌, IsOk, OnOk};
+ghost use Rattle.tl_folder.specs.Step as step;
+ghost use Rattle.tl_folder.specs.FileCalls.{Takes};
 
-// Locks a file while it is open, also where the process ends in any way. `Busy`: another has it.
-fn lock_file(file: &File) -> Result<(), DeviceFault> {
-    match file.try_lock() {
-        Ok(()) => Ok(()),
-        Err(TryLockError::WouldBlock) => Err(DeviceFault::Busy),
-        Err(TryLockError::Error(error)) => Err(DeviceFault::from(error)),
-    }
-}
+use crate::file_calls::FileCalls;
+use crate::file_id::FileId;
+use crate::look::check_plain;
+use crate::system::{OpenedFile, SystemCalls};
+use std::fs::{File, Files, Metadata, OpenOptions};
+use std::io;
+use tl_device::DeviceFault;
 
 /// A plain file that is open and locked.
 #[derive(Drop)]
 pub(crate) struct LockedFile {
-    pub(crate) file: File,
+    pub(crate) file: OpenedFile<File>,
     id: FileId,
 }
 
 impl LockedFile {
     /// Opens the file at this path in this way, and locks it. `Busy`: another process has it. `NotPlain`: something
     /// else than a plain file is there, as a link.
-    pub(crate) fn open<H: Files<File = File>>(
-        files: &H,
+    pub(crate) fn open<C: FileCalls<File = OpenedFile<File>>>(
+        calls: &mut C,
         how: &OpenOptions,
         path: &str,
-    ) -> Result<LockedFile, DeviceFault> {
-        check_plain(files, path)?;
-        let file = how.open(files, path)?;
-        lock_file(&file)?;
+    ) -> Result<LockedFile, DeviceFault>
+        ensures { Takes (step.Create path.now ∷ []) (C.calls calls.old) (C.calls calls.new) result }
+    {
+        check_plain(calls.symlink_metadata(path))?;
+        let file = calls.create(how, path)?;
+        file.lock()?;
         let id = FileId::of(&file.metadata()?);
         let locked = LockedFile { file, id };
-        locked.check_at(files, path)?;
+        locked.check_at(calls.symlink_metadata(path))?;
         Ok(locked)
     }
 
-    /// Fails with `Moved` where it isn't at this path any more.
-    pub(crate) fn check_at<H: Files>(&self, files: &H, path: &str) -> Result<(), DeviceFault> {
-        self.id.check(files.symlink_metadata(path))
+    /// Fails with `Moved` where it isn't at a path any more, by what the system told of the path.
+    pub(crate) fn check_at(&self, told: io::Result<Metadata>) -> Result<(), DeviceFault>
+        ensures { OnOk result (IsOk told) }
+    {
+        self.id.check(told)
     }
 }
 
 /// A lock on a folder. It is given back where it is dropped, and where the process ends in any way.
 #[derive(Drop)]
 pub struct FolderLock {
-    folder: File,
+    folder: OpenedFile<File>,
 }
 
 impl FolderLock {
-    /// Whether the folder at this path, at the end of links, is the one that is locked.
-    pub fn is_at<H: Files>(&self, files: &H, path: &str) -> bool {
+    // Whether the folder that is locked is the one of which the system told this.
+    fn is_told(&self, told: io::Result<Metadata>) -> bool {
         let Ok(metadata) = self.folder.metadata() else {
             return false;
         };
-        FileId::of(&metadata).check(files.metadata(path)).is_ok()
+        FileId::of(&metadata).check(told).is_ok()
     }
+
+    /// Whether the folder at this path, at the end of links, is the one that is locked.
+    pub fn is_at<H: Files>(&self, files: &H, path: &str) -> bool {
+        self.is_told(files.metadata(path))
+    }
+}
+
+// Locks the folder at this path, which is made where it isn't there.
+fn lock_by<C: FileCalls<File = OpenedFile<File>>>(
+    calls: &mut C,
+    path: &str,
+) -> Result<FolderLock, DeviceFault>
+    ensures { Takes (step.MakeFolder path.now ∷ []) (C.calls calls.old) (C.calls calls.new) result }
+{
+    calls.make_folder(path)?;
+    let folder = calls.open_folder(path)?;
+    folder.lock()?;
+    let lock = FolderLock { folder };
+    if !lock.is_told(calls.metadata(path)) {
+        return Err(DeviceFault::Moved);
+    }
+    Ok(lock)
 }
 
 /// Locks the folder at this path, which is made where it isn't there. `Busy`: another process has it. `Moved`: another
@@ -69,12 +93,5 @@ pub fn lock_folder<H: Files<File = File>>(
     files: &H,
     path: &str,
 ) -> Result<FolderLock, DeviceFault> {
-    create_dir_all(files, path)?;
-    let folder = open_folder(files, path)?;
-    lock_file(&folder)?;
-    let lock = FolderLock { folder };
-    if !lock.is_at(files, path) {
-        return Err(DeviceFault::Moved);
-    }
-    Ok(lock)
+    lock_by(&mut SystemCalls::new(files), path)
 }

@@ -2,7 +2,7 @@
 //! what isn't as it should be is never opened. The look and the open are two calls, since std has no open that refuses
 //! a link and doesn't wait for a pipe: what comes to the path in between is opened all the same.
 
-ghost use Rattle.std.specs.Prelude.{◌≡◌, ◌≢◌, ◌↔◌, true, false, IfErr, IfOk, IsErrAnd, IsOkAnd, OnSome};
+ghost use Rattle.std.specs.Prelude.{◌≡◌, ◌≢◌, ◌↔◌, true, false, IfErr, IfOk, IsErrAnd, IsOkAnd, MatchResult, OnOk, OnSome};
 ghost use Rattle.std.specs.Fs.{IsFile, file_type};
 ghost use Rattle.std.specs.IoError.{error_kind};
 ghost use Rattle.tl_device.specs.Faults.{after_kind};
@@ -28,9 +28,12 @@ fn is_plain(told: io::Result<Metadata>) -> Result<bool, DeviceFault>
     }
 }
 
-/// Fails where something is at the path that isn't a plain file; a link isn't one.
-pub(crate) fn check_plain<H: Files>(files: &H, path: &str) -> Result<(), DeviceFault> {
-    is_plain(files.symlink_metadata(path))?;
+/// Fails where something is at a path that isn't a plain file, by what the system told of it; a link isn't one.
+pub(crate) fn check_plain(told: io::Result<Metadata>) -> Result<(), DeviceFault>
+    ensures { OnOk result (MatchResult told
+        (λ m. IsFile (file_type m)) (λ e. error_kind e ≡ ErrorKind.NotFound)) }
+{
+    is_plain(told)?;
     Ok(())
 }
 

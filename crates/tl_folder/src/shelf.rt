@@ -1,11 +1,12 @@
 //! A shelf in a folder.
 
-ghost use Rattle.std.specs.Prelude.{◌≡◌, [], IfOk};
+ghost use Rattle.std.specs.Prelude.{◌≡◌, [], ◌∷◌, ◌++◌, IfOk, OnOk, OnErr};
 
 use crate::call_outcome::CallOutcome;
 use crate::disk::CrashOutcome;
 use crate::files::FolderFiles;
 use crate::record::Record;
+use crate::system::SystemCalls;
 use std::alloc::{Allocator, Global};
 use std::fs::Files;
 use std::marker::Model;
@@ -20,7 +21,7 @@ use tl_tile::Resource;
 #[derive(Drop)]
 pub struct FolderShelf<D, H> {
     disk: D,
-    files: FolderFiles<H>,
+    files: FolderFiles<SystemCalls<H>>,
     calls: Record,
     failures: u64,
 }
@@ -30,7 +31,16 @@ impl<D, H> Model for FolderShelf<D, H> {
 
     ghost Value = { seen.Calls };
 
-    ghost view = { λ s. record { events = s.calls; failures = s.failures } };
+    ghost use Rattle.std.specs.Prelude.{map, string_bytes, vec_items};
+    ghost use Rattle.tl_folder.specs.Inner.Staged.{move_of};
+
+    ghost view = { λ s. record {
+      events = s.calls;
+      failures = s.failures;
+      root = string_bytes s.files.root;
+      moves = map move_of (vec_items s.files.staged);
+      made = s.files.calls.log;
+    } };
 }
 
 // That the folder failed over a resource. Where another folder came to its path, the fault is over all of it.
@@ -45,6 +55,11 @@ fn fault_over(resource: &Resource, why: DeviceFault) -> ShelfFault
 }
 
 impl<D: CrashOutcome + Drop, H: Files + Drop> FolderShelf<D, H> {
+    ghost use Rattle.tl_folder.specs.Step as step;
+    ghost use Rattle.tl_folder.specs.FileCalls.{done};
+    ghost use Rattle.tl_folder.specs.Posix.{folder_of};
+    ghost use Rattle.tl_folder.specs.Settling.{naming_in};
+
     /// The folder at this path, which is made where it isn't there.
     pub fn open(
         disk: D,
@@ -52,9 +67,12 @@ impl<D: CrashOutcome + Drop, H: Files + Drop> FolderShelf<D, H> {
         alloc: Global,
         path: &str,
     ) -> Result<FolderShelf<D, H>, DeviceFault>
-        ensures { IfOk result (λ shelf. shelf ≡ record { events = []; failures = 0 }) }
+        ensures events { IfOk result (λ shelf. shelf.events ≡ []) }
+        ensures moves { IfOk result (λ shelf. shelf.moves ≡ []) }
+        ensures made { IfOk result (λ shelf. shelf.made
+            ≡ done (step.MakeFolder path.now ∷ naming_in (folder_of path.now))) }
     {
-        let files = FolderFiles::open(files, alloc, path)?;
+        let files = FolderFiles::open(SystemCalls::new(files), alloc, path)?;
         Ok(FolderShelf {
             disk,
             files,
@@ -66,17 +84,37 @@ impl<D: CrashOutcome + Drop, H: Files + Drop> FolderShelf<D, H> {
 
 impl<D: CrashOutcome, H: Files + Drop> Shelf for FolderShelf<D, H> {
     ghost use Rattle.std.specs.Prelude.{false};
-    ghost use Rattle.tl_folder.specs.Folders.{after_calls, after_each, at_first};
+    ghost use Rattle.tl_archive.specs.Shelves.{Stages, Unstages, Settles, Fails};
+    ghost use Rattle.tl_tile.specs.Path.{IsResource};
+    ghost use Rattle.tl_folder.specs.Folders.{SettlesFiles, kept_by, traced_by};
+    ghost use Rattle.tl_folder.specs.Places.{place_of};
+    ghost use Rattle.tl_folder.specs.Settling.{WritesAside, move_to, new_path};
 
-    ghost kept = { λ s. after_calls D.reached 0 s.events (at_first D.held) };
+    ghost kept = { λ s. kept_by D.held D.reached s };
 
-    ghost trace = { λ s. after_each D.reached 0 s.events (at_first D.held) };
+    ghost trace = { λ s. traced_by D.held D.reached s };
 
     ghost faults = { λ s. s.failures };
 
     ghost is_honest = { false };
 
-    fn stage(&mut self, resource: &Resource, bytes: &[u8]) -> Result<(), ShelfFault> {
+    fn stage(&mut self, resource: &Resource, bytes: &[u8]) -> Result<(), ShelfFault>
+        requires { IsResource resource.now }
+        ensures staged { OnOk result (Stages (kept_by D.held D.reached self.old)
+            (kept_by D.held D.reached self.new) resource.now bytes.now) }
+        ensures unstaged { OnErr result
+            (kept_by D.held D.reached self.new ≡ kept_by D.held D.reached self.old) }
+        ensures unfailed { OnOk result (self.new.failures ≡ self.old.failures) }
+        ensures failed { OnErr result (Fails self.old.failures self.new.failures) }
+        ensures trace { traced_by D.held D.reached self.new
+            ≡ traced_by D.held D.reached self.old ++ kept_by D.held D.reached self.new ∷ [] }
+        ensures made { WritesAside (new_path (place_of self.old.root resource.now)) bytes.now
+            self.old.made self.new.made result }
+        ensures moves { OnOk result (self.new.moves
+            ≡ self.old.moves ++ move_to (place_of self.old.root resource.now) ∷ []) }
+        ensures unmoved { OnErr result (self.new.moves ≡ self.old.moves) }
+        ensures root { self.new.root ≡ self.old.root }
+    {
         match self.files.stage(resource, bytes) {
             Ok(()) => {
                 self.calls.note(CallOutcome::Staged(*resource), bytes);
@@ -90,7 +128,19 @@ impl<D: CrashOutcome, H: Files + Drop> Shelf for FolderShelf<D, H> {
         }
     }
 
-    fn settle(&mut self) -> Result<(), ShelfFault> {
+    fn settle(&mut self) -> Result<(), ShelfFault>
+        ensures unstaged { Unstages (kept_by D.held D.reached self.old)
+            (kept_by D.held D.reached self.new) }
+        ensures settled { OnOk result (Settles (kept_by D.held D.reached self.old)
+            (kept_by D.held D.reached self.new)) }
+        ensures unfailed { OnOk result (self.new.failures ≡ self.old.failures) }
+        ensures failed { OnErr result (Fails self.old.failures self.new.failures) }
+        ensures trace { traced_by D.held D.reached self.new
+            ≡ traced_by D.held D.reached self.old ++ kept_by D.held D.reached self.new ∷ [] }
+        ensures made { SettlesFiles self.old self.new.made result }
+        ensures moves { OnOk result (self.new.moves ≡ []) }
+        ensures root { self.new.root ≡ self.old.root }
+    {
         match self.files.settle() {
             Ok(()) => {
                 self.calls.note(CallOutcome::Settled, &[]);

@@ -1,12 +1,16 @@
 //! A file that is replaced as a whole.
 
-ghost use Rattle.std.specs.Prelude.{◌≡◌, OnOk};
+ghost use Rattle.std.specs.Prelude.{◌≡◌, [], ◌∷◌, ◌++◌, IfOk, OnOk};
+ghost use Rattle.tl_folder.specs.Step as step;
+ghost use Rattle.tl_folder.specs.FileCalls.{Takes, done};
+ghost use Rattle.tl_folder.specs.Settling.{lock_path_of, new_path, replacing};
 
-use crate::files::{replace_file, sync_parent};
-use crate::lines::read_file;
+use crate::file_calls::FileCalls;
+use crate::files::sync_parent;
 use crate::lock::LockedFile;
-use crate::look::open_plain;
+use crate::look::check_plain;
 use crate::record::note_bytes;
+use crate::system::SystemCalls;
 use http_server::Log;
 use std::alloc::Global;
 use std::fs::{File, Files, OpenOptions};
@@ -14,10 +18,10 @@ use std::marker::Model;
 use tl_device::DeviceFault;
 
 /// A file that one process at a time reads and replaces: at each moment, also where a crash comes, it has its old bytes
-/// or its new ones. Contracts see the bytes that replaced the others last.
+/// or its new ones. Contracts see the bytes that replaced the others last, and the calls of the system so far.
 #[derive(Drop)]
 pub struct AtomicFile<'s, H: Files> {
-    files: &'s H,
+    calls: SystemCalls<&'s H>,
     path: &'s str,
     beside: String,
     lock_path: String,
@@ -26,12 +30,35 @@ pub struct AtomicFile<'s, H: Files> {
 }
 
 impl<'s, H: Files> Model for AtomicFile<'s, H> {
-    ghost use Rattle.std.specs.Prelude.{ℕ, List};
+    ghost use Rattle.std.specs.Prelude.{◌≡◌, string_bytes};
     ghost use Rattle.tl_folder.specs.Events.{noted};
+    ghost use Rattle.tl_folder.specs.Settling.{new_path};
+    ghost use Rattle.tl_folder.specs.Opened as seen;
 
-    ghost Value = { List ℕ };
+    ghost Value = { seen.Replaced };
 
-    ghost view = { λ f. noted f.last };
+    ghost view = { λ f. record { path = f.path.now; bytes = noted f.last; calls = f.calls.log } };
+
+    ghost invariant = { λ f. string_bytes f.beside ≡ new_path f.path.now };
+}
+
+/// Writes bytes beside the place of a file and then puts them there, once they outlast a crash, and then has the name
+/// outlast one. `NotPlain`: in one of the two places is something else than a plain file, and nothing was written.
+fn replace_by<C: FileCalls>(
+    calls: &mut C,
+    beside: &str,
+    path: &str,
+    bytes: &[u8],
+) -> Result<(), DeviceFault>
+    ensures { Takes (replacing beside.now path.now bytes.now)
+        (C.calls calls.old) (C.calls calls.new) result }
+{
+    check_plain(calls.symlink_metadata(path))?;
+    check_plain(calls.symlink_metadata(beside))?;
+    calls.write(beside, bytes)?;
+    calls.sync(beside)?;
+    calls.rename(beside, path)?;
+    sync_parent(calls, path)
 }
 
 impl<'s, H: Files<File = File>> AtomicFile<'s, H> {
@@ -42,14 +69,21 @@ impl<'s, H: Files<File = File>> AtomicFile<'s, H> {
         files: &'s H,
         alloc: Global,
         path: &'s str,
-    ) -> Result<AtomicFile<'s, H>, DeviceFault> {
+    ) -> Result<AtomicFile<'s, H>, DeviceFault>
+        ensures { IfOk result (λ file. file ≡ record {
+          path = path.now;
+          bytes = [];
+          calls = done (step.Create (lock_path_of path.now) ∷ []);
+        }) }
+    {
         let lock_path = format!(in alloc; "{path}.lock")?;
         let beside = format!(in alloc; "{path}.new")?;
         let mut how = OpenOptions::new();
         how.append(true).create(true);
-        let lock = LockedFile::open(files, &how, lock_path.as_str())?;
+        let mut calls = SystemCalls::new(files);
+        let lock = LockedFile::open(&mut calls, &how, lock_path.as_str())?;
         Ok(AtomicFile {
-            files,
+            calls,
             path,
             beside,
             lock_path,
@@ -61,26 +95,22 @@ impl<'s, H: Files<File = File>> AtomicFile<'s, H> {
     /// Its bytes, `None` where there is no file. `TooLarge`: it has more than `most`. `NotPlain`: at its path is
     /// something else than a plain file, as a link.
     pub fn read(&self, alloc: Global, most: u64) -> Result<Option<Vec<u8>>, DeviceFault> {
-        match open_plain(
-            self.files,
-            self.path,
-            self.files.symlink_metadata(self.path),
-        ) {
-            Ok(Some(file)) => Ok(Some(read_file(alloc, &file, most)?)),
-            Ok(None) => Ok(None),
-            Err(fault) => Err(fault),
-        }
+        let told = self.calls.symlink_metadata(self.path);
+        self.calls.read(alloc, self.path, told, most)
     }
 
     /// Replaces its bytes. It waits for the disk: the new bytes outlast a crash once it answers. `Moved`: the file that
     /// is locked isn't at its path any more. `NotPlain`: at its path, or at that of the bytes that are to come there,
     /// is something else than a plain file, as a link. Nothing was written then.
     pub fn replace(&mut self, bytes: &[u8]) -> Result<(), DeviceFault>
-        ensures { OnOk result (self.new ≡ bytes.now) }
+        ensures path { self.new.path ≡ self.old.path }
+        ensures replaced { OnOk result (self.new.bytes ≡ bytes.now) }
+        ensures calls { Takes (replacing (new_path self.old.path) self.old.path bytes.now)
+            self.old.calls self.new.calls result }
     {
-        self.lock.check_at(self.files, self.lock_path.as_str())?;
-        replace_file(self.files, self.beside.as_str(), self.path, bytes)?;
-        sync_parent(self.files, self.path)?;
+        let told = self.calls.symlink_metadata(self.lock_path.as_str());
+        self.lock.check_at(told)?;
+        replace_by(&mut self.calls, self.beside.as_str(), self.path, bytes)?;
         self.last = Log::new();
         note_bytes(&mut self.last, bytes);
         Ok(())

@@ -1,0 +1,19 @@
+use Rattle.std.proofs.Common.{ap, is_ok}
+use Rattle.std.proofs.lemmas.Result.{err_from_is_err_and}
+use Rattle.tl_folder.specs.Step.{Path}
+use Rattle.tl_folder.specs.Step as step
+use Rattle.tl_folder.specs.Settling.{syncing}
+use Rattle.tl_folder.specs.Inner.Staged.{move_of}
+use Rattle.tl_folder.proofs.Beginnings.{is_err_at, stops, goes_on}
+use Rattle.tl_folder.proofs.staged.sync_staged.Goals as goal
+
+pub returns-in_err-sync : goal.returns-in_err-sync
+returns-in_err-sync g c =
+    let p = err_from_is_err_and c.from_residual.result c.from_residual.ensures.1 in
+    stops (λ file. syncing (move_of file)) c.args.staged.now c.loop-file.file-index c.file-item.result _ _ _ _ _ c.from_residual.result (is_err_at c.from_residual.result p.0 p.1)
+    c.loop-file-test.true c.file-item.is c.loop-file.invariant c.sync.ensures (ap (λ (p : Path). step.Sync p) c.as_str.ensures.value) (ap is_ok c.in_err-sync.was)
+
+pub loop-file-preserved : goal.loop-file-preserved
+loop-file-preserved g c =
+    goes_on (λ file. syncing (move_of file)) c.args.staged.now c.loop-file.file-index c.file-item.result _ _ _ _ _
+    c.loop-file-test.true c.file-item.is c.loop-file.invariant c.sync.ensures (ap (λ (p : Path). step.Sync p) c.as_str.ensures.value) (ap is_ok c.in_ok-sync.was)

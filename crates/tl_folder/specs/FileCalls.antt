@@ -1,0 +1,28 @@
+-- The calls of the system by which a folder is kept.
+use Rattle.std.specs.Prelude.{◌≡◌, Bool, true, false, List, [], ◌∷◌, ◌++◌, Result, Ok, Err}
+use Rattle.tl_folder.specs.Step.{Step}
+
+-- what was asked of the system, and whether it said that it was done
+abbrev pub Call : Type 0
+Call = Step × Bool
+
+-- the calls of these steps, each of which was done
+abbrev pub done : List Step → List Call
+done [] = []
+done (step ∷ more) = (step, true) ∷ done more
+
+-- a call of the step; where it was done, these facts hold of the rest, and where it failed, there is no rest
+abbrev pub IsCallOf : Step → Call → Type 0 → List Call → Type 0
+IsCallOf step (asked, true) rest more = (asked ≡ step) × rest
+IsCallOf step (asked, false) rest more = (asked ≡ step) × (more ≡ [])
+
+-- the calls are the first of these steps, in order; the last of the calls may have failed
+abbrev pub Begins : List Step → List Call → Type 0
+Begins steps [] = Unit {0}
+Begins [] (call ∷ more) = ⊥
+Begins (step ∷ steps) (call ∷ more) = IsCallOf step call (Begins steps more) more
+
+-- Ok: these calls more were made, all of them done. Err: a beginning of them.
+abbrev pub Takes : {T E : Type 0} → List Step → List Call → List Call → Result T E → Type 0
+Takes steps before after (Ok it) = after ≡ before ++ done steps
+Takes steps before after (Err fault) = (made : List Call) × (after ≡ before ++ made) × Begins steps made

@@ -1,0 +1,5 @@
+-- Private words: what contracts of private functions and proofs need.
+pub
+    mod CallLog
+pub
+    mod Staged

@@ -1,0 +1,85 @@
+//! Files that are written beside their places, and how they are put there together.
+
+ghost use Rattle.std.specs.Prelude.{map, string_bytes, ◌++◌};
+ghost use Rattle.tl_folder.specs.FileCalls.{Takes};
+ghost use Rattle.tl_folder.specs.Settling.{syncing, placing, naming, settling, WritesAside};
+ghost use Rattle.tl_folder.specs.Inner.Staged.{move_of};
+
+use crate::file_calls::FileCalls;
+use crate::look::check_plain;
+use std::path::Path;
+use tl_device::DeviceFault;
+
+/// A file that was written beside its place.
+#[derive(Drop)]
+pub(crate) struct Staged {
+    pub(crate) beside: String,
+    pub(crate) place: String,
+}
+
+// Has what each of the files has outlast a crash.
+fn sync_staged<C: FileCalls>(calls: &mut C, staged: &[Staged]) -> Result<(), DeviceFault>
+    ensures { Takes (map (λ file. syncing (move_of file)) staged.now)
+        (C.calls calls.old) (C.calls calls.new) result }
+{
+    for file in staged {
+        calls.sync(file.beside.as_str())?;
+    }
+    Ok(())
+}
+
+// Puts each of the files in its place.
+fn place_staged<C: FileCalls>(calls: &mut C, staged: &[Staged]) -> Result<(), DeviceFault>
+    ensures { Takes (map (λ file. placing (move_of file)) staged.now)
+        (C.calls calls.old) (C.calls calls.new) result }
+{
+    for file in staged {
+        calls.rename(file.beside.as_str(), file.place.as_str())?;
+    }
+    Ok(())
+}
+
+// Has the names in each of the folders outlast a crash.
+fn sync_folders<C: FileCalls>(calls: &mut C, folders: &[String]) -> Result<(), DeviceFault>
+    ensures { Takes (map (λ folder. naming (string_bytes folder)) folders.now)
+        (C.calls calls.old) (C.calls calls.new) result }
+{
+    for folder in folders {
+        calls.sync_folder(folder.as_str())?;
+    }
+    Ok(())
+}
+
+/// Has the files outlast a crash, puts them in their places, and has the names in the folders outlast a crash.
+pub(crate) fn put_staged<C: FileCalls>(
+    calls: &mut C,
+    staged: &[Staged],
+    folders: &[String],
+) -> Result<(), DeviceFault>
+    ensures { Takes (settling (map move_of staged.now) (map string_bytes folders.now))
+        (C.calls calls.old) (C.calls calls.new) result }
+{
+    sync_staged(calls, staged)?;
+    place_staged(calls, staged)?;
+    sync_folders(calls, folders)
+}
+
+/// Writes a new file, and makes its folder where it isn't there.
+pub(crate) fn write_in_folder<C: FileCalls>(
+    calls: &mut C,
+    path: &str,
+    bytes: &[u8],
+) -> Result<(), DeviceFault>
+    ensures { WritesAside path.now bytes.now (C.calls calls.old) (C.calls calls.new) result }
+{
+    check_plain(calls.symlink_metadata(path))?;
+    match calls.write(path, bytes) {
+        Ok(()) => return Ok(()),
+        Err(DeviceFault::NotThere) => {}
+        Err(fault) => return Err(fault),
+    }
+    if let Some(folder) = Path::new(path).parent() {
+        calls.make_folder(folder.as_str())?;
+    }
+    calls.write(path, bytes)
+}
