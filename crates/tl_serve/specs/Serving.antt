@@ -19,7 +19,7 @@ pub record ServesPart (key : LogKey) (found : Found) (v : Visit) : Type 0 where
   pub rest : List Bytes
   pub grows : OfFound found v.before (Grows key batches rest v)
 
--- all that the lanes gave was: the log of the lanes is complete, a merge of what was sent, and the batches are all of it
+-- all that the lanes gave was: the log of the lanes is complete, a merge of what was sent, and is all of the batches
 pub record ServesWhole (key : LogKey) (found : Found) (v : Visit) : Type 0 where
   pub batches : List (List Bytes)
   pub grows : OfFound found v.before (Grows key batches [] v)

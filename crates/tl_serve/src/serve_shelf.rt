@@ -197,11 +197,10 @@ fn serve_under<
     Served { shelf, outcome }
 }
 
-/// As `run_serve`, but the log is on a shelf, and goes on from what is there: what its lanes give is put behind it and
-/// published, as `append` does, and told once it outlasts a crash. A thread for each of `shown`, which are to be of the
-/// same shelf (`threads_of` tells how many the options ask for), answers by `tl_server::serve_shelf` with what is there.
-/// Where the shelf fails, the server ends. Memory has what waits to be put there, whatever the log's size. The shelf is
-/// given back; `found` has what was read of it. It may wait.
+/// As `run_serve`, but the log is on a shelf, and goes on from what is there: what its lanes give is put behind it,
+/// published, and told once it outlasts a crash. A thread for each of `shown`, which are to be of the same shelf
+/// (`threads_of` tells how many), answers by `tl_server::serve_shelf` with what is there. Where the shelf fails, the
+/// server ends. Memory has what waits to be put. The shelf is given back; `found` has what was read of it. It may wait.
 pub fn run_serve_shelf<
     H: Host + Net<Listener = TcpListener, Stream = TcpStream>,
     S: Shelf + Drop,

@@ -13,8 +13,8 @@ use Rattle.tl_append.specs.Appending.{Appends, AppendsAtMost, AppendsThen, Cours
 use Rattle.tl_append.specs.Running.{Visit}
 use Rattle.tl_serve.specs.Serving.{IsLeft, ServesPart, ServesWhole}
 
--- since it began, what was let go of what its lanes gave was appended in batches, each published under the log's key, and
--- then put behind the log; where no publication is due all is published, and nothing waits
+-- since it began, what was let go of what its lanes gave was appended in batches, each published under the log's key,
+-- and then put behind the log; where no publication is due all is published, and nothing waits
 pub record IsServing {A : Type 0} (key : LogKey) (c : Course) (intake : Intake A) (is_due : Bool) : Type 0 where
   pub named : IsKeyName key.name
   pub batches : List (List Bytes)

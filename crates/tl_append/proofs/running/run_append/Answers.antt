@@ -16,10 +16,10 @@ returns-in-Err-clause-goes_on g c = inl (stayed (g.S.Shelf.kept c.args.shelf.now
 
 pub returns-in-Ok-append_under-clause-goes_on : goal.returns-in-Ok-append_under-clause-goes_on
 returns-in-Ok-append_under-clause-goes_on g c = (
-      log_key_of c.in-Ok.keys.signer,
-      subst (λ (n : Bytes). IsLogKey c.args.options.now.key n (log_key_of c.in-Ok.keys.signer)) c.as_str-origin.ensures.value c.in-Ok.ensures,
-      c.in-Ok-append_under.ensures.goes_on,
-    )
+  log_key_of c.in-Ok.keys.signer,
+  subst (λ (n : Bytes). IsLogKey c.args.options.now.key n (log_key_of c.in-Ok.keys.signer)) c.as_str-origin.ensures.value c.in-Ok.ensures,
+  c.in-Ok-append_under.ensures.goes_on,
+)
 
 pub returns-in-Err-append_under-clause-goes_on : goal.returns-in-Err-append_under-clause-goes_on
 returns-in-Err-append_under-clause-goes_on g c =

@@ -12,9 +12,9 @@ pub returns-in-Err-show : goal.returns-in-Err-show
 returns-in-Err-show g c =
     inr (subst (λ s. ServesPart (log_key_of c.args.keys.signer) c.open_log.new.found (visit g.S.Shelf.kept g.S.Shelf.trace c.args.shelf s)) (sym c.into_shelf-shelf.ensures)
     (serves_part (log_key_of c.show.new.self.key) _ c.open_log.new.found (g.S.Shelf.kept c.show.new.self.began.value) (g.S.Shelf.kept c.show.new.self.shelf)
-      (g.S.Shelf.trace c.show.new.self.began.value) (g.S.Shelf.trace c.show.new.self.shelf) c.show.new.self.was.value c.show.new.self.ledger c.show.new.self.intake c.show.new.self.is_due
-      (record { key = log_key_of c.args.keys.signer; kept = g.S.Shelf.kept c.args.shelf; saw = g.S.Shelf.trace c.args.shelf; was = c.in-Ok.opened.ledger })
-      (c.show.ensures.kept.begun ∙ c.new-log.ensures.begun) c.in-Ok.ensures.opens c.show.ensures.kept.holds))
+    (g.S.Shelf.trace c.show.new.self.began.value) (g.S.Shelf.trace c.show.new.self.shelf) c.show.new.self.was.value c.show.new.self.ledger c.show.new.self.intake c.show.new.self.is_due
+    (record { key = log_key_of c.args.keys.signer; kept = g.S.Shelf.kept c.args.shelf; saw = g.S.Shelf.trace c.args.shelf; was = c.in-Ok.opened.ledger })
+    (c.show.ensures.kept.begun ∙ c.new-log.ensures.begun) c.in-Ok.ensures.opens c.show.ensures.kept.holds))
 
 pub serve_published-running-requires-clause-senders : goal.serve_published-running-requires-clause-senders
 serve_published-running-requires-clause-senders g c κs within =
@@ -25,7 +25,7 @@ pub returns : goal.returns
 returns g c =
     subst (λ s. ServesUnder (log_key_of c.args.keys.signer) c.open_log.new.found (visit g.S.Shelf.kept g.S.Shelf.trace c.args.shelf s) c.close-outcome.result) (sym c.into_shelf-shelf-2.ensures)
     (serves_under (log_key_of c.serve_published-running.result.running.log.key) _ c.open_log.new.found (g.S.Shelf.kept c.serve_published-running.result.running.log.began.value) (g.S.Shelf.kept c.serve_published-running.result.running.log.shelf)
-      (g.S.Shelf.trace c.serve_published-running.result.running.log.began.value) (g.S.Shelf.trace c.serve_published-running.result.running.log.shelf) c.serve_published-running.result.running.log.was.value c.serve_published-running.result.running.log.ledger c.serve_published-running.result.running.log.intake c.serve_published-running.result.running.log.is_due
-      (record { key = log_key_of c.args.keys.signer; kept = g.S.Shelf.kept c.args.shelf; saw = g.S.Shelf.trace c.args.shelf; was = c.in-Ok.opened.ledger })
-      (c.serve_published-running.ensures.begun ∙ c.show.ensures.kept.begun ∙ c.new-log.ensures.begun) c.in-Ok.ensures.opens c.serve_published-running.ensures.holds
-      c.close-outcome.result c.close-outcome.ensures)
+    (g.S.Shelf.trace c.serve_published-running.result.running.log.began.value) (g.S.Shelf.trace c.serve_published-running.result.running.log.shelf) c.serve_published-running.result.running.log.was.value c.serve_published-running.result.running.log.ledger c.serve_published-running.result.running.log.intake c.serve_published-running.result.running.log.is_due
+    (record { key = log_key_of c.args.keys.signer; kept = g.S.Shelf.kept c.args.shelf; saw = g.S.Shelf.trace c.args.shelf; was = c.in-Ok.opened.ledger })
+    (c.serve_published-running.ensures.begun ∙ c.show.ensures.kept.begun ∙ c.new-log.ensures.begun) c.in-Ok.ensures.opens c.serve_published-running.ensures.holds
+    c.close-outcome.result c.close-outcome.ensures)
