@@ -1,12 +1,12 @@
 -- Beginnings of the calls of steps.
-use Rattle.std.proofs.Common.{◌≡◌, ℕ, zero, suc, ◌+◌, ◌<◌, Bool, true, false, List, [], ◌∷◌, ◌++◌, length, map, take, get_or, refl, sym, ap, subst, ◌∙◌, arith, append_assoc}
+use Rattle.std.proofs.Common.{◌≡◌, ◌⊎◌, inl, inr, ℕ, zero, suc, ◌+◌, ◌<◌, Bool, true, false, List, [], ◌∷◌, ◌++◌, length, map, take, get_or, refl, sym, ap, subst, ◌∙◌, arith, append_assoc}
 use Rattle.std.specs.Prelude.{Result, Ok, Err, is_err, IsErr}
 use Rattle.std.specs.Global.{Vec}
 use Rattle.std.proofs.lemmas.List.{append-nil, map_more}
 use Rattle.std.proofs.Math.Seq.{take-length}
 use Rattle.tl_folder.specs.Step.{Path, Bytes, Step}
 use Rattle.tl_folder.specs.Step as step
-use Rattle.tl_folder.specs.FileCalls.{Call, done, Begins, Takes}
+use Rattle.tl_folder.specs.FileCalls.{Call, done, Begins, Fails, Does, Takes, Begun}
 use Rattle.tl_folder.specs.Posix.{folder_of}
 use Rattle.tl_folder.specs.Settling.{Move, syncing, placing, naming, settling, naming_in}
 use Rattle.tl_folder.specs.Lines.{OpensLines, AppendsSome}
@@ -18,6 +18,24 @@ pub done_append : (a b : List Step) → done (a ++ b) ≡ done a ++ done b
 done_append [] b = refl
 done_append (s ∷ a) b = ap (λ (x : List Call). (s, true) ∷ x) (done_append a b)
 
+pub fails_begins : (steps : List Step) (calls : List Call) → Fails steps calls → Begins steps calls
+fails_begins steps [] fails = tt
+fails_begins [] (call ∷ more) fails = absurd fails
+fails_begins (s ∷ steps) ((asked, true) ∷ more) fails = (fails.0, fails_begins steps more fails.1)
+fails_begins (s ∷ steps) ((asked, false) ∷ more) fails = fails
+
+-- what failed of some steps failed of more steps
+fails_more : (a b : List Step) (calls : List Call) → Fails a calls → Fails (a ++ b) calls
+fails_more a b [] fails = absurd fails
+fails_more [] b (call ∷ more) fails = absurd fails
+fails_more (s ∷ a) b ((asked, true) ∷ more) fails = (fails.0, fails_more a b more fails.1)
+fails_more (s ∷ a) b ((asked, false) ∷ more) fails = fails
+
+-- after all of some steps, what failed of others
+fails_after : (a b : List Step) (calls : List Call) → Fails b calls → Fails (a ++ b) (done a ++ calls)
+fails_after [] b calls fails = fails
+fails_after (s ∷ a) b calls fails = (refl, fails_after a b calls fails)
+
 -- the beginning of some steps is one of more steps
 pub begins_more : (a b : List Step) (calls : List Call) → Begins a calls → Begins (a ++ b) calls
 begins_more a b [] begins = tt
@@ -25,19 +43,14 @@ begins_more [] b (call ∷ more) begins = absurd begins
 begins_more (s ∷ a) b ((asked, true) ∷ more) begins = (begins.0, begins_more a b more begins.1)
 begins_more (s ∷ a) b ((asked, false) ∷ more) begins = begins
 
--- after all of some steps, the beginning of others
-pub begins_after : (a b : List Step) (calls : List Call) → Begins b calls → Begins (a ++ b) (done a ++ calls)
-begins_after [] b calls begins = begins
-begins_after (s ∷ a) b calls begins = (refl, begins_after a b calls begins)
-
 -- each of the first steps was done, and then one failed
-pub fails_at : {X : Type 0} (f : X → Step) (xs : List X) (i : ℕ) (x : X) → i < length xs → x ≡ get_or xs i x → Begins (map f xs) (done (map f (take i xs)) ++ (f x, false) ∷ [])
+pub fails_at : {X : Type 0} (f : X → Step) (xs : List X) (i : ℕ) (x : X) → i < length xs → x ≡ get_or xs i x → Fails (map f xs) (done (map f (take i xs)) ++ (f x, false) ∷ [])
 fails_at f [] i x less at = absurd (omega (arith, less))
 fails_at f (y ∷ ys) zero x less at = (ap f at, refl)
 fails_at f (y ∷ ys) (suc i) x less at = (refl, fails_at f ys i x (omega (arith, less)) at)
 
 pub stops : {X T E : Type 0} (f : X → Step) (xs : List X) (i : ℕ) (x : X) (before now after : List Call) (s : Step) (ok : Bool) (r : Result T E)
-    → IsErr r → i < length xs → x ≡ get_or xs i x → now ≡ before ++ done (map f (take i xs)) → after ≡ now ++ (s, ok) ∷ [] → s ≡ f x → ok ≡ false → Takes (map f xs) before after r
+    → IsErr r → i < length xs → x ≡ get_or xs i x → now ≡ before ++ done (map f (take i xs)) → after ≡ now ++ (s, ok) ∷ [] → s ≡ f x → ok ≡ false → Does (map f xs) before after r
 stops f xs i x before now after s ok (Ok it) failed less at was is asked ill = absurd (cc)
 stops f xs i x before now after s ok (Err e) failed less at was is asked ill =
     (done (map f (take i xs)) ++ (f x, false) ∷ [], is ∙ ap (λ (y : Step). now ++ (y, ok) ∷ []) asked ∙ ap (λ (b : Bool). now ++ (f x, b) ∷ []) ill ∙ ap (λ (c : List Call). c ++ (f x, false) ∷ []) was ∙ append_assoc before (done (map f (take i xs))) ((f x, false) ∷ []), fails_at f xs i x less at)
@@ -55,18 +68,18 @@ goes_on f xs i x before now after s ok less at was is asked well =
 -- ---- steps in parts
 
 -- the first of two parts failed
-pub takes_first : {S T D E : Type 0} (a b : List Step) (before after : List Call) (one : Result S D) (r : Result T E)
-    → IsErr one → IsErr r → Takes a before after one → Takes (a ++ b) before after r
-takes_first a b before after (Ok it) r failed fails takes = absurd (cc)
-takes_first a b before after one (Ok it) failed fails takes = absurd (cc)
-takes_first a b before after (Err d) (Err e) failed fails takes = (takes.0, takes.1, begins_more a b takes.0 takes.2)
+pub does_first : {S T D E : Type 0} (a b : List Step) (before after : List Call) (one : Result S D) (r : Result T E)
+    → IsErr one → IsErr r → Does a before after one → Does (a ++ b) before after r
+does_first a b before after (Ok it) r failed fails takes = absurd (cc)
+does_first a b before after one (Ok it) failed fails takes = absurd (cc)
+does_first a b before after (Err d) (Err e) failed fails takes = (takes.0, takes.1, fails_more a b takes.0 takes.2)
 
 -- the first of two parts was done
-pub takes_then : {T D : Type 0} (a b : List Step) (before now after : List Call) (r : Result T D)
-    → now ≡ before ++ done a → Takes b now after r → Takes (a ++ b) before after r
-takes_then a b before now after (Ok x) first second = second ∙ ap (λ (c : List Call). c ++ done b) first ∙ append_assoc before (done a) (done b) ∙ ap (λ (c : List Call). before ++ c) (sym (done_append a b))
-takes_then a b before now after (Err e) first second =
-    (done a ++ second.0, second.1 ∙ ap (λ (c : List Call). c ++ second.0) first ∙ append_assoc before (done a) second.0, begins_after a b second.0 second.2)
+pub does_then : {T D : Type 0} (a b : List Step) (before now after : List Call) (r : Result T D)
+    → now ≡ before ++ done a → Does b now after r → Does (a ++ b) before after r
+does_then a b before now after (Ok x) first second = second ∙ ap (λ (c : List Call). c ++ done b) first ∙ append_assoc before (done a) (done b) ∙ ap (λ (c : List Call). before ++ c) (sym (done_append a b))
+does_then a b before now after (Err e) first second =
+    (done a ++ second.0, second.1 ∙ ap (λ (c : List Call). c ++ second.0) first ∙ append_assoc before (done a) second.0, fails_after a b second.0 second.2)
 
 -- ---- a settling
 
@@ -81,37 +94,46 @@ settling_parts g h xs ys =
     ∙ ap (λ (t : List Step). (map syncing (map g xs) ++ t) ++ map (λ y. naming (h y)) ys) (map_two placing g xs)
     ∙ ap (λ (t : List Step). (map syncing (map g xs) ++ map placing (map g xs)) ++ t) (map_two naming h ys)
 
-takes_as : {T E : Type 0} (a b : List Step) (before after : List Call) (r : Result T E) → a ≡ b → Takes a before after r → Takes b before after r
-takes_as a b before after r same takes = subst (λ (x : List Step). Takes x before after r) same takes
+does_as : {T E : Type 0} (a b : List Step) (before after : List Call) (r : Result T E) → a ≡ b → Does a before after r → Does b before after r
+does_as a b before after r same takes = subst (λ (x : List Step). Does x before after r) same takes
 
 pub sync_stops : {X Y S T D E : Type 0} (g : X → Move) (h : Y → Path) (xs : List X) (ys : List Y) (before after : List Call) (one : Result S D) (r : Result T E)
-    → IsErr one → IsErr r → Takes (map (λ x. syncing (g x)) xs) before after one → Takes (settling (map g xs) (map h ys)) before after r
+    → IsErr one → IsErr r → Does (map (λ x. syncing (g x)) xs) before after one → Does (settling (map g xs) (map h ys)) before after r
 sync_stops g h xs ys before after one r failed fails takes =
     let a : List Step = map (λ x. syncing (g x)) xs in
     let b : List Step = map (λ x. placing (g x)) xs in
     let c : List Step = map (λ y. naming (h y)) ys in
-    takes_as ((a ++ b) ++ c) (settling (map g xs) (map h ys)) before after r (settling_parts g h xs ys)
-    (takes_first (a ++ b) c before after r r fails fails (takes_first a b before after one r failed fails takes))
+    does_as ((a ++ b) ++ c) (settling (map g xs) (map h ys)) before after r (settling_parts g h xs ys)
+    (does_first (a ++ b) c before after r r fails fails (does_first a b before after one r failed fails takes))
 
 pub place_stops : {X Y S T D E : Type 0} (g : X → Move) (h : Y → Path) (xs : List X) (ys : List Y) (before now after : List Call) (one : Result S D) (r : Result T E)
-    → IsErr one → IsErr r → now ≡ before ++ done (map (λ x. syncing (g x)) xs) → Takes (map (λ x. placing (g x)) xs) now after one → Takes (settling (map g xs) (map h ys)) before after r
+    → IsErr one → IsErr r → now ≡ before ++ done (map (λ x. syncing (g x)) xs) → Does (map (λ x. placing (g x)) xs) now after one → Does (settling (map g xs) (map h ys)) before after r
 place_stops g h xs ys before now after one r failed fails first takes =
     let a : List Step = map (λ x. syncing (g x)) xs in
     let b : List Step = map (λ x. placing (g x)) xs in
     let c : List Step = map (λ y. naming (h y)) ys in
-    takes_as ((a ++ b) ++ c) (settling (map g xs) (map h ys)) before after r (settling_parts g h xs ys)
-    (takes_first (a ++ b) c before after one r failed fails (takes_then a b before now after one first takes))
+    does_as ((a ++ b) ++ c) (settling (map g xs) (map h ys)) before after r (settling_parts g h xs ys)
+    (does_first (a ++ b) c before after one r failed fails (does_then a b before now after one first takes))
 
 pub all_taken : {X Y T E : Type 0} (g : X → Move) (h : Y → Path) (xs : List X) (ys : List Y) (before first second after : List Call) (r : Result T E)
-    → first ≡ before ++ done (map (λ x. syncing (g x)) xs) → second ≡ first ++ done (map (λ x. placing (g x)) xs) → Takes (map (λ y. naming (h y)) ys) second after r
-    → Takes (settling (map g xs) (map h ys)) before after r
+    → first ≡ before ++ done (map (λ x. syncing (g x)) xs) → second ≡ first ++ done (map (λ x. placing (g x)) xs) → Does (map (λ y. naming (h y)) ys) second after r
+    → Does (settling (map g xs) (map h ys)) before after r
 all_taken g h xs ys before first second after r one two takes =
     let a : List Step = map (λ x. syncing (g x)) xs in
     let b : List Step = map (λ x. placing (g x)) xs in
     let c : List Step = map (λ y. naming (h y)) ys in
     let both : second ≡ before ++ done (a ++ b) =
     two ∙ ap (λ (x : List Call). x ++ done b) one ∙ append_assoc before (done a) (done b) ∙ ap (λ (x : List Call). before ++ x) (sym (done_append a b)) in
-    takes_as ((a ++ b) ++ c) (settling (map g xs) (map h ys)) before after r (settling_parts g h xs ys) (takes_then (a ++ b) c before second after r both takes)
+    does_as ((a ++ b) ++ c) (settling (map g xs) (map h ys)) before after r (settling_parts g h xs ys) (does_then (a ++ b) c before second after r both takes)
+
+pub does_takes : {S T D E : Type 0} (steps : List Step) (before after : List Call) (one : Result S D) (r : Result T E) → IsErr one → IsErr r → Does steps before after one → Takes steps before after r
+does_takes steps before after (Ok it) r failed fails does = absurd (cc)
+does_takes steps before after one (Ok it) failed fails does = absurd (cc)
+does_takes steps before after (Err d) (Err e) failed fails does = inr does
+
+pub does_last : {T E : Type 0} (a b : List Step) (before now after : List Call) (r : Result T E) → now ≡ before ++ done a → Does b now after r → Takes (a ++ b) before after r
+does_last {T} {E} a b before now after (Ok it) first does = does_then {T = T} {D = E} a b before now after (Ok it) first does
+does_last {T} {E} a b before now after (Err e) first does = inr (does_then {T = T} {D = E} a b before now after (Err e) first does)
 
 -- ---- a file of lines
 
@@ -126,8 +148,24 @@ append_failed path bytes before after (Err e) failed is =
     ((step.Append path bytes, false) ∷ [], is, (length bytes, (ap (λ (b : Bytes). step.Append path b) (sym (take-length bytes)), refl)))
 
 pub open_failed : {L T D E : Type 0} (path : Path) (before after : List Call) (one : Result T D) (r : Result (Vec ℕ × L) E)
-    → IsErr one → IsErr r → Takes (step.Create path ∷ []) before after one → OpensLines path before after r
+    → IsErr one → IsErr r → Begun (step.Create path ∷ []) before after one → OpensLines path before after r
 open_failed path before after (Ok it) r failed fails takes = absurd (cc)
 open_failed path before after one (Ok it) failed fails takes = absurd (cc)
 open_failed path before after (Err d) (Err e) failed fails takes =
     (takes.0, takes.1, (0, begins_more (step.Create path ∷ []) (step.Cut path 0 ∷ step.Sync path ∷ naming_in (folder_of path)) takes.0 takes.2))
+
+-- all was done but to have the name outlast a crash
+pub open_unnamed : {L T D E : Type 0} (path : Path) (count : ℕ) (before first second third after : List Call) (cut_ok sync_ok : Bool) (one : Result T D) (r : Result (Vec ℕ × L) E)
+    → IsErr one → IsErr r → first ≡ before ++ (step.Create path, true) ∷ [] → second ≡ first ++ (step.Cut path count, cut_ok) ∷ [] → cut_ok ≡ true
+    → third ≡ second ++ (step.Sync path, sync_ok) ∷ [] → sync_ok ≡ true → Does (naming_in (folder_of path)) third after one → OpensLines path before after r
+open_unnamed path count before first second third after cut_ok sync_ok (Ok it) r failed fails one two cut three sync does = absurd (cc)
+open_unnamed path count before first second third after cut_ok sync_ok one (Ok it) failed fails a b cut c sync does = absurd (cc)
+open_unnamed path count before first second third after cut_ok sync_ok (Err d) (Err e) failed fails one two cut three sync does =
+    let steps : List Step = step.Create path ∷ step.Cut path count ∷ step.Sync path ∷ [] in
+    let both : second ≡ before ++ ((step.Create path, true) ∷ [] ++ (step.Cut path count, true) ∷ []) =
+    two ∙ ap (λ (b : Bool). first ++ (step.Cut path count, b) ∷ []) cut ∙ ap (λ (c : List Call). c ++ (step.Cut path count, true) ∷ []) one ∙ append_assoc before ((step.Create path, true) ∷ []) ((step.Cut path count, true) ∷ []) in
+    let all : third ≡ before ++ done steps =
+    three ∙ ap (λ (b : Bool). second ++ (step.Sync path, b) ∷ []) sync ∙ ap (λ (c : List Call). c ++ (step.Sync path, true) ∷ []) both
+    ∙ append_assoc before ((step.Create path, true) ∷ (step.Cut path count, true) ∷ []) ((step.Sync path, true) ∷ []) in
+    let it = does_then {T = Unit {0}} {D = Unit {0}} steps (naming_in (folder_of path)) before third after (Err tt) all does in
+    (it.0, it.1, (count, fails_begins (steps ++ naming_in (folder_of path)) it.0 it.2))

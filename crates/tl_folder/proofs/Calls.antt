@@ -6,7 +6,7 @@ use Rattle.tl_archive.specs.Shelves.{Kept, Stages, Unstages, Settles}
 use Rattle.tl_folder.specs.declared.call_outcome.CallOutcome.TheVariants as call
 use Rattle.tl_folder.specs.Events.{Event}
 use Rattle.tl_folder.specs.Step.{Path}
-use Rattle.tl_folder.specs.FileCalls.{Call, Begins, done}
+use Rattle.tl_folder.specs.FileCalls.{Call, Fails, done}
 use Rattle.tl_folder.specs.Settling.{Move, AreCovered, settling}
 use Rattle.tl_folder.specs.Folders.{Reached, Calls, put, after_call, after_calls, after_each}
 use Rattle.tl_folder.proofs.Puts.{put_between, put_there}
@@ -105,7 +105,7 @@ settled_calls events failures root moves made shown folders after is covered tak
 
 pub cut_calls : (events : List Event) (failures : ℕ) (root : Path) (moves : List Move) (made : List Call) (shown : Calls) (folders : List Path) (after : List Call)
     → ◌≡◌ {A = Calls} (record { events = events; failures = failures; root = root; moves = moves; made = made }) shown
-    → AreCovered root folders moves → ((some : List Call) × (after ≡ made ++ some) × Begins (settling moves folders) some)
-    → (them : List Path) × AreCovered shown.root them shown.moves × ((some : List Call) × (after ≡ shown.made ++ some) × Begins (settling shown.moves them) some)
+    → AreCovered root folders moves → (after ≡ made) ⊎ ((some : List Call) × (after ≡ made ++ some) × Fails (settling moves folders) some)
+    → (them : List Path) × AreCovered shown.root them shown.moves × ((after ≡ shown.made) ⊎ ((some : List Call) × (after ≡ shown.made ++ some) × Fails (settling shown.moves them) some))
 cut_calls events failures root moves made shown folders after is covered takes =
-    subst (λ (x : Calls). (them : List Path) × AreCovered x.root them x.moves × ((some : List Call) × (after ≡ x.made ++ some) × Begins (settling x.moves them) some)) is (folders, covered, takes)
+    subst (λ (x : Calls). (them : List Path) × AreCovered x.root them x.moves × ((after ≡ x.made) ⊎ ((some : List Call) × (after ≡ x.made ++ some) × Fails (settling x.moves them) some))) is (folders, covered, takes)

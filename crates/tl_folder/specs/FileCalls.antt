@@ -1,5 +1,5 @@
 -- The calls of the system by which a folder is kept.
-use Rattle.std.specs.Prelude.{◌≡◌, Bool, true, false, List, [], ◌∷◌, ◌++◌, Result, Ok, Err}
+use Rattle.std.specs.Prelude.{◌≡◌, ◌⊎◌, Bool, true, false, List, [], ◌∷◌, ◌++◌, Result, Ok, Err}
 use Rattle.tl_folder.specs.Step.{Step}
 
 -- what was asked of the system, and whether it said that it was done
@@ -22,7 +22,23 @@ Begins steps [] = Unit {0}
 Begins [] (call ∷ more) = ⊥
 Begins (step ∷ steps) (call ∷ more) = IsCallOf step call (Begins steps more) more
 
--- Ok: these calls more were made, all of them done. Err: a beginning of them.
+-- the calls are the first of these steps, in order; the last of the calls failed, and those before it were done
+abbrev pub Fails : List Step → List Call → Type 0
+Fails steps [] = ⊥
+Fails [] (call ∷ more) = ⊥
+Fails (step ∷ steps) (call ∷ more) = IsCallOf step call (Fails steps more) more
+
+-- Ok: these calls more were made, all of them done. Err: one of them failed, and those before it were done.
+abbrev pub Does : {T E : Type 0} → List Step → List Call → List Call → Result T E → Type 0
+Does steps before after (Ok it) = after ≡ before ++ done steps
+Does steps before after (Err fault) = (made : List Call) × (after ≡ before ++ made) × Fails steps made
+
+-- the same, and Err also where none of them was made
 abbrev pub Takes : {T E : Type 0} → List Step → List Call → List Call → Result T E → Type 0
 Takes steps before after (Ok it) = after ≡ before ++ done steps
-Takes steps before after (Err fault) = (made : List Call) × (after ≡ before ++ made) × Begins steps made
+Takes steps before after (Err fault) = (after ≡ before) ⊎ ((made : List Call) × (after ≡ before ++ made) × Fails steps made)
+
+-- Ok: these calls more were made, all of them done. Err: a beginning of them.
+abbrev pub Begun : {T E : Type 0} → List Step → List Call → List Call → Result T E → Type 0
+Begun steps before after (Ok it) = after ≡ before ++ done steps
+Begun steps before after (Err fault) = (made : List Call) × (after ≡ before ++ made) × Begins steps made

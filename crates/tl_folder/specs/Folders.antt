@@ -69,7 +69,7 @@ abbrev pub traced_by : Held → Reached → Calls → List Kept
 traced_by held reached calls = after_each reached 0 calls.events (at_first held)
 
 -- All files that are staged were put in their places, and the names in each folder above a place, up to that of the
--- folder, were synced. Err: a beginning of the calls for that was made.
+-- folder, were synced. Err: none of the calls for that was made, or one of them failed.
 abbrev pub SettlesFiles : {T E : Type 0} → Calls → List Call → Result T E → Type 0
 SettlesFiles folder after result =
     (folders : List Path) × AreCovered folder.root folders folder.moves × Takes (settling folder.moves folders) folder.made after result

@@ -3,7 +3,7 @@
 ghost use Rattle.std.specs.Prelude.{◌≡◌, [], ◌∷◌, ◌++◌, map, string_bytes, vec_items, IfOk, OnOk, OnErr};
 ghost use Rattle.tl_tile.specs.Path.{IsResource};
 ghost use Rattle.tl_folder.specs.Step as step;
-ghost use Rattle.tl_folder.specs.FileCalls.{Takes, done};
+ghost use Rattle.tl_folder.specs.FileCalls.{Does, Takes, done};
 ghost use Rattle.tl_folder.specs.Posix.{folder_of};
 ghost use Rattle.tl_folder.specs.Settling.{AreCovered, WritesAside, new_path, move_to, settling, naming_in};
 ghost use Rattle.tl_folder.specs.Places.{place_of};
@@ -41,7 +41,7 @@ pub(crate) struct FolderFiles<C> {
 
 /// Has the name of a file or folder at this path outlast a crash.
 pub(crate) fn sync_parent<C: FileCalls>(calls: &mut C, path: &str) -> Result<(), DeviceFault>
-    ensures { Takes (naming_in (folder_of path.now))
+    ensures { Does (naming_in (folder_of path.now))
         (C.calls calls.old) (C.calls calls.new) result }
 {
     match folder_of(path) {

@@ -5,7 +5,7 @@
 
 ghost use Rattle.std.specs.Prelude.{[], ◌∷◌, IsOk, OnOk};
 ghost use Rattle.tl_folder.specs.Step as step;
-ghost use Rattle.tl_folder.specs.FileCalls.{Takes};
+ghost use Rattle.tl_folder.specs.FileCalls.{Begun};
 
 use crate::file_calls::FileCalls;
 use crate::file_id::FileId;
@@ -30,7 +30,7 @@ impl LockedFile {
         how: &OpenOptions,
         path: &str,
     ) -> Result<LockedFile, DeviceFault>
-        ensures { Takes (step.Create path.now ∷ []) (C.calls calls.old) (C.calls calls.new) result }
+        ensures { Begun (step.Create path.now ∷ []) (C.calls calls.old) (C.calls calls.new) result }
     {
         check_plain(calls.symlink_metadata(path))?;
         let file = calls.create(how, path)?;
@@ -75,7 +75,7 @@ fn lock_by<C: FileCalls<File = OpenedFile<File>>>(
     calls: &mut C,
     path: &str,
 ) -> Result<FolderLock, DeviceFault>
-    ensures { Takes (step.MakeFolder path.now ∷ []) (C.calls calls.old) (C.calls calls.new) result }
+    ensures { Begun (step.MakeFolder path.now ∷ []) (C.calls calls.old) (C.calls calls.new) result }
 {
     calls.make_folder(path)?;
     let folder = calls.open_folder(path)?;

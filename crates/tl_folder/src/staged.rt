@@ -1,7 +1,7 @@
 //! Files that are written beside their places, and how they are put there together.
 
 ghost use Rattle.std.specs.Prelude.{map, string_bytes, ◌++◌};
-ghost use Rattle.tl_folder.specs.FileCalls.{Takes};
+ghost use Rattle.tl_folder.specs.FileCalls.{Does};
 ghost use Rattle.tl_folder.specs.Settling.{syncing, placing, naming, settling, WritesAside};
 ghost use Rattle.tl_folder.specs.Inner.Staged.{move_of};
 
@@ -19,7 +19,7 @@ pub(crate) struct Staged {
 
 // Has what each of the files has outlast a crash.
 fn sync_staged<C: FileCalls>(calls: &mut C, staged: &[Staged]) -> Result<(), DeviceFault>
-    ensures { Takes (map (λ file. syncing (move_of file)) staged.now)
+    ensures { Does (map (λ file. syncing (move_of file)) staged.now)
         (C.calls calls.old) (C.calls calls.new) result }
 {
     for file in staged {
@@ -30,7 +30,7 @@ fn sync_staged<C: FileCalls>(calls: &mut C, staged: &[Staged]) -> Result<(), Dev
 
 // Puts each of the files in its place.
 fn place_staged<C: FileCalls>(calls: &mut C, staged: &[Staged]) -> Result<(), DeviceFault>
-    ensures { Takes (map (λ file. placing (move_of file)) staged.now)
+    ensures { Does (map (λ file. placing (move_of file)) staged.now)
         (C.calls calls.old) (C.calls calls.new) result }
 {
     for file in staged {
@@ -41,7 +41,7 @@ fn place_staged<C: FileCalls>(calls: &mut C, staged: &[Staged]) -> Result<(), De
 
 // Has the names in each of the folders outlast a crash.
 fn sync_folders<C: FileCalls>(calls: &mut C, folders: &[String]) -> Result<(), DeviceFault>
-    ensures { Takes (map (λ folder. naming (string_bytes folder)) folders.now)
+    ensures { Does (map (λ folder. naming (string_bytes folder)) folders.now)
         (C.calls calls.old) (C.calls calls.new) result }
 {
     for folder in folders {
@@ -56,7 +56,7 @@ pub(crate) fn put_staged<C: FileCalls>(
     staged: &[Staged],
     folders: &[String],
 ) -> Result<(), DeviceFault>
-    ensures { Takes (settling (map move_of staged.now) (map string_bytes folders.now))
+    ensures { Does (settling (map move_of staged.now) (map string_bytes folders.now))
         (C.calls calls.old) (C.calls calls.new) result }
 {
     sync_staged(calls, staged)?;
