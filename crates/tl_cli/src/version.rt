@@ -9,7 +9,7 @@ use tl_device::Counted;
 
 // The program's version, and the kit that it is proved with. The formats that it reads and writes have versions of
 // their own.
-const LINE: &[u8] = b"tlog 0.1.0 (proved with rattle-kit-13b logic dac8208d650f15bf)\n";
+const LINE: &[u8] = b"tlog 0.1.0 (proved with rattle-kit-13f logic dac8208d650f15bf)\n";
 
 /// Prints the program's version and the kit that it is proved with, in a line.
 pub(crate) fn print_version<W: Write>(writer: &mut Counted<W>) -> Result<(), RunFault>
