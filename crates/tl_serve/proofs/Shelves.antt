@@ -8,7 +8,6 @@ use Rattle.sha2.specs.Sha256.{sha256}
 use Rattle.tl_hash.specs.Bytes.{Bytes}
 use Rattle.tl_note.specs.Key.{IsKeyName, Key}
 use Rattle.tl_sequencer.specs.Intake.{Intake}
-use Rattle.tl_sequencer.specs.Log.{entries_of}
 use Rattle.tl_archive.specs.Shelves.{Kept}
 use Rattle.tl_ledger.specs.Standing.{Ledger}
 use Rattle.tl_ledger.specs.Opening.{Found, Opens}
@@ -171,17 +170,11 @@ module _ (key : LogKey) (keys : List Key) (found : Found) (a b : Kept) (saw sees
   pub serves_whole : IsClosed i due → ServesWhole first.key found (between first.kept b first.saw sees)
   serves_whole closed =
       let all : serving.rest ≡ [] = serving.all closed.none_due in
-      let none : i.waiting ≡ [] = serving.none closed.none_due in
       subst (λ (x : Begun). Opens sha256 keys found x.was → ServesWhole x.key found (between x.kept b x.saw sees)) (begun_one _ _ begun)
       (λ own. record {
         batches = serving.batches;
         grows = subst (λ (r : List Bytes). OfFound found a (Grows key serving.batches r (between a b saw sees))) all
             (grows_then key keys found a b saw sees was is own serving.batches serving.rest serving.appends);
-        lanes = i.log;
-        complete = closed.complete;
-        merge = closed.merge;
-        given = sym (append-nil (joined serving.batches)) ∙ sym (ap (λ (r : List Bytes). joined serving.batches ++ r) all) ∙ serving.own
-            ∙ sym (closed.given ∙ ap (λ (w : List Bytes). i.drained ++ w) none ∙ append-nil i.drained);
       })
       opens
 
