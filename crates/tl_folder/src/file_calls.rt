@@ -37,7 +37,8 @@ pub(crate) trait FileCalls {
         ensures { calls self.new
             ≡ calls self.old ++ (step.SyncFolder path.now, is_ok result) ∷ [] };
 
-    /// Makes the folder at the path, and those above it, where they aren't there.
+    /// Makes the folder at the path, and those above it, where they aren't there; the names of those that were made then
+    /// outlast a crash.
     fn make_folder(&mut self, path: &str) -> Result<(), DeviceFault>
         ensures { calls self.new
             ≡ calls self.old ++ (step.MakeFolder path.now, is_ok result) ∷ [] };
