@@ -60,6 +60,7 @@ device_status device.Taken = 1
 device_status device.Busy = 1
 device_status device.TooLarge = 1
 device_status device.Damaged = 1
+device_status device.Older = 1
 device_status device.OutOfMemory = 1
 device_status _ = 3
 

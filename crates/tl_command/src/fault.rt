@@ -150,6 +150,7 @@ fn exit_of_device(fault: &DeviceFault) -> u8
         | DeviceFault::Busy
         | DeviceFault::TooLarge
         | DeviceFault::Damaged
+        | DeviceFault::Older
         | DeviceFault::OutOfMemory => 1,
         _ => 3,
     }

@@ -5,7 +5,7 @@ use Rattle.std.specs.declared.io.ErrorKind.TheVariants as kind
 use Rattle.tl_device.specs.declared.counted.InputFault.{InputFault}
 use Rattle.tl_device.specs.declared.counted.InputFault.TheVariants as input
 use Rattle.tl_device.specs.declared.fault.DeviceFault.{DeviceFault}
-use Rattle.tl_device.specs.declared.fault.DeviceFault.TheVariants.{NotThere, Taken, Denied, ReadOnly, Full, NotPlain, NotFolder, Moved, Busy, TooLarge, Damaged, NoHost, NoConnection, Unreachable, TimedOut, Broken, Status, NotHttp, Encoded, BadLength, BadChunk, CutShort, OutOfMemory, System}
+use Rattle.tl_device.specs.declared.fault.DeviceFault.TheVariants.{NotThere, Taken, Denied, ReadOnly, Full, NotPlain, NotFolder, Moved, Busy, TooLarge, Damaged, Older, NoHost, NoConnection, Unreachable, TimedOut, Broken, Status, NotHttp, Encoded, BadLength, BadChunk, CutShort, OutOfMemory, System}
 
 -- what an error of this kind is told as
 abbrev pub after_kind : ErrorKind → DeviceFault
@@ -48,6 +48,7 @@ device_words Moved = codes "no longer at its path"
 device_words Busy = codes "in use"
 device_words TooLarge = codes "too large"
 device_words Damaged = codes "damaged"
+device_words Older = codes "older than one that was there"
 device_words NoHost = codes "no such host"
 device_words NoConnection = codes "connection refused"
 device_words Unreachable = codes "unreachable"

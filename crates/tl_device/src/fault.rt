@@ -36,6 +36,8 @@ pub enum DeviceFault {
     TooLarge,
     /// The bytes that are there aren't those that belong there.
     Damaged,
+    /// One that came later was there before.
+    Older,
     /// The name of the host can't be looked up.
     NoHost,
     /// Nobody listens at the address.
@@ -138,6 +140,7 @@ impl Display for DeviceFault {
             DeviceFault::Busy => f.write_str("in use"),
             DeviceFault::TooLarge => f.write_str("too large"),
             DeviceFault::Damaged => f.write_str("damaged"),
+            DeviceFault::Older => f.write_str("older than one that was there"),
             DeviceFault::NoHost => f.write_str("no such host"),
             DeviceFault::NoConnection => f.write_str("connection refused"),
             DeviceFault::Unreachable => f.write_str("unreachable"),

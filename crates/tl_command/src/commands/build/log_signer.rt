@@ -4,7 +4,7 @@ ghost use Rattle.std.specs.Prelude.{◌≡◌};
 
 use std::alloc::{AllocError, Allocator, Global};
 use std::marker::Model;
-use tl_key::{Note, SignerKey, demo_key};
+use tl_key::{DemoKey, Note, SignerKey, demo_key};
 use tl_note::{Signer, write_signature_line};
 
 /// The key of a log: its name is the log's, and it has one signature of each message.
@@ -74,10 +74,30 @@ impl<'a> LogSigner for HmacLogSigner<'a> {
         let Ok(key) = demo_key(global, self.origin, self.secret) else {
             return Err(AllocError);
         };
-        let Ok(signature) = key.sign(global, text.as_bytes()) else {
+        key.line(alloc, global, text)
+    }
+}
+
+impl<B: Allocator + Send + Sync> LogSigner for DemoKey<B> {
+    ghost use Rattle.tl_command.specs.Mirror.{demo_log_key};
+
+    ghost log_key = { λ k. demo_log_key k };
+
+    fn origin(&self) -> &str {
+        Signer::name(self)
+    }
+
+    fn line<A: Allocator + Copy>(
+        &self,
+        alloc: A,
+        global: Global,
+        text: &str,
+    ) -> Result<String<A>, AllocError> {
+        let Ok(signature) = self.sign(global, text.as_bytes()) else {
             return Err(AllocError);
         };
-        write_signature_line(alloc, self.origin, key.key_id(), signature.as_slice())
+        let (name, id) = (Signer::name(self), Signer::key_id(self));
+        write_signature_line(alloc, name, id, signature.as_slice())
     }
 }
 
