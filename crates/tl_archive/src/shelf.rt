@@ -5,10 +5,14 @@ use std::alloc::Allocator;
 use tl_tile::Resource;
 
 /// Who keeps bytes by resource. Bytes are staged first, and come under their resources together when the shelf settles.
-/// Contracts see what is there and what is staged, now and after each call so far, and how often a call failed.
+/// Beside them it has a mark: how many entries were published. Contracts see what is there and what is staged, now and
+/// after each call so far, how often a call failed, and where the shelf is.
 pub trait Shelf {
-    ghost use Rattle.std.specs.Prelude.{◌≡◌, ℕ, Bool, true, List, [], ◌∷◌, ◌++◌, OnOk, OnErr, IfOk, option_map, vec_items};
+    ghost use Rattle.std.specs.Prelude.{◌≡◌, ℕ, Bool, true, List, [], ◌∷◌, ◌++◌, OnOk, OnErr, IfOk, IfErr, Option, Some, option_map, vec_items};
+    ghost use Rattle.tl_hash.specs.Bytes.{Bytes};
     ghost use Rattle.tl_tile.specs.Path.{IsResource};
+    ghost use Rattle.tl_tile.specs.declared.resource.Resource.{Resource};
+    ghost use Rattle.tl_archive.specs.declared.fault.ShelfFault.{ShelfFault};
     ghost use Rattle.tl_archive.specs.Shelves.{Kept, Stages, Unstages, Settles, Fails};
 
     /// What is there, and what is staged.
@@ -19,6 +23,15 @@ pub trait Shelf {
 
     /// How many calls failed.
     ghost faults: { Self → ℕ };
+
+    /// Where it is, as who opened it said. No call changes that.
+    ghost place: { Self → Bytes };
+
+    /// How many entries were marked as published, last.
+    ghost published: { Self → Option ℕ };
+
+    /// Why a read of a resource may fail.
+    ghost may_fail: { Self → Resource → ShelfFault → Type 0 };
 
     /// Whether what is read is what is there, as far as contracts can tell: no file of a system states that.
     ghost is_honest: { Bool };
@@ -31,7 +44,9 @@ pub trait Shelf {
         ensures unstaged { OnErr result (kept self.new ≡ kept self.old) }
         ensures unfailed { OnOk result (faults self.new ≡ faults self.old) }
         ensures failed { OnErr result (Fails (faults self.old) (faults self.new)) }
-        ensures trace { trace self.new ≡ trace self.old ++ kept self.new ∷ [] };
+        ensures trace { trace self.new ≡ trace self.old ++ kept self.new ∷ [] }
+        ensures place { place self.new ≡ place self.old }
+        ensures mark { published self.new ≡ published self.old };
 
     /// Puts all that is staged under its resources, so that it outlasts a crash: each resource has its old bytes up to
     /// some moment, and then the new ones. At a failure a part of it is there, and the rest is no longer staged.
@@ -40,7 +55,23 @@ pub trait Shelf {
         ensures settled { OnOk result (Settles (kept self.old) (kept self.new)) }
         ensures unfailed { OnOk result (faults self.new ≡ faults self.old) }
         ensures failed { OnErr result (Fails (faults self.old) (faults self.new)) }
-        ensures trace { trace self.new ≡ trace self.old ++ kept self.new ∷ [] };
+        ensures trace { trace self.new ≡ trace self.old ++ kept self.new ∷ [] }
+        ensures place { place self.new ≡ place self.old }
+        ensures mark { published self.new ≡ published self.old };
+
+    /// Marks that a checkpoint of so many entries was published. It isn't waited for: a crash may leave an older mark,
+    /// or none.
+    fn mark_published(&mut self, size: u64) -> Result<(), ShelfFault>
+        ensures kept { kept self.new ≡ kept self.old }
+        ensures marked { OnOk result (published self.new ≡ Some size) }
+        ensures unfailed { OnOk result (faults self.new ≡ faults self.old) }
+        ensures failed { OnErr result (Fails (faults self.old) (faults self.new)) }
+        ensures trace { trace self.new ≡ trace self.old ++ kept self.new ∷ [] }
+        ensures place { place self.new ≡ place self.old };
+
+    /// How many entries were marked, `None` where no mark is there. A shelf that isn't honest may answer anything.
+    fn read_mark(&self) -> Result<Option<u64>, ShelfFault>
+        ensures { is_honest ≡ true → IfOk result (λ found. found ≡ published self.now) };
 
     /// The bytes that are there under the resource, `None` where there are none. A shelf that isn't honest may answer
     /// anything.
@@ -50,6 +81,7 @@ pub trait Shelf {
         resource: &Resource,
     ) -> Result<Option<Vec<u8, A>>, ShelfFault>
         requires { IsResource resource.now }
-        ensures { is_honest ≡ true → IfOk result
-            (λ found. option_map vec_items found ≡ (kept self.now).held resource.now) };
+        ensures found { is_honest ≡ true → IfOk result
+            (λ found. option_map vec_items found ≡ (kept self.now).held resource.now) }
+        ensures failed { IfErr result (may_fail self.now resource.now) };
 }

@@ -49,6 +49,7 @@ use Rattle.tl_checkpoint.specs.declared.opening.OpenCheckpointFault.{OpenCheckpo
 use Rattle.tl_checkpoint.specs.declared.opening.OpenCheckpointFault.TheVariants as unopened
 use Rattle.tl_client.proofs.Blamed.{tile_has_path}
 use Rattle.tl_archive.specs.Shelves.{Held, Item}
+use Rattle.tl_archive.specs.declared.fault.ShelfFault.{ShelfFault}
 use Rattle.tl_ledger.specs.Inner.Putting.{IsPartial}
 use Rattle.tl_ledger.specs.Inner.Reads.{AreHeld, AreThere, HasBundle, HasItem, HasLevel, HasLevels, HasPartials, IsBundleRead, LacksItem, ReadsOn, items_of}
 use Rattle.tl_ledger.specs.Standing.{Ledger, IsStanding}
@@ -207,14 +208,14 @@ refused_any A note keys (unopened.NoCheckpoint fault) is = (
 )
 refused_any A note keys unopened.OutOfMemory is = is
 
-pub unstated : (A : Type 0) (honest : Bool) (held : Held) (keys : List Key) (note : Bytes) (f : OpenFault) → (honest ≡ true → held resource.Checkpoint ≡ Some note)
-    → StatesNone A note keys f → FindsNone honest held keys f
-unstated A honest held keys note opening.Checkpoint there (why, known, is) = (note, there, inr (why, known, refused_any A note keys why is))
-unstated A honest held keys note opening.TooLarge there states = (note, there, states)
-unstated A honest held keys note (opening.Missing r) there none = absurd none
-unstated A honest held keys note (opening.Damaged r) there none = absurd none
-unstated A honest held keys note (opening.Shelf fault) there none = absurd none
-unstated A honest held keys note opening.OutOfMemory there is = tt
+pub unstated : (A : Type 0) (honest : Bool) (held : Held) (may_fail : Resource → ShelfFault → Type 0) (keys : List Key) (note : Bytes) (f : OpenFault) → (honest ≡ true → held resource.Checkpoint ≡ Some note)
+    → StatesNone A note keys f → FindsNone honest held may_fail keys f
+unstated A honest held may_fail keys note opening.Checkpoint there (why, known, is) = (note, there, inr (why, known, refused_any A note keys why is))
+unstated A honest held may_fail keys note opening.TooLarge there states = (note, there, states)
+unstated A honest held may_fail keys note (opening.Missing r) there none = absurd none
+unstated A honest held may_fail keys note (opening.Damaged r) there none = absurd none
+unstated A honest held may_fail keys note (opening.Shelf fault) there none = absurd none
+unstated A honest held may_fail keys note opening.OutOfMemory there is = tt
 
 -- ---- reading
 
@@ -392,13 +393,13 @@ has_signed honest held keys stated head found Holds is own_is signed there holds
   holds = holds;
 }
 
-pub part_failed : (honest : Bool) (held : Held) (keys : List Key) (items : List Item) (stated : Option Head) (head : Head) (found : Found) (fault : OpenFault) → AreHeld honest held items → found.head ≡ Some head → stated ≡ Some head
-    → IsOfSigned keys stated → (honest ≡ true → IsOfHeld held keys stated) → PartFails (λ r text. Contains items (r, text)) head found.edge_tiles found.entry_tiles fault → OpenFails honest held keys found fault
-part_failed honest held keys items stated head found opening.Checkpoint read is own_is signed there none = absurd none
-part_failed honest held keys items stated head found opening.TooLarge read is own_is signed there none = absurd none
-part_failed honest held keys items stated head found (opening.Missing r) read is own_is signed there none = absurd none
-part_failed honest held keys items stated head found (opening.Damaged r) read is own_is signed there damaged =
+pub part_failed : (honest : Bool) (held : Held) (may_fail : Resource → ShelfFault → Type 0) (keys : List Key) (items : List Item) (stated : Option Head) (head : Head) (found : Found) (fault : OpenFault) → AreHeld honest held items → found.head ≡ Some head → stated ≡ Some head
+    → IsOfSigned keys stated → (honest ≡ true → IsOfHeld held keys stated) → PartFails (λ r text. Contains items (r, text)) head found.edge_tiles found.entry_tiles fault → OpenFails honest held may_fail keys found fault
+part_failed honest held may_fail keys items stated head found opening.Checkpoint read is own_is signed there none = absurd none
+part_failed honest held may_fail keys items stated head found opening.TooLarge read is own_is signed there none = absurd none
+part_failed honest held may_fail keys items stated head found (opening.Missing r) read is own_is signed there none = absurd none
+part_failed honest held may_fail keys items stated head found (opening.Damaged r) read is own_is signed there damaged =
     has_signed honest held keys stated head found (λ head. IsDamaged (MayRead honest held) head found.edge_tiles found.entry_tiles r) is own_is signed there
     (more_damage (λ r text. Contains items (r, text)) (MayRead honest held) head found.edge_tiles found.entry_tiles r (λ q text has own. read own q text has) damaged)
-part_failed honest held keys items stated head found (opening.Shelf fault) read is own_is signed there none = absurd none
-part_failed honest held keys items stated head found opening.OutOfMemory read is own_is signed there memory = tt
+part_failed honest held may_fail keys items stated head found (opening.Shelf fault) read is own_is signed there none = absurd none
+part_failed honest held may_fail keys items stated head found opening.OutOfMemory read is own_is signed there memory = tt

@@ -20,6 +20,7 @@ use Rattle.tl_client.specs.Blame.{AnswersNoBundle}
 use Rattle.tl_client.specs.Checked.{AreCheckedEntries}
 use Rattle.tl_client.specs.Refused.{AnswersOtherEntry, BundleRead}
 use Rattle.tl_archive.specs.Shelves.{Held}
+use Rattle.tl_archive.specs.declared.fault.ShelfFault.{ShelfFault}
 use Rattle.tl_ledger.specs.Opening.{Found, IsOfHeld, IsOfSigned}
 use Rattle.tl_ledger.specs.declared.opened.fault.OpenFault.{OpenFault}
 use Rattle.tl_ledger.specs.declared.opened.fault.OpenFault.TheVariants as opening
@@ -27,6 +28,10 @@ use Rattle.tl_ledger.specs.declared.opened.fault.OpenFault.TheVariants as openin
 -- which bytes a shelf may answer for a resource: where it is honest, those that are there
 abbrev pub MayRead : Bool → Held → Resource → Bytes → Type 0
 MayRead honest held r text = honest ≡ true → held r ≡ Some text
+
+-- a read of some resource may fail so
+abbrev pub FailsRead : (Resource → ShelfFault → Type 0) → ShelfFault → Type 0
+FailsRead may_fail fault = (r : Resource) × may_fail r fault
 
 -- a log of this size needs the resource, which isn't there, where the shelf is honest
 pub record IsMissing (honest : Bool) (held : Held) (size : ℕ) (r : Resource) : Type 0 where
@@ -88,12 +93,12 @@ abbrev pub StatesTooMany : List Key → Bytes → Type 0
 StatesTooMany keys note = (size : ℕ) × StatesSize note keys size × (2 ^ 32 ≤ size)
 
 -- when each fault comes, by what was read
-abbrev pub OpenFails : Bool → Held → List Key → Found → OpenFault → Type 0
-OpenFails honest held keys found opening.Checkpoint = HasRead honest held (λ bytes. IsUnopened bytes keys)
-OpenFails honest held keys found opening.TooLarge = HasRead honest held (StatesTooMany keys)
-OpenFails honest held keys found (opening.Missing r) =
+abbrev pub OpenFails : Bool → Held → (Resource → ShelfFault → Type 0) → List Key → Found → OpenFault → Type 0
+OpenFails honest held may_fail keys found opening.Checkpoint = HasRead honest held (λ bytes. IsUnopened bytes keys)
+OpenFails honest held may_fail keys found opening.TooLarge = HasRead honest held (StatesTooMany keys)
+OpenFails honest held may_fail keys found (opening.Missing r) =
     HasSigned honest held keys found.head (λ head. IsMissing honest held head.size r)
-OpenFails honest held keys found (opening.Damaged r) =
+OpenFails honest held may_fail keys found (opening.Damaged r) =
     HasSigned honest held keys found.head (λ head. IsDamaged (MayRead honest held) head found.edge_tiles found.entry_tiles r)
-OpenFails honest held keys found (opening.Shelf fault) = ⊤
-OpenFails honest held keys found opening.OutOfMemory = ⊤
+OpenFails honest held may_fail keys found (opening.Shelf fault) = FailsRead may_fail fault
+OpenFails honest held may_fail keys found opening.OutOfMemory = ⊤

@@ -80,7 +80,7 @@ impl<A: Allocator + Copy> Ledger<A> {
         ensures read { S.is_honest ≡ true → OnOk result (IsOfHeld (S.kept shelf.now).held
             (map (λ v. key v) verifiers.now) found.new.head) }
         ensures refused { IfErr result (OpenFails S.is_honest (S.kept shelf.now).held
-            (map (λ v. key v) verifiers.now) found.new) }
+            (S.may_fail shelf.now) (map (λ v. key v) verifiers.now) found.new) }
     {
         *found = Found::new(alloc);
         let head = match find_head(alloc, shelf, verifiers) {

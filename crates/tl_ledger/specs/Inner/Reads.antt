@@ -6,8 +6,9 @@ use Rattle.tl_tile.specs.declared.resource.Resource.{Resource}
 use Rattle.tl_tile.specs.declared.resource.Resource.TheVariants as resource
 use Rattle.tl_tile.specs.TileText.{partial_tile}
 use Rattle.tl_archive.specs.Shelves.{Held, Item}
+use Rattle.tl_archive.specs.declared.fault.ShelfFault.{ShelfFault}
 use Rattle.tl_ledger.specs.Inner.Putting.{IsPartial}
-use Rattle.tl_ledger.specs.OpenFaults.{IsMissing}
+use Rattle.tl_ledger.specs.OpenFaults.{FailsRead, IsMissing}
 use Rattle.tl_ledger.specs.declared.opened.fault.OpenFault.{OpenFault}
 use Rattle.tl_ledger.specs.declared.opened.fault.OpenFault.TheVariants as opening
 
@@ -64,10 +65,10 @@ pub record ReadsOn (honest : Bool) (held : Held) (before after : List Item) : Ty
   pub still : AreHeld honest held before → AreHeld honest held after
 
 -- why a part of a log of this size was not read
-abbrev pub ReadFails : Bool → Held → ℕ → OpenFault → Type 0
-ReadFails honest held size opening.Checkpoint = ⊥
-ReadFails honest held size opening.TooLarge = ⊥
-ReadFails honest held size (opening.Missing r) = IsMissing honest held size r
-ReadFails honest held size (opening.Damaged r) = ⊥
-ReadFails honest held size (opening.Shelf fault) = ⊤
-ReadFails honest held size opening.OutOfMemory = ⊤
+abbrev pub ReadFails : Bool → Held → (Resource → ShelfFault → Type 0) → ℕ → OpenFault → Type 0
+ReadFails honest held may_fail size opening.Checkpoint = ⊥
+ReadFails honest held may_fail size opening.TooLarge = ⊥
+ReadFails honest held may_fail size (opening.Missing r) = IsMissing honest held size r
+ReadFails honest held may_fail size (opening.Damaged r) = ⊥
+ReadFails honest held may_fail size (opening.Shelf fault) = FailsRead may_fail fault
+ReadFails honest held may_fail size opening.OutOfMemory = ⊤

@@ -15,10 +15,11 @@ use Rattle.tl_checkpoint.specs.declared.opening.OpenCheckpointFault.{OpenCheckpo
 use Rattle.tl_checkpoint.specs.declared.opening.OpenCheckpointFault.TheVariants as unopened
 use Rattle.tl_client.specs.Checked.{LeavesCollide}
 use Rattle.tl_archive.specs.Shelves.{Held, Item}
+use Rattle.tl_archive.specs.declared.fault.ShelfFault.{ShelfFault}
 use Rattle.tl_archive.specs.Complete.{HasAll}
 use Rattle.tl_ledger.specs.Standing.{Ledger, IsStanding}
 use Rattle.tl_ledger.specs.Opening.{Found, FoundCollides}
-use Rattle.tl_ledger.specs.OpenFaults.{HasRead, IsDamaged, IsUnopened, StatesTooMany}
+use Rattle.tl_ledger.specs.OpenFaults.{FailsRead, HasRead, IsDamaged, IsUnopened, StatesTooMany}
 use Rattle.tl_ledger.specs.Inner.Reads.{AreThere}
 use Rattle.tl_ledger.specs.declared.opened.fault.OpenFault.{OpenFault}
 use Rattle.tl_ledger.specs.declared.opened.fault.OpenFault.TheVariants as opening
@@ -35,13 +36,13 @@ StatesNone A note keys (opening.Shelf fault) = ⊥
 StatesNone A note keys opening.OutOfMemory = ⊤
 
 -- why no checkpoint was found
-abbrev pub FindsNone : Bool → Held → List Key → OpenFault → Type 0
-FindsNone honest held keys opening.Checkpoint = HasRead honest held (λ bytes. IsUnopened bytes keys)
-FindsNone honest held keys opening.TooLarge = HasRead honest held (StatesTooMany keys)
-FindsNone honest held keys (opening.Missing r) = ⊥
-FindsNone honest held keys (opening.Damaged r) = ⊥
-FindsNone honest held keys (opening.Shelf fault) = ⊤
-FindsNone honest held keys opening.OutOfMemory = ⊤
+abbrev pub FindsNone : Bool → Held → (Resource → ShelfFault → Type 0) → List Key → OpenFault → Type 0
+FindsNone honest held may_fail keys opening.Checkpoint = HasRead honest held (λ bytes. IsUnopened bytes keys)
+FindsNone honest held may_fail keys opening.TooLarge = HasRead honest held (StatesTooMany keys)
+FindsNone honest held may_fail keys (opening.Missing r) = ⊥
+FindsNone honest held may_fail keys (opening.Damaged r) = ⊥
+FindsNone honest held may_fail keys (opening.Shelf fault) = FailsRead may_fail fault
+FindsNone honest held may_fail keys opening.OutOfMemory = ⊤
 
 -- ---- the right edge and the bundle
 

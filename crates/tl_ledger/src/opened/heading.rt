@@ -50,7 +50,7 @@ pub(crate) fn find_head<S: Shelf, A: Allocator + Copy>(
         (IsOfHeld (S.kept shelf.now).held (map (λ v. key v) verifiers.now)) }
     ensures limit { IfOk result (λ head. found_size head < 2 ^ 32) }
     ensures refused { IfErr result (FindsNone S.is_honest (S.kept shelf.now).held
-        (map (λ v. key v) verifiers.now)) }
+        (S.may_fail shelf.now) (map (λ v. key v) verifiers.now)) }
 {
     let bytes = match shelf.read(alloc, &Resource::Checkpoint) {
         Ok(Some(bytes)) => bytes,

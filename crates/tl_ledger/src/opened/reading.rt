@@ -25,7 +25,8 @@ fn read_one<S: Shelf, A: Allocator + Copy>(
     requires needed { Contains (needed_resources size) resource }
     ensures more { OnOk result (ReadsOn S.is_honest (S.kept shelf.now).held read.old read.new) }
     ensures has { OnOk result (HasItem read.new resource) }
-    ensures refused { IfErr result (ReadFails S.is_honest (S.kept shelf.now).held size) }
+    ensures refused { IfErr result
+        (ReadFails S.is_honest (S.kept shelf.now).held (S.may_fail shelf.now) size) }
 {
     let bytes = match shelf.read(alloc, &resource) {
         Ok(Some(bytes)) => bytes,
@@ -61,7 +62,8 @@ fn read_level<S: Shelf, A: Allocator + Copy>(
     requires small { size < 2 ^ 32 }
     ensures more { OnOk result (ReadsOn S.is_honest (S.kept shelf.now).held read.old read.new) }
     ensures has { OnOk result (HasLevel size level read.new) }
-    ensures refused { IfErr result (ReadFails S.is_honest (S.kept shelf.now).held size) }
+    ensures refused { IfErr result
+        (ReadFails S.is_honest (S.kept shelf.now).held (S.may_fail shelf.now) size) }
 {
     let tile = partial_of(size, level);
     if tile.width == 0 {
@@ -91,7 +93,8 @@ fn read_last<S: Shelf, A: Allocator + Copy>(
     requires { size < 2 ^ 32 }
     ensures more { OnOk result (ReadsOn S.is_honest (S.kept shelf.now).held read.old read.new) }
     ensures has { OnOk result (HasBundle size read.new) }
-    ensures refused { IfErr result (ReadFails S.is_honest (S.kept shelf.now).held size) }
+    ensures refused { IfErr result
+        (ReadFails S.is_honest (S.kept shelf.now).held (S.may_fail shelf.now) size) }
 {
     if size % 256 == 0 {
         return Ok(());
@@ -109,7 +112,8 @@ pub(crate) fn read_partials<S: Shelf, A: Allocator + Copy>(
     requires { size < 2 ^ 32 }
     ensures all { IfOk result (HasPartials size) }
     ensures held { IfOk result (AreHeld S.is_honest (S.kept shelf.now).held) }
-    ensures refused { IfErr result (ReadFails S.is_honest (S.kept shelf.now).held size) }
+    ensures refused { IfErr result
+        (ReadFails S.is_honest (S.kept shelf.now).held (S.may_fail shelf.now) size) }
 {
     let mut read = ShelfSource::new(alloc);
     for level in 0..8u32 {

@@ -13,5 +13,5 @@ returns-in-Ok-restore-clause-honest g c = λ own.
 
 pub returns-clause-refused : goal.returns-clause-refused
 returns-clause-refused g c =
-    part_failed _ _ _ c.in-Ok.source c.in-Ok-Some.field-0 c.in-Ok-Some.head c.restore.new.found c.in-Err-restore.fault c.in-Ok.ensures.held c.restore.ensures.head c.in-Ok-Some.field-0-is c.in-Ok-Some.ensures.signed
+    part_failed _ _ _ _ c.in-Ok.source c.in-Ok-Some.field-0 c.in-Ok-Some.head c.restore.new.found c.in-Err-restore.fault c.in-Ok.ensures.held c.restore.ensures.head c.in-Ok-Some.field-0-is c.in-Ok-Some.ensures.signed
     c.in-Ok-Some.ensures.held c.in-Err-restore.ensures.refused

@@ -4,4 +4,4 @@ use Rattle.tl_ledger.proofs.opened.heading.find_head.Goals as goal
 
 pub returns-clause-refused : goal.returns-clause-refused
 returns-clause-refused g c =
-    unstated g.row.A.Denot g.S.Shelf.is_honest (g.S.Shelf.kept c.args.shelf.now).held _ c.in-Ok.note.now c.in-Err-stated.fault (λ honest. search (honest, rules)) c.in-Err-stated.ensures.refused
+    unstated g.row.A.Denot g.S.Shelf.is_honest (g.S.Shelf.kept c.args.shelf.now).held (g.S.Shelf.may_fail c.args.shelf.now) _ c.in-Ok.note.now c.in-Err-stated.fault (λ honest. search (honest, rules)) c.in-Err-stated.ensures.refused
