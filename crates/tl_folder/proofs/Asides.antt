@@ -6,26 +6,22 @@ use Rattle.tl_folder.specs.Step.{Path, Bytes, Step}
 use Rattle.tl_folder.specs.Step as step
 use Rattle.tl_folder.specs.FileCalls.{Call, done, Begins}
 use Rattle.tl_folder.specs.Posix.{Torn, At, Disk, MayBe, folder_of, or_lost, after, after_failed, Becomes, MayLeave}
-use Rattle.tl_folder.specs.Settling.{naming, naming_in, replacing, folder_made, IsStaging, IsAside}
+use Rattle.tl_folder.specs.Settling.{naming, naming_in, replacing, IsUp, is_itself, Asks, AsksUp, asks_none, asks_more, AsksAbove, IsOwn, IsStaging, IsAside}
 use Rattle.tl_folder.specs.Laws.{HasBytes, IsAtRest}
-use Rattle.tl_folder.proofs.Disks.{put_own, put_other, rename_there, IsFine, at_each_moment}
+use Rattle.tl_folder.proofs.Disks.{becomes_parts, put_own, put_other, rename_there, IsFine, at_each_moment}
 use Rattle.tl_folder.proofs.Settles.{IsWhole, own_synced, named_there, named_own}
 
 -- ---- staging
 
--- the call is of the file, or makes its folder
-abbrev IsOwn : Path → Bytes → Step → Type 0
-IsOwn path bytes s = (s ≡ step.Write path bytes) ⊎ ((folder : Path) × (path_parent path ≡ Some folder) × (s ≡ step.MakeFolder folder))
-
 own_same : (path q : Path) (bytes : Bytes) (s : Step) (disk : Disk) → q ≢ path → IsOwn path bytes s → after s disk q ≡ disk q
 own_same path q bytes s disk apart (inl is) =
     subst (λ (x : Step). after x disk q ≡ disk q) (sym is) (put_other path q (record { there = Some (Torn [] bytes); older = or_lost (disk path).there (disk path).older }) disk apart)
-own_same path q bytes s disk apart (inr (folder, parent, is)) = subst (λ (x : Step). after x disk q ≡ disk q) (sym is) refl
+own_same path q bytes s disk apart (inr (own, folder, parent, is_up, is)) = subst (λ (x : Step). after x disk q ≡ disk q) (sym is) refl
 
 own_failed : (path q : Path) (bytes rest : Bytes) (s : Step) (disk : Disk) → q ≢ path → IsOwn path bytes s → after_failed s rest disk q ≡ disk q
 own_failed path q bytes rest s disk apart (inl is) =
     subst (λ (x : Step). after_failed x rest disk q ≡ disk q) (sym is) (put_other path q (record { there = Some (Torn [] rest); older = or_lost (disk path).there (disk path).older }) disk apart)
-own_failed path q bytes rest s disk apart (inr (folder, parent, is)) = subst (λ (x : Step). after_failed x rest disk q ≡ disk q) (sym is) refl
+own_failed path q bytes rest s disk apart (inr (own, folder, parent, is_up, is)) = subst (λ (x : Step). after_failed x rest disk q ≡ disk q) (sym is) refl
 
 -- staging, whatever came of it, leaves every other path as it is
 pub aside_only : (path q : Path) (bytes : Bytes) (calls : List Call) (disk now : Disk) → q ≢ path → IsAside path bytes calls → Becomes disk calls now → now q ≡ disk q
@@ -36,32 +32,45 @@ aside_only path q bytes ((asked, false) ∷ more) disk now apart aside (inl not_
 aside_only path q bytes ((asked, false) ∷ more) disk now apart aside (inr (rest, in_part)) =
     aside_only path q bytes more (after_failed asked rest disk) now apart aside.1 in_part ∙ own_failed path q bytes rest asked disk apart aside.0
 
-folder_aside : (path : Path) (bytes : Bytes) (parent : Option Path) (more : List Call) → parent ≡ path_parent path → IsAside path bytes more → IsAside path bytes (folder_made parent ++ more)
-folder_aside path bytes None more is aside = aside
-folder_aside path bytes (Some folder) more is aside = (inr (folder, sym is, refl), aside)
+pub aside_append : (path : Path) (bytes : Bytes) (a b : List Call) → IsAside path bytes a → IsAside path bytes b → IsAside path bytes (a ++ b)
+aside_append path bytes [] b first second = second
+aside_append path bytes (call ∷ a) b first second = (first.0, aside_append path bytes a b first.1 second)
+
+-- a folder above the path is asked for
+ask_aside : (path own folder : Path) (bytes : Bytes) (before after : List Call) → path_parent path ≡ Some own → IsUp own folder
+    → IsAside path bytes before → Asks false folder before after → IsAside path bytes after
+ask_aside path own folder bytes before after parent is_up aside (inl is) =
+    subst (λ (x : List Call). IsAside path bytes x) (sym is) (aside_append path bytes before ((step.MakeFolder folder, true) ∷ []) aside (inr (own, folder, parent, is_up, refl), tt))
+ask_aside path own folder bytes before after parent is_up aside (inr is) =
+    subst (λ (x : List Call). IsAside path bytes x) (sym is) (aside_append path bytes before ((step.MakeFolder folder, false) ∷ []) aside (inr (own, folder, parent, is_up, refl), tt))
+
+pub up_aside : (path own : Path) (bytes : Bytes) (before : List Call) {after : List Call} → path_parent path ≡ Some own → IsAside path bytes before → AsksUp false own before after → IsAside path bytes after
+up_aside path own bytes before parent aside asks_none = aside
+up_aside path own bytes before {after} parent aside (asks_more {mid = mid} {folder = folder} up is_up asks) =
+    ask_aside path own folder bytes mid after parent is_up (up_aside path own bytes before parent aside up) asks
+
+pub above_aside : (path : Path) (bytes : Bytes) (before after : List Call) → IsAside path bytes before → AsksAbove path before after → IsAside path bytes after
+above_aside path bytes before after aside (inl is) = subst (λ (x : List Call). IsAside path bytes x) (sym is.1) aside
+above_aside path bytes before after aside (inr (own, parent, (mid, up, asks))) = ask_aside path own own bytes mid after parent is_itself (up_aside path own bytes before parent aside up) asks
 
 pub staging_aside : (path : Path) (bytes : Bytes) (made : List Call) → IsStaging path bytes made → IsAside path bytes made
 staging_aside path bytes made (inl is) = subst (λ (x : List Call). IsAside path bytes x) (sym is) (inl refl, tt)
-staging_aside path bytes made (inr is) =
-    subst (λ (x : List Call). IsAside path bytes x) (sym is) (inl refl, folder_aside path bytes (path_parent path) ((step.Write path bytes, true) ∷ []) refl (inl refl, tt))
+staging_aside path bytes made (inr (mid, above, is)) =
+    subst (λ (x : List Call). IsAside path bytes x) (sym is)
+    (aside_append path bytes mid ((step.Write path bytes, true) ∷ []) (above_aside path bytes ((step.Write path bytes, false) ∷ []) mid (inl refl, tt) above) (inl refl, tt))
 
 written : (path : Path) (bytes : Bytes) (disk : Disk) → HasBytes (after (step.Write path bytes) disk path) bytes
 written path bytes disk = subst (λ (x : At). HasBytes x bytes) (sym (put_own path (record { there = Some (Torn [] bytes); older = or_lost (disk path).there (disk path).older }) disk)) refl
 
-folder_written : (path : Path) (bytes : Bytes) (parent : Option Path) (disk now : Disk) → Becomes disk (folder_made parent ++ (step.Write path bytes, true) ∷ []) now → HasBytes (now path) bytes
-folder_written path bytes None disk now becomes = subst (λ (x : Disk). HasBytes (x path) bytes) (sym becomes) (written path bytes disk)
-folder_written path bytes (Some folder) disk now becomes = subst (λ (x : Disk). HasBytes (x path) bytes) (sym becomes) (written path bytes disk)
+-- the last call wrote the file
+last_written : (path : Path) (bytes : Bytes) (mid made : List Call) (disk now : Disk) → made ≡ mid ++ (step.Write path bytes, true) ∷ [] → Becomes disk made now → HasBytes (now path) bytes
+last_written path bytes mid made disk now is becomes =
+    let it = becomes_parts mid ((step.Write path bytes, true) ∷ []) disk now (subst (λ (x : List Call). Becomes disk x now) is becomes) in
+    subst (λ (x : Disk). HasBytes (x path) bytes) (sym it.2) (written path bytes it.0)
 
 pub staged_there : (path : Path) (bytes : Bytes) (made : List Call) (disk now : Disk) → IsStaging path bytes made → Becomes disk made now → HasBytes (now path) bytes
-staged_there path bytes made disk now (inl is) becomes =
-    let last : now ≡ after (step.Write path bytes) disk = subst (λ (x : List Call). Becomes disk x now) is becomes in
-    subst (λ (x : Disk). HasBytes (x path) bytes) (sym last) (written path bytes disk)
-staged_there path bytes made disk now (inr is) becomes =
-    let all : Becomes disk ((step.Write path bytes, false) ∷ [] ++ folder_made (path_parent path) ++ (step.Write path bytes, true) ∷ []) now = subst (λ (x : List Call). Becomes disk x now) is becomes in
-    elim all as (λ _. HasBytes (now path) bytes) [
-      | inl not_done ↦ folder_written path bytes (path_parent path) disk now not_done
-      | inr in_part ↦ folder_written path bytes (path_parent path) (after (step.Write path in_part.0) disk) now in_part.1
-    ]
+staged_there path bytes made disk now (inl is) becomes = last_written path bytes [] made disk now is becomes
+staged_there path bytes made disk now (inr (mid, above, is)) becomes = last_written path bytes mid made disk now is becomes
 
 -- ---- a file that is replaced
 

@@ -1,6 +1,6 @@
 -- One call more.
 use Rattle.std.proofs.Common.{◌≡◌, ℕ, ◌+◌, true, false, inl, ◌⊎◌, List, [], ◌∷◌, ◌++◌, length, Some, refl, sym, ap, subst, ◌∙◌, arith}
-use Rattle.std.specs.Prelude.{Bool, Contains, if◌then◌else◌}
+use Rattle.std.specs.Prelude.{Bool, Option, Contains, if◌then◌else◌}
 use Rattle.tl_tile.specs.declared.resource.Resource.{Resource}
 use Rattle.tl_archive.specs.Shelves.{Kept, Stages, Unstages, Settles}
 use Rattle.tl_folder.specs.declared.call_outcome.CallOutcome.TheVariants as call
@@ -42,6 +42,10 @@ pub failed_after : (reached : Reached) (events : List Event) (bytes : List ℕ) 
     → after_calls reached 0 (events ++ (call.Failed, bytes) ∷ []) kept ≡ after_calls reached 0 events kept
 failed_after reached events bytes kept = calls_more reached 0 events (call.Failed, bytes) kept
 
+pub marked_after : (reached : Reached) (events : List Event) (bytes : List ℕ) (kept : Kept)
+    → after_calls reached 0 (events ++ (call.Marked, bytes) ∷ []) kept ≡ after_calls reached 0 events kept
+marked_after reached events bytes kept = calls_more reached 0 events (call.Marked, bytes) kept
+
 pub settled_after : (reached : Reached) (events : List Event) (bytes : List ℕ) (kept : Kept)
     → Settles (after_calls reached 0 events kept) (after_calls reached 0 (events ++ (call.Settled, bytes) ∷ []) kept)
 settled_after reached events bytes kept =
@@ -72,6 +76,11 @@ pub now_failed : (reached : Reached) (inside events now : List Event) (bytes : L
 now_failed reached inside events now bytes kept same is =
     ap (λ (x : List Event). after_calls reached 0 x kept) (joined inside events now (call.Failed, bytes) same is) ∙ failed_after reached events bytes kept
 
+pub now_marked : (reached : Reached) (inside events now : List Event) (bytes : List ℕ) (kept : Kept) → inside ≡ events → now ≡ inside ++ (call.Marked, bytes) ∷ []
+    → after_calls reached 0 now kept ≡ after_calls reached 0 events kept
+now_marked reached inside events now bytes kept same is =
+    ap (λ (x : List Event). after_calls reached 0 x kept) (joined inside events now (call.Marked, bytes) same is) ∙ marked_after reached events bytes kept
+
 pub now_settled : (reached : Reached) (inside events now : List Event) (bytes : List ℕ) (kept : Kept) → inside ≡ events → now ≡ inside ++ (call.Settled, bytes) ∷ []
     → Settles (after_calls reached 0 events kept) (after_calls reached 0 now kept)
 now_settled reached inside events now bytes kept same is =
@@ -90,22 +99,27 @@ each_now reached inside events now event kept same is =
     subst (λ (x : List Event). after_each reached 0 x kept ≡ after_each reached 0 events kept ++ after_calls reached 0 x kept ∷ []) (sym (joined inside events now event same is))
     (each_more reached 0 events event kept)
 
+-- a folder is shown as a record of these
+abbrev pub Shows : List Event → ℕ → Path → List Move → List Call → Path → Option ℕ → Calls → Type 0
+Shows events failures root moves made place published shown =
+    ◌≡◌ {A = Calls} (record { events = events; failures = failures; root = root; moves = moves; made = made; place = place; published = published }) shown
+
 -- what a folder noted is what its model has
-pub same_events : (events : List Event) (failures : ℕ) (root : Path) (moves : List Move) (made : List Call) (shown : Calls)
-    → ◌≡◌ {A = Calls} (record { events = events; failures = failures; root = root; moves = moves; made = made }) shown → events ≡ shown.events
-same_events events failures root moves made shown is = ap (λ (x : Calls). x.events) is
+pub same_events : (events : List Event) (failures : ℕ) (root : Path) (moves : List Move) (made : List Call) (place : Path) (published : Option ℕ) (shown : Calls)
+    → Shows events failures root moves made place published shown → events ≡ shown.events
+same_events events failures root moves made place published shown is = ap (λ (x : Calls). x.events) is
 
 -- the folder as it is shown settled by calls of what it has
-pub settled_calls : (events : List Event) (failures : ℕ) (root : Path) (moves : List Move) (made : List Call) (shown : Calls) (folders : List Path) (after : List Call)
-    → ◌≡◌ {A = Calls} (record { events = events; failures = failures; root = root; moves = moves; made = made }) shown
+pub settled_calls : (events : List Event) (failures : ℕ) (root : Path) (moves : List Move) (made : List Call) (place : Path) (published : Option ℕ) (shown : Calls) (folders : List Path) (after : List Call)
+    → Shows events failures root moves made place published shown
     → AreCovered root folders moves → after ≡ made ++ done (settling moves folders)
     → (them : List Path) × AreCovered shown.root them shown.moves × (after ≡ shown.made ++ done (settling shown.moves them))
-settled_calls events failures root moves made shown folders after is covered takes =
+settled_calls events failures root moves made place published shown folders after is covered takes =
     subst (λ (x : Calls). (them : List Path) × AreCovered x.root them x.moves × (after ≡ x.made ++ done (settling x.moves them))) is (folders, covered, takes)
 
-pub cut_calls : (events : List Event) (failures : ℕ) (root : Path) (moves : List Move) (made : List Call) (shown : Calls) (folders : List Path) (after : List Call)
-    → ◌≡◌ {A = Calls} (record { events = events; failures = failures; root = root; moves = moves; made = made }) shown
+pub cut_calls : (events : List Event) (failures : ℕ) (root : Path) (moves : List Move) (made : List Call) (place : Path) (published : Option ℕ) (shown : Calls) (folders : List Path) (after : List Call)
+    → Shows events failures root moves made place published shown
     → AreCovered root folders moves → (after ≡ made) ⊎ ((some : List Call) × (after ≡ made ++ some) × Fails (settling moves folders) some)
     → (them : List Path) × AreCovered shown.root them shown.moves × ((after ≡ shown.made) ⊎ ((some : List Call) × (after ≡ shown.made ++ some) × Fails (settling shown.moves them) some))
-cut_calls events failures root moves made shown folders after is covered takes =
+cut_calls events failures root moves made place published shown folders after is covered takes =
     subst (λ (x : Calls). (them : List Path) × AreCovered x.root them x.moves × ((after ≡ x.made) ⊎ ((some : List Call) × (after ≡ x.made ++ some) × Fails (settling x.moves them) some))) is (folders, covered, takes)

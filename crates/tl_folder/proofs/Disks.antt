@@ -202,3 +202,14 @@ run_append (s ∷ a) b disk = run_append a b (after s disk)
 pub fine_append : (New : Option Bytes → Type 0) (a b : List Step) (disk : Disk) (q : Path) → IsFine New disk a q → IsFine New (run a disk) b q → IsFine New disk (a ++ b) q
 fine_append New [] b disk q fine rest = rest
 fine_append New (s ∷ a) b disk q fine rest = (fine.0, fine_append New a b (after s disk) q fine.1 rest)
+
+-- what calls made of a disk, by what the first of them made of it and then the others
+pub becomes_parts : (a b : List Call) (disk now : Disk) → Becomes disk (a ++ b) now → (mid : Disk) × Becomes disk a mid × Becomes mid b now
+becomes_parts [] b disk now becomes = (disk, refl, becomes)
+becomes_parts ((asked, true) ∷ a) b disk now becomes = becomes_parts a b (after asked disk) now becomes
+becomes_parts ((asked, false) ∷ a) b disk now (inl not_done) =
+    let it = becomes_parts a b disk now not_done in
+    (it.0, inl it.1, it.2)
+becomes_parts ((asked, false) ∷ a) b disk now (inr (rest, in_part)) =
+    let it = becomes_parts a b (after_failed asked rest disk) now in_part in
+    (it.0, inr (rest, it.1), it.2)

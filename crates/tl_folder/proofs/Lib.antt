@@ -3,8 +3,10 @@ pub mod Calls
 pub mod Disks
 pub mod Settles
 pub mod Asides
+pub mod Makings
 pub mod Appends
 pub mod Above
 pub mod Beginnings
 pub mod Ends
 pub mod ShelfDisk
+pub mod Marks

@@ -9,14 +9,14 @@ use Rattle.tl_archive.specs.Shelves.{Item, Held}
 use Rattle.tl_archive.proofs.Lists.{none_has, has_head, has_tail, cons_cases}
 use Rattle.tl_folder.specs.Step.{Path, Bytes}
 use Rattle.tl_folder.specs.FileCalls.{Call, Begins, done}
-use Rattle.tl_folder.specs.Posix.{At, Disk, MayBe, after, after_failed, Becomes}
+use Rattle.tl_folder.specs.Posix.{At, Disk, MayBe, Becomes}
 use Rattle.tl_folder.specs.Settling.{AreCovered, IsAside, settling, new_path, move_to}
 use Rattle.tl_folder.specs.Places.{place_of}
 use Rattle.tl_folder.specs.Folders.{is_same, put}
 use Rattle.tl_folder.specs.Laws.{HasBytes, IsApart, AreApart, IsElsewhere}
 use Rattle.tl_folder.specs.OnDisk.{Reflects, ReflectsEither, moves_of, AreStaged, IsNew, AreOnce}
 use Rattle.tl_folder.proofs.Puts.{same_self, same_is, put_between, put_there}
-use Rattle.tl_folder.proofs.Disks.{done_begins}
+use Rattle.tl_folder.proofs.Disks.{done_begins, becomes_parts}
 use Rattle.tl_folder.proofs.Settles.{rest_leaves, settled_rests, settling_is_gentle, settling_spares_others}
 use Rattle.tl_folder.proofs.Asides.{aside_only, staging_aside, staged_there}
 use Rattle.tl_folder.proofs.Ends.{ends_place, beside_no_place, place_parent}
@@ -103,16 +103,6 @@ found r (item ∷ more) = go (is_same r item.0) refl (found r more)
     go false is (inr new) = inr (apart_if false r item.0 is refl, new)
 
 -- ---- staging
-
-becomes_parts : (a b : List Call) (disk now : Disk) → Becomes disk (a ++ b) now → (mid : Disk) × Becomes disk a mid × Becomes mid b now
-becomes_parts [] b disk now becomes = (disk, refl, becomes)
-becomes_parts ((asked, true) ∷ a) b disk now becomes = becomes_parts a b (after asked disk) now becomes
-becomes_parts ((asked, false) ∷ a) b disk now (inl not_done) =
-    let it = becomes_parts a b disk now not_done in
-    (it.0, inl it.1, it.2)
-becomes_parts ((asked, false) ∷ a) b disk now (inr (rest, in_part)) =
-    let it = becomes_parts a b (after_failed asked rest disk) now in_part in
-    (it.0, inr (rest, it.1), it.2)
 
 -- the path is beside none of their places
 abbrev IsAsideNone : Path → Path → List Item → Type 0

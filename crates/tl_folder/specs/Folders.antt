@@ -1,8 +1,10 @@
 -- A folder as a shelf: what its calls made of what it had.
-use Rattle.std.specs.Prelude.{ℕ, ◌+◌, Bool, true, false, List, [], ◌∷◌, ◌++◌, Some, ◌==◌, if◌then◌else◌, Result}
+use Rattle.std.specs.Prelude.{◌≡◌, ◌⊎◌, ℕ, ◌+◌, Bool, true, false, List, [], ◌∷◌, ◌++◌, Option, Some, None, ◌==◌, if◌then◌else◌, Result}
 use Rattle.tl_tile.specs.declared.resource.Resource.{Resource}
 use Rattle.tl_tile.specs.declared.resource.Resource.TheVariants as resource
 use Rattle.tl_archive.specs.Shelves.{Item, Held, Kept}
+use Rattle.tl_archive.specs.declared.fault.ShelfFault.{ShelfFault}
+use Rattle.tl_device.specs.declared.fault.DeviceFault.TheVariants.{Moved}
 use Rattle.tl_folder.specs.declared.call_outcome.CallOutcome.TheVariants as call
 use Rattle.tl_folder.specs.Events.{Event}
 use Rattle.tl_folder.specs.Step.{Path}
@@ -35,6 +37,7 @@ abbrev pub after_call : Reached → ℕ → Event → Kept → Kept
 after_call reached n (call.Staged r, bytes) kept = record { held = kept.held; staged = kept.staged ++ (r, bytes) ∷ [] }
 after_call reached n (call.Settled, bytes) kept = record { held = put kept.staged kept.held; staged = [] }
 after_call reached n (call.Cut, bytes) kept = record { held = (λ r. if reached n r then put kept.staged kept.held r else kept.held r); staged = [] }
+after_call reached n (call.Marked, bytes) kept = kept
 after_call reached n (call.Failed, bytes) kept = kept
 
 -- what the calls made of it, of which the first is the n-th
@@ -52,13 +55,15 @@ abbrev pub at_first : Held → Kept
 at_first held = record { held = held; staged = [] }
 
 -- a folder: what came of its calls so far and how many of them failed; its path, the files that are staged, and the
--- calls of the system so far
+-- calls of the system so far; the path by which it was opened, and how many entries it marked as published, last
 pub record Calls : Type 0 where
   pub events : List Event
   pub failures : ℕ
   pub root : Path
   pub moves : List Move
   pub made : List Call
+  pub place : Path
+  pub published : Option ℕ
 
 -- what a folder keeps, by what it had at first and its calls
 abbrev pub kept_by : Held → Reached → Calls → Kept
@@ -73,3 +78,7 @@ traced_by held reached calls = after_each reached 0 calls.events (at_first held)
 abbrev pub SettlesFiles : {T E : Type 0} → Calls → List Call → Result T E → Type 0
 SettlesFiles folder after result =
     (folders : List Path) × AreCovered folder.root folders folder.moves × Takes (settling folder.moves folders) folder.made after result
+
+-- the fault is over this resource, or over all of the folder, where another came to its path
+abbrev pub IsOver : Resource → ShelfFault → Type 0
+IsOver r fault = (fault.resource ≡ Some r) ⊎ ((fault.resource ≡ None) × (fault.why ≡ Moved))

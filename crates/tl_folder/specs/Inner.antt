@@ -2,4 +2,6 @@
 pub
     mod CallLog
 pub
+    mod Making
+pub
     mod Staged

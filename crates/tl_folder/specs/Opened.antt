@@ -16,3 +16,7 @@ pub record Appended : Type 0 where
   pub written : Bytes
   pub calls : List Call
   pub fault : Option DeviceFault
+
+-- a folder that is locked: the path by which it was
+pub record Locked : Type 0 where
+  pub place : Path

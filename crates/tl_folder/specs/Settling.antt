@@ -1,11 +1,12 @@
--- The calls by which files are written beside their places, and then put there together.
+-- The calls by which folders are made, and files are written beside their places, and then put there together.
 use Rattle.std.specs.Prelude.{◌≡◌, ◌<◌, ◌⊎◌, Bool, true, false, ◌||◌, IsTrue, List, [], ◌∷◌, ◌++◌, length, map, Option, Some, None, Contains, Result, Ok, Err}
 use Rattle.std.specs.Str.{bytes_eq}
 use Rattle.std.specs.Path.{path_parent}
 use Rattle.tl_folder.specs.Step.{Path, Bytes, Step}
 use Rattle.tl_folder.specs.Step as step
-use Rattle.tl_folder.specs.FileCalls.{Call}
+use Rattle.tl_folder.specs.FileCalls.{Call, done}
 use Rattle.tl_folder.specs.Posix.{spelled, folder_of}
+use Rattle.tl_folder.specs.Places.{mark_path}
 
 -- a file that is written beside its place, and its place
 abbrev pub Move : Type 0
@@ -19,25 +20,74 @@ new_path place = place ++ 46 ∷ 110 ∷ 101 ∷ 119 ∷ []
 abbrev pub move_to : Path → Move
 move_to place = (new_path place, place)
 
+-- ---- names
+
+-- has the names in a folder outlast a crash
+abbrev pub naming : Path → Step
+naming folder = step.SyncFolder folder
+
+-- has the name of a file or a folder outlast a crash
+abbrev pub naming_in : Option Path → List Step
+naming_in None = []
+naming_in (Some folder) = naming folder ∷ []
+
+-- ---- folders
+
+-- the folder is the one at the path, or one above it
+pub data IsUp : Path → Path → Type 0 where
+  is_itself : {path : Path} → IsUp path path
+  is_higher : {path parent folder : Path} → path_parent path ≡ Some parent → IsUp parent folder → IsUp path folder
+
+-- has the name of a folder outlast a crash, where names are to
+abbrev pub naming_if : Bool → Path → List Step
+naming_if true folder = naming_in (folder_of folder)
+naming_if false folder = []
+
+-- makes a folder, and has its name outlast a crash, where names are to
+abbrev pub making : Bool → Path → List Step
+making named folder = step.MakeFolder folder ∷ naming_if named folder
+
+-- the folder was asked for: all was done that makes it, or the system didn't make it
+abbrev pub Asks : Bool → Path → List Call → List Call → Type 0
+Asks named folder before after = (after ≡ before ++ done (making named folder)) ⊎ (after ≡ before ++ (step.MakeFolder folder, false) ∷ [])
+
+-- folders at the path or above it were asked for, one after another
+pub data AsksUp (named : Bool) (path : Path) (before : List Call) : List Call → Type 0 where
+  asks_none : AsksUp named path before before
+  asks_more : {mid after : List Call} {folder : Path} → AsksUp named path before mid → IsUp path folder → Asks named folder mid after → AsksUp named path before after
+
+-- such folders were asked for, and the one at the path last
+abbrev pub AsksFolder : Bool → Path → List Call → List Call → Type 0
+AsksFolder named path before after = (mid : List Call) × AsksUp named path before mid × Asks named path mid after
+
+-- a folder was made where it wasn't there, with those above it; each name that was new was synced, and its own in any
+-- case
+abbrev pub OpensFolder : Path → List Call → List Call → Type 0
+OpensFolder path before after = (mid : List Call) × AsksFolder true path before mid × (after ≡ mid ++ done (naming_in (folder_of path)))
+
 -- ---- staging
 
--- the folder that a path is in was made, if it is in one
-abbrev pub folder_made : Option Path → List Call
-folder_made None = []
-folder_made (Some folder) = (step.MakeFolder folder, true) ∷ []
+-- the folder that the path is in was asked for, after some above it, if the path is in one
+abbrev pub AsksAbove : Path → List Call → List Call → Type 0
+AsksAbove path before after =
+    ((path_parent path ≡ None) × (after ≡ before)) ⊎ ((own : Path) × (path_parent path ≡ Some own) × AsksFolder false own before after)
 
--- the file was written, at once or after its folder was made
+-- the file was written, at once or after the folder that it is in was asked for
 abbrev pub IsStaging : Path → Bytes → List Call → Type 0
 IsStaging path bytes made =
     (made ≡ (step.Write path bytes, true) ∷ [])
-    ⊎ (made ≡ (step.Write path bytes, false) ∷ [] ++ folder_made (path_parent path) ++ (step.Write path bytes, true) ∷ [])
+    ⊎ ((mid : List Call) × AsksAbove path ((step.Write path bytes, false) ∷ []) mid × (made ≡ mid ++ (step.Write path bytes, true) ∷ []))
 
--- only this file was written, and only its folder was made
+-- the step writes this file, or makes a folder above it
+abbrev pub IsOwn : Path → Bytes → Step → Type 0
+IsOwn path bytes asked =
+    (asked ≡ step.Write path bytes)
+    ⊎ ((own folder : Path) × (path_parent path ≡ Some own) × IsUp own folder × (asked ≡ step.MakeFolder folder))
+
+-- only this file was written, and only folders above it were made
 abbrev pub IsAside : Path → Bytes → List Call → Type 0
 IsAside path bytes [] = Unit {0}
-IsAside path bytes (call ∷ more) =
-    ((call.0 ≡ step.Write path bytes) ⊎ ((folder : Path) × (path_parent path ≡ Some folder) × (call.0 ≡ step.MakeFolder folder)))
-    × IsAside path bytes more
+IsAside path bytes (call ∷ more) = IsOwn path bytes call.0 × IsAside path bytes more
 
 -- Ok: the file was written. Err: at most a part of it was.
 abbrev pub WritesAside : {T E : Type 0} → Path → Bytes → List Call → List Call → Result T E → Type 0
@@ -53,10 +103,6 @@ syncing move = step.Sync move.0
 -- puts the file in its place
 abbrev pub placing : Move → Step
 placing move = step.Rename move.0 move.1
-
--- has the names in a folder outlast a crash
-abbrev pub naming : Path → Step
-naming folder = step.SyncFolder folder
 
 -- has the files outlast a crash, then puts them in their places, and then has their names outlast one
 abbrev pub settling : List Move → List Path → List Step
@@ -76,12 +122,7 @@ pub data IsAbove (root : Path) : Path → Path → Type 0 where
 abbrev pub AreCovered : Path → List Path → List Move → Type 0
 AreCovered root folders moves = (move : Move) (folder : Path) → Contains moves move → IsAbove root move.1 folder → IsTrue (has_path folders (spelled folder))
 
--- ---- a name, and a file that is replaced
-
--- has the name of a file or a folder outlast a crash
-abbrev pub naming_in : Option Path → List Step
-naming_in None = []
-naming_in (Some folder) = naming folder ∷ []
+-- ---- a file that is replaced
 
 -- the path of the lock of a file that is replaced
 abbrev pub lock_path_of : Path → Path
@@ -90,3 +131,13 @@ lock_path_of path = path ++ 46 ∷ 108 ∷ 111 ∷ 99 ∷ 107 ∷ []
 -- writes the bytes beside the file, has them outlast a crash, puts them in its place and has the name outlast one
 abbrev pub replacing : Path → Path → Bytes → List Step
 replacing aside path bytes = step.Write aside bytes ∷ step.Sync aside ∷ step.Rename aside path ∷ naming_in (folder_of path)
+
+-- ---- a mark
+
+-- writes the bytes beside a file, and puts them in its place
+abbrev pub moving : Path → Path → Bytes → List Step
+moving aside path bytes = step.Write aside bytes ∷ step.Rename aside path ∷ []
+
+-- writes the bytes beside the mark of the folder with this path, and puts them in its place
+abbrev pub marking : Path → Bytes → List Step
+marking root bytes = moving (new_path (mark_path root)) (mark_path root) bytes

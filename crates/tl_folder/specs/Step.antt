@@ -25,5 +25,5 @@ pub data Step : Type 0 where
   Rename : Path → Path → Step
   -- the names in the folder outlast a crash
   SyncFolder : Path → Step
-  -- the folder is there, and those above it; of those that this made a crash takes no name away
+  -- a folder is at the path, where nothing was
   MakeFolder : Path → Step

@@ -37,8 +37,7 @@ pub(crate) trait FileCalls {
         ensures { calls self.new
             ≡ calls self.old ++ (step.SyncFolder path.now, is_ok result) ∷ [] };
 
-    /// Makes the folder at the path, and those above it, where they aren't there; the names of those that were made then
-    /// outlast a crash.
+    /// Makes a folder at the path. `NotThere`: the folder above it isn't there. `Taken`: something is at the path.
     fn make_folder(&mut self, path: &str) -> Result<(), DeviceFault>
         ensures { calls self.new
             ≡ calls self.old ++ (step.MakeFolder path.now, is_ok result) ∷ [] };

@@ -2,16 +2,17 @@
 
 ghost use Rattle.std.specs.Prelude.{◌≡◌, [], ◌∷◌, ◌++◌, map, string_bytes, vec_items, IfOk, OnOk, OnErr};
 ghost use Rattle.tl_tile.specs.Path.{IsResource};
-ghost use Rattle.tl_folder.specs.Step as step;
-ghost use Rattle.tl_folder.specs.FileCalls.{Does, Takes, done};
+ghost use Rattle.tl_folder.specs.FileCalls.{Does, Takes};
 ghost use Rattle.tl_folder.specs.Posix.{folder_of};
-ghost use Rattle.tl_folder.specs.Settling.{AreCovered, WritesAside, new_path, move_to, settling, naming_in};
-ghost use Rattle.tl_folder.specs.Places.{place_of};
+ghost use Rattle.tl_folder.specs.Settling.{AreCovered, OpensFolder, WritesAside, new_path, move_to, settling, naming_in, marking};
+ghost use Rattle.tl_folder.specs.Places.{mark_path, mark_text, place_of};
 ghost use Rattle.tl_folder.specs.Inner.Staged.{move_of};
 
 use crate::file_calls::FileCalls;
 use crate::file_id::FileId;
 use crate::folders::{folder_of, note_folders};
+use crate::making::make_folders;
+use crate::mark::{MOST_MARK, parse_mark, put_mark};
 use crate::staged::{Staged, put_staged, write_in_folder};
 use std::alloc::{AllocError, Allocator, Global};
 use std::mem;
@@ -57,11 +58,11 @@ impl<C: FileCalls + Drop> FolderFiles<C> {
         alloc: Global,
         root: &str,
     ) -> Result<FolderFiles<C>, DeviceFault>
-        ensures calls { IfOk result (λ files. C.calls files.calls ≡ C.calls calls
-            ++ done (step.MakeFolder root.now ∷ naming_in (folder_of root.now))) }
+        ensures calls { IfOk result
+            (λ files. OpensFolder root.now (C.calls calls) (C.calls files.calls)) }
         ensures unstaged { IfOk result (λ files. vec_items files.staged ≡ []) }
     {
-        calls.make_folder(root)?;
+        make_folders(&mut calls, root, true)?;
         sync_parent(&mut calls, root)?;
         let folder = FileId::of(&calls.metadata(root)?);
         Ok(FolderFiles {
@@ -91,6 +92,17 @@ impl<C: FileCalls + Drop> FolderFiles<C> {
         let mut place = String::from_str(self.alloc, self.root.as_str())?;
         place.push_str("/")?;
         place.push_str(path_of(self.alloc, resource)?.as_str())?;
+        Ok(place)
+    }
+
+    // The path of the mark's file.
+    fn mark_place(&self) -> Result<String, AllocError>
+        ensures { IfOk result (λ place. string_bytes place
+            ≡ mark_path (string_bytes self.now.root)) }
+    {
+        let mut place = String::from_str(self.alloc, self.root.as_str())?;
+        place.push_str("/")?;
+        place.push_str("published")?;
         Ok(place)
     }
 
@@ -161,5 +173,41 @@ impl<C: FileCalls + Drop> FolderFiles<C> {
         let place = self.place_of(resource)?;
         let told = self.calls.metadata(place.as_str());
         self.calls.read(alloc, place.as_str(), told, LONGEST)
+    }
+
+    /// Writes beside the mark's file how many entries were published, and puts it there. It isn't synced: a crash may
+    /// leave an older mark, or none. `Moved`: another folder is at its path than the one that was opened, and nothing
+    /// was written.
+    pub(crate) fn mark(&mut self, size: u64) -> Result<(), DeviceFault>
+        ensures calls { Takes (marking (string_bytes self.old.root) (mark_text size))
+            (C.calls self.old.calls) (C.calls self.new.calls) result }
+        ensures staged { map move_of (vec_items self.new.staged)
+            ≡ map move_of (vec_items self.old.staged) }
+        ensures root { string_bytes self.new.root ≡ string_bytes self.old.root }
+    {
+        if self.is_broken {
+            return Err(DeviceFault::System);
+        }
+        self.check_folder()?;
+        let place = self.mark_place()?;
+        let beside = format!(in self.alloc; "{place}.new")?;
+        let text = format!(in self.alloc; "{size}\n")?;
+        put_mark(
+            &mut self.calls,
+            beside.as_str(),
+            place.as_str(),
+            text.as_bytes(),
+        )
+    }
+
+    /// How many entries the mark's file says were published, `None` where there is none, or it says no number.
+    pub(crate) fn read_mark(&self) -> Result<Option<u64>, DeviceFault> {
+        let place = self.mark_place()?;
+        let told = self.calls.metadata(place.as_str());
+        match self.calls.read(self.alloc, place.as_str(), told, MOST_MARK) {
+            Ok(Some(bytes)) => Ok(parse_mark(bytes.as_slice())),
+            Ok(None) | Err(DeviceFault::TooLarge) => Ok(None),
+            Err(fault) => Err(fault),
+        }
     }
 }

@@ -14,6 +14,8 @@ pub mod law;
 mod lines;
 mod lock;
 mod look;
+mod making;
+mod mark;
 mod record;
 mod shelf;
 pub mod shelf_law;

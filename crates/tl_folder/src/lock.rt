@@ -3,16 +3,21 @@
 //! each that writes looks first whether what is locked is still at its path. The look and what follows it are two
 //! calls.
 
-ghost use Rattle.std.specs.Prelude.{[], ◌∷◌, IsOk, OnOk};
+ghost use Rattle.std.specs.Prelude.{◌≡◌, true, [], ◌∷◌, IfOk, IsOk, OnOk};
 ghost use Rattle.tl_folder.specs.Step as step;
 ghost use Rattle.tl_folder.specs.FileCalls.{Begun};
+ghost use Rattle.tl_folder.specs.Inner.Making.{MakesFolders};
 
 use crate::file_calls::FileCalls;
 use crate::file_id::FileId;
 use crate::look::check_plain;
+use crate::making::make_folders;
+use crate::record::note_of;
 use crate::system::{OpenedFile, SystemCalls};
+use http_server::Log;
 use std::fs::{File, Files, Metadata, OpenOptions};
 use std::io;
+use std::marker::Model;
 use tl_device::DeviceFault;
 
 /// A plain file that is open and locked.
@@ -49,10 +54,21 @@ impl LockedFile {
     }
 }
 
-/// A lock on a folder. It is given back where it is dropped, and where the process ends in any way.
+/// A lock on a folder. It is given back where it is dropped, and where the process ends in any way. Contracts see the
+/// path by which the folder was locked.
 #[derive(Drop)]
 pub struct FolderLock {
     folder: OpenedFile<File>,
+    place: Log<(), u8>,
+}
+
+impl Model for FolderLock {
+    ghost use Rattle.tl_folder.specs.Events.{noted};
+    ghost use Rattle.tl_folder.specs.Opened as seen;
+
+    ghost Value = { seen.Locked };
+
+    ghost view = { λ l. record { place = noted l.place } };
 }
 
 impl FolderLock {
@@ -75,12 +91,17 @@ fn lock_by<C: FileCalls<File = OpenedFile<File>>>(
     calls: &mut C,
     path: &str,
 ) -> Result<FolderLock, DeviceFault>
-    ensures { Begun (step.MakeFolder path.now ∷ []) (C.calls calls.old) (C.calls calls.new) result }
+    ensures place { IfOk result (λ lock. lock.place ≡ path.now) }
+    ensures calls { MakesFolders true path.now
+        (C.calls calls.old) (C.calls calls.new) result }
 {
-    calls.make_folder(path)?;
+    make_folders(calls, path, true)?;
     let folder = calls.open_folder(path)?;
     folder.lock()?;
-    let lock = FolderLock { folder };
+    let lock = FolderLock {
+        folder,
+        place: note_of(path.as_bytes()),
+    };
     if !lock.is_told(calls.metadata(path)) {
         return Err(DeviceFault::Moved);
     }
@@ -89,9 +110,8 @@ fn lock_by<C: FileCalls<File = OpenedFile<File>>>(
 
 /// Locks the folder at this path, which is made where it isn't there. `Busy`: another process has it. `Moved`: another
 /// folder came to the path meanwhile.
-pub fn lock_folder<H: Files<File = File>>(
-    files: &H,
-    path: &str,
-) -> Result<FolderLock, DeviceFault> {
+pub fn lock_folder<H: Files<File = File>>(files: &H, path: &str) -> Result<FolderLock, DeviceFault>
+    ensures { IfOk result (λ lock. lock.place ≡ path.now) }
+{
     lock_by(&mut SystemCalls::new(files), path)
 }

@@ -2,8 +2,8 @@
 //! what isn't as it should be is never opened. The look and the open are two calls, since std has no open that refuses
 //! a link and doesn't wait for a pipe: what comes to the path in between is opened all the same.
 
-ghost use Rattle.std.specs.Prelude.{◌≡◌, ◌≢◌, ◌↔◌, true, false, IfErr, IfOk, IsErrAnd, IsOkAnd, MatchResult, OnOk, OnSome};
-ghost use Rattle.std.specs.Fs.{IsFile, file_type};
+ghost use Rattle.std.specs.Prelude.{◌≡◌, ◌≢◌, ◌↔◌, true, false, IfErr, IfOk, IsErrAnd, IsOkAnd, IsTrue, MatchResult, OnOk, OnSome};
+ghost use Rattle.std.specs.Fs.{IsDir, IsFile, file_type};
 ghost use Rattle.std.specs.IoError.{error_kind};
 ghost use Rattle.tl_device.specs.Faults.{after_kind};
 
@@ -35,6 +35,16 @@ pub(crate) fn check_plain(told: io::Result<Metadata>) -> Result<(), DeviceFault>
 {
     is_plain(told)?;
     Ok(())
+}
+
+/// Whether a folder is at a path, by what the system told of it.
+pub(crate) fn is_folder(told: io::Result<Metadata>) -> bool
+    ensures { IsTrue result ↔ IsOkAnd told (λ m. IsDir (file_type m)) }
+{
+    match told {
+        Ok(metadata) => metadata.is_dir(),
+        Err(_) => false,
+    }
 }
 
 /// Opens the plain file at a path of which the system told this, and follows a link if `told` did. `None`: nothing is

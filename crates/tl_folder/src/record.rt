@@ -31,6 +31,15 @@ pub(crate) fn note_bytes(note: &mut Log<(), u8>, bytes: &[u8])
     }
 }
 
+/// A note of bytes.
+pub(crate) fn note_of(bytes: &[u8]) -> Log<(), u8>
+    ensures { noted result ≡ bytes.now }
+{
+    let mut note = Log::new();
+    note_bytes(&mut note, bytes);
+    note
+}
+
 impl Record {
     /// No call yet.
     pub(crate) fn new() -> Record

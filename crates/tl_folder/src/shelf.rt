@@ -1,12 +1,14 @@
 //! A shelf in a folder.
 
 ghost use Rattle.std.specs.Prelude.{◌≡◌, [], ◌∷◌, ◌++◌, IfOk, OnOk, OnErr};
+ghost use Rattle.tl_folder.specs.Folders.{IsOver};
 
 use crate::call_outcome::CallOutcome;
 use crate::disk::CrashOutcome;
 use crate::files::FolderFiles;
-use crate::record::Record;
+use crate::record::{Record, note_of};
 use crate::system::SystemCalls;
+use http_server::Log;
 use std::alloc::{Allocator, Global};
 use std::fs::Files;
 use std::marker::Model;
@@ -16,14 +18,16 @@ use tl_tile::Resource;
 
 /// A folder with a log in the layout of C2SP tlog-tiles: the path of each resource is that of its file. A file is
 /// written beside its place under the name with `.new`. Where a settling fails, each later call fails: what outlasts a
-/// crash isn't known then. Where another folder came to its path, staging and settling fail, and nothing is written
-/// there.
+/// crash isn't known then. Where another folder came to its path, staging, settling and marking fail, and nothing is
+/// written there. The mark is the file `published`: the number in decimal and a newline.
 #[derive(Drop)]
 pub struct FolderShelf<D, H> {
     disk: D,
     files: FolderFiles<SystemCalls<H>>,
     calls: Record,
     failures: u64,
+    place: Log<(), u8>,
+    published: Option<u64>,
 }
 
 impl<D, H> Model for FolderShelf<D, H> {
@@ -32,6 +36,7 @@ impl<D, H> Model for FolderShelf<D, H> {
     ghost Value = { seen.Calls };
 
     ghost use Rattle.std.specs.Prelude.{map, string_bytes, vec_items};
+    ghost use Rattle.tl_folder.specs.Events.{noted};
     ghost use Rattle.tl_folder.specs.Inner.Staged.{move_of};
 
     ghost view = { λ s. record {
@@ -40,12 +45,15 @@ impl<D, H> Model for FolderShelf<D, H> {
       root = string_bytes s.files.root;
       moves = map move_of (vec_items s.files.staged);
       made = s.files.calls.log;
+      place = noted s.place;
+      published = s.published;
     } };
 }
 
 // That the folder failed over a resource. Where another folder came to its path, the fault is over all of it.
 fn fault_over(resource: &Resource, why: DeviceFault) -> ShelfFault
-    ensures { result.why ≡ why }
+    ensures why { result.why ≡ why }
+    ensures over { IsOver resource.now result }
 {
     let resource = match why {
         DeviceFault::Moved => None,
@@ -55,10 +63,8 @@ fn fault_over(resource: &Resource, why: DeviceFault) -> ShelfFault
 }
 
 impl<D: CrashOutcome + Drop, H: Files + Drop> FolderShelf<D, H> {
-    ghost use Rattle.tl_folder.specs.Step as step;
-    ghost use Rattle.tl_folder.specs.FileCalls.{done};
-    ghost use Rattle.tl_folder.specs.Posix.{folder_of};
-    ghost use Rattle.tl_folder.specs.Settling.{naming_in};
+    ghost use Rattle.std.specs.Prelude.{None};
+    ghost use Rattle.tl_folder.specs.Settling.{OpensFolder};
 
     /// The folder at this path, which is made where it isn't there.
     pub fn open(
@@ -69,8 +75,10 @@ impl<D: CrashOutcome + Drop, H: Files + Drop> FolderShelf<D, H> {
     ) -> Result<FolderShelf<D, H>, DeviceFault>
         ensures events { IfOk result (λ shelf. shelf.events ≡ []) }
         ensures moves { IfOk result (λ shelf. shelf.moves ≡ []) }
-        ensures made { IfOk result (λ shelf. shelf.made
-            ≡ done (step.MakeFolder path.now ∷ naming_in (folder_of path.now))) }
+        ensures made { IfOk result (λ shelf. OpensFolder path.now [] shelf.made) }
+        ensures place { IfOk result (λ shelf. shelf.place ≡ path.now) }
+        ensures unmarked { IfOk result (λ shelf. shelf.published ≡ None) }
+        ensures unfailed { IfOk result (λ shelf. shelf.failures ≡ 0) }
     {
         let files = FolderFiles::open(SystemCalls::new(files), alloc, path)?;
         Ok(FolderShelf {
@@ -78,23 +86,32 @@ impl<D: CrashOutcome + Drop, H: Files + Drop> FolderShelf<D, H> {
             files,
             calls: Record::new(),
             failures: 0,
+            place: note_of(path.as_bytes()),
+            published: None,
         })
     }
 }
 
 impl<D: CrashOutcome, H: Files + Drop> Shelf for FolderShelf<D, H> {
-    ghost use Rattle.std.specs.Prelude.{false};
+    ghost use Rattle.std.specs.Prelude.{false, Some};
     ghost use Rattle.tl_archive.specs.Shelves.{Stages, Unstages, Settles, Fails};
     ghost use Rattle.tl_tile.specs.Path.{IsResource};
+    ghost use Rattle.tl_folder.specs.FileCalls.{Takes};
     ghost use Rattle.tl_folder.specs.Folders.{SettlesFiles, kept_by, traced_by};
-    ghost use Rattle.tl_folder.specs.Places.{place_of};
-    ghost use Rattle.tl_folder.specs.Settling.{WritesAside, move_to, new_path};
+    ghost use Rattle.tl_folder.specs.Places.{mark_text, place_of};
+    ghost use Rattle.tl_folder.specs.Settling.{WritesAside, marking, move_to, new_path};
 
     ghost kept = { λ s. kept_by D.held D.reached s };
 
     ghost trace = { λ s. traced_by D.held D.reached s };
 
     ghost faults = { λ s. s.failures };
+
+    ghost place = { λ s. s.place };
+
+    ghost published = { λ s. s.published };
+
+    ghost may_fail = { λ s r fault. IsOver r fault };
 
     ghost is_honest = { false };
 
@@ -114,6 +131,8 @@ impl<D: CrashOutcome, H: Files + Drop> Shelf for FolderShelf<D, H> {
             ≡ self.old.moves ++ move_to (place_of self.old.root resource.now) ∷ []) }
         ensures unmoved { OnErr result (self.new.moves ≡ self.old.moves) }
         ensures root { self.new.root ≡ self.old.root }
+        ensures place { self.new.place ≡ self.old.place }
+        ensures mark { self.new.published ≡ self.old.published }
     {
         match self.files.stage(resource, bytes) {
             Ok(()) => {
@@ -140,6 +159,8 @@ impl<D: CrashOutcome, H: Files + Drop> Shelf for FolderShelf<D, H> {
         ensures made { SettlesFiles self.old self.new.made result }
         ensures moves { OnOk result (self.new.moves ≡ []) }
         ensures root { self.new.root ≡ self.old.root }
+        ensures place { self.new.place ≡ self.old.place }
+        ensures mark { self.new.published ≡ self.old.published }
     {
         match self.files.settle() {
             Ok(()) => {
@@ -154,6 +175,47 @@ impl<D: CrashOutcome, H: Files + Drop> Shelf for FolderShelf<D, H> {
                     why,
                 })
             }
+        }
+    }
+
+    fn mark_published(&mut self, size: u64) -> Result<(), ShelfFault>
+        ensures kept { kept_by D.held D.reached self.new ≡ kept_by D.held D.reached self.old }
+        ensures marked { OnOk result (self.new.published ≡ Some size) }
+        ensures unmarked { OnErr result (self.new.published ≡ self.old.published) }
+        ensures unfailed { OnOk result (self.new.failures ≡ self.old.failures) }
+        ensures failed { OnErr result (Fails self.old.failures self.new.failures) }
+        ensures trace { traced_by D.held D.reached self.new
+            ≡ traced_by D.held D.reached self.old ++ kept_by D.held D.reached self.new ∷ [] }
+        ensures made { Takes (marking self.old.root (mark_text size))
+            self.old.made self.new.made result }
+        ensures moves { self.new.moves ≡ self.old.moves }
+        ensures root { self.new.root ≡ self.old.root }
+        ensures place { self.new.place ≡ self.old.place }
+    {
+        match self.files.mark(size) {
+            Ok(()) => {
+                self.calls.note(CallOutcome::Marked, &[]);
+                self.published = Some(size);
+                Ok(())
+            }
+            Err(why) => {
+                self.calls.note(CallOutcome::Failed, &[]);
+                self.failures = self.failures.saturating_add(1);
+                Err(ShelfFault {
+                    resource: None,
+                    why,
+                })
+            }
+        }
+    }
+
+    fn read_mark(&self) -> Result<Option<u64>, ShelfFault> {
+        match self.files.read_mark() {
+            Ok(found) => Ok(found),
+            Err(why) => Err(ShelfFault {
+                resource: None,
+                why,
+            }),
         }
     }
 

@@ -9,7 +9,7 @@ ghost use Rattle.tl_folder.specs.Step.{Path, Bytes};
 ghost use Rattle.tl_folder.specs.FileCalls.{Call, Begins, done};
 ghost use Rattle.tl_folder.specs.Posix.{Disk, Becomes};
 ghost use Rattle.tl_folder.specs.Places.{place_of};
-ghost use Rattle.tl_folder.specs.Settling.{AreCovered, IsAside, new_path, settling};
+ghost use Rattle.tl_folder.specs.Settling.{AreCovered, IsAside, marking, new_path, settling};
 ghost use Rattle.tl_folder.specs.Folders.{put};
 ghost use Rattle.tl_folder.specs.OnDisk.{AreOnce, AreStaged, Reflects, ReflectsEither, moves_of};
 
@@ -18,6 +18,14 @@ ghost use Rattle.tl_folder.specs.OnDisk.{AreOnce, AreStaged, Reflects, ReflectsE
 pub fn staging_spares_each_resource()
     ensures { (disk now : Disk) (root : Path) (r s : Resource) (bytes : Bytes) (calls : List Call)
         → IsResource s → IsAside (new_path (place_of root r)) bytes calls
+        → Becomes disk calls now → now (place_of root s) ≡ disk (place_of root s) }
+{}
+
+/// To mark how many entries were published, whatever comes of it, changes the file of no resource. It computes nothing:
+/// its contract is the law.
+pub fn marking_spares_each_resource()
+    ensures { (disk now : Disk) (root : Path) (s : Resource) (bytes : Bytes) (calls : List Call)
+        → IsResource s → Begins (marking root bytes) calls
         → Becomes disk calls now → now (place_of root s) ≡ disk (place_of root s) }
 {}
 

@@ -7,6 +7,7 @@ ghost use Rattle.tl_folder.specs.Inner.Staged.{move_of};
 
 use crate::file_calls::FileCalls;
 use crate::look::check_plain;
+use crate::making::make_folders;
 use std::path::Path;
 use tl_device::DeviceFault;
 
@@ -64,7 +65,7 @@ pub(crate) fn put_staged<C: FileCalls>(
     sync_folders(calls, folders)
 }
 
-/// Writes a new file, and makes its folder where it isn't there.
+/// Writes a new file, and makes the folders above it where they aren't there. Their names may be lost in a crash.
 pub(crate) fn write_in_folder<C: FileCalls>(
     calls: &mut C,
     path: &str,
@@ -78,8 +79,9 @@ pub(crate) fn write_in_folder<C: FileCalls>(
         Err(DeviceFault::NotThere) => {}
         Err(fault) => return Err(fault),
     }
-    if let Some(folder) = Path::new(path).parent() {
-        calls.make_folder(folder.as_str())?;
-    }
+    let Some(folder) = Path::new(path).parent() else {
+        return calls.write(path, bytes);
+    };
+    make_folders(calls, folder.as_str(), false)?;
     calls.write(path, bytes)
 }

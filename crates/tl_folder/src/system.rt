@@ -5,13 +5,11 @@ ghost use Rattle.std.specs.Prelude.{◌≡◌, ◌≤◌, [], length, is_ok, IfO
 
 use crate::call_log::{Asked, CallLog};
 use crate::file_calls::FileCalls;
-use crate::folders::folder_of;
 use crate::look::{open_folder, open_plain};
 use std::alloc::{Allocator, Global};
-use std::fs::{File, Files, Metadata, OpenFile, OpenOptions, TryLockError, create_dir_all, rename};
+use std::fs::{File, Files, Metadata, OpenFile, OpenOptions, TryLockError, create_dir, rename};
 use std::io;
 use std::io::Write;
-use std::path::Path;
 use tl_device::{Counted, DeviceFault, read_whole};
 
 /// The system, by this handle, and the calls that were made.
@@ -89,32 +87,6 @@ fn sync_names<H: Files>(files: &H, path: &str) -> Result<(), DeviceFault> {
     Ok(())
 }
 
-// How many folders aren't there, of that at this path and those above it, up to the first that is.
-fn count_missing<H: Files>(files: &H, path: &str) -> usize {
-    let mut count = 0usize;
-    for folder in Path::new(path).ancestors() {
-        let folder = folder.as_str();
-        if folder.is_empty() || files.metadata(folder).is_ok() {
-            return count;
-        }
-        count = count.saturating_add(1);
-    }
-    count
-}
-
-// Makes the folder at this path and those above it, where they aren't there, and has the names of those that were made
-// outlast a crash.
-fn make_folders<H: Files>(files: &H, path: &str) -> Result<(), DeviceFault> {
-    let missing = count_missing(files, path);
-    create_dir_all(files, path)?;
-    for folder in Path::new(path).ancestors().take(missing) {
-        if let Some(above) = folder_of(folder.as_str()) {
-            sync_names(files, above)?;
-        }
-    }
-    Ok(())
-}
-
 // An answer of the system, with its error as a fault.
 fn or_fault<T>(answer: io::Result<T>) -> Result<T, DeviceFault>
     ensures { is_ok result ≡ is_ok answer }
@@ -164,7 +136,7 @@ impl<H: Files> FileCalls for SystemCalls<H> {
     }
 
     fn make_folder(&mut self, path: &str) -> Result<(), DeviceFault> {
-        let outcome = make_folders(&self.files, path);
+        let outcome = or_fault(create_dir(&self.files, path));
         self.log.note(Asked::MakeFolder, path, &[], outcome.is_ok());
         outcome
     }

@@ -1,0 +1,14 @@
+use Rattle.tl_folder.proofs.Calls.{now_marked, now_failed, each_now, same_events}
+use Rattle.tl_folder.proofs.shelf.FolderShelfShelf.mark_published.Goals as goal
+
+pub returns-in-Ok-clause-kept : goal.returns-in-Ok-clause-kept
+returns-in-Ok-clause-kept g c = now_marked g.D.CrashOutcome.reached _ _ _ _ _ (same_events _ _ _ _ _ _ _ _ c.self.view_is) c.note.ensures
+
+pub returns-in-Ok-clause-trace : goal.returns-in-Ok-clause-trace
+returns-in-Ok-clause-trace g c = each_now g.D.CrashOutcome.reached _ _ _ _ _ (same_events _ _ _ _ _ _ _ _ c.self.view_is) c.note.ensures
+
+pub returns-in-Err-clause-kept : goal.returns-in-Err-clause-kept
+returns-in-Err-clause-kept g c = now_failed g.D.CrashOutcome.reached _ _ _ _ _ (same_events _ _ _ _ _ _ _ _ c.self.view_is) c.note-in-Err.ensures
+
+pub returns-in-Err-clause-trace : goal.returns-in-Err-clause-trace
+returns-in-Err-clause-trace g c = each_now g.D.CrashOutcome.reached _ _ _ _ _ (same_events _ _ _ _ _ _ _ _ c.self.view_is) c.note-in-Err.ensures

@@ -1,0 +1,64 @@
+//! Folders that are made, with those above them where they aren't there.
+
+ghost use Rattle.tl_folder.specs.FileCalls.{Does};
+ghost use Rattle.tl_folder.specs.Settling.{naming_if};
+ghost use Rattle.tl_folder.specs.Inner.Making.{AsksOne, MakesFolders};
+
+use crate::file_calls::FileCalls;
+use crate::files::sync_parent;
+use crate::look::is_folder;
+use std::path::Path;
+use tl_device::DeviceFault;
+
+// Has the name of a folder that was made outlast a crash, where names are to.
+fn name_folder<C: FileCalls>(calls: &mut C, path: &str, are_named: bool) -> Result<(), DeviceFault>
+    ensures { Does (naming_if are_named path.now) (C.calls calls.old) (C.calls calls.new) result }
+{
+    if are_named {
+        sync_parent(calls, path)
+    } else {
+        Ok(())
+    }
+}
+
+// Makes the folder at this path where none is there. Whether one is there then: none is where that above it isn't.
+fn ask_for<C: FileCalls>(calls: &mut C, path: &str, are_named: bool) -> Result<bool, DeviceFault>
+    ensures { AsksOne are_named path.now (C.calls calls.old) (C.calls calls.new) result }
+{
+    match calls.make_folder(path) {
+        Ok(()) => {
+            name_folder(calls, path, are_named)?;
+            Ok(true)
+        }
+        Err(DeviceFault::NotThere) => Ok(false),
+        Err(fault) => {
+            if is_folder(calls.metadata(path)) {
+                return Ok(true);
+            }
+            Err(fault)
+        }
+    }
+}
+
+/// Makes the folder at this path, and those above it, where they aren't there. Where `are_named`, the name of each that
+/// was made is synced in the folder above it, before anything else is asked.
+#[tactic(auto, using(crate::proofs::Above::fewer_above))]
+pub(crate) fn make_folders<C: FileCalls>(
+    calls: &mut C,
+    path: &str,
+    are_named: bool,
+) -> Result<(), DeviceFault>
+    ensures { MakesFolders are_named path.now (C.calls calls.old) (C.calls calls.new) result }
+{
+    if ask_for(calls, path, are_named)? {
+        return Ok(());
+    }
+    let Some(parent) = Path::new(path).parent() else {
+        return Err(DeviceFault::NotThere);
+    };
+    make_folders(calls, parent.as_str(), are_named)?;
+    if ask_for(calls, path, are_named)? {
+        return Ok(());
+    }
+    Err(DeviceFault::NotThere)
+}
