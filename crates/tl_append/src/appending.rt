@@ -1,6 +1,6 @@
 //! Lines of an input that are appended to a log in batches.
 
-ghost use Rattle.std.specs.Prelude.{◌<◌, map, vec_items, OnErr, OnOk};
+ghost use Rattle.std.specs.Prelude.{◌≡◌, ◌<◌, map, vec_items, OnErr, OnOk};
 ghost use Rattle.tl_device.specs.Device.{passage};
 ghost use Rattle.tl_note.specs.Key.{IsKeyName};
 ghost use Rattle.tl_tile.specs.Bundle.{AreShortEntries};
@@ -34,6 +34,7 @@ fn publish<K: LogSigner, S: Shelf, W: Write>(
         (passage W.contents writer.old writer.new)) }
     ensures part { OnErr result (AppendsAtMost (K.log_key key.now) (map vec_items batch.now)
         (course S.kept S.trace shelf.old shelf.new ledger.old ledger.new)) }
+    ensures place { S.place shelf.new ≡ S.place shelf.old }
 {
     match append_batch(alloc, key, batch, shelf, ledger) {
         Ok(()) => {}
@@ -66,6 +67,7 @@ pub fn append_lines<K: LogSigner, S: Shelf, R: Read, W: Write>(
     ensures some { OnErr result (AppendsSome (K.log_key key.now)
         (course S.kept S.trace shelf.old shelf.new ledger.old ledger.new)
         (passage R.remaining reader.old reader.new)) }
+    ensures place { S.place shelf.new ≡ S.place shelf.old }
 {
     let mut lines = match Lines::new(alloc) {
         Ok(lines) => lines,

@@ -1,6 +1,6 @@
 //! One batch of entries that is appended to a log and published.
 
-ghost use Rattle.std.specs.Prelude.{◌≡◌, ◌+◌, ◌<◌, ◌^◌, ◌∷◌, ◌++◌, [], List, length, map, vec_items, OnErr, OnOk};
+ghost use Rattle.std.specs.Prelude.{◌≡◌, ◌+◌, ◌<◌, ◌^◌, ◌∷◌, ◌++◌, [], List, length, map, vec_items, OnErr, OnOk, Some};
 ghost use Rattle.sha2.specs.Sha256.{sha256};
 ghost use Rattle.tl_hash.specs.Bytes.{Bytes};
 ghost use Rattle.tl_note.specs.Key.{IsKeyName};
@@ -40,6 +40,7 @@ fn put_batch<S: Shelf>(
         (ledger.new.edge.size ≡ ledger.old.edge.size + length batch.now) }
     ensures same { OnErr result (ledger.new ≡ ledger.old) }
     ensures small { OnOk result (ledger.new.edge.size < 2 ^ 32) }
+    ensures place { S.place shelf.new ≡ S.place shelf.old }
 {
     if ledger.size().saturating_add(batch.len() as u64) > MOST_ENTRIES {
         return Err(RunFault::Operator);
@@ -52,8 +53,8 @@ fn put_batch<S: Shelf>(
 
 /// Puts a batch of entries behind the log on the shelf, which is the ledger's, and publishes it, once its tiles and
 /// bundles outlast a crash, under a note of its checkpoint by the key, whose name is the log's (C2SP tlog-checkpoint,
-/// tlog-tiles). At a fault the ledger's size tells whether the batch was put. `Operator`: the log would have more than
-/// 2^32 - 1 entries.
+/// tlog-tiles). The new size is then marked. At a fault the ledger's size tells whether the batch was put. `Operator`:
+/// the log would have more than 2^32 - 1 entries.
 pub fn append_batch<K: LogSigner, S: Shelf>(
     alloc: Global,
     key: &K,
@@ -70,6 +71,8 @@ pub fn append_batch<K: LogSigner, S: Shelf>(
     ensures small { OnOk result (ledger.new.edge.size < 2 ^ 32) }
     ensures part { OnErr result (AppendsAtMost (K.log_key key.now) (map vec_items batch.now)
         (course S.kept S.trace shelf.old shelf.new ledger.old ledger.new)) }
+    ensures marked { OnOk result (S.published shelf.new ≡ Some ledger.new.edge.size) }
+    ensures place { S.place shelf.new ≡ S.place shelf.old }
 {
     match put_batch(shelf, ledger, batch) {
         Ok(()) => {}

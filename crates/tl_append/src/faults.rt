@@ -4,12 +4,12 @@ ghost use Rattle.std.specs.Prelude.{◌≡◌, Some};
 ghost use Rattle.tl_command.specs.Faults.{after_device};
 ghost use Rattle.tl_command.specs.declared.place.Place.TheVariants.{Log};
 ghost use Rattle.tl_append.specs.Faults.{after_lines};
-ghost use Rattle.tl_append.specs.Inner.Faults.{after_ledger, after_open, after_shelf, is_taken};
+ghost use Rattle.tl_append.specs.Inner.Faults.{after_ledger, after_mark, after_open, after_shelf, is_taken};
 
 use tl_archive::ShelfFault;
 use tl_command::{Place, RunFault};
 use tl_device::DeviceFault;
-use tl_ledger::{LedgerFault, OpenFault};
+use tl_ledger::{LedgerFault, MarkFault, OpenFault};
 use tl_lines::LineFault;
 use tl_tile::Resource;
 
@@ -61,6 +61,16 @@ pub(crate) fn unopened(fault: OpenFault) -> RunFault
         OpenFault::Damaged(resource) => unfit(resource, DeviceFault::Damaged),
         OpenFault::Shelf(fault) => unkept(fault),
         OpenFault::OutOfMemory => RunFault::OutOfMemory,
+    }
+}
+
+/// What a command ends with where a log may not go on, by its mark.
+pub(crate) fn outrun(fault: MarkFault) -> RunFault
+    ensures { result ≡ after_mark fault }
+{
+    match fault {
+        MarkFault::Shelf(fault) => unkept(fault),
+        MarkFault::Older(_) => unfit(Resource::Checkpoint, DeviceFault::Older),
     }
 }
 

@@ -8,7 +8,7 @@ use std::alloc::{AllocError, Allocator, Global};
 use std::fs::Files;
 use tl_command::{LogKey, LogSigner, RunFault, read_file, read_private_key};
 use tl_key::{DemoKey, Note, SignerKey, VerifierKey, demo_key};
-use tl_note::{NoteFault, SignFault, Signer, Verifier, write_signature_line};
+use tl_note::{NoteFault, SignFault, Signer, Verifier};
 
 /// The key with which a log signs.
 #[derive(Drop)]
@@ -65,13 +65,7 @@ impl LogSigner for LogSigningKey {
         text: &str,
     ) -> Result<String<A>, AllocError> {
         match self {
-            LogSigningKey::Demonstration(key) => {
-                let Ok(signature) = key.sign(global, text.as_bytes()) else {
-                    return Err(AllocError);
-                };
-                let (name, id) = (Signer::name(key), Signer::key_id(key));
-                write_signature_line(alloc, name, id, signature.as_slice())
-            }
+            LogSigningKey::Demonstration(key) => key.line(alloc, global, text),
             LogSigningKey::Private(key) => key.line(alloc, global, text),
         }
     }

@@ -1,11 +1,12 @@
 //! Opening the log on a shelf under the key of its operator.
 
-ghost use Rattle.std.specs.Prelude.{◌≡◌, ◌∷◌, [], map, IfOk};
+ghost use Rattle.std.specs.Prelude.{◌≡◌, ◌∷◌, [], true, false, map, IfOk, OnOk};
 ghost use Rattle.sha2.specs.Sha256.{sha256};
-ghost use Rattle.tl_ledger.specs.Opening.{Opens};
+ghost use Rattle.tl_ledger.specs.Marks.{IsWithin};
+ghost use Rattle.tl_ledger.specs.Opening.{Opens, found_size};
 ghost use Rattle.tl_append.specs.Keys.{opening_key_of};
 
-use crate::faults::unopened;
+use crate::faults::{outrun, unopened};
 use crate::keys::LogOpeningKey;
 use std::alloc::Global;
 use std::snapshot::Snapshot;
@@ -32,22 +33,32 @@ fn open_by<S: Shelf>(
 }
 
 /// The ledger of the log on this shelf, whose checkpoint the verifier has to open (C2SP tlog-checkpoint): of no entries
-/// where there is none. `found` holds what was read.
+/// where there is none. `found` holds what was read. `Older`: more entries were published, and that isn't allowed.
 pub fn open_ledger<S: Shelf>(
     alloc: Global,
     verifier: LogOpeningKey,
+    allows_older: bool,
     shelf: &S,
     found: &mut Found<Global>,
 ) -> Result<Ledger<Global>, RunFault>
-    ensures { IfOk result (Opens sha256 (opening_key_of verifier ∷ []) found.new) }
+    ensures opens { IfOk result (Opens sha256 (opening_key_of verifier ∷ []) found.new) }
+    ensures within { allows_older ≡ false → S.is_honest ≡ true
+        → OnOk result (IsWithin (found_size found.new.head) (S.published shelf.now)) }
 {
     let own = Snapshot::of(&verifier);
     let verifier: Box<dyn Verifier> = match Box::new(alloc, verifier) {
         Ok(verifier) => verifier,
         Err(_) => return Err(RunFault::OutOfMemory),
     };
-    match open_by(alloc, &own, &[verifier], shelf, found) {
-        Ok(ledger) => Ok(ledger),
-        Err(fault) => Err(fault),
+    let ledger = match open_by(alloc, &own, &[verifier], shelf, found) {
+        Ok(ledger) => ledger,
+        Err(fault) => return Err(fault),
+    };
+    if allows_older {
+        return Ok(ledger);
+    }
+    match ledger.check_mark(shelf) {
+        Ok(()) => Ok(ledger),
+        Err(fault) => Err(outrun(fault)),
     }
 }

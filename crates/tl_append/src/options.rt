@@ -17,6 +17,8 @@ pub struct AppendOptions {
     pub batch: Option<u64>,
     /// Whether the folder may have no log yet.
     pub is_new: bool,
+    /// Whether the log may go on from a checkpoint of fewer entries than were published.
+    pub allows_older: bool,
 }
 
 impl AppendOptions {

@@ -1,8 +1,10 @@
 //! A run of the command `append`.
 
-ghost use Rattle.std.specs.Prelude.{◌≡◌, ◌⊎◌, true, string_bytes, OnErr, OnOk, None};
+ghost use Rattle.std.specs.Prelude.{◌≡◌, ◌⊎◌, true, false, string_bytes, OnErr, OnOk, None};
 ghost use Rattle.tl_device.specs.Device.{passage};
 ghost use Rattle.tl_note.specs.Key.{IsKeyName};
+ghost use Rattle.tl_ledger.specs.Marks.{IsWithin};
+ghost use Rattle.tl_ledger.specs.Opening.{found_size};
 ghost use Rattle.tl_command.specs.Origins.{RefusesOrigin};
 ghost use Rattle.tl_append.specs.Keys.{log_key_of};
 ghost use Rattle.tl_append.specs.Running.{GoesOn, Stays, batch_size, visit};
@@ -40,9 +42,12 @@ fn append_under<S: Shelf, R: Read, W: Write>(
     ensures left { options.now.is_new ≡ true → OnErr result ((found.new.head ≡ None)
         ⊎ Stays (visit S.kept S.trace shelf.old shelf.new)
         (passage R.remaining reader.old reader.new)) }
+    ensures within { options.now.allows_older ≡ false → S.is_honest ≡ true
+        → OnOk result (IsWithin (found_size found.new.head) (S.published shelf.old)) }
+    ensures place { S.place shelf.new ≡ S.place shelf.old }
 {
     let LogKeys { signer, verifier } = keys;
-    let mut ledger = match open_ledger(alloc, verifier, shelf, found) {
+    let mut ledger = match open_ledger(alloc, verifier, options.allows_older, shelf, found) {
         Ok(ledger) => ledger,
         Err(fault) => return Err(fault),
     };
@@ -58,9 +63,9 @@ fn append_under<S: Shelf, R: Read, W: Write>(
 }
 
 /// Appends the lines of the input to the log on the shelf, which begins one where it has none: it is published after so
-/// many entries as the options say, and at the end, and for each publication a line with size and root is printed. The
-/// note of the checkpoint found there has to open under the log's key, and its partial tiles and bundle to have its
-/// root; `found` holds what was read of them. `Taken`: there is a log, though the options want none.
+/// many entries as the options say, and at the end, and each time a line with size and root is printed. The note of the
+/// checkpoint that was there has to open under the log's key, and its partial tiles and bundle to have its root;
+/// `found` holds what was read. `Taken`: there is a log, and none is to be. `Older`: more entries were published.
 pub fn run_append<H: Files, S: Shelf, R: Read, W: Write>(
     rt: &H,
     alloc: Global,
@@ -80,6 +85,9 @@ pub fn run_append<H: Files, S: Shelf, R: Read, W: Write>(
     ensures left { options.now.is_new ≡ true → OnErr result ((found.new.head ≡ None)
         ⊎ Stays (visit S.kept S.trace shelf.old shelf.new)
         (passage R.remaining reader.old reader.new)) }
+    ensures within { options.now.allows_older ≡ false → S.is_honest ≡ true
+        → OnOk result (IsWithin (found_size found.new.head) (S.published shelf.old)) }
+    ensures place { S.place shelf.new ≡ S.place shelf.old }
 {
     let origin = options.origin.as_str();
     if !is_key_name(origin) {

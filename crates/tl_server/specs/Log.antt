@@ -1,5 +1,5 @@
 -- What a log answers to a request (C2SP tlog-tiles, "Merkle Tree", "Log Entries", "Checkpoints").
-use Rattle.std.specs.Prelude.{◌≡◌, ℕ, [], ◌∷◌, Bool, true, Option, Some, None, Result, Ok, Err, IfOk, codes, option_map, vec_items}
+use Rattle.std.specs.Prelude.{◌≡◌, ℕ, [], ◌∷◌, Bool, true, Option, Some, None, Result, Ok, Err, IfOk, IfErr, codes, option_map, vec_items}
 use Rattle.std.specs.declared.vec.Vec.{Vec}
 use Rattle.sha2.specs.Sha256.{sha256}
 use Rattle.tl_hash.specs.Bytes.{Bytes}
@@ -74,17 +74,18 @@ read_answer r (Ok (Some bytes)) = record { status = 200; allow = []; kind = kind
 read_answer r (Ok None) = bare 404
 read_answer r (Err _) = bare 500
 
--- the answer to one read of a shelf, which gives what is there where the shelf is honest; A is the allocator of its
--- bytes
-pub record ReadsShelf (A : Type 0) (is_honest : Bool) (held : Held) (r : Resource) (a : Answer) : Type 0 where
+-- the answer to one read of a shelf, which gives what is there where the shelf is honest, and fails only as the shelf
+-- may; A is the allocator of its bytes
+pub record ReadsShelf (A : Type 0) (is_honest : Bool) (held : Held) (MayFail : Resource → ShelfFault → Type 0) (r : Resource) (a : Answer) : Type 0 where
   pub read : ShelfRead A
   pub right : is_honest ≡ true → IfOk read (λ found. option_map vec_items found ≡ held r)
+  pub failed : IfErr read (MayFail r)
   pub answer : a ≡ read_answer r read
 
 -- the table over a shelf
-abbrev pub ShelfAnswers : Type 0 → Bool → Held → Bytes → Bytes → Answer → Type 0
-ShelfAnswers A is_honest held = ResourceAnswers (Unit {0}) (ReadsShelf A is_honest held)
+abbrev pub ShelfAnswers : Type 0 → Bool → Held → (Resource → ShelfFault → Type 0) → Bytes → Bytes → Answer → Type 0
+ShelfAnswers A is_honest held MayFail = ResourceAnswers (Unit {0}) (ReadsShelf A is_honest held MayFail)
 
 -- the same of a request's head; its body isn't read
-abbrev pub ShelfDecides : Type 0 → Bool → Held → Begun → Answer → Type 0
-ShelfDecides A is_honest held b a = ShelfAnswers A is_honest held b.head.method b.head.target a
+abbrev pub ShelfDecides : Type 0 → Bool → Held → (Resource → ShelfFault → Type 0) → Begun → Answer → Type 0
+ShelfDecides A is_honest held MayFail b a = ShelfAnswers A is_honest held MayFail b.head.method b.head.target a

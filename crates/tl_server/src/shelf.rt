@@ -44,8 +44,8 @@ fn answer_shelf<A: Allocator, S: Shelf, O: Write>(
     target: &[u8],
 ) -> Result<Option<u16>, ServeFault>
     requires { IsUtf8 target.now }
-    ensures { Answered (ShelfAnswers A S.is_honest (S.kept shelf.now).held method.now target.now)
-        (passage O.contents writer.old writer.new) result }
+    ensures { Answered (ShelfAnswers A S.is_honest (S.kept shelf.now).held (S.may_fail shelf.now)
+        method.now target.now) (passage O.contents writer.old writer.new) result }
 {
     let Some(resource) = resource_of(target) else {
         return refuse(writer, 404);
@@ -66,8 +66,10 @@ pub fn serve_shelf<A: Allocator, S: Shelf, I: Read, O: Write>(
     shelf: &S,
 ) -> Result<Option<u16>, ServeFault>
     ensures { Serves (Unit {0})
-        (Exchange (Unit {0}) (ShelfDecides A S.is_honest (S.kept shelf.now).held)) (passage
-        I.remaining reader.old reader.new) (passage O.contents writer.old writer.new) result }
+        (Exchange (Unit {0})
+        (ShelfDecides A S.is_honest (S.kept shelf.now).held (S.may_fail shelf.now)))
+        (passage I.remaining reader.old reader.new)
+        (passage O.contents writer.old writer.new) result }
 {
     let mut buf = [0u8; MOST_HEAD];
     let mut headers = [EMPTY_HEADER_SPAN; MOST_FIELDS];

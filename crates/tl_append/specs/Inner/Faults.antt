@@ -9,6 +9,8 @@ use Rattle.tl_command.specs.declared.fault.RunFault.TheVariants as run
 use Rattle.tl_command.specs.declared.place.Place.TheVariants.{Log}
 use Rattle.tl_ledger.specs.declared.fault.LedgerFault.{LedgerFault}
 use Rattle.tl_ledger.specs.declared.fault.LedgerFault.TheVariants as ledger
+use Rattle.tl_ledger.specs.declared.marking.MarkFault.{MarkFault}
+use Rattle.tl_ledger.specs.declared.marking.MarkFault.TheVariants as mark
 use Rattle.tl_ledger.specs.declared.opened.fault.OpenFault.{OpenFault}
 use Rattle.tl_ledger.specs.declared.opened.fault.OpenFault.TheVariants as opening
 
@@ -29,6 +31,11 @@ after_open (opening.Missing r) = after_device (Log (Some r)) device.NotThere
 after_open (opening.Damaged r) = after_device (Log (Some r)) device.Damaged
 after_open (opening.Shelf fault) = after_shelf fault
 after_open opening.OutOfMemory = run.OutOfMemory
+
+-- where a log may not go on, by its mark
+abbrev pub after_mark : MarkFault → RunFault
+after_mark (mark.Shelf fault) = after_shelf fault
+after_mark (mark.Older size) = after_device (Log (Some resource.Checkpoint)) device.Older
 
 -- where there is a log, and none is to be
 abbrev pub is_taken : RunFault

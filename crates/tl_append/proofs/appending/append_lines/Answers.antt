@@ -1,4 +1,4 @@
-use Rattle.std.proofs.Common.{Global, ℕ, ap, ◌≡◌, ◌<◌, inr, [], length, map, vec_items, sym, subst, arith, append-nil}
+use Rattle.std.proofs.Common.{Global, ℕ, ap, refl, ◌∙◌, ◌≡◌, ◌<◌, inr, [], length, map, vec_items, sym, subst, arith, append-nil}
 use Rattle.std.specs.Vec.{vec_len}
 use Rattle.std.proofs.lemmas.Bool.{eqb-true}
 use Rattle.std.proofs.lemmas.List.{length-map}
@@ -16,14 +16,16 @@ returns-in-Err-clause-some g c =
     none_begun (g.K.LogSigner.log_key c.args.key.now) (g.S.Shelf.kept c.args.shelf.now) (g.S.Shelf.trace c.args.shelf.now) c.args.ledger.now (g.R.Read.remaining c.args.reader.now.device) c.args.reader.now.failed
 
 pub loop-turn-init : goal.loop-turn-init
-loop-turn-init g c =
-    begun (g.K.LogSigner.log_key c.args.key.now) c.args.batch (g.S.Shelf.kept c.args.shelf.now) (g.S.Shelf.trace c.args.shelf.now) c.args.ledger.now (g.R.Read.remaining c.args.reader.now.device) (g.W.Write.contents c.args.writer.now.device) c.args.reader.now.failed c.args.writer.now.failed c.in-Ok.lines c.in-Ok.ensures
+loop-turn-init g c = record {
+  so_far = begun (g.K.LogSigner.log_key c.args.key.now) c.args.batch (g.S.Shelf.kept c.args.shelf.now) (g.S.Shelf.trace c.args.shelf.now) c.args.ledger.now (g.R.Read.remaining c.args.reader.now.device) (g.W.Write.contents c.args.writer.now.device) c.args.reader.now.failed c.args.writer.now.failed c.in-Ok.lines c.in-Ok.ensures;
+  place = refl;
+}
 
 pub returns-in-Err-take_most-clause-some : goal.returns-in-Err-take_most-clause-some
 returns-in-Err-take_most-clause-some g c =
     not_read (g.K.LogSigner.log_key c.args.key.now) c.args.batch c.loop-turn.is_due (g.S.Shelf.kept c.args.shelf.now) (g.S.Shelf.kept c.loop-turn.shelf) (g.S.Shelf.trace c.args.shelf.now) (g.S.Shelf.trace c.loop-turn.shelf) c.args.ledger.now c.loop-turn.ledger
     (g.R.Read.remaining c.args.reader.now.device) (g.R.Read.remaining c.loop-turn.reader.device) (g.R.Read.remaining c.take_most.new.reader.device) (g.W.Write.contents c.args.writer.now.device) (g.W.Write.contents c.loop-turn.writer.device) (g.W.Write.contents c.loop-turn.writer.device)
-    c.args.reader.now.failed c.loop-turn.reader.failed c.take_most.new.reader.failed c.args.writer.now.failed c.loop-turn.writer.failed c.loop-turn.writer.failed c.loop-turn.lines c.take_most.new.self c.loop-turn.invariant
+    c.args.reader.now.failed c.loop-turn.reader.failed c.take_most.new.reader.failed c.args.writer.now.failed c.loop-turn.writer.failed c.loop-turn.writer.failed c.loop-turn.lines c.take_most.new.self c.loop-turn.invariant.so_far
     Global c.args.batch c.in-Err-take_most.fault c.in-Err-take_most.ensures
 
 pub returns-then-not-is_due-clause-all : goal.returns-then-not-is_due-clause-all
@@ -34,7 +36,7 @@ returns-then-not-is_due-clause-all g c =
     c.in-Ok-take_most.ensures.2 (omega (arith, none, c.requires.batch)) in
     none_left (g.K.LogSigner.log_key c.args.key.now) c.args.batch c.loop-turn.is_due (g.S.Shelf.kept c.args.shelf.now) (g.S.Shelf.kept c.loop-turn.shelf) (g.S.Shelf.trace c.args.shelf.now) (g.S.Shelf.trace c.loop-turn.shelf) c.args.ledger.now c.loop-turn.ledger
     (g.R.Read.remaining c.args.reader.now.device) (g.R.Read.remaining c.loop-turn.reader.device) (g.R.Read.remaining c.take_most.new.reader.device) (g.W.Write.contents c.args.writer.now.device) (g.W.Write.contents c.loop-turn.writer.device) (g.W.Write.contents c.loop-turn.writer.device)
-    c.args.reader.now.failed c.loop-turn.reader.failed c.take_most.new.reader.failed c.args.writer.now.failed c.loop-turn.writer.failed c.loop-turn.writer.failed c.loop-turn.lines c.take_most.new.self c.loop-turn.invariant
+    c.args.reader.now.failed c.loop-turn.reader.failed c.take_most.new.reader.failed c.args.writer.now.failed c.loop-turn.writer.failed c.loop-turn.writer.failed c.loop-turn.lines c.take_most.new.self c.loop-turn.invariant.so_far
     c.if-not-is_due.true (rw (nothing_in items none) at all)
 
 pub publish-requires-clause-short : goal.publish-requires-clause-short
@@ -49,7 +51,7 @@ returns-in-Err-publish-clause-some g c =
     rw c.as_slice.ensures.value c.in-Ok-take_most.ensures.1 in
     not_published (g.K.LogSigner.log_key c.args.key.now) c.args.batch c.loop-turn.is_due (g.S.Shelf.kept c.args.shelf.now) (g.S.Shelf.kept c.loop-turn.shelf) (g.S.Shelf.trace c.args.shelf.now) (g.S.Shelf.trace c.loop-turn.shelf) c.args.ledger.now c.loop-turn.ledger
     (g.R.Read.remaining c.args.reader.now.device) (g.R.Read.remaining c.loop-turn.reader.device) (g.R.Read.remaining c.take_most.new.reader.device) (g.W.Write.contents c.args.writer.now.device) (g.W.Write.contents c.loop-turn.writer.device) (g.W.Write.contents c.publish.new.writer.device)
-    c.args.reader.now.failed c.loop-turn.reader.failed c.take_most.new.reader.failed c.args.writer.now.failed c.loop-turn.writer.failed c.publish.new.writer.failed c.loop-turn.lines c.take_most.new.self c.loop-turn.invariant
+    c.args.reader.now.failed c.loop-turn.reader.failed c.take_most.new.reader.failed c.args.writer.now.failed c.loop-turn.writer.failed c.publish.new.writer.failed c.loop-turn.lines c.take_most.new.self c.loop-turn.invariant.so_far
     (g.S.Shelf.kept c.publish.new.shelf) (g.S.Shelf.trace c.publish.new.shelf) c.publish.new.ledger (map vec_items c.as_slice.result.now) told c.in-Err-publish.ensures.part
 
 pub returns-then-len-batch-clause-all : goal.returns-then-len-batch-clause-all
@@ -61,7 +63,7 @@ returns-then-len-batch-clause-all g c =
     rw c.as_slice.ensures.value (c.in-Ok-take_most.ensures.2 few) in
     last_batch (g.K.LogSigner.log_key c.args.key.now) c.args.batch c.loop-turn.is_due (g.S.Shelf.kept c.args.shelf.now) (g.S.Shelf.kept c.loop-turn.shelf) (g.S.Shelf.trace c.args.shelf.now) (g.S.Shelf.trace c.loop-turn.shelf) c.args.ledger.now c.loop-turn.ledger
     (g.R.Read.remaining c.args.reader.now.device) (g.R.Read.remaining c.loop-turn.reader.device) (g.R.Read.remaining c.take_most.new.reader.device) (g.W.Write.contents c.args.writer.now.device) (g.W.Write.contents c.loop-turn.writer.device) (g.W.Write.contents c.publish.new.writer.device)
-    c.args.reader.now.failed c.loop-turn.reader.failed c.take_most.new.reader.failed c.args.writer.now.failed c.loop-turn.writer.failed c.publish.new.writer.failed c.loop-turn.lines c.take_most.new.self c.loop-turn.invariant
+    c.args.reader.now.failed c.loop-turn.reader.failed c.take_most.new.reader.failed c.args.writer.now.failed c.loop-turn.writer.failed c.publish.new.writer.failed c.loop-turn.lines c.take_most.new.self c.loop-turn.invariant.so_far
     (g.S.Shelf.kept c.publish.new.shelf) (g.S.Shelf.trace c.publish.new.shelf) c.publish.new.ledger (map vec_items c.as_slice.result.now) told c.in-Ok-publish.ensures.all
     (omega (arith, few, length-map c.as_slice.result.now (vec_items {X = ℕ} {Z = Global}), ap length c.as_slice.ensures.value)) all
 
@@ -69,16 +71,19 @@ pub loop-turn-preserved : goal.loop-turn-preserved
 loop-turn-preserved g c =
     let told : TellsOf c.loop-turn.lines c.take_most.new.self (passage g.R.Read.remaining c.loop-turn.reader c.take_most.new.reader) (all_entries (map vec_items c.as_slice.result.now)) =
     rw c.as_slice.ensures.value c.in-Ok-take_most.ensures.1 in
-    one_more_batch (g.K.LogSigner.log_key c.args.key.now) c.args.batch c.loop-turn.is_due (g.S.Shelf.kept c.args.shelf.now) (g.S.Shelf.kept c.loop-turn.shelf) (g.S.Shelf.trace c.args.shelf.now) (g.S.Shelf.trace c.loop-turn.shelf) c.args.ledger.now c.loop-turn.ledger
-    (g.R.Read.remaining c.args.reader.now.device) (g.R.Read.remaining c.loop-turn.reader.device) (g.R.Read.remaining c.take_most.new.reader.device) (g.W.Write.contents c.args.writer.now.device) (g.W.Write.contents c.loop-turn.writer.device) (g.W.Write.contents c.publish.new.writer.device)
-    c.args.reader.now.failed c.loop-turn.reader.failed c.take_most.new.reader.failed c.args.writer.now.failed c.loop-turn.writer.failed c.publish.new.writer.failed c.loop-turn.lines c.take_most.new.self c.loop-turn.invariant
-    (g.S.Shelf.kept c.publish.new.shelf) (g.S.Shelf.trace c.publish.new.shelf) c.publish.new.ledger (map vec_items c.as_slice.result.now) told c.in-Ok-publish.ensures.all _
-    (omega (arith, c.in-Ok-take_most.ensures.0, c.len.ensures, c.in-Ok-take_most.entries.ok.0, c.if-len-batch.false, length-map c.as_slice.result.now (vec_items {X = ℕ} {Z = Global}), ap length c.as_slice.ensures.value))
+    record {
+      so_far = one_more_batch (g.K.LogSigner.log_key c.args.key.now) c.args.batch c.loop-turn.is_due (g.S.Shelf.kept c.args.shelf.now) (g.S.Shelf.kept c.loop-turn.shelf) (g.S.Shelf.trace c.args.shelf.now) (g.S.Shelf.trace c.loop-turn.shelf) c.args.ledger.now c.loop-turn.ledger
+          (g.R.Read.remaining c.args.reader.now.device) (g.R.Read.remaining c.loop-turn.reader.device) (g.R.Read.remaining c.take_most.new.reader.device) (g.W.Write.contents c.args.writer.now.device) (g.W.Write.contents c.loop-turn.writer.device) (g.W.Write.contents c.publish.new.writer.device)
+          c.args.reader.now.failed c.loop-turn.reader.failed c.take_most.new.reader.failed c.args.writer.now.failed c.loop-turn.writer.failed c.publish.new.writer.failed c.loop-turn.lines c.take_most.new.self c.loop-turn.invariant.so_far
+          (g.S.Shelf.kept c.publish.new.shelf) (g.S.Shelf.trace c.publish.new.shelf) c.publish.new.ledger (map vec_items c.as_slice.result.now) told c.in-Ok-publish.ensures.all _
+          (omega (arith, c.in-Ok-take_most.ensures.0, c.len.ensures, c.in-Ok-take_most.entries.ok.0, c.if-len-batch.false, length-map c.as_slice.result.now (vec_items {X = ℕ} {Z = Global}), ap length c.as_slice.ensures.value));
+      place = c.publish.ensures.place ∙ c.loop-turn.invariant.place;
+    }
 
 pub returns-clause-some : goal.returns-clause-some
 returns-clause-some g c =
-    let so_far = c.loop-turn.invariant in
+    let so_far = c.loop-turn.invariant.so_far in
     ended_some (g.K.LogSigner.log_key c.args.key.now) c.args.batch c.loop-turn.is_due (g.S.Shelf.kept c.args.shelf.now) (g.S.Shelf.kept c.loop-turn.shelf) (g.S.Shelf.trace c.args.shelf.now) (g.S.Shelf.trace c.loop-turn.shelf) c.args.ledger.now c.loop-turn.ledger
     (g.R.Read.remaining c.args.reader.now.device) (g.R.Read.remaining c.loop-turn.reader.device) (g.R.Read.remaining c.loop-turn.reader.device) (g.W.Write.contents c.args.writer.now.device) (g.W.Write.contents c.loop-turn.writer.device) (g.W.Write.contents c.loop-turn.writer.device)
-    c.args.reader.now.failed c.loop-turn.reader.failed c.loop-turn.reader.failed c.args.writer.now.failed c.loop-turn.writer.failed c.loop-turn.writer.failed c.loop-turn.lines c.loop-turn.lines c.loop-turn.invariant
+    c.args.reader.now.failed c.loop-turn.reader.failed c.loop-turn.reader.failed c.args.writer.now.failed c.loop-turn.writer.failed c.loop-turn.writer.failed c.loop-turn.lines c.loop-turn.lines c.loop-turn.invariant.so_far
     (inr (c.loop-turn.lines, [], subst (TellsOf unread c.loop-turn.lines (passage g.R.Read.remaining c.args.reader.now c.loop-turn.reader)) (sym (append-nil (all_entries (joined so_far.batches)))) so_far.lines))

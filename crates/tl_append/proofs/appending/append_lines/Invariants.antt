@@ -1,3 +1,4 @@
+use Rattle.std.specs.Prelude.{◌≡◌}
 use Rattle.tl_device.specs.Device.{passage}
 use Rattle.tl_append.specs.Appending.{course}
 use Rattle.tl_append.proofs.Loops.{IsSoFar}
@@ -5,6 +6,8 @@ use Rattle.tl_append.proofs.appending.append_lines.Given as goal
 
 -- the lines so far were appended
 abbrev pub invariant-loop-turn : goal.invariant-loop-turn
-invariant-loop-turn g l =
-    IsSoFar (g.K.LogSigner.log_key l.key) l.batch l.is_due (course g.S.Shelf.kept g.S.Shelf.trace l.fn.shelf l.shelf l.fn.ledger l.ledger)
-    (passage g.R.Read.remaining l.fn.reader l.reader) (passage g.W.Write.contents l.fn.writer l.writer) l.lines
+invariant-loop-turn g l = record {
+  so_far : IsSoFar (g.K.LogSigner.log_key l.key) l.batch l.is_due (course g.S.Shelf.kept g.S.Shelf.trace l.fn.shelf l.shelf l.fn.ledger l.ledger)
+      (passage g.R.Read.remaining l.fn.reader l.reader) (passage g.W.Write.contents l.fn.writer l.writer) l.lines;
+  place : g.S.Shelf.place l.shelf ≡ g.S.Shelf.place l.fn.shelf;
+}

@@ -26,7 +26,7 @@ returns g c = record {
     c.in-Some.ensures,
     inr (
       search rules,
-      record { read = c.read-read.result; right = c.read-read.ensures; answer = refl },
+      record { read = c.read-read.result; right = c.read-read.ensures.found; failed = c.read-read.ensures.failed; answer = refl },
     ),
   );
   sends = c.answer_read.ensures;

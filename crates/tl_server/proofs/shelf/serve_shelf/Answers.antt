@@ -7,5 +7,5 @@ returns-in-NoHead g c = headless_serves _ _ _ _ c.in-NoHead.status c.refuse.resu
 
 pub returns-in-Head : goal.returns-in-Head
 returns-in-Head g c =
-    headed_serves _ (ShelfAnswers _ _ _) _ _ c.read_head.new.buf c.read_head.new.headers c.in-Head.len c.in-Head.spans _ _ c.answer_shelf.result
+    headed_serves _ (ShelfAnswers _ _ _ _) _ _ c.read_head.new.buf c.read_head.new.headers c.in-Head.len c.in-Head.spans _ _ c.answer_shelf.result
     c.of-method.ensures c.of-target.ensures c.in-Head.ensures c.answer_shelf.ensures
