@@ -1,3 +1,5 @@
+pub mod Driven
 pub mod Ends
+pub mod InTurn
 pub mod Lists
 pub mod Shelves

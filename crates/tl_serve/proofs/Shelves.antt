@@ -151,11 +151,11 @@ serves_given given name own_name key found v (Err fault) same is (inr part) = in
 
 -- ---- at the end
 
-begun_one : (x y : Begun) → Some x ≡ Some y → x ≡ y
+pub begun_one : (x y : Begun) → Some x ≡ Some y → x ≡ y
 begun_one x y same = ap (λ (o : Option Begun). unwrap_or o x) same
 
-module _ (key : LogKey) (keys : List Key) (found : Found) (a b : Kept) (saw sees : List Kept) (was is : Ledger) (i : Intake Global) (due : Bool) (first : Begun)
-    (begun : Some (record { key = key; kept = a; saw = saw; was = was }) ≡ Some first) (opens : Opens sha256 keys found first.was)
+module _ (key : LogKey) (keys : List Key) (found : Found) (a b : Kept) (saw sees : List Kept) (was is : Ledger) (place : Bytes) (i : Intake Global) (due : Bool) (first : Begun)
+    (begun : Some (record { key = key; kept = a; saw = saw; was = was; place = place }) ≡ Some first) (opens : Opens sha256 keys found first.was)
     (serving : IsServing key (along a b saw sees was is) i due) where
   pub serves_part : ServesPart first.key found (between first.kept b first.saw sees)
   serves_part =

@@ -1,7 +1,13 @@
 -- Private words: what contracts of private functions and proofs need.
 pub
+    mod Carrying
+pub
     mod Live
+pub
+    mod Rounds
 pub
     mod Running
 pub
     mod Shelved
+pub
+    mod Telling

@@ -19,6 +19,7 @@ pub(crate) trait LiveLog: Drop {
     ghost use Rattle.std.specs.Prelude.{Bool, Option, Result};
     ghost use Rattle.tl_sequencer.specs.Log.{Log};
     ghost use Rattle.tl_command.specs.declared.fault.RunFault.{RunFault};
+    ghost use Rattle.tl_hash.specs.declared.head.Head.{Head};
     ghost use Rattle.tl_serve.specs.Inner.Running.{Begun};
 
     /// What its lanes gave.
@@ -35,6 +36,9 @@ pub(crate) trait LiveLog: Drop {
 
     /// What publishing it makes of it, by the answer.
     ghost shows: { Self → Self → Result Bool RunFault → Type 0 };
+
+    /// What asking for its head makes of it, by the answer.
+    ghost heads: { Self → Self → Option Head → Type 0 };
 
     /// Takes in at most so many entries of a lane: how many it took.
     fn take_in(&mut self, lane: u32, most: u64) -> Result<u64, RunFault>
@@ -61,7 +65,8 @@ pub(crate) trait LiveLog: Drop {
     /// Size and root of the last publication, if there is one that can be told.
     fn head(&mut self) -> Option<Head>
         requires { holds self.old }
-        ensures { StaysRunning holds log begun self.old self.new };
+        ensures kept { StaysRunning holds log begun self.old self.new }
+        ensures answer { heads self.old self.new result };
 }
 
 /// Why nothing was taken.

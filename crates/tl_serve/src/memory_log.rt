@@ -88,7 +88,7 @@ pub(crate) struct MemoryLog<O> {
 }
 
 impl<O: BoardLog> LiveLog for MemoryLog<O> {
-    ghost use Rattle.std.specs.Prelude.{None};
+    ghost use Rattle.std.specs.Prelude.{◌≡◌, None};
     ghost use Rattle.tl_publisher.specs.Operating.{IsOperating, LeavesAllElse};
     ghost use Rattle.tl_serve.specs.Inner.Live.{ShowsNew};
 
@@ -101,6 +101,8 @@ impl<O: BoardLog> LiveLog for MemoryLog<O> {
     ghost rests = { λ a b. LeavesAllElse (O.state a.operator) (O.state b.operator) };
 
     ghost shows = { λ a b. ShowsNew (O.state a.operator) (O.state b.operator) };
+
+    ghost heads = { λ a b _. b.operator ≡ a.operator };
 
     fn take_in(&mut self, lane: u32, most: u64) -> Result<u64, RunFault> {
         self.operator.take_lane(lane, most)

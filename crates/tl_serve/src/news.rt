@@ -229,6 +229,10 @@ pub(crate) struct Told<'n, H> {
 }
 
 impl<H: Wait> Feed for Told<'_, H> {
+    ghost use Rattle.std.specs.Prelude.{◌≡◌};
+
+    ghost gives = { λ a b _. b ≡ a };
+
     fn wait(&mut self) -> Event<RunFault> {
         self.news.wait(self.rt)
     }

@@ -58,6 +58,8 @@ pub struct ServeOptions {
     pub dir: Option<String>,
     /// Whether lines are published as they come.
     pub follow: bool,
+    /// Whether a log in a folder may go on from a checkpoint of fewer entries than were published.
+    pub allows_older: bool,
 }
 
 /// The options of `witness`.

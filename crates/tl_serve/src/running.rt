@@ -1,8 +1,13 @@
 //! A log that runs, by the thread that carries its steps out.
 
-ghost use Rattle.std.specs.Prelude.{◌≡◌, All};
+ghost use Rattle.std.specs.Prelude.{◌≡◌, ◌-◌, All};
 ghost use Rattle.tl_sequencer.specs.Log.{IsEndOf};
+ghost use Rattle.tl_device.specs.Device.{passage};
+ghost use Rattle.tl_heart.specs.Order.{Begins, telling};
+ghost use Rattle.tl_serve.specs.Inner.Carrying.{Carries, CountsEnds, CountsRound, Drives, ShowsTaken, TellsHead, TellsInputEnded, count_event, taken_after, told_event};
+ghost use Rattle.tl_serve.specs.Inner.Rounds.{TakesEnds, TakesRound};
 ghost use Rattle.tl_serve.specs.Inner.Running.{StaysRunning};
+ghost use Rattle.tl_serve.specs.Inner.Telling.{TellsRest};
 
 use crate::live_log::LiveLog;
 use crate::telling::{tell_head, tell_input_ended, tell_not_published, tell_too_long};
@@ -15,8 +20,15 @@ use tl_sequencer::Ended;
 
 /// Where the thread that carries steps out learns what happens beside it.
 pub(crate) trait Feed {
+    ghost use Rattle.tl_command.specs.declared.fault.RunFault.{RunFault};
+    ghost use Rattle.tl_heart.specs.declared.heart.Event.{Event};
+
+    /// What waiting makes of it, by what happened.
+    ghost gives: { Self → Self → Event RunFault → Type 0 };
+
     /// Waits until something happens.
-    fn wait(&mut self) -> Event<RunFault>;
+    fn wait(&mut self) -> Event<RunFault>
+        ensures { gives self.old self.new result };
 }
 
 /// How much is taken and published at a time, and what is told.
@@ -42,7 +54,9 @@ pub(crate) struct Running<O> {
 }
 
 // What came of a call that counts nothing.
-fn done(outcome: Result<(), RunFault>) -> Event<RunFault> {
+fn done(outcome: Result<(), RunFault>) -> Event<RunFault>
+    ensures { result ≡ told_event outcome }
+{
     match outcome {
         Ok(()) => Event::Done(0),
         Err(fault) => Event::Failed(fault),
@@ -52,12 +66,15 @@ fn done(outcome: Result<(), RunFault>) -> Event<RunFault> {
 // Takes from each lane in turn: how many entries in all.
 fn take_round<O: LiveLog>(log: &mut O, lanes: u32, most: u64) -> Result<u64, RunFault>
     requires { O.holds log.old }
-    ensures { StaysRunning O.holds O.log O.begun log.old log.new }
+    ensures kept { StaysRunning O.holds O.log O.begun log.old log.new }
+    ensures taken { TakesRound lanes most (O.log log.old) (O.log log.new) result }
 {
     let mut count = 0u64;
     for lane in 0..lanes {
-        let taken = log.take_in(lane, most)?;
-        count = count.saturating_add(taken);
+        match log.take_in(lane, most) {
+            Ok(taken) => count = count.saturating_add(taken),
+            Err(fault) => return Err(fault),
+        }
     }
     Ok(count)
 }
@@ -66,12 +83,15 @@ fn take_round<O: LiveLog>(log: &mut O, lanes: u32, most: u64) -> Result<u64, Run
 fn take_ends<O: LiveLog>(log: &mut O, ends: Vec<Ended<Global, Global>>) -> Result<u64, RunFault>
     requires holds { O.holds log.old }
     requires ends { All (λ e. IsEndOf e (O.log log.old)) ends.items }
-    ensures { StaysRunning O.holds O.log O.begun log.old log.new }
+    ensures kept { StaysRunning O.holds O.log O.begun log.old log.new }
+    ensures taken { TakesEnds ends.items (O.log log.old) (O.log log.new) result }
 {
     let mut count = 0u64;
     for ended in ends {
-        let taken = log.end_lane(ended)?;
-        count = count.saturating_add(taken);
+        match log.end_lane(ended) {
+            Ok(left) => count = count.saturating_add(left),
+            Err(fault) => return Err(fault),
+        }
     }
     Ok(count)
 }
@@ -79,7 +99,9 @@ fn take_ends<O: LiveLog>(log: &mut O, ends: Vec<Ended<Global, Global>>) -> Resul
 impl<O: LiveLog> Running<O> {
     /// A log of which nothing is taken yet.
     pub(crate) fn new(log: O, rounds: Rounds) -> Running<O>
-        ensures { result.log ≡ log }
+        ensures log { result.log ≡ log }
+        ensures rounds { result.rounds ≡ rounds }
+        ensures none { (result.taken ≡ 0) × (result.published ≡ 0) }
     {
         Running {
             log,
@@ -90,13 +112,20 @@ impl<O: LiveLog> Running<O> {
     }
 
     /// What a log that is served does first.
-    pub(crate) fn begin(&self) -> Heart<RunFault> {
+    pub(crate) fn begin(&self) -> Heart<RunFault>
+        ensures begins { Begins result telling }
+        ensures batch { (result.batch ≡ self.now.rounds.batch) × (result.left ≡ self.now.rounds.batch) }
+    {
         Heart::serving(self.rounds.batch)
     }
 
     // Counts entries that were taken.
     fn count(&mut self, outcome: Result<u64, RunFault>) -> Event<RunFault>
-        ensures { self.new.log ≡ self.old.log }
+        ensures log { self.new.log ≡ self.old.log }
+        ensures counted { self.new ≡ record self.old {
+          taken = taken_after self.old.taken outcome;
+        } }
+        ensures event { result ≡ count_event outcome }
     {
         match outcome {
             Ok(count) => {
@@ -110,7 +139,8 @@ impl<O: LiveLog> Running<O> {
     // Takes in what waits, of each lane at most as many as a round takes.
     fn take(&mut self, left: u64) -> Event<RunFault>
         requires { O.holds self.old.log }
-        ensures { StaysRunning O.holds O.log O.begun self.old.log self.new.log }
+        ensures kept { StaysRunning O.holds O.log O.begun self.old.log self.new.log }
+        ensures counts { CountsRound O.log left self.old self.new result }
     {
         let most = self.rounds.most.unwrap_or(left);
         let outcome = take_round(&mut self.log, self.rounds.lanes, most);
@@ -121,7 +151,8 @@ impl<O: LiveLog> Running<O> {
     pub(crate) fn take_rest(&mut self, ends: Vec<Ended<Global, Global>>) -> Event<RunFault>
         requires holds { O.holds self.old.log }
         requires ends { All (λ e. IsEndOf e (O.log self.old.log)) ends.items }
-        ensures { StaysRunning O.holds O.log O.begun self.old.log self.new.log }
+        ensures kept { StaysRunning O.holds O.log O.begun self.old.log self.new.log }
+        ensures counts { CountsEnds O.log ends.items self.old self.new result }
     {
         let outcome = take_ends(&mut self.log, ends);
         self.count(outcome)
@@ -130,7 +161,8 @@ impl<O: LiveLog> Running<O> {
     // Publishes what was taken in.
     fn publish(&mut self) -> Event<RunFault>
         requires { O.holds self.old.log }
-        ensures { StaysRunning O.holds O.log O.begun self.old.log self.new.log }
+        ensures kept { StaysRunning O.holds O.log O.begun self.old.log self.new.log }
+        ensures shown { ShowsTaken O.shows self.old self.new result }
     {
         match self.log.show() {
             Ok(true) => {
@@ -145,7 +177,9 @@ impl<O: LiveLog> Running<O> {
     // Tells size and root of what was published.
     fn tell_head<L: Write>(&mut self, alloc: Global, out: &mut Counted<L>) -> Event<RunFault>
         requires { O.holds self.old.log }
-        ensures { StaysRunning O.holds O.log O.begun self.old.log self.new.log }
+        ensures kept { StaysRunning O.holds O.log O.begun self.old.log self.new.log }
+        ensures told { TellsHead O.heads self.old.rounds.word self.old self.new
+            (passage L.contents out.old out.new) result }
     {
         let Some(word) = self.rounds.word else {
             return Event::Done(0);
@@ -157,7 +191,9 @@ impl<O: LiveLog> Running<O> {
     }
 
     // Tells that the input has ended.
-    fn tell_input_ended<L: Write>(&self, out: &mut Counted<L>) -> Event<RunFault> {
+    fn tell_input_ended<L: Write>(&self, out: &mut Counted<L>) -> Event<RunFault>
+        ensures { TellsInputEnded self.now.rounds.word (passage L.contents out.old out.new) result }
+    {
         match self.rounds.word {
             Some(_) => done(tell_input_ended(out)),
             None => Event::Done(0),
@@ -173,7 +209,10 @@ impl<O: LiveLog> Running<O> {
         out: &mut Counted<L>,
     ) -> Option<Event<RunFault>>
         requires { O.holds self.old.log }
-        ensures { StaysRunning O.holds O.log O.begun self.old.log self.new.log }
+        ensures kept { StaysRunning O.holds O.log O.begun self.old.log self.new.log }
+        ensures carried { Carries O.log O.shows O.heads F.gives L.contents heart
+            (record { running = self.old; feed = feed.old; out = out.old })
+            (record { running = self.new; feed = feed.new; out = out.new }) result }
     {
         match heart.step() {
             Step::Wait => Some(feed.wait()),
@@ -195,7 +234,10 @@ impl<O: LiveLog> Running<O> {
         out: &mut Counted<L>,
     ) -> Heart<RunFault>
         requires { O.holds self.old.log }
-        ensures { StaysRunning O.holds O.log O.begun self.old.log self.new.log }
+        ensures kept { StaysRunning O.holds O.log O.begun self.old.log self.new.log }
+        ensures driven { Drives O.log O.shows O.heads F.gives L.contents heart
+            (record { running = self.old; feed = feed.old; out = out.old })
+            (record { running = self.new; feed = feed.new; out = out.new }) result }
     {
         let mut heart = heart;
         for _ in 0..u64::MAX {
@@ -213,7 +255,10 @@ impl<O: LiveLog> Running<O> {
         alloc: Global,
         out: &mut Counted<L>,
         lines: u64,
-    ) -> Result<(), RunFault> {
+    ) -> Result<(), RunFault>
+        ensures { TellsRest (lines - self.now.published)
+            (passage L.contents out.old out.new) result }
+    {
         let rest = lines.saturating_sub(self.published);
         if rest == 0 {
             return Ok(());

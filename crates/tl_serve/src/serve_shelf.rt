@@ -102,7 +102,7 @@ fn open_log<S: Shelf, P: Drop, R: Read>(
         (λ o. All (λ l. IsSenderOf l.submitter o.intake.log) o.lanes.items) }
     ensures none { IfOk result (λ o. (o.intake.drained ≡ []) × (o.intake.waiting ≡ [])) }
 {
-    let ledger = match open_ledger(alloc, verifier, shelf, found) {
+    let ledger = match open_ledger(alloc, verifier, options.allows_older, shelf, found) {
         Ok(ledger) => ledger,
         Err(fault) => return Err(fault),
     };
@@ -165,8 +165,9 @@ fn serve_under<
     out: &mut Counted<L>,
 ) -> Served<S>
     requires name { IsKeyName (log_key_of keys.signer).name }
-    ensures { ServesUnder (log_key_of keys.signer) found.new
+    ensures serves { ServesUnder (log_key_of keys.signer) found.new
         (visit S.kept S.trace shelf result.shelf) result.outcome }
+    ensures place { S.place result.shelf ≡ S.place shelf }
 {
     let LogKeys { signer, verifier } = keys;
     let (alloc, options) = (server.alloc, server.options);
@@ -222,6 +223,7 @@ pub fn run_serve_shelf<
         (passage R.remaining reader.old reader.new) result.outcome }
     ensures serves { Serves options.now.key (string_bytes options.now.origin) found.new
         (visit S.kept S.trace shelf result.shelf) result.outcome }
+    ensures place { S.place result.shelf ≡ S.place shelf }
 {
     let origin = options.origin.as_str();
     if !is_key_name(origin) {

@@ -68,6 +68,7 @@ impl<S: Shelf + Drop> ShelfLog<S> {
           kept = S.kept shelf;
           saw = S.trace shelf;
           was = ledger;
+          place = S.place shelf;
         }) }
         ensures log { ⟦<ShelfLog<S> as LiveLog>⟧.log result ≡ intake.log }
     {
@@ -86,7 +87,8 @@ impl<S: Shelf + Drop> ShelfLog<S> {
 
     /// How many entries the log has, where it is complete: the end of each lane was taken in, and all is published.
     pub(crate) fn finish(&self) -> Result<u64, RunFault>
-        ensures { IfOk result (λ _. IsClosed self.now.intake self.now.is_due) }
+        ensures closed { IfOk result (λ _. IsClosed self.now.intake self.now.is_due) }
+        ensures size { IfOk result (λ n. n ≡ self.now.ledger.edge.size) }
     {
         match self.intake.completed() {
             Ok(_taken) if !self.is_due => Ok(self.ledger.size()),
@@ -107,7 +109,7 @@ impl<S: Shelf + Drop> LiveLog for ShelfLog<S> {
     ghost use Rattle.std.specs.Prelude.{◌≡◌, Some};
     ghost use Rattle.tl_append.specs.Appending.{course};
     ghost use Rattle.tl_append.specs.Keys.{log_key_of};
-    ghost use Rattle.tl_serve.specs.Inner.Shelved.{IsServing, Seals};
+    ghost use Rattle.tl_serve.specs.Inner.Shelved.{IsHeadOf, IsServing, Seals};
 
     ghost log = { λ l. l.intake.log };
 
@@ -119,6 +121,7 @@ impl<S: Shelf + Drop> LiveLog for ShelfLog<S> {
       kept = S.kept l.began.value;
       saw = S.trace l.began.value;
       was = l.was.value;
+      place = S.place l.shelf;
     }) };
 
     ghost rests = { λ a b. (b.shelf ≡ a.shelf) × (b.ledger ≡ a.ledger)
@@ -126,6 +129,8 @@ impl<S: Shelf + Drop> LiveLog for ShelfLog<S> {
 
     ghost shows = { λ a b. Seals (log_key_of a.key)
         (course S.kept S.trace a.shelf b.shelf a.ledger b.ledger) a.intake b.intake };
+
+    ghost heads = { λ a b head. (b ≡ a) × IsHeadOf a.ledger head };
 
     fn take_in(&mut self, lane: u32, most: u64) -> Result<u64, RunFault> {
         match self.intake.take(lane, most) {

@@ -1,5 +1,9 @@
 //! What a server tells of itself.
 
+ghost use Rattle.std.specs.Prelude.{codes};
+ghost use Rattle.tl_device.specs.Device.{passage};
+ghost use Rattle.tl_serve.specs.Inner.Telling.{Tells, told_closed, told_head, told_input_ended, told_not_published, told_too_long};
+
 use base64::engine::general_purpose::STANDARD;
 use std::alloc::Global;
 use std::io::Write;
@@ -17,10 +21,16 @@ pub(crate) fn tell_head<L: Write>(
     log: &mut Counted<L>,
     word: &str,
     head: Head,
-) -> Result<(), RunFault> {
+) -> Result<(), RunFault>
+    ensures { Tells (told_head word.now head.size head.root)
+        (passage L.contents log.old log.new) result }
+{
     let root = STANDARD.encode(alloc, head.root.as_bytes())?;
     let line = format!(in alloc; "{word}{} {root}\n", head.size)?;
-    print_text(log, line.as_bytes())
+    match print_text(log, line.as_bytes()) {
+        Ok(()) => Ok(()),
+        Err(fault) => Err(fault),
+    }
 }
 
 /// Tells how many entries the log has that was closed.
@@ -28,9 +38,14 @@ pub(crate) fn tell_closed<L: Write>(
     alloc: Global,
     log: &mut Counted<L>,
     size: u64,
-) -> Result<(), RunFault> {
+) -> Result<(), RunFault>
+    ensures { Tells (told_closed size) (passage L.contents log.old log.new) result }
+{
     let line = format!(in alloc; "closed {size}\n")?;
-    print_text(log, line.as_bytes())
+    match print_text(log, line.as_bytes()) {
+        Ok(()) => Ok(()),
+        Err(fault) => Err(fault),
+    }
 }
 
 /// Tells that the line with this number, counted from 0, is too long and was left out.
@@ -38,14 +53,24 @@ pub(crate) fn tell_too_long<L: Write>(
     alloc: Global,
     log: &mut Counted<L>,
     line: u64,
-) -> Result<(), RunFault> {
-    let line = format!(in alloc; "line {line} too long\n")?;
-    print_text(log, line.as_bytes())
+) -> Result<(), RunFault>
+    ensures { Tells (told_too_long line) (passage L.contents log.old log.new) result }
+{
+    let text = format!(in alloc; "line {line} too long\n")?;
+    match print_text(log, text.as_bytes()) {
+        Ok(()) => Ok(()),
+        Err(fault) => Err(fault),
+    }
 }
 
 /// Tells that the input has ended.
-pub(crate) fn tell_input_ended<L: Write>(log: &mut Counted<L>) -> Result<(), RunFault> {
-    print_text(log, b"input ended\n")
+pub(crate) fn tell_input_ended<L: Write>(log: &mut Counted<L>) -> Result<(), RunFault>
+    ensures { Tells told_input_ended (passage L.contents log.old log.new) result }
+{
+    match print_text(log, b"input ended\n") {
+        Ok(()) => Ok(()),
+        Err(fault) => Err(fault),
+    }
 }
 
 /// Tells how many lines came and were not published.
@@ -53,9 +78,14 @@ pub(crate) fn tell_not_published<L: Write>(
     alloc: Global,
     log: &mut Counted<L>,
     count: u64,
-) -> Result<(), RunFault> {
+) -> Result<(), RunFault>
+    ensures { Tells (told_not_published count) (passage L.contents log.old log.new) result }
+{
     let line = format!(in alloc; "lines not published: {count}\n")?;
-    print_text(log, line.as_bytes())
+    match print_text(log, line.as_bytes()) {
+        Ok(()) => Ok(()),
+        Err(fault) => Err(fault),
+    }
 }
 
 /// Tells that the log is in memory alone.

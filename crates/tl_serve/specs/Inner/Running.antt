@@ -1,16 +1,19 @@
 -- A log that runs, after it took in what was submitted, and published.
 use Rattle.std.specs.Prelude.{◌≡◌, List, Option}
+use Rattle.tl_hash.specs.Bytes.{Bytes}
 use Rattle.tl_sequencer.specs.Log.{Log, rings_of}
 use Rattle.tl_archive.specs.Shelves.{Kept}
 use Rattle.tl_ledger.specs.Standing.{Ledger}
 use Rattle.tl_command.specs.Mirror.{LogKey}
 
--- what a log on a shelf began with: its key, what the shelf kept then and after each call before, and its ledger
+-- what a log on a shelf began with: its key, what the shelf kept then and after each call before, and its ledger; and
+-- where its shelf is
 pub record Begun : Type 0 where
   pub key : LogKey
   pub kept : Kept
   pub saw : List Kept
   pub was : Ledger
+  pub place : Bytes
 
 -- what holds of it holds, and its lanes are those that it had, and what it began with: the ends of its submitters are
 -- its ends

@@ -1,12 +1,16 @@
 -- A log on a shelf that runs: what came of its lanes is put behind what the shelf had.
-use Rattle.std.specs.Prelude.{◌≡◌, ◌⊎◌, Bool, true, false, List, [], ◌∷◌, ◌++◌, Result, Ok, Err}
+use Rattle.std.specs.Prelude.{◌≡◌, ◌⊎◌, Bool, true, false, List, [], ◌∷◌, ◌++◌, Option, Some, None, Result, Ok, Err}
+use Rattle.sha2.specs.Sha256.{sha256}
 use Rattle.tl_hash.specs.Bytes.{Bytes}
+use Rattle.tl_hash.specs.Tree.{tree_hash}
+use Rattle.tl_hash.specs.declared.head.Head.{Head}
 use Rattle.tl_note.specs.Key.{IsKeyName}
 use Rattle.tl_sequencer.specs.Intake.{Intake}
 use Rattle.tl_sequencer.specs.Log.{entries_of}
 use Rattle.tl_sequencer.specs.Merge.{IsMerge}
 use Rattle.tl_sequencer.specs.Steps.{IsComplete, sent_of}
 use Rattle.tl_ledger.specs.Opening.{Found}
+use Rattle.tl_ledger.specs.Standing.{IsStanding, Ledger}
 use Rattle.tl_command.specs.Mirror.{LogKey}
 use Rattle.tl_command.specs.declared.fault.RunFault.{RunFault}
 use Rattle.tl_append.specs.Appending.{Appends, AppendsAtMost, AppendsThen, Course, joined}
@@ -29,6 +33,13 @@ abbrev pub Seals : {A : Type 0} → LogKey → Course → Intake A → Intake A 
 Seals key c a b (Ok true) = Appends key (a.waiting ∷ []) c × (b.drained ≡ a.log.taken) × (b.log ≡ a.log)
 Seals key c a b (Ok false) = (a.waiting ≡ []) × (b ≡ a) × (c.is ≡ c.was) × (c.after ≡ c.before) × (c.sees ≡ c.saw)
 Seals key c a b (Err told) = AppendsAtMost key a.waiting c × (b.log ≡ a.log)
+
+-- size and root of the log that the ledger is of
+abbrev pub IsHeadOf : Ledger → Option Head → Type 0
+IsHeadOf ledger None = ⊥
+IsHeadOf ledger (Some head) =
+    (head.size ≡ ledger.edge.size)
+    × ((entries : List Bytes) → IsStanding sha256 entries ledger → head.root ≡ tree_hash sha256 entries)
 
 -- the log of the lanes is complete, a merge of what was sent, and nothing of it is unpublished
 pub record IsClosed {A : Type 0} (intake : Intake A) (is_due : Bool) : Type 0 where

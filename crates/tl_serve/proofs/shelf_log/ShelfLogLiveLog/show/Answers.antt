@@ -1,4 +1,4 @@
-use Rattle.std.proofs.Common.{[], ◌∷◌, List, ap, arith, length, refl, subst, vec_items}
+use Rattle.std.proofs.Common.{[], ◌∷◌, List, Some, ap, arith, length, refl, subst, vec_items}
 use Rattle.std.proofs.lemmas.List.{length-map}
 use Rattle.tl_hash.specs.Bytes.{Bytes}
 use Rattle.tl_sequencer.specs.Log.{rings_of}
@@ -21,7 +21,13 @@ returns-in-Ok-clause-kept g c = record {
       (along (g.S.Shelf.kept c.args.self.now.shelf) (g.S.Shelf.kept c.append_batch-outcome.new.shelf) (g.S.Shelf.trace c.args.self.now.shelf) (g.S.Shelf.trace c.append_batch-outcome.new.shelf) c.args.self.now.ledger c.append_batch-outcome.new.ledger))
       c.waiting-waiting.ensures.waiting c.in-Ok.ensures.all);
   rings = ap rings_of c.let_go.ensures.log;
-  begun = refl;
+  begun = ap (λ (p : Bytes). Some (record {
+    key = log_key_of c.args.self.now.key;
+    kept = g.S.Shelf.kept c.args.self.now.began.value;
+    saw = g.S.Shelf.trace c.args.self.now.began.value;
+    was = c.args.self.now.was.value;
+    place = p;
+  })) c.append_batch-outcome.ensures.place;
 }
 
 pub returns-in-Err-clause-kept : goal.returns-in-Err-clause-kept
@@ -37,5 +43,11 @@ returns-in-Err-clause-kept g c = record {
       c.waiting-waiting.ensures.waiting c.in-Err.ensures.part)
       c.if-not-self.false;
   rings = ap rings_of c.let_go.ensures.log;
-  begun = refl;
+  begun = ap (λ (p : Bytes). Some (record {
+    key = log_key_of c.args.self.now.key;
+    kept = g.S.Shelf.kept c.args.self.now.began.value;
+    saw = g.S.Shelf.trace c.args.self.now.began.value;
+    was = c.args.self.now.was.value;
+    place = p;
+  })) c.append_batch-outcome.ensures.place;
 }
