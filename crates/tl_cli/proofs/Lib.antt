@@ -1,2 +1,3 @@
 pub mod FileRuns
 pub mod Tellings
+pub mod Folders

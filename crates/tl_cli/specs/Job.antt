@@ -2,6 +2,8 @@
 use Rattle.std.specs.Prelude.{◌≡◌, ◌⊎◌, ℕ, Bool, true, false, List, Option, Result, Ok, Err, string_bytes, option_map}
 use Rattle.sha2.specs.Sha256.{sha256}
 use Rattle.tl_device.specs.Device.{Passage, IsUnread, IsUnwritten}
+use Rattle.tl_archive.specs.Shelves.{Held}
+use Rattle.tl_folder.specs.Folders.{Reached}
 use Rattle.tl_command.specs.Run.{Runs}
 use Rattle.tl_command.specs.Head.{RunsHead}
 use Rattle.tl_command.specs.ProofCommands.{InclusionComes, ConsistencyComes, CheckComes}
@@ -23,6 +25,7 @@ use Rattle.tl_hash.specs.Bytes.{Bytes}
 use Rattle.tl_fetch.specs.declared.fault.FetchFault.{FetchFault}
 use Rattle.tl_cli.specs.declared.fault.CommandFault.{CommandFault}
 use Rattle.tl_cli.specs.Ending.{by_fetch, by_run, status_of}
+use Rattle.tl_cli.specs.Lasting.{Folder, AppendsIn, ServesIn, SparesStreams}
 use Rattle.tl_cli.specs.Told.{Tells}
 use Rattle.tl_cli.specs.Version.{PrintsVersion}
 
@@ -58,36 +61,42 @@ abbrev pub IsFetched : (Result (Unit {0}) FetchFault → Type 0) → Result (Uni
 IsFetched Is result = (outcome : Result (Unit {0}) FetchFault) × Is outcome × (result ≡ by_fetch outcome)
 
 -- a run of a job's command: i is its reader, o its writer, and e standard error, to which keygen, fetch and the servers
--- alone write
-abbrev pub RunsJob : Job → Passage → Passage → Passage → Result (Unit {0}) CommandFault → Type 0
-RunsJob (Head options) i o e result = IsRun (RunsHead (string_bytes options.origin) i o) result × IsUnwritten e
-RunsJob (Build options) i o e result =
+-- alone write; and the folder of a log that it had to itself, if it had one, whatever was there at first
+abbrev pub RunsJob : Held → Reached → Job → Option Folder → Passage → Passage → Passage → Result (Unit {0}) CommandFault → Type 0
+RunsJob held reached (Head options) folder i o e result = IsRun (RunsHead (string_bytes options.origin) i o) result × IsUnwritten e
+RunsJob held reached (Build options) folder i o e result =
     IsRun (BuildsDemo (string_bytes options.origin) (string_bytes options.secret) (option_map string_bytes options.get) i o) result
     × IsUnwritten e
-RunsJob (BuildSigned options) i o e result =
+RunsJob held reached (BuildSigned options) folder i o e result =
     IsRun (BuildsSigned (string_bytes options.origin) (option_map string_bytes options.get) i o) result × IsUnwritten e
-RunsJob (Append options) i o e result = IsRun (RefusesOrigin (string_bytes options.origin) i) result × IsUnwritten e
-RunsJob (Inclusion index) i o e result = IsRun (Runs (InclusionComes index) i o) result × IsUnwritten e
-RunsJob (Consistency old) i o e result = IsRun (Runs (ConsistencyComes old) i o) result × IsUnwritten e
-RunsJob Check i o e result = IsRun (Runs CheckComes i o) result × IsUnwritten e
-RunsJob (CheckUnder options) i o e result =
+RunsJob held reached (Append options) folder i o e result =
+    IsRun (λ ran. RefusesOrigin (string_bytes options.origin) i ran × AppendsIn held reached options i o folder ran) result
+    × IsUnwritten e
+RunsJob held reached (Inclusion index) folder i o e result = IsRun (Runs (InclusionComes index) i o) result × IsUnwritten e
+RunsJob held reached (Consistency old) folder i o e result = IsRun (Runs (ConsistencyComes old) i o) result × IsUnwritten e
+RunsJob held reached Check folder i o e result = IsRun (Runs CheckComes i o) result × IsUnwritten e
+RunsJob held reached (CheckUnder options) folder i o e result =
     IsRun (ChecksFile (string_bytes options.key) (option_map string_bytes options.entry) i o) result × IsUnwritten e
-RunsJob (Keygen options) i o e result =
+RunsJob held reached (Keygen options) folder i o e result =
     IsRun (GivesKey (string_bytes options.name) (key_kind options.is_cosigner) o e) result × IsUnread i
-RunsJob (Open key) i o e result = IsRun (RunsOpen (string_bytes key) i o) result × IsUnwritten e
-RunsJob Audit i o e result = IsRun (Runs (AuditComes sha256) i o) result × IsUnwritten e
-RunsJob (Serve options) i o e result = IsUnwritten o
-RunsJob (Witness options) i o e result = Unit {0}
-RunsJob (Fetch options) i o e result = IsFetched (RunsFetch options o) result × IsUnread i
-RunsJob Version i o e result = IsRun (PrintsVersion o) result × IsUnread i × IsUnwritten e
+RunsJob held reached (Open key) folder i o e result = IsRun (RunsOpen (string_bytes key) i o) result × IsUnwritten e
+RunsJob held reached Audit folder i o e result = IsRun (Runs (AuditComes sha256) i o) result × IsUnwritten e
+RunsJob held reached (Serve options) folder i o e result =
+    IsRun (λ ran. RefusesOrigin (string_bytes options.origin) i ran × ServesIn held reached options i folder ran) result
+    × IsUnwritten o
+RunsJob held reached (Witness options) folder i o e result =
+    IsRun (RefusesOrigin (string_bytes options.origin) i) result × SparesStreams options i o
+RunsJob held reached (Fetch options) folder i o e result = IsFetched (RunsFetch options o) result × IsUnread i
+RunsJob held reached Version folder i o e result = IsRun (PrintsVersion o) result × IsUnread i × IsUnwritten e
 
 -- the job's command ran, its fault was told, and the exit status says how it ended. In between standard error held
 -- these bytes, or had failed
-pub record EndsJob (job : Job) (i o e : Passage) (status : ℕ) : Type 0 where
+pub record EndsJob (held : Held) (reached : Reached) (job : Job) (i o e : Passage) (status : ℕ) : Type 0 where
   pub bytes : Option (List ℕ)
   pub failed : Bool
+  pub folder : Option Folder
   pub result : Result (Unit {0}) CommandFault
-  pub runs : RunsJob job i o (record { old = e.old; new = bytes; had_failed = e.had_failed; has_failed = failed }) result
+  pub runs : RunsJob held reached job folder i o (record { old = e.old; new = bytes; had_failed = e.had_failed; has_failed = failed }) result
   pub ended : status ≡ status_of result
   pub told : Tells job result (record { old = bytes; new = e.new; had_failed = failed; has_failed = e.has_failed })
 
@@ -96,5 +105,5 @@ abbrev pub EndsBefore : Passage → Passage → ℕ → ℕ → Type 0
 EndsBefore i o wanted status = IsUnread i × IsUnwritten o × (status ≡ wanted)
 
 -- the words name a job, whose command ran; or they name none, and the status is 2; or memory was refused, and it is 1
-abbrev pub EndsWords : Passage → Passage → Passage → ℕ → Type 0
-EndsWords i o e status = ((job : Job) × EndsJob job i o e status) ⊎ (EndsBefore i o 2 status ⊎ EndsBefore i o 1 status)
+abbrev pub EndsWords : Held → Reached → Passage → Passage → Passage → ℕ → Type 0
+EndsWords held reached i o e status = ((job : Job) × EndsJob held reached job i o e status) ⊎ (EndsBefore i o 2 status ⊎ EndsBefore i o 1 status)

@@ -3,3 +3,4 @@ pub mod Ending
 pub mod Told
 pub mod Version
 pub mod Job
+pub mod Lasting

@@ -1,9 +1,11 @@
 //! Commands on folders and files that outlast the program.
 
-ghost use Rattle.std.specs.Prelude.{string_bytes};
+ghost use Rattle.std.specs.Prelude.{◌≡◌, None, string_bytes};
 ghost use Rattle.tl_device.specs.Device.{passage};
 ghost use Rattle.tl_command.specs.Origins.{RefusesOrigin};
+ghost use Rattle.tl_cli.specs.Lasting.{AppendsIn, ServesAt, ServesIn, SparesStreams};
 
+use crate::own_folder::{OwnFolder, open_folder, own_folder};
 use std::alloc::Global;
 use std::fs::{File, Files};
 use std::io::{Read, Write};
@@ -11,103 +13,144 @@ use std::net::{Net, TcpListener, TcpStream};
 use std::os::fd::RawFd;
 use tl_append::{AppendOptions, run_append};
 use tl_command::{MOST_INPUT, Place, RunFault};
-use tl_device::{Counted, DeviceFault};
-use tl_folder::{AnyOutcome, FolderLock, FolderShelf, LineFile, lock_folder, open_lines};
-use tl_ledger::Found;
+use tl_device::Counted;
+use tl_folder::{CrashOutcome, FolderShelf, LineFile, open_lines};
 use tl_note::is_key_name;
 use tl_serve::{
-    Host, ServeOptions, WitnessOptions, run_serve, run_serve_shelf, run_witness, threads_of,
+    Host, ServeOptions, Served, WitnessOptions, run_serve, run_serve_shelf, run_witness, threads_of,
 };
 
-// That the folder of a log failed.
-fn folder_fault(fault: DeviceFault) -> RunFault {
-    RunFault::of_device(Place::Log(None), fault)
-}
-
-// The folder of a log as a shelf. It is made where it isn't there.
-fn open_folder<H: Files + Drop>(
-    rt: H,
-    alloc: Global,
-    dir: &str,
-) -> Result<FolderShelf<AnyOutcome, H>, RunFault> {
-    match FolderShelf::open(AnyOutcome, rt, alloc, dir) {
-        Ok(shelf) => Ok(shelf),
-        Err(fault) => Err(folder_fault(fault)),
-    }
-}
-
-// The folder of a log as a shelf, which no other process works on as long as the lock lasts. It is made where it isn't
-// there. `Moved`: another folder came to the path meanwhile.
-fn own_folder<H: Files<File = File> + Copy + Drop>(
-    rt: &H,
-    alloc: Global,
-    dir: &str,
-) -> Result<(FolderLock, FolderShelf<AnyOutcome, H>), RunFault> {
-    let lock = match lock_folder(rt, dir) {
-        Ok(lock) => lock,
-        Err(fault) => return Err(folder_fault(fault)),
-    };
-    let shelf = open_folder(*rt, alloc, dir)?;
-    if !lock.is_at(rt, dir) {
-        return Err(folder_fault(DeviceFault::Moved));
-    }
-    Ok((lock, shelf))
-}
-
-/// Appends the lines of the input to the log in a folder, where no other process works meanwhile.
-pub(crate) fn append<H: Files<File = File> + Copy + Drop, R: Read, W: Write>(
+/// Appends the lines of the input to the log in a folder, where no other process works meanwhile. The folder is then in
+/// `folder`, where it could be opened.
+pub(crate) fn append<
+    D: CrashOutcome + Drop,
+    H: Files<File = File> + Copy + Drop,
+    R: Read,
+    W: Write,
+>(
+    disk: D,
     rt: &H,
     alloc: Global,
     options: &AppendOptions,
+    folder: &mut Option<OwnFolder<D, H>>,
     reader: &mut Counted<R>,
     writer: &mut Counted<W>,
 ) -> Result<(), RunFault>
-    ensures { RefusesOrigin
+    ensures refuses { RefusesOrigin
         (string_bytes options.now.origin) (passage R.remaining reader.old reader.new) result }
+    ensures appends { AppendsIn D.held D.reached options.now (passage R.remaining reader.old reader.new)
+        (passage W.contents writer.old writer.new) folder.new result }
 {
+    *folder = None;
     if !is_key_name(options.origin.as_str()) {
         return Err(RunFault::BadOrigin);
     }
-    let (_lock, mut shelf) = own_folder(rt, alloc, options.dir.as_str())?;
-    let mut found = Found::new(alloc);
-    run_append(rt, alloc, options, &mut shelf, &mut found, reader, writer)
+    let OwnFolder {
+        lock,
+        mut shelf,
+        mut found,
+    } = match own_folder(disk, rt, alloc, options.dir.as_str()) {
+        Ok(own) => own,
+        Err(fault) => return Err(fault),
+    };
+    let outcome = run_append(rt, alloc, options, &mut shelf, &mut found, reader, writer);
+    *folder = Some(OwnFolder { lock, shelf, found });
+    outcome
 }
 
-/// Serves a log that is in a folder, where one is given and no other process works there, and else in memory.
-pub(crate) fn serve<
+// What each thread that answers reads of the folder at this path.
+fn shown_of<D: CrashOutcome + Copy + Drop, H: Files + Copy + Drop>(
+    disk: D,
+    rt: &H,
+    alloc: Global,
+    dir: &str,
+    threads: u32,
+) -> Result<Vec<FolderShelf<D, H>>, RunFault> {
+    let mut shown = Vec::new(alloc);
+    for _ in 0..threads {
+        shown.push(open_folder(disk, *rt, alloc, dir)?)?;
+    }
+    Ok(shown)
+}
+
+// Serves a log that is in the folder at this path, where no other process works meanwhile.
+fn serve_at<
+    D: CrashOutcome + Copy + Send + Drop,
     H: Host
         + Files<File = File, Dir: Send + Sync>
         + Net<Listener = TcpListener, Stream = TcpStream>,
     R: Read + Send,
     E: Write,
 >(
+    disk: D,
+    rt: &H,
+    alloc: Global,
+    options: &ServeOptions,
+    dir: &str,
+    input: Option<RawFd>,
+    folder: &mut Option<OwnFolder<D, H>>,
+    reader: &mut Counted<R>,
+    errors: &mut Counted<E>,
+) -> Result<(), RunFault>
+    requires { folder.old ≡ None }
+    ensures refuses { RefusesOrigin
+        (string_bytes options.now.origin) (passage R.remaining reader.old reader.new) result }
+    ensures serves { ServesAt D.held D.reached options.now dir.now
+        (passage R.remaining reader.old reader.new) folder.new result }
+{
+    if !is_key_name(options.origin.as_str()) {
+        return Err(RunFault::BadOrigin);
+    }
+    let own = match own_folder(disk, rt, alloc, dir) {
+        Ok(own) => own,
+        Err(fault) => return Err(fault),
+    };
+    let threads = threads_of(rt, options.server.threads);
+    let shown = match shown_of(disk, rt, alloc, dir, threads) {
+        Ok(shown) => shown,
+        Err(fault) => return Err(fault),
+    };
+    let OwnFolder {
+        lock,
+        shelf,
+        mut found,
+    } = own;
+    let Served { shelf, outcome } = run_serve_shelf(
+        rt, alloc, options, shelf, shown, &mut found, input, reader, errors,
+    );
+    *folder = Some(OwnFolder { lock, shelf, found });
+    outcome
+}
+
+/// Serves a log that is in a folder, where one is given and no other process works there, and else in memory. The
+/// folder is then in `folder`, where it could be opened.
+pub(crate) fn serve<
+    D: CrashOutcome + Copy + Send + Drop,
+    H: Host
+        + Files<File = File, Dir: Send + Sync>
+        + Net<Listener = TcpListener, Stream = TcpStream>,
+    R: Read + Send,
+    E: Write,
+>(
+    disk: D,
     rt: &H,
     alloc: Global,
     options: &ServeOptions,
     input: Option<RawFd>,
+    folder: &mut Option<OwnFolder<D, H>>,
     reader: &mut Counted<R>,
     errors: &mut Counted<E>,
 ) -> Result<(), RunFault>
-    ensures { RefusesOrigin
+    ensures refuses { RefusesOrigin
         (string_bytes options.now.origin) (passage R.remaining reader.old reader.new) result }
+    ensures serves { ServesIn D.held D.reached options.now
+        (passage R.remaining reader.old reader.new) folder.new result }
 {
-    let Some(dir) = &options.dir else {
-        return run_serve(rt, alloc, options, input, reader, errors);
-    };
-    if !is_key_name(options.origin.as_str()) {
-        return Err(RunFault::BadOrigin);
+    *folder = None;
+    match &options.dir {
+        None => run_serve(rt, alloc, options, input, reader, errors),
+        Some(dir) => serve_at(disk, rt, alloc, options, dir, input, folder, reader, errors),
     }
-    let dir = dir.as_str();
-    let (_lock, shelf) = own_folder(rt, alloc, dir)?;
-    let mut shown = Vec::new(alloc);
-    for _ in 0..threads_of(rt, options.server.threads) {
-        shown.push(open_folder(*rt, alloc, dir)?)?;
-    }
-    let mut found = Found::new(alloc);
-    let served = run_serve_shelf(
-        rt, alloc, options, shelf, shown, &mut found, input, reader, errors,
-    );
-    served.outcome
 }
 
 /// Serves a witness whose lines are those of a file, where one is given, and else of the input and the output.
@@ -126,8 +169,10 @@ pub(crate) fn witness<
     writer: &mut Counted<W>,
     errors: &mut Counted<E>,
 ) -> Result<(), RunFault>
-    ensures { RefusesOrigin
+    ensures refuses { RefusesOrigin
         (string_bytes options.now.origin) (passage R.remaining reader.old reader.new) result }
+    ensures spares { SparesStreams options.now (passage R.remaining reader.old reader.new)
+        (passage W.contents writer.old writer.new) }
 {
     let Some(path) = &options.state else {
         return run_witness(rt, alloc, options, reader, writer, errors);

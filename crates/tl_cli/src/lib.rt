@@ -3,7 +3,7 @@
 //!
 //! ```
 //! // tlog inclusion --index 7, of an input of two lines
-//! let status = run_words(&rt, alloc, &words, streams, &mut reader, &mut writer, &mut errors);
+//! let status = run_words(AnyOutcome, &rt, alloc, &words, streams, &mut reader, &mut writer, &mut errors);
 //! assert_eq!(status, 1);
 //! ```
 #![tactic(auto)]
@@ -11,6 +11,7 @@
 mod fault;
 mod job;
 mod lasting;
+mod own_folder;
 mod running;
 mod streams;
 mod telling;
@@ -19,6 +20,7 @@ mod words;
 
 pub use fault::CommandFault;
 pub use job::Job;
+pub use own_folder::OwnFolder;
 pub use running::{end_early, end_run, run_job, run_words};
 pub use streams::Streams;
 pub use words::{WordsFault, read_words};

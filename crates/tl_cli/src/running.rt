@@ -12,6 +12,7 @@ ghost use Rattle.tl_cli.specs.Told.{Tells};
 use crate::fault::{CommandFault, after_fetch, after_run, command_exit_of};
 use crate::job::Job;
 use crate::lasting::{append, serve, witness};
+use crate::own_folder::OwnFolder;
 use crate::streams::Streams;
 use crate::telling::tell;
 use crate::version::print_version;
@@ -29,6 +30,7 @@ use tl_command::{
 };
 use tl_device::{Counted, write_whole};
 use tl_fetch::run_fetch;
+use tl_folder::CrashOutcome;
 use tl_hash::Sha256Tree;
 use tl_key::{Cosignature, Note};
 use tl_serve::Host;
@@ -142,9 +144,10 @@ fn check_under<H: Files, R: Read, W: Write>(
 }
 
 /// Runs the command of a job with its options: each job its own command, which reads the reader and writes the writer.
-/// `keygen`, `serve` and `witness` write to `errors` too, and so does `fetch` where that is a terminal. The servers may
-/// wait.
+/// `keygen`, `serve` and `witness` write to `errors` too, and so does `fetch` where that is a terminal. The folder of a
+/// log that `append` or `serve` had to itself is then in `folder`, locked until it is dropped. The servers may wait.
 pub fn run_job<
+    D: CrashOutcome + Copy + Send + Drop,
     H: Host
         + Files<File = File, Dir: Send + Sync>
         + Net<Listener = TcpListener, Stream = TcpStream>
@@ -153,23 +156,26 @@ pub fn run_job<
     W: Write + Send,
     E: Write,
 >(
+    disk: D,
     rt: &H,
     alloc: Global,
     job: &Job,
     streams: Streams,
+    folder: &mut Option<OwnFolder<D, H>>,
     reader: &mut Counted<R>,
     writer: &mut Counted<W>,
     errors: &mut Counted<E>,
 ) -> Result<(), CommandFault>
-    ensures { RunsJob job.now (passage R.remaining reader.old reader.new) (passage
-        W.contents writer.old writer.new) (passage E.contents errors.old errors.new) result }
+    ensures { RunsJob D.held D.reached job.now folder.new (passage R.remaining reader.old reader.new)
+        (passage W.contents writer.old writer.new) (passage E.contents errors.old errors.new)
+        result }
 {
     let Streams { is_terminal, input } = streams;
     match job {
         Job::Head(options) => after_run(head(rt, alloc, options, reader, writer)),
         Job::Build(options) => after_run(build(alloc, options, reader, writer)),
         Job::BuildSigned(options) => after_run(build_signed(rt, alloc, options, reader, writer)),
-        Job::Append(options) => after_run(append(rt, alloc, options, reader, writer)),
+        Job::Append(options) => after_run(append(disk, rt, alloc, options, folder, reader, writer)),
         Job::Inclusion { index } => after_run(run_inclusion(alloc, *index, reader, writer)),
         Job::Consistency { old } => after_run(run_consistency(alloc, *old, reader, writer)),
         Job::Check => after_run(run_check(alloc, reader, writer)),
@@ -177,7 +183,9 @@ pub fn run_job<
         Job::Keygen(options) => after_run(key(rt, alloc, options, writer, errors)),
         Job::Open { key } => after_run(run_open(alloc, key, reader, writer)),
         Job::Audit => after_run(run_audit(alloc, Sha256Tree, reader, writer)),
-        Job::Serve(options) => after_run(serve(rt, alloc, options, input, reader, errors)),
+        Job::Serve(options) => {
+            after_run(serve(disk, rt, alloc, options, input, folder, reader, errors))
+        }
         Job::Witness(options) => after_run(witness(rt, alloc, options, reader, writer, errors)),
         Job::Fetch(options) => {
             after_fetch(run_fetch(rt, alloc, options, writer, errors, is_terminal))
@@ -190,6 +198,7 @@ pub fn run_job<
 /// name none, the text on how to call the program is written to `errors`, the status is 2, and nothing is read or
 /// written else.
 pub fn run_words<
+    D: CrashOutcome + Copy + Send + Drop,
     H: Host
         + Files<File = File, Dir: Send + Sync>
         + Net<Listener = TcpListener, Stream = TcpStream>
@@ -198,6 +207,7 @@ pub fn run_words<
     W: Write + Send,
     E: Write,
 >(
+    disk: D,
     rt: &H,
     alloc: Global,
     words: &[String],
@@ -206,12 +216,24 @@ pub fn run_words<
     writer: &mut Counted<W>,
     errors: &mut Counted<E>,
 ) -> u8
-    ensures { EndsWords (passage R.remaining reader.old reader.new) (passage
-        W.contents writer.old writer.new) (passage E.contents errors.old errors.new) result }
+    ensures { EndsWords D.held D.reached (passage R.remaining reader.old reader.new)
+        (passage W.contents writer.old writer.new) (passage E.contents errors.old errors.new)
+        result }
 {
     match read_words(alloc, words) {
         Ok(job) => {
-            let outcome = run_job(rt, alloc, &job, streams, reader, writer, errors);
+            let mut folder = None;
+            let outcome = run_job(
+                disk,
+                rt,
+                alloc,
+                &job,
+                streams,
+                &mut folder,
+                reader,
+                writer,
+                errors,
+            );
             end_run(alloc, &job, outcome, errors)
         }
         Err(WordsFault::Usage(text)) => {

@@ -94,6 +94,7 @@ pub fn go_on<
         key: LogKey::Secret(String::from_str(alloc, "s")?),
         batch: Some(batch),
         is_new: false,
+        allows_older: false,
     };
     let files = FailingFiles { files: rt, calls };
     let Ok(mut shelf) = FolderShelf::open(AnyOutcome, files, alloc, dir) else {

@@ -27,5 +27,6 @@ pub fn serve_options(alloc: Global, dir: Option<String>) -> Result<ServeOptions,
         note: None,
         dir,
         follow: false,
+        allows_older: false,
     })
 }

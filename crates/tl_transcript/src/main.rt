@@ -13,6 +13,7 @@ use std::{io, str};
 use tl_cli::{Streams, run_words};
 use tl_command::{MOST_INPUT, read_entries};
 use tl_device::Counted;
+use tl_folder::AnyOutcome;
 use tl_serve::Host;
 
 // Nothing is a terminal, and no input is waited for.
@@ -57,6 +58,7 @@ fn run_line<
     let mut writer = Counted::new(Vec::new(alloc));
     let mut errors = Counted::new(Vec::new(alloc));
     let status = run_words(
+        AnyOutcome,
         rt,
         alloc,
         words.as_slice(),

@@ -50,6 +50,7 @@ const SERVE: Words = Words {
             "note" "NOTE" Kind::Text => "The signed checkpoint that the log goes on from";
             "dir" "DIR" Kind::Path => "The folder of the log, which goes on from what is there";
             "follow" "" Kind::Flag => "Publish lines as they come";
+            "older" "" Kind::Flag => "Go on from a checkpoint that is older than one that was there";
         ],
         SERVER,
     ],
@@ -118,6 +119,7 @@ pub(super) fn serve_job(alloc: Global, options: &ArgMatches<'_>) -> Result<Job, 
         note,
         dir,
         follow: options.get_flag("follow"),
+        allows_older: options.get_flag("older"),
     }))
 }
 

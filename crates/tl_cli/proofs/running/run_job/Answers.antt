@@ -13,7 +13,8 @@ returns-in-BuildSigned g c =
     rw c.in-BuildSigned.is ((c.build_signed.result, c.build_signed.ensures, c.after_run-in-BuildSigned.ensures), search rules)
 
 pub returns-in-Append : goal.returns-in-Append
-returns-in-Append g c = rw c.in-Append.is ((c.append.result, c.append.ensures, search rules), search rules)
+returns-in-Append g c =
+    rw c.in-Append.is ((c.append.result, (c.append.ensures.refuses, c.append.ensures.appends), search rules), search rules)
 
 pub returns-in-CheckUnder : goal.returns-in-CheckUnder
 returns-in-CheckUnder g c =
@@ -22,3 +23,6 @@ returns-in-CheckUnder g c =
 pub returns-in-Fetch : goal.returns-in-Fetch
 returns-in-Fetch g c = rw c.in-Fetch.is
     ((c.run_fetch.result, c.run_fetch.ensures, c.after_fetch.ensures), (Keeps-refl (g.R.Read.remaining c.args.reader.now.device), refl))
+
+pub returns-in-Serve : goal.returns-in-Serve
+returns-in-Serve g c = rw c.in-Serve.is ((c.serve.result, (c.serve.ensures.refuses, c.serve.ensures.serves), search rules), search rules)

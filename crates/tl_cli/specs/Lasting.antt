@@ -1,0 +1,53 @@
+-- Commands on a log in a folder: the folder that their options name, and what becomes of it.
+use Rattle.std.specs.Prelude.{◌≡◌, [], Option, Some, None, IfSome, Result, Ok, Err, string_bytes}
+use Rattle.tl_device.specs.Device.{Passage, IsUnread}
+use Rattle.tl_archive.specs.Shelves.{Held}
+use Rattle.tl_ledger.specs.Opening.{Found}
+use Rattle.tl_folder.specs.Step.{Path}
+use Rattle.tl_folder.specs.Folders.{Calls, Reached, at_first, kept_by, traced_by}
+use Rattle.tl_command.specs.CheckOpened.{IsIdle}
+use Rattle.tl_command.specs.declared.fault.RunFault.{RunFault}
+use Rattle.tl_append.specs.Running.{GoesOn, Visit, batch_size}
+use Rattle.tl_append.specs.declared.options.AppendOptions.{AppendOptions}
+use Rattle.tl_serve.specs.Serving.{Serves}
+use Rattle.tl_serve.specs.declared.options.ServeOptions.{ServeOptions}
+use Rattle.tl_serve.specs.declared.options.WitnessOptions.{WitnessOptions}
+
+-- the folder of a log that a command has to itself: the path under which it was locked; as a shelf, with its calls so
+-- far; and what was read of the log that was found there
+pub record Folder : Type 0 where
+  pub locked : Path
+  pub shelf : Calls
+  pub found : Found
+
+-- it was locked and opened under this path
+abbrev pub IsAt : Path → Folder → Type 0
+IsAt path folder = (folder.locked ≡ path) × (folder.shelf.place ≡ path)
+
+-- what became of a folder since it was opened, by what it had then
+abbrev pub since_opened : Held → Reached → Calls → Visit
+since_opened held reached shelf = record { before = at_first held; after = kept_by held reached shelf; saw = []; sees = traced_by held reached shelf }
+
+-- `append`: the folder that the options name was locked and opened, and became this; or it could not be, and nothing
+-- was read or written
+abbrev pub AppendsIn : Held → Reached → AppendOptions → Passage → Passage → Option Folder → Result (Unit {0}) RunFault → Type 0
+AppendsIn held reached options i o None (Ok done) = ⊥
+AppendsIn held reached options i o None (Err fault) = IsIdle i o
+AppendsIn held reached options i o (Some folder) result =
+    IsAt (string_bytes options.dir) folder
+    × GoesOn options.key (string_bytes options.origin) (batch_size options.batch) folder.found (since_opened held reached folder.shelf) i o result
+
+-- `serve` of a log in the folder of this path, likewise
+abbrev pub ServesAt : Held → Reached → ServeOptions → Path → Passage → Option Folder → Result (Unit {0}) RunFault → Type 0
+ServesAt held reached options path i None (Ok done) = ⊥
+ServesAt held reached options path i None (Err fault) = IsUnread i
+ServesAt held reached options path i (Some folder) result =
+    IsAt path folder × Serves options.key (string_bytes options.origin) folder.found (since_opened held reached folder.shelf) result
+
+-- `serve`: a log in the folder that the options name, if they name one
+abbrev pub ServesIn : Held → Reached → ServeOptions → Passage → Option Folder → Result (Unit {0}) RunFault → Type 0
+ServesIn held reached options i folder result = IfSome options.dir (λ dir. ServesAt held reached options (string_bytes dir) i folder result)
+
+-- a witness with a state of its own leaves the standard streams alone
+abbrev pub SparesStreams : WitnessOptions → Passage → Passage → Type 0
+SparesStreams options i o = IfSome options.state (λ path. IsIdle i o)
