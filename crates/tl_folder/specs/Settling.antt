@@ -60,10 +60,11 @@ pub data AsksUp (named : Bool) (path : Path) (before : List Call) : List Call �
 abbrev pub AsksFolder : Bool → Path → List Call → List Call → Type 0
 AsksFolder named path before after = (mid : List Call) × AsksUp named path before mid × Asks named path mid after
 
--- a folder was made where it wasn't there, with those above it; each name that was new was synced, and its own in any
--- case
+-- a folder was made where it wasn't there, with those above it; each name that was new was synced, its own in any case,
+-- and then the names in it
 abbrev pub OpensFolder : Path → List Call → List Call → Type 0
-OpensFolder path before after = (mid : List Call) × AsksFolder true path before mid × (after ≡ mid ++ done (naming_in (folder_of path)))
+OpensFolder path before after =
+    (mid : List Call) × AsksFolder true path before mid × (after ≡ (mid ++ done (naming_in (folder_of path))) ++ done (naming path ∷ []))
 
 -- ---- staging
 

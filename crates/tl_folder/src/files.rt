@@ -52,7 +52,8 @@ pub(crate) fn sync_parent<C: FileCalls>(calls: &mut C, path: &str) -> Result<(),
 }
 
 impl<C: FileCalls + Drop> FolderFiles<C> {
-    /// The files under this folder, which is made where it isn't there.
+    /// The files under this folder, which is made where it isn't there. The names in it outlast a crash: a process that
+    /// was killed may have put a file there, and not synced that.
     pub(crate) fn open(
         mut calls: C,
         alloc: Global,
@@ -64,6 +65,7 @@ impl<C: FileCalls + Drop> FolderFiles<C> {
     {
         make_folders(&mut calls, root, true)?;
         sync_parent(&mut calls, root)?;
+        calls.sync_folder(root)?;
         let folder = FileId::of(&calls.metadata(root)?);
         Ok(FolderFiles {
             calls,
