@@ -1,4 +1,5 @@
 -- The definitions of shelves.
 pub mod Shelves
+pub mod Partials
 pub mod Complete
 pub mod Inner

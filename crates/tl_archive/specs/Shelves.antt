@@ -1,6 +1,7 @@
 -- What a shelf keeps, and what its calls make of it.
-use Rattle.std.specs.Prelude.{◌≡◌, ℕ, ◌<◌, ◌-◌, ◌^◌, ◌⊎◌, List, [], ◌∷◌, ◌++◌, Option, Some, Contains}
+use Rattle.std.specs.Prelude.{◌≡◌, ℕ, ◌<◌, ◌-◌, ◌^◌, ◌⊎◌, List, [], ◌∷◌, ◌++◌, Option, Some, None, Contains}
 use Rattle.tl_tile.specs.declared.resource.Resource.{Resource}
+use Rattle.tl_archive.specs.Partials.{IsPartialOf}
 
 -- a resource and its bytes
 abbrev pub Item : Type 0
@@ -43,6 +44,15 @@ pub record Unstages (a b : Kept) : Type 0 where
 pub record Settles (a b : Kept) : Type 0 where
   pub unstages : Unstages a b
   pub there : HasPut a.staged b.held
+
+-- some partial ones of the full tile or bundle may be gone, and nothing else changed
+pub record Removes (full : Resource) (a b : Kept) : Type 0 where
+  pub others : (r : Resource) → (b.held r ≡ a.held r) ⊎ (IsPartialOf full r × (b.held r ≡ None))
+  pub staged : b.staged ≡ a.staged
+
+-- no partial one of the full tile or bundle is there
+abbrev pub LacksPartials : Resource → Held → Type 0
+LacksPartials full held = (r : Resource) → IsPartialOf full r → held r ≡ None
 
 -- a fault was counted, or the count can go no further
 abbrev pub Fails : ℕ → ℕ → Type 0

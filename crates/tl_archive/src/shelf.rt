@@ -13,7 +13,8 @@ pub trait Shelf {
     ghost use Rattle.tl_tile.specs.Path.{IsResource};
     ghost use Rattle.tl_tile.specs.declared.resource.Resource.{Resource};
     ghost use Rattle.tl_archive.specs.declared.fault.ShelfFault.{ShelfFault};
-    ghost use Rattle.tl_archive.specs.Shelves.{Kept, Stages, Unstages, Settles, Fails};
+    ghost use Rattle.tl_archive.specs.Partials.{IsFull};
+    ghost use Rattle.tl_archive.specs.Shelves.{Kept, Stages, Unstages, Settles, Removes, LacksPartials, Fails};
 
     /// What is there, and what is staged.
     ghost kept: { Self → Kept };
@@ -53,6 +54,18 @@ pub trait Shelf {
     fn settle(&mut self) -> Result<(), ShelfFault>
         ensures unstaged { Unstages (kept self.old) (kept self.new) }
         ensures settled { OnOk result (Settles (kept self.old) (kept self.new)) }
+        ensures unfailed { OnOk result (faults self.new ≡ faults self.old) }
+        ensures failed { OnErr result (Fails (faults self.old) (faults self.new)) }
+        ensures trace { trace self.new ≡ trace self.old ++ kept self.new ∷ [] }
+        ensures place { place self.new ≡ place self.old }
+        ensures mark { published self.new ≡ published self.old };
+
+    /// Removes the partial ones of a full tile or bundle (C2SP tlog-tiles, "Partial Tiles"), all at one moment, and so
+    /// that they stay away after a crash. At a failure some may be gone.
+    fn remove_partials(&mut self, full: &Resource) -> Result<(), ShelfFault>
+        requires { IsFull full.now }
+        ensures removed { Removes full.now (kept self.old) (kept self.new) }
+        ensures none { OnOk result (LacksPartials full.now (kept self.new).held) }
         ensures unfailed { OnOk result (faults self.new ≡ faults self.old) }
         ensures failed { OnErr result (Fails (faults self.old) (faults self.new)) }
         ensures trace { trace self.new ≡ trace self.old ++ kept self.new ∷ [] }
