@@ -1,23 +1,26 @@
 -- Batches that are appended one after another.
-use Rattle.std.proofs.Common.{inl, inr, ◌≡◌, ℕ, ◌+◌, Bool, List, [], ◌∷◌, ◌++◌, Option, length, refl, sym, ap, subst, ◌∙◌, append_assoc}
+use Rattle.std.proofs.Common.{inl, inr, ◌≡◌, ℕ, ◌+◌, Bool, List, [], ◌∷◌, ◌++◌, Option, Some, length, refl, sym, ap, subst, ◌∙◌, append_assoc}
 use Rattle.std.specs.Prelude.{All}
 use Rattle.std.specs.List.{flat_map}
 use Rattle.std.proofs.KnownBytes.{Appends-trans}
 use Rattle.std.proofs.lemmas.List.{append-nil}
-use Rattle.std.proofs.lemmas.List.Elements.{All-append, All-nil, Contains-append_left}
+use Rattle.std.proofs.lemmas.List.Elements.{All-append, All-nil, Contains-append_left, Contains-append_right}
 use Rattle.std.proofs.lemmas.Grind.{flat_map-append}
 use Rattle.sha2.specs.Sha256.{sha256}
 use Rattle.tl_hash.specs.Bytes.{Bytes}
 use Rattle.tl_hash.specs.Tree.{tree_hash}
 use Rattle.tl_device.specs.Device.{Passage, WroteWhole}
+use Rattle.tl_tile.specs.declared.resource.Resource.TheVariants as resource
 use Rattle.tl_publisher.specs.Histories.{Prefix}
 use Rattle.tl_archive.specs.Shelves.{Kept}
 use Rattle.tl_archive.specs.Complete.{IsComplete, IsSafe, KeptSafe}
+use Rattle.tl_archive.proofs.Lists.{has_head}
 use Rattle.tl_ledger.specs.Standing.{Ledger, IsStanding}
 use Rattle.tl_ledger.specs.Keeping.{IsKeeping, published}
+use Rattle.tl_ledger.specs.Spent.{IsShown}
 use Rattle.tl_command.specs.Mirror.{LogKey, checkpoint_note}
 use Rattle.tl_append.specs.Appending.{Appends, AppendsAtMost, AppendsThen, Course, PrintsHeads, head_line, joined, publication_line, published_after}
-use Rattle.tl_append.specs.Inner.Turns.{Publishes}
+use Rattle.tl_append.specs.Inner.Turns.{Publishes, Shows}
 
 -- a shelf and a ledger before and after
 abbrev pub along : Kept → Kept → List Kept → List Kept → Ledger → Ledger → Course
@@ -203,5 +206,34 @@ module _ (key : LogKey) (batch : List Bytes) (a m : Kept) (saw mid : List Kept) 
             safe_on h _ saw mid sees (safe h log keeps) (safe_as _ _ mid sees (noted h (log ++ batch) after) (kept_safe h (log ++ batch) after));
       }
 
+      -- its checkpoint is there
+      pub one_shown : ((h : List Prefix) (log : List Bytes) → IsKeeping sha256 h log m now → b.held resource.Checkpoint ≡ Some sealed)
+          → (h : List Prefix) (log : List Bytes) → IsKeeping sha256 h log a was → IsShown (h ++ published_after key log (batch ∷ [])) (log ++ joined (batch ∷ [])) b.held
+      one_shown there h log keeps =
+          let after = put h log keeps in
+          let own : Prefix = published (log ++ batch) (checkpoint_note key (log ++ batch)) in
+          let is : sealed ≡ checkpoint_note key (log ++ batch) = same ∙ signed (log ++ batch) (after.stands.at_edge.0 ∙ sym sized) (sym (rooted (log ++ batch) after.stands)) in
+          subst (λ (es : List Bytes). IsShown (h ++ own ∷ []) (log ++ es) b.held) (sym (joined_one batch))
+          (checkpoint_note key (log ++ batch), Contains-append_right h (own ∷ []) own (has_head own []), there h (log ++ batch) after ∙ ap (λ (n : Bytes). Some n) is)
+
       pub not_sealed : AppendsAtMost key batch (along a b saw sees was now)
       not_sealed = at_most key batch a b saw sees was now grown one_appended
+
+-- ---- what is spent was removed
+
+safe_both : (h : List Prefix) (saw mid sees : List Kept) → KeptSafe sha256 h saw mid → KeptSafe sha256 h mid sees → KeptSafe sha256 h saw sees
+safe_both h saw mid sees first then = record {
+  steps = first.steps ++ then.steps;
+  trace = then.trace ∙ ap (λ (t : List Kept). t ++ then.steps) first.trace ∙ append_assoc saw first.steps then.steps;
+  each = All-append (IsSafe sha256 h) first.steps then.steps first.each then.each;
+}
+
+pub spent_removed : (key : LogKey) (batch : List Bytes) (a m b : Kept) (saw mid sees : List Kept) (was is : Ledger)
+    → Appends key (batch ∷ []) (along a m saw mid was is) → Shows key batch (along a m saw mid was is)
+    → ((h : List Prefix) (log : List Bytes) → IsKeeping sha256 h log m is → IsShown h log m.held → IsKeeping sha256 h log b is)
+    → ((h : List Prefix) (log : List Bytes) → IsKeeping sha256 h log m is → IsShown h log m.held → KeptSafe sha256 h mid sees)
+    → Appends key (batch ∷ []) (along a b saw sees was is)
+spent_removed key batch a m b saw mid sees was is all shown kept safe = record {
+  kept = λ h log keeps. kept _ _ (all.kept h log keeps) (shown h log keeps);
+  safe = λ h log keeps. safe_both _ saw mid sees (all.safe h log keeps) (safe _ _ (all.kept h log keeps) (shown h log keeps));
+}

@@ -23,6 +23,7 @@ fn publish<K: LogSigner, S: Shelf, W: Write>(
     alloc: Global,
     key: &K,
     batch: &[Vec<u8>],
+    keeps_partials: bool,
     shelf: &mut S,
     ledger: &mut Ledger<Global>,
     writer: &mut Counted<W>,
@@ -36,7 +37,7 @@ fn publish<K: LogSigner, S: Shelf, W: Write>(
         (course S.kept S.trace shelf.old shelf.new ledger.old ledger.new)) }
     ensures place { S.place shelf.new ≡ S.place shelf.old }
 {
-    match append_batch(alloc, key, batch, shelf, ledger) {
+    match append_batch(alloc, key, batch, keeps_partials, shelf, ledger) {
         Ok(()) => {}
         Err(fault) => return Err(fault),
     }
@@ -48,12 +49,14 @@ fn publish<K: LogSigner, S: Shelf, W: Write>(
 
 /// Appends the lines of the input to the log on the shelf, which is the ledger's, and publishes it after each `batch`
 /// lines, at least 1, and at the end, once at least: each time under a note of its checkpoint by the key, whose name is
-/// the log's. Its size and root are then printed. It keeps one batch and the ledger, whatever the log's size.
+/// the log's. Its size and root are then printed, once what is spent of partial tiles was removed, unless they are kept.
+/// It keeps one batch and the ledger, whatever the log's size.
 /// `Operator`: the log would have more than 2^32 - 1 entries.
 pub fn append_lines<K: LogSigner, S: Shelf, R: Read, W: Write>(
     alloc: Global,
     key: &K,
     batch: u64,
+    keeps_partials: bool,
     shelf: &mut S,
     ledger: &mut Ledger<Global>,
     reader: &mut Counted<R>,
@@ -82,7 +85,8 @@ pub fn append_lines<K: LogSigner, S: Shelf, R: Read, W: Write>(
         if entries.is_empty() && !is_due {
             return Ok(());
         }
-        match publish(alloc, key, entries.as_slice(), shelf, ledger, writer) {
+        let batched = entries.as_slice();
+        match publish(alloc, key, batched, keeps_partials, shelf, ledger, writer) {
             Ok(()) => is_due = false,
             Err(fault) => return Err(fault),
         }

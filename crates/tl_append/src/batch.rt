@@ -1,6 +1,6 @@
 //! One batch of entries that is appended to a log and published.
 
-ghost use Rattle.std.specs.Prelude.{◌≡◌, ◌+◌, ◌<◌, ◌^◌, ◌∷◌, ◌++◌, [], List, length, map, vec_items, OnErr, OnOk, Some};
+ghost use Rattle.std.specs.Prelude.{◌≡◌, ◌+◌, ◌<◌, ◌^◌, ◌∷◌, ◌++◌, [], List, false, length, map, vec_items, OnErr, OnOk, Some};
 ghost use Rattle.sha2.specs.Sha256.{sha256};
 ghost use Rattle.tl_hash.specs.Bytes.{Bytes};
 ghost use Rattle.tl_note.specs.Key.{IsKeyName};
@@ -8,7 +8,9 @@ ghost use Rattle.tl_tile.specs.Bundle.{AreShortEntries};
 ghost use Rattle.tl_publisher.specs.Histories.{Prefix};
 ghost use Rattle.tl_archive.specs.Complete.{KeptSafe};
 ghost use Rattle.tl_ledger.specs.Keeping.{IsKeeping};
+ghost use Rattle.tl_ledger.specs.Spent.{LacksSpent};
 ghost use Rattle.tl_append.specs.Appending.{Appends, AppendsAtMost, course};
+ghost use Rattle.tl_append.specs.Inner.Turns.{Shows};
 
 use crate::faults::{unkept, unput};
 use std::alloc::Global;
@@ -51,11 +53,8 @@ fn put_batch<S: Shelf>(
     }
 }
 
-/// Puts a batch of entries behind the log on the shelf, which is the ledger's, and publishes it, once its tiles and
-/// bundles outlast a crash, under a note of its checkpoint by the key, whose name is the log's (C2SP tlog-checkpoint,
-/// tlog-tiles). The new size is then marked. At a fault the ledger's size tells whether the batch was put. `Operator`:
-/// the log would have more than 2^32 - 1 entries.
-pub fn append_batch<K: LogSigner, S: Shelf>(
+// Puts a batch behind a log, and publishes it.
+fn publish_batch<K: LogSigner, S: Shelf>(
     alloc: Global,
     key: &K,
     batch: &[Vec<u8>],
@@ -65,6 +64,8 @@ pub fn append_batch<K: LogSigner, S: Shelf>(
     requires origin { IsKeyName (K.log_key key.now).name }
     requires short { AreShortEntries (map vec_items batch.now) }
     ensures all { OnOk result (Appends (K.log_key key.now) (map vec_items batch.now ∷ [])
+        (course S.kept S.trace shelf.old shelf.new ledger.old ledger.new)) }
+    ensures shown { OnOk result (Shows (K.log_key key.now) (map vec_items batch.now)
         (course S.kept S.trace shelf.old shelf.new ledger.old ledger.new)) }
     ensures sized { OnOk result
         (ledger.new.edge.size ≡ ledger.old.edge.size + length batch.now) }
@@ -84,6 +85,47 @@ pub fn append_batch<K: LogSigner, S: Shelf>(
         Err(fault) => return Err(fault),
     };
     match ledger.seal(shelf, note.as_bytes()) {
+        Ok(()) => Ok(()),
+        Err(fault) => Err(unkept(fault)),
+    }
+}
+
+/// Puts a batch of entries behind the log on the shelf, which is the ledger's, and publishes it, once its tiles and
+/// bundles outlast a crash, under a note of its checkpoint by the key, whose name is the log's (C2SP tlog-checkpoint,
+/// tlog-tiles). The new size is then marked, and unless they are kept, partial tiles and bundles that are spent since
+/// are removed. At a fault the ledger's size tells whether the batch was put. `Operator`: the log would have more than
+/// 2^32 - 1 entries.
+pub fn append_batch<K: LogSigner, S: Shelf>(
+    alloc: Global,
+    key: &K,
+    batch: &[Vec<u8>],
+    keeps_partials: bool,
+    shelf: &mut S,
+    ledger: &mut Ledger<Global>,
+) -> Result<(), RunFault>
+    requires origin { IsKeyName (K.log_key key.now).name }
+    requires short { AreShortEntries (map vec_items batch.now) }
+    ensures all { OnOk result (Appends (K.log_key key.now) (map vec_items batch.now ∷ [])
+        (course S.kept S.trace shelf.old shelf.new ledger.old ledger.new)) }
+    ensures sized { OnOk result
+        (ledger.new.edge.size ≡ ledger.old.edge.size + length batch.now) }
+    ensures small { OnOk result (ledger.new.edge.size < 2 ^ 32) }
+    ensures part { OnErr result (AppendsAtMost (K.log_key key.now) (map vec_items batch.now)
+        (course S.kept S.trace shelf.old shelf.new ledger.old ledger.new)) }
+    ensures marked { OnOk result (S.published shelf.new ≡ Some ledger.new.edge.size) }
+    ensures spent { keeps_partials ≡ false → OnOk result (LacksSpent
+        ledger.old.edge.size ledger.new.edge.size (S.kept shelf.new).held) }
+    ensures place { S.place shelf.new ≡ S.place shelf.old }
+{
+    let from = ledger.size();
+    match publish_batch(alloc, key, batch, shelf, ledger) {
+        Ok(()) => {}
+        Err(fault) => return Err(fault),
+    }
+    if keeps_partials {
+        return Ok(());
+    }
+    match ledger.remove_spent(shelf, from) {
         Ok(()) => Ok(()),
         Err(fault) => Err(unkept(fault)),
     }

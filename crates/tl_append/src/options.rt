@@ -19,6 +19,8 @@ pub struct AppendOptions {
     pub is_new: bool,
     /// Whether the log may go on from a checkpoint of fewer entries than were published.
     pub allows_older: bool,
+    /// Whether partial tiles and bundles stay that full ones have replaced.
+    pub keeps_partials: bool,
 }
 
 impl AppendOptions {

@@ -55,8 +55,8 @@ fn append_under<S: Shelf, R: Read, W: Write>(
     if options.is_new && !is_first {
         return Err(taken());
     }
-    let batch = options.batch_size();
-    match append_lines(alloc, &signer, batch, shelf, &mut ledger, reader, writer) {
+    let (batch, keeps) = (options.batch_size(), options.keeps_partials);
+    match append_lines(alloc, &signer, batch, keeps, shelf, &mut ledger, reader, writer) {
         Ok(()) => Ok(()),
         Err(fault) => Err(fault),
     }

@@ -95,6 +95,7 @@ pub fn go_on<
         batch: Some(batch),
         is_new: false,
         allows_older: false,
+        keeps_partials: false,
     };
     let files = FailingFiles { files: rt, calls };
     let Ok(mut shelf) = FolderShelf::open(AnyOutcome, files, alloc, dir) else {

@@ -28,5 +28,6 @@ pub fn serve_options(alloc: Global, dir: Option<String>) -> Result<ServeOptions,
         dir,
         follow: false,
         allows_older: false,
+        keeps_partials: false,
     })
 }

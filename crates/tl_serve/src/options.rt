@@ -60,6 +60,8 @@ pub struct ServeOptions {
     pub follow: bool,
     /// Whether a log in a folder may go on from a checkpoint of fewer entries than were published.
     pub allows_older: bool,
+    /// Whether partial tiles and bundles stay in a folder that full ones have replaced.
+    pub keeps_partials: bool,
 }
 
 /// The options of `witness`.

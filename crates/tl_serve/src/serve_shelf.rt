@@ -186,7 +186,8 @@ fn serve_under<
         pages,
         lines,
     } = opened;
-    let mut log = ShelfLog::new(alloc, signer, shelf, ledger, intake, is_first);
+    let keeps = options.keeps_partials;
+    let mut log = ShelfLog::new(alloc, signer, shelf, ledger, intake, is_first, keeps);
     if let Err(fault) = log.show() {
         let (shelf, outcome) = (log.into_shelf(), Err(fault));
         return Served { shelf, outcome };

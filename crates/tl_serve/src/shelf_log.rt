@@ -26,6 +26,7 @@ pub(crate) struct ShelfLog<S> {
     pub(crate) intake: Intake<Global, Global>,
     // Whether something waits, or was put and isn't published, or the log was never published.
     pub(crate) is_due: bool,
+    keeps_partials: bool,
     began: Snapshot<S>,
     was: Snapshot<Ledger<Global>>,
 }
@@ -51,6 +52,7 @@ fn let_go(intake: &mut Intake<Global, Global>, before: u64, after: u64)
 
 impl<S: Shelf + Drop> ShelfLog<S> {
     /// A log on this shelf, of which the ledger is, whose lanes gave nothing yet. `is_due`: it was never published.
+    /// `keeps_partials`: partial tiles and bundles stay that full ones have replaced.
     pub(crate) fn new(
         alloc: Global,
         key: LogSigningKey,
@@ -58,6 +60,7 @@ impl<S: Shelf + Drop> ShelfLog<S> {
         ledger: Ledger<Global>,
         intake: Intake<Global, Global>,
         is_due: bool,
+        keeps_partials: bool,
     ) -> ShelfLog<S>
         requires name { IsKeyName (log_key_of key).name }
         requires drained { intake.drained ≡ [] }
@@ -80,6 +83,7 @@ impl<S: Shelf + Drop> ShelfLog<S> {
             ledger,
             intake,
             is_due,
+            keeps_partials,
             began,
             was,
         }
@@ -159,7 +163,8 @@ impl<S: Shelf + Drop> LiveLog for ShelfLog<S> {
         let size = self.ledger.size();
         let waiting = self.intake.waiting();
         let (shelf, ledger) = (&mut self.shelf, &mut self.ledger);
-        let outcome = append_batch(self.alloc, &self.key, waiting, shelf, ledger);
+        let keeps = self.keeps_partials;
+        let outcome = append_batch(self.alloc, &self.key, waiting, keeps, shelf, ledger);
         let_go(&mut self.intake, size, self.ledger.size());
         match outcome {
             Ok(()) => {

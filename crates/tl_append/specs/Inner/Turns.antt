@@ -1,9 +1,19 @@
 -- One batch that is appended.
-use Rattle.std.specs.Prelude.{List, [], ◌∷◌}
+use Rattle.std.specs.Prelude.{List, [], ◌∷◌, ◌++◌}
+use Rattle.sha2.specs.Sha256.{sha256}
 use Rattle.tl_hash.specs.Bytes.{Bytes}
 use Rattle.tl_device.specs.Device.{Passage}
+use Rattle.tl_publisher.specs.Histories.{Prefix}
+use Rattle.tl_ledger.specs.Keeping.{IsKeeping}
+use Rattle.tl_ledger.specs.Spent.{IsShown}
 use Rattle.tl_command.specs.Mirror.{LogKey}
-use Rattle.tl_append.specs.Appending.{Appends, Course, PrintsHeads}
+use Rattle.tl_append.specs.Appending.{Appends, Course, PrintsHeads, joined, published_after}
+
+-- the checkpoint that is there is that of the log with the batch behind it
+abbrev pub Shows : LogKey → List Bytes → Course → Type 0
+Shows key batch c =
+    (history : List Prefix) (log : List Bytes) → IsKeeping sha256 history log c.before c.was
+    → IsShown (history ++ published_after key log (batch ∷ [])) (log ++ joined (batch ∷ [])) c.after.held
 
 -- a batch was published, and its head printed
 pub record Publishes (key : LogKey) (batch : List Bytes) (c : Course) (o : Passage) : Type 0 where

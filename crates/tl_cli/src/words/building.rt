@@ -47,6 +47,7 @@ const APPEND: Words = Words {
             "dir" "DIR" Kind::RequiredPath => "The folder of the log";
             "batch" "N" Kind::Number(1, 0xFFFF_FFFF) => "Publish after each N entries, too";
             "older" "" Kind::Flag => "Go on from a checkpoint that is older than one that was there";
+            "keep-partials" "" Kind::Flag => "Leave partial tiles that full ones have replaced";
         ],
     ],
 };
@@ -72,6 +73,7 @@ pub(super) fn build_job(alloc: Global, options: &ArgMatches<'_>) -> Result<Job, 
             batch: None,
             is_new: true,
             allows_older: false,
+            keeps_partials: false,
         })),
         (Some(_), Some(_), _) => Err(usage_error(alloc, build(), ONE_OUTPUT)),
         (get, None, LogKey::Secret(secret)) => Ok(Job::Build(BuildOptions {
@@ -97,5 +99,6 @@ pub(super) fn append_job(alloc: Global, options: &ArgMatches<'_>) -> Result<Job,
         batch: options.get_one::<u64>("batch"),
         is_new: false,
         allows_older: options.get_flag("older"),
+        keeps_partials: options.get_flag("keep-partials"),
     }))
 }

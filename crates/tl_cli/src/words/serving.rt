@@ -51,6 +51,7 @@ const SERVE: Words = Words {
             "dir" "DIR" Kind::Path => "The folder of the log, which goes on from what is there";
             "follow" "" Kind::Flag => "Publish lines as they come";
             "older" "" Kind::Flag => "Go on from a checkpoint that is older than one that was there";
+            "keep-partials" "" Kind::Flag => "Leave partial tiles that full ones have replaced";
         ],
         SERVER,
     ],
@@ -120,6 +121,7 @@ pub(super) fn serve_job(alloc: Global, options: &ArgMatches<'_>) -> Result<Job, 
         dir,
         follow: options.get_flag("follow"),
         allows_older: options.get_flag("older"),
+        keeps_partials: options.get_flag("keep-partials"),
     }))
 }
 

@@ -30,7 +30,8 @@ Appends them to the log in the folder, which begins one where it has none: its f
 tlog-tiles), which any web server can serve. It is published after each N entries of --batch, and at the end: the tiles
 and bundles are written first and the checkpoint after them, so that a crash at any moment leaves a checkpoint with all
 that it needs. Run again, it goes on from there; where the folder says that more entries were published than its
-checkpoint has, only with --older, which says that nobody has seen what came after. One process at a time works on a
+checkpoint has, only with --older, which says that nobody has seen what came after. A partial tile or bundle is removed
+once the full one and the one behind it are there, unless --keep-partials is given. One process at a time works on a
 folder.
 Output: 'SIZE ROOT' for each publication, once it outlasts a crash. The checkpoint is signed as by 'tlog build'.
 Exit status: 0 done; 1 refused (a bad key, a bad origin, a bad checkpoint, an older one, a bundle not there, an entry
@@ -87,14 +88,14 @@ Serves the log over HTTP (C2SP tlog-tiles, tlog-checkpoint): 'listening ADDRESS'
 line more each publication, 'published SIZE ROOT', the end, 'closed SIZE', and before a refusal how many lines aren't
 in the log, 'lines not published: N'. Checkpoints are signed as those of 'tlog build'. With --note the first lines are
 the entries of that signed checkpoint, and the log goes on from it. With --dir the log is in that folder, as that of
-'tlog append', and goes on from what is there (with --older as there): requests are answered with the folder's files,
-and a publication is shown once it outlasts a crash.
+'tlog append', and goes on from what is there (with --older and --keep-partials as there): requests are answered with
+the folder's files, and a publication is shown once it outlasts a crash.
 Defaults: --lanes 1, --capacity 256, --batch 256, --timeout 10, --clients 1024, as many threads as the machine has
 processors, and any number of connections.
 Exit status: 0 done; 1 refused (a bad key, a bad origin, input too large, an entry too long, fewer lines than the note's
-size, a bad checkpoint, an older one, a bundle not there, in use, the operator refused, signing failed, out of memory); 2 wrong
-arguments or a call for help; 3 a read, a write, the address or an accept failed. A refusal is one line 'tlog: ..' on
-standard error.";
+size, a bad checkpoint, an older one, a bundle not there, in use, the operator refused, signing failed, out of memory);
+2 wrong arguments or a call for help; 3 a read, a write, the address or an accept failed. A refusal is one line
+'tlog: ..' on standard error.";
 
 pub(super) const WITNESS: &str =
     "Input: what an earlier run printed, a line for each checkpoint that it cosigned.

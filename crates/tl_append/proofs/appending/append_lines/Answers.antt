@@ -41,42 +41,42 @@ returns-then-not-is_due-clause-all g c =
 
 pub publish-requires-clause-short : goal.publish-requires-clause-short
 publish-requires-clause-short g c =
-    let told : TellsOf c.loop-turn.lines c.take_most.new.self (passage g.R.Read.remaining c.loop-turn.reader c.take_most.new.reader) (all_entries (map vec_items c.as_slice.result.now)) =
-    rw c.as_slice.ensures.value c.in-Ok-take_most.ensures.1 in
-    entries_are_short c.loop-turn.lines c.take_most.new.self (passage g.R.Read.remaining c.loop-turn.reader c.take_most.new.reader) (map vec_items c.as_slice.result.now) told
+    let told : TellsOf c.loop-turn.lines c.take_most.new.self (passage g.R.Read.remaining c.loop-turn.reader c.take_most.new.reader) (all_entries (map vec_items c.as_slice-batched.result.now)) =
+    rw c.as_slice-batched.ensures.value c.in-Ok-take_most.ensures.1 in
+    entries_are_short c.loop-turn.lines c.take_most.new.self (passage g.R.Read.remaining c.loop-turn.reader c.take_most.new.reader) (map vec_items c.as_slice-batched.result.now) told
 
 pub returns-in-Err-publish-clause-some : goal.returns-in-Err-publish-clause-some
 returns-in-Err-publish-clause-some g c =
-    let told : TellsOf c.loop-turn.lines c.take_most.new.self (passage g.R.Read.remaining c.loop-turn.reader c.take_most.new.reader) (all_entries (map vec_items c.as_slice.result.now)) =
-    rw c.as_slice.ensures.value c.in-Ok-take_most.ensures.1 in
+    let told : TellsOf c.loop-turn.lines c.take_most.new.self (passage g.R.Read.remaining c.loop-turn.reader c.take_most.new.reader) (all_entries (map vec_items c.as_slice-batched.result.now)) =
+    rw c.as_slice-batched.ensures.value c.in-Ok-take_most.ensures.1 in
     not_published (g.K.LogSigner.log_key c.args.key.now) c.args.batch c.loop-turn.is_due (g.S.Shelf.kept c.args.shelf.now) (g.S.Shelf.kept c.loop-turn.shelf) (g.S.Shelf.trace c.args.shelf.now) (g.S.Shelf.trace c.loop-turn.shelf) c.args.ledger.now c.loop-turn.ledger
     (g.R.Read.remaining c.args.reader.now.device) (g.R.Read.remaining c.loop-turn.reader.device) (g.R.Read.remaining c.take_most.new.reader.device) (g.W.Write.contents c.args.writer.now.device) (g.W.Write.contents c.loop-turn.writer.device) (g.W.Write.contents c.publish.new.writer.device)
     c.args.reader.now.failed c.loop-turn.reader.failed c.take_most.new.reader.failed c.args.writer.now.failed c.loop-turn.writer.failed c.publish.new.writer.failed c.loop-turn.lines c.take_most.new.self c.loop-turn.invariant.so_far
-    (g.S.Shelf.kept c.publish.new.shelf) (g.S.Shelf.trace c.publish.new.shelf) c.publish.new.ledger (map vec_items c.as_slice.result.now) told c.in-Err-publish.ensures.part
+    (g.S.Shelf.kept c.publish.new.shelf) (g.S.Shelf.trace c.publish.new.shelf) c.publish.new.ledger (map vec_items c.as_slice-batched.result.now) told c.in-Err-publish.ensures.part
 
 pub returns-then-len-batch-clause-all : goal.returns-then-len-batch-clause-all
 returns-then-len-batch-clause-all g c =
-    let told : TellsOf c.loop-turn.lines c.take_most.new.self (passage g.R.Read.remaining c.loop-turn.reader c.take_most.new.reader) (all_entries (map vec_items c.as_slice.result.now)) =
-    rw c.as_slice.ensures.value c.in-Ok-take_most.ensures.1 in
+    let told : TellsOf c.loop-turn.lines c.take_most.new.self (passage g.R.Read.remaining c.loop-turn.reader c.take_most.new.reader) (all_entries (map vec_items c.as_slice-batched.result.now)) =
+    rw c.as_slice-batched.ensures.value c.in-Ok-take_most.ensures.1 in
     let few : length c.in-Ok-take_most.entries.items < c.args.batch = omega (arith, c.len.ensures, c.in-Ok-take_most.entries.ok.0, c.if-len-batch.true) in
-    let all : TellsAll c.loop-turn.lines c.take_most.new.self (passage g.R.Read.remaining c.loop-turn.reader c.take_most.new.reader) (all_entries (map vec_items c.as_slice.result.now)) =
-    rw c.as_slice.ensures.value (c.in-Ok-take_most.ensures.2 few) in
+    let all : TellsAll c.loop-turn.lines c.take_most.new.self (passage g.R.Read.remaining c.loop-turn.reader c.take_most.new.reader) (all_entries (map vec_items c.as_slice-batched.result.now)) =
+    rw c.as_slice-batched.ensures.value (c.in-Ok-take_most.ensures.2 few) in
     last_batch (g.K.LogSigner.log_key c.args.key.now) c.args.batch c.loop-turn.is_due (g.S.Shelf.kept c.args.shelf.now) (g.S.Shelf.kept c.loop-turn.shelf) (g.S.Shelf.trace c.args.shelf.now) (g.S.Shelf.trace c.loop-turn.shelf) c.args.ledger.now c.loop-turn.ledger
     (g.R.Read.remaining c.args.reader.now.device) (g.R.Read.remaining c.loop-turn.reader.device) (g.R.Read.remaining c.take_most.new.reader.device) (g.W.Write.contents c.args.writer.now.device) (g.W.Write.contents c.loop-turn.writer.device) (g.W.Write.contents c.publish.new.writer.device)
     c.args.reader.now.failed c.loop-turn.reader.failed c.take_most.new.reader.failed c.args.writer.now.failed c.loop-turn.writer.failed c.publish.new.writer.failed c.loop-turn.lines c.take_most.new.self c.loop-turn.invariant.so_far
-    (g.S.Shelf.kept c.publish.new.shelf) (g.S.Shelf.trace c.publish.new.shelf) c.publish.new.ledger (map vec_items c.as_slice.result.now) told c.in-Ok-publish.ensures.all
-    (omega (arith, few, length-map c.as_slice.result.now (vec_items {X = ℕ} {Z = Global}), ap length c.as_slice.ensures.value)) all
+    (g.S.Shelf.kept c.publish.new.shelf) (g.S.Shelf.trace c.publish.new.shelf) c.publish.new.ledger (map vec_items c.as_slice-batched.result.now) told c.in-Ok-publish.ensures.all
+    (omega (arith, few, length-map c.as_slice-batched.result.now (vec_items {X = ℕ} {Z = Global}), ap length c.as_slice-batched.ensures.value)) all
 
 pub loop-turn-preserved : goal.loop-turn-preserved
 loop-turn-preserved g c =
-    let told : TellsOf c.loop-turn.lines c.take_most.new.self (passage g.R.Read.remaining c.loop-turn.reader c.take_most.new.reader) (all_entries (map vec_items c.as_slice.result.now)) =
-    rw c.as_slice.ensures.value c.in-Ok-take_most.ensures.1 in
+    let told : TellsOf c.loop-turn.lines c.take_most.new.self (passage g.R.Read.remaining c.loop-turn.reader c.take_most.new.reader) (all_entries (map vec_items c.as_slice-batched.result.now)) =
+    rw c.as_slice-batched.ensures.value c.in-Ok-take_most.ensures.1 in
     record {
       so_far = one_more_batch (g.K.LogSigner.log_key c.args.key.now) c.args.batch c.loop-turn.is_due (g.S.Shelf.kept c.args.shelf.now) (g.S.Shelf.kept c.loop-turn.shelf) (g.S.Shelf.trace c.args.shelf.now) (g.S.Shelf.trace c.loop-turn.shelf) c.args.ledger.now c.loop-turn.ledger
           (g.R.Read.remaining c.args.reader.now.device) (g.R.Read.remaining c.loop-turn.reader.device) (g.R.Read.remaining c.take_most.new.reader.device) (g.W.Write.contents c.args.writer.now.device) (g.W.Write.contents c.loop-turn.writer.device) (g.W.Write.contents c.publish.new.writer.device)
           c.args.reader.now.failed c.loop-turn.reader.failed c.take_most.new.reader.failed c.args.writer.now.failed c.loop-turn.writer.failed c.publish.new.writer.failed c.loop-turn.lines c.take_most.new.self c.loop-turn.invariant.so_far
-          (g.S.Shelf.kept c.publish.new.shelf) (g.S.Shelf.trace c.publish.new.shelf) c.publish.new.ledger (map vec_items c.as_slice.result.now) told c.in-Ok-publish.ensures.all _
-          (omega (arith, c.in-Ok-take_most.ensures.0, c.len.ensures, c.in-Ok-take_most.entries.ok.0, c.if-len-batch.false, length-map c.as_slice.result.now (vec_items {X = ℕ} {Z = Global}), ap length c.as_slice.ensures.value));
+          (g.S.Shelf.kept c.publish.new.shelf) (g.S.Shelf.trace c.publish.new.shelf) c.publish.new.ledger (map vec_items c.as_slice-batched.result.now) told c.in-Ok-publish.ensures.all _
+          (omega (arith, c.in-Ok-take_most.ensures.0, c.len.ensures, c.in-Ok-take_most.entries.ok.0, c.if-len-batch.false, length-map c.as_slice-batched.result.now (vec_items {X = ℕ} {Z = Global}), ap length c.as_slice-batched.ensures.value));
       place = c.publish.ensures.place ∙ c.loop-turn.invariant.place;
     }
 

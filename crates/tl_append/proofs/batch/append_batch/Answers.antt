@@ -1,31 +1,19 @@
 use Rattle.std.proofs.Common.{map, vec_items, arith}
 use Rattle.std.proofs.lemmas.List.{length-map}
-use Rattle.tl_append.proofs.Turns.{not_put, not_sealed, not_signed, one_appended}
+use Rattle.tl_append.proofs.Turns.{at_most, spent_removed}
 use Rattle.tl_append.proofs.batch.append_batch.Goals as goal
 
-pub returns-in-Err-clause-part : goal.returns-in-Err-clause-part
-returns-in-Err-clause-part g c =
-    not_put (g.K.LogSigner.log_key c.args.key.now) (map vec_items c.args.batch.now) (g.S.Shelf.kept c.args.shelf.now) (g.S.Shelf.kept c.put_batch.new.shelf)
-    (g.S.Shelf.trace c.args.shelf.now) (g.S.Shelf.trace c.put_batch.new.shelf) c.args.ledger.now c.put_batch.new.ledger c.put_batch.ensures.safe c.in-Err.ensures.stayed c.in-Err.ensures.same
-
-pub returns-in-Err-sign_checkpoint-clause-part : goal.returns-in-Err-sign_checkpoint-clause-part
-returns-in-Err-sign_checkpoint-clause-part g c =
-    not_signed (g.K.LogSigner.log_key c.args.key.now) (map vec_items c.args.batch.now) (g.S.Shelf.kept c.args.shelf.now) (g.S.Shelf.kept c.put_batch.new.shelf)
-    (g.S.Shelf.trace c.args.shelf.now) (g.S.Shelf.trace c.put_batch.new.shelf) c.args.ledger.now c.put_batch.new.ledger c.put_batch.ensures.safe c.in-Ok.ensures.kept
-    (omega (arith, c.in-Ok.ensures.sized, length-map c.args.batch.now vec_items))
-
-pub returns-in-Ok-seal-clause-all : goal.returns-in-Ok-seal-clause-all
-returns-in-Ok-seal-clause-all g c =
-    one_appended (g.K.LogSigner.log_key c.args.key.now) (map vec_items c.args.batch.now) (g.S.Shelf.kept c.args.shelf.now) (g.S.Shelf.kept c.put_batch.new.shelf)
-    (g.S.Shelf.trace c.args.shelf.now) (g.S.Shelf.trace c.put_batch.new.shelf) c.args.ledger.now c.put_batch.new.ledger c.put_batch.ensures.safe c.in-Ok.ensures.kept
-    (omega (arith, c.in-Ok.ensures.sized, length-map c.args.batch.now vec_items))
-    (g.S.Shelf.kept c.seal.new.shelf) (g.S.Shelf.trace c.seal.new.shelf) c.size-size.result c.root-root.result _ c.as_bytes.result.now
-    c.size-size.ensures c.root-root.ensures c.in-Ok-sign_checkpoint.ensures.note c.as_bytes.ensures.value c.seal.ensures.kept c.seal.ensures.safe
+pub returns-in-Ok-remove_spent-clause-all : goal.returns-in-Ok-remove_spent-clause-all
+returns-in-Ok-remove_spent-clause-all g c =
+    spent_removed (g.K.LogSigner.log_key c.args.key.now) (map vec_items c.args.batch.now) (g.S.Shelf.kept c.args.shelf.now) (g.S.Shelf.kept c.publish_batch.new.shelf) (g.S.Shelf.kept c.remove_spent.new.shelf)
+    (g.S.Shelf.trace c.args.shelf.now) (g.S.Shelf.trace c.publish_batch.new.shelf) (g.S.Shelf.trace c.remove_spent.new.shelf) c.args.ledger.now c.publish_batch.new.ledger
+    c.in-Ok.ensures.all c.in-Ok.ensures.shown c.remove_spent.ensures.kept c.remove_spent.ensures.safe
 
 pub returns-clause-part : goal.returns-clause-part
 returns-clause-part g c =
-    not_sealed (g.K.LogSigner.log_key c.args.key.now) (map vec_items c.args.batch.now) (g.S.Shelf.kept c.args.shelf.now) (g.S.Shelf.kept c.put_batch.new.shelf)
-    (g.S.Shelf.trace c.args.shelf.now) (g.S.Shelf.trace c.put_batch.new.shelf) c.args.ledger.now c.put_batch.new.ledger c.put_batch.ensures.safe c.in-Ok.ensures.kept
+    at_most (g.K.LogSigner.log_key c.args.key.now) (map vec_items c.args.batch.now) (g.S.Shelf.kept c.args.shelf.now) (g.S.Shelf.kept c.remove_spent.new.shelf)
+    (g.S.Shelf.trace c.args.shelf.now) (g.S.Shelf.trace c.remove_spent.new.shelf) c.args.ledger.now c.publish_batch.new.ledger
     (omega (arith, c.in-Ok.ensures.sized, length-map c.args.batch.now vec_items))
-    (g.S.Shelf.kept c.seal.new.shelf) (g.S.Shelf.trace c.seal.new.shelf) c.size-size.result c.root-root.result _ c.as_bytes.result.now
-    c.size-size.ensures c.root-root.ensures c.in-Ok-sign_checkpoint.ensures.note c.as_bytes.ensures.value c.seal.ensures.kept c.seal.ensures.safe
+    (spent_removed (g.K.LogSigner.log_key c.args.key.now) (map vec_items c.args.batch.now) (g.S.Shelf.kept c.args.shelf.now) (g.S.Shelf.kept c.publish_batch.new.shelf) (g.S.Shelf.kept c.remove_spent.new.shelf)
+    (g.S.Shelf.trace c.args.shelf.now) (g.S.Shelf.trace c.publish_batch.new.shelf) (g.S.Shelf.trace c.remove_spent.new.shelf) c.args.ledger.now c.publish_batch.new.ledger
+    c.in-Ok.ensures.all c.in-Ok.ensures.shown c.remove_spent.ensures.kept c.remove_spent.ensures.safe)
