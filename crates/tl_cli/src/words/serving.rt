@@ -21,6 +21,9 @@ const CLIENTS: u64 = 1024;
 // What is said where a note and a folder are given.
 const ONE_BASE: &str = "--note and --dir are not given together";
 
+// What is said where options of a log in a folder are given, and no folder.
+const OF_A_FOLDER: &str = "--older and --keep-partials are given with --dir alone";
+
 // What is said where not one key of the log is given to a witness.
 const ONE_LOG_KEY: &str = "either --secret or --log-key is given";
 
@@ -100,7 +103,7 @@ fn listen_options(alloc: Global, options: &ArgMatches<'_>) -> Result<ListenOptio
     })
 }
 
-// The job of `serve`: not both a note and a folder are given.
+// The job of `serve`: not both a note and a folder are given, and what is of a folder with one alone.
 pub(super) fn serve_job(alloc: Global, options: &ArgMatches<'_>) -> Result<Job, WordsFault> {
     let Some(key) = log_key_if_one(alloc, options)? else {
         return Err(usage_error(alloc, serve(), EITHER_KEY));
@@ -109,6 +112,10 @@ pub(super) fn serve_job(alloc: Global, options: &ArgMatches<'_>) -> Result<Job, 
     let dir = text_if_given(alloc, options, "dir")?;
     if note.is_some() && dir.is_some() {
         return Err(usage_error(alloc, serve(), ONE_BASE));
+    }
+    let (older, kept) = (options.get_flag("older"), options.get_flag("keep-partials"));
+    if dir.is_none() && (older || kept) {
+        return Err(usage_error(alloc, serve(), OF_A_FOLDER));
     }
     Ok(Job::Serve(ServeOptions {
         origin: text_of(alloc, options, "origin")?,
@@ -120,8 +127,8 @@ pub(super) fn serve_job(alloc: Global, options: &ArgMatches<'_>) -> Result<Job, 
         note,
         dir,
         follow: options.get_flag("follow"),
-        allows_older: options.get_flag("older"),
-        keeps_partials: options.get_flag("keep-partials"),
+        allows_older: older,
+        keeps_partials: kept,
     }))
 }
 

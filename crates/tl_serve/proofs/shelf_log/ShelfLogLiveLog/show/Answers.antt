@@ -1,4 +1,4 @@
-use Rattle.std.proofs.Common.{[], ◌∷◌, List, Some, ap, arith, length, refl, subst, vec_items}
+use Rattle.std.proofs.Common.{[], ◌∷◌, List, Some, ap, arith, length, subst, vec_items}
 use Rattle.std.proofs.lemmas.List.{length-map}
 use Rattle.tl_hash.specs.Bytes.{Bytes}
 use Rattle.tl_sequencer.specs.Log.{rings_of}
