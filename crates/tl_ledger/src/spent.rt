@@ -59,9 +59,9 @@ fn remove_level<S: Shelf>(shelf: &mut S, level: u32, had: u64, has: u64) -> Resu
 }
 
 impl<A: Allocator + Copy> Ledger<A> {
-    /// Removes the partial tiles and bundles that are spent since the log had `from` entries (C2SP tlog-tiles, "Partial
-    /// Tiles"): those of which the full one is there, and the full one behind it, too, so that who reads by an earlier
-    /// checkpoint has a while to do so. Its checkpoint has to be there.
+    /// Removes the partial tiles and bundles that are spent since the log had `from` entries (C2SP tlog-tiles,
+    /// "Partial Tiles"): those of which the full one is there, and the full one behind it, too, so that who reads by
+    /// an earlier checkpoint has a while to do so. Its checkpoint has to be there.
     pub fn remove_spent<S: Shelf>(&self, shelf: &mut S, from: u64) -> Result<(), ShelfFault>
         requires small { self.now.edge.size < 2 ^ 32 }
         ensures kept { (history : List Prefix) (log : List Bytes)
