@@ -1,6 +1,6 @@
 //! Removing the partial tiles and bundles that a log needs no more.
 
-ghost use Rattle.std.specs.Prelude.{◌≡◌, ◌<◌, ◌≤◌, ◌^◌, List, OnErr, OnOk};
+ghost use Rattle.std.specs.Prelude.{◌≡◌, ℕ, ◌+◌, ◌*◌, ◌^◌, ◌<◌, ◌≤◌, List, OnErr, OnOk};
 ghost use Rattle.sha2.specs.Sha256.{sha256};
 ghost use Rattle.tl_hash.specs.Bytes.{Bytes};
 ghost use Rattle.tl_publisher.specs.Histories.{Prefix};
@@ -8,6 +8,7 @@ ghost use Rattle.tl_archive.specs.Complete.{KeptSafe};
 ghost use Rattle.tl_archive.specs.Shelves.{Fails};
 ghost use Rattle.tl_ledger.specs.Keeping.{IsKeeping};
 ghost use Rattle.tl_ledger.specs.Spent.{IsShown, LacksSpent, RemovesSpent};
+ghost use Rattle.tl_ledger.specs.Inner.Spending.{LacksAt, LacksLevel, Sheds};
 
 use crate::ledger::Ledger;
 use std::alloc::Allocator;
@@ -15,25 +16,41 @@ use tl_archive::{Shelf, ShelfFault};
 use tl_tile::{Resource, Tile};
 
 // Removes the partial ones of the tile at an index of a level, and, at the lowest level, of the bundle there.
-fn remove_at<S: Shelf>(shelf: &mut S, level: u32, index: u64) -> Result<(), ShelfFault> {
+fn remove_at<S: Shelf>(shelf: &mut S, level: u32, index: u64) -> Result<(), ShelfFault>
+    requires lawful { (level < 3) × (index < 2 ^ 32) }
+    ensures sheds { (size : ℕ) → (index + 2) * 256 ^ (level + 1) ≤ size
+        → Sheds size (S.kept shelf.old) (S.kept shelf.new)
+        (S.trace shelf.old) (S.trace shelf.new) }
+    ensures gone { OnOk result (LacksAt level index (S.kept shelf.new).held) }
+    ensures unfailed { OnOk result (S.faults shelf.new ≡ S.faults shelf.old) }
+    ensures failed { OnErr result (Fails (S.faults shelf.old) (S.faults shelf.new)) }
+    ensures place { S.place shelf.new ≡ S.place shelf.old }
+    ensures mark { S.published shelf.new ≡ S.published shelf.old }
+{
     shelf.remove_partials(&Resource::Tile(Tile {
         level,
         index,
         width: 256,
     }))?;
-    if level == 0 {
-        shelf.remove_partials(&Resource::Entries { index, width: 256 })?;
+    if level != 0 {
+        return Ok(());
     }
+    shelf.remove_partials(&Resource::Entries { index, width: 256 })?;
     Ok(())
 }
 
 // Removes those of a level that are spent since it had so many full tiles, of those that it has.
-fn remove_level<S: Shelf>(
-    shelf: &mut S,
-    level: u32,
-    had: u64,
-    has: u64,
-) -> Result<(), ShelfFault> {
+fn remove_level<S: Shelf>(shelf: &mut S, level: u32, had: u64, has: u64) -> Result<(), ShelfFault>
+    requires small { (level < 3) × (had < 2 ^ 56) × (has < 2 ^ 32) }
+    ensures sheds { (size : ℕ) → has * 256 ^ (level + 1) ≤ size
+        → Sheds size (S.kept shelf.old) (S.kept shelf.new)
+        (S.trace shelf.old) (S.trace shelf.new) }
+    ensures gone { OnOk result (LacksLevel level had has (S.kept shelf.new).held) }
+    ensures unfailed { OnOk result (S.faults shelf.new ≡ S.faults shelf.old) }
+    ensures failed { OnErr result (Fails (S.faults shelf.old) (S.faults shelf.new)) }
+    ensures place { S.place shelf.new ≡ S.place shelf.old }
+    ensures mark { S.published shelf.new ≡ S.published shelf.old }
+{
     let end = has.saturating_sub(1).min(had + 1);
     for index in had.saturating_sub(1)..end {
         remove_at(shelf, level, index)?;
@@ -42,9 +59,9 @@ fn remove_level<S: Shelf>(
 }
 
 impl<A: Allocator + Copy> Ledger<A> {
-    /// Removes the partial tiles and bundles that are spent since the log had `from` entries (C2SP tlog-tiles, "Partial
-    /// Tiles"): those of which the full one is there, and the full one behind it, too, so that who reads by an earlier
-    /// checkpoint has a while to do so. Its checkpoint has to be there.
+    /// Removes the partial tiles and bundles that are spent since the log had `from` entries (C2SP tlog-tiles,
+    /// "Partial Tiles"): those of which the full one is there, and the full one behind it, too, so that who reads by
+    /// an earlier checkpoint has a while to do so. Its checkpoint has to be there.
     pub fn remove_spent<S: Shelf>(&self, shelf: &mut S, from: u64) -> Result<(), ShelfFault>
         requires small { self.now.edge.size < 2 ^ 32 }
         ensures kept { (history : List Prefix) (log : List Bytes)
@@ -64,7 +81,7 @@ impl<A: Allocator + Copy> Ledger<A> {
         ensures mark { S.published shelf.new ≡ S.published shelf.old }
     {
         let mut span: u64 = 1;
-        for level in 0..3 {
+        for level in 0..3u32 {
             span *= 256;
             remove_level(shelf, level, from / span, self.size() / span)?;
         }
