@@ -56,7 +56,16 @@ fn append_under<S: Shelf, R: Read, W: Write>(
         return Err(taken());
     }
     let (batch, keeps) = (options.batch_size(), options.keeps_partials);
-    match append_lines(alloc, &signer, batch, keeps, shelf, &mut ledger, reader, writer) {
+    match append_lines(
+        alloc,
+        &signer,
+        batch,
+        keeps,
+        shelf,
+        &mut ledger,
+        reader,
+        writer,
+    ) {
         Ok(()) => Ok(()),
         Err(fault) => Err(fault),
     }
