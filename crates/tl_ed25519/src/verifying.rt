@@ -18,9 +18,9 @@ fn expected_point(key: &[u8; 32], s: Words, k: Words) -> Option<[u8; 32]>
         return None;
     };
     let base = Point::base();
-    let first = base.multiply(s);
+    let first = base.multiply_public(s);
     let negated = point.negate();
-    let second = negated.multiply(k);
+    let second = negated.multiply_public(k);
     let sum = first.add(&second);
     Some(sum.encode())
 }
@@ -57,7 +57,7 @@ pub fn verify(key: &[u8; 32], message: &[u8], signature: &[u8; 64]) -> bool
 fn has_small_order(point: Point) -> bool
     ensures { result ≡ has_small_order point }
 {
-    let multiple = point.multiply(Words(8, 0, 0, 0));
+    let multiple = point.multiply_public(Words(8, 0, 0, 0));
     let bytes = multiple.encode();
     let neutral = Point::neutral();
     let neutral_bytes = neutral.encode();

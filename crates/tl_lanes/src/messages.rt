@@ -1,7 +1,7 @@
 //! Digests of four messages together.
 
-ghost use Rattle.std.specs.Prelude.{◌≡◌, ℕ, ◌+◌, ◌*◌, ◌/◌, ◌<◌, ◌≤◌, List, [], ◌∷◌, ◌++◌, length, slice_index, slice_index_or};
-ghost use Rattle.sha2.specs.Sha256.{compress, digest_bytes, initial_hash_256, sha256, word_at};
+ghost use Rattle.std.specs.Prelude.{◌≡◌, ◌≢◌, ℕ, ◌+◌, ◌*◌, ◌/◌, ◌<◌, ◌≤◌, List, [], ◌∷◌, ◌++◌, length, take, drop, slice_index, slice_index_or};
+ghost use Rattle.sha2.specs.Sha256.{compress, digest_bytes, initial_hash_256, padded_message, sha256, word_at};
 ghost use Rattle.tl_lanes.specs.Lanes.{lane, lane_at};
 
 use crate::block::tagged_block;
@@ -73,45 +73,69 @@ fn finish(state: &[u32x4; 8], j: usize) -> [u8; 32]
     digest
 }
 
+// Block `t` of the padded message, or any block where the message has fewer.
+#[inline(always)]
+fn block_or_any(tag: u8, rest: &[u8], t: usize) -> [u8; 64]
+    ensures { t ≤ (length rest.now + 9) / 64
+        → result ≡ take 64 (drop (t * 64) (padded_message (tag ∷ rest.now))) }
+{
+    if t <= (rest.len() + 9) / 64 {
+        return tagged_block(tag, rest, t);
+    }
+    [0u8; 64]
+}
+
+// Keeps message `j`'s digest once its last block was taken in.
+#[inline(always)]
+fn keep(digest: &mut [u8; 32], state: &[u32x4; 8], j: usize, t: usize, last: usize)
+    requires { j < 4 }
+    ensures kept { t ≡ last → digest.new ≡ digest_bytes (lane j state.now) 8 }
+    ensures others { t ≢ last → digest.new ≡ digest.old }
+{
+    if t == last {
+        *digest = finish(state, j);
+    }
+}
+
 // The work of both public functions. It is inlined into each: where the lengths are known, as for pairs of hashes, the
 // compiler then knows how many blocks there are and where the padding falls.
 #[inline(always)]
 fn four_digests(tag: u8, a: &[u8], b: &[u8], c: &[u8], d: &[u8]) -> [[u8; 32]; 4]
-    requires b { (length b.now + 9) / 64 ≡ (length a.now + 9) / 64 }
-    requires c { (length c.now + 9) / 64 ≡ (length a.now + 9) / 64 }
-    requires d { (length d.now + 9) / 64 ≡ (length a.now + 9) / 64 }
     ensures a { slice_index_or result 0 [] ≡ sha256 (tag ∷ a.now) }
     ensures b { slice_index_or result 1 [] ≡ sha256 (tag ∷ b.now) }
     ensures c { slice_index_or result 2 [] ≡ sha256 (tag ∷ c.now) }
     ensures d { slice_index_or result 3 [] ≡ sha256 (tag ∷ d.now) }
 {
     let mut state = start();
-    let count = (a.len() + 9) / 64 + 1;
+    let last_a = (a.len() + 9) / 64;
+    let last_b = (b.len() + 9) / 64;
+    let last_c = (c.len() + 9) / 64;
+    let last_d = (d.len() + 9) / 64;
+    let count = last_a.max(last_b).max(last_c.max(last_d)) + 1;
+    let mut digest_a = [0u8; 32];
+    let mut digest_b = [0u8; 32];
+    let mut digest_c = [0u8; 32];
+    let mut digest_d = [0u8; 32];
     'blocks: for t in 0..count {
         let blocks = [
-            tagged_block(tag, a, t),
-            tagged_block(tag, b, t),
-            tagged_block(tag, c, t),
-            tagged_block(tag, d, t),
+            block_or_any(tag, a, t),
+            block_or_any(tag, b, t),
+            block_or_any(tag, c, t),
+            block_or_any(tag, d, t),
         ];
         take_in(&mut state, &blocks);
+        keep(&mut digest_a, &state, 0, t, last_a);
+        keep(&mut digest_b, &state, 1, t, last_b);
+        keep(&mut digest_c, &state, 2, t, last_c);
+        keep(&mut digest_d, &state, 3, t, last_d);
     }
-    [
-        finish(&state, 0),
-        finish(&state, 1),
-        finish(&state, 2),
-        finish(&state, 3),
-    ]
+    [digest_a, digest_b, digest_c, digest_d]
 }
 
 /// The SHA-256 digests (FIPS 180-4, section 6.2) of four messages, in order: each is the byte `tag` and then `a`, `b`,
-/// `c` or `d`. All four must have the same number of blocks when padded: `(n + 9) / 64` is the same for the lengths `n`
-/// of `a`, `b`, `c` and `d` in bytes.
+/// `c` or `d`. It takes as long as four of the longest.
 #[inline(never)]
 pub fn digest4(tag: u8, a: &[u8], b: &[u8], c: &[u8], d: &[u8]) -> [[u8; 32]; 4]
-    requires b { (length b.now + 9) / 64 ≡ (length a.now + 9) / 64 }
-    requires c { (length c.now + 9) / 64 ≡ (length a.now + 9) / 64 }
-    requires d { (length d.now + 9) / 64 ≡ (length a.now + 9) / 64 }
     ensures a { slice_index_or result 0 [] ≡ sha256 (tag ∷ a.now) }
     ensures b { slice_index_or result 1 [] ≡ sha256 (tag ∷ b.now) }
     ensures c { slice_index_or result 2 [] ≡ sha256 (tag ∷ c.now) }
