@@ -108,6 +108,7 @@ impl<'a, H: Files> Files for FailingFiles<'a, H> {
     }
 
     fn remove_dir_all<B: Allocator>(&self, alloc: B, path: &str) -> Result<()> {
+        self.calls.next()?;
         self.files.remove_dir_all(alloc, path)
     }
 }
