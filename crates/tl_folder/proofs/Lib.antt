@@ -10,3 +10,4 @@ pub mod Beginnings
 pub mod Ends
 pub mod ShelfDisk
 pub mod Marks
+pub mod Partials
