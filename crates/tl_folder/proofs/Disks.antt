@@ -180,7 +180,7 @@ one_failed : (New : Option Bytes → Type 0) (s : Step) (rest : Bytes) (disk : D
 one_failed New s rest disk q (inl spares) = no_more New _ _ (spared_failed s rest disk q spares)
 one_failed New s rest disk q (inr places) = placed_failed New s rest disk q places
 
-chain : (New : Option Bytes → Type 0) (a b c : At) → LeavesOldOr New a b → LeavesOldOr New b c → LeavesOldOr New a c
+pub chain : (New : Option Bytes → Type 0) (a b c : At) → LeavesOldOr New a b → LeavesOldOr New b c → LeavesOldOr New a c
 chain New a b c first second left may =
     elim (second left may) as (λ _. MayBe a left ⊎ New left) [
       | inl old ↦ first left old

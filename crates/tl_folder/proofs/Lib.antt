@@ -11,3 +11,4 @@ pub mod Ends
 pub mod ShelfDisk
 pub mod Marks
 pub mod Partials
+pub mod Removals

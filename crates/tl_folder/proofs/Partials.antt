@@ -1,19 +1,13 @@
 -- Partial tiles and bundles that were removed.
-use Rattle.std.proofs.Common.{◌≡◌, ◌<◌, true, false, inl, inr, ◌⊎◌, List, ℕ, Some, None, refl, ap, arith}
+use Rattle.std.proofs.Common.{◌≡◌, true, false, inl, inr, ◌⊎◌, List, ℕ, Some, None, refl, ap}
 use Rattle.std.specs.Prelude.{Bool, Option, ◌==◌, if◌then◌else◌}
 use Rattle.std.proofs.lemmas.Bool.{eqb-true, eq-eqb, ltb-true, lt-ltb}
 use Rattle.tl_tile.specs.declared.resource.Resource.{Resource}
 use Rattle.tl_tile.specs.declared.resource.Resource.TheVariants as resource
-use Rattle.tl_tile.specs.Path.{IsResource}
-use Rattle.tl_archive.specs.Partials.{IsFull, IsPartialOf}
+use Rattle.tl_archive.specs.Partials.{IsPartialOf}
 use Rattle.tl_archive.specs.Shelves.{Held}
 use Rattle.tl_folder.specs.Folders.{is_partial_of, without}
 use Rattle.tl_folder.proofs.Puts.{two, firsts, seconds, no}
-
-pub full_is : (full : Resource) → IsFull full → IsResource full
-full_is (resource.Tile t) is = is.0
-full_is (resource.Entries index width) is = (is.0, omega arith, omega arith)
-full_is resource.Checkpoint is = absurd is
 
 pub partial_is : (full r : Resource) → is_partial_of full r ≡ true → IsPartialOf full r
 partial_is (resource.Tile f) (resource.Tile t) e =
