@@ -1,5 +1,5 @@
 -- Partial tiles and bundles that were removed.
-use Rattle.std.proofs.Common.{◌≡◌, true, false, inl, inr, ◌⊎◌, List, ℕ, Some, None, refl, ap}
+use Rattle.std.proofs.Common.{◌≡◌, true, false, inl, inr, ◌⊎◌, List, ℕ, None, refl, ap}
 use Rattle.std.specs.Prelude.{Bool, Option, ◌==◌, if◌then◌else◌}
 use Rattle.std.proofs.lemmas.Bool.{eqb-true, eq-eqb, ltb-true, lt-ltb}
 use Rattle.tl_tile.specs.declared.resource.Resource.{Resource}

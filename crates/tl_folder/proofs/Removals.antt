@@ -1,5 +1,5 @@
 -- What the removal of partial tiles and bundles leaves of the files of resources.
-use Rattle.std.proofs.Common.{◌≡◌, ◌≢◌, ℕ, ◌+◌, ◌^◌, ◌<◌, ◌≤◌, true, false, inl, inr, ◌⊎◌, List, [], ◌∷◌, ◌++◌, length, take, drop, get_or, Some, None, refl, sym, ap, subst, ◌∙◌, arith, append_assoc}
+use Rattle.std.proofs.Common.{◌≡◌, ◌≢◌, ℕ, ◌+◌, ◌^◌, ◌<◌, ◌≤◌, true, false, inl, inr, ◌⊎◌, List, [], ◌∷◌, ◌++◌, length, take, drop, get_or, None, refl, sym, ap, subst, ◌∙◌, arith, append_assoc}
 use Rattle.std.specs.Prelude.{Bool, Option, ◌||◌, ◌==◌, codes, decimal, if◌then◌else◌}
 use Rattle.std.specs.Str.{bytes_eq}
 use Rattle.std.proofs.lemmas.Bool.{cases_lt}
@@ -12,17 +12,22 @@ use Rattle.tl_tile.specs.Path.{IsResource, path_text, index_text, width_text, pi
 use Rattle.tl_tile.specs.Inner.ReadPath.{leading_number, with_digit}
 use Rattle.tl_tile.proofs.PathLemmas.{full_width, part_width, number_place}
 use Rattle.tl_archive.specs.Partials.{IsFull, IsPartialOf}
+use Rattle.tl_archive.specs.Shelves.{Held}
 use Rattle.tl_archive.proofs.Lists.{none_has, cons_cases}
 use Rattle.tl_folder.specs.Step.{Path, Bytes, Step}
 use Rattle.tl_folder.specs.Step as step
 use Rattle.tl_folder.specs.FileCalls.{Call}
 use Rattle.tl_folder.specs.Posix.{File, At, Disk, MayStay, MayBe, is_within, maybe_gone, moved_in, after, after_failed, Becomes}
 use Rattle.tl_folder.specs.Places.{place_of, partials_path, removed_path}
-use Rattle.tl_folder.specs.Removing.{removing, AreFirst}
+use Rattle.tl_folder.specs.Removing.{HasMoved, removing, AreFirst}
+use Rattle.tl_folder.specs.Folders.{is_partial_of, without}
+use Rattle.tl_folder.specs.OnDisk.{Reflects, ReflectsSome}
 use Rattle.tl_folder.proofs.Above.{or_true}
 use Rattle.tl_folder.proofs.Disks.{LeavesOldOr, chain, away_other, away_failed_other, remove_other, becomes_parts}
 use Rattle.tl_folder.proofs.Ends.{false_of}
 use Rattle.tl_folder.proofs.Marks.{Leaves, AllLeave}
+use Rattle.tl_folder.proofs.Partials.{partial_is, is_partial, is_gone}
+use Rattle.tl_folder.proofs.Puts.{no}
 use Rattle.tl_folder.proofs.Settles.{first_or}
 
 -- ---- what is in a folder
@@ -244,3 +249,36 @@ removal_is_gentle disk now root full s calls left is_full part are becomes may =
     leaves_take (step.RemoveFolder (removed_path root)) q (remove_leaves (removed_path root) q (never_removed root s)) in
     first_take (removing (partials_path root full) (removed_path root)) calls disk now q
     (clears, (away_takes (partials_path root full) (removed_path root) q (part_within root full s is_full part) (never_removed root s), (clears, tt))) are becomes left may
+
+-- ---- what is held
+
+pub removed_reflects : (root : Path) (held : Held) (full : Resource) (calls : List Call) (disk now : Disk) → IsFull full → Reflects root held disk
+    → HasMoved (partials_path root full) (removed_path root) [] calls → Becomes disk calls now → Reflects root (without (is_partial_of full) held) now
+removed_reflects root held full calls disk now is_full reflects (first, last, are) becomes r left is may = go (is_partial_of full r) refl (subst (λ (x : List Call). Becomes disk x now) are becomes)
+  where
+    clear : Bool → Call
+    clear b = (step.RemoveFolder (removed_path root), b)
+
+    made : List Call
+    made = clear first ∷ (step.MoveAway (partials_path root full) (removed_path root), true) ∷ clear last ∷ []
+
+    go : (b : Bool) → is_partial_of full r ≡ b → Becomes disk made now → left ≡ without (is_partial_of full) held r
+    go true part done =
+        removed_stays_away disk now root full r (clear first ∷ []) (clear last ∷ []) left is_full (partial_is full r part) (refl, tt) done may ∙ sym (is_gone (is_partial_of full) held r part)
+    go false other done =
+        reflects r left is (subst (λ (x : At). MayBe x left) (removal_spares disk now root full r made is_full is (λ part. no (sym other ∙ is_partial full r part)) (refl, (refl, (refl, tt))) done) may)
+        ∙ sym (ap (λ (b : Bool). if b then None else held r) other)
+
+pub removing_reflects : (root : Path) (held : Held) (full : Resource) (calls : List Call) (disk now : Disk) → IsFull full → Reflects root held disk
+    → AreFirst (removing (partials_path root full) (removed_path root)) calls → Becomes disk calls now → ReflectsSome root full held now
+removing_reflects root held full calls disk now is_full reflects are becomes r left is may = go (is_partial_of full r) refl
+  where
+    go : (b : Bool) → is_partial_of full r ≡ b → (left ≡ held r) ⊎ (IsPartialOf full r × (left ≡ None))
+    go true e =
+        let part : IsPartialOf full r = partial_is full r e in
+        elim (removal_is_gentle disk now root full r calls left is_full part are becomes may) as (λ _. (left ≡ held r) ⊎ (IsPartialOf full r × (left ≡ None))) [
+          | inl old ↦ inl (reflects r left is old)
+          | inr none ↦ inr (part, none)
+        ]
+    go false other =
+        inl (reflects r left is (subst (λ (x : At). MayBe x left) (removal_spares disk now root full r calls is_full is (λ part. no (sym other ∙ is_partial full r part)) are becomes) may))

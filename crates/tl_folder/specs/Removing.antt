@@ -1,5 +1,5 @@
--- The calls by which the partial ones of a full tile or bundle are removed: their folder is moved to another path, where
--- they are no partial ones any more, and is removed there.
+-- The calls by which the partial ones of a full tile or bundle are removed: their folder is moved to another path,
+-- where they are no partial ones any more, and is removed there.
 use Rattle.std.specs.Prelude.{◌≡◌, ◌⊎◌, Bool, true, false, List, [], ◌∷◌, ◌++◌, Result, Ok, Err}
 use Rattle.tl_folder.specs.Step.{Path, Step}
 use Rattle.tl_folder.specs.Step as step

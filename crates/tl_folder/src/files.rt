@@ -166,8 +166,8 @@ impl<C: FileCalls + Drop> FolderFiles<C> {
         Ok(())
     }
 
-    /// By which paths the partial ones of a full tile or bundle are removed. `Moved`: another folder is at its path than
-    /// the one that was opened.
+    /// By which paths the partial ones of a full tile or bundle are removed. `Moved`: another folder is at its path
+    /// than the one that was opened.
     pub(crate) fn going_of(&self, full: &Resource) -> Result<Going, DeviceFault>
         requires { IsResource full.now }
         ensures partials { IfOk result (λ going. string_bytes going.partials

@@ -11,10 +11,10 @@ ghost use Rattle.tl_folder.specs.Step.{Path, Bytes};
 ghost use Rattle.tl_folder.specs.FileCalls.{Call, Begins, done};
 ghost use Rattle.tl_folder.specs.Posix.{Disk, Becomes, MayBe};
 ghost use Rattle.tl_folder.specs.Places.{partials_path, place_of, removed_path};
-ghost use Rattle.tl_folder.specs.Removing.{AreFirst, removing};
+ghost use Rattle.tl_folder.specs.Removing.{AreFirst, HasMoved, removing};
 ghost use Rattle.tl_folder.specs.Settling.{AreCovered, IsAside, marking, new_path, settling};
-ghost use Rattle.tl_folder.specs.Folders.{put};
-ghost use Rattle.tl_folder.specs.OnDisk.{AreOnce, AreStaged, Reflects, ReflectsEither, moves_of};
+ghost use Rattle.tl_folder.specs.Folders.{is_partial_of, put, without};
+ghost use Rattle.tl_folder.specs.OnDisk.{AreOnce, AreStaged, Reflects, ReflectsEither, ReflectsSome, moves_of};
 
 /// To stage bytes for a resource, whatever comes of it, changes the file of no resource. It computes nothing: its
 /// contract is the law.
@@ -82,4 +82,22 @@ pub fn removing_tears_nothing()
         → AreFirst (removing (partials_path root full) (removed_path root)) calls
         → Becomes disk calls now → MayBe (now (place_of root s)) left
         → MayBe (disk (place_of root s)) left ⊎ (left ≡ None) }
+{}
+
+/// At each moment of a removal, and after one that failed, a crash leaves under each resource what was held, or nothing
+/// of a partial one. It computes nothing: its contract is the law.
+pub fn removing_shelves_tear_nothing()
+    ensures { (root : Path) (held : Held) (full : Resource) (calls : List Call) (disk now : Disk)
+        → IsFull full → Reflects root held disk
+        → AreFirst (removing (partials_path root full) (removed_path root)) calls
+        → Becomes disk calls now → ReflectsSome root full held now }
+{}
+
+/// Once the folder of the partial ones was moved and removed, a crash leaves none of them, and under each other resource
+/// what was held, and nothing else. It computes nothing: its contract is the law.
+pub fn removed_shelves_outlast_a_crash()
+    ensures { (root : Path) (held : Held) (full : Resource) (calls : List Call) (disk now : Disk)
+        → IsFull full → Reflects root held disk
+        → HasMoved (partials_path root full) (removed_path root) [] calls
+        → Becomes disk calls now → Reflects root (without (is_partial_of full) held) now }
 {}
