@@ -16,7 +16,7 @@ pub has_any : {X : Type 0} (text : X → Path) (folders : List X) (path : Path) 
 has_any text [] path = refl
 has_any text (first ∷ more) path = ap (λ (b : Bool). bytes_eq (text first) path || b) (has_any text more path)
 
-or_true : (b : Bool) → (b || true) ≡ true
+pub or_true : (b : Bool) → (b || true) ≡ true
 or_true true = refl
 or_true false = refl
 

@@ -2,14 +2,17 @@
 use Rattle.std.proofs.Common.{◌≡◌, ℕ, ◌+◌, true, false, inl, ◌⊎◌, List, [], ◌∷◌, ◌++◌, length, Some, refl, sym, ap, subst, ◌∙◌, arith}
 use Rattle.std.specs.Prelude.{Bool, Option, Contains, if◌then◌else◌}
 use Rattle.tl_tile.specs.declared.resource.Resource.{Resource}
-use Rattle.tl_archive.specs.Shelves.{Kept, Stages, Unstages, Settles}
+use Rattle.tl_archive.specs.Shelves.{Kept, Stages, Unstages, Settles, Removes, LacksPartials}
 use Rattle.tl_folder.specs.declared.call_outcome.CallOutcome.TheVariants as call
 use Rattle.tl_folder.specs.Events.{Event}
 use Rattle.tl_folder.specs.Step.{Path}
 use Rattle.tl_folder.specs.FileCalls.{Call, Fails, done}
 use Rattle.tl_folder.specs.Settling.{Move, AreCovered, settling}
-use Rattle.tl_folder.specs.Folders.{Reached, Calls, put, after_call, after_calls, after_each}
-use Rattle.tl_folder.proofs.Puts.{put_between, put_there}
+use Rattle.tl_folder.specs.Places.{partials_path, removed_path}
+use Rattle.tl_folder.specs.Removing.{HasMoved, HasNotMoved}
+use Rattle.tl_folder.specs.Folders.{Reached, Calls, is_partial_of, put, after_call, after_calls, after_each}
+use Rattle.tl_folder.proofs.Partials.{partial_is, is_partial, some_gone, is_gone}
+use Rattle.tl_folder.proofs.Puts.{firsts, put_between, put_there}
 
 -- ---- after one call more
 
@@ -60,6 +63,28 @@ cut_after reached events bytes kept =
     subst (λ (b : Kept). Unstages a b) (sym (calls_more reached 0 events (call.Cut, bytes) kept))
     (record { others = λ r. part (reached (0 + length events) r) a r; staged = refl })
 
+pub removed_after : (reached : Reached) (events : List Event) (full : Resource) (bytes : List ℕ) (kept : Kept)
+    → Removes full (after_calls reached 0 events kept) (after_calls reached 0 (events ++ (call.Removed full, bytes) ∷ []) kept)
+removed_after reached events full bytes kept =
+    let a : Kept = after_calls reached 0 events kept in
+    subst (λ (b : Kept). Removes full a b) (sym (calls_more reached 0 events (call.Removed full, bytes) kept))
+    (record { others = some_gone full (is_partial_of full) a.held (partial_is full); staged = refl })
+
+pub lacks_after : (reached : Reached) (events : List Event) (full : Resource) (bytes : List ℕ) (kept : Kept)
+    → LacksPartials full (after_calls reached 0 (events ++ (call.Removed full, bytes) ∷ []) kept).held
+lacks_after reached events full bytes kept =
+    let a : Kept = after_calls reached 0 events kept in
+    subst (λ (b : Kept). LacksPartials full b.held) (sym (calls_more reached 0 events (call.Removed full, bytes) kept))
+    (λ r is. is_gone (is_partial_of full) a.held r (is_partial full r is))
+
+pub part_removed_after : (reached : Reached) (events : List Event) (full : Resource) (bytes : List ℕ) (kept : Kept)
+    → Removes full (after_calls reached 0 events kept) (after_calls reached 0 (events ++ (call.PartRemoved full, bytes) ∷ []) kept)
+part_removed_after reached events full bytes kept =
+    let a : Kept = after_calls reached 0 events kept in
+    let n : ℕ = 0 + length events in
+    subst (λ (b : Kept). Removes full a b) (sym (calls_more reached 0 events (call.PartRemoved full, bytes) kept))
+    (record { others = some_gone full (λ r. if is_partial_of full r then reached n r else false) a.held (λ r is. partial_is full r (firsts (is_partial_of full r) (reached n r) is)); staged = refl })
+
 -- ---- the same of a folder: what it noted before, and with the call
 
 joined : (inside events now : List Event) (event : Event) → inside ≡ events → now ≡ inside ++ event ∷ [] → now ≡ events ++ event ∷ []
@@ -93,6 +118,31 @@ now_cut reached inside events now bytes kept same is =
     subst (λ (x : List Event). Unstages (after_calls reached 0 events kept) (after_calls reached 0 x kept)) (sym (joined inside events now (call.Cut, bytes) same is))
     (cut_after reached events bytes kept)
 
+pub now_removed : (reached : Reached) (inside events now : List Event) (full : Resource) (bytes : List ℕ) (kept : Kept) → inside ≡ events → now ≡ inside ++ (call.Removed full, bytes) ∷ []
+    → Removes full (after_calls reached 0 events kept) (after_calls reached 0 now kept)
+now_removed reached inside events now full bytes kept same is =
+    subst (λ (x : List Event). Removes full (after_calls reached 0 events kept) (after_calls reached 0 x kept)) (sym (joined inside events now (call.Removed full, bytes) same is))
+    (removed_after reached events full bytes kept)
+
+pub now_lacks : (reached : Reached) (inside events now : List Event) (full : Resource) (bytes : List ℕ) (kept : Kept) → inside ≡ events → now ≡ inside ++ (call.Removed full, bytes) ∷ []
+    → LacksPartials full (after_calls reached 0 now kept).held
+now_lacks reached inside events now full bytes kept same is =
+    subst (λ (x : List Event). LacksPartials full (after_calls reached 0 x kept).held) (sym (joined inside events now (call.Removed full, bytes) same is))
+    (lacks_after reached events full bytes kept)
+
+pub now_part_removed : (reached : Reached) (inside events now : List Event) (full : Resource) (bytes : List ℕ) (kept : Kept) → inside ≡ events → now ≡ inside ++ (call.PartRemoved full, bytes) ∷ []
+    → Removes full (after_calls reached 0 events kept) (after_calls reached 0 now kept)
+now_part_removed reached inside events now full bytes kept same is =
+    subst (λ (x : List Event). Removes full (after_calls reached 0 events kept) (after_calls reached 0 x kept)) (sym (joined inside events now (call.PartRemoved full, bytes) same is))
+    (part_removed_after reached events full bytes kept)
+
+-- nothing was removed, for the call failed before
+pub now_unremoved : (reached : Reached) (inside events now : List Event) (full : Resource) (bytes : List ℕ) (kept : Kept) → inside ≡ events → now ≡ inside ++ (call.Failed, bytes) ∷ []
+    → Removes full (after_calls reached 0 events kept) (after_calls reached 0 now kept)
+now_unremoved reached inside events now full bytes kept same is =
+    let a : Kept = after_calls reached 0 events kept in
+    subst (λ (b : Kept). Removes full a b) (sym (now_failed reached inside events now bytes kept same is)) (record { others = λ r. inl refl; staged = refl })
+
 pub each_now : (reached : Reached) (inside events now : List Event) (event : Event) (kept : Kept) → inside ≡ events → now ≡ inside ++ event ∷ []
     → after_each reached 0 now kept ≡ after_each reached 0 events kept ++ after_calls reached 0 now kept ∷ []
 each_now reached inside events now event kept same is =
@@ -123,3 +173,13 @@ pub cut_calls : (events : List Event) (failures : ℕ) (root : Path) (moves : Li
     → (them : List Path) × AreCovered shown.root them shown.moves × ((after ≡ shown.made) ⊎ ((some : List Call) × (after ≡ shown.made ++ some) × Fails (settling shown.moves them) some))
 cut_calls events failures root moves made place published shown folders after is covered takes =
     subst (λ (x : Calls). (them : List Path) × AreCovered x.root them x.moves × ((after ≡ x.made) ⊎ ((some : List Call) × (after ≡ x.made ++ some) × Fails (settling x.moves them) some))) is (folders, covered, takes)
+
+-- the folder as it is shown made the calls of a removal, by the paths that were made for it
+pub removed_calls : (events : List Event) (failures : ℕ) (root : Path) (moves : List Move) (made : List Call) (place : Path) (published : Option ℕ) (shown : Calls) (full : Resource) (from to : Path) (after : List Call)
+    → Shows events failures root moves made place published shown
+    → from ≡ partials_path root full → to ≡ removed_path root → HasMoved from to made after ⊎ HasNotMoved from to made after
+    → HasMoved (partials_path shown.root full) (removed_path shown.root) shown.made after ⊎ HasNotMoved (partials_path shown.root full) (removed_path shown.root) shown.made after
+removed_calls events failures root moves made place published shown full from to after is first second moved =
+    subst (λ (x : Calls). HasMoved (partials_path x.root full) (removed_path x.root) x.made after ⊎ HasNotMoved (partials_path x.root full) (removed_path x.root) x.made after) is
+    (subst (λ (x : Path). HasMoved (partials_path root full) x made after ⊎ HasNotMoved (partials_path root full) x made after) second
+    (subst (λ (x : Path). HasMoved x to made after ⊎ HasNotMoved x to made after) first moved))

@@ -7,7 +7,7 @@ use Rattle.tl_archive.proofs.Lists.{none_has, cons_cases}
 use Rattle.tl_folder.specs.Step.{Path, Bytes, Step}
 use Rattle.tl_folder.specs.Step as step
 use Rattle.tl_folder.specs.FileCalls.{Call, done, Begins}
-use Rattle.tl_folder.specs.Posix.{File, Whole, Torn, At, Disk, MayStay, MayBe, put, is_in, folder_of, unknown, synced, spoiled, changed, after, after_failed, Becomes}
+use Rattle.tl_folder.specs.Posix.{File, Whole, Torn, At, Disk, MayStay, MayBe, put, is_in, folder_of, unknown, synced, spoiled, changed, maybe_gone, moved_in, is_within, after, after_failed, Becomes}
 use Rattle.tl_folder.specs.Laws.{LeavesNoMore}
 
 -- ---- one path or another
@@ -60,9 +60,24 @@ Spares (step.Sync path) q = Unit {0}
 Spares (step.Rename from to) q = (q ≢ from) × (q ≢ to)
 Spares (step.SyncFolder folder) q = Unit {0}
 Spares (step.MakeFolder folder) q = Unit {0}
+Spares (step.MoveAway from to) q = (is_within from q ≡ false) × (is_within to q ≡ false)
+Spares (step.RemoveFolder folder) q = is_within folder q ≡ false
 
 moved_other : (from to q : Path) (a b : At) (disk : Disk) → q ≢ from → q ≢ to → put to b (put from a disk) q ≡ disk q
 moved_other from to q a b disk not_from not_to = put_other to q b (put from a disk) not_to ∙ put_other from q a disk not_from
+
+third : {A : Type 0} (b c : Bool) (x y z : A) → b ≡ false → c ≡ false → (if b then x else (if c then y else z)) ≡ z
+third b c x y z first second = ap (λ (v : Bool). if v then x else (if c then y else z)) first ∙ ap (λ (v : Bool). if v then y else z) second
+
+-- what is in neither of two folders stays where one is moved to the other
+pub away_other : (from to q : Path) (disk : Disk) → is_within from q ≡ false → is_within to q ≡ false → after (step.MoveAway from to) disk q ≡ disk q
+away_other from to q disk not_from not_to = third (is_within to q) (is_within from q) moved_in (record { there = None; older = [] }) (disk q) not_to not_from
+
+pub away_failed_other : (from to q : Path) (rest : Bytes) (disk : Disk) → is_within from q ≡ false → is_within to q ≡ false → after_failed (step.MoveAway from to) rest disk q ≡ disk q
+away_failed_other from to q rest disk not_from not_to = third (is_within to q) (is_within from q) moved_in (maybe_gone (disk q)) (disk q) not_to not_from
+
+pub remove_other : (folder q : Path) (disk : Disk) → is_within folder q ≡ false → after (step.RemoveFolder folder) disk q ≡ disk q
+remove_other folder q disk apart = ap (λ (b : Bool). if b then maybe_gone (disk q) else disk q) apart
 
 pub sync_spares : (path : Path) (disk : Disk) (q : Path) → LeavesNoMore (disk q) (after (step.Sync path) disk q)
 sync_spares path disk q =
@@ -90,6 +105,8 @@ spared (step.Sync path) disk q apart = sync_spares path disk q
 spared (step.Rename from to) disk q apart = same_leaves _ _ (moved_other from to q _ _ disk apart.0 apart.1)
 spared (step.SyncFolder folder) disk q apart = name_spares folder disk q
 spared (step.MakeFolder folder) disk q apart = λ left may. may
+spared (step.MoveAway from to) disk q apart = same_leaves _ _ (away_other from to q disk apart.0 apart.1)
+spared (step.RemoveFolder folder) disk q apart = same_leaves _ _ (remove_other folder q disk apart)
 
 pub spared_failed : (s : Step) (rest : Bytes) (disk : Disk) (q : Path) → Spares s q → LeavesNoMore (disk q) (after_failed s rest disk q)
 spared_failed (step.Write path bytes) rest disk q apart = spared (step.Write path rest) disk q apart
@@ -100,6 +117,8 @@ spared_failed (step.Sync path) rest disk q apart = spoil_spares path rest disk q
 spared_failed (step.Rename from to) rest disk q apart = spared (step.Rename from to) disk q apart
 spared_failed (step.SyncFolder folder) rest disk q apart = λ left may. may
 spared_failed (step.MakeFolder folder) rest disk q apart = λ left may. may
+spared_failed (step.MoveAway from to) rest disk q apart = same_leaves _ _ (away_failed_other from to q rest disk apart.0 apart.1)
+spared_failed (step.RemoveFolder folder) rest disk q apart = spared (step.RemoveFolder folder) disk q apart
 
 -- ---- what puts a file in its place
 
@@ -161,7 +180,7 @@ one_failed : (New : Option Bytes → Type 0) (s : Step) (rest : Bytes) (disk : D
 one_failed New s rest disk q (inl spares) = no_more New _ _ (spared_failed s rest disk q spares)
 one_failed New s rest disk q (inr places) = placed_failed New s rest disk q places
 
-chain : (New : Option Bytes → Type 0) (a b c : At) → LeavesOldOr New a b → LeavesOldOr New b c → LeavesOldOr New a c
+pub chain : (New : Option Bytes → Type 0) (a b c : At) → LeavesOldOr New a b → LeavesOldOr New b c → LeavesOldOr New a c
 chain New a b c first second left may =
     elim (second left may) as (λ _. MayBe a left ⊎ New left) [
       | inl old ↦ first left old

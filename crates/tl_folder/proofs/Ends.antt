@@ -97,7 +97,7 @@ unfolding trim_trailing
 trim_none front byte high =
     ap (λ (n : ℕ). take n (front ++ byte ∷ [])) (trimmed_all front byte high) ∙ take-length (front ++ byte ∷ [])
 
-false_of : (b : Bool) → (b ≡ true → ⊥) → b ≡ false
+pub false_of : (b : Bool) → (b ≡ true → ⊥) → b ≡ false
 false_of true never = absurd (never refl)
 false_of false never = refl
 

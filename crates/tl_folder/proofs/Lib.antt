@@ -10,3 +10,5 @@ pub mod Beginnings
 pub mod Ends
 pub mod ShelfDisk
 pub mod Marks
+pub mod Partials
+pub mod Removals

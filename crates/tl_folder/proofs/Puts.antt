@@ -11,15 +11,15 @@ use Rattle.tl_folder.specs.Folders.{is_same, put}
 
 -- ---- resources that are the same
 
-two : (b c : Bool) → b ≡ true → c ≡ true → (if b then c else false) ≡ true
+pub two : (b c : Bool) → b ≡ true → c ≡ true → (if b then c else false) ≡ true
 two true c is also = also
 two false c is also = is
 
-firsts : (b c : Bool) → (if b then c else false) ≡ true → b ≡ true
+pub firsts : (b c : Bool) → (if b then c else false) ≡ true → b ≡ true
 firsts true c is = refl
 firsts false c is = is
 
-seconds : (b c : Bool) → (if b then c else false) ≡ true → c ≡ true
+pub seconds : (b c : Bool) → (if b then c else false) ≡ true → c ≡ true
 seconds true c is = is
 seconds false c is = absurd (cc)
 
@@ -28,7 +28,7 @@ same_self (resource.Tile t) = two (t.level == t.level) _ (eq-eqb t.level t.level
 same_self (resource.Entries i w) = two (i == i) _ (eq-eqb i i refl) (eq-eqb w w refl)
 same_self resource.Checkpoint = refl
 
-no : {X : Type 0} → ◌≡◌ {A = Bool} false true → X
+pub no : {X : Type 0} → ◌≡◌ {A = Bool} false true → X
 no e = absurd (cc)
 
 tiles : (a b : Tile) → a.level ≡ b.level → a.index ≡ b.index → a.width ≡ b.width → a ≡ b

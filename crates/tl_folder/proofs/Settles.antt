@@ -153,7 +153,7 @@ names_none : (folders : List Path) (disk : Disk) (q : Path) → (disk q).older �
 names_none [] disk q none = none
 names_none (folder ∷ more) disk q none = names_none more (after (naming folder) disk) q (named_none folder disk q none)
 
-first_or : (b c : Bool) → (b || c) ≡ true → (b ≡ true) ⊎ (c ≡ true)
+pub first_or : (b c : Bool) → (b || c) ≡ true → (b ≡ true) ⊎ (c ≡ true)
 first_or true c is = inl refl
 first_or false c is = inr is
 

@@ -1,5 +1,5 @@
 -- A folder as a shelf: what its calls made of what it had.
-use Rattle.std.specs.Prelude.{◌≡◌, ◌⊎◌, ℕ, ◌+◌, Bool, true, false, List, [], ◌∷◌, ◌++◌, Option, Some, None, ◌==◌, if◌then◌else◌, Result}
+use Rattle.std.specs.Prelude.{◌≡◌, ◌⊎◌, ℕ, ◌+◌, Bool, true, false, List, [], ◌∷◌, ◌++◌, Option, Some, None, ◌==◌, nat_lt, if◌then◌else◌, Result, Ok, Err}
 use Rattle.tl_tile.specs.declared.resource.Resource.{Resource}
 use Rattle.tl_tile.specs.declared.resource.Resource.TheVariants as resource
 use Rattle.tl_archive.specs.Shelves.{Item, Held, Kept}
@@ -28,7 +28,21 @@ abbrev pub put : List Item → Held → Held
 put [] held = held
 put (item ∷ more) held = put more (λ r. if is_same r item.0 then Some item.1 else held r)
 
--- of which resources the settling that is the n-th call replaced the bytes, where it failed
+-- whether the second is a partial one of the first, which is full
+abbrev pub is_partial_of : Resource → Resource → Bool
+is_partial_of (resource.Tile full) (resource.Tile t) = if t.level == full.level then (if t.index == full.index then nat_lt t.width 256 else false) else false
+is_partial_of (resource.Tile full) (resource.Entries index width) = false
+is_partial_of (resource.Tile full) resource.Checkpoint = false
+is_partial_of (resource.Entries own full) (resource.Tile t) = false
+is_partial_of (resource.Entries own full) (resource.Entries index width) = if index == own then nat_lt width 256 else false
+is_partial_of (resource.Entries own full) resource.Checkpoint = false
+is_partial_of resource.Checkpoint r = false
+
+-- what is there without the resources of which this holds
+abbrev pub without : (Resource → Bool) → Held → Held
+without gone held = λ r. if gone r then None else held r
+
+-- which resources the n-th call reached, where it failed: a settling replaced their bytes, a removal removed them
 abbrev pub Reached : Type 0
 Reached = ℕ → Resource → Bool
 
@@ -37,6 +51,9 @@ abbrev pub after_call : Reached → ℕ → Event → Kept → Kept
 after_call reached n (call.Staged r, bytes) kept = record { held = kept.held; staged = kept.staged ++ (r, bytes) ∷ [] }
 after_call reached n (call.Settled, bytes) kept = record { held = put kept.staged kept.held; staged = [] }
 after_call reached n (call.Cut, bytes) kept = record { held = (λ r. if reached n r then put kept.staged kept.held r else kept.held r); staged = [] }
+after_call reached n (call.Removed full, bytes) kept = record { held = without (is_partial_of full) kept.held; staged = kept.staged }
+after_call reached n (call.PartRemoved full, bytes) kept =
+    record { held = without (λ r. if is_partial_of full r then reached n r else false) kept.held; staged = kept.staged }
 after_call reached n (call.Marked, bytes) kept = kept
 after_call reached n (call.Failed, bytes) kept = kept
 
@@ -78,6 +95,14 @@ traced_by held reached calls = after_each reached 0 calls.events (at_first held)
 abbrev pub SettlesFiles : {T E : Type 0} → Calls → List Call → Result T E → Type 0
 SettlesFiles folder after result =
     (folders : List Path) × AreCovered folder.root folders folder.moves × Takes (settling folder.moves folders) folder.made after result
+
+-- what came of a removal is noted. Ok: the partial ones of the full one were removed. Err: some may be gone; or nothing
+-- changed, and nothing was asked of the system.
+abbrev pub NotesRemoval : {T E : Type 0} → Resource → Calls → Calls → Result T E → Type 0
+NotesRemoval full before after (Ok it) = after.events ≡ before.events ++ (call.Removed full, []) ∷ []
+NotesRemoval full before after (Err fault) =
+    (after.events ≡ before.events ++ (call.PartRemoved full, []) ∷ [])
+    ⊎ ((after.events ≡ before.events ++ (call.Failed, []) ∷ []) × (after.made ≡ before.made))
 
 -- the fault is over this resource, or over all of the folder, where another came to its path
 abbrev pub IsOver : Resource → ShelfFault → Type 0

@@ -7,6 +7,7 @@ pub mod OnDisk
 pub mod Opened
 pub mod Places
 pub mod Posix
+pub mod Removing
 pub mod Settling
 pub mod Step
 pub mod Inner

@@ -1,7 +1,8 @@
 -- A shelf, and the disk that its folder is on.
-use Rattle.std.specs.Prelude.{◌≡◌, ◌≢◌, ◌⊎◌, List, [], ◌∷◌, ◌++◌, map, Option, Some, Contains}
+use Rattle.std.specs.Prelude.{◌≡◌, ◌≢◌, ◌⊎◌, List, [], ◌∷◌, ◌++◌, map, Option, Some, None, Contains}
 use Rattle.tl_tile.specs.declared.resource.Resource.{Resource}
 use Rattle.tl_tile.specs.Path.{IsResource}
+use Rattle.tl_archive.specs.Partials.{IsPartialOf}
 use Rattle.tl_archive.specs.Shelves.{Item, Held, Kept}
 use Rattle.tl_folder.specs.Step.{Path, Bytes}
 use Rattle.tl_folder.specs.FileCalls.{Call}
@@ -17,6 +18,11 @@ Reflects root held disk = (r : Resource) (left : Option Bytes) → IsResource r 
 abbrev pub ReflectsEither : Path → Kept → Disk → Type 0
 ReflectsEither root kept disk = (r : Resource) (left : Option Bytes) → IsResource r → MayBe (disk (place_of root r)) left
     → (left ≡ kept.held r) ⊎ ((bytes : Bytes) × (left ≡ Some bytes) × Contains kept.staged (r, bytes))
+
+-- a crash leaves under each resource what is held, and nothing else, or nothing of a partial one of the full one
+abbrev pub ReflectsSome : Path → Resource → Held → Disk → Type 0
+ReflectsSome root full held disk = (r : Resource) (left : Option Bytes) → IsResource r → MayBe (disk (place_of root r)) left
+    → (left ≡ held r) ⊎ (IsPartialOf full r × (left ≡ None))
 
 -- the files of the items, and their places
 abbrev pub moves_of : Path → List Item → List Move

@@ -1,4 +1,4 @@
--- Where the files of a folder are: that of each resource, and that of the mark.
+-- Where the files of a folder are: that of each resource, and that of the mark; and where folders are.
 use Rattle.std.specs.Prelude.{ℕ, [], ◌∷◌, ◌++◌, codes, decimal}
 use Rattle.tl_tile.specs.declared.resource.Resource.{Resource}
 use Rattle.tl_tile.specs.Path.{path_text}
@@ -11,6 +11,14 @@ place_of root resource = root ++ 47 ∷ [] ++ path_text resource
 -- the place of the mark in the folder with this path
 abbrev pub mark_path : Path → Path
 mark_path root = root ++ 47 ∷ [] ++ codes "published"
+
+-- the folder of the partial ones of a full tile or bundle, in the folder with this path
+abbrev pub partials_path : Path → Resource → Path
+partials_path root full = place_of root full ++ codes ".p"
+
+-- the folder to which such a one is moved before it is removed, in the folder with this path
+abbrev pub removed_path : Path → Path
+removed_path root = root ++ 47 ∷ [] ++ codes "removed"
 
 -- what the mark says: how many entries were published, in decimal, and a newline
 abbrev pub mark_text : ℕ → Bytes

@@ -1,7 +1,7 @@
 -- What a crash leaves of files, by what POSIX.1-2017 (System Interfaces: open, write, fsync, rename) says: what was
 -- written and not synced may be lost or torn, and a rename is one step. That a name outlasts a crash once its folder
 -- was synced is what systems add to it. The folders above a file are to be there, and each text is a path of its own.
-use Rattle.std.specs.Prelude.{◌≡◌, ℕ, ◌-◌, ◌⊎◌, Bool, true, false, List, [], ◌∷◌, ◌++◌, length, take, Option, Some, None, option_map, Contains, if◌then◌else◌}
+use Rattle.std.specs.Prelude.{◌≡◌, ℕ, ◌+◌, ◌-◌, ◌⊎◌, ◌||◌, Bool, true, false, List, [], ◌∷◌, ◌++◌, length, take, Option, Some, None, option_map, Contains, if◌then◌else◌}
 use Rattle.std.specs.Str.{bytes_eq}
 use Rattle.std.specs.Path.{path_parent}
 use Rattle.tl_folder.specs.Step.{Path, Bytes, Step}
@@ -42,6 +42,12 @@ MayStay (Some file) left = (bytes : Bytes) × (left ≡ Some bytes) × MayHave f
 -- what it may leave at a path
 abbrev pub MayBe : At → Option Bytes → Type 0
 MayBe at left = MayStay at.there left ⊎ ((file : Option File) × Contains at.older file × MayStay file left)
+
+-- ---- folders, and what is in them
+
+-- whether the path is that of the folder, or that of something in it
+abbrev pub is_within : Path → Path → Bool
+is_within folder path = bytes_eq path folder || bytes_eq (take (length folder + 1) path) (folder ++ 47 ∷ [])
 
 -- ---- what a step does
 
@@ -101,6 +107,14 @@ spoiled rest (Torn front behind) = Torn front rest
 abbrev pub changed : (File → File) → At → At
 changed f at = record { there = option_map f at.there; older = at.older }
 
+-- a file that is gone, and may come back
+abbrev pub maybe_gone : At → At
+maybe_gone at = record { there = None; older = at.there ∷ at.older }
+
+-- any file or none, in a folder that was moved here
+abbrev pub moved_in : At
+moved_in = record { there = unknown; older = None ∷ [] }
+
 -- what is there after a step that was done. A name that is new or gone may be lost or come back until its folder is
 -- synced; what comes back where a file was moved away may have any bytes.
 abbrev pub after : Step → Disk → Disk
@@ -114,6 +128,9 @@ after (step.Rename from to) disk =
     (put from (record { there = None; older = unknown ∷ (disk from).older }) disk)
 after (step.SyncFolder folder) disk = λ q. if is_in folder (folder_of q) then record { there = (disk q).there; older = [] } else disk q
 after (step.MakeFolder folder) disk = disk
+after (step.MoveAway from to) disk =
+    λ q. if is_within to q then moved_in else (if is_within from q then record { there = None; older = [] } else disk q)
+after (step.RemoveFolder folder) disk = λ q. if is_within folder q then maybe_gone (disk q) else disk q
 
 -- what is there after a step that failed: it was done all the same, of a write any part, and after a sync nothing more
 -- is known. `rest` are the bytes that nobody knows.
@@ -126,6 +143,9 @@ after_failed (step.Cut path count) rest disk = after (step.Cut path count) disk
 after_failed (step.Rename from to) rest disk = after (step.Rename from to) disk
 after_failed (step.SyncFolder folder) rest disk = disk
 after_failed (step.MakeFolder folder) rest disk = disk
+after_failed (step.MoveAway from to) rest disk =
+    λ q. if is_within to q then moved_in else (if is_within from q then maybe_gone (disk q) else disk q)
+after_failed (step.RemoveFolder folder) rest disk = after (step.RemoveFolder folder) disk
 
 -- what these calls may make of a disk; a call that failed did something, or nothing
 abbrev pub Becomes : Disk → List Call → Disk → Type 0

@@ -27,3 +27,7 @@ pub data Step : Type 0 where
   SyncFolder : Path → Step
   -- a folder is at the path, where nothing was
   MakeFolder : Path → Step
+  -- the folder at the first path is at the second with all that is in it, and that outlasts a crash
+  MoveAway : Path → Path → Step
+  -- nothing is at the path, and no folder there has anything in it
+  RemoveFolder : Path → Step

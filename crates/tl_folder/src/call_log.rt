@@ -17,6 +17,8 @@ pub(crate) enum Asked {
     Rename,
     SyncFolder,
     MakeFolder,
+    MoveAway,
+    RemoveFolder,
 }
 
 /// A call of which contracts see the path, and the bytes or the second path.

@@ -1,7 +1,8 @@
 //! What of a folder no contract tells.
 
-/// What a folder had before its first call, and of which resources a settling that failed replaced the bytes. No call
-/// of a system tells that: what is stated of a folder holds for every disk.
+/// What a folder had before its first call, of which resources a settling that failed replaced the bytes, and which
+/// partial ones a removal that failed removed. No call of a system tells that: what is stated of a folder holds for
+/// every disk.
 pub trait CrashOutcome {
     ghost use Rattle.tl_archive.specs.Shelves.{Held};
     ghost use Rattle.tl_folder.specs.Folders.{Reached};
@@ -9,7 +10,7 @@ pub trait CrashOutcome {
     /// What the folder had at first.
     ghost held: { Held };
 
-    /// Of which resources the n-th call, where it was a settling that failed, replaced the bytes.
+    /// Of which resources the n-th call, where it failed, replaced the bytes or removed them.
     ghost reached: { Reached };
 }
 

@@ -1,6 +1,6 @@
 //! The calls of a system by which a folder is kept.
 
-use std::alloc::Allocator;
+use std::alloc::{Allocator, Global};
 use std::fs::{Metadata, OpenOptions};
 use std::io;
 use tl_device::DeviceFault;
@@ -41,6 +41,17 @@ pub(crate) trait FileCalls {
     fn make_folder(&mut self, path: &str) -> Result<(), DeviceFault>
         ensures { calls self.new
             ≡ calls self.old ++ (step.MakeFolder path.now, is_ok result) ∷ [] };
+
+    /// Puts the folder at the first path at the second, with all that is in it, and has that outlast a crash.
+    /// `NotThere`: nothing is at the first path. A failure may have done it all the same, and a crash may undo it then.
+    fn move_away(&mut self, from: &str, to: &str) -> Result<(), DeviceFault>
+        ensures { calls self.new
+            ≡ calls self.old ++ (step.MoveAway from.now to.now, is_ok result) ∷ [] };
+
+    /// Removes the folder at the path, and all that is in it. A failure leaves any part of it.
+    fn remove_folder(&mut self, alloc: Global, path: &str) -> Result<(), DeviceFault>
+        ensures { calls self.new
+            ≡ calls self.old ++ (step.RemoveFolder path.now, is_ok result) ∷ [] };
 
     /// Opens the file at the path in this way, and makes it where there is none.
     fn create(&mut self, how: &OpenOptions, path: &str) -> Result<Self::File, DeviceFault>

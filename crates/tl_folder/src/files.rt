@@ -1,11 +1,12 @@
 //! The files of a folder: each is written beside its place, and all that were written are put there together.
 
-ghost use Rattle.std.specs.Prelude.{◌≡◌, [], ◌∷◌, ◌++◌, map, string_bytes, vec_items, IfOk, OnOk, OnErr};
+ghost use Rattle.std.specs.Prelude.{◌≡◌, ◌⊎◌, [], ◌∷◌, ◌++◌, map, string_bytes, vec_items, IfOk, OnOk, OnErr};
 ghost use Rattle.tl_tile.specs.Path.{IsResource};
 ghost use Rattle.tl_folder.specs.FileCalls.{Does, Takes};
 ghost use Rattle.tl_folder.specs.Posix.{folder_of};
 ghost use Rattle.tl_folder.specs.Settling.{AreCovered, OpensFolder, WritesAside, new_path, move_to, settling, naming_in, marking};
-ghost use Rattle.tl_folder.specs.Places.{mark_path, mark_text, place_of};
+ghost use Rattle.tl_folder.specs.Places.{mark_path, mark_text, partials_path, place_of, removed_path};
+ghost use Rattle.tl_folder.specs.Removing.{HasMoved, HasNotMoved};
 ghost use Rattle.tl_folder.specs.Inner.Staged.{move_of};
 
 use crate::file_calls::FileCalls;
@@ -13,6 +14,7 @@ use crate::file_id::FileId;
 use crate::folders::{folder_of, note_folders};
 use crate::making::make_folders;
 use crate::mark::{MOST_MARK, parse_mark, put_mark};
+use crate::removing::{Going, remove_moved};
 use crate::staged::{Staged, put_staged, write_in_folder};
 use std::alloc::{AllocError, Allocator, Global};
 use std::mem;
@@ -33,7 +35,7 @@ pub(crate) struct FolderFiles<C> {
     staged: Vec<Staged>,
     // The folders in which files are put by the next settling, or folders were made for them.
     changed: Vec<String>,
-    // Whether a settling failed: what of it outlasts a crash isn't known then.
+    // Whether a settling or a removal failed: what of it outlasts a crash isn't known then.
     is_broken: bool,
     // Of each place the folder and those above it up to the root.
     ghost covered: { AreCovered (string_bytes root)
@@ -160,6 +162,51 @@ impl<C: FileCalls + Drop> FolderFiles<C> {
         self.is_broken = true;
         self.check_folder()?;
         put_staged(&mut self.calls, staged.as_slice(), changed.as_slice())?;
+        self.is_broken = false;
+        Ok(())
+    }
+
+    /// By which paths the partial ones of a full tile or bundle are removed. `Moved`: another folder is at its path
+    /// than the one that was opened.
+    pub(crate) fn going_of(&self, full: &Resource) -> Result<Going, DeviceFault>
+        requires { IsResource full.now }
+        ensures partials { IfOk result (λ going. string_bytes going.partials
+            ≡ partials_path (string_bytes self.now.root) full.now) }
+        ensures removed { IfOk result (λ going. string_bytes going.removed
+            ≡ removed_path (string_bytes self.now.root)) }
+    {
+        if self.is_broken {
+            return Err(DeviceFault::System);
+        }
+        self.check_folder()?;
+        let mut partials = self.place_of(full)?;
+        partials.push_str(".p")?;
+        let mut removed = String::from_str(self.alloc, self.root.as_str())?;
+        removed.push_str("/")?;
+        removed.push_str("removed")?;
+        Ok(Going { partials, removed })
+    }
+
+    /// Removes the folder of partial ones, if it is there. It waits for the disk: the folder is gone after a crash too,
+    /// though not what it had in it, at another path. After a failure every call fails.
+    pub(crate) fn remove(&mut self, going: &Going) -> Result<(), DeviceFault>
+        ensures moved { OnOk result (HasMoved (string_bytes going.now.partials)
+            (string_bytes going.now.removed) (C.calls self.old.calls) (C.calls self.new.calls)
+            ⊎ HasNotMoved (string_bytes going.now.partials) (string_bytes going.now.removed)
+            (C.calls self.old.calls) (C.calls self.new.calls)) }
+        ensures failed { OnErr result (HasNotMoved (string_bytes going.now.partials)
+            (string_bytes going.now.removed) (C.calls self.old.calls) (C.calls self.new.calls)) }
+        ensures staged { map move_of (vec_items self.new.staged)
+            ≡ map move_of (vec_items self.old.staged) }
+        ensures root { string_bytes self.new.root ≡ string_bytes self.old.root }
+    {
+        self.is_broken = true;
+        remove_moved(
+            &mut self.calls,
+            self.alloc,
+            going.partials.as_str(),
+            going.removed.as_str(),
+        )?;
         self.is_broken = false;
         Ok(())
     }

@@ -17,6 +17,7 @@ mod look;
 mod making;
 mod mark;
 mod record;
+mod removing;
 mod shelf;
 pub mod shelf_law;
 mod staged;

@@ -17,9 +17,11 @@ use tl_device::DeviceFault;
 use tl_tile::Resource;
 
 /// A folder with a log in the layout of C2SP tlog-tiles: the path of each resource is that of its file. A file is
-/// written beside its place under the name with `.new`. Where a settling fails, each later call fails: what outlasts a
-/// crash isn't known then. Where another folder came to its path, staging, settling and marking fail, and nothing is
-/// written there. The mark is the file `published`: the number in decimal and a newline.
+/// written beside its place under the name with `.new`. Partial tiles and bundles lie in one folder for each full one,
+/// which is moved to the path `removed` in one step where they are removed, and then removed there. Where a settling or
+/// such a move fails, each later call fails: what outlasts a crash isn't known then. Where another folder came to its
+/// path, staging, settling, removing and marking fail, and nothing is written there. The mark is the file `published`:
+/// the number in decimal and a newline.
 #[derive(Drop)]
 pub struct FolderShelf<D, H> {
     disk: D,
@@ -94,11 +96,13 @@ impl<D: CrashOutcome + Drop, H: Files + Drop> FolderShelf<D, H> {
 
 impl<D: CrashOutcome, H: Files + Drop> Shelf for FolderShelf<D, H> {
     ghost use Rattle.std.specs.Prelude.{false, Some};
-    ghost use Rattle.tl_archive.specs.Shelves.{Stages, Unstages, Settles, Fails};
+    ghost use Rattle.tl_archive.specs.Partials.{IsFull};
+    ghost use Rattle.tl_archive.specs.Shelves.{Stages, Unstages, Settles, Removes, LacksPartials, Fails};
     ghost use Rattle.tl_tile.specs.Path.{IsResource};
     ghost use Rattle.tl_folder.specs.FileCalls.{Takes};
-    ghost use Rattle.tl_folder.specs.Folders.{SettlesFiles, kept_by, traced_by};
-    ghost use Rattle.tl_folder.specs.Places.{mark_text, place_of};
+    ghost use Rattle.tl_folder.specs.Folders.{SettlesFiles, NotesRemoval, kept_by, traced_by};
+    ghost use Rattle.tl_folder.specs.Places.{mark_text, partials_path, place_of, removed_path};
+    ghost use Rattle.tl_folder.specs.Removing.{RemovesFolder};
     ghost use Rattle.tl_folder.specs.Settling.{WritesAside, marking, move_to, new_path};
 
     ghost kept = { λ s. kept_by D.held D.reached s };
@@ -174,6 +178,44 @@ impl<D: CrashOutcome, H: Files + Drop> Shelf for FolderShelf<D, H> {
                     resource: None,
                     why,
                 })
+            }
+        }
+    }
+
+    fn remove_partials(&mut self, full: &Resource) -> Result<(), ShelfFault>
+        requires { IsFull full.now }
+        ensures removed { Removes full.now (kept_by D.held D.reached self.old)
+            (kept_by D.held D.reached self.new) }
+        ensures none { OnOk result
+            (LacksPartials full.now (kept_by D.held D.reached self.new).held) }
+        ensures unfailed { OnOk result (self.new.failures ≡ self.old.failures) }
+        ensures failed { OnErr result (Fails self.old.failures self.new.failures) }
+        ensures trace { traced_by D.held D.reached self.new
+            ≡ traced_by D.held D.reached self.old ++ kept_by D.held D.reached self.new ∷ [] }
+        ensures made { RemovesFolder (partials_path self.old.root full.now)
+            (removed_path self.old.root) self.old.made self.new.made result }
+        ensures noted { NotesRemoval full.now self.old self.new result }
+        ensures moves { self.new.moves ≡ self.old.moves }
+        ensures root { self.new.root ≡ self.old.root }
+        ensures place { self.new.place ≡ self.old.place }
+        ensures mark { self.new.published ≡ self.old.published }
+    {
+        match self.files.going_of(full) {
+            Ok(going) => match self.files.remove(&going) {
+                Ok(()) => {
+                    self.calls.note(CallOutcome::Removed(*full), &[]);
+                    Ok(())
+                }
+                Err(why) => {
+                    self.calls.note(CallOutcome::PartRemoved(*full), &[]);
+                    self.failures = self.failures.saturating_add(1);
+                    Err(fault_over(full, why))
+                }
+            },
+            Err(why) => {
+                self.calls.note(CallOutcome::Failed, &[]);
+                self.failures = self.failures.saturating_add(1);
+                Err(fault_over(full, why))
             }
         }
     }

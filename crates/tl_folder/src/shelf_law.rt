@@ -1,17 +1,20 @@
 //! What a crash leaves of a shelf in a folder: laws of the definitions alone, over the calls that `FolderShelf` says
 //! that it made.
 
-ghost use Rattle.std.specs.Prelude.{◌≡◌, List, ◌++◌};
+ghost use Rattle.std.specs.Prelude.{◌≡◌, ◌⊎◌, true, List, [], ◌∷◌, ◌++◌, Option, None};
 ghost use Rattle.tl_tile.specs.declared.resource.Resource.{Resource};
 ghost use Rattle.tl_tile.specs.Path.{IsResource};
+ghost use Rattle.tl_archive.specs.Partials.{IsFull, IsPartialOf};
 ghost use Rattle.tl_archive.specs.Shelves.{Item, Held};
+ghost use Rattle.tl_folder.specs.Step as step;
 ghost use Rattle.tl_folder.specs.Step.{Path, Bytes};
 ghost use Rattle.tl_folder.specs.FileCalls.{Call, Begins, done};
-ghost use Rattle.tl_folder.specs.Posix.{Disk, Becomes};
-ghost use Rattle.tl_folder.specs.Places.{place_of};
+ghost use Rattle.tl_folder.specs.Posix.{Disk, Becomes, MayBe};
+ghost use Rattle.tl_folder.specs.Places.{partials_path, place_of, removed_path};
+ghost use Rattle.tl_folder.specs.Removing.{AreFirst, HasMoved, removing};
 ghost use Rattle.tl_folder.specs.Settling.{AreCovered, IsAside, marking, new_path, settling};
-ghost use Rattle.tl_folder.specs.Folders.{put};
-ghost use Rattle.tl_folder.specs.OnDisk.{AreOnce, AreStaged, Reflects, ReflectsEither, moves_of};
+ghost use Rattle.tl_folder.specs.Folders.{is_partial_of, put, without};
+ghost use Rattle.tl_folder.specs.OnDisk.{AreOnce, AreStaged, Reflects, ReflectsEither, ReflectsSome, moves_of};
 
 /// To stage bytes for a resource, whatever comes of it, changes the file of no resource. It computes nothing: its
 /// contract is the law.
@@ -49,4 +52,52 @@ pub fn settled_shelves_outlast_a_crash()
         → AreCovered root folders (moves_of root items)
         → Becomes disk (calls ++ done (settling (moves_of root items) folders)) now
         → Reflects root (put items held) now }
+{}
+
+/// To remove the partial ones of a full tile or bundle, whatever comes of it, changes the file of no other resource. It
+/// computes nothing: its contract is the law.
+pub fn removing_spares_other_resources()
+    ensures { (disk now : Disk) (root : Path) (full s : Resource) (calls : List Call)
+        → IsFull full → IsResource s → ¬ IsPartialOf full s
+        → AreFirst (removing (partials_path root full) (removed_path root)) calls
+        → Becomes disk calls now → now (place_of root s) ≡ disk (place_of root s) }
+{}
+
+/// Once the folder of the partial ones of a full tile or bundle was moved away, a crash leaves none of them, whatever
+/// came of the calls before, and comes of the removal after it. It computes nothing: its contract is the law.
+pub fn removed_partials_stay_away()
+    ensures { (disk now : Disk) (root : Path) (full s : Resource) (before more : List Call)
+        (left : Option Bytes) → IsFull full → IsPartialOf full s
+        → AreFirst (step.RemoveFolder (removed_path root) ∷ []) more
+        → Becomes disk (before
+        ++ (step.MoveAway (partials_path root full) (removed_path root), true) ∷ more) now
+        → MayBe (now (place_of root s)) left → left ≡ None }
+{}
+
+/// At each moment of a removal, and after one that failed, a crash leaves of each partial one what it might have left
+/// before, or nothing. It computes nothing: its contract is the law.
+pub fn removing_tears_nothing()
+    ensures { (disk now : Disk) (root : Path) (full s : Resource) (calls : List Call)
+        (left : Option Bytes) → IsFull full → IsPartialOf full s
+        → AreFirst (removing (partials_path root full) (removed_path root)) calls
+        → Becomes disk calls now → MayBe (now (place_of root s)) left
+        → MayBe (disk (place_of root s)) left ⊎ (left ≡ None) }
+{}
+
+/// At each moment of a removal, and after one that failed, a crash leaves under each resource what was held, or nothing
+/// of a partial one. It computes nothing: its contract is the law.
+pub fn removing_shelves_tear_nothing()
+    ensures { (root : Path) (held : Held) (full : Resource) (calls : List Call) (disk now : Disk)
+        → IsFull full → Reflects root held disk
+        → AreFirst (removing (partials_path root full) (removed_path root)) calls
+        → Becomes disk calls now → ReflectsSome root full held now }
+{}
+
+/// Once the folder of the partial ones was moved and removed, a crash leaves none of them, and under each other resource
+/// what was held, and nothing else. It computes nothing: its contract is the law.
+pub fn removed_shelves_outlast_a_crash()
+    ensures { (root : Path) (held : Held) (full : Resource) (calls : List Call) (disk now : Disk)
+        → IsFull full → Reflects root held disk
+        → HasMoved (partials_path root full) (removed_path root) [] calls
+        → Becomes disk calls now → Reflects root (without (is_partial_of full) held) now }
 {}

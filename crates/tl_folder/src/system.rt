@@ -5,6 +5,7 @@ ghost use Rattle.std.specs.Prelude.{◌≡◌, ◌≤◌, [], length, is_ok, IfO
 
 use crate::call_log::{Asked, CallLog};
 use crate::file_calls::FileCalls;
+use crate::folders::folder_of;
 use crate::look::{open_folder, open_plain};
 use std::alloc::{Allocator, Global};
 use std::fs::{File, Files, Metadata, OpenFile, OpenOptions, TryLockError, create_dir, rename};
@@ -87,6 +88,23 @@ fn sync_names<H: Files>(files: &H, path: &str) -> Result<(), DeviceFault> {
     Ok(())
 }
 
+// Puts a folder at another path, and has it outlast a crash that it is gone from the folder above the first.
+fn move_folder<H: Files>(files: &H, from: &str, to: &str) -> Result<(), DeviceFault> {
+    rename(files, from, to)?;
+    match folder_of(from) {
+        Some(folder) => sync_renamed(files, folder),
+        None => Ok(()),
+    }
+}
+
+// Has the names in the folder at this path outlast a crash, from which something was renamed: it is there.
+fn sync_renamed<H: Files>(files: &H, path: &str) -> Result<(), DeviceFault> {
+    match sync_names(files, path) {
+        Err(DeviceFault::NotThere) => Err(DeviceFault::System),
+        outcome => outcome,
+    }
+}
+
 // An answer of the system, with its error as a fault.
 fn or_fault<T>(answer: io::Result<T>) -> Result<T, DeviceFault>
     ensures { is_ok result ≡ is_ok answer }
@@ -138,6 +156,20 @@ impl<H: Files> FileCalls for SystemCalls<H> {
     fn make_folder(&mut self, path: &str) -> Result<(), DeviceFault> {
         let outcome = or_fault(create_dir(&self.files, path));
         self.log.note(Asked::MakeFolder, path, &[], outcome.is_ok());
+        outcome
+    }
+
+    fn move_away(&mut self, from: &str, to: &str) -> Result<(), DeviceFault> {
+        let outcome = move_folder(&self.files, from, to);
+        self.log
+            .note(Asked::MoveAway, from, to.as_bytes(), outcome.is_ok());
+        outcome
+    }
+
+    fn remove_folder(&mut self, alloc: Global, path: &str) -> Result<(), DeviceFault> {
+        let outcome = or_fault(self.files.remove_dir_all(alloc, path));
+        self.log
+            .note(Asked::RemoveFolder, path, &[], outcome.is_ok());
         outcome
     }
 

@@ -17,6 +17,8 @@ step_of asked.Sync path more = step.Sync path
 step_of asked.Rename path more = step.Rename path more
 step_of asked.SyncFolder path more = step.SyncFolder path
 step_of asked.MakeFolder path more = step.MakeFolder path
+step_of asked.MoveAway path more = step.MoveAway path more
+step_of asked.RemoveFolder path more = step.RemoveFolder path
 
 -- the call that was noted
 abbrev pub call_of : Asked × Noted → Call
