@@ -3,6 +3,7 @@ pub mod FileCalls
 pub mod Folders
 pub mod Lines
 pub mod Laws
+pub mod Limits
 pub mod OnDisk
 pub mod Opened
 pub mod Places

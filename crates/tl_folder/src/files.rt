@@ -11,16 +11,15 @@ ghost use Rattle.tl_folder.specs.Inner.Staged.{move_of};
 use crate::file_calls::FileCalls;
 use crate::file_id::FileId;
 use crate::folders::{folder_of, note_folders};
+use crate::limit::most_bytes;
 use crate::making::make_folders;
 use crate::mark::{MOST_MARK, parse_mark, put_mark};
+use crate::place::{beside, path_under};
 use crate::staged::{Staged, put_staged, write_in_folder};
 use std::alloc::{AllocError, Allocator, Global};
 use std::mem;
 use tl_device::DeviceFault;
-use tl_tile::{Resource, path_of};
-
-// The most bytes of a resource: those of a bundle of 256 of the longest entries.
-const LONGEST: u64 = 256 * 65_537;
+use tl_tile::Resource;
 
 /// The files under a folder.
 #[derive(Drop)]
@@ -91,10 +90,7 @@ impl<C: FileCalls + Drop> FolderFiles<C> {
         ensures { IfOk result (λ place. string_bytes place
             ≡ place_of (string_bytes self.now.root) resource.now) }
     {
-        let mut place = String::from_str(self.alloc, self.root.as_str())?;
-        place.push_str("/")?;
-        place.push_str(path_of(self.alloc, resource)?.as_str())?;
-        Ok(place)
+        path_under(self.alloc, self.root.as_str(), resource)
     }
 
     // The path of the mark's file.
@@ -127,7 +123,7 @@ impl<C: FileCalls + Drop> FolderFiles<C> {
         }
         self.check_folder()?;
         let place = self.place_of(resource)?;
-        let beside = format!(in self.alloc; "{place}.new")?;
+        let beside = beside(self.alloc, place.as_str())?;
         note_folders(
             self.alloc,
             &mut self.changed,
@@ -165,6 +161,7 @@ impl<C: FileCalls + Drop> FolderFiles<C> {
     }
 
     /// The bytes of a resource's file, `None` where there is none. At the end of links there has to be a plain file.
+    /// `TooLarge`: it has more bytes than `most_bytes`.
     pub(crate) fn read<A: Allocator>(
         &self,
         alloc: A,
@@ -174,7 +171,8 @@ impl<C: FileCalls + Drop> FolderFiles<C> {
     {
         let place = self.place_of(resource)?;
         let told = self.calls.metadata(place.as_str());
-        self.calls.read(alloc, place.as_str(), told, LONGEST)
+        self.calls
+            .read(alloc, place.as_str(), told, most_bytes(resource))
     }
 
     /// Writes beside the mark's file how many entries were published, and puts it there. It isn't synced: a crash may
@@ -192,7 +190,7 @@ impl<C: FileCalls + Drop> FolderFiles<C> {
         }
         self.check_folder()?;
         let place = self.mark_place()?;
-        let beside = format!(in self.alloc; "{place}.new")?;
+        let beside = beside(self.alloc, place.as_str())?;
         let text = format!(in self.alloc; "{size}\n")?;
         put_mark(
             &mut self.calls,

@@ -9,6 +9,7 @@ use crate::file_calls::FileCalls;
 use crate::files::sync_parent;
 use crate::lock::LockedFile;
 use crate::look::check_plain;
+use crate::place::beside;
 use crate::record::note_bytes;
 use crate::system::SystemCalls;
 use http_server::Log;
@@ -77,7 +78,7 @@ impl<'s, H: Files<File = File>> AtomicFile<'s, H> {
         }) }
     {
         let lock_path = format!(in alloc; "{path}.lock")?;
-        let beside = format!(in alloc; "{path}.new")?;
+        let beside = beside(alloc, path)?;
         let mut how = OpenOptions::new();
         how.append(true).create(true);
         let mut calls = SystemCalls::new(files);

@@ -5,13 +5,13 @@ ghost use Rattle.std.specs.Io.KnownBytes.{Appends};
 ghost use Rattle.tl_tile.specs.Path.{IsTile};
 ghost use Rattle.tl_source.specs.Caches.{HavePassed};
 
-use crate::place::{beside, has_path, path_under};
 use std::alloc::{AllocError, Allocator};
 use std::fs::{File, Files, OpenFile, create_dir_all, remove_file, rename, symlink_metadata};
 use std::io;
 use std::io::{ErrorKind, Write};
 use std::marker::Model;
 use std::path::Path;
+use tl_folder::{beside, has_path, path_under};
 use tl_tile::{FetchedTiles, Resource, Tile};
 
 /// A folder for tiles that passed all checks, each in a file at its path (C2SP tlog-tiles). Contracts see the folder's

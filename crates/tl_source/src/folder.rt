@@ -2,17 +2,16 @@
 
 ghost use Rattle.std.specs.Prelude.{◌≡◌, ◌≤◌, IfOk, length};
 ghost use Rattle.tl_tile.specs.Path.{IsResource};
-ghost use Rattle.tl_source.specs.Limits.{most_bytes};
+ghost use Rattle.tl_folder.specs.Limits.{most_bytes};
 
 use crate::lack::{Lack, LastLack, NamesLack};
-use crate::limit::most_bytes;
-use crate::place::path_under;
 use std::alloc::{Allocator, Global};
 use std::fs::{Files, Metadata, metadata, symlink_metadata};
 use std::io;
 use std::marker::Model;
 use tl_client::ResourceSource;
 use tl_device::{DeviceFault, read_plain};
+use tl_folder::{most_bytes, path_under};
 use tl_tile::{Resource, SourceFault};
 
 /// The resources of a log in the plain files under a folder, each at its path (C2SP tlog-tiles). Contracts see the

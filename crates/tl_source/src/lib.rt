@@ -20,7 +20,6 @@ mod folder;
 mod full;
 mod http;
 mod lack;
-mod limit;
 mod place;
 mod url;
 
@@ -31,6 +30,5 @@ pub use folder::FolderSource;
 pub use full::FullSource;
 pub use http::HttpSource;
 pub use lack::{Lack, NamesLack};
-pub use limit::most_bytes;
 pub use place::place_of;
 pub use url::Url;
