@@ -57,6 +57,7 @@ Spares (step.Create path) q = q ≢ path
 Spares (step.Append path bytes) q = q ≢ path
 Spares (step.Cut path count) q = q ≢ path
 Spares (step.Sync path) q = Unit {0}
+Spares (step.Remove path) q = q ≢ path
 Spares (step.Rename from to) q = (q ≢ from) × (q ≢ to)
 Spares (step.SyncFolder folder) q = Unit {0}
 Spares (step.MakeFolder folder) q = Unit {0}
@@ -87,6 +88,7 @@ spared (step.Create path) disk q apart = same_leaves _ _ (put_other path q _ dis
 spared (step.Append path bytes) disk q apart = same_leaves _ _ (put_other path q _ disk apart)
 spared (step.Cut path count) disk q apart = same_leaves _ _ (put_other path q _ disk apart)
 spared (step.Sync path) disk q apart = sync_spares path disk q
+spared (step.Remove path) disk q apart = same_leaves _ _ (put_other path q _ disk apart)
 spared (step.Rename from to) disk q apart = same_leaves _ _ (moved_other from to q _ _ disk apart.0 apart.1)
 spared (step.SyncFolder folder) disk q apart = name_spares folder disk q
 spared (step.MakeFolder folder) disk q apart = λ left may. may
@@ -97,6 +99,7 @@ spared_failed (step.Create path) rest disk q apart = spared (step.Create path) d
 spared_failed (step.Append path bytes) rest disk q apart = spared (step.Append path rest) disk q apart
 spared_failed (step.Cut path count) rest disk q apart = spared (step.Cut path count) disk q apart
 spared_failed (step.Sync path) rest disk q apart = spoil_spares path rest disk q
+spared_failed (step.Remove path) rest disk q apart = spared (step.Remove path) disk q apart
 spared_failed (step.Rename from to) rest disk q apart = spared (step.Rename from to) disk q apart
 spared_failed (step.SyncFolder folder) rest disk q apart = λ left may. may
 spared_failed (step.MakeFolder folder) rest disk q apart = λ left may. may
@@ -161,7 +164,7 @@ one_failed : (New : Option Bytes → Type 0) (s : Step) (rest : Bytes) (disk : D
 one_failed New s rest disk q (inl spares) = no_more New _ _ (spared_failed s rest disk q spares)
 one_failed New s rest disk q (inr places) = placed_failed New s rest disk q places
 
-chain : (New : Option Bytes → Type 0) (a b c : At) → LeavesOldOr New a b → LeavesOldOr New b c → LeavesOldOr New a c
+pub chain : (New : Option Bytes → Type 0) (a b c : At) → LeavesOldOr New a b → LeavesOldOr New b c → LeavesOldOr New a c
 chain New a b c first second left may =
     elim (second left may) as (λ _. MayBe a left ⊎ New left) [
       | inl old ↦ first left old

@@ -4,6 +4,7 @@ pub mod Disks
 pub mod Settles
 pub mod Asides
 pub mod Makings
+pub mod Addings
 pub mod Appends
 pub mod Above
 pub mod Beginnings

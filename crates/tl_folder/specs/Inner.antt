@@ -1,5 +1,7 @@
 -- Private words: what contracts of private functions and proofs need.
 pub
+    mod Above
+pub
     mod CallLog
 pub
     mod Making

@@ -1,3 +1,5 @@
+pub mod Adding
+pub mod Caches
 pub mod Events
 pub mod FileCalls
 pub mod Folders

@@ -23,9 +23,19 @@ pub(crate) trait FileCalls {
         ensures { calls self.new
             ≡ calls self.old ++ (step.Write path.now bytes.now, is_ok result) ∷ [] };
 
+    /// Writes a new file with these bytes. `Taken`: something is at the path, also a link to nowhere. Another failure
+    /// leaves any part of it.
+    fn write_new(&mut self, path: &str, bytes: &[u8]) -> Result<(), DeviceFault>
+        ensures { calls self.new
+            ≡ calls self.old ++ (step.Write path.now bytes.now, is_ok result) ∷ [] };
+
     /// Has what the file at the path has outlast a crash. `NotPlain`: something else than a plain file is there.
     fn sync(&mut self, path: &str) -> Result<(), DeviceFault>
         ensures { calls self.new ≡ calls self.old ++ (step.Sync path.now, is_ok result) ∷ [] };
+
+    /// Removes the file at the path.
+    fn remove(&mut self, path: &str) -> Result<(), DeviceFault>
+        ensures { calls self.new ≡ calls self.old ++ (step.Remove path.now, is_ok result) ∷ [] };
 
     /// Puts the file at the first path at the second, in place of what is there.
     fn rename(&mut self, from: &str, to: &str) -> Result<(), DeviceFault>

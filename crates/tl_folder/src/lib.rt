@@ -3,6 +3,8 @@
 //! of them. Contracts see the calls of the system that each makes, and laws say what a crash after them leaves.
 #![tactic(auto)]
 
+mod adding;
+mod cache;
 mod call_log;
 mod call_outcome;
 mod disk;
@@ -25,11 +27,12 @@ mod staged;
 mod system;
 mod whole;
 
+pub use cache::TileCache;
 pub use call_outcome::CallOutcome;
 pub use disk::{AnyOutcome, CrashOutcome};
 pub use limit::most_bytes;
 pub use lines::{DurableAppend, LineFile, open_lines};
 pub use lock::{FolderLock, lock_folder};
-pub use place::{beside, has_path, path_under};
+pub use place::{has_path, path_under};
 pub use shelf::FolderShelf;
 pub use whole::AtomicFile;

@@ -36,7 +36,7 @@ pub fn has_path(resource: &Resource) -> bool
 }
 
 /// Where the file with this place is written before it is put there.
-pub fn beside<A: Allocator>(alloc: A, place: &str) -> Result<String<A>, AllocError>
+pub(crate) fn beside<A: Allocator>(alloc: A, place: &str) -> Result<String<A>, AllocError>
     ensures { IfOk result (λ path. string_bytes path ≡ new_path place.now) }
 {
     let mut path = String::from_str(alloc, place)?;

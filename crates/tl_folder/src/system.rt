@@ -7,7 +7,9 @@ use crate::call_log::{Asked, CallLog};
 use crate::file_calls::FileCalls;
 use crate::look::{open_folder, open_plain};
 use std::alloc::{Allocator, Global};
-use std::fs::{File, Files, Metadata, OpenFile, OpenOptions, TryLockError, create_dir, rename};
+use std::fs::{
+    File, Files, Metadata, OpenFile, OpenOptions, TryLockError, create_dir, remove_file, rename,
+};
 use std::io;
 use std::io::Write;
 use tl_device::{Counted, DeviceFault, read_whole};
@@ -70,6 +72,13 @@ fn write_file<H: Files>(files: &H, path: &str, bytes: &[u8]) -> Result<(), Devic
     Ok(())
 }
 
+// Writes a file where nothing is, also no link.
+fn write_new_file<H: Files>(files: &H, path: &str, bytes: &[u8]) -> Result<(), DeviceFault> {
+    let mut file = File::create_new(files, path)?;
+    file.write_all(bytes)?;
+    Ok(())
+}
+
 // Has what the file at this path has outlast a crash.
 fn sync_file<H: Files>(files: &H, path: &str) -> Result<(), DeviceFault> {
     match open_plain(files, path, files.symlink_metadata(path)) {
@@ -116,9 +125,21 @@ impl<H: Files> FileCalls for SystemCalls<H> {
         outcome
     }
 
+    fn write_new(&mut self, path: &str, bytes: &[u8]) -> Result<(), DeviceFault> {
+        let outcome = write_new_file(&self.files, path, bytes);
+        self.log.note(Asked::Write, path, bytes, outcome.is_ok());
+        outcome
+    }
+
     fn sync(&mut self, path: &str) -> Result<(), DeviceFault> {
         let outcome = sync_file(&self.files, path);
         self.log.note(Asked::Sync, path, &[], outcome.is_ok());
+        outcome
+    }
+
+    fn remove(&mut self, path: &str) -> Result<(), DeviceFault> {
+        let outcome = or_fault(remove_file(&self.files, path));
+        self.log.note(Asked::Remove, path, &[], outcome.is_ok());
         outcome
     }
 

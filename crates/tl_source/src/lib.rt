@@ -1,5 +1,5 @@
 //! Where the resources of a log come from: a folder, a host that answers over HTTP, and either of them behind a folder
-//! that keeps the tiles that passed all checks.
+//! that keeps the tiles that passed all checks (`TileCache` of `tl_folder`).
 //!
 //! ```
 //! let url = Url::parse("http://log.example/2026/").unwrap();
@@ -14,7 +14,6 @@
 
 mod any;
 mod asking;
-mod cache;
 mod cached;
 mod folder;
 mod full;
@@ -24,7 +23,6 @@ mod place;
 mod url;
 
 pub use any::AnySource;
-pub use cache::TileCache;
 pub use cached::CachedSource;
 pub use folder::FolderSource;
 pub use full::FullSource;
