@@ -8,7 +8,7 @@ use tl_device::DeviceFault;
 /// What a folder asks of a system; nothing else changes files. Contracts see what was asked, in order, and whether the
 /// system said that it was done.
 pub(crate) trait FileCalls {
-    ghost use Rattle.std.specs.Prelude.{◌≡◌, ◌≤◌, true, false, List, [], ◌∷◌, ◌++◌, length, take, is_ok, IfOk, MatchResult};
+    ghost use Rattle.std.specs.Prelude.{◌≡◌, ◌≤◌, true, false, List, [], ◌∷◌, ◌++◌, length, take, is_ok, IfOk, IfSome, MatchResult};
     ghost use Rattle.tl_folder.specs.FileCalls.{Call};
     ghost use Rattle.tl_folder.specs.Step as step;
 
@@ -100,5 +100,6 @@ pub(crate) trait FileCalls {
         path: &str,
         told: io::Result<Metadata>,
         most: u64,
-    ) -> Result<Option<Vec<u8, A>>, DeviceFault>;
+    ) -> Result<Option<Vec<u8, A>>, DeviceFault>
+        ensures { IfOk result (λ found. IfSome found (λ bytes. length bytes.items ≤ most)) };
 }

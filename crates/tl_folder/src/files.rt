@@ -11,10 +11,10 @@ ghost use Rattle.tl_folder.specs.Inner.Staged.{move_of};
 use crate::file_calls::FileCalls;
 use crate::file_id::FileId;
 use crate::folders::{folder_of, note_folders};
-use crate::limit::most_bytes;
 use crate::making::make_folders;
 use crate::mark::{MOST_MARK, parse_mark, put_mark};
 use crate::place::{beside, path_under};
+use crate::resource::read_at;
 use crate::staged::{Staged, put_staged, write_in_folder};
 use std::alloc::{AllocError, Allocator, Global};
 use std::mem;
@@ -170,9 +170,7 @@ impl<C: FileCalls + Drop> FolderFiles<C> {
         requires { IsResource resource.now }
     {
         let place = self.place_of(resource)?;
-        let told = self.calls.metadata(place.as_str());
-        self.calls
-            .read(alloc, place.as_str(), told, most_bytes(resource))
+        read_at(&self.calls, alloc, place.as_str(), resource, true)
     }
 
     /// Writes beside the mark's file how many entries were published, and puts it there. It isn't synced: a crash may
