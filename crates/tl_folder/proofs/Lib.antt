@@ -5,6 +5,7 @@ pub mod Settles
 pub mod Asides
 pub mod Makings
 pub mod Addings
+pub mod Overs
 pub mod Appends
 pub mod Above
 pub mod Beginnings

@@ -6,4 +6,6 @@ pub
 pub
     mod Making
 pub
+    mod Over
+pub
     mod Staged

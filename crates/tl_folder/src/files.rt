@@ -12,7 +12,8 @@ use crate::file_calls::FileCalls;
 use crate::file_id::FileId;
 use crate::folders::{folder_of, note_folders};
 use crate::making::make_folders;
-use crate::mark::{MOST_MARK, parse_mark, put_mark};
+use crate::mark::{MOST_MARK, parse_mark};
+use crate::over::put_over;
 use crate::place::{beside, path_under};
 use crate::resource::read_at;
 use crate::staged::{Staged, put_staged, write_in_folder};
@@ -190,12 +191,8 @@ impl<C: FileCalls + Drop> FolderFiles<C> {
         let place = self.mark_place()?;
         let beside = beside(self.alloc, place.as_str())?;
         let text = format!(in self.alloc; "{size}\n")?;
-        put_mark(
-            &mut self.calls,
-            beside.as_str(),
-            place.as_str(),
-            text.as_bytes(),
-        )
+        let (aside, place) = (beside.as_str(), place.as_str());
+        put_over(&mut self.calls, aside, place, text.as_bytes(), false)
     }
 
     /// How many entries the mark's file says were published, `None` where there is none, or it says no number.

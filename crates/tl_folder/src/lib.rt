@@ -19,6 +19,7 @@ mod lock;
 mod look;
 mod making;
 mod mark;
+mod over;
 mod place;
 mod record;
 mod resource;
