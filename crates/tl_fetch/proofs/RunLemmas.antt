@@ -18,7 +18,7 @@ use Rattle.tl_fetch.specs.Faults.{IsNoAccusation, after_client}
 use Rattle.tl_fetch.specs.Inner.Judging.{IsOfGrowth, two_of}
 use Rattle.tl_source.specs.Caches.{may_answer_either, may_lack_both}
 use Rattle.tl_source.specs.Fulls.{may_answer_front}
-use Rattle.tl_source.specs.Limits.{most_bytes}
+use Rattle.tl_folder.specs.Limits.{most_bytes}
 use Rattle.tl_source.specs.Sources.{Origin, any_answers}
 use Rattle.tl_fetch.specs.Command.{IsOriginOf, IsStateFault, RunsUnder, cached_answers, cached_lacks, may_have, state_fails}
 use Rattle.tl_fetch.specs.Inner.Naming.{Renames, RunsOver}

@@ -9,7 +9,7 @@ use Rattle.tl_device.specs.declared.fault.DeviceFault.{DeviceFault}
 use Rattle.tl_tile.specs.declared.resource.Resource.{Resource}
 use Rattle.tl_source.specs.Caches.{may_answer_either, may_lack_both}
 use Rattle.tl_source.specs.Fulls.{may_answer_front}
-use Rattle.tl_source.specs.Limits.{most_bytes}
+use Rattle.tl_folder.specs.Limits.{most_bytes}
 use Rattle.tl_source.specs.Sources.{Origin, Folder, Host, any_answers}
 use Rattle.tl_source.specs.Url.{IsNoUrl, IsUrl}
 use Rattle.tl_command.specs.Faults.{after_device}

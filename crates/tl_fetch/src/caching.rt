@@ -4,7 +4,7 @@ use crate::observer::Observer;
 use std::alloc::{Allocator, Global};
 use std::fs::Files;
 use tl_client::Head;
-use tl_source::TileCache;
+use tl_folder::TileCache;
 use tl_tile::FetchedTiles;
 
 /// A cache where tiles are kept that passed their checks, and who is told of them then.

@@ -28,10 +28,10 @@ use std::time::{Clock, Duration};
 use tl_client::ResourceSource;
 use tl_command::{Place, RunFault, read_log_key};
 use tl_device::Counted;
-use tl_folder::AtomicFile;
+use tl_folder::{AtomicFile, TileCache};
 use tl_note::Verifier;
 use tl_source::{
-    AnySource, CachedSource, FolderSource, FullSource, HttpSource, Lack, NamesLack, TileCache, Url,
+    AnySource, CachedSource, FolderSource, FullSource, HttpSource, Lack, NamesLack, Url,
 };
 
 // The source that the options name: what has a scheme is an address, and all else a folder.

@@ -74,7 +74,7 @@ staged_there path bytes made disk now (inr (mid, above, is)) becomes = last_writ
 
 -- ---- a file that is replaced
 
-whole_aside : (aside : Path) (bytes : Bytes) (disk : Disk) → IsWhole bytes (after (step.Sync aside) (after (step.Write aside bytes) disk) aside)
+pub whole_aside : (aside : Path) (bytes : Bytes) (disk : Disk) → IsWhole bytes (after (step.Sync aside) (after (step.Write aside bytes) disk) aside)
 whole_aside aside bytes disk = own_synced aside (after (step.Write aside bytes) disk) bytes (written aside bytes disk)
 
 naming_fine : (New : Option Bytes → Type 0) (folder : Option Path) (disk : Disk) (q : Path) → IsFine New disk (naming_in folder) q

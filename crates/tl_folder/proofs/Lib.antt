@@ -4,6 +4,8 @@ pub mod Disks
 pub mod Settles
 pub mod Asides
 pub mod Makings
+pub mod Addings
+pub mod Overs
 pub mod Appends
 pub mod Above
 pub mod Beginnings

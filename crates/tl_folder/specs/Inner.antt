@@ -1,7 +1,11 @@
 -- Private words: what contracts of private functions and proofs need.
 pub
+    mod Above
+pub
     mod CallLog
 pub
     mod Making
+pub
+    mod Over
 pub
     mod Staged

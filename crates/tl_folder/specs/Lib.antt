@@ -1,8 +1,11 @@
+pub mod Adding
+pub mod Caches
 pub mod Events
 pub mod FileCalls
 pub mod Folders
 pub mod Lines
 pub mod Laws
+pub mod Limits
 pub mod OnDisk
 pub mod Opened
 pub mod Places

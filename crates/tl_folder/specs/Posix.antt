@@ -1,4 +1,4 @@
--- What a crash leaves of files, by what POSIX.1-2017 (System Interfaces: open, write, fsync, rename) says: what was
+-- What a crash leaves of files, by what POSIX.1-2017 (System Interfaces: open, write, fsync, unlink, rename) says: what was
 -- written and not synced may be lost or torn, and a rename is one step. That a name outlasts a crash once its folder
 -- was synced is what systems add to it. The folders above a file are to be there, and each text is a path of its own.
 use Rattle.std.specs.Prelude.{◌≡◌, ℕ, ◌+◌, ◌-◌, ◌⊎◌, ◌||◌, Bool, true, false, List, [], ◌∷◌, ◌++◌, length, take, Option, Some, None, option_map, Contains, if◌then◌else◌}
@@ -123,6 +123,7 @@ after (step.Create path) disk = put path (record { there = made (disk path).ther
 after (step.Append path bytes) disk = put path (changed (longer bytes) (disk path)) disk
 after (step.Cut path count) disk = put path (changed (shorter count) (disk path)) disk
 after (step.Sync path) disk = put path (changed synced (disk path)) disk
+after (step.Remove path) disk = put path (record { there = None; older = (disk path).there ∷ (disk path).older }) disk
 after (step.Rename from to) disk =
     put to (record { there = (disk from).there; older = (disk to).there ∷ (disk to).older })
     (put from (record { there = None; older = unknown ∷ (disk from).older }) disk)
@@ -140,6 +141,7 @@ after_failed (step.Append path bytes) rest disk = after (step.Append path rest) 
 after_failed (step.Sync path) rest disk = put path (changed (spoiled rest) (disk path)) disk
 after_failed (step.Create path) rest disk = after (step.Create path) disk
 after_failed (step.Cut path count) rest disk = after (step.Cut path count) disk
+after_failed (step.Remove path) rest disk = after (step.Remove path) disk
 after_failed (step.Rename from to) rest disk = after (step.Rename from to) disk
 after_failed (step.SyncFolder folder) rest disk = disk
 after_failed (step.MakeFolder folder) rest disk = disk

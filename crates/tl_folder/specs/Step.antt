@@ -21,6 +21,8 @@ pub data Step : Type 0 where
   Cut : Path → ℕ → Step
   -- what the file at the path has outlasts a crash
   Sync : Path → Step
+  -- nothing is at the path, where a file was
+  Remove : Path → Step
   -- the file at the first path is at the second, in place of what is there
   Rename : Path → Path → Step
   -- the names in the folder outlast a crash

@@ -14,6 +14,7 @@ pub(crate) enum Asked {
     Append,
     Cut(u64),
     Sync,
+    Remove,
     Rename,
     SyncFolder,
     MakeFolder,

@@ -8,7 +8,7 @@ use tl_device::DeviceFault;
 /// What a folder asks of a system; nothing else changes files. Contracts see what was asked, in order, and whether the
 /// system said that it was done.
 pub(crate) trait FileCalls {
-    ghost use Rattle.std.specs.Prelude.{◌≡◌, ◌≤◌, true, false, List, [], ◌∷◌, ◌++◌, length, take, is_ok, IfOk, MatchResult};
+    ghost use Rattle.std.specs.Prelude.{◌≡◌, ◌≤◌, true, false, List, [], ◌∷◌, ◌++◌, length, take, is_ok, IfOk, IfSome, MatchResult};
     ghost use Rattle.tl_folder.specs.FileCalls.{Call};
     ghost use Rattle.tl_folder.specs.Step as step;
 
@@ -23,9 +23,19 @@ pub(crate) trait FileCalls {
         ensures { calls self.new
             ≡ calls self.old ++ (step.Write path.now bytes.now, is_ok result) ∷ [] };
 
+    /// Writes a new file with these bytes. `Taken`: something is at the path, also a link to nowhere. Another failure
+    /// leaves any part of it.
+    fn write_new(&mut self, path: &str, bytes: &[u8]) -> Result<(), DeviceFault>
+        ensures { calls self.new
+            ≡ calls self.old ++ (step.Write path.now bytes.now, is_ok result) ∷ [] };
+
     /// Has what the file at the path has outlast a crash. `NotPlain`: something else than a plain file is there.
     fn sync(&mut self, path: &str) -> Result<(), DeviceFault>
         ensures { calls self.new ≡ calls self.old ++ (step.Sync path.now, is_ok result) ∷ [] };
+
+    /// Removes the file at the path.
+    fn remove(&mut self, path: &str) -> Result<(), DeviceFault>
+        ensures { calls self.new ≡ calls self.old ++ (step.Remove path.now, is_ok result) ∷ [] };
 
     /// Puts the file at the first path at the second, in place of what is there.
     fn rename(&mut self, from: &str, to: &str) -> Result<(), DeviceFault>
@@ -101,5 +111,6 @@ pub(crate) trait FileCalls {
         path: &str,
         told: io::Result<Metadata>,
         most: u64,
-    ) -> Result<Option<Vec<u8, A>>, DeviceFault>;
+    ) -> Result<Option<Vec<u8, A>>, DeviceFault>
+        ensures { IfOk result (λ found. IfSome found (λ bytes. length bytes.items ≤ most)) };
 }

@@ -13,16 +13,16 @@ use crate::file_calls::FileCalls;
 use crate::file_id::FileId;
 use crate::folders::{folder_of, note_folders};
 use crate::making::make_folders;
-use crate::mark::{MOST_MARK, parse_mark, put_mark};
+use crate::mark::{MOST_MARK, parse_mark};
+use crate::over::put_over;
+use crate::place::{beside, path_under};
 use crate::removing::{Going, remove_moved};
+use crate::resource::read_at;
 use crate::staged::{Staged, put_staged, write_in_folder};
 use std::alloc::{AllocError, Allocator, Global};
 use std::mem;
 use tl_device::DeviceFault;
-use tl_tile::{Resource, path_of};
-
-// The most bytes of a resource: those of a bundle of 256 of the longest entries.
-const LONGEST: u64 = 256 * 65_537;
+use tl_tile::Resource;
 
 /// The files under a folder.
 #[derive(Drop)]
@@ -93,10 +93,7 @@ impl<C: FileCalls + Drop> FolderFiles<C> {
         ensures { IfOk result (λ place. string_bytes place
             ≡ place_of (string_bytes self.now.root) resource.now) }
     {
-        let mut place = String::from_str(self.alloc, self.root.as_str())?;
-        place.push_str("/")?;
-        place.push_str(path_of(self.alloc, resource)?.as_str())?;
-        Ok(place)
+        path_under(self.alloc, self.root.as_str(), resource)
     }
 
     // The path of the mark's file.
@@ -129,7 +126,7 @@ impl<C: FileCalls + Drop> FolderFiles<C> {
         }
         self.check_folder()?;
         let place = self.place_of(resource)?;
-        let beside = format!(in self.alloc; "{place}.new")?;
+        let beside = beside(self.alloc, place.as_str())?;
         note_folders(
             self.alloc,
             &mut self.changed,
@@ -212,6 +209,7 @@ impl<C: FileCalls + Drop> FolderFiles<C> {
     }
 
     /// The bytes of a resource's file, `None` where there is none. At the end of links there has to be a plain file.
+    /// `TooLarge`: it has more bytes than `most_bytes`.
     pub(crate) fn read<A: Allocator>(
         &self,
         alloc: A,
@@ -220,8 +218,7 @@ impl<C: FileCalls + Drop> FolderFiles<C> {
         requires { IsResource resource.now }
     {
         let place = self.place_of(resource)?;
-        let told = self.calls.metadata(place.as_str());
-        self.calls.read(alloc, place.as_str(), told, LONGEST)
+        read_at(&self.calls, alloc, place.as_str(), resource, true)
     }
 
     /// Writes beside the mark's file how many entries were published, and puts it there. It isn't synced: a crash may
@@ -239,14 +236,10 @@ impl<C: FileCalls + Drop> FolderFiles<C> {
         }
         self.check_folder()?;
         let place = self.mark_place()?;
-        let beside = format!(in self.alloc; "{place}.new")?;
+        let beside = beside(self.alloc, place.as_str())?;
         let text = format!(in self.alloc; "{size}\n")?;
-        put_mark(
-            &mut self.calls,
-            beside.as_str(),
-            place.as_str(),
-            text.as_bytes(),
-        )
+        let (aside, place) = (beside.as_str(), place.as_str());
+        put_over(&mut self.calls, aside, place, text.as_bytes(), false)
     }
 
     /// How many entries the mark's file says were published, `None` where there is none, or it says no number.

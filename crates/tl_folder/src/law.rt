@@ -8,6 +8,7 @@ ghost use Rattle.tl_folder.specs.FileCalls.{Call, Begins, done};
 ghost use Rattle.tl_folder.specs.Posix.{Disk, Becomes, MayBe, MayLeave, folder_of};
 ghost use Rattle.tl_folder.specs.Settling.{Move, AreCovered, IsStaging, IsAside, settling, replacing};
 ghost use Rattle.tl_folder.specs.Lines.{opening, appending};
+ghost use Rattle.tl_folder.specs.Adding.{IsAdding};
 ghost use Rattle.tl_folder.specs.Laws.{AreApart, HasBytes, IsAtRest, IsElsewhere, LeavesFront, bytes_there};
 
 /// A file that was staged has the bytes that were staged. It computes nothing: its contract is the law.
@@ -62,6 +63,14 @@ pub fn replacing_tears_no_file()
     ensures { (disk : Disk) (aside path : Path) (bytes : Bytes) (calls : List Call) (left : Option Bytes)
         → path ≢ aside → Begins (replacing aside path bytes) calls
         → MayLeave disk calls path left → MayBe (disk path) left ⊎ (left ≡ Some bytes) }
+{}
+
+/// At each moment while a new file is put in its place, and after a failure, a crash leaves there what it might have
+/// left before, or all the bytes of the new one. It computes nothing: its contract is the law.
+pub fn adding_tears_no_file()
+    ensures { (disk : Disk) (aside place : Path) (bytes : Bytes) (calls : List Call) (left : Option Bytes)
+        → place ≢ aside → IsAdding aside place bytes calls
+        → MayLeave disk calls place left → MayBe (disk place) left ⊎ (left ≡ Some bytes) }
 {}
 
 /// Once a file of lines is open, it has the first so many bytes that it had, and a crash leaves nothing else. It

@@ -3,6 +3,8 @@
 //! of them. Contracts see the calls of the system that each makes, and laws say what a crash after them leaves.
 #![tactic(auto)]
 
+mod adding;
+mod cache;
 mod call_log;
 mod call_outcome;
 mod disk;
@@ -11,22 +13,30 @@ mod file_id;
 mod files;
 mod folders;
 pub mod law;
+mod limit;
 mod lines;
 mod lock;
 mod look;
 mod making;
 mod mark;
+mod over;
+mod place;
 mod record;
 mod removing;
+mod resource;
 mod shelf;
 pub mod shelf_law;
 mod staged;
 mod system;
 mod whole;
 
+pub use cache::TileCache;
 pub use call_outcome::CallOutcome;
 pub use disk::{AnyOutcome, CrashOutcome};
+pub use limit::most_bytes;
 pub use lines::{DurableAppend, LineFile, open_lines};
 pub use lock::{FolderLock, lock_folder};
+pub use place::{has_path, path_under};
+pub use resource::read_resource;
 pub use shelf::FolderShelf;
 pub use whole::AtomicFile;

@@ -37,6 +37,27 @@ pub(crate) fn check_plain(told: io::Result<Metadata>) -> Result<(), DeviceFault>
     Ok(())
 }
 
+/// Whether nothing is at a path, by what the system told of it.
+pub(crate) fn is_free(told: io::Result<Metadata>) -> bool
+    ensures { IsTrue result ↔ IsErrAnd told (λ e. error_kind e ≡ ErrorKind.NotFound) }
+{
+    match told {
+        Ok(_) => false,
+        Err(error) => error.kind() == ErrorKind::NotFound,
+    }
+}
+
+/// Whether a folder is at a path, or nothing, by what the system told of it.
+pub(crate) fn is_folder_or_free(told: io::Result<Metadata>) -> bool
+    ensures { IsTrue result ↔ MatchResult told
+        (λ m. IsDir (file_type m)) (λ e. error_kind e ≡ ErrorKind.NotFound) }
+{
+    match told {
+        Ok(found) => found.is_dir(),
+        Err(error) => error.kind() == ErrorKind::NotFound,
+    }
+}
+
 /// Whether a folder is at a path, by what the system told of it.
 pub(crate) fn is_folder(told: io::Result<Metadata>) -> bool
     ensures { IsTrue result ↔ IsOkAnd told (λ m. IsDir (file_type m)) }

@@ -10,8 +10,12 @@ use crate::look::is_folder;
 use std::path::Path;
 use tl_device::DeviceFault;
 
-// Has the name of a folder that was made outlast a crash, where names are to.
-fn name_folder<C: FileCalls>(calls: &mut C, path: &str, are_named: bool) -> Result<(), DeviceFault>
+/// Has the name of a file or folder at this path outlast a crash, where names are to.
+pub(crate) fn name_if<C: FileCalls>(
+    calls: &mut C,
+    path: &str,
+    are_named: bool,
+) -> Result<(), DeviceFault>
     ensures { Does (naming_if are_named path.now) (C.calls calls.old) (C.calls calls.new) result }
 {
     if are_named {
@@ -27,7 +31,7 @@ fn ask_for<C: FileCalls>(calls: &mut C, path: &str, are_named: bool) -> Result<b
 {
     match calls.make_folder(path) {
         Ok(()) => {
-            name_folder(calls, path, are_named)?;
+            name_if(calls, path, are_named)?;
             Ok(true)
         }
         Err(DeviceFault::NotThere) => Ok(false),

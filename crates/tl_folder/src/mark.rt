@@ -2,13 +2,8 @@
 //! one.
 
 ghost use Rattle.std.specs.Prelude.{◌≡◌, ◌≢◌, ◌<◌, ◌^◌, IfNone, IfSome, ℕ};
-ghost use Rattle.tl_folder.specs.FileCalls.{Takes};
 ghost use Rattle.tl_folder.specs.Places.{mark_text};
-ghost use Rattle.tl_folder.specs.Settling.{moving};
 
-use crate::file_calls::FileCalls;
-use crate::look::check_plain;
-use tl_device::DeviceFault;
 use tl_text::parse_size;
 
 /// The most bytes of a mark: more than the longest number and a newline.
@@ -26,20 +21,4 @@ pub(crate) fn parse_mark(bytes: &[u8]) -> Option<u64>
         return None;
     };
     parse_size(number)
-}
-
-/// Writes the bytes of a mark beside its file, and puts them there. `NotPlain`: beside it is something else than a
-/// plain file, as a link, and nothing was written.
-pub(crate) fn put_mark<C: FileCalls>(
-    calls: &mut C,
-    beside: &str,
-    place: &str,
-    bytes: &[u8],
-) -> Result<(), DeviceFault>
-    ensures { Takes (moving beside.now place.now bytes.now)
-        (C.calls calls.old) (C.calls calls.new) result }
-{
-    check_plain(calls.symlink_metadata(beside))?;
-    calls.write(beside, bytes)?;
-    calls.rename(beside, place)
 }

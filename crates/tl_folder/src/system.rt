@@ -8,7 +8,9 @@ use crate::file_calls::FileCalls;
 use crate::folders::folder_of;
 use crate::look::{open_folder, open_plain};
 use std::alloc::{Allocator, Global};
-use std::fs::{File, Files, Metadata, OpenFile, OpenOptions, TryLockError, create_dir, rename};
+use std::fs::{
+    File, Files, Metadata, OpenFile, OpenOptions, TryLockError, create_dir, remove_file, rename,
+};
 use std::io;
 use std::io::Write;
 use tl_device::{Counted, DeviceFault, read_whole};
@@ -67,6 +69,13 @@ impl OpenedFile<File> {
 // Writes a new file, in place of a plain one that may be there.
 fn write_file<H: Files>(files: &H, path: &str, bytes: &[u8]) -> Result<(), DeviceFault> {
     let mut file = File::create(files, path)?;
+    file.write_all(bytes)?;
+    Ok(())
+}
+
+// Writes a file where nothing is, also no link.
+fn write_new_file<H: Files>(files: &H, path: &str, bytes: &[u8]) -> Result<(), DeviceFault> {
+    let mut file = File::create_new(files, path)?;
     file.write_all(bytes)?;
     Ok(())
 }
@@ -134,9 +143,21 @@ impl<H: Files> FileCalls for SystemCalls<H> {
         outcome
     }
 
+    fn write_new(&mut self, path: &str, bytes: &[u8]) -> Result<(), DeviceFault> {
+        let outcome = write_new_file(&self.files, path, bytes);
+        self.log.note(Asked::Write, path, bytes, outcome.is_ok());
+        outcome
+    }
+
     fn sync(&mut self, path: &str) -> Result<(), DeviceFault> {
         let outcome = sync_file(&self.files, path);
         self.log.note(Asked::Sync, path, &[], outcome.is_ok());
+        outcome
+    }
+
+    fn remove(&mut self, path: &str) -> Result<(), DeviceFault> {
+        let outcome = or_fault(remove_file(&self.files, path));
+        self.log.note(Asked::Remove, path, &[], outcome.is_ok());
         outcome
     }
 

@@ -6,9 +6,10 @@ ghost use Rattle.tl_folder.specs.FileCalls.{Takes, done};
 ghost use Rattle.tl_folder.specs.Settling.{lock_path_of, new_path, replacing};
 
 use crate::file_calls::FileCalls;
-use crate::files::sync_parent;
 use crate::lock::LockedFile;
 use crate::look::check_plain;
+use crate::over::put_over;
+use crate::place::beside;
 use crate::record::note_bytes;
 use crate::system::SystemCalls;
 use http_server::Log;
@@ -54,11 +55,7 @@ fn replace_by<C: FileCalls>(
         (C.calls calls.old) (C.calls calls.new) result }
 {
     check_plain(calls.symlink_metadata(path))?;
-    check_plain(calls.symlink_metadata(beside))?;
-    calls.write(beside, bytes)?;
-    calls.sync(beside)?;
-    calls.rename(beside, path)?;
-    sync_parent(calls, path)
+    put_over(calls, beside, path, bytes, true)
 }
 
 impl<'s, H: Files<File = File>> AtomicFile<'s, H> {
@@ -77,7 +74,7 @@ impl<'s, H: Files<File = File>> AtomicFile<'s, H> {
         }) }
     {
         let lock_path = format!(in alloc; "{path}.lock")?;
-        let beside = format!(in alloc; "{path}.new")?;
+        let beside = beside(alloc, path)?;
         let mut how = OpenOptions::new();
         how.append(true).create(true);
         let mut calls = SystemCalls::new(files);

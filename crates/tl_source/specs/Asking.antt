@@ -5,8 +5,8 @@ use Rattle.tl_device.specs.Device.{Passage}
 use Rattle.tl_get.specs.Get.{Gets}
 use Rattle.tl_get.specs.Response.{Outcome}
 use Rattle.tl_tile.specs.declared.resource.Resource.{Resource}
-use Rattle.tl_source.specs.Limits.{most_bytes}
-use Rattle.tl_source.specs.Places.{place_text}
+use Rattle.tl_folder.specs.Limits.{most_bytes}
+use Rattle.tl_folder.specs.Places.{place_of}
 
 -- the text ends with a slash
 abbrev pub EndsWithSlash : Bytes → Type 0
@@ -20,7 +20,7 @@ IsFront prefix front = (prefix ≡ front ++ codes "/") ⊎ (¬ (EndsWithSlash pr
 pub record IsTarget (prefix : Bytes) (resource : Resource) (target : Bytes) : Type 0 where
   pub front : Bytes
   pub cut : IsFront prefix front
-  pub is : target ≡ place_text front resource
+  pub is : target ≡ place_of front resource
 
 -- one request to the host of an address for the target of a resource gave this; i is the reader, o the writer
 pub record Asks (authority prefix : Bytes) (resource : Resource) (i o : Passage) (r : Outcome) : Type 0 where

@@ -1,17 +1,8 @@
 -- Caches of tiles.
-use Rattle.std.specs.Prelude.{ℕ, List, ◌⊎◌}
-use Rattle.sha2.specs.Sha256.{sha256}
+use Rattle.std.specs.Prelude.{◌⊎◌}
 use Rattle.tl_hash.specs.Bytes.{Bytes}
-use Rattle.tl_tile.specs.Verified.{AreVerified}
-use Rattle.tl_tile.specs.declared.resource.Tile.{Tile}
 use Rattle.tl_tile.specs.declared.resource.Resource.{Resource}
 use Rattle.tl_tile.specs.declared.resource.Resource.TheVariants as resource
-
--- tiles that passed all checks against the size and the root of a log
-pub record HavePassed (fetched : List (Tile × Bytes)) : Type 0 where
-  pub size : ℕ
-  pub root : Bytes
-  pub verified : AreVerified sha256 size root fetched
 
 -- what a cache of tiles in front of a source may answer: for a tile what either may, for the rest what the source may
 abbrev pub may_answer_either : (Resource → Bytes → Type 0) → (Resource → Bytes → Type 0) → Resource → Bytes → Type 0

@@ -3,5 +3,3 @@ pub
     mod Asking
 pub
     mod Authorities
-pub
-    mod Besides

@@ -1,6 +1,4 @@
 pub mod Url
-pub mod Limits
-pub mod Places
 pub mod Asking
 pub mod Lacking
 pub mod Caches

@@ -6,7 +6,7 @@ use Rattle.tl_source.specs.declared.any.AnySource.{AnySource}
 use Rattle.tl_source.specs.declared.any.AnySource.TheVariants as source
 use Rattle.tl_source.specs.declared.url.Url.{Url}
 use Rattle.tl_source.specs.Asking.{MayGive}
-use Rattle.tl_source.specs.Limits.{most_bytes}
+use Rattle.tl_folder.specs.Limits.{most_bytes}
 
 -- a folder with this text, or the host of an address
 pub data Origin : Type 0 where

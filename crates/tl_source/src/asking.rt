@@ -3,15 +3,15 @@
 ghost use Rattle.std.specs.Prelude.{◌≢◌, ◌≤◌, length, IfOk, IfErr, Err, Ok};
 ghost use Rattle.tl_device.specs.Device.{passage};
 ghost use Rattle.tl_tile.specs.Path.{IsResource};
-ghost use Rattle.tl_source.specs.Limits.{most_bytes};
+ghost use Rattle.tl_folder.specs.Limits.{most_bytes};
 ghost use Rattle.tl_source.specs.Asking.{Asks};
 
-use crate::limit::most_bytes;
-use crate::place::{front_of, path_under};
+use crate::place::front_of;
 use crate::url::Url;
 use std::alloc::Global;
 use std::io::{Read, Write};
 use tl_device::Counted;
+use tl_folder::{most_bytes, path_under};
 use tl_get::{GetFault, get};
 use tl_tile::Resource;
 

@@ -1,18 +1,14 @@
 //! The resources of a log in a folder.
 
-ghost use Rattle.std.specs.Prelude.{◌≡◌, ◌≤◌, IfOk, length};
-ghost use Rattle.tl_tile.specs.Path.{IsResource};
-ghost use Rattle.tl_source.specs.Limits.{most_bytes};
+ghost use Rattle.std.specs.Prelude.{◌≡◌, ◌≤◌, length};
+ghost use Rattle.tl_folder.specs.Limits.{most_bytes};
 
 use crate::lack::{Lack, LastLack, NamesLack};
-use crate::limit::most_bytes;
-use crate::place::path_under;
 use std::alloc::{Allocator, Global};
-use std::fs::{Files, Metadata, metadata, symlink_metadata};
-use std::io;
+use std::fs::Files;
 use std::marker::Model;
 use tl_client::ResourceSource;
-use tl_device::{DeviceFault, read_plain};
+use tl_folder::read_resource;
 use tl_tile::{Resource, SourceFault};
 
 /// The resources of a log in the plain files under a folder, each at its path (C2SP tlog-tiles). Contracts see the
@@ -57,30 +53,6 @@ impl<'s, H: Files> FolderSource<'s, H> {
             ..FolderSource::new(files, alloc, folder)
         }
     }
-
-    // What is at this path, by the system's word.
-    fn look(&self, path: &str) -> io::Result<Metadata> {
-        if self.follows_links {
-            metadata(self.files, path)
-        } else {
-            symlink_metadata(self.files, path)
-        }
-    }
-
-    // The bytes of the plain file of a resource. All else isn't opened: that of a FIFO waits for a writer, and a device
-    // may have no end.
-    fn bytes_of<A: Allocator>(
-        &self,
-        alloc: A,
-        resource: &Resource,
-    ) -> Result<Vec<u8, A>, DeviceFault>
-        requires { IsResource resource.now }
-        ensures { IfOk result (λ bytes. length bytes.items ≤ most_bytes resource.now) }
-    {
-        let path = path_under(self.alloc, self.folder, resource)?;
-        let (path, most) = (path.as_str(), most_bytes(resource));
-        read_plain(alloc, self.files, path, self.look(path), most)
-    }
 }
 
 impl<H: Files> NamesLack for FolderSource<'_, H> {
@@ -97,6 +69,14 @@ impl<H: Files> ResourceSource for FolderSource<'_, H> {
     /// The bytes of the resource's file. `Unavailable` where there is none, where it is no plain file, where it has
     /// more bytes than `most_bytes`, and where it can't be read.
     fn get<A: Allocator>(&self, alloc: A, resource: &Resource) -> Result<Vec<u8, A>, SourceFault> {
-        self.last.note(resource, self.bytes_of(alloc, resource))
+        let outcome = read_resource(
+            alloc,
+            self.alloc,
+            self.files,
+            self.folder,
+            resource,
+            self.follows_links,
+        );
+        self.last.note(resource, outcome)
     }
 }

@@ -1,5 +1,5 @@
 //! Where the resources of a log come from: a folder, a host that answers over HTTP, and either of them behind a folder
-//! that keeps the tiles that passed all checks.
+//! that keeps the tiles that passed all checks (`TileCache` of `tl_folder`).
 //!
 //! ```
 //! let url = Url::parse("http://log.example/2026/").unwrap();
@@ -14,23 +14,19 @@
 
 mod any;
 mod asking;
-mod cache;
 mod cached;
 mod folder;
 mod full;
 mod http;
 mod lack;
-mod limit;
 mod place;
 mod url;
 
 pub use any::AnySource;
-pub use cache::TileCache;
 pub use cached::CachedSource;
 pub use folder::FolderSource;
 pub use full::FullSource;
 pub use http::HttpSource;
 pub use lack::{Lack, NamesLack};
-pub use limit::most_bytes;
 pub use place::place_of;
 pub use url::Url;

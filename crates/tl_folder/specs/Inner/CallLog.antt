@@ -14,6 +14,7 @@ step_of asked.Create path more = step.Create path
 step_of asked.Append path more = step.Append path more
 step_of (asked.Cut count) path more = step.Cut path count
 step_of asked.Sync path more = step.Sync path
+step_of asked.Remove path more = step.Remove path
 step_of asked.Rename path more = step.Rename path more
 step_of asked.SyncFolder path more = step.SyncFolder path
 step_of asked.MakeFolder path more = step.MakeFolder path

@@ -1,15 +1,16 @@
 //! Tiles of a log that passed all checks, kept in a folder.
 
-ghost use Rattle.std.specs.Prelude.{◌≡◌, OnOk};
-ghost use Rattle.std.specs.Io.KnownBytes.{Appends};
+ghost use Rattle.std.specs.Prelude.{◌≡◌};
 ghost use Rattle.tl_tile.specs.Path.{IsTile};
-ghost use Rattle.tl_source.specs.Caches.{HavePassed};
+ghost use Rattle.tl_folder.specs.Caches.{HavePassed};
 
+use crate::adding::add_file;
+use crate::file_calls::FileCalls;
+use crate::look::{is_folder_or_free, is_free};
 use crate::place::{beside, has_path, path_under};
+use crate::system::SystemCalls;
 use std::alloc::{AllocError, Allocator};
-use std::fs::{File, Files, OpenFile, create_dir_all, remove_file, rename, symlink_metadata};
-use std::io;
-use std::io::{ErrorKind, Write};
+use std::fs::Files;
 use std::marker::Model;
 use std::path::Path;
 use tl_tile::{FetchedTiles, Resource, Tile};
@@ -30,24 +31,8 @@ impl<'s, H: Files> Model for TileCache<'s, H> {
     ghost view = { λ c. c.folder.now };
 }
 
-// Whether nothing is at this path, also no link to nowhere.
-fn is_free<H: Files>(files: &H, path: &str) -> bool {
-    match symlink_metadata(files, path) {
-        Ok(_) => false,
-        Err(error) => error.kind() == ErrorKind::NotFound,
-    }
-}
-
-// Whether a folder is at this path, and no link to one, or nothing.
-fn is_folder_or_free<H: Files>(files: &H, path: Path<'_>) -> bool {
-    match symlink_metadata(files, path) {
-        Ok(found) => found.is_dir(),
-        Err(error) => error.kind() == ErrorKind::NotFound,
-    }
-}
-
 // Whether no link leads out of the cache's folder on the way to a place under it. (The folder itself may be a link.)
-fn stays_under<H: Files>(files: &H, folder: &str, place: &str) -> bool {
+fn stays_under<C: FileCalls>(calls: &C, folder: &str, place: &str) -> bool {
     let Some(first) = Path::new(place).parent() else {
         return true;
     };
@@ -55,39 +40,17 @@ fn stays_under<H: Files>(files: &H, folder: &str, place: &str) -> bool {
         if above.as_str().len() <= folder.len() {
             return true;
         }
-        if !is_folder_or_free(files, above) {
+        if !is_folder_or_free(calls.symlink_metadata(above.as_str())) {
             return false;
         }
     }
     true
 }
 
-// Writes all the bytes, and has them outlast a crash.
-fn fill<F: OpenFile + Write>(file: &mut F, bytes: &[u8]) -> io::Result<()>
-    ensures { OnOk result (Appends (F.contents file.old) (F.contents file.new) bytes.now) }
-{
-    file.write_all(bytes)?;
-    file.sync_all()
-}
-
-// Writes a new file, and takes it away again where that fails. A name that is taken, by a link too, is refused.
-fn write_new<H: Files>(files: &H, path: &str, bytes: &[u8]) -> io::Result<()> {
-    let mut file = File::create_new(files, path)?;
-    let written = fill(&mut file, bytes);
-    if written.is_err() {
-        let _ = remove_file(files, path);
-    }
-    written
-}
-
-// Puts a file in its place, once all of it was written beside that. (Even where a link came there after the look: it is
-// replaced by what is renamed, and not followed.)
-fn put_file<H: Files>(files: &H, place: &str, beside: &str, bytes: &[u8]) -> io::Result<()> {
-    if let Some(folder) = Path::new(place).parent() {
-        create_dir_all(files, folder)?;
-    }
-    write_new(files, beside, bytes)?;
-    rename(files, beside, place)
+// Whether a file can be put at this place: nothing is there, also no link to nowhere, and no link is on the way. The
+// look and the writing are two calls: who may write into the folder can come between them.
+fn has_room<C: FileCalls>(calls: &C, folder: &str, place: &str) -> bool {
+    is_free(calls.symlink_metadata(place)) && stays_under(calls, folder, place)
 }
 
 impl<'s, H: Files> TileCache<'s, H> {
@@ -96,12 +59,6 @@ impl<'s, H: Files> TileCache<'s, H> {
         ensures { result ≡ folder.now }
     {
         TileCache { files, folder }
-    }
-
-    // Whether a file can be put at this place: nothing is there, and no link is on the way. The look and the writing
-    // are two calls: who may write into the folder can come between them.
-    fn has_room(&self, place: &str) -> bool {
-        is_free(self.files, place) && stays_under(self.files, self.folder, place)
     }
 
     // Writes the file of a tile where there is room for it.
@@ -114,11 +71,12 @@ impl<'s, H: Files> TileCache<'s, H> {
         requires { IsTile tile }
     {
         let place = path_under(alloc, self.folder, &Resource::Tile(tile))?;
-        if !self.has_room(place.as_str()) {
+        let mut calls = SystemCalls::new(self.files);
+        if !has_room(&calls, self.folder, place.as_str()) {
             return Ok(());
         }
-        let beside = beside(alloc, place.as_str())?;
-        let _ = put_file(self.files, place.as_str(), beside.as_str(), bytes);
+        let aside = beside(alloc, place.as_str())?;
+        let _ = add_file(&mut calls, aside.as_str(), place.as_str(), bytes);
         Ok(())
     }
 

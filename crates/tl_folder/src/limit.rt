@@ -1,7 +1,7 @@
 //! How long a resource may be.
 
 ghost use Rattle.std.specs.Prelude.{◌≡◌};
-ghost use Rattle.tl_source.specs.Limits.{most_bytes};
+ghost use Rattle.tl_folder.specs.Limits.{most_bytes};
 
 use tl_tile::Resource;
 

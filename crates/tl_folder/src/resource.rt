@@ -1,0 +1,57 @@
+//! The resources of a log in the files under a folder.
+
+ghost use Rattle.std.specs.Prelude.{◌≤◌, IfOk, IfSome, length};
+ghost use Rattle.tl_tile.specs.Path.{IsResource};
+ghost use Rattle.tl_folder.specs.Limits.{most_bytes};
+
+use crate::file_calls::FileCalls;
+use crate::limit::most_bytes;
+use crate::place::path_under;
+use crate::system::SystemCalls;
+use std::alloc::{Allocator, Global};
+use std::fs::Files;
+use tl_device::DeviceFault;
+use tl_tile::Resource;
+
+/// The bytes of the plain file of a resource at this place, at most `most_bytes`; `None` where nothing is there. A link
+/// is followed, or it counts as no plain file.
+pub(crate) fn read_at<C: FileCalls, A: Allocator>(
+    calls: &C,
+    alloc: A,
+    place: &str,
+    resource: &Resource,
+    follows_links: bool,
+) -> Result<Option<Vec<u8, A>>, DeviceFault>
+    ensures { IfOk result (λ found. IfSome found
+        (λ bytes. length bytes.items ≤ most_bytes resource.now)) }
+{
+    let told = if follows_links {
+        calls.metadata(place)
+    } else {
+        calls.symlink_metadata(place)
+    };
+    calls.read(alloc, place, told, most_bytes(resource))
+}
+
+/// The bytes of a resource's file under a folder, at most `most_bytes`; a link is followed, or it counts as no plain
+/// file. `NotThere`: nothing is there. `NotPlain`: something else than a plain file is there, and isn't opened: that of
+/// a FIFO waits for a writer, and a device may have no end. `TooLarge`: it has more bytes. The path is made in `own`.
+pub fn read_resource<A: Allocator, H: Files>(
+    alloc: A,
+    own: Global,
+    files: &H,
+    root: &str,
+    resource: &Resource,
+    follows_links: bool,
+) -> Result<Vec<u8, A>, DeviceFault>
+    requires { IsResource resource.now }
+    ensures { IfOk result (λ bytes. length bytes.items ≤ most_bytes resource.now) }
+{
+    let place = path_under(own, root, resource)?;
+    let calls = SystemCalls::new(files);
+    match read_at(&calls, alloc, place.as_str(), resource, follows_links) {
+        Ok(Some(bytes)) => Ok(bytes),
+        Ok(None) => Err(DeviceFault::NotThere),
+        Err(fault) => Err(fault),
+    }
+}
