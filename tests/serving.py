@@ -49,6 +49,11 @@ def unlimited():
     only(resource.RLIM_INFINITY)
 
 
+def entries(size, start=0):
+    """The entries of a log from one index up to another, each another text."""
+    return [b'entry %d' % number for number in range(start, size)]
+
+
 def files(folder):
     """What is in a folder: the bytes of each file, where a link points to, and `None` of what is neither."""
     found = {}
