@@ -24,14 +24,9 @@ scaled_square t d =
     let same : t * 2 * d * t ≡ t * t * (2 * d) = omega arith in
     ap (λ n. n * t % prime) (mod_first prime (t * 2) d) ∙ mod_first prime (t * 2 * d) t ∙ ap (λ n. n % prime) same ∙ mul-mod (t * t) (2 * d) prime
 
-pub twice : (z : ℕ) → mul z 2 ≡ add z z
+-- twice a product, as a sum
+pub twice_product : (z w : ℕ) → mul (mul z 2) w ≡ add (mul z w) (mul z w)
 unfolding mul add
-twice z =
-    let same : z * 2 ≡ z + z = omega arith in
-    ap (λ n. n % prime) same
-
-pub twice_square : (z : ℕ) → mul (mul z 2) z ≡ add (mul z z) (mul z z)
-unfolding mul add
-twice_square z =
-    let same : z * 2 * z ≡ z * z + z * z = omega arith in
-    mod_first prime (z * 2) z ∙ ap (λ n. n % prime) same ∙ sums prime (z * z) (z * z) (z * z % prime) (z * z % prime) refl refl
+twice_product z w =
+    let same : z * 2 * w ≡ z * w + z * w = omega arith in
+    mod_first prime (z * 2) w ∙ ap (λ n. n % prime) same ∙ sums prime (z * w) (z * w) (z * w % prime) (z * w % prime) refl refl
