@@ -4,7 +4,7 @@ use Rattle.std.proofs.lemmas.Nat.{mul-mod, mul-mod_second}
 use Rattle.tl_ed25519.specs.Field.{prime, add, mul}
 use Rattle.tl_ed25519.proofs.Limbs.{sums}
 
-mod_first : (m a b : ℕ) → a % m * b % m ≡ a * b % m
+pub mod_first : (m a b : ℕ) → a % m * b % m ≡ a * b % m
 mod_first m a b =
     let turned : a % m * b ≡ b * (a % m) = omega arith in
     let back : b * a ≡ a * b = omega arith in
