@@ -17,6 +17,14 @@ scaled t d q =
     let same : t * 2 * d ≡ t * (2 * d) = omega arith in
     ap (λ n. n * q % prime) (mod_first prime (t * 2) d ∙ ap (λ n. n % prime) same ∙ sym (mul-mod_second t (2 * d) prime))
 
+-- the same where the last factor is
+pub scaled_last : (t d q : ℕ) → mul (mul (mul t 2) d) q ≡ mul t (mul q (mul 2 d))
+unfolding mul
+scaled_last t d q =
+    let left : t * 2 * d * q ≡ t * (q * (2 * d)) = omega arith in
+    ap (λ n. n * q % prime) (mod_first prime (t * 2) d) ∙ mod_first prime (t * 2 * d) q ∙ ap (λ n. n % prime) left
+    ∙ sym (ap (λ n. t * n % prime) (mul-mod_second q (2 * d) prime) ∙ mul-mod_second t (q * (2 * d)) prime)
+
 -- the same of a square
 pub scaled_square : (t d : ℕ) → mul (mul (mul t 2) d) t ≡ mul (mul t t) (mul 2 d)
 unfolding mul
