@@ -3,6 +3,7 @@ pub mod BundleLemmas
 pub mod NeededLemmas
 pub mod OnePath
 pub mod PathLemmas
+pub mod TileLeaves
 pub mod TileTexts
 pub mod Runs
 pub mod Levels
