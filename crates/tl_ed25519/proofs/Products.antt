@@ -4,7 +4,7 @@ use Rattle.std.proofs.lemmas.Nat.{mul-mod, mul-mod_second}
 use Rattle.tl_ed25519.specs.Field.{prime, add, mul}
 use Rattle.tl_ed25519.proofs.Limbs.{sums}
 
-mod_first : (m a b : ℕ) → a % m * b % m ≡ a * b % m
+pub mod_first : (m a b : ℕ) → a % m * b % m ≡ a * b % m
 mod_first m a b =
     let turned : a % m * b ≡ b * (a % m) = omega arith in
     let back : b * a ≡ a * b = omega arith in
@@ -17,6 +17,14 @@ scaled t d q =
     let same : t * 2 * d ≡ t * (2 * d) = omega arith in
     ap (λ n. n * q % prime) (mod_first prime (t * 2) d ∙ ap (λ n. n % prime) same ∙ sym (mul-mod_second t (2 * d) prime))
 
+-- the same where the last factor is
+pub scaled_last : (t d q : ℕ) → mul (mul (mul t 2) d) q ≡ mul t (mul q (mul 2 d))
+unfolding mul
+scaled_last t d q =
+    let left : t * 2 * d * q ≡ t * (q * (2 * d)) = omega arith in
+    ap (λ n. n * q % prime) (mod_first prime (t * 2) d) ∙ mod_first prime (t * 2 * d) q ∙ ap (λ n. n % prime) left
+    ∙ sym (ap (λ n. t * n % prime) (mul-mod_second q (2 * d) prime) ∙ mul-mod_second t (q * (2 * d)) prime)
+
 -- the same of a square
 pub scaled_square : (t d : ℕ) → mul (mul (mul t 2) d) t ≡ mul (mul t t) (mul 2 d)
 unfolding mul
@@ -24,14 +32,9 @@ scaled_square t d =
     let same : t * 2 * d * t ≡ t * t * (2 * d) = omega arith in
     ap (λ n. n * t % prime) (mod_first prime (t * 2) d) ∙ mod_first prime (t * 2 * d) t ∙ ap (λ n. n % prime) same ∙ mul-mod (t * t) (2 * d) prime
 
-pub twice : (z : ℕ) → mul z 2 ≡ add z z
+-- twice a product, as a sum
+pub twice_product : (z w : ℕ) → mul (mul z 2) w ≡ add (mul z w) (mul z w)
 unfolding mul add
-twice z =
-    let same : z * 2 ≡ z + z = omega arith in
-    ap (λ n. n % prime) same
-
-pub twice_square : (z : ℕ) → mul (mul z 2) z ≡ add (mul z z) (mul z z)
-unfolding mul add
-twice_square z =
-    let same : z * 2 * z ≡ z * z + z * z = omega arith in
-    mod_first prime (z * 2) z ∙ ap (λ n. n % prime) same ∙ sums prime (z * z) (z * z) (z * z % prime) (z * z % prime) refl refl
+twice_product z w =
+    let same : z * 2 * w ≡ z * w + z * w = omega arith in
+    mod_first prime (z * 2) w ∙ ap (λ n. n % prime) same ∙ sums prime (z * w) (z * w) (z * w % prime) (z * w % prime) refl refl

@@ -50,8 +50,7 @@ fn secret_of(digest: &[u8; 64]) -> Words
 fn multiple_of_base(scalar: Words) -> [u8; 32]
     ensures { result ≡ curve.encode (curve.multiply scalar curve.base_point) }
 {
-    let base = Point::base();
-    let multiple = base.multiply(scalar);
+    let multiple = Point::multiply_base(scalar);
     multiple.encode()
 }
 

@@ -17,8 +17,7 @@ fn expected_point(key: &[u8; 32], s: Words, k: Words) -> Option<[u8; 32]>
     let Some(point) = Point::decode(key) else {
         return None;
     };
-    let base = Point::base();
-    let first = base.multiply_public(s);
+    let first = Point::multiply_base_public(s);
     let negated = point.negate();
     let second = negated.multiply_public(k);
     let sum = first.add(&second);

@@ -1,5 +1,6 @@
-use Rattle.tl_ed25519.proofs.Points.{multiply_begun, multiply_step, multiply_done}
-use Rattle.std.proofs.Common.{refl}
+use Rattle.tl_ed25519.proofs.Points.{multiply_begun, multiply_step, multiply_done, ended}
+use Rattle.std.proofs.Common.{refl, sym, ◌∙◌}
+use Rattle.std.proofs.lemmas.Bool.{eqb-true}
 use Rattle.tl_ed25519.specs.Curve.{multiply, point_add}
 use Rattle.tl_ed25519.proofs.point.Point.multiply_public.Goals as goal
 
@@ -14,3 +15,8 @@ places-preserved c =
 
 pub returns : goal.returns
 returns c = multiply_done c.places.i c.places.rest c.places.sum c.places.power (multiply c.args.scalar c.args.self) c.places-test.false c.places.invariant
+
+pub returns-then-is_zero : goal.returns-then-is_zero
+returns-then-is_zero c =
+    ended c.places.i c.places.rest c.places.sum c.places.power (multiply c.args.scalar c.args.self)
+    (eqb-true c.places.rest 0 (sym c.is_zero.ensures ∙ c.if-is_zero.true)) c.places.invariant
