@@ -24,6 +24,7 @@ pub mod Parts
 pub mod EdgeFolds
 pub mod Push
 pub mod Orders
+pub mod Paths
 pub mod EdgeFetch
 pub mod Reading
 pub mod HonestSource
