@@ -80,7 +80,8 @@ fn key<H: RandomSource, W: Write, E: Write>(
 }
 
 // Builds a mirror that is signed by the demonstration key of a secret.
-fn build<R: Read, W: Write>(
+fn build<H: Threads + Sync, R: Read, W: Write>(
+    rt: &H,
     alloc: Global,
     options: &BuildOptions,
     reader: &mut Counted<R>,
@@ -91,12 +92,12 @@ fn build<R: Read, W: Write>(
         (passage W.contents writer.old writer.new) result }
 {
     let key = HmacLogSigner::new(options.origin.as_str(), options.secret.as_bytes());
-    let get = options.get.as_deref();
-    run_build(alloc, alloc, &key, get, reader, writer)
+    let (threads, get) = (threads_of(rt, options.threads), options.get.as_deref());
+    run_build(rt, alloc, alloc, threads, alloc, &key, get, reader, writer)
 }
 
 // Builds a mirror that is signed by the key in a file.
-fn build_signed<H: Files, R: Read, W: Write>(
+fn build_signed<H: Files + Threads + Sync, R: Read, W: Write>(
     rt: &H,
     alloc: Global,
     options: &SignedOptions,
@@ -112,7 +113,10 @@ fn build_signed<H: Files, R: Read, W: Write>(
         Err(fault) => return Err(fault),
     };
     let (origin, get) = (options.origin.as_str(), options.get.as_deref());
-    run_build_signed(alloc, alloc, origin, bytes.as_slice(), get, reader, writer)
+    let (bytes, threads) = (bytes.as_slice(), threads_of(rt, options.threads));
+    run_build_signed(
+        rt, alloc, alloc, threads, alloc, origin, bytes, get, reader, writer,
+    )
 }
 
 // Checks the proof of the input against the checkpoint in a file.
@@ -173,7 +177,7 @@ pub fn run_job<
     let Streams { is_terminal, input } = streams;
     match job {
         Job::Head(options) => after_run(head(rt, alloc, options, reader, writer)),
-        Job::Build(options) => after_run(build(alloc, options, reader, writer)),
+        Job::Build(options) => after_run(build(rt, alloc, options, reader, writer)),
         Job::BuildSigned(options) => after_run(build_signed(rt, alloc, options, reader, writer)),
         Job::Append(options) => after_run(append(disk, rt, alloc, options, folder, reader, writer)),
         Job::Inclusion { index } => after_run(run_inclusion(alloc, *index, reader, writer)),

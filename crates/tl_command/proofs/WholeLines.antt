@@ -87,11 +87,11 @@ no_place None none = refl
 no_place (Some i) none = absurd cc
 
 -- whole lines more, where no line is begun and none was too long
-pub grown_four : {A : Type 0} (old new : Growing A) (input piece : List ℕ) (four : List (List ℕ)) (rest : List ℕ) → IsGrowing old input → BeginsWith piece four rest
+pub grown_lines : {A : Type 0} (old new : Growing A) (input piece : List ℕ) (four : List (List ℕ)) (rest : List ℕ) → IsGrowing old input → BeginsWith piece four rest
     → old.too_long ≡ None → vec_items old.line ≡ [] → new.too_long ≡ None → vec_items new.line ≡ []
     → ((lines : List (List ℕ)) → IsEdgeOf old.edge sha256 lines → IsEdgeOf new.edge sha256 (lines ++ four))
     → IsGrowing new (input ++ take (length piece - length rest) piece)
-grown_four old new input piece four rest was begins none_was none_kept none_now kept_now pushed =
+grown_lines old new input piece four rest was begins none_was none_kept none_now kept_now pushed =
     let last : was.last ≡ [] = nothing_kept was.last (sym was.kept ∙ none_kept) in
     let told = told_was old was.lines none_was was.told in
     record {

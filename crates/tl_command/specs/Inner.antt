@@ -13,3 +13,5 @@ pub
     mod Notes
 pub
     mod Steps
+pub
+    mod Logs

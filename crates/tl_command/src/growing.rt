@@ -6,7 +6,7 @@ ghost use Rattle.tl_command.specs.Inner.Growing.{FillsTiles, IsGrowing, IsOutcom
 ghost use Rattle.tl_command.specs.Lines.{entries_of, HasNoNewline};
 
 use crate::fault::RunFault;
-use crate::whole_lines::cut_four;
+use crate::whole_lines::{cut_four, cut_tile};
 use memchr::memchr;
 use std::alloc::{AllocError, Allocator};
 use tl_hash::Sha256Tree;
@@ -107,8 +107,43 @@ impl<A: Allocator + Copy> Growing<A> {
         Ok(piece.len() - four.rest.len())
     }
 
-    // The beginning of a piece: four lines of it, or else one, or all of it where it has no newline. Gives the number
-    // of bytes taken.
+    // The first 256 lines of a piece, where they are a tile, hashed side by side. Gives the number of bytes taken: none
+    // where the lines before aren't whole tiles, or no 256 whole lines stand there that an entry can have.
+    fn take_tile(&mut self, piece: &[u8]) -> Result<usize, AllocError>
+        requires { self.old.edge.size + length piece.now < 2 ^ 32 }
+        ensures within { IfOk result (λ taken. taken ≤ length piece.now) }
+        ensures size { IfOk result (λ taken. self.new.edge.size ≤ self.old.edge.size + taken) }
+        ensures grows { (input : Bytes) → IsGrowing self.old input
+            → IfOk result (λ taken. IsGrowing self.new (input ++ take taken piece.now)) }
+    {
+        if !self.fills_tiles() {
+            return Ok(0);
+        }
+        let Some(tile) = cut_tile(piece) else {
+            return Ok(0);
+        };
+        self.edge.push_tile(&tile.lines)?;
+        Ok(piece.len() - tile.rest.len())
+    }
+
+    // The first whole lines of a piece that are hashed side by side: a tile of them, or else four. Gives the number of
+    // bytes taken, none where neither stands there.
+    fn take_whole(&mut self, piece: &[u8]) -> Result<usize, AllocError>
+        requires { self.old.edge.size + length piece.now < 2 ^ 32 }
+        ensures within { IfOk result (λ taken. taken ≤ length piece.now) }
+        ensures size { IfOk result (λ taken. self.new.edge.size ≤ self.old.edge.size + taken) }
+        ensures grows { (input : Bytes) → IsGrowing self.old input
+            → IfOk result (λ taken. IsGrowing self.new (input ++ take taken piece.now)) }
+    {
+        let taken = self.take_tile(piece)?;
+        if taken > 0 {
+            return Ok(taken);
+        }
+        self.take_four(piece)
+    }
+
+    // The beginning of a piece: whole lines of it that are hashed side by side, or else one, or all of it where it has no
+    // newline. Gives the number of bytes taken.
     fn take_some(&mut self, piece: &[u8]) -> Result<usize, AllocError>
         requires { self.old.edge.size + length piece.now < 2 ^ 32 }
         ensures some { 0 < length piece.now → IfOk result (λ taken. 0 < taken) }
@@ -117,7 +152,7 @@ impl<A: Allocator + Copy> Growing<A> {
         ensures grows { (input : Bytes) → IsGrowing self.old input
             → IfOk result (λ taken. IsGrowing self.new (input ++ take taken piece.now)) }
     {
-        let taken = self.take_four(piece)?;
+        let taken = self.take_whole(piece)?;
         if taken > 0 {
             return Ok(taken);
         }

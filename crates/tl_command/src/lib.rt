@@ -7,7 +7,7 @@
 //! assert!(writer.into_inner().starts_with(b"example.com/log\n2\n"));
 //!
 //! let key = HmacLogSigner::new("example.com/log", b"a secret");
-//! run_build(alloc, alloc, &key, Some("tile/entries/000.p/2"), &mut reader, &mut writer)?;
+//! run_build(&rt, alloc, alloc, 4, alloc, &key, Some("tile/entries/000.p/2"), &mut reader, &mut writer)?;
 //! assert_eq!(writer.into_inner().as_slice(), b"\0\x05a cat\0\x05a dog");
 //!
 //! let mut reader = Counted::new(note.as_bytes());

@@ -1,6 +1,6 @@
 //! The whole lines at the beginning of a piece of input.
 
-ghost use Rattle.std.specs.Prelude.{[], ◌∷◌, IfSome};
+ghost use Rattle.std.specs.Prelude.{[], ◌∷◌, map, IfSome};
 ghost use Rattle.tl_command.specs.Inner.Growing.{BeginsWith};
 
 use memchr::memchr;
@@ -43,4 +43,26 @@ pub(crate) fn cut_four(piece: &[u8]) -> Option<FourLines<'_>>
         fourth,
         rest,
     })
+}
+
+/// The first 256 whole lines of a piece of input, without their newlines, and what follows them.
+#[derive(Drop)]
+pub(crate) struct TileLines<'a> {
+    pub(crate) lines: [&'a [u8]; 256],
+    pub(crate) rest: &'a [u8],
+}
+
+/// The first 256 lines of a piece, where as many whole lines stand there and none of them is too long.
+pub(crate) fn cut_tile(piece: &[u8]) -> Option<TileLines<'_>>
+    ensures { IfSome result (λ tile. BeginsWith piece.entry.now
+        (map (λ line. line.now) tile.lines) tile.rest.now) }
+{
+    let mut lines = [&piece[..0]; 256];
+    let mut rest = piece;
+    for place in 0..256 {
+        let (line, others) = cut_line(rest)?;
+        lines[place] = line;
+        rest = others;
+    }
+    Some(TileLines { lines, rest })
 }

@@ -94,7 +94,7 @@ fn lost_of<
     let Ok(input) = lines(alloc, 0, size) else {
         return None;
     };
-    let Ok(listing) = listing(alloc, input.as_slice()) else {
+    let Ok(listing) = listing(rt, alloc, input.as_slice()) else {
         return None;
     };
     let Some(dir) = room(rt, alloc) else {

@@ -170,7 +170,9 @@ fn needs_no_memory<H: Threads + Sync>(rt: &H, alloc: Global) -> bool {
         (ORIGIN, "tile/0/67", RunFault::BadPath),
     ] {
         let key = HmacLogSigner::new(origin, b"s");
-        if run_build(&heap, alloc, &key, Some(get), &mut reader, &mut writer) != Err(want) {
+        let (input, out) = (&mut reader, &mut writer);
+        let ended = run_build(rt, &heap, alloc, 2, alloc, &key, Some(get), input, out);
+        if ended != Err(want) {
             return false;
         }
     }

@@ -8,6 +8,7 @@ use std::fs::{File, Files, create_dir};
 use std::io::Read;
 use std::net::{Net, TcpListener, TcpStream};
 use std::str;
+use std::thread::Threads;
 use tl_append::{AppendOptions, run_append};
 use tl_command::{HmacLogSigner, LogKey, RunFault, run_build};
 use tl_device::Counted;
@@ -123,11 +124,16 @@ fn file<H: Files>(rt: &H, alloc: Global, dir: &str, path: &str) -> Option<Vec<u8
 }
 
 /// What a log of these lines is listed with: a path and a length a line.
-pub fn listing(alloc: Global, input: &[u8]) -> Result<Vec<u8>, RunFault> {
+pub fn listing<H: Threads + Sync>(
+    rt: &H,
+    alloc: Global,
+    input: &[u8],
+) -> Result<Vec<u8>, RunFault> {
     let key = HmacLogSigner::new(ORIGIN, b"s");
     let mut reader = Counted::new(input);
     let mut writer = Counted::new(Vec::new(alloc));
-    run_build(alloc, alloc, &key, None, &mut reader, &mut writer)?;
+    let (input, out) = (&mut reader, &mut writer);
+    run_build(rt, alloc, alloc, 2, alloc, &key, None, input, out)?;
     Ok(writer.into_inner())
 }
 

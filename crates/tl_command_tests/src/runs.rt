@@ -128,7 +128,7 @@ fn outcome_of<H: Threads + Sync, A: Allocator + Copy, R: Read, W: Write>(
         Asked::Head => run_head(rt, heap, alloc, 2, ORIGIN, reader, writer),
         Asked::Build(get) => {
             let key = HmacLogSigner::new(ORIGIN, b"s");
-            run_build(heap, alloc, &key, get, reader, writer)
+            run_build(rt, heap, alloc, 2, alloc, &key, get, reader, writer)
         }
         Asked::Inclusion(index) => run_inclusion(heap, index, reader, writer),
         Asked::Consistency(old) => run_consistency(heap, old, reader, writer),

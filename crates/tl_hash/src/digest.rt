@@ -57,7 +57,7 @@ pub trait TreeHash: Copy {
 pub struct Sha256Tree;
 
 // How many blocks SHA-256 pads a message to: a byte, and then `rest`.
-fn block_count(rest: &[u8]) -> usize
+pub(crate) fn block_count(rest: &[u8]) -> usize
     ensures { result ≡ (length rest.now + 9) / 64 + 1 }
 {
     (rest.len() + 9) / 64 + 1

@@ -11,6 +11,7 @@
 mod digest;
 mod hash;
 mod head;
+mod leaves;
 mod nodes;
 mod quarters;
 mod split;
@@ -19,6 +20,7 @@ mod tree;
 pub use digest::{Sha256Tree, TreeHash};
 pub use hash::Hash;
 pub use head::Head;
+pub use leaves::leaf_hashes;
 pub use nodes::{hash_four_nodes, hash_level};
 pub use split::split_point;
 pub use tree::{empty_hash, entry_root, leaf_hash, node_hash};

@@ -76,11 +76,12 @@ edge-new size level xs tile is before =
     ]
 
 -- those fetched are the first of the partial tiles, also after a fault
-pub edge-first : (size level : ℕ) (xs ys : List (Tile × List ℕ)) (tile : Tile) → level ≤ 7 → tile ≡ partial_tile size level → 0 < tile.width → AreEdgeFrom size (level + 1) xs → AddsOnly tile xs ys
+pub edge-first : (may_answer : Tile → List ℕ → Type 0) (H : Digest) (root : List ℕ) (size level : ℕ) (xs ys : List (Tile × List ℕ)) (tile : Tile) → level ≤ 7 → tile ≡ partial_tile size level → 0 < tile.width
+    → AreEdgeFrom size (level + 1) xs → AddsOnly may_answer H size root tile xs ys
     → (rest : List Tile) × (edge_tiles size ≡ tiles_in ys ++ rest)
-edge-first size level xs ys tile low is some before (inl same) =
+edge-first may_answer H root size level xs ys tile low is some before (inl same) =
     edge-prefix size (level + 1) ys (omega (arith, low)) (ap tiles_in same ∙ before.tiles)
-edge-first size level xs ys tile low is some before (inr (text, pushed)) =
+edge-first may_answer H root size level xs ys tile low is some before (inr (text, pushed, answer, next)) =
     let view : Tile × List ℕ → Tile = λ x. x.0 in
     let width : 0 < level_count size level % 256 = omega (arith, some, ap (λ (t : Tile). t.width) is) in
     edge-prefix size level ys (omega (arith, low))
@@ -99,14 +100,6 @@ edge-all H size root folded xs edge (strings, fold) same = record {
     full = λ l i text less found. absurd (omega (arith, (edge.partial (full_tile l i) text found).0));
   };
 }
-
--- and no full tile
-pub edge-no_full : (size level : ℕ) (xs : List (Tile × List ℕ)) → AreEdgeFrom size level xs → (l index : ℕ) → tiles_of xs (full_tile l index) ≡ None
-edge-no_full size level xs edge l index =
-    elim (cases_option (tiles_of xs (full_tile l index))) as (λ _. tiles_of xs (full_tile l index) ≡ None) [
-      | inl none ↦ none
-      | inr (text, found) ↦ absurd (omega (arith, (edge.partial (full_tile l index) text found).0))
-    ]
 
 -- no level above the highest partial tile has a hash
 pub none_above : (size j level : ℕ) → size < 2 * 2 ^ j → j / 8 < level → level_count size level % 256 ≡ 0

@@ -3,6 +3,7 @@ pub mod BundleLemmas
 pub mod NeededLemmas
 pub mod OnePath
 pub mod PathLemmas
+pub mod TileLeaves
 pub mod TileTexts
 pub mod Runs
 pub mod Levels
@@ -23,6 +24,7 @@ pub mod Parts
 pub mod EdgeFolds
 pub mod Push
 pub mod Orders
+pub mod Paths
 pub mod EdgeFetch
 pub mod Reading
 pub mod HonestSource

@@ -13,12 +13,12 @@ use Rattle.tl_tile.specs.declared.resource.Tile.{Tile}
 use Rattle.tl_tile.specs.declared.tile_reader.subtree.Subtree.{Subtree}
 use Rattle.tl_tile.specs.TileText.{level_count, full_tile, partial_tile}
 use Rattle.tl_tile.specs.Fetched.{same_tile, tiles_of, tiles_in}
-use Rattle.tl_tile.specs.Source.{IsTileOf, Answers}
+use Rattle.tl_tile.specs.Source.{IsTileOf, Answers, AreAnswers}
 use Rattle.tl_store.specs.declared.reader.ReadFault.{ReadFault}
 use Rattle.tl_store.specs.declared.reader.ReadFault.TheVariants.{OutOfRange, Source, OutOfMemory, BadTile}
 use Rattle.tl_tile.specs.Fetching.{IsOver, IsPartialOf, IsNeededFor, edge_from, edge_tiles}
-use Rattle.tl_tile.specs.Verified.{IsNextPartial, ComesNext, AreNext}
-use Rattle.tl_tile.specs.Inner.Steps.{AreFetched, AddsOnly, AddsOver}
+use Rattle.tl_tile.specs.Verified.{IsNextPartial, ComesNext, AreNext, AreInOrder, AreVerified, HavePassed, AddsTiles}
+use Rattle.tl_tile.specs.Inner.Steps.{AreFetched, AddsOnly}
 use Rattle.tl_tile.specs.SourceFaults.{IsBadTile, GivesReadFault}
 use Rattle.tl_tile.proofs.Push.{same_tile-is}
 
@@ -29,11 +29,13 @@ next-push H size root before [] f order next = (subst (λ (list : List (Tile × 
 next-push H size root before (m ∷ more) f order next =
     (order.0, next-push H size root (before ++ m ∷ []) more f order.1 (subst (λ (list : List (Tile × List ℕ)). ComesNext H size root list f.0) (sym (append_assoc before (m ∷ []) more)) next))
 
-pub fetched-push : (may_answer : Tile → List ℕ → Type 0) (H : Digest) (size : ℕ) (root : List ℕ) (old new : List (Tile × List ℕ)) (tile : Tile) (text : List ℕ) → AreFetched may_answer H size root old → IsTileOf size tile
-    → ComesNext H size root old tile → new ≡ old ++ (tile, text) ∷ [] → may_answer tile text → AreFetched may_answer H size root new
-fetched-push may_answer H size root old new tile text before of next pushed answer =
+-- a tile more, or none
+pub fetched-only : (may_answer : Tile → List ℕ → Type 0) (H : Digest) (size : ℕ) (root : List ℕ) (old new : List (Tile × List ℕ)) (tile : Tile) → AreFetched may_answer H size root old
+    → AddsOnly may_answer H size root tile old new → AreFetched may_answer H size root new
+fetched-only may_answer H size root old new tile before (inl same) = subst (AreFetched may_answer H size root) (sym same) before
+fetched-only may_answer H size root old new tile before (inr (text, pushed, answer, next)) =
     subst (AreFetched may_answer H size root) (sym pushed) (record {
-      answers = All-push (λ (f : Tile × List ℕ). Answers may_answer size f.0 f.1) old (tile, text) before.answers (of, answer);
+      answers = All-push (λ (f : Tile × List ℕ). Answers may_answer size f.0 f.1) old (tile, text) before.answers answer;
       order = next-push H size root [] old (tile, text) before.order next;
     })
 
@@ -116,17 +118,15 @@ all-front : {X : Type 0} (P : X → Type 0) (xs ys : List X) → All P (xs ++ ys
 all-front P [] ys all = All-nil P
 all-front P (x ∷ xs) ys all = All-cons P x xs (All-head P x (xs ++ ys) all) (all-front P xs ys (All-tail P x (xs ++ ys) all))
 
-needed-each : (size : ℕ) (indexes : List ℕ) (xs : List (Tile × List ℕ)) → 0 < length indexes → All (IsPartialOf size) (tiles_in xs) → All (λ f. IsNeededFor size indexes f.0) xs
-needed-each size indexes [] some all = All-nil (λ (f : Tile × List ℕ). IsNeededFor size indexes f.0)
-needed-each size indexes (f ∷ xs) some all =
+partial-each : (size : ℕ) (xs : List (Tile × List ℕ)) → All (IsPartialOf size) (tiles_in xs) → All (λ f. IsPartialOf size f.0) xs
+partial-each size [] all = All-nil (λ (f : Tile × List ℕ). IsPartialOf size f.0)
+partial-each size (f ∷ xs) all =
     let here : IsPartialOf size f.0 = All-head (IsPartialOf size) f.0 (tiles_in xs) all in
-    All-cons (λ (x : Tile × List ℕ). IsNeededFor size indexes x.0) f xs (inl (some, here)) (needed-each size indexes xs some (All-tail (IsPartialOf size) f.0 (tiles_in xs) all))
+    All-cons (λ (x : Tile × List ℕ). IsPartialOf size x.0) f xs here (partial-each size xs (All-tail (IsPartialOf size) f.0 (tiles_in xs) all))
 
--- the first of the partial tiles are needed
-pub needed-edge : (size : ℕ) (indexes : List ℕ) (xs : List (Tile × List ℕ)) → 0 < length indexes → ((rest : List Tile) × (edge_tiles size ≡ tiles_in xs ++ rest)) → All (λ f. IsNeededFor size indexes f.0) xs
-needed-edge size indexes xs some (rest, are) =
-    let all : All (IsPartialOf size) (tiles_in xs) = all-front (IsPartialOf size) (tiles_in xs) rest (subst (All (IsPartialOf size)) are (edge-partial-in size (reverse (range_with_len 0 8)))) in
-    needed-each size indexes xs some all
+-- all of the edge are partial tiles
+pub edge-partial : (size : ℕ) → All (IsPartialOf size) (edge_tiles size)
+edge-partial size = edge-partial-in size (reverse (range_with_len 0 8))
 
 -- the tiles over a number's subtree are needed
 pub over-needed : (size i : ℕ) (indexes : List ℕ) (p : Subtree) (t : Tile) → i < length indexes → stored_index p.level p.place ≡ get_or indexes i 0 → IsOver (p.level / 8) (p.place * 2 ^ (p.level % 8)) t → IsNeededFor size indexes t
@@ -134,18 +134,92 @@ over-needed size i indexes p t less number over =
     let index : ℕ = get_or indexes i 0 in
     inr (i, index, less, get_or_default indexes i index 0 less, record { subtree = p; number = number; over = over })
 
-overs-needed : (size i : ℕ) (indexes : List ℕ) (p : Subtree) (xs : List (Tile × List ℕ)) → i < length indexes → stored_index p.level p.place ≡ get_or indexes i 0
-    → All (λ f. IsOver (p.level / 8) (p.place * 2 ^ (p.level % 8)) f.0) xs → All (λ f. IsNeededFor size indexes f.0) xs
-overs-needed size i indexes p [] less number all = All-nil (λ (f : Tile × List ℕ). IsNeededFor size indexes f.0)
-overs-needed size i indexes p (f ∷ xs) less number all =
-    let P : Tile × List ℕ → Type 0 = λ x. IsOver (p.level / 8) (p.place * 2 ^ (p.level % 8)) x.0 in
-    All-cons (λ (x : Tile × List ℕ). IsNeededFor size indexes x.0) f xs (over-needed size i indexes p f.0 less number (All-head P f xs all)) (overs-needed size i indexes p xs less number (All-tail P f xs all))
+-- ---- tiles that were added
 
-pub needed-more : (size i : ℕ) (indexes : List ℕ) (p : Subtree) (old new : List (Tile × List ℕ)) → i < length indexes → stored_index p.level p.place ≡ get_or indexes i 0
-    → AddsOver (p.level / 8) (p.place * 2 ^ (p.level % 8)) old new → All (λ f. IsNeededFor size indexes f.0) old → All (λ f. IsNeededFor size indexes f.0) new
-needed-more size i indexes p old new less number adds before =
-    let P : Tile × List ℕ → Type 0 = λ f. IsNeededFor size indexes f.0 in
-    subst (All P) (sym adds.joined) (All-append P old adds.added before (overs-needed size i indexes p adds.added less number adds.over))
+pub adds-none : (may_answer : Tile → List ℕ → Type 0) (H : Digest) (size : ℕ) (root : List ℕ) (Is : Tile → Type 0) (xs : List (Tile × List ℕ)) → AddsTiles may_answer H size root Is xs xs
+adds-none may_answer H size root Is xs = record {
+  added = [];
+  joined = sym (append-nil xs);
+  answers = All-nil (λ (f : Tile × List ℕ). Answers may_answer size f.0 f.1);
+  order = tt;
+  each = All-nil (λ (f : Tile × List ℕ). Is f.0);
+}
+
+pub adds-weaker : (may_answer : Tile → List ℕ → Type 0) (H : Digest) (size : ℕ) (root : List ℕ) (few many : Tile → Type 0) (old new : List (Tile × List ℕ)) → ((t : Tile) → few t → many t)
+    → AddsTiles may_answer H size root few old new → AddsTiles may_answer H size root many old new
+adds-weaker may_answer H size root few many old new weaker adds =
+    record { added = adds.added; joined = adds.joined; answers = adds.answers; order = adds.order; each = λ k d less. weaker _ (adds.each k d less) }
+
+next-append : (H : Digest) (size : ℕ) (root : List ℕ) (before xs ys : List (Tile × List ℕ)) → AreNext H size root before xs → AreNext H size root (before ++ xs) ys → AreNext H size root before (xs ++ ys)
+next-append H size root before [] ys first second = subst (λ (list : List (Tile × List ℕ)). AreNext H size root list ys) (append-nil before) second
+next-append H size root before (x ∷ xs) ys first second =
+    (first.0, next-append H size root (before ++ x ∷ []) xs ys first.1 (subst (λ (list : List (Tile × List ℕ)). AreNext H size root list ys) (sym (append_assoc before (x ∷ []) xs)) second))
+
+-- some, and then more
+pub adds-both : (may_answer : Tile → List ℕ → Type 0) (H : Digest) (size : ℕ) (root : List ℕ) (Is : Tile → Type 0) (old middle new : List (Tile × List ℕ)) → AddsTiles may_answer H size root Is old middle
+    → AddsTiles may_answer H size root Is middle new → AddsTiles may_answer H size root Is old new
+adds-both may_answer H size root Is old middle new first second = record {
+  added = first.added ++ second.added;
+  joined = second.joined ∙ ap (λ (list : List (Tile × List ℕ)). list ++ second.added) first.joined ∙ append_assoc old first.added second.added;
+  answers = All-append (λ (f : Tile × List ℕ). Answers may_answer size f.0 f.1) first.added second.added first.answers second.answers;
+  order = next-append H size root old first.added second.added first.order (subst (λ (list : List (Tile × List ℕ)). AreNext H size root list second.added) first.joined second.order);
+  each = All-append (λ (f : Tile × List ℕ). Is f.0) first.added second.added first.each second.each;
+}
+
+-- one tile, or none
+pub adds-only : (may_answer : Tile → List ℕ → Type 0) (H : Digest) (size : ℕ) (root : List ℕ) (Is : Tile → Type 0) (t : Tile) (old new : List (Tile × List ℕ)) → Is t
+    → AddsOnly may_answer H size root t old new → AddsTiles may_answer H size root Is old new
+adds-only may_answer H size root Is t old new is (inl same) = subst (AddsTiles may_answer H size root Is old) (sym same) (adds-none may_answer H size root Is old)
+adds-only may_answer H size root Is t old new is (inr (text, pushed, answer, next)) = record {
+  added = (t, text) ∷ [];
+  joined = pushed;
+  answers = All-cons (λ (f : Tile × List ℕ). Answers may_answer size f.0 f.1) (t, text) [] answer (All-nil (λ (f : Tile × List ℕ). Answers may_answer size f.0 f.1));
+  order = (next, tt);
+  each = All-cons (λ (f : Tile × List ℕ). Is f.0) (t, text) [] is (All-nil (λ (f : Tile × List ℕ). Is f.0));
+}
+
+-- the first of the partial tiles, where there were none
+pub adds-first : (may_answer : Tile → List ℕ → Type 0) (H : Digest) (size : ℕ) (root : List ℕ) (old new : List (Tile × List ℕ)) → old ≡ [] → AreFetched may_answer H size root new
+    → ((rest : List Tile) × (edge_tiles size ≡ tiles_in new ++ rest)) → AddsTiles may_answer H size root (IsPartialOf size) old new
+adds-first may_answer H size root old new none are (rest, front) =
+    subst (λ (list : List (Tile × List ℕ)). AddsTiles may_answer H size root (IsPartialOf size) list new) (sym none) (record {
+      added = new;
+      joined = refl;
+      answers = are.answers;
+      order = are.order;
+      each = partial-each size new (all-front (IsPartialOf size) (tiles_in new) rest (subst (All (IsPartialOf size)) front (edge-partial size)));
+    })
+
+-- after none they are all
+pub adds-all : (may_answer : Tile → List ℕ → Type 0) (H : Digest) (size : ℕ) (root : List ℕ) (Is : Tile → Type 0) (old new : List (Tile × List ℕ)) → old ≡ [] → AddsTiles may_answer H size root Is old new
+    → AreAnswers may_answer size new × AreInOrder H size root new × All (λ f. Is f.0) new
+adds-all may_answer H size root Is old new none adds =
+    let is : adds.added ≡ new = sym (adds.joined ∙ ap (λ (list : List (Tile × List ℕ)). list ++ adds.added) none) in (
+      subst (AreAnswers may_answer size) is adds.answers,
+      subst (AreNext H size root []) is (subst (λ (list : List (Tile × List ℕ)). AreNext H size root list adds.added) none adds.order),
+      subst (All (λ f. Is f.0)) is adds.each,
+    )
+
+-- the partial tiles are needed
+pub needed-partial : (may_answer : Tile → List ℕ → Type 0) (H : Digest) (size : ℕ) (root : List ℕ) (indexes : List ℕ) (old new : List (Tile × List ℕ)) → 0 < length indexes
+    → AddsTiles may_answer H size root (IsPartialOf size) old new → AddsTiles may_answer H size root (IsNeededFor size indexes) old new
+needed-partial may_answer H size root indexes old new some adds =
+    adds-weaker may_answer H size root (IsPartialOf size) (IsNeededFor size indexes) old new (λ t partial. inl (some, partial)) adds
+
+-- and those over a number's subtree
+pub needed-more : (may_answer : Tile → List ℕ → Type 0) (H : Digest) (size : ℕ) (root : List ℕ) (i : ℕ) (indexes : List ℕ) (p : Subtree) (old middle new : List (Tile × List ℕ)) → i < length indexes
+    → stored_index p.level p.place ≡ get_or indexes i 0 → AddsTiles may_answer H size root (IsNeededFor size indexes) old middle
+    → AddsTiles may_answer H size root (IsOver (p.level / 8) (p.place * 2 ^ (p.level % 8))) middle new → AddsTiles may_answer H size root (IsNeededFor size indexes) old new
+needed-more may_answer H size root i indexes p old middle new less number before adds =
+    adds-both may_answer H size root (IsNeededFor size indexes) old middle new before
+    (adds-weaker may_answer H size root (IsOver (p.level / 8) (p.place * 2 ^ (p.level % 8))) (IsNeededFor size indexes) middle new
+    (λ t over. over-needed size i indexes p t less number over) adds)
+
+-- after tiles that passed, in order
+pub passed-more : (may_answer : Tile → List ℕ → Type 0) (H : Digest) (size : ℕ) (root : List ℕ) (Is : Tile → Type 0) (old new : List (Tile × List ℕ)) → HavePassed H size root old
+    → AddsTiles may_answer H size root Is old new → AreVerified H size root new → HavePassed H size root new
+passed-more may_answer H size root Is old new before adds verified =
+    record { order = subst (AreNext H size root []) (sym adds.joined) (next-append H size root [] old adds.added before.order adds.order); passed = inr verified }
 
 -- ---- tiles over a place
 
@@ -162,26 +236,14 @@ over-here level place =
     let height : level ≡ level + 0 = omega arith in
     record { up = 0; tile = ap (λ (l : ℕ). full_tile l (place / 256)) height }
 
-overs-up : (level place : ℕ) (xs : List (Tile × List ℕ)) → All (λ f. IsOver (level + 1) (place / 256) f.0) xs → All (λ f. IsOver level place f.0) xs
-overs-up level place [] all = All-nil (λ (f : Tile × List ℕ). IsOver level place f.0)
-overs-up level place (f ∷ xs) all =
-    let P : Tile × List ℕ → Type 0 = λ x. IsOver (level + 1) (place / 256) x.0 in
-    All-cons (λ (x : Tile × List ℕ). IsOver level place x.0) f xs (over-up level place f.0 (All-head P f xs all)) (overs-up level place xs (All-tail P f xs all))
-
-pub adds-up : (level place : ℕ) (old new : List (Tile × List ℕ)) → AddsOver (level + 1) (place / 256) old new → AddsOver level place old new
-adds-up level place old new adds = record { added = adds.added; joined = adds.joined; over = overs-up level place adds.added adds.over }
-
 -- the tiles above, and then the one with the place
-pub adds-more : (level place : ℕ) (old middle new : List (Tile × List ℕ)) → AddsOver (level + 1) (place / 256) old middle → AddsOnly (full_tile level (place / 256)) middle new → AddsOver level place old new
-adds-more level place old middle new adds (inl same) = subst (AddsOver level place old) (sym same) (adds-up level place old middle adds)
-adds-more level place old middle new adds (inr (text, pushed)) =
-    let up = adds-up level place old middle adds in
-    let f : Tile × List ℕ = (full_tile level (place / 256), text) in
-    record {
-      added = up.added ++ f ∷ [];
-      joined = pushed ∙ ap (λ (list : List (Tile × List ℕ)). list ++ f ∷ []) up.joined ∙ append_assoc old up.added (f ∷ []);
-      over = All-push (λ (x : Tile × List ℕ). IsOver level place x.0) up.added f up.over (over-here level place);
-    }
+pub adds-over : (may_answer : Tile → List ℕ → Type 0) (H : Digest) (size : ℕ) (root : List ℕ) (level place : ℕ) (old middle new : List (Tile × List ℕ))
+    → AddsTiles may_answer H size root (IsOver (level + 1) (place / 256)) old middle → AddsOnly may_answer H size root (full_tile level (place / 256)) middle new
+    → AddsTiles may_answer H size root (IsOver level place) old new
+adds-over may_answer H size root level place old middle new above only =
+    adds-both may_answer H size root (IsOver level place) old middle new
+    (adds-weaker may_answer H size root (IsOver (level + 1) (place / 256)) (IsOver level place) old middle (over-up level place) above)
+    (adds-only may_answer H size root (IsOver level place) (full_tile level (place / 256)) middle new (over-here level place) only)
 
 -- a tile of a lower level is none of those added
 none-among : (level place : ℕ) (t : Tile) (xs : List (Tile × List ℕ)) → t.level < level → All (λ f. IsOver level place f.0) xs → tiles_of xs t ≡ None
@@ -204,9 +266,10 @@ none-append (x ∷ xs) ys t none more =
       | inr differ ↦ rw differ (none-append xs ys t (rw differ at none) more)
     ]
 
-pub none-later : (level place : ℕ) (old new : List (Tile × List ℕ)) (t : Tile) → t.level < level → AddsOver level place old new → tiles_of old t ≡ None → tiles_of new t ≡ None
-none-later level place old new t low adds none =
-    ap (λ (list : List (Tile × List ℕ)). tiles_of list t) adds.joined ∙ none-append old adds.added t none (none-among level place t adds.added low adds.over)
+pub none-later : (may_answer : Tile → List ℕ → Type 0) (H : Digest) (size : ℕ) (root : List ℕ) (level place : ℕ) (old new : List (Tile × List ℕ)) (t : Tile) → t.level < level
+    → AddsTiles may_answer H size root (IsOver level place) old new → tiles_of old t ≡ None → tiles_of new t ≡ None
+none-later may_answer H size root level place old new t low adds none =
+    ap (λ (list : List (Tile × List ℕ)). tiles_of list t) adds.joined ∙ none-append old adds.added t none (none-among level place t adds.added low adds.each)
 
 -- what was fetched stays
 found-append : (xs ys : List (Tile × List ℕ)) (t : Tile) (text : List ℕ) → tiles_of xs t ≡ Some text → tiles_of (xs ++ ys) t ≡ Some text
@@ -217,6 +280,7 @@ found-append (x ∷ xs) ys t text found =
       | inr differ ↦ rw differ (found-append xs ys t text (rw differ at found))
     ]
 
-pub found-later : (level place : ℕ) (old new : List (Tile × List ℕ)) → AddsOver level place old new → (t : Tile) (text : List ℕ) → tiles_of old t ≡ Some text → tiles_of new t ≡ Some text
-found-later level place old new adds t text found =
+pub found-later : (may_answer : Tile → List ℕ → Type 0) (H : Digest) (size : ℕ) (root : List ℕ) (Is : Tile → Type 0) (old new : List (Tile × List ℕ)) → AddsTiles may_answer H size root Is old new
+    → (t : Tile) (text : List ℕ) → tiles_of old t ≡ Some text → tiles_of new t ≡ Some text
+found-later may_answer H size root Is old new adds t text found =
     ap (λ (list : List (Tile × List ℕ)). tiles_of list t) adds.joined ∙ found-append old adds.added t text found

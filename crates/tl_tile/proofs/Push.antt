@@ -156,10 +156,6 @@ full_when_missing tiles size level place edge small low less missing =
           ]
     ]
 
-pub is_there-by : (tiles : Tiles) (size level place : ℕ) (tile : Tile) → tile ≡ tile_with size level place → HasEdge tiles size → size ≤ 2 ^ 62 → level ≤ 7 → place < level_count size level
-    → tiles tile ≡ None → IsThere tiles size level place false
-is_there-by tiles size level place tile is edge small low less missing = full_when_missing tiles size level place edge small low less (ap tiles (sym is) ∙ missing)
-
 pub there-false : (tiles : Tiles) (size level place : ℕ) (answer : Bool) → IsThere tiles size level place answer → answer ≡ false → IsNotFetched tiles size level place
 there-false tiles size level place true is holds = absurd (cc)
 there-false tiles size level place false is holds = is

@@ -14,7 +14,7 @@ use Rattle.tl_tile.specs.Fetched.{tiles_of}
 use Rattle.tl_tile.specs.Source.{AreAnswers}
 use Rattle.tl_tile.specs.Fetching.{IsNeededFor}
 use Rattle.tl_tile.specs.SourceFaults.{GivesReadFault}
-use Rattle.tl_tile.specs.TileReader.{Reading, AreAuthentic, StandsAgainst, GivesNumbersFault}
+use Rattle.tl_tile.specs.TileReader.{Reading, AreAuthentic, StandsAgainst, GivesFaultAfter}
 
 pub readable_is : (size : ℕ) → size ≤ 2 ^ 62 → readable_count size ≡ stored_count size
 readable_is size small = ap (λ (b : Bool). stored_count (cond b size 0)) (le-leb size (2 ^ 62) small)
@@ -61,9 +61,9 @@ if_ok_weaker P Q (Ok x) weaker holds = weaker x holds
 if_ok_weaker P Q (Err e) weaker holds = tt
 
 -- the faults of a read whose numbers are all in range
-pub numbers_fault : (H : Digest) (may_lack : Tile → Type 0) (read : Reading) (fault : ReadFault) → AreReadable read.size read.indexes → 0 < length read.indexes
-    → GivesReadFault H (λ t. may_lack t × IsNeededFor read.size read.indexes t) read.size read.root read.fetched fault → GivesNumbersFault H may_lack read fault
-numbers_fault H may_lack read OutOfRange readable some gives = absurd gives
-numbers_fault H may_lack read Source readable some gives = ((readable, some), gives)
-numbers_fault H may_lack read OutOfMemory readable some gives = (readable, some)
-numbers_fault H may_lack read (BadTile level index width) readable some gives = ((readable, some), gives)
+pub numbers_fault : (H : Digest) (may_lack : Tile → Type 0) (before : List (Tile × List ℕ)) (read : Reading) (fault : ReadFault) → AreReadable read.size read.indexes → 0 < length read.indexes
+    → GivesReadFault H (λ t. may_lack t × IsNeededFor read.size read.indexes t) read.size read.root read.fetched fault → GivesFaultAfter H may_lack before read fault
+numbers_fault H may_lack before read OutOfRange readable some gives = absurd gives
+numbers_fault H may_lack before read Source readable some gives = ((readable, some), gives)
+numbers_fault H may_lack before read OutOfMemory readable some gives = (readable, some)
+numbers_fault H may_lack before read (BadTile level index width) readable some gives = ((readable, some), gives)

@@ -51,6 +51,14 @@ hashes_within size p is =
       | inr more ↦ omega (arith, hashes_in size p is, more, pow_pos (p.level % 8), ap (λ (t : Tile). t.width) (tile_with-partial size level (first_of p) more))
     ]
 
+-- a place of a level lies in its tile's text
+pub place_within : (tiles : Tiles) (size level place : ℕ) (text : List ℕ) → AreLong tiles → place < level_count size level → tiles (tile_with size level place) ≡ Some text → 32 * (place % 256) + 32 ≤ length text
+place_within tiles size level place text long less found =
+    elim (cases_lt (place / 256) (level_count size level / 256)) as (λ _. 32 * (place % 256) + 32 ≤ length text) [
+      | inl full ↦ omega (arith, long _ text found, ap (λ (t : Tile). t.width) (tile_with-full size level place full))
+      | inr more ↦ omega (arith, long _ text found, less, more, ap (λ (t : Tile). t.width) (tile_with-partial size level place more))
+    ]
+
 pub text_within : (tiles : Tiles) (size : ℕ) (p : Subtree) (tile : Tile) (text : List ℕ) → IsSubtreeOf size p → AreLong tiles → tile ≡ tile_with size (p.level / 8) (first_of p) → tiles tile ≡ Some text
     → 32 * (first_of p % 256 + count_of p) ≤ length text
 text_within tiles size p tile text is long at found =

@@ -1,50 +1,25 @@
 -- What is read from the trees of checked tiles.
-use Rattle.std.proofs.Common.{◌≡◌, ℕ, ◌+◌, ◌-◌, ◌*◌, ◌/◌, ◌%◌, ◌^◌, ◌<◌, ◌≤◌, inl, inr, true, false, List, [], ◌∷◌, ◌++◌, length, get_or, Some, None, refl, sym, ap, subst, ◌∙◌, arith}
-use Rattle.std.proofs.lemmas.Bool.{cases_eq, cases_lt, cases_Bool}
+use Rattle.std.proofs.Common.{◌≡◌, ℕ, ◌+◌, ◌-◌, ◌*◌, ◌/◌, ◌%◌, ◌^◌, ◌<◌, ◌≤◌, inl, inr, List, [], ◌∷◌, ◌++◌, length, get_or, Some, None, refl, sym, ap, subst, ◌∙◌, arith}
+use Rattle.std.proofs.lemmas.Bool.{cases_eq, cases_lt}
 use Rattle.std.proofs.lemmas.List.{get_or_default}
 use Rattle.std.proofs.lemmas.Nat.{div-mul-add, mod-mul-add, pow_pos}
 use Rattle.tl_hash.specs.Bytes.{Digest}
 use Rattle.tl_tile.specs.declared.resource.Tile.{Tile}
 use Rattle.tl_tile.specs.TileText.{level_count, full_tile, tile_with}
 use Rattle.tl_tile.specs.declared.tile_reader.subtree.Subtree.{Subtree}
-use Rattle.tl_tile.specs.Folds.{Tiles, IsHashAt, IsSubtreeHash}
-use Rattle.tl_tile.specs.FetchedEdge.{HasEdge}
-use Rattle.tl_tile.specs.Fetched.{same_tile, tiles_of}
-use Rattle.tl_tile.specs.Source.{IsHashWith}
+use Rattle.tl_tile.specs.Folds.{Tiles, IsSubtreeHash}
+use Rattle.tl_tile.specs.Fetched.{tiles_of}
 use Rattle.tl_tile.specs.Inner.EdgeRoot.{Part}
-use Rattle.tl_tile.specs.Inner.Steps.{IsThere}
 use Rattle.tl_tile.specs.Inner.TileTree.{level_start, IsTileTree, Trees, AreTreesOf}
 use Rattle.tl_tile.proofs.Edges.{Some-injective}
 use Rattle.tl_tile.proofs.Checked.{tile_with-full, power_in_256}
-use Rattle.tl_tile.proofs.Push.{is_there-by, tiles_of-old, tiles_of-new, same_tile-is}
-use Rattle.tl_tile.proofs.Orders.{none-append}
+use Rattle.tl_tile.proofs.Push.{tiles_of-old, tiles_of-new}
 use Rattle.tl_tile.proofs.Segments.{scaled_le}
-
--- ---- which tiles there are
-
-pub tree-there : (H : Digest) (tiles : Tiles) (trees : Trees) (size level place : ℕ) (hashes : List (List ℕ)) → AreTreesOf H tiles trees → place / 256 < level_count size level / 256
-    → trees level (place / 256) ≡ Some hashes → IsThere tiles size level place true
-tree-there H tiles trees size level place hashes are full has =
-    let found = are.found level (place / 256) hashes has in
-    (found.0, ap tiles (tile_with-full size level place full) ∙ found.1)
-
-pub tree-not_there : (H : Digest) (tiles : Tiles) (trees : Trees) (size level place : ℕ) → AreTreesOf H tiles trees → place / 256 < level_count size level / 256
-    → HasEdge tiles size → size ≤ 2 ^ 62 → level ≤ 7 → place < level_count size level → trees level (place / 256) ≡ None → IsThere tiles size level place false
-tree-not_there H tiles trees size level place are full edge small low less has =
-    is_there-by tiles size level place (full_tile level (place / 256)) (sym (tile_with-full size level place full)) edge small low less (are.absent level (place / 256) has)
 
 -- ---- hashes in trees
 
 pub tree-many : (H : Digest) (tiles : Tiles) (trees : Trees) (level index : ℕ) (hashes : List (List ℕ)) → AreTreesOf H tiles trees → trees level index ≡ Some hashes → length hashes ≡ 511
 tree-many H tiles trees level index hashes are has = (are.found level index hashes has).2.many
-
--- a hash of a full tile
-pub tree-hash : (H : Digest) (tiles : Tiles) (trees : Trees) (size level place : ℕ) (hashes : List (List ℕ)) (hash : List ℕ) → AreTreesOf H tiles trees → place / 256 < level_count size level / 256
-    → trees level (place / 256) ≡ Some hashes → hash ≡ get_or hashes (place % 256) hash → IsHashWith tiles size level place hash
-tree-hash H tiles trees size level place hashes hash are full has is =
-    let found = are.found level (place / 256) hashes has in
-    let same : get_or hashes (place % 256) [] ≡ hash = get_or_default hashes (place % 256) [] hash (omega (arith, found.2.many)) ∙ sym is in
-    (found.0, ap tiles (tile_with-full size level place full) ∙ found.1, subst (IsHashAt found.0 (place % 256)) same (found.2.own (place % 256) (omega arith)))
 
 -- the hash of a full tile
 pub tree-root : (H : Digest) (text : List ℕ) (hashes : List (List ℕ)) (hash : List ℕ) → IsTileTree H text hashes → hash ≡ get_or hashes 510 hash → Part H text 0 256 hash
@@ -117,10 +92,9 @@ tree-subtree H tiles trees size p first count hashes hash are full first_is coun
 
 -- ---- one tree more
 
-pub trees-none : (H : Digest) (tiles : Tiles) (trees : Trees) → ((level index : ℕ) → trees level index ≡ None) → ((level index : ℕ) → tiles (full_tile level index) ≡ None) → AreTreesOf H tiles trees
-trees-none H tiles trees none no_full = record {
+pub trees-none : (H : Digest) (tiles : Tiles) (trees : Trees) → ((level index : ℕ) → trees level index ≡ None) → AreTreesOf H tiles trees
+trees-none H tiles trees none = record {
   found = λ level index hashes has. (let both : Some hashes ≡ None = sym has ∙ none level index in absurd (cc));
-  absent = λ level index has. no_full level index;
 }
 
 pub trees-push : (H : Digest) (xs ys : List (Tile × List ℕ)) (old new : Trees) (level index : ℕ) (tile : Tile) (text : List ℕ) (hashes : List (List ℕ)) → AreTreesOf H (tiles_of xs) old → tile ≡ full_tile level index
@@ -141,18 +115,6 @@ trees-push H xs ys old new level index tile text hashes before is none pushed tr
     (λ l i hs apart has.
     let found = before.found l i hs (sym (others l i apart) ∙ has) in
     (found.0, tiles_of-old xs f (full_tile l i) found.0 found.1, found.2)) in
-    let gone : (l i : ℕ) → (l ≡ level → i ≡ index → ⊥) → new l i ≡ None → tiles_of (xs ++ f ∷ []) (full_tile l i) ≡ None =
-    (λ l i apart has.
-    none-append xs (f ∷ []) (full_tile l i) (before.absent l i (sym (others l i apart) ∙ has))
-    (elim (cases_Bool (same_tile f.0 (full_tile l i))) as (λ _. tiles_of (f ∷ []) (full_tile l i) ≡ None) [
-      | inl same ↦
-          let equal : full_tile level index ≡ full_tile l i = sym is ∙ same_tile-is f.0 (full_tile l i) same in
-          absurd (apart (ap (λ (t : Tile). t.level) (sym equal)) (ap (λ (t : Tile). t.index) (sym equal)))
-      | inr differ ↦ rw differ refl
-    ])) in
-    let lost : (l i : ℕ) → l ≡ level → i ≡ index → new l i ≡ None → ⊥ =
-    (λ l i same_level same_index has.
-    let both : Some hashes ≡ None = sym here ∙ (λ j. new (sym same_level j) (sym same_index j)) ∙ has in absurd (cc)) in
     subst (λ (zs : List (Tile × List ℕ)). AreTreesOf H (tiles_of zs) new) (sym pushed) (record {
       found = λ l i hs has.
           elim (cases_eq l level) as (λ _. Found l i hs) [
@@ -161,15 +123,6 @@ trees-push H xs ys old new level index tile text hashes before is none pushed tr
                 elim (cases_eq i index) as (λ _. Found l i hs) [
                   | inl equal ↦ own l i hs same equal has
                   | inr differ ↦ other l i hs (λ _ equal. differ equal) has
-                ]
-          ];
-      absent = λ l i has.
-          elim (cases_eq l level) as (λ _. tiles_of (xs ++ f ∷ []) (full_tile l i) ≡ None) [
-            | inr differ ↦ gone l i (λ same _. differ same) has
-            | inl same ↦
-                elim (cases_eq i index) as (λ _. tiles_of (xs ++ f ∷ []) (full_tile l i) ≡ None) [
-                  | inl equal ↦ absurd (lost l i same equal has)
-                  | inr differ ↦ gone l i (λ _ equal. differ equal) has
                 ]
           ];
     })

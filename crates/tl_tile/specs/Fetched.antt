@@ -1,5 +1,5 @@
 -- Tiles that were fetched, in the order of their fetching.
-use Rattle.std.specs.Prelude.{ℕ, Bool, List, [], ◌∷◌, map, vec_items, Some, None, ◌&&◌, ◌==◌, if◌then◌else◌}
+use Rattle.std.specs.Prelude.{ℕ, Bool, List, [], ◌∷◌, map, vec_items, Some, None, ◌&&◌, ◌||◌, ◌==◌, ◌/◌, ◌^◌, nat_lt, if◌then◌else◌}
 use Rattle.std.specs.declared.vec.Vec.{Vec}
 use Rattle.tl_hash.specs.Bytes.{Bytes}
 use Rattle.tl_tile.specs.declared.resource.Tile.{Tile}
@@ -20,3 +20,7 @@ tiles_in fetched = map (λ f. f.0) fetched
 -- tiles with their texts
 abbrev pub texts_of : {A : Type 0} → List (Tile × Vec ℕ A) → List (Tile × Bytes)
 texts_of tiles = map (λ t. (t.0, vec_items t.1)) tiles
+
+-- a partial tile, or the full one over the entry with this index, of one of the eight levels
+abbrev pub is_on_path : ℕ → Tile → Bool
+is_on_path index t = nat_lt t.width 256 || (nat_lt t.level 8 && index / 256 ^ t.level / 256 == t.index)

@@ -4,7 +4,6 @@ use Rattle.tl_hash.specs.Bytes.{Bytes}
 use Rattle.tl_tile.specs.declared.resource.Resource.{Resource}
 use Rattle.tl_tile.specs.Needed.{needed_resources, needed_resources_since}
 use Rattle.tl_tile.specs.Bundle.{AreEntries, bundle_text, IsTruncated, HasTrailing}
-use Rattle.tl_tile.specs.declared.resource.Resource.TheVariants as resource
 
 -- bytes are at most one bundle of a width; then they don't end too soon, and have nothing behind
 pub record BundleIsOne (bytes : Bytes) (width : ℕ) (entries : List Bytes) : Type 0 where

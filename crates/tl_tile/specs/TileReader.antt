@@ -60,13 +60,17 @@ abbrev pub LacksNeeded : Digest → (Tile → Type 0) → Reading → Type 0
 LacksNeeded H may_lack read =
     (t : Tile) × IsLacking H (λ t. may_lack t × IsNeededFor read.size read.indexes t) read.size read.root read.fetched t
 
--- what a fault of a read says of its numbers and of the tiles that were fetched
-abbrev pub GivesNumbersFault : Digest → (Tile → Type 0) → Reading → ReadFault → Type 0
-GivesNumbersFault H may_lack read OutOfRange = AsksTooFar read × (read.fetched ≡ [])
-GivesNumbersFault H may_lack read Source = IsAsking read × LacksNeeded H may_lack read
-GivesNumbersFault H may_lack read OutOfMemory = IsAsking read
-GivesNumbersFault H may_lack read (BadTile level index width) =
+-- what a fault of a read says of its numbers and of the tiles that were there before it and are now
+abbrev pub GivesFaultAfter : Digest → (Tile → Type 0) → List (Tile × Bytes) → Reading → ReadFault → Type 0
+GivesFaultAfter H may_lack before read OutOfRange = AsksTooFar read × (read.fetched ≡ before)
+GivesFaultAfter H may_lack before read Source = IsAsking read × LacksNeeded H may_lack read
+GivesFaultAfter H may_lack before read OutOfMemory = IsAsking read
+GivesFaultAfter H may_lack before read (BadTile level index width) =
     IsAsking read × IsBadTile H read.size read.root read.fetched (record { level = level; index = index; width = width })
+
+-- the same of a read before which there were none
+abbrev pub GivesNumbersFault : Digest → (Tile → Type 0) → Reading → ReadFault → Type 0
+GivesNumbersFault H may_lack read fault = GivesFaultAfter H may_lack [] read fault
 
 -- the reader stands for the lists of its size and root, under its own digest function, no input of which collides with
 -- a string that is hashed for tiles that the source may answer

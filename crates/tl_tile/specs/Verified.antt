@@ -1,12 +1,12 @@
 -- Fetched tiles that passed the checks, and the order in which a read fetches tiles.
-use Rattle.std.specs.Prelude.{◌≡◌, ℕ, ◌+◌, List, [], ◌∷◌, ◌++◌, None, ◌⊎◌}
+use Rattle.std.specs.Prelude.{◌≡◌, ℕ, ◌+◌, List, [], ◌∷◌, ◌++◌, All, None, ◌⊎◌}
 use Rattle.tl_hash.specs.Bytes.{Bytes, Digest}
 use Rattle.tl_tile.specs.declared.resource.Tile.{Tile}
 use Rattle.tl_tile.specs.TileText.{full_tile}
 use Rattle.tl_tile.specs.Folds.{AreChecked}
 use Rattle.tl_tile.specs.FetchedEdge.{HasEdge}
 use Rattle.tl_tile.specs.Fetched.{tiles_of, tiles_in}
-use Rattle.tl_tile.specs.Source.{AreLong, HasTileWith}
+use Rattle.tl_tile.specs.Source.{AreAnswers, AreLong, HasTileWith}
 use Rattle.tl_tile.specs.Fetching.{edge_tiles, BeginsWithEdge}
 
 -- all partial tiles are among them, each text is as long as it has to be, and they pass the checks against the root
@@ -40,3 +40,17 @@ AreNext H size root before (f ∷ more) = ComesNext H size root before f.0 × Ar
 -- above it, when all before it passed the checks; none comes twice
 abbrev pub AreInOrder : Digest → ℕ → Bytes → List (Tile × Bytes) → Type 0
 AreInOrder H size root fetched = AreNext H size root [] fetched
+
+-- tiles that passed all checks, in the order of a read; or none
+pub record HavePassed (H : Digest) (size : ℕ) (root : Bytes) (fetched : List (Tile × Bytes)) : Type 0 where
+  pub order : AreInOrder H size root fetched
+  pub passed : (fetched ≡ []) ⊎ AreVerified H size root fetched
+
+-- tiles were added after those that were there, in the order of a read, each with a text that the source may answer;
+-- this holds of each of them
+pub record AddsTiles (may_answer : Tile → Bytes → Type 0) (H : Digest) (size : ℕ) (root : Bytes) (Is : Tile → Type 0) (before after : List (Tile × Bytes)) : Type 0 where
+  pub added : List (Tile × Bytes)
+  pub joined : after ≡ before ++ added
+  pub answers : AreAnswers may_answer size added
+  pub order : AreNext H size root before added
+  pub each : All (λ f. Is f.0) added

@@ -12,6 +12,7 @@ mod joined;
 mod restored;
 
 use crate::fold::{fill, fold_level};
+use crate::four_runs::tile_root;
 use crate::resource::Tile;
 use crate::tile::join;
 use std::alloc::{AllocError, Allocator};
@@ -231,6 +232,24 @@ impl<T: TreeHash, A: Allocator + Copy> Edge<T, A> {
         self.push_leaf(leaves[1]);
         self.push_leaf(leaves[2]);
         self.push_leaf(leaves[3]);
+        Ok(())
+    }
+
+    /// Adds the 256 entries of a tile at the end, as so many calls of `push` do, where the edge has no partial tile of
+    /// level 0. Entries that SHA-256 pads to equally many blocks are hashed side by side. It fails only where the edge
+    /// has no room for one hash more; the edge then stays as it was.
+    pub fn push_tile(&mut self, entries: &[&[u8]; 256]) -> Result<(), AllocError>
+        requires whole { self.old.size % 256 ≡ 0 }
+        requires small { self.old.size + 256 < 2 ^ 32 }
+        ensures entries { (before : List Bytes) → IsEdgeOf self.old T.digest_of before
+            → OnOk result (IsEdgeOf self.new T.digest_of
+            (before ++ map (λ entry. entry.now) entries.now)) }
+        ensures size { OnOk result (self.new.size ≡ self.old.size + 256) }
+        ensures unchanged { OnErr result (self.new ≡ self.old) }
+        ensures full { OnErr result (self.old.room ≤ length self.old.kept) }
+    {
+        self.kept.reserve(1)?;
+        self.push_root(tile_root(self.digest, entries));
         Ok(())
     }
 

@@ -1,13 +1,13 @@
 //! Runs of hashes of one length, folded side by side.
 
-ghost use Rattle.std.specs.Prelude.{◌≡◌, ◌*◌, ◌<◌, List, [], length, slice_index_or};
+ghost use Rattle.std.specs.Prelude.{◌≡◌, ◌*◌, ◌<◌, List, [], length, map, slice_index_or};
 ghost use Rattle.std.specs.Int.{IsPowerOfTwo};
 ghost use Rattle.tl_hash.specs.Bytes.{Bytes};
 ghost use Rattle.tl_hash.specs.Tree.{tree_hash};
 ghost use Rattle.tl_tile.specs.Inner.Run.{part, Run, IsRun};
 ghost use Rattle.tl_tile.specs.Inner.FoldsTo.{FoldsTo};
 
-use tl_hash::{Hash, TreeHash, hash_level, node_hash, split_point};
+use tl_hash::{Hash, TreeHash, hash_level, leaf_hashes, node_hash, split_point};
 
 // What the hashes of four runs of one length fold to: the recursion of `fold_run`, down the four in step.
 fn fold_four<T: TreeHash>(h: T, a: &[Hash], b: &[Hash], c: &[Hash], d: &[Hash]) -> [Hash; 4]
@@ -55,4 +55,12 @@ pub(crate) fn fold_full<T: TreeHash>(h: T, hashes: &[Hash], last: Hash) -> Hash
     let mut all = [last; 256];
     all[..255].copy_from_slice(hashes);
     fold_quarters(h, &all, 64)
+}
+
+/// The tree hash of the 256 entries of a tile (RFC 6962, section 2.1).
+pub(crate) fn tile_root<T: TreeHash>(h: T, entries: &[&[u8]; 256]) -> Hash
+    ensures { result ≡ tree_hash T.digest_of (map (λ entry. entry.now) entries.now) }
+{
+    let leaves = leaf_hashes(h, entries);
+    fold_quarters(h, &leaves, 64)
 }

@@ -11,9 +11,9 @@ ghost use Rattle.tl_store.specs.Stored.{stored_hash};
 ghost use Rattle.tl_store.specs.Reader.{readable_count, AreReadable, GivesFault};
 ghost use Rattle.tl_tile.specs.Source.{AreAnswers};
 ghost use Rattle.tl_tile.specs.Fetching.{IsNeededFor};
-ghost use Rattle.tl_tile.specs.Verified.{AreVerified, AreInOrder};
+ghost use Rattle.tl_tile.specs.Verified.{AddsTiles, AreVerified, AreInOrder, HavePassed};
 ghost use Rattle.tl_tile.specs.SourceFaults.{MayGive};
-ghost use Rattle.tl_tile.specs.TileReader.{StandsAgainst, AreAuthentic, AreAuthenticOver, GivesNumbersFault};
+ghost use Rattle.tl_tile.specs.TileReader.{StandsAgainst, AreAuthentic, AreAuthenticOver, GivesFaultAfter, GivesNumbersFault};
 
 mod checker;
 mod edge_root;
@@ -114,6 +114,39 @@ impl<T: TreeHash, S: TileSource, A: Allocator + Copy> TileHashReader<T, S, A> {
             (record { size = self.now.size; root = self.now.root; indexes = indexes.now; fetched = fetched.new })) }
     {
         fetched.clear();
+        match self.read_after(alloc, indexes, fetched) {
+            Ok(hashes) => Ok(hashes),
+            Err(fault) => Err(fault),
+        }
+    }
+
+    /// As `read_checked`, after tiles that passed all checks against this size and root, or none: those aren't fetched
+    /// again, and not hashed but for the numbers. The tiles that are fetched come behind them, also after a fault. Where
+    /// a number is out of range there are none more.
+    pub fn read_after<B: Allocator>(
+        &self,
+        alloc: B,
+        indexes: &[u64],
+        fetched: &mut FetchedTiles<A>,
+    ) -> Result<Vec<Hash, B>, ReadFault>
+        requires { HavePassed T.digest_of self.now.size self.now.root fetched.old }
+        ensures authentic { IfOk result
+            (λ hashes. AreAuthentic T.digest_of
+            (record { size = self.now.size; root = self.now.root; indexes = indexes.now; fetched = fetched.new })
+            hashes.items) }
+        ensures verified { OnOk result (0 < length indexes.now
+            → AreVerified T.digest_of self.now.size self.now.root fetched.new) }
+        ensures passed { OnOk result
+            (HavePassed T.digest_of self.now.size self.now.root fetched.new) }
+        ensures count { IfOk result (λ hashes. length hashes.items ≡ length indexes.now) }
+        ensures in_range { OnOk result (AreReadable self.now.size indexes.now) }
+        ensures adds { AddsTiles
+            (S.may_answer self.now.source) T.digest_of self.now.size self.now.root
+            (IsNeededFor self.now.size indexes.now) fetched.old fetched.new }
+        ensures faults { IfErr result
+            (GivesFaultAfter T.digest_of (S.may_lack self.now.source) fetched.old
+            (record { size = self.now.size; root = self.now.root; indexes = indexes.now; fetched = fetched.new })) }
+    {
         if !are_below(indexes, count_of(self.checker.size)) {
             return Err(ReadFault::OutOfRange);
         }

@@ -12,6 +12,9 @@ use tl_command::{BuildOptions, LogKey, SignedOptions};
 // What is said where a resource and a folder are given.
 const ONE_OUTPUT: &str = "--get and --dir are not given together";
 
+// What is said where threads are asked for and a folder is given.
+const NO_THREADS: &str = "--threads and --dir are not given together";
+
 /// The words of a log and its key.
 pub(super) const LOG: &[Word] = words![
     "origin" "NAME" Kind::RequiredText => "The name of the log, a key's name";
@@ -28,6 +31,7 @@ const BUILD: Words = Words {
         words![
             "get" "PATH" Kind::Text => "Print the resource with this path";
             "dir" "DIR" Kind::Path => "Write the mirror into this folder";
+            "threads" "N" Kind::Short => "How many threads hash at once";
         ],
     ],
 };
@@ -62,9 +66,13 @@ pub(super) fn build_job(alloc: Global, options: &ArgMatches<'_>) -> Result<Job, 
     let origin = text_of(alloc, options, "origin")?;
     let get = text_if_given(alloc, options, "get")?;
     let dir = text_if_given(alloc, options, "dir")?;
+    let threads = options.get_one::<u16>("threads");
     let Some(key) = log_key_if_one(alloc, options)? else {
         return Err(usage_error(alloc, build(), EITHER_KEY));
     };
+    if threads.is_some() && dir.is_some() {
+        return Err(usage_error(alloc, build(), NO_THREADS));
+    }
     match (get, dir, key) {
         (None, Some(dir), key) => Ok(Job::Append(AppendOptions {
             dir,
@@ -80,9 +88,15 @@ pub(super) fn build_job(alloc: Global, options: &ArgMatches<'_>) -> Result<Job, 
             origin,
             secret,
             get,
+            threads,
         })),
         (get, None, LogKey::File(key)) => {
-            Ok(Job::BuildSigned(SignedOptions { origin, key, get }))
+            Ok(Job::BuildSigned(SignedOptions {
+                origin,
+                key,
+                get,
+                threads,
+            }))
         }
     }
 }

@@ -18,7 +18,8 @@ Output: a line 'PATH LENGTH' for each resource of the log (C2SP tlog-tiles): its
 its checkpoint. With --get the bytes of the resource with that path. With --dir all of them are written into a folder in
 which there is no log yet, as by 'tlog append', and the output is 'SIZE ROOT'. The checkpoint is a signed note: with
 --key by the private key in that file, as 'tlog keygen' prints it, whose name is the origin; with --secret by a key for
-demonstrations alone, HMAC with SHA-256 under the secret. One of the two is given.
+demonstrations alone, HMAC with SHA-256 under the secret. One of the two is given. --threads: how many threads hash at
+once for the checkpoint; without it, as many as the machine has. The output is the same.
 Exit status: 0 done; 1 refused (a bad key, a bad origin, no such path, not there, input too large, an entry too long,
 out of memory); 2 wrong arguments or a call for help; 3 a read or a write failed. A refusal is one line 'tlog: ..' on
 standard error.";

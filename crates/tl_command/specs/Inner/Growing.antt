@@ -37,12 +37,16 @@ pub record BeginsWith (bytes : Bytes) (lines : List Bytes) (rest : Bytes) : Type
   pub plain : All HasNoNewline lines
   pub short : All (λ text. is_too_long text ≡ false) lines
 
+-- why the edge of these lines isn't known: the first of them that is too long is at this place, or memory was refused
+abbrev pub IsEdgeFault : List Bytes → RunFault → Type 0
+IsEdgeFault lines (EntryTooLong place) = first_too_long lines ≡ Some place
+IsEdgeFault lines OutOfMemory = Unit {0}
+IsEdgeFault lines fault = ⊥
+
 -- the edge is that of these lines, of which none is too long, or the place of the first that is
 abbrev pub IsOutcome : List Bytes → Result EdgeContents RunFault → Type 0
 IsOutcome lines (Ok edge) = (first_too_long lines ≡ None) × IsEdgeOf edge sha256 lines
-IsOutcome lines (Err (EntryTooLong place)) = first_too_long lines ≡ Some place
-IsOutcome lines (Err OutOfMemory) = Unit {0}
-IsOutcome lines (Err fault) = ⊥
+IsOutcome lines (Err fault) = IsEdgeFault lines fault
 
 -- the whole input was read, no entry is too long, and the edge is that of its entries
 pub record ReadEdge (p : Passage) (edge : EdgeContents) : Type 0 where

@@ -1,6 +1,8 @@
 //! The command `build`: what a static mirror of the log of the lines of the input serves.
 
-ghost use Rattle.std.specs.Prelude.{◌≡◌, ◌<◌, ◌^◌, ◌↔◌, ◌⊎◌, IsTrue, IfErr, IfOk, MatchBool, Contains, length, map, vec_items, option_map};
+ghost use Rattle.std.specs.Prelude.{◌≡◌, ◌<◌, ◌^◌, ◌↔◌, ◌⊎◌, IsTrue, IfErr, IfOk, IfSome, MatchBool, Contains, length, map, vec_items, option_map};
+ghost use Rattle.sha2.specs.Sha256.{sha256};
+ghost use Rattle.tl_hash.specs.Tree.{tree_hash};
 ghost use Rattle.tl_note.specs.Key.{IsKeyName};
 ghost use Rattle.tl_tile.specs.Bundle.{AreShortEntries};
 ghost use Rattle.tl_device.specs.Device.{passage};
@@ -15,16 +17,18 @@ pub(crate) mod log_signer;
 pub(crate) mod resource_bytes;
 pub(crate) mod signed;
 
-use crate::entries::read_entries;
+use crate::entries::{ReadLog, read_log};
 use crate::fault::RunFault;
-use crate::streams::{MOST_INPUT, print_text};
+use crate::streams::print_text;
 use checkpoint_note::checkpoint_note_of;
 use listing::{listing_of, mirrored_of};
 use log_signer::LogSigner;
 use resource_bytes::{bundle_of, tile_of};
 use std::alloc::{Allocator, Global};
 use std::io::{Read, Write};
+use std::thread::Threads;
 use tl_device::Counted;
+use tl_hash::Hash;
 use tl_note::is_key_name;
 use tl_tile::{Resource, parse_path};
 
@@ -37,6 +41,8 @@ pub struct BuildOptions {
     pub secret: String,
     /// The path of the one resource to print; without it, the listing of all of them.
     pub get: Option<String>,
+    /// How many threads hash at once, 1 at least; without it, as many as the machine has.
+    pub threads: Option<u16>,
 }
 
 // The resource with the path that is asked for.
@@ -86,11 +92,13 @@ fn wanted_bytes<K: LogSigner, A: Allocator + Copy>(
     key: &K,
     resource: Resource,
     entries: &[Vec<u8, A>],
+    root: Option<Hash>,
 ) -> Result<Vec<u8, A>, RunFault>
     requires origin { IsKeyName (K.log_key key.now).name }
     requires served { Contains (mirrored (length entries.now)) resource }
     requires few { length entries.now < 2 ^ 32 }
     requires short { AreShortEntries (map vec_items entries.now) }
+    requires root { IfSome root (λ root. root ≡ tree_hash sha256 (map vec_items entries.now)) }
     ensures text { IfOk result (λ bytes. bytes.items ≡ resource_text (checkpoint_note
         (K.log_key key.now) (map vec_items entries.now)) (map vec_items entries.now) resource) }
     ensures fault { IfErr result (λ fault. fault ≡ RunFault.OutOfMemory) }
@@ -99,7 +107,7 @@ fn wanted_bytes<K: LogSigner, A: Allocator + Copy>(
         Resource::Tile(tile) => Ok(tile_of(alloc, tile, entries)?),
         Resource::Entries { index, width } => bundle_of(alloc, index, width, entries),
         Resource::Checkpoint => {
-            let note = checkpoint_note_of(alloc, global, key, entries)?;
+            let note = checkpoint_note_of(alloc, global, key, entries, root)?;
             Ok(note.into_bytes())
         }
     }
@@ -112,10 +120,12 @@ fn answer_of<K: LogSigner, A: Allocator + Copy>(
     key: &K,
     wanted: Option<Resource>,
     entries: &[Vec<u8, A>],
+    root: Option<Hash>,
 ) -> Result<Vec<u8, A>, RunFault>
     requires origin { IsKeyName (K.log_key key.now).name }
     requires few { length entries.now < 2 ^ 32 }
     requires short { AreShortEntries (map vec_items entries.now) }
+    requires root { IfSome root (λ root. root ≡ tree_hash sha256 (map vec_items entries.now)) }
     ensures { AnswersWanted (checkpoint_note (K.log_key key.now) (map vec_items entries.now))
         (map vec_items entries.now) wanted result }
 {
@@ -124,16 +134,31 @@ fn answer_of<K: LogSigner, A: Allocator + Copy>(
         return Err(RunFault::NotThere);
     }
     if let Some(resource) = wanted {
-        return wanted_bytes(alloc, global, key, resource, entries);
+        return wanted_bytes(alloc, global, key, resource, entries, root);
     }
-    let note = checkpoint_note_of(alloc, global, key, entries)?;
+    let note = checkpoint_note_of(alloc, global, key, entries, root)?;
     let listing = listing_of(alloc, resources.as_slice(), entries, note.as_str())?;
     Ok(listing.into_bytes())
 }
 
+// Whether the root of the log is wanted: the checkpoint has it, and the listing the checkpoint's length.
+fn is_root_wanted(wanted: Option<Resource>) -> bool {
+    matches!(wanted, None | Some(Resource::Checkpoint))
+}
+
 // Reads the whole input and writes what is wanted of the log of its lines.
-fn build<K: LogSigner, A: Allocator + Copy, R: Read, W: Write>(
+fn build<
+    H: Threads + Sync,
+    K: LogSigner,
+    A: Allocator + Copy,
+    B: Allocator + Copy + Send,
+    R: Read,
+    W: Write,
+>(
+    rt: &H,
     alloc: A,
+    workers: B,
+    threads: usize,
     global: Global,
     key: &K,
     wanted: Option<Resource>,
@@ -144,11 +169,15 @@ fn build<K: LogSigner, A: Allocator + Copy, R: Read, W: Write>(
     ensures { Runs (WantedComes (K.log_key key.now) wanted) (passage
         R.remaining reader.old reader.new) (passage W.contents writer.old writer.new) result }
 {
-    let entries = read_entries(alloc, reader, MOST_INPUT)?;
+    let is_rooted = is_root_wanted(wanted);
+    let ReadLog { entries, root } = match read_log(rt, alloc, workers, threads, is_rooted, reader) {
+        Ok(log) => log,
+        Err(fault) => return Err(fault),
+    };
     if is_of_no_entry(entries.len(), wanted) {
         return Err(RunFault::NotThere);
     }
-    let answer = match answer_of(alloc, global, key, wanted, entries.as_slice()) {
+    let answer = match answer_of(alloc, global, key, wanted, entries.as_slice(), root) {
         Ok(answer) => answer,
         Err(fault) => return Err(fault),
     };
@@ -160,9 +189,19 @@ fn build<K: LogSigner, A: Allocator + Copy, R: Read, W: Write>(
 /// a line `path length` for each resource, tiles by level and index, bundles, the checkpoint; with a path its bytes.
 /// The checkpoint is a note by the log's key, whose name is the log's. A name that is no key's is `BadOrigin`, a path
 /// of no resource `BadPath`, both before anything is read; what the log hasn't got is `NotThere`. The key takes its
-/// memory from `global`.
-pub fn run_build<K: LogSigner, A: Allocator + Copy, R: Read, W: Write>(
+/// memory from `global`. Up to `threads` threads hash at once, with memory from `workers`, where the root is needed.
+pub fn run_build<
+    H: Threads + Sync,
+    K: LogSigner,
+    A: Allocator + Copy,
+    B: Allocator + Copy + Send,
+    R: Read,
+    W: Write,
+>(
+    rt: &H,
     alloc: A,
+    workers: B,
+    threads: usize,
     global: Global,
     key: &K,
     get: Option<&str>,
@@ -176,5 +215,7 @@ pub fn run_build<K: LogSigner, A: Allocator + Copy, R: Read, W: Write>(
         return Err(RunFault::BadOrigin);
     }
     let wanted = wanted_of(get)?;
-    build(alloc, global, key, wanted, reader, writer)
+    build(
+        rt, alloc, workers, threads, global, key, wanted, reader, writer,
+    )
 }

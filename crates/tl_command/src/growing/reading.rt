@@ -1,8 +1,9 @@
 //! The right edge of the log of the lines of all that a reader gives.
 
-ghost use Rattle.std.specs.Prelude.{◌≡◌, ◌<◌, ◌≤◌, true, length, take, vec_len, IfNone, IfOk, IfSome, OnSome};
+ghost use Rattle.std.specs.Prelude.{◌≡◌, ◌-◌, ◌<◌, ◌≤◌, ◌^◌, true, length, take, vec_len, IfNone, IfOk, IfSome, OnSome};
 ghost use Rattle.std.specs.Io.KnownBytes.{Consumes, IsAtEnd};
-ghost use Rattle.tl_command.specs.Inner.Growing.{ReadsEdge};
+ghost use Rattle.tl_command.specs.Inner.Growing.{IsOutcome, ReadsEdge};
+ghost use Rattle.tl_command.specs.Lines.{entries_of};
 ghost use Rattle.tl_device.specs.Device.{passage};
 
 use crate::fault::RunFault;
@@ -46,6 +47,23 @@ fn empty_block<A: Allocator>(alloc: A) -> Result<Vec<u8, A>, AllocError>
     ensures { IfOk result (λ block. vec_len block ≡ 1048576) }
 {
     vec![in alloc; 0u8; BLOCK]
+}
+
+/// The right edge of the log of the lines of an input, hashed by so many threads, which take memory from `workers`. Where
+/// a line has more than 65,535 bytes, it is `EntryTooLong` of the first such line.
+pub(crate) fn edge_of<H: Threads + Sync, A: Allocator + Copy, B: Allocator + Copy + Send>(
+    rt: &H,
+    alloc: A,
+    workers: B,
+    threads: usize,
+    input: &[u8],
+) -> Result<Edge<Sha256Tree, A>, RunFault>
+    requires { length input.now < 2 ^ 32 - 1 }
+    ensures { IsOutcome (entries_of input.now) result }
+{
+    let mut growing = Growing::new(alloc);
+    growing.take_block(rt, workers, threads, input)?;
+    growing.finish()
 }
 
 /// The right edge of the log of the lines of all that the reader gives, hashed by so many threads, which take memory

@@ -1,5 +1,5 @@
 -- What each step of a read makes of the tiles that were fetched.
-use Rattle.std.specs.Prelude.{◌≡◌, ℕ, ◌+◌, ◌*◌, ◌/◌, ◌%◌, ◌^◌, ◌<◌, ◌≤◌, Bool, true, false, List, [], ◌∷◌, ◌++◌, All, Some, None, ◌⊎◌}
+use Rattle.std.specs.Prelude.{◌≡◌, ℕ, ◌+◌, ◌*◌, ◌/◌, ◌%◌, ◌^◌, ◌<◌, ◌≤◌, Bool, true, false, List, [], ◌∷◌, ◌++◌, Some, None, ◌⊎◌}
 use Rattle.std.specs.List.{AllZip}
 use Rattle.tl_hash.specs.Bytes.{Bytes, Digest}
 use Rattle.tl_store.specs.Stored.{stored_index}
@@ -9,9 +9,9 @@ use Rattle.tl_tile.specs.TileText.{level_count, full_tile, tile_with}
 use Rattle.tl_tile.specs.Folds.{Tiles, IsSubtreeHash}
 use Rattle.tl_tile.specs.FetchedEdge.{IsEdgeLevel}
 use Rattle.tl_tile.specs.Fetched.{tiles_of, tiles_in}
-use Rattle.tl_tile.specs.Source.{AreAnswers, AreLong, HasTileWith}
-use Rattle.tl_tile.specs.Fetching.{IsOver, edge_from}
-use Rattle.tl_tile.specs.Verified.{AreInOrder}
+use Rattle.tl_tile.specs.Source.{Answers, AreAnswers, AreLong, HasTileWith}
+use Rattle.tl_tile.specs.Fetching.{edge_from}
+use Rattle.tl_tile.specs.Verified.{AreInOrder, ComesNext}
 
 -- the tiles of a read so far, good or bad: answers of the source, in order
 pub record AreFetched (may_answer : Tile → Bytes → Type 0) (H : Digest) (size : ℕ) (root : Bytes) (fetched : List (Tile × Bytes)) : Type 0 where
@@ -25,15 +25,11 @@ pub record AreEdgeFrom (size level : ℕ) (fetched : List (Tile × Bytes)) : Typ
   pub partial : (t : Tile) (text : Bytes) → tiles_of fetched t ≡ Some text → (t.width < 256) × (level ≤ t.level)
   pub edge : (l : ℕ) → level ≤ l → l < 8 → 0 < level_count size l % 256 → (text : Bytes) × IsEdgeLevel (tiles_of fetched) size l text
 
--- this tile was added, or nothing
-abbrev pub AddsOnly : Tile → List (Tile × Bytes) → List (Tile × Bytes) → Type 0
-AddsOnly t before after = (after ≡ before) ⊎ ((text : Bytes) × (after ≡ before ++ (t, text) ∷ []))
-
--- tiles were added, each over this place of a level of tiles
-pub record AddsOver (level place : ℕ) (before after : List (Tile × Bytes)) : Type 0 where
-  pub added : List (Tile × Bytes)
-  pub joined : after ≡ before ++ added
-  pub over : All (λ f. IsOver level place f.0) added
+-- this tile was added, which comes next, with a text that the source may answer, or nothing
+abbrev pub AddsOnly : (Tile → Bytes → Type 0) → Digest → ℕ → Bytes → Tile → List (Tile × Bytes) → List (Tile × Bytes) → Type 0
+AddsOnly may_answer H size root t before after =
+    (after ≡ before)
+    ⊎ ((text : Bytes) × (after ≡ before ++ (t, text) ∷ []) × Answers may_answer size t text × ComesNext H size root before t)
 
 -- the tile with this place of a level wasn't fetched: it is a full one, and there is a tile above it
 pub record IsNotFetched (tiles : Tiles) (size level place : ℕ) : Type 0 where

@@ -1,5 +1,5 @@
 -- All hashes that the hashes of a full tile fold to.
-use Rattle.std.specs.Prelude.{◌≡◌, ℕ, ◌+◌, ◌-◌, ◌*◌, ◌<◌, Option, Some, None, List, [], length, slice_index_or}
+use Rattle.std.specs.Prelude.{◌≡◌, ℕ, ◌+◌, ◌-◌, ◌*◌, ◌<◌, Option, Some, List, [], length, slice_index_or}
 use Rattle.std.specs.Int.{IsPowerOfTwo}
 use Rattle.tl_hash.specs.Bytes.{Bytes, Digest}
 use Rattle.tl_tile.specs.TileText.{full_tile}
@@ -25,8 +25,7 @@ IsTileTree H text hashes = IsTreeSoFar H text 511 hashes
 abbrev pub Trees : Type 0
 Trees = ℕ → ℕ → Option (List Bytes)
 
--- the trees of all full tiles that were fetched, and no others
+-- the trees of full tiles that were fetched
 pub record AreTreesOf (H : Digest) (tiles : Tiles) (trees : Trees) : Type 0 where
   pub found : (level index : ℕ) (hashes : List Bytes) → trees level index ≡ Some hashes
       → (text : Bytes) × (tiles (full_tile level index) ≡ Some text) × IsTileTree H text hashes
-  pub absent : (level index : ℕ) → trees level index ≡ None → tiles (full_tile level index) ≡ None

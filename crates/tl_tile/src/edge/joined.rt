@@ -30,13 +30,13 @@ impl<T: TreeHash, A: Allocator + Copy> Edge<T, A> {
     {
         self.kept.reserve(next.kept.len())?;
         for root in &next.kept {
-            self.push_tile(*root);
+            self.push_root(*root);
         }
         Ok(())
     }
 
     // Adds a full tile of 256 entries by its root, where the edge has room for one hash more.
-    fn push_tile(&mut self, root: Hash)
+    pub(super) fn push_root(&mut self, root: Hash)
         requires whole { self.old.size % 256 ≡ 0 }
         requires small { self.old.size + 256 < 2 ^ 32 }
         requires room { length self.old.kept < self.old.room }

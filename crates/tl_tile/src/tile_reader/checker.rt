@@ -1,13 +1,13 @@
 //! Fetching tiles and checking each against a root.
 
-ghost use Rattle.std.specs.Prelude.{◌≡◌, ◌↔◌, ◌≤◌, ◌<◌, ◌+◌, ◌*◌, ◌/◌, ◌%◌, ◌^◌, ◌∷◌, ◌++◌, ℕ, List, [], length, IfErr, OnOk, IsTrue, MatchBool, Some, None};
+ghost use Rattle.std.specs.Prelude.{◌≡◌, ◌↔◌, ◌≤◌, ◌<◌, ◌+◌, ◌*◌, ◌/◌, ◌%◌, ◌^◌, ◌∷◌, ◌++◌, ℕ, List, [], length, IfErr, OnOk, IsTrue, MatchBool, MatchOption, Some, None, ◌⊎◌};
 ghost use Rattle.tl_hash.specs.Bytes.{Bytes};
 ghost use Rattle.tl_tile.specs.TileText as spec;
 ghost use Rattle.tl_tile.specs.Fetched.{tiles_of, tiles_in};
 ghost use Rattle.tl_tile.specs.Source.{HasTileWith, IsHashWith, IsTileOf};
 ghost use Rattle.tl_tile.specs.Fetching.{IsOver, IsPartialOf, edge_tiles};
-ghost use Rattle.tl_tile.specs.Verified.{AreVerified, ComesNext};
-ghost use Rattle.tl_tile.specs.Inner.Steps.{AreFetched, AreEdgeFrom, AddsOnly, AddsOver, IsThere};
+ghost use Rattle.tl_tile.specs.Verified.{AddsTiles, AreVerified, ComesNext};
+ghost use Rattle.tl_tile.specs.Inner.Steps.{AreFetched, AreEdgeFrom, AddsOnly, IsThere};
 ghost use Rattle.tl_tile.specs.Inner.TileTree.{AreTreesOf};
 ghost use Rattle.tl_tile.specs.Inner.TreeKeys.{trees_in};
 ghost use Rattle.tl_tile.specs.SourceFaults.{GivesReadFault};
@@ -61,13 +61,10 @@ impl<T: TreeHash, S: TileSource> Checker<T, S> {
         requires of { IsTileOf self.now.size tile }
         requires narrow { tile.width ≤ 256 }
         requires next { ComesNext T.digest_of self.now.size self.now.root fetched.old tile }
-        requires fetched { AreFetched
-            (S.may_answer self.now.source) T.digest_of self.now.size self.now.root fetched.old }
         ensures text { OnOk result ((text : Bytes)
             × (fetched.new ≡ fetched.old ++ (tile, text) ∷ []) × (length text ≡ 32 * tile.width)) }
-        ensures adds { AddsOnly tile fetched.old fetched.new }
-        ensures fetched { AreFetched
-            (S.may_answer self.now.source) T.digest_of self.now.size self.now.root fetched.new }
+        ensures adds { AddsOnly (S.may_answer self.now.source) T.digest_of
+            self.now.size self.now.root tile fetched.old fetched.new }
         ensures faults { IfErr result (GivesReadFault T.digest_of (λ t.
             S.may_lack self.now.source t × (t ≡ tile)) self.now.size self.now.root fetched.new) }
     {
@@ -128,7 +125,7 @@ impl<T: TreeHash, S: TileSource> Checker<T, S> {
     }
 
     // Fetches the right edge and checks it against the root.
-    pub(crate) fn fetch_edge<A: Allocator + Copy>(
+    fn fetch_edge<A: Allocator + Copy>(
         &self,
         fetched: &mut FetchedTiles<A>,
     ) -> Result<(), ReadFault>
@@ -136,8 +133,6 @@ impl<T: TreeHash, S: TileSource> Checker<T, S> {
         requires none { fetched.old ≡ [] }
         ensures verified { OnOk result
             (AreVerified T.digest_of self.now.size self.now.root fetched.new) }
-        ensures no_full { OnOk result
-            ((level index : ℕ) → tiles_of fetched.new (spec.full_tile level index) ≡ None) }
         ensures partial { (rest : List Tile)
             × (edge_tiles self.now.size ≡ tiles_in fetched.new ++ rest) }
         ensures fetched { AreFetched
@@ -155,6 +150,27 @@ impl<T: TreeHash, S: TileSource> Checker<T, S> {
         Ok(())
     }
 
+    // Fetches the right edge and checks it, where no tiles are there yet.
+    pub(crate) fn fetch_first<A: Allocator + Copy>(
+        &self,
+        fetched: &mut FetchedTiles<A>,
+    ) -> Result<(), ReadFault>
+        requires some { 0 < self.now.size }
+        requires passed { (fetched.old ≡ [])
+            ⊎ AreVerified T.digest_of self.now.size self.now.root fetched.old }
+        ensures verified { OnOk result
+            (AreVerified T.digest_of self.now.size self.now.root fetched.new) }
+        ensures adds { AddsTiles (S.may_answer self.now.source) T.digest_of
+            self.now.size self.now.root (IsPartialOf self.now.size) fetched.old fetched.new }
+        ensures faults { IfErr result (GivesReadFault T.digest_of (λ t. S.may_lack self.now.source t
+            × IsPartialOf self.now.size t) self.now.size self.now.root fetched.new) }
+    {
+        if !fetched.is_empty() {
+            return Ok(());
+        }
+        self.fetch_edge(fetched)
+    }
+
     // Whether the tile that has the hash at this place of a level is a full one.
     pub(crate) fn is_full(&self, level: u32, place: u64) -> bool
         requires { level ≤ 7 }
@@ -165,32 +181,50 @@ impl<T: TreeHash, S: TileSource> Checker<T, S> {
         place / 256 < partial_tile(self.size, level).index
     }
 
+    // The tile that has the hash at this place of a level.
+    fn tile_with(&self, level: u32, place: u64) -> Tile
+        requires { level ≤ 7 }
+        ensures { result ≡ spec.tile_with self.now.size level place }
+    {
+        if self.is_full(level, place) {
+            full_tile(level, place / 256)
+        } else {
+            partial_tile(self.size, level)
+        }
+    }
+
+    // The text of that tile, where it was fetched.
+    pub(crate) fn text_with<'f, A: Allocator + Copy>(
+        &self,
+        level: u32,
+        place: u64,
+        fetched: &'f FetchedTiles<A>,
+    ) -> Option<&'f [u8]>
+        requires { level ≤ 7 }
+        ensures { MatchOption result
+            (tiles_of fetched.now (spec.tile_with self.now.size level place) ≡ None) (λ text.
+            tiles_of fetched.now (spec.tile_with self.now.size level place) ≡ Some text.now) }
+    {
+        fetched.text_of(self.tile_with(level, place))
+    }
+
     // The hash at this place of a level, as the tile has it that was fetched for it.
     fn hash_with<A: Allocator + Copy>(
         &self,
         level: u32,
         place: u64,
         fetched: &FetchedTiles<A>,
-        trees: &TileTrees<A>,
     ) -> Hash
         requires level { level ≤ 7 }
         requires place { place < spec.level_count self.now.size level }
         requires verified { AreVerified T.digest_of self.now.size self.now.root fetched.now }
-        requires trees { AreTreesOf T.digest_of (tiles_of fetched.now) (trees_in trees.now.map) }
         requires there { HasTileWith (tiles_of fetched.now) self.now.size level place }
         ensures { IsHashWith (tiles_of fetched.now) self.now.size level place result }
     {
-        let number = (place % 256) as usize;
-        if self.is_full(level, place) {
-            let Some(hashes) = trees.tree_of(level, place / 256) else {
-                unreachable!();
-            };
-            return hashes[number];
-        }
-        let Some(text) = fetched.text_of(partial_tile(self.size, level)) else {
+        let Some(text) = self.text_with(level, place, fetched) else {
             unreachable!();
         };
-        hash_in(text, number)
+        hash_in(text, (place % 256) as usize)
     }
 
     // Fetches a full tile, checks it against the tile above, and keeps its tree.
@@ -207,22 +241,19 @@ impl<T: TreeHash, S: TileSource> Checker<T, S> {
         requires above { HasTileWith (tiles_of fetched.old) self.now.size (level + 1) index }
         requires verified { AreVerified T.digest_of self.now.size self.now.root fetched.old }
         requires trees { AreTreesOf T.digest_of (tiles_of fetched.old) (trees_in trees.old.map) }
-        requires fetched { AreFetched
-            (S.may_answer self.now.source) T.digest_of self.now.size self.now.root fetched.old }
         ensures there { OnOk result
             ((text : Bytes) × (tiles_of fetched.new (spec.full_tile level index) ≡ Some text)) }
         ensures verified { OnOk result
             (AreVerified T.digest_of self.now.size self.now.root fetched.new) }
         ensures trees { OnOk result
             (AreTreesOf T.digest_of (tiles_of fetched.new) (trees_in trees.new.map)) }
-        ensures adds { AddsOnly (spec.full_tile level index) fetched.old fetched.new }
-        ensures fetched { AreFetched
-            (S.may_answer self.now.source) T.digest_of self.now.size self.now.root fetched.new }
+        ensures adds { AddsOnly (S.may_answer self.now.source) T.digest_of self.now.size
+            self.now.root (spec.full_tile level index) fetched.old fetched.new }
         ensures faults { IfErr result (GivesReadFault T.digest_of (λ t. S.may_lack self.now.source t
             × (t ≡ spec.full_tile level index)) self.now.size self.now.root fetched.new) }
     {
         let tile = full_tile(level, index);
-        let own = self.hash_with(level + 1, index, fetched, trees);
+        let own = self.hash_with(level + 1, index, fetched);
         self.fetch_tile(tile, fetched)?;
         let Some(text) = fetched.last_text() else {
             unreachable!();
@@ -242,22 +273,14 @@ impl<T: TreeHash, S: TileSource> Checker<T, S> {
         level: u32,
         place: u64,
         fetched: &FetchedTiles<A>,
-        trees: &TileTrees<A>,
     ) -> bool
         requires size { self.now.size ≤ 2 ^ 62 }
         requires level { level ≤ 7 }
         requires place { place < spec.level_count self.now.size level }
         requires verified { AreVerified T.digest_of self.now.size self.now.root fetched.now }
-        requires trees { AreTreesOf T.digest_of (tiles_of fetched.now) (trees_in trees.now.map) }
         ensures { IsThere (tiles_of fetched.now) self.now.size level place result }
     {
-        if self.is_full(level, place) {
-            return match trees.tree_of(level, place / 256) {
-                Some(_) => true,
-                None => false,
-            };
-        }
-        match fetched.text_of(partial_tile(self.size, level)) {
+        match self.text_with(level, place, fetched) {
             Some(_) => true,
             None => false,
         }
@@ -276,20 +299,17 @@ impl<T: TreeHash, S: TileSource> Checker<T, S> {
         requires place { place < spec.level_count self.now.size level }
         requires verified { AreVerified T.digest_of self.now.size self.now.root fetched.old }
         requires trees { AreTreesOf T.digest_of (tiles_of fetched.old) (trees_in trees.old.map) }
-        requires fetched { AreFetched
-            (S.may_answer self.now.source) T.digest_of self.now.size self.now.root fetched.old }
         ensures there { OnOk result (HasTileWith (tiles_of fetched.new) self.now.size level place) }
         ensures verified { OnOk result
             (AreVerified T.digest_of self.now.size self.now.root fetched.new) }
         ensures trees { OnOk result
             (AreTreesOf T.digest_of (tiles_of fetched.new) (trees_in trees.new.map)) }
-        ensures adds { AddsOver level place fetched.old fetched.new }
-        ensures fetched { AreFetched
-            (S.may_answer self.now.source) T.digest_of self.now.size self.now.root fetched.new }
+        ensures adds { AddsTiles (S.may_answer self.now.source) T.digest_of self.now.size
+            self.now.root (IsOver level place) fetched.old fetched.new }
         ensures faults { IfErr result (GivesReadFault T.digest_of (λ t. S.may_lack self.now.source t
             × IsOver level place t) self.now.size self.now.root fetched.new) }
     {
-        if self.is_there(level, place, fetched, trees) {
+        if self.is_there(level, place, fetched) {
             return Ok(());
         }
         self.fetch_with(level + 1, place / 256, fetched, trees)?;

@@ -1,8 +1,11 @@
 //! Tiles that were fetched, with their texts.
 
-ghost use Rattle.std.specs.Prelude.{◌≡◌, ◌∷◌, ◌++◌, ℕ, List, [], length, MatchOption, IfOk, IfErr, OnErr, Some, None};
-ghost use Rattle.tl_hash.specs.Bytes.{Bytes};
+ghost use Rattle.std.specs.Prelude.{◌≡◌, ◌↔◌, ◌∷◌, ◌++◌, ℕ, List, [], length, take_while, IsTrue, MatchOption, IfOk, IfErr, OnErr, Some, None};
+ghost use Rattle.std.specs.List.{prefix_len};
+ghost use Rattle.tl_hash.specs.Bytes.{Bytes, Digest};
+ghost use Rattle.tl_tile.specs.Fetched as spec;
 ghost use Rattle.tl_tile.specs.Fetched.{same_tile, tiles_of, texts_of};
+ghost use Rattle.tl_tile.specs.Verified.{HavePassed};
 ghost use Rattle.tl_tile.specs.SourceFaults.{IsLast};
 ghost use Rattle.tl_tile.specs.declared.source.SourceFault.TheVariants.{Unavailable};
 
@@ -16,6 +19,30 @@ fn is_same(a: Tile, b: Tile) -> bool
     ensures { result ≡ same_tile a b }
 {
     a.level == b.level && a.index == b.index && a.width == b.width
+}
+
+// Whether this is a partial tile, or the full one over the entry with this index, of one of the eight levels.
+fn is_on_path(index: u64, tile: Tile) -> bool
+    ensures { result ≡ spec.is_on_path index tile }
+{
+    if tile.width < 256 {
+        return true;
+    }
+    tile.level < 8 && (index >> (8 * tile.level)) / 256 == tile.index
+}
+
+// How many tiles from the front on are partial ones, or full ones over the entry with this index.
+fn path_len<A: Allocator>(tiles: &[(Tile, Vec<u8, A>)], index: u64) -> usize
+    ensures { result ≡ prefix_len (λ f. spec.is_on_path index f.0) (texts_of tiles.now) }
+{
+    let mut count = 0;
+    for fetched in tiles {
+        if !is_on_path(index, fetched.0) {
+            return count;
+        }
+        count += 1;
+    }
+    count
 }
 
 // The text of a tile, where it is among these.
@@ -66,6 +93,13 @@ impl<A: Allocator> FetchedTiles<A> {
         &self.tiles
     }
 
+    /// Whether there is none.
+    pub fn is_empty(&self) -> bool
+        ensures { IsTrue result ↔ (self.now ≡ []) }
+    {
+        self.tiles.is_empty()
+    }
+
     /// The text of a tile, where it is among these.
     pub fn text_of(&self, tile: Tile) -> Option<&[u8]>
         ensures { MatchOption result
@@ -84,6 +118,18 @@ impl<A: Allocator> FetchedTiles<A> {
             [] => None,
             [.., last] => Some(last.1.as_slice()),
         }
+    }
+
+    /// Lets the tiles go from the first full one on that isn't over the entry with this index. Of tiles that passed all
+    /// checks in the order of a read those that stay did, too, and they are at most fifteen: a read of that entry goes on
+    /// from them.
+    pub fn keep_path(&mut self, index: u64)
+        ensures path { self.new ≡ take_while (λ f. spec.is_on_path index f.0) self.old }
+        ensures passed { (H : Digest) (size : ℕ) (root : Bytes)
+            → HavePassed H size root self.old → HavePassed H size root self.new }
+    {
+        let count = path_len(&self.tiles, index);
+        self.tiles.truncate(count);
     }
 
     // Lets all tiles go.

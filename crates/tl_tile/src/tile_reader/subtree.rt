@@ -1,13 +1,13 @@
 //! Complete subtrees, and their hashes from checked tiles.
 
-ghost use Rattle.std.specs.Prelude.{◌≡◌, ◌≤◌, ◌<◌, ◌*◌, ◌/◌, ◌%◌, ◌^◌, ℕ, List, [], length, All, IfOk, IfErr, OnOk};
+ghost use Rattle.std.specs.Prelude.{◌≡◌, ◌≤◌, ◌<◌, ◌*◌, ◌/◌, ◌%◌, ◌^◌, [], length, All, IfOk, IfErr, IfSome, OnOk, ◌⊎◌};
 ghost use Rattle.tl_store.specs.Stored as stored;
 ghost use Rattle.tl_tile.specs.Folds.{IsSubtreeHash};
 ghost use Rattle.tl_tile.specs.Fetched.{tiles_of};
 ghost use Rattle.tl_tile.specs.Source.{HasTileWith};
 ghost use Rattle.tl_tile.specs.Fetching.{IsOver, IsNeededFor};
-ghost use Rattle.tl_tile.specs.Verified.{AreVerified};
-ghost use Rattle.tl_tile.specs.Inner.Steps.{AreFetched, AddsOver, IsSubtreeOf};
+ghost use Rattle.tl_tile.specs.Verified.{AddsTiles, AreVerified};
+ghost use Rattle.tl_tile.specs.Inner.Steps.{IsSubtreeOf};
 ghost use Rattle.tl_tile.specs.Inner.TileTree.{AreTreesOf};
 ghost use Rattle.tl_tile.specs.Inner.TreeKeys.{trees_in};
 ghost use Rattle.tl_tile.specs.SourceFaults.{GivesReadFault};
@@ -15,7 +15,6 @@ ghost use Rattle.tl_tile.specs.TileReader.{AreAuthentic};
 
 use crate::source::TileSource;
 use crate::tile_reader::checker::Checker;
-use crate::tile_reader::edge_root::partial_tile;
 use crate::tile_reader::fetched::FetchedTiles;
 use crate::tile_reader::hashes::fold_part;
 use crate::tile_reader::trees::TileTrees;
@@ -42,7 +41,35 @@ fn subtree_of(index: u64, size: u64) -> Subtree
 }
 
 impl<T: TreeHash, S: TileSource> Checker<T, S> {
-    // The hash of a subtree, from the tree of the full tile with its hashes, or from a partial tile's text.
+    // The hash of a subtree from the tree of the full tile with its hashes, where that was kept.
+    fn tree_hash<A: Allocator + Copy>(
+        &self,
+        subtree: Subtree,
+        first: u64,
+        count: u64,
+        fetched: &FetchedTiles<A>,
+        trees: &TileTrees<A>,
+    ) -> Option<Hash>
+        requires within { IsSubtreeOf self.now.size subtree }
+        requires first { first ≡ subtree.place * 2 ^ (subtree.level % 8) }
+        requires count { count ≡ 2 ^ (subtree.level % 8) }
+        requires trees { AreTreesOf T.digest_of (tiles_of fetched.now) (trees_in trees.now.map) }
+        ensures { IfSome result (IsSubtreeHash T.digest_of
+            (tiles_of fetched.now) self.now.size subtree.level subtree.place) }
+    {
+        let level = subtree.level / 8;
+        if !self.is_full(level, first) {
+            return None;
+        }
+        let Some(hashes) = trees.tree_of(level, first / 256) else {
+            return None;
+        };
+        let many = 256 / count;
+        let number = (512 - 2 * many + subtree.place % many) as usize;
+        Some(hashes[number])
+    }
+
+    // The hash of a subtree, from a tree that was kept, or from the text of the tile with its hashes.
     fn subtree_hash<A: Allocator + Copy>(
         &self,
         subtree: Subtree,
@@ -61,17 +88,10 @@ impl<T: TreeHash, S: TileSource> Checker<T, S> {
         ensures { IsSubtreeHash T.digest_of
             (tiles_of fetched.now) self.now.size subtree.level subtree.place result }
     {
-        let level = subtree.level / 8;
-        if self.is_full(level, first) {
-            let Some(hashes) = trees.tree_of(level, first / 256) else {
-                unreachable!();
-            };
-            let many = 256 / count;
-            let number = (512 - 2 * many + subtree.place % many) as usize;
-            return hashes[number];
+        if let Some(hash) = self.tree_hash(subtree, first, count, fetched, trees) {
+            return hash;
         }
-        let tile = partial_tile(self.size, level);
-        let Some(text) = fetched.text_of(tile) else {
+        let Some(text) = self.text_with(subtree.level / 8, first, fetched) else {
             unreachable!();
         };
         fold_part(self.h, text, (first % 256) as usize, count as usize)
@@ -88,18 +108,15 @@ impl<T: TreeHash, S: TileSource> Checker<T, S> {
         requires within { IsSubtreeOf self.now.size subtree }
         requires verified { AreVerified T.digest_of self.now.size self.now.root fetched.old }
         requires trees { AreTreesOf T.digest_of (tiles_of fetched.old) (trees_in trees.old.map) }
-        requires fetched { AreFetched
-            (S.may_answer self.now.source) T.digest_of self.now.size self.now.root fetched.old }
         ensures verified { OnOk result
             (AreVerified T.digest_of self.now.size self.now.root fetched.new) }
         ensures trees { OnOk result
             (AreTreesOf T.digest_of (tiles_of fetched.new) (trees_in trees.new.map)) }
         ensures hash { IfOk result (IsSubtreeHash T.digest_of
             (tiles_of fetched.new) self.now.size subtree.level subtree.place) }
-        ensures adds { AddsOver
-            (subtree.level / 8) (subtree.place * 2 ^ (subtree.level % 8)) fetched.old fetched.new }
-        ensures fetched { AreFetched
-            (S.may_answer self.now.source) T.digest_of self.now.size self.now.root fetched.new }
+        ensures adds { AddsTiles
+            (S.may_answer self.now.source) T.digest_of self.now.size self.now.root (IsOver
+            (subtree.level / 8) (subtree.place * 2 ^ (subtree.level % 8))) fetched.old fetched.new }
         ensures faults { IfErr result (GivesReadFault T.digest_of
             (λ t. S.may_lack self.now.source t × IsOver (subtree.level / 8)
             (subtree.place * 2 ^ (subtree.level % 8)) t) self.now.size self.now.root fetched.new) }
@@ -110,7 +127,8 @@ impl<T: TreeHash, S: TileSource> Checker<T, S> {
         Ok(self.subtree_hash(subtree, first, count, fetched, trees))
     }
 
-    // The stored hashes with these numbers, in this order.
+    // The stored hashes with these numbers, in this order. Tiles that passed all checks are neither fetched nor hashed
+    // again.
     pub(crate) fn read_numbers<A: Allocator + Copy, B: Allocator>(
         &self,
         alloc: B,
@@ -121,7 +139,8 @@ impl<T: TreeHash, S: TileSource> Checker<T, S> {
         requires some { 0 < self.now.size }
         requires asked { 0 < length indexes.now }
         requires within { All (λ index. index < stored.stored_count self.now.size) indexes.now }
-        requires none { fetched.old ≡ [] }
+        requires passed { (fetched.old ≡ [])
+            ⊎ AreVerified T.digest_of self.now.size self.now.root fetched.old }
         ensures authentic { IfOk result
             (λ hashes. AreAuthentic T.digest_of
             (record { size = self.now.size; root = self.now.root; indexes = indexes.now; fetched = fetched.new })
@@ -129,14 +148,14 @@ impl<T: TreeHash, S: TileSource> Checker<T, S> {
         ensures count { IfOk result (λ hashes. length hashes.items ≡ length indexes.now) }
         ensures verified { OnOk result
             (AreVerified T.digest_of self.now.size self.now.root fetched.new) }
-        ensures needed { All (λ f. IsNeededFor self.now.size indexes.now f.0) fetched.new }
-        ensures fetched { AreFetched
-            (S.may_answer self.now.source) T.digest_of self.now.size self.now.root fetched.new }
+        ensures adds { AddsTiles
+            (S.may_answer self.now.source) T.digest_of self.now.size self.now.root
+            (IsNeededFor self.now.size indexes.now) fetched.old fetched.new }
         ensures faults { IfErr result (GivesReadFault T.digest_of (λ t. S.may_lack self.now.source t
             × IsNeededFor self.now.size indexes.now t) self.now.size self.now.root fetched.new) }
     {
         let mut hashes = Vec::new(alloc);
-        self.fetch_edge(fetched)?;
+        self.fetch_first(fetched)?;
         let mut trees = TileTrees::new(fetched.allocator());
         for index in indexes {
             let subtree = subtree_of(*index, self.size);

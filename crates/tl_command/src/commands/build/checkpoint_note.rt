@@ -1,6 +1,6 @@
 //! The checkpoint of a log as a note, signed by the log's key.
 
-ghost use Rattle.std.specs.Prelude.{◌≡◌, ◌<◌, ◌^◌, List, length, map, vec_items, string_bytes, IfOk, IfErr};
+ghost use Rattle.std.specs.Prelude.{◌≡◌, ◌<◌, ◌^◌, List, length, map, vec_items, string_bytes, IfOk, IfErr, IfSome};
 ghost use Rattle.sha2.specs.Sha256.{sha256};
 ghost use Rattle.tl_hash.specs.Bytes.{Bytes};
 ghost use Rattle.tl_hash.specs.Tree.{tree_hash};
@@ -38,19 +38,25 @@ pub fn sign_checkpoint<K: LogSigner, A: Allocator + Copy>(
     Ok(note)
 }
 
-/// The note of the checkpoint of the log of these entries, signed by the log's key.
+/// The note of the checkpoint of the log of these entries, signed by the log's key. `root` is that of the log, if it is
+/// known already.
 pub(crate) fn checkpoint_note_of<K: LogSigner, A: Allocator + Copy>(
     alloc: A,
     global: Global,
     key: &K,
     entries: &[Vec<u8, A>],
+    root: Option<Hash>,
 ) -> Result<String<A>, RunFault>
     requires origin { IsKeyName (K.log_key key.now).name }
     requires few { length entries.now < 2 ^ 32 }
+    requires root { IfSome root (λ root. root ≡ tree_hash sha256 (map vec_items entries.now)) }
     ensures note { IfOk result (λ note.
         string_bytes note ≡ checkpoint_note (K.log_key key.now) (map vec_items entries.now)) }
     ensures fault { IfErr result (λ fault. fault ≡ RunFault.OutOfMemory) }
 {
-    let root = entry_root(Sha256Tree, entries);
+    let root = match root {
+        Some(root) => root,
+        None => entry_root(Sha256Tree, entries),
+    };
     sign_checkpoint(alloc, global, key, entries.len() as u64, root)
 }

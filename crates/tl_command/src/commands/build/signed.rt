@@ -10,6 +10,7 @@ use crate::fault::RunFault;
 use crate::keys::read_private_key;
 use std::alloc::{Allocator, Global};
 use std::io::{Read, Write};
+use std::thread::Threads;
 use tl_device::Counted;
 use tl_key::Note;
 
@@ -22,13 +23,24 @@ pub struct SignedOptions {
     pub key: String,
     /// The path of the one resource to print; without it, the listing of all of them.
     pub get: Option<String>,
+    /// How many threads hash at once, 1 at least; without it, as many as the machine has.
+    pub threads: Option<u16>,
 }
 
 /// `build`, signed by the private key whose text the bytes are (`tl_key::read_signer_key`), with a newline after it or
 /// without: a key of notes, whose name is the origin. Bytes of no such key are `BadKeyFile`, a key of another name
 /// is `BadOrigin`, both before anything is read.
-pub fn run_build_signed<A: Allocator + Copy, R: Read, W: Write>(
+pub fn run_build_signed<
+    H: Threads + Sync,
+    A: Allocator + Copy,
+    B: Allocator + Copy + Send,
+    R: Read,
+    W: Write,
+>(
+    rt: &H,
     alloc: A,
+    workers: B,
+    threads: usize,
     global: Global,
     origin: &str,
     bytes: &[u8],
@@ -46,5 +58,7 @@ pub fn run_build_signed<A: Allocator + Copy, R: Read, W: Write>(
     if key.origin() != origin {
         return Err(RunFault::BadOrigin);
     }
-    run_build(alloc, global, &key, get, reader, writer)
+    run_build(
+        rt, alloc, workers, threads, global, &key, get, reader, writer,
+    )
 }

@@ -1,7 +1,7 @@
 use Rattle.std.proofs.Common.{◌≡◌, ◌∷◌, [], length, vec_items, sym, arith}
 use Rattle.std.proofs.lemmas.Bool.Decides.{nat_tests}
 use Rattle.tl_command.proofs.GrowingLemmas.{empty_list}
-use Rattle.tl_command.proofs.WholeLines.{grown_four, no_place}
+use Rattle.tl_command.proofs.WholeLines.{grown_lines, no_place}
 use Rattle.tl_command.proofs.growing.Growing.take_four.Goals as goal
 
 pub returns-clause-grows : goal.returns-clause-grows
@@ -12,5 +12,5 @@ returns-clause-grows g c = λ input was.
     let none : length (vec_items line) ≡ 0 = grind (arith, nat_tests, ok, c.is_empty.ensures, c.if-not-is_empty.false) in
     let begun : vec_items line ≡ [] = empty_list (vec_items line) none in
     let place = no_place c.args.self.now.too_long (sym c.if-is_some.ensures) in
-    grown_four c.args.self.now _ input c.args.piece.now (four.first.now ∷ four.second.now ∷ four.third.now ∷ four.fourth.now ∷ []) four.rest.now
+    grown_lines c.args.self.now _ input c.args.piece.now (four.first.now ∷ four.second.now ∷ four.third.now ∷ four.fourth.now ∷ []) four.rest.now
     was c.in-Some.ensures place begun place begun c.in_ok-push_four.ensures.entries

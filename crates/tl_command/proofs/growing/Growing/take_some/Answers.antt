@@ -11,7 +11,7 @@ extend-requires g c = none_found c.args.piece.now c.in_default.ensures
 pub returns-in_default-clause-grows : goal.returns-in_default-clause-grows
 returns-in_default-clause-grows g c = λ input was.
     let piece = c.args.piece.now in
-    let before = subst (λ (t : List ℕ). IsGrowing c.take_four.new.self t) (none_taken input piece c.in_ok-taken.taken c.if-taken-gt0.false) (c.in_ok-taken.ensures.grows input was) in
+    let before = subst (λ (t : List ℕ). IsGrowing c.take_whole.new.self t) (none_taken input piece c.in_ok-taken.taken c.if-taken-gt0.false) (c.in_ok-taken.ensures.grows input was) in
     subst (λ (t : List ℕ). IsGrowing c.extend.new.self (input ++ t)) (sym (take_all (length piece) piece (omega arith))) (c.in_ok-extend.ensures.grows input before)
 
 pub extend-requires-2 : goal.extend-requires-2
@@ -23,6 +23,6 @@ pub returns-clause-grows : goal.returns-clause-grows
 returns-clause-grows g c = λ input was.
     let piece = c.args.piece.now in
     let found = c.in-Some.ensures in
-    let before = subst (λ (t : List ℕ). IsGrowing c.take_four.new.self t) (none_taken input piece c.in_ok-taken.taken c.if-taken-gt0.false) (c.in_ok-taken.ensures.grows input was) in
+    let before = subst (λ (t : List ℕ). IsGrowing c.take_whole.new.self t) (none_taken input piece c.in_ok-taken.taken c.if-taken-gt0.false) (c.in_ok-taken.ensures.grows input was) in
     subst (λ (t : List ℕ). IsGrowing c.end_line.new.self t) (line_front input piece c.in-Some.end found.0.high found.1)
     (c.in_ok-end_line.ensures.grows _ (c.in_ok-extend-2.ensures.grows input before))

@@ -1,6 +1,6 @@
 use Rattle.std.proofs.Common.{◌+◌, inl, arith}
 use Rattle.std.proofs.lemmas.Result.{on_ok_weaker}
-use Rattle.tl_tile.proofs.Orders.{next-partial, edge-prefix}
+use Rattle.tl_tile.proofs.Orders.{next-partial, edge-prefix, fetched-only}
 use Rattle.tl_tile.proofs.EdgeFetch.{edge-skip, edge-push, edge-new, edge-first}
 use Rattle.tl_tile.proofs.tile_reader.checker.Checker.fetch_level.Goals as goal
 
@@ -24,4 +24,8 @@ returns-clause-edge g c =
 
 pub returns-clause-partial : goal.returns-clause-partial
 returns-clause-partial g c =
-    edge-first c.args.self.now.size c.args.level c.args.fetched.now c.fetch_tile.new.fetched c.partial_tile-tile.result c.requires.level c.partial_tile-tile.ensures (omega (arith, c.if-tile-eq0.false)) c.requires.edge c.fetch_tile.ensures.adds
+    edge-first (g.S.TileSource.may_answer c.args.self.now.source) g.T.TreeHash.digest_of c.args.self.now.root c.args.self.now.size c.args.level c.args.fetched.now c.fetch_tile.new.fetched c.partial_tile-tile.result c.requires.level c.partial_tile-tile.ensures (omega (arith, c.if-tile-eq0.false)) c.requires.edge c.fetch_tile.ensures.adds
+
+pub returns-clause-fetched : goal.returns-clause-fetched
+returns-clause-fetched g c =
+    fetched-only (g.S.TileSource.may_answer c.args.self.now.source) g.T.TreeHash.digest_of c.args.self.now.size c.args.self.now.root c.args.fetched.now c.fetch_tile.new.fetched c.partial_tile-tile.result c.requires.fetched c.fetch_tile.ensures.adds

@@ -1,12 +1,14 @@
 use Rattle.std.proofs.Common.{◌<◌, length, subst, arith, rules}
-use Rattle.std.specs.Prelude.{IfErr}
+use Rattle.std.specs.Prelude.{IfErr, OnOk}
+use Rattle.std.proofs.lemmas.Result.{on_ok_weaker}
 use Rattle.tl_store.specs.Reader.{AreReadable}
 use Rattle.tl_tile.proofs.Readers.{some_readable, all_stored, numbers_fault}
 use Rattle.tl_tile.specs.Fetching.{IsNeededFor}
 use Rattle.tl_tile.specs.SourceFaults.{GivesReadFault}
-use Rattle.tl_tile.specs.TileReader.{GivesNumbersFault}
-use Rattle.tl_tile.proofs.Orders.{err_weaker}
-use Rattle.tl_tile.proofs.tile_reader.TileHashReader.read_checked.Goals as goal
+use Rattle.tl_tile.specs.TileReader.{GivesFaultAfter}
+use Rattle.tl_tile.specs.Verified.{AddsTiles, AreVerified}
+use Rattle.tl_tile.proofs.Orders.{err_weaker, passed-more}
+use Rattle.tl_tile.proofs.tile_reader.TileHashReader.read_after.Goals as goal
 
 pub read_numbers-requires-clause-size : goal.read_numbers-requires-clause-size
 read_numbers-requires-clause-size g c =
@@ -34,7 +36,18 @@ returns-clause-faults g c =
     let fetched = c.read_numbers.new.fetched in
     let checker = c.self.inside.checker in
     let lacks = g.S.TileSource.may_lack checker.source in
-    subst (λ r. IfErr c.read_numbers.result (GivesNumbersFault H (g.S.TileSource.may_lack r.source) (record { size = r.size; root = r.root; indexes = c.args.indexes.now; fetched = fetched }))) c.self.view_is
+    subst (λ r. IfErr c.read_numbers.result (GivesFaultAfter H (g.S.TileSource.may_lack r.source) c.args.fetched.now (record { size = r.size; root = r.root; indexes = c.args.indexes.now; fetched = fetched }))) c.self.view_is
     (err_weaker (GivesReadFault H (λ t. lacks t × IsNeededFor checker.size c.args.indexes.now t) checker.size checker.root fetched)
-    (GivesNumbersFault H lacks (record { size = checker.size; root = checker.root; indexes = c.args.indexes.now; fetched = fetched })) c.read_numbers.result
-    (λ fault gives. numbers_fault H lacks (record { size = checker.size; root = checker.root; indexes = c.args.indexes.now; fetched = fetched }) fault readable some gives) c.read_numbers.ensures.faults)
+    (GivesFaultAfter H lacks c.args.fetched.now (record { size = checker.size; root = checker.root; indexes = c.args.indexes.now; fetched = fetched })) c.read_numbers.result
+    (λ fault gives. numbers_fault H lacks c.args.fetched.now (record { size = checker.size; root = checker.root; indexes = c.args.indexes.now; fetched = fetched }) fault readable some gives) c.read_numbers.ensures.faults)
+
+pub returns-clause-passed : goal.returns-clause-passed
+returns-clause-passed g c =
+    let H = g.T.TreeHash.digest_of in
+    let old = c.args.fetched.now in
+    let new = c.read_numbers.new.fetched in
+    let self = c.args.self.now in
+    let answers = g.S.TileSource.may_answer in
+    let adds = subst (λ r. AddsTiles (answers r.source) H r.size r.root (IsNeededFor r.size c.args.indexes.now) old new) c.self.view_is c.read_numbers.ensures.adds in
+    let verified = subst (λ r. OnOk c.read_numbers.result (AreVerified H r.size r.root new)) c.self.view_is c.read_numbers.ensures.verified in
+    on_ok_weaker c.read_numbers.result (passed-more (answers self.source) H self.size self.root (IsNeededFor self.size c.args.indexes.now) old new c.requires adds) verified
