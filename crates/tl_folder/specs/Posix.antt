@@ -1,5 +1,5 @@
--- What a crash leaves of files, by what POSIX.1-2017 (System Interfaces: open, write, fsync, unlink, rename) says: what was
--- written and not synced may be lost or torn, and a rename is one step. That a name outlasts a crash once its folder
+-- What a crash leaves of files, by what POSIX.1-2017 (System Interfaces: open, write, fsync, unlink, rename) says: what
+-- was written and not synced may be lost or torn, and a rename is one step. That a name outlasts a crash once its folder
 -- was synced is what systems add to it. The folders above a file are to be there, and each text is a path of its own.
 use Rattle.std.specs.Prelude.{◌≡◌, ℕ, ◌+◌, ◌-◌, ◌⊎◌, ◌||◌, Bool, true, false, List, [], ◌∷◌, ◌++◌, length, take, Option, Some, None, option_map, Contains, if◌then◌else◌}
 use Rattle.std.specs.Str.{bytes_eq}

@@ -42,8 +42,8 @@ fn make_above<C: FileCalls>(calls: &mut C, path: &str) -> Result<(), DeviceFault
 }
 
 /// Writes a new file beside a place and then puts it there, once what it has outlasts a crash; the folders above are
-/// made where they aren't there. Their names and its own may be lost in a crash. `Taken`: something is beside the place.
-/// (Where something came to the place, also a link, it is replaced by what is renamed, and not followed.)
+/// made where they aren't there. Their names and its own may be lost in a crash. `Taken`: something is beside the
+/// place. (Where something came to the place, also a link, it is replaced by what is renamed, and not followed.)
 pub(crate) fn add_file<C: FileCalls>(
     calls: &mut C,
     aside: &str,

@@ -19,6 +19,7 @@ use crate::place::{beside, path_under};
 use crate::removing::{Going, remove_moved};
 use crate::resource::read_at;
 use crate::staged::{Staged, put_staged, write_in_folder};
+use crate::together::{ManyCalls, SyncsTogether};
 use std::alloc::{AllocError, Allocator, Global};
 use std::mem;
 use tl_device::DeviceFault;
@@ -139,30 +140,6 @@ impl<C: FileCalls + Drop> FolderFiles<C> {
         Ok(())
     }
 
-    /// Puts all files that were written beside their places there. It waits for the disk: what it wrote outlasts a
-    /// crash. `Moved`: another folder is at its path than the one that was opened, and nothing was put there. After a
-    /// failure every call fails.
-    pub(crate) fn settle(&mut self) -> Result<(), DeviceFault>
-        ensures calls { Takes (settling (map move_of (vec_items self.old.staged))
-            (map string_bytes (vec_items self.old.changed)))
-            (C.calls self.old.calls) (C.calls self.new.calls) result }
-        ensures covered { AreCovered (string_bytes self.old.root)
-            (map string_bytes (vec_items self.old.changed)) (map move_of (vec_items self.old.staged)) }
-        ensures root { string_bytes self.new.root ≡ string_bytes self.old.root }
-        ensures unstaged { OnOk result (vec_items self.new.staged ≡ []) }
-    {
-        if self.is_broken {
-            return Err(DeviceFault::System);
-        }
-        let staged = mem::replace(&mut self.staged, Vec::new(self.alloc));
-        let changed = mem::replace(&mut self.changed, Vec::new(self.alloc));
-        self.is_broken = true;
-        self.check_folder()?;
-        put_staged(&mut self.calls, staged.as_slice(), changed.as_slice())?;
-        self.is_broken = false;
-        Ok(())
-    }
-
     /// By which paths the partial ones of a full tile or bundle are removed. `Moved`: another folder is at its path
     /// than the one that was opened.
     pub(crate) fn going_of(&self, full: &Resource) -> Result<Going, DeviceFault>
@@ -251,5 +228,37 @@ impl<C: FileCalls + Drop> FolderFiles<C> {
             Ok(None) | Err(DeviceFault::TooLarge) => Ok(None),
             Err(fault) => Err(fault),
         }
+    }
+}
+
+impl<C: ManyCalls + Drop> FolderFiles<C> {
+    /// Puts all files that were written beside their places there. It waits for the disk: what it wrote outlasts a
+    /// crash. `Moved`: another folder is at its path than the one that was opened, and nothing was put there. After a
+    /// failure every call fails.
+    pub(crate) fn settle<D: SyncsTogether>(&mut self, disk: &D) -> Result<(), DeviceFault>
+        ensures calls { Takes (settling (map move_of (vec_items self.old.staged))
+            (map string_bytes (vec_items self.old.changed)))
+            (C.calls self.old.calls) (C.calls self.new.calls) result }
+        ensures covered { AreCovered (string_bytes self.old.root)
+            (map string_bytes (vec_items self.old.changed)) (map move_of (vec_items self.old.staged)) }
+        ensures root { string_bytes self.new.root ≡ string_bytes self.old.root }
+        ensures unstaged { OnOk result (vec_items self.new.staged ≡ []) }
+    {
+        if self.is_broken {
+            return Err(DeviceFault::System);
+        }
+        let staged = mem::replace(&mut self.staged, Vec::new(self.alloc));
+        let changed = mem::replace(&mut self.changed, Vec::new(self.alloc));
+        self.is_broken = true;
+        self.check_folder()?;
+        put_staged(
+            &mut self.calls,
+            disk,
+            self.alloc,
+            staged.as_slice(),
+            changed.as_slice(),
+        )?;
+        self.is_broken = false;
+        Ok(())
     }
 }

@@ -1,4 +1,5 @@
-//! A shelf in a folder.
+//! A shelf in a folder. A file is written beside its place under the name with `.new`. The mark is the number in decimal
+//! and a newline.
 
 ghost use Rattle.std.specs.Prelude.{◌≡◌, [], ◌∷◌, ◌++◌, IfOk, OnOk, OnErr};
 ghost use Rattle.tl_folder.specs.Folders.{IsOver};
@@ -16,12 +17,11 @@ use tl_archive::{Shelf, ShelfFault};
 use tl_device::DeviceFault;
 use tl_tile::Resource;
 
-/// A folder with a log in the layout of C2SP tlog-tiles: the path of each resource is that of its file. A file is
-/// written beside its place under the name with `.new`. Partial tiles and bundles lie in one folder for each full one,
-/// which is moved to the path `removed` in one step where they are removed, and then removed there. Where a settling or
-/// such a move fails, each later call fails: what outlasts a crash isn't known then. Where another folder came to its
-/// path, staging, settling, removing and marking fail, and nothing is written there. The mark is the file `published`:
-/// the number in decimal and a newline.
+/// A folder with a log in the layout of C2SP tlog-tiles: the path of each resource is that of its file, and the number
+/// of entries that were published stands in `published`. Partial tiles and bundles lie in one folder for each full one,
+/// moved to the path `removed` in one step to be removed. Where a settling or such a move fails, each
+/// later call fails: what outlasts a crash isn't known then. Where another folder came to its path, all that writes
+/// fails, and nothing is written there.
 #[derive(Drop)]
 pub struct FolderShelf<D, H> {
     disk: D,
@@ -166,7 +166,7 @@ impl<D: CrashOutcome, H: Files + Drop> Shelf for FolderShelf<D, H> {
         ensures place { self.new.place ≡ self.old.place }
         ensures mark { self.new.published ≡ self.old.published }
     {
-        match self.files.settle() {
+        match self.files.settle(&self.disk) {
             Ok(()) => {
                 self.calls.note(CallOutcome::Settled, &[]);
                 Ok(())

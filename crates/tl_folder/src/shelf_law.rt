@@ -93,8 +93,8 @@ pub fn removing_shelves_tear_nothing()
         → Becomes disk calls now → ReflectsSome root full held now }
 {}
 
-/// Once the folder of the partial ones was moved and removed, a crash leaves none of them, and under each other resource
-/// what was held, and nothing else. It computes nothing: its contract is the law.
+/// Once the folder of the partial ones was moved and removed, a crash leaves none of them, and under each other
+/// resource what was held, and nothing else. It computes nothing: its contract is the law.
 pub fn removed_shelves_outlast_a_crash()
     ensures { (root : Path) (held : Held) (full : Resource) (calls : List Call) (disk now : Disk)
         → IsFull full → Reflects root held disk

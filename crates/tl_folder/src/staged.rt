@@ -8,6 +8,8 @@ ghost use Rattle.tl_folder.specs.Inner.Staged.{move_of};
 use crate::file_calls::FileCalls;
 use crate::look::check_plain;
 use crate::making::make_folders;
+use crate::together::{ManyCalls, SyncsTogether};
+use std::alloc::Global;
 use std::path::Path;
 use tl_device::DeviceFault;
 
@@ -18,8 +20,8 @@ pub(crate) struct Staged {
     pub(crate) place: String,
 }
 
-// Has what each of the files has outlast a crash.
-fn sync_staged<C: FileCalls>(calls: &mut C, staged: &[Staged]) -> Result<(), DeviceFault>
+/// Has what each of the files has outlast a crash, one after another.
+pub(crate) fn sync_staged<C: FileCalls>(calls: &mut C, staged: &[Staged]) -> Result<(), DeviceFault>
     ensures { Does (map (λ file. syncing (move_of file)) staged.now)
         (C.calls calls.old) (C.calls calls.new) result }
 {
@@ -40,8 +42,11 @@ fn place_staged<C: FileCalls>(calls: &mut C, staged: &[Staged]) -> Result<(), De
     Ok(())
 }
 
-// Has the names in each of the folders outlast a crash.
-fn sync_folders<C: FileCalls>(calls: &mut C, folders: &[String]) -> Result<(), DeviceFault>
+/// Has the names in each of the folders outlast a crash, one after another.
+pub(crate) fn sync_folders<C: FileCalls>(
+    calls: &mut C,
+    folders: &[String],
+) -> Result<(), DeviceFault>
     ensures { Does (map (λ folder. naming (string_bytes folder)) folders.now)
         (C.calls calls.old) (C.calls calls.new) result }
 {
@@ -52,17 +57,19 @@ fn sync_folders<C: FileCalls>(calls: &mut C, folders: &[String]) -> Result<(), D
 }
 
 /// Has the files outlast a crash, puts them in their places, and has the names in the folders outlast a crash.
-pub(crate) fn put_staged<C: FileCalls>(
+pub(crate) fn put_staged<C: ManyCalls, D: SyncsTogether>(
     calls: &mut C,
+    disk: &D,
+    alloc: Global,
     staged: &[Staged],
     folders: &[String],
 ) -> Result<(), DeviceFault>
     ensures { Does (settling (map move_of staged.now) (map string_bytes folders.now))
         (C.calls calls.old) (C.calls calls.new) result }
 {
-    sync_staged(calls, staged)?;
+    calls.sync_files(disk, alloc, staged)?;
     place_staged(calls, staged)?;
-    sync_folders(calls, folders)
+    calls.sync_folders(disk, alloc, folders)
 }
 
 /// Writes a new file, and makes the folders above it where they aren't there. Their names may be lost in a crash.
