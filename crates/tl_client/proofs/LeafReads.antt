@@ -1,5 +1,6 @@
 -- The numbers of leaves among the stored hashes, and the stored hashes under them.
-use Rattle.std.proofs.Common.{◌≡◌, ℕ, zero, suc, ◌+◌, ◌*◌, ◌^◌, ◌<◌, ◌≤◌, List, [], ◌∷◌, ◌++◌, length, take, drop, slice_index_or, refl, sym, ap, subst, ◌∙◌, arith}
+use Rattle.std.proofs.Common.{◌≡◌, ℕ, zero, suc, inl, ◌+◌, ◌*◌, ◌^◌, ◌<◌, ◌≤◌, List, [], ◌∷◌, ◌++◌, length, take, drop, slice_index_or, refl, sym, ap, subst, ◌∙◌, arith}
+use Rattle.std.proofs.lemmas.List.{append-nil}
 use Rattle.std.proofs.lemmas.List.FromFn.{get_or-map-range_with_len, map-range_with_len_more, length-map-range_with_len}
 use Rattle.tl_hash.specs.Bytes.{Digest}
 use Rattle.tl_hash.specs.Tree.{leaf_input, tree_hash}
@@ -16,8 +17,9 @@ use Rattle.tl_tile.specs.declared.resource.Resource.TheVariants as resource
 use Rattle.tl_tile.specs.declared.resource.Tile.{Tile}
 use Rattle.tl_tile.specs.Fetching.{IsNeededFor}
 use Rattle.tl_tile.specs.Path.{IsTile}
-use Rattle.tl_tile.specs.TileReader.{GivesNumbersFault}
-use Rattle.tl_client.specs.Blame.{leaf_numbers, leaf_reading}
+use Rattle.tl_tile.specs.TileReader.{GivesFaultAfter}
+use Rattle.tl_tile.specs.Verified.{AddsTiles, HavePassed}
+use Rattle.tl_client.specs.Blame.{AddsServed, AreServed, leaf_numbers, leaf_reading}
 use Rattle.tl_client.specs.Faults.{after_read}
 use Rattle.tl_client.specs.Inner.Leaves.{RefusesLeaves}
 use Rattle.tl_client.proofs.Blamed.{tile_has_path}
@@ -59,13 +61,13 @@ number_below size first count i d numbers are inside limit less =
     omega (arith, is, is-readable size 0 (first + i) limit (omega (arith, inside, below)))
 
 -- a fault of the reader over the tiles of a source is one of reading leaves
-pub leaves_fault : (lacks : Resource → Type 0) (size : ℕ) (root : List ℕ) (first count : ℕ) (numbers : List ℕ) (fetched : List (Tile × List ℕ)) (fault : ReadFault)
+pub leaves_fault : (lacks : Resource → Type 0) (before : List (Tile × List ℕ)) (size : ℕ) (root : List ℕ) (first count : ℕ) (numbers : List ℕ) (fetched : List (Tile × List ℕ)) (fault : ReadFault)
     → numbers ≡ leaf_numbers first count → first + count ≤ size → size ≤ 2 ^ 62
-    → GivesNumbersFault sha256 (λ t. IsTile t → lacks (resource.Tile t)) (record { size = size; root = root; indexes = numbers; fetched = fetched }) fault
+    → GivesFaultAfter sha256 (λ t. IsTile t → lacks (resource.Tile t)) before (record { size = size; root = root; indexes = numbers; fetched = fetched }) fault
     → RefusesLeaves lacks (leaf_reading size root first count fetched) (after_read fault)
-leaves_fault lacks size root first count numbers fetched OutOfRange are inside limit gives =
+leaves_fault lacks before size root first count numbers fetched OutOfRange are inside limit gives =
     absurd (let far = gives.0 in omega (arith, far.4, far.3, number_below size first count far.0 far.1 numbers are inside limit far.2))
-leaves_fault lacks size root first count numbers fetched Source are inside limit (asking, (t, lack)) = (
+leaves_fault lacks before size root first count numbers fetched Source are inside limit (asking, (t, lack)) = (
   t,
   record {
     lacks = (lack.lacks.0 (tile_has_path size t limit lack.of_log), subst (λ (xs : List ℕ). IsNeededFor size xs t) are lack.lacks.1);
@@ -73,5 +75,27 @@ leaves_fault lacks size root first count numbers fetched Source are inside limit
     next = lack.next;
   },
 )
-leaves_fault lacks size root first count numbers fetched OutOfMemory are inside limit gives = tt
-leaves_fault lacks size root first count numbers fetched (BadTile level index width) are inside limit gives = gives.1
+leaves_fault lacks before size root first count numbers fetched OutOfMemory are inside limit gives = tt
+leaves_fault lacks before size root first count numbers fetched (BadTile level index width) are inside limit gives = gives.1
+
+-- ---- tiles that are added to others
+
+pub served_none : (answers : Resource → List ℕ → Type 0) (size : ℕ) (xs : List (Tile × List ℕ)) → AddsServed answers size xs xs
+served_none answers size xs = record { added = []; joined = sym (append-nil xs); served = λ k d less. absurd (omega (arith, less)) }
+
+-- the source has what its tiles have
+pub served_added : (answers : Resource → List ℕ → Type 0) (size : ℕ) (root : List ℕ) (Is : Tile → Type 0) (before after : List (Tile × List ℕ))
+    → AddsTiles (λ t. answers (resource.Tile t)) sha256 size root Is before after → AddsServed answers size before after
+served_added answers size root Is before after adds = record { added = adds.added; joined = adds.joined; served = adds.answers }
+
+-- after none, all of them are added
+pub served_all : (answers : Resource → List ℕ → Type 0) (size : ℕ) (before after : List (Tile × List ℕ)) → before ≡ [] → AddsServed answers size before after → AreServed answers size after
+served_all answers size before after none adds =
+    subst (AreServed answers size) (sym (adds.joined ∙ ap (λ (xs : List (Tile × List ℕ)). xs ++ adds.added) none)) adds.served
+
+pub none_served : (answers : Resource → List ℕ → Type 0) (size : ℕ) (fetched : List (Tile × List ℕ)) → fetched ≡ [] → AreServed answers size fetched
+none_served answers size fetched none = subst (AreServed answers size) (sym none) (λ k d less. absurd (omega (arith, less)))
+
+-- no tiles have passed
+pub none_passed : (size : ℕ) (root : List ℕ) (fetched : List (Tile × List ℕ)) → fetched ≡ [] → HavePassed sha256 size root fetched
+none_passed size root fetched none = subst (HavePassed sha256 size root) (sym none) (record { order = tt; passed = inl refl })

@@ -1,6 +1,6 @@
 -- When a source of resources is to blame: it may lack one that is needed, or answers a text that is wrong (C2SP
 -- tlog-tiles). `answers` says which texts it may answer for a resource, and `lacks` which resources it may lack.
-use Rattle.std.specs.Prelude.{◌≡◌, ℕ, ◌+◌, List, map, None, ◌⊎◌}
+use Rattle.std.specs.Prelude.{◌≡◌, ℕ, ◌+◌, List, ◌++◌, map, None, ◌⊎◌}
 use Rattle.std.specs.List.{range_with_len}
 use Rattle.sha2.specs.Sha256.{sha256}
 use Rattle.tl_hash.specs.Bytes.{Bytes}
@@ -39,6 +39,12 @@ leaf_reading size root first count fetched = record { size = size; root = root; 
 -- tiles of a log of this size, with texts that the source may answer
 abbrev pub AreServed : (Resource → Bytes → Type 0) → ℕ → List (Tile × Bytes) → Type 0
 AreServed answers size fetched = AreAnswers (λ t. answers (resource.Tile t)) size fetched
+
+-- tiles were added after those that were there: tiles of a log of this size, with texts that the source may answer
+pub record AddsServed (answers : Resource → Bytes → Type 0) (size : ℕ) (before after : List (Tile × Bytes)) : Type 0 where
+  pub added : List (Tile × Bytes)
+  pub joined : after ≡ before ++ added
+  pub served : AreServed answers size added
 
 -- the source may lack a tile of the log that the read needs, the next one after those fetched
 abbrev pub LacksTile : (Resource → Type 0) → Reading → Type 0

@@ -5,8 +5,8 @@ ghost use Rattle.sha2.specs.Sha256.{sha256};
 ghost use Rattle.tl_tile.specs.Bundle.{AreEntries, bundle_text};
 ghost use Rattle.tl_tile.specs.declared.resource.Resource.TheVariants as resource;
 ghost use Rattle.tl_tile.specs.Fetched.{tiles_of};
-ghost use Rattle.tl_tile.specs.Verified.{AreVerified};
-ghost use Rattle.tl_client.specs.Blame.{AreServed};
+ghost use Rattle.tl_tile.specs.Verified.{AreVerified, HavePassed};
+ghost use Rattle.tl_client.specs.Blame.{AddsServed, AreServed};
 ghost use Rattle.tl_tile.specs.Needed.{bundle_width};
 ghost use Rattle.tl_client.specs.Bundles.{HasBundle};
 ghost use Rattle.tl_client.specs.Checked.{AreCheckedEntries};
@@ -87,6 +87,34 @@ pub fn read_entries<S: ResourceSource, A: Allocator + Copy>(
         (record { size = size; root = root; bundle = bundle; fetched = fetched.new })) }
 {
     *fetched = FetchedTiles::new(alloc);
+    match read_entries_after(alloc, source, size, root, bundle, fetched) {
+        Ok(entries) => Ok(entries),
+        Err(fault) => Err(fault),
+    }
+}
+
+/// As `read_entries`, after tiles that passed all checks against this size and root, or none: those are neither fetched
+/// nor hashed again. The tiles that are fetched come behind them, also after a fault, and of a `BadTile` the tile, so
+/// that they haven't passed then. Over a run of bundles, `FetchedTiles::keep_path` between two of them lets the tiles go
+/// that the next one doesn't need.
+pub fn read_entries_after<S: ResourceSource, A: Allocator + Copy>(
+    alloc: A,
+    source: &S,
+    size: u64,
+    root: Hash,
+    bundle: u64,
+    fetched: &mut FetchedTiles<A>,
+) -> Result<Vec<Vec<u8, A>, A>, ClientFault>
+    requires { HavePassed sha256 size root fetched.old }
+    ensures entries { IfOk result (λ entries. AreCheckedEntries sha256
+        (tiles_of fetched.new) size root bundle (map vec_items entries.items)) }
+    ensures verified { OnOk result (AreVerified sha256 size root fetched.new) }
+    ensures passed { OnOk result (HavePassed sha256 size root fetched.new) }
+    ensures within { OnOk result (HasBundle size bundle) }
+    ensures served { AddsServed (S.may_answer source.now) size fetched.old fetched.new }
+    ensures refused { IfErr result (RefusesEntries (S.may_answer source.now) (S.may_lack source.now)
+        (record { size = size; root = root; bundle = bundle; fetched = fetched.new })) }
+{
     if !has_bundle(size, bundle) {
         return Err(ClientFault::Range);
     }

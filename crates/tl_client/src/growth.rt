@@ -1,8 +1,10 @@
 //! The growth of a log from one size and root to another.
 
-ghost use Rattle.std.specs.Prelude.{◌≡◌, ◌≤◌, ◌^◌, ◌⊎◌, [], IfOk, IfErr};
+ghost use Rattle.std.specs.Prelude.{◌≡◌, ◌≤◌, ◌^◌, ◌⊎◌, [], IfOk, IfErr, OnOk};
 ghost use Rattle.sha2.specs.Sha256.{sha256};
 ghost use Rattle.tl_proof.specs.Acceptance.{AcceptsConsistency};
+ghost use Rattle.tl_tile.specs.Verified.{AreVerified, HavePassed};
+ghost use Rattle.tl_client.specs.Blame.{AreServed};
 ghost use Rattle.tl_client.specs.Refused.{IsBetween, RefusesGrowth};
 ghost use Rattle.tl_client.specs.Inner.Growing.{IsMadeProof, RefusesProof};
 
@@ -23,21 +25,25 @@ fn proof_between<S: ResourceSource, A: Allocator + Copy>(
     old: u64,
     size: u64,
     root: Hash,
+    fetched: &mut FetchedTiles<A>,
 ) -> Result<Vec<Hash, A>, ClientFault>
     requires order { old ≤ size }
     requires limit { size ≤ 2 ^ 62 }
+    requires none { fetched.old ≡ [] }
     ensures empty { IfOk result (λ proof. (old ≡ 0) ⊎ (old ≡ size) → proof.items ≡ []) }
     ensures made { IfOk result
         (λ proof. IsBetween old size → IsMadeProof sha256 old size root proof.items) }
+    ensures verified { OnOk result (IsBetween old size → AreVerified sha256 size root fetched.new) }
+    ensures passed { OnOk result (HavePassed sha256 size root fetched.new) }
+    ensures served { AreServed (S.may_answer source.now) size fetched.new }
     ensures refused { IfErr result
         (RefusesProof (S.may_answer source.now) (S.may_lack source.now) old size root) }
 {
     if old == 0 || old == size {
         return Ok(Vec::new(alloc));
     }
-    let mut fetched = FetchedTiles::new(alloc);
-    let _leaf = read_leaves(alloc, source, size, root, old - 1, 1, &mut fetched)?;
-    let reader = TileHashReader::new(alloc, Sha256Tree, size, root, FetchedSource(&fetched));
+    let _leaf = read_leaves(alloc, source, size, root, old - 1, 1, fetched)?;
+    let reader = TileHashReader::new(alloc, Sha256Tree, size, root, FetchedSource(&*fetched));
     let proof = prove_tree(alloc, Sha256Tree, size, old, &reader)?;
     Ok(proof)
 }
@@ -46,18 +52,25 @@ fn proof_between<S: ResourceSource, A: Allocator + Copy>(
 /// tiles of the new log, those over the last old entry, and accepted. `Shrunk` comes where the new log is the smaller
 /// one, then `Range` where it has more than 2^62 entries; `Unavailable` where the source lacks such a tile or the
 /// proof asks for another; `Forked` where the old root isn't that of the new log's first entries. From no entries, and
-/// between equal sizes, nothing is fetched.
+/// between equal sizes, nothing is fetched. `fetched` then holds the tiles that were fetched and no others, also after a
+/// fault.
 pub fn prove_growth<S: ResourceSource, A: Allocator + Copy>(
     alloc: A,
     source: &S,
     old: Head,
     new: Head,
+    fetched: &mut FetchedTiles<A>,
 ) -> Result<Vec<Hash, A>, ClientFault>
     ensures accepted { IfOk result
         (λ proof. AcceptsConsistency sha256 proof.items new.size new.root old.size old.root) }
+    ensures verified { OnOk result
+        (IsBetween old.size new.size → AreVerified sha256 new.size new.root fetched.new) }
+    ensures passed { OnOk result (HavePassed sha256 new.size new.root fetched.new) }
+    ensures served { AreServed (S.may_answer source.now) new.size fetched.new }
     ensures refused { IfErr result
         (RefusesGrowth (S.may_answer source.now) (S.may_lack source.now) old new) }
 {
+    *fetched = FetchedTiles::new(alloc);
     let Head {
         size: old_size,
         root: old_root,
@@ -69,7 +82,7 @@ pub fn prove_growth<S: ResourceSource, A: Allocator + Copy>(
     if size > 1 << 62 {
         return Err(ClientFault::Range);
     }
-    let proof = proof_between(alloc, source, old_size, size, root)?;
+    let proof = proof_between(alloc, source, old_size, size, root, fetched)?;
     if !check_tree(Sha256Tree, &proof, size, root, old_size, old_root) {
         return Err(ClientFault::Forked);
     }

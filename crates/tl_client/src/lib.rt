@@ -9,7 +9,7 @@
 //! let entries = read_entries(alloc, &source, size, root, 0, &mut fetched)?; // of the first bundle
 //! let leaf = leaf_hash(Sha256Tree, &entries[0]);
 //! let proof = prove_entry(alloc, &source, size, root, 0, leaf)?;
-//! let proof = prove_growth(alloc, &source, Head { size, root }, newer)?;
+//! let proof = prove_growth(alloc, &source, Head { size, root }, newer, &mut fetched)?;
 //! ```
 #![tactic(auto)]
 
@@ -22,7 +22,7 @@ mod kept;
 mod leaves;
 mod source;
 
-pub use entries::read_entries;
+pub use entries::{read_entries, read_entries_after};
 pub use fault::ClientFault;
 pub use growth::prove_growth;
 pub use head::{HeadFault, open_cosigned};

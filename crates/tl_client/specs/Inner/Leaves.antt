@@ -1,5 +1,5 @@
 -- Bundles, and the leaves of their entries.
-use Rattle.std.specs.Prelude.{◌≡◌, ◌≢◌, ℕ, ◌+◌, ◌<◌, List, [], length, slice_index_or}
+use Rattle.std.specs.Prelude.{◌≡◌, ◌≢◌, ℕ, ◌+◌, ◌<◌, ◌≤◌, List, [], length, slice_index_or}
 use Rattle.sha2.specs.Sha256.{sha256}
 use Rattle.tl_hash.specs.Bytes.{Bytes, Digest}
 use Rattle.tl_hash.specs.Tree.{leaf_input}
@@ -14,6 +14,11 @@ use Rattle.tl_client.specs.declared.fault.ClientFault.TheVariants as client
 -- each entry has its leaf hash
 abbrev pub HaveLeaves : Digest → List Bytes → List Bytes → Type 0
 HaveLeaves H entries leaves = (i : ℕ) → i < length entries → H (leaf_input (slice_index_or entries i [])) ≡ slice_index_or leaves i []
+
+-- the entries at these places have their leaf hashes
+abbrev pub HaveLeavesBetween : Digest → ℕ → ℕ → List Bytes → List Bytes → Type 0
+HaveLeavesBetween H from upto entries leaves =
+    (i : ℕ) → from ≤ i → i < upto → H (leaf_input (slice_index_or entries i [])) ≡ slice_index_or leaves i []
 
 -- the fault names one of these entries, from this index on, whose leaf hash is another
 pub record IsOfOne (first : ℕ) (entries leaves : List Bytes) (fault : ClientFault) : Type 0 where

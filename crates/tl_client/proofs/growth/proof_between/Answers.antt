@@ -6,6 +6,7 @@ use Rattle.tl_proof.specs.Proofs.{consistency_proof}
 use Rattle.tl_proof.specs.ProveFaults.{IsOldSize}
 use Rattle.tl_client.proofs.Apart.{made_for}
 use Rattle.tl_client.proofs.Blamed.{consistency_most, kept_refused, proof_refused}
+use Rattle.tl_client.proofs.LeafReads.{none_passed, served_all}
 use Rattle.tl_client.proofs.growth.proof_between.Goals as goal
 
 pub returns-clause-made : goal.returns-clause-made
@@ -24,5 +25,20 @@ returns-in_err-proof-clause-refused g c =
     (record { some = omega (arith, c.if-old-eq0.false); more = omega (arith, c.if-old-size.false, c.requires.order) })
     (kept_refused (g.S.ResourceSource.may_answer c.args.source.now) (g.S.ResourceSource.may_lack c.args.source.now) (IsOldSize c.args.size c.args.old) c.args.size c.args.root (c.args.old - 1)
     (consistency_needs c.args.size c.args.old) c.read_leaves.new.fetched _ c.in_err-proof.field-0.0 (c.requires.order, c.requires.limit) c.requires.limit (consistency_most c.args.size c.args.old)
-    (record { served = c.read_leaves.ensures.served; verified = c.in_ok-_leaf.ensures.verified; authentic = c.in_ok-_leaf.ensures.authentic })
+    (record { served = served_all (g.S.ResourceSource.may_answer c.args.source.now) c.args.size c.args.fetched.now c.read_leaves.new.fetched c.requires.none c.read_leaves.ensures.served; verified = c.in_ok-_leaf.ensures.verified; authentic = c.in_ok-_leaf.ensures.authentic })
     (rw (c.new-reader.ensures) at c.in_err-proof.ensures.faults)))
+
+pub read_leaves-requires-clause-passed : goal.read_leaves-requires-clause-passed
+read_leaves-requires-clause-passed g c = none_passed c.args.size c.args.root c.args.fetched.now c.requires.none
+
+pub returns-clause-served : goal.returns-clause-served
+returns-clause-served g c =
+    served_all (g.S.ResourceSource.may_answer c.args.source.now) c.args.size c.args.fetched.now c.read_leaves.new.fetched c.requires.none c.read_leaves.ensures.served
+
+pub returns-in_err-_leaf-clause-served : goal.returns-in_err-_leaf-clause-served
+returns-in_err-_leaf-clause-served g c =
+    served_all (g.S.ResourceSource.may_answer c.args.source.now) c.args.size c.args.fetched.now c.read_leaves.new.fetched c.requires.none c.read_leaves.ensures.served
+
+pub returns-in_err-proof-clause-served : goal.returns-in_err-proof-clause-served
+returns-in_err-proof-clause-served g c =
+    served_all (g.S.ResourceSource.may_answer c.args.source.now) c.args.size c.args.fetched.now c.read_leaves.new.fetched c.requires.none c.read_leaves.ensures.served

@@ -5,6 +5,7 @@ use Rattle.tl_proof.specs.Needs.{inclusion_needs}
 use Rattle.tl_proof.specs.ProveFaults.{IsIndex}
 use Rattle.tl_client.proofs.Apart.{false_is_not_true, other_leaf}
 use Rattle.tl_client.proofs.Blamed.{entry_refused, inclusion_most, kept_refused}
+use Rattle.tl_client.proofs.LeafReads.{none_passed, served_all}
 use Rattle.tl_client.proofs.inclusion.prove_entry.Goals as goal
 
 pub returns-then-not-check_record-clause-refused : goal.returns-then-not-check_record-clause-refused
@@ -25,5 +26,8 @@ returns-in_err-proof-clause-refused g c =
     (record { size = c.args.size; root = c.args.root; index = c.args.index; leaf = c.args.leaf }) _ inside
     (kept_refused (g.S.ResourceSource.may_answer c.args.source.now) (g.S.ResourceSource.may_lack c.args.source.now) (IsIndex c.args.size c.args.index) c.args.size c.args.root c.args.index
     (inclusion_needs c.args.size c.args.index) c.read_leaves.new.fetched _ c.in_err-proof.field-0.0 inside inside.1 (inclusion_most c.args.size c.args.index inside.0)
-    (record { served = c.read_leaves.ensures.served; verified = c.in_ok-_leaf.ensures.verified; authentic = c.in_ok-_leaf.ensures.authentic })
+    (record { served = served_all (g.S.ResourceSource.may_answer c.args.source.now) c.args.size c.new-fetched.result c.read_leaves.new.fetched c.new-fetched.ensures c.read_leaves.ensures.served; verified = c.in_ok-_leaf.ensures.verified; authentic = c.in_ok-_leaf.ensures.authentic })
     (rw (c.new-reader.ensures) at c.in_err-proof.ensures.faults)))
+
+pub read_leaves-requires-clause-passed : goal.read_leaves-requires-clause-passed
+read_leaves-requires-clause-passed g c = none_passed c.args.size c.args.root c.new-fetched.result c.new-fetched.ensures

@@ -1,7 +1,10 @@
-use Rattle.std.proofs.Common.{◌≡◌, ℕ, ◌<◌, [], slice_index_or, map, vec_items}
+use Rattle.std.proofs.Common.{◌-◌, length, map, vec_items}
 use Rattle.sha2.specs.Sha256.{sha256}
-use Rattle.tl_hash.specs.Tree.{leaf_input}
+use Rattle.tl_client.specs.Inner.Leaves.{HaveLeavesBetween}
 use Rattle.tl_client.proofs.leaves.check_leaves.Given as goal
 
-abbrev pub invariant-loop-i : goal.invariant-loop-i
-invariant-loop-i g l = (j : ℕ) → j < l.i → sha256 (leaf_input (slice_index_or (map vec_items l.entries) j [])) ≡ slice_index_or l.leaves j []
+abbrev pub invariant-loop-done : goal.invariant-loop-done
+invariant-loop-done g l = HaveLeavesBetween sha256 0 l.done (map vec_items l.entries) l.leaves
+
+abbrev pub decreases-loop-done : goal.decreases-loop-done
+decreases-loop-done g l = length l.entries - l.done
