@@ -1,10 +1,11 @@
 -- Whole lines at the beginning of a piece of input, and the log of an input's lines with those added.
-use Rattle.std.proofs.Common.{◌≡◌, ℕ, ◌+◌, ◌-◌, ◌<◌, ◌≤◌, true, false, List, [], ◌∷◌, ◌++◌, length, get_or, take, drop, refl, sym, ap, ◌∙◌, arith, append_assoc, append-nil, All, Some, None, vec_items}
+use Rattle.std.proofs.Common.{◌≡◌, ℕ, ◌+◌, ◌-◌, ◌<◌, ◌≤◌, true, false, List, [], ◌∷◌, ◌++◌, length, get_or, take, drop, refl, sym, ap, subst, ◌∙◌, arith, append_assoc, append-nil, All, Some, None, vec_items}
 use Rattle.std.specs.Prelude.{◌==◌, Option, is_some}
+use Rattle.std.proofs.Math.ListN.{set}
 use Rattle.std.proofs.Math.Seq.{take-add, take-append_seam}
 use Rattle.std.proofs.lemmas.Bool.{eqb-true, le-ltb}
 use Rattle.std.proofs.lemmas.Grind.{flat_map-append}
-use Rattle.std.proofs.lemmas.List.{length-append, length-take-le, take-append-drop, take_more, take_rest, get_or-take}
+use Rattle.std.proofs.lemmas.List.{length-append, length-take-le, take-append-drop, take_more, take_more_set, take_rest, get_or-take}
 use Rattle.std.proofs.lemmas.List.Concat.{flat_map-cons}
 use Rattle.std.proofs.lemmas.List.Elements.{All-append, All-from_get_or, All-head, All-nil, All-push, All-tail}
 use Rattle.std.proofs.lemmas.List.Sums.{fails_before_first}
@@ -60,6 +61,16 @@ begins_more bytes rest end lines next front more = record {
   short = All-append IsShort lines (next ∷ []) front.short more.short;
 }
 
+-- no line yet
+pub begins_nothing : (bytes : List ℕ) → BeginsWith bytes [] bytes
+begins_nothing bytes = record { whole = refl; plain = All-nil HasNoNewline; short = All-nil IsShort }
+
+-- one line more, put at its place
+pub begins_placed : (bytes rest end : List ℕ) (lines : List (List ℕ)) (place : ℕ) (next : List ℕ) → place < length lines
+    → BeginsWith bytes (take place lines) rest → BeginsWith rest (next ∷ []) end → BeginsWith bytes (take (place + 1) (set lines place next)) end
+begins_placed bytes rest end lines place next below front more =
+    subst (λ (all : List (List ℕ)). BeginsWith bytes all end) (sym (take_more_set lines place next below)) (begins_more bytes rest end (take place lines) next front more)
+
 -- where no line was too long, and lines more of which none is
 pub none_longer : (new lines : List (List ℕ)) → first_too_long lines ≡ None → All IsShort new → first_too_long (lines ++ new) ≡ None
 none_longer [] lines none short = ap first_too_long (append-nil lines) ∙ none
@@ -70,6 +81,16 @@ none_longer (text ∷ new) lines none short =
 -- what stands before the rest is the lines
 lines_before : (bytes : List ℕ) (lines : List (List ℕ)) (rest : List ℕ) → BeginsWith bytes lines rest → length bytes ≡ length (lines_text lines) + length rest
 lines_before bytes lines rest begins = ap length begins.whole ∙ length-append (lines_text lines) rest
+
+-- each line has its newline
+lines_long : (lines : List (List ℕ)) → length lines ≤ length (lines_text lines)
+lines_long [] = omega arith
+lines_long (text ∷ more) =
+    omega (arith, ap length (flat_map-cons line text more), length-append (line text) (lines_text more), length-append text (10 ∷ []), lines_long more)
+
+-- so whole lines are no more than the bytes before the rest
+pub lines_within : (bytes : List ℕ) (lines : List (List ℕ)) (rest : List ℕ) → BeginsWith bytes lines rest → length lines + length rest ≤ length bytes
+lines_within bytes lines rest begins = omega (arith, lines_before bytes lines rest begins, lines_long lines)
 
 pub begins_front : (bytes : List ℕ) (lines : List (List ℕ)) (rest : List ℕ) → BeginsWith bytes lines rest → take (length bytes - length rest) bytes ≡ lines_text lines
 begins_front bytes lines rest begins =

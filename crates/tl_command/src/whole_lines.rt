@@ -1,6 +1,6 @@
 //! The whole lines at the beginning of a piece of input.
 
-ghost use Rattle.std.specs.Prelude.{[], ◌∷◌, map, IfSome};
+ghost use Rattle.std.specs.Prelude.{◌≡◌, [], ◌∷◌, length, map, IfSome};
 ghost use Rattle.tl_command.specs.Inner.Growing.{BeginsWith};
 
 use memchr::memchr;
@@ -54,8 +54,9 @@ pub(crate) struct TileLines<'a> {
 
 /// The first 256 lines of a piece, where as many whole lines stand there and none of them is too long.
 pub(crate) fn cut_tile(piece: &[u8]) -> Option<TileLines<'_>>
-    ensures { IfSome result (λ tile. BeginsWith piece.entry.now
+    ensures begins { IfSome result (λ tile. BeginsWith piece.entry.now
         (map (λ line. line.now) tile.lines) tile.rest.now) }
+    ensures count { IfSome result (λ tile. length tile.lines ≡ 256) }
 {
     let mut lines = [&piece[..0]; 256];
     let mut rest = piece;
