@@ -1,12 +1,12 @@
 -- Entries of a log that were checked against its size and its root (RFC 6962, section 2.1; C2SP tlog-tiles).
-use Rattle.std.specs.Prelude.{◌≡◌, ◌⊎◌, ℕ, ◌+◌, ◌/◌, ◌%◌, ◌<◌, ◌≤◌, List, [], Some, length, slice_index_or}
+use Rattle.std.specs.Prelude.{◌≡◌, ◌⊎◌, ℕ, ◌+◌, ◌/◌, ◌%◌, ◌<◌, ◌≤◌, List, [], length, slice_index_or}
 use Rattle.sha2.specs.Sha256.{sha256}
 use Rattle.tl_hash.specs.Bytes.{Bytes, Digest}
 use Rattle.tl_tile.specs.declared.resource.Tile.{Tile}
 use Rattle.tl_tile.specs.Fetched.{tiles_of}
-use Rattle.tl_tile.specs.Verified.{AreVerified}
+use Rattle.tl_tile.specs.Verified.{AreVerified, HavePassed}
 use Rattle.tl_client.specs.Checked.{AreCheckedEntries}
-use Rattle.tl_client.specs.Blame.{AreServed}
+use Rattle.tl_client.specs.Blame.{AddsServed}
 use Rattle.tl_client.specs.Bundles.{HasBundle}
 use Rattle.tl_client.specs.Refused.{RefusesEntries, RefusesEntry}
 use Rattle.tl_client.specs.declared.fault.ClientFault.{ClientFault}
@@ -14,8 +14,6 @@ use Rattle.tl_fetch.specs.Listed.{listed_text}
 use Rattle.tl_client.specs.declared.fault.ClientFault.TheVariants.{Range}
 use Rattle.tl_hash.specs.declared.head.Head.{Head}
 use Rattle.tl_tile.specs.declared.resource.Resource.{Resource}
-use Rattle.tl_tile.specs.declared.resource.Resource.TheVariants as resource
-use Rattle.tl_source.specs.Caches.{may_answer_either}
 
 -- entries of a bundle of a log of this size and root, checked with tiles that passed all checks
 pub record IsCheckedBundle (H : Digest) (head : Head) (bundle : ℕ) (entries : List Bytes) : Type 0 where
@@ -44,21 +42,10 @@ AreLinesBetween head from upto text =
 
 -- ---- why they are not given, by a source that may answer these texts and may lack these resources
 
--- which text is kept for a tile
-abbrev pub kept_answers : List (Tile × Bytes) → Resource → Bytes → Type 0
-kept_answers kept (resource.Tile t) text = tiles_of kept t ≡ Some text
-kept_answers kept (resource.Entries index width) text = ⊥
-kept_answers kept resource.Checkpoint text = ⊥
-
--- no tiles, or tiles that passed all checks against this size and root
-abbrev pub HavePassed : Head → List (Tile × Bytes) → Type 0
-HavePassed head kept = (kept ≡ []) ⊎ AreVerified sha256 head.size head.root kept
-
--- each of these tiles is one of some that passed all checks, or the source may answer it
+-- tiles that passed all checks against this size and root, or none, and after them tiles that the source may answer
 abbrev pub AreServedOrPassed : (Resource → Bytes → Type 0) → Head → List (Tile × Bytes) → Type 0
 AreServedOrPassed answers head fetched =
-    (kept : List (Tile × Bytes)) × HavePassed head kept
-    × AreServed (may_answer_either (kept_answers kept) answers) head.size fetched
+    (kept : List (Tile × Bytes)) × HavePassed sha256 head.size head.root kept × AddsServed answers head.size kept fetched
 
 -- the entries of a bundle of a log of this size and root are not read, for this reason
 abbrev pub RefusesBundle : (Resource → Bytes → Type 0) → (Resource → Type 0) → Head → ℕ → ClientFault → Type 0

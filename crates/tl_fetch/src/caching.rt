@@ -16,8 +16,19 @@ pub(crate) struct Caching<'c, H: Files, O> {
 }
 
 impl<H: Files, O: Observer> Observer for Caching<'_, H, O> {
-    fn checked<A: Allocator>(&mut self, head: &Head, tiles: &FetchedTiles<A>, next: u64) {
+    fn checked<A: Allocator>(
+        &mut self,
+        head: &Head,
+        tiles: &FetchedTiles<A>,
+        known: usize,
+        next: u64,
+    ) {
         let _ = self.cache.keep(self.alloc, tiles);
-        self.then.checked(head, tiles, next);
+        self.then.checked(head, tiles, known, next);
+    }
+
+    fn passed<A: Allocator>(&mut self, head: &Head, tiles: &FetchedTiles<A>) {
+        let _ = self.cache.keep(self.alloc, tiles);
+        self.then.passed(head, tiles);
     }
 }

@@ -3,7 +3,7 @@
 //!
 //! ```
 //! let head = open_trusted(alloc, &policy, note)?; // signed by the log, and cosigned by enough witnesses
-//! let entry = fetch_entry(alloc, &source, head, 7)?;
+//! let entry = fetch_entry(alloc, &source, head, 7, &mut observer)?;
 //! ```
 #![tactic(auto)]
 

@@ -1,9 +1,11 @@
 //! Printing entries, a bundle at a time.
 
 ghost use Rattle.std.specs.Prelude.{◌≡◌, ℕ, ◌<◌, ◌≤◌, ◌++◌, ◌/◌, IfErr, IfOk, OnErr, OnOk, map, vec_items};
+ghost use Rattle.sha2.specs.Sha256.{sha256};
 ghost use Rattle.tl_device.specs.Device.{passage};
-ghost use Rattle.tl_fetch.specs.Entries.{AreLinesBetween, HavePassed, RefusesBundle};
+ghost use Rattle.tl_fetch.specs.Entries.{AreLinesBetween, RefusesBundle};
 ghost use Rattle.tl_fetch.specs.Listed.{length_line, listed, listed_text, needs_length};
+ghost use Rattle.tl_tile.specs.Verified.{HavePassed};
 ghost use Rattle.tl_fetch.specs.Printed.{FailsPrinting, PrintedSome, PrintedWhole, RefusesAll};
 
 use crate::fault::FetchFault;
@@ -62,7 +64,8 @@ fn push_lines<A: Allocator, B: Allocator>(
     Ok(())
 }
 
-// The entries from this index on to the end of its bundle, as they are listed, and the index after them.
+// The entries from this index on to the end of its bundle, as they are listed, and the index after them. Of the tiles
+// that were kept those stay that lie over it.
 fn lines_from<S: ResourceSource, A: Allocator + Copy, O: Observer>(
     alloc: A,
     source: &S,
@@ -72,14 +75,16 @@ fn lines_from<S: ResourceSource, A: Allocator + Copy, O: Observer>(
     observer: &mut O,
 ) -> Result<(Vec<u8, A>, u64), FetchFault>
     requires below { from < head.now.size }
-    requires passed { HavePassed head.now kept.old }
+    requires passed { HavePassed sha256 head.now.size head.now.root kept.old }
     ensures lines { IfOk result (λ r. AreLinesBetween head.now from r.1 r.0.items) }
     ensures further { IfOk result (λ r. from < r.1) }
     ensures within { IfOk result (λ r. r.1 ≤ head.now.size) }
-    ensures passed { OnOk result (HavePassed head.now kept.new) }
+    ensures passed { OnOk result (HavePassed sha256 head.now.size head.now.root kept.new) }
     ensures refused { IfErr result (FailsPrinting
         (RefusesBundle (S.may_answer source.now) (S.may_lack source.now) head.now (from / 256))) }
 {
+    kept.keep_path(from);
+    let known = kept.as_slice().len();
     let entries = match read_bundle(alloc, source, head, from / 256, kept) {
         Ok(entries) => entries,
         Err(fault) => return Err(client_refusal(fault)),
@@ -88,7 +93,7 @@ fn lines_from<S: ResourceSource, A: Allocator + Copy, O: Observer>(
     let next = from + rest.len() as u64;
     let mut text = Vec::new(alloc);
     push_lines(&mut text, rest)?;
-    observer.checked(head, kept, next);
+    observer.checked(head, kept, known, next);
     Ok((text, next))
 }
 
@@ -103,12 +108,12 @@ fn print_bundle<S: ResourceSource, A: Allocator + Copy, O: Observer, W: Write>(
     writer: &mut Counted<W>,
 ) -> Result<u64, FetchFault>
     requires below { from < head.now.size }
-    requires passed { HavePassed head.now kept.old }
+    requires passed { HavePassed sha256 head.now.size head.now.root kept.old }
     ensures printed { IfOk result (λ next. PrintedWhole
         (AreLinesBetween head.now from next) (passage W.contents writer.old writer.new)) }
     ensures further { IfOk result (λ next. from < next) }
     ensures within { IfOk result (λ next. next ≤ head.now.size) }
-    ensures passed { OnOk result (HavePassed head.now kept.new) }
+    ensures passed { OnOk result (HavePassed sha256 head.now.size head.now.root kept.new) }
     ensures part { OnErr result (PrintedSome (λ text. (upto : ℕ)
         × AreLinesBetween head.now from upto text) (passage W.contents writer.old writer.new)) }
     ensures refused { IfErr result (FailsPrinting
@@ -121,8 +126,8 @@ fn print_bundle<S: ResourceSource, A: Allocator + Copy, O: Observer, W: Write>(
 
 /// Prints the entries from this index on, counted from 0, up to the end of a log of this size and root, a line each;
 /// one with a newline, or a backslash in front, after a line with a backslash and its length. Each is checked as by
-/// `fetch_entry`, and nothing is printed of a bundle that doesn't pass. A tile isn't asked for again by the next
-/// bundle. `BadIndex`: the index is above the size, or the log has more than 2^62 entries.
+/// `fetch_entry`, and nothing is printed of a bundle that doesn't pass. A tile is asked for once, and hashed once.
+/// `BadIndex`: the index is above the size, or the log has more than 2^62 entries.
 pub fn print_entries<S: ResourceSource, A: Allocator + Copy, O: Observer, W: Write>(
     alloc: A,
     source: &S,

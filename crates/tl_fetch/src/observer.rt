@@ -10,7 +10,17 @@ pub trait Observer {
     ghost use Rattle.tl_tile.specs.Verified.{AreVerified};
 
     /// These tiles passed all checks against a size and a root, and so did the entries before `next` that were asked
-    /// for.
-    fn checked<A: Allocator>(&mut self, head: &Head, tiles: &FetchedTiles<A>, next: u64)
+    /// for. It was told of the first `known` tiles before.
+    fn checked<A: Allocator>(
+        &mut self,
+        head: &Head,
+        tiles: &FetchedTiles<A>,
+        known: usize,
+        next: u64,
+    )
+        requires { AreVerified sha256 head.now.size head.now.root tiles.now };
+
+    /// These tiles passed all checks against a size and a root; nothing is said of entries.
+    fn passed<A: Allocator>(&mut self, head: &Head, tiles: &FetchedTiles<A>)
         requires { AreVerified sha256 head.now.size head.now.root tiles.now };
 }

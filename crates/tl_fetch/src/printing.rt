@@ -9,6 +9,7 @@ ghost use Rattle.tl_fetch.specs.Printed.{FailsPrinting, IsEntryText, IsProofOf, 
 use crate::entry::fetch_entry;
 use crate::fault::FetchFault;
 use crate::faults::client_refusal;
+use crate::observer::Observer;
 use base64::engine::general_purpose::STANDARD;
 use itoa::Buffer;
 use std::alloc::{AllocError, Allocator};
@@ -56,11 +57,12 @@ pub fn print_head<A: Allocator + Copy, W: Write>(
 
 /// Prints the entry with this index and a newline, as `fetch_entry` has it. Nothing is printed of an entry that doesn't
 /// pass its check.
-pub fn print_entry<S: ResourceSource, A: Allocator + Copy, W: Write>(
+pub fn print_entry<S: ResourceSource, A: Allocator + Copy, O: Observer, W: Write>(
     alloc: A,
     source: &S,
     head: &Head,
     index: u64,
+    observer: &mut O,
     writer: &mut Counted<W>,
 ) -> Result<(), FetchFault>
     ensures printed { OnOk result
@@ -70,7 +72,7 @@ pub fn print_entry<S: ResourceSource, A: Allocator + Copy, W: Write>(
     ensures refused { IfErr result (FailsPrinting
         (RefusesOne (S.may_answer source.now) (S.may_lack source.now) head.now index)) }
 {
-    let mut text = match fetch_entry(alloc, source, head, index) {
+    let mut text = match fetch_entry(alloc, source, head, index, observer) {
         Ok(entry) => entry,
         Err(fault) => return Err(client_refusal(fault)),
     };
@@ -106,17 +108,18 @@ fn proof_of<S: ResourceSource, A: Allocator + Copy>(
 }
 
 // The text of an inclusion proof of the entry with this index, which is checked.
-fn proof_text<S: ResourceSource, A: Allocator + Copy>(
+fn proof_text<S: ResourceSource, A: Allocator + Copy, O: Observer>(
     alloc: A,
     source: &S,
     head: &Head,
     index: u64,
+    observer: &mut O,
 ) -> Result<Vec<u8, A>, FetchFault>
     ensures text { IfOk result (λ text. IsProofText head.now index text.items) }
     ensures refused { IfErr result (FailsPrinting
         (RefusesProof (S.may_answer source.now) (S.may_lack source.now) head.now index)) }
 {
-    let entry = match fetch_entry(alloc, source, head, index) {
+    let entry = match fetch_entry(alloc, source, head, index, observer) {
         Ok(entry) => entry,
         Err(fault) => return Err(client_refusal(fault)),
     };
@@ -127,11 +130,12 @@ fn proof_text<S: ResourceSource, A: Allocator + Copy>(
 
 /// Prints the text of an inclusion proof of the entry with this index (RFC 6962, section 2.1.1), as the command
 /// `inclusion` does. The entry is checked as by `fetch_entry`, and the proof is accepted.
-pub fn print_proof<S: ResourceSource, A: Allocator + Copy, W: Write>(
+pub fn print_proof<S: ResourceSource, A: Allocator + Copy, O: Observer, W: Write>(
     alloc: A,
     source: &S,
     head: &Head,
     index: u64,
+    observer: &mut O,
     writer: &mut Counted<W>,
 ) -> Result<(), FetchFault>
     ensures printed { OnOk result
@@ -141,7 +145,7 @@ pub fn print_proof<S: ResourceSource, A: Allocator + Copy, W: Write>(
     ensures refused { IfErr result (FailsPrinting
         (RefusesProof (S.may_answer source.now) (S.may_lack source.now) head.now index)) }
 {
-    let text = proof_text(alloc, source, head, index)?;
+    let text = proof_text(alloc, source, head, index, observer)?;
     print_text(writer, text.as_slice())?;
     Ok(())
 }

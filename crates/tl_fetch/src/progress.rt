@@ -46,8 +46,18 @@ impl<'e, E: Write> Progress<'e, E> {
 }
 
 impl<E: Write> Observer for Progress<'_, E> {
-    fn checked<A: Allocator>(&mut self, head: &Head, tiles: &FetchedTiles<A>, next: u64) {
-        self.tiles = self.tiles.saturating_add(tiles.as_slice().len() as u64);
+    fn checked<A: Allocator>(
+        &mut self,
+        head: &Head,
+        tiles: &FetchedTiles<A>,
+        known: usize,
+        next: u64,
+    ) {
+        let new = tiles.as_slice().len().saturating_sub(known);
+        self.tiles = self.tiles.saturating_add(new as u64);
         let _ = self.tell(head, next);
     }
+
+    // The line tells of entries alone.
+    fn passed<A: Allocator>(&mut self, _head: &Head, _tiles: &FetchedTiles<A>) {}
 }

@@ -23,19 +23,25 @@ use std::io::Write;
 use tl_client::{ClientFault, Head, ResourceSource, prove_growth};
 use tl_command::{RunFault, print_text};
 use tl_device::Counted;
+use tl_tile::FetchedTiles;
 
-// Checks that a log goes on from what was known, by a consistency proof that is accepted.
-fn check_grown<S: ResourceSource>(
+// Checks that a log goes on from what was known, by a consistency proof that is accepted, and tells of its tiles.
+fn check_grown<S: ResourceSource, O: Observer>(
     alloc: Global,
     source: &S,
     old: &Head,
     new: &Head,
+    observer: &mut O,
 ) -> Result<(), ClientFault>
     ensures grown { OnOk result (IsGrown old.now new.now) }
     ensures refused { IfErr result
         (RefusesGrowth (S.may_answer source.now) (S.may_lack source.now) old.now new.now) }
 {
-    let _proof = prove_growth(alloc, source, *old, *new)?;
+    let mut fetched = FetchedTiles::new(alloc);
+    let _proof = prove_growth(alloc, source, *old, *new, &mut fetched)?;
+    if !fetched.is_empty() {
+        observer.passed(new, &fetched);
+    }
     Ok(())
 }
 
@@ -99,9 +105,9 @@ fn print_asked<S: ResourceSource, O: Observer, W: Write>(
 {
     match asked.wanted {
         FetchRequest::Head => print_head(alloc, policy.origin, head, writer),
-        FetchRequest::Entry(index) => print_entry(alloc, source, head, index, writer),
+        FetchRequest::Entry(index) => print_entry(alloc, source, head, index, observer, writer),
         FetchRequest::All => print_entries(alloc, source, head, asked.known, observer, writer),
-        FetchRequest::Proof(index) => print_proof(alloc, source, head, index, writer),
+        FetchRequest::Proof(index) => print_proof(alloc, source, head, index, observer, writer),
     }
 }
 
@@ -122,10 +128,11 @@ fn is_accusation(fault: &ClientFault) -> bool
 }
 
 // Checks that the log goes on from what was known. Where it shrank or forked, both notes are printed.
-fn judge<S: ResourceSource, W: Write>(
+fn judge<S: ResourceSource, O: Observer, W: Write>(
     alloc: Global,
     source: &S,
     step: &Update<'_>,
+    observer: &mut O,
     writer: &mut Counted<W>,
 ) -> Result<(), FetchFault>
     ensures grown { OnOk result (IsGrown step.now.old.now step.now.new.now) }
@@ -135,7 +142,7 @@ fn judge<S: ResourceSource, W: Write>(
         step.now.last) step.now.old.now step.now.note.now step.now.new.now) fault
         (passage W.contents writer.old writer.new)) }
 {
-    let Err(fault) = check_grown(alloc, source, step.old, step.new) else {
+    let Err(fault) = check_grown(alloc, source, step.old, step.new, observer) else {
         return Ok(());
     };
     if !is_accusation(&fault) {
@@ -218,7 +225,7 @@ pub fn fetch_under<S: ResourceSource, K: TrustStore, O: Observer, W: Write>(
         note: now.note.as_str(),
         new: &now.head,
     };
-    if let Err(fault) = judge(alloc, source, &step, writer) {
+    if let Err(fault) = judge(alloc, source, &step, observer, writer) {
         return Err(fault);
     }
     match print_and_keep(

@@ -17,3 +17,6 @@ returns-clause-lines g c =
           (place_in vec_items head.size c.args.from items c.requires.below checked.whole.count),
       after_nothing _ _ _ c.in_ok-push_lines.ensures c.new-text.ensures.items,
     )
+
+pub read_bundle-requires : goal.read_bundle-requires
+read_bundle-requires g c = c.keep_path.ensures.passed sha256 c.args.head.now.size c.args.head.now.root c.requires.passed

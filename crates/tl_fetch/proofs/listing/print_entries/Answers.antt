@@ -1,4 +1,5 @@
-use Rattle.std.proofs.Common.{arith, inl, refl, ◌/◌}
+use Rattle.std.proofs.Common.{arith, refl, ◌/◌}
+use Rattle.tl_client.proofs.LeafReads.{none_passed}
 use Rattle.tl_fetch.proofs.ListingLemmas.{refuses_all, printed_further, printed_some, printing_none}
 use Rattle.tl_fetch.proofs.listing.print_entries.Goals as goal
 
@@ -19,4 +20,4 @@ loop-next-preserved g c = (
 )
 
 pub loop-next-init : goal.loop-next-init
-loop-next-init g c = (printing_none c.args.head.now c.args.from _ _ (omega (arith, c.if-from-head.false)), inl c.new-kept.ensures)
+loop-next-init g c = (printing_none c.args.head.now c.args.from _ _ (omega (arith, c.if-from-head.false)), none_passed c.args.head.now.size c.args.head.now.root c.new-kept.result c.new-kept.ensures)
