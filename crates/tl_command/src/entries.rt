@@ -83,7 +83,6 @@ pub(crate) struct ReadLog<A: Allocator> {
 }
 
 // The root of the log of the lines of an input, if it is wanted, hashed by so many threads.
-#[tactic(auto, using(tl_hash::proofs::TreeLemmas::tree_hash_of_none))]
 fn root_if<H: Threads + Sync, B: Allocator + Copy + Send>(
     rt: &H,
     workers: B,

@@ -1,0 +1,31 @@
+use Rattle.std.proofs.Common.{◌≡◌, ◌∙◌, List, ℕ, ap, subst, sym, position, nat_lt, vec_items, vec_len}
+use Rattle.std.specs.Prelude.{IfSome}
+use Rattle.sha2.specs.Sha256.{sha256}
+use Rattle.tl_hash.specs.Tree.{tree_hash}
+use Rattle.tl_command.specs.Lines.{entries_of, first_too_long}
+use Rattle.tl_command.proofs.LinesLemmas.{too_long_by_len}
+use Rattle.tl_command.proofs.entries.read_log.Goals as goal
+
+pub returns-in-Some : goal.returns-in-Some
+returns-in-Some g c =
+    let lines = c.in_ok-entries.ensures.entries ∙ ap entries_of c.as_slice-2.ensures.value in
+    let found = too_long_by_len c.in_ok-entries.entries.items in
+    record {
+      input = vec_items c.in_ok-input.input;
+      whole = c.in_ok-input.ensures;
+      first = ap first_too_long (sym lines) ∙ sym found ∙ ap (λ es. position (λ v. nat_lt 65535 (vec_len v)) es) (sym c.as_slice-3.ensures.value) ∙ sym c.in-Some.ensures;
+    }
+
+pub returns : goal.returns
+returns g c =
+    let lines = c.in_ok-entries.ensures.entries ∙ ap entries_of c.as_slice-2.ensures.value in
+    let found = too_long_by_len c.in_ok-entries.entries.items in
+    let same = ap entries_of c.as_slice.ensures.value ∙ sym lines in (
+      record {
+        input = vec_items c.in_ok-input.input;
+        whole = c.in_ok-input.ensures;
+        lines = lines;
+        short = sym found ∙ ap (λ es. position (λ v. nat_lt 65535 (vec_len v)) es) (sym c.as_slice-3.ensures.value) ∙ sym c.in-None.ensures;
+      },
+      subst (λ (entries : List (List ℕ)). IfSome c.in-Ok.root (λ root. root ≡ tree_hash sha256 entries)) same c.in-Ok.ensures.root,
+    )
