@@ -5,7 +5,7 @@ use Rattle.std.specs.Prelude.{Result, Ok, Err, IfErr, slice_index_or, nat_lt, �
 use Rattle.std.specs.List.{range_with_len}
 use Rattle.std.specs.declared.vec.Vec.{Vec}
 use Rattle.std.proofs.lemmas.Bool.{cases_lt, eqb-true, ltb-true, lt-ltb, false_from_ne_true}
-use Rattle.std.proofs.lemmas.List.{length-append, length-map, get_or-map, map-append, length-drop, take_all, take_more, take-append-le, drop-append-le}
+use Rattle.std.proofs.lemmas.List.{length-append, length-map, get_or-map, map-append, length-drop, take_all, take-append-le, drop-append-le}
 use Rattle.std.proofs.lemmas.List.FromFn.{length-range_with_len}
 use Rattle.std.proofs.Math.Seq.{drop-append_seam}
 use Rattle.tl_note.specs.Key.{SigningKey}
@@ -58,10 +58,7 @@ last_width size place le = ap (λ (b : Bool). cond b 256 (size % 256)) (false_fr
 pub item_at : {A : Type 0} (bundles : List (Vec ℕ A)) (place : ℕ) (v : Vec ℕ A) → place < length bundles → v ≡ get_or bundles place v → slice_index_or (map vec_items bundles) place [] ≡ vec_items v
 item_at bundles place v inside at = get_or-map vec_items bundles place v [] inside ∙ ap vec_items (sym at)
 
--- ---- the entries before a place
-
-pub entry_next : {A : Type 0} (entries : List (Vec ℕ A)) (index : ℕ) (v : Vec ℕ A) → index < length entries → v ≡ get_or entries index v → map vec_items (take (index + 1) entries) ≡ map vec_items (take index entries) ++ vec_items v ∷ []
-entry_next entries index v inside at = ap (map vec_items) (take_more entries index v inside) ∙ map-append vec_items (take index entries) (get_or entries index v ∷ []) ∙ ap (λ (x : Vec ℕ _). map vec_items (take index entries) ++ vec_items x ∷ []) (sym at)
+-- ---- an entry at a place
 
 pub entry_short : {A : Type 0} (entries : List (Vec ℕ A)) (index : ℕ) (v : Vec ℕ A) → index < length entries → v ≡ get_or entries index v → AreShortEntries (map vec_items entries) → IsShortEntry (vec_items v)
 entry_short entries index v inside at short = (let many = length-map entries vec_items in subst IsShortEntry (item_at entries index v inside at) (short index [] (omega (arith, many, inside))))

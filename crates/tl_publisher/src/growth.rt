@@ -1,5 +1,5 @@
 //! What the next publication will show.
-ghost use Rattle.std.specs.Prelude.{◌≡◌, ◌+◌, ◌-◌, ◌<◌, ◌≤◌, ◌^◌, ℕ, List, [], ◌∷◌, ◌++◌, vec_len, vec_capacity, length, take, drop, map, vec_items, slice_index_or, IfOk, OnOk, OnErr};
+ghost use Rattle.std.specs.Prelude.{◌≡◌, ◌+◌, ◌-◌, ◌%◌, ◌<◌, ◌≤◌, ◌^◌, ℕ, List, [], ◌∷◌, ◌++◌, vec_len, vec_capacity, length, take, drop, map, vec_items, slice_index_or, IfOk, OnOk, OnErr};
 ghost use Rattle.sha2.specs.Sha256.{sha256};
 ghost use Rattle.tl_hash.specs.Tree.{tree_hash};
 ghost use Rattle.tl_tile.specs.Bundle.{bundled_entry, AreShortEntries, IsShortEntry};
@@ -16,7 +16,7 @@ use std::alloc::{AllocError, Allocator};
 use std::marker::Model;
 use std::mem;
 use tl_hash::{Head, Sha256Tree};
-use tl_tile::{Edge, Tile, push_entry};
+use tl_tile::{Edge, Tile};
 
 /// A full bundle, and the full tiles that its last entry completed.
 #[derive(Drop)]
@@ -54,10 +54,13 @@ impl<A: Allocator> Model for Growth<A> {
 fn push_reserved_entry<A: Allocator>(bundle: &mut Vec<u8, A>, entry: &[u8])
     requires room { vec_len bundle.old + (2 + length entry.now) ≤ vec_capacity bundle.old }
     requires short { IsShortEntry entry.now }
-    ensures { bundle.new.items ≡ bundle.old.items ++ bundled_entry entry.now }
+    ensures pushed { bundle.new.items ≡ bundle.old.items ++ bundled_entry entry.now }
+    ensures room { vec_capacity bundle.old ≤ vec_capacity bundle.new }
 {
-    let pushed = push_entry(bundle, entry);
-    prove!(pushed.is_ok());
+    let front = bundle.extend_from_slice(&(entry.len() as u16).to_be_bytes());
+    prove!(front.is_ok());
+    let rest = bundle.extend_from_slice(entry);
+    prove!(rest.is_ok());
 }
 
 impl<A: Allocator + Copy> Growth<A> {
@@ -79,8 +82,9 @@ impl<A: Allocator + Copy> Growth<A> {
         ensures { IfOk result (IsGrown sha256 0 (map vec_items entries.now)) }
     {
         let mut growth = Growth::new(alloc);
-        for entry in entries {
-            growth.append(entry)?;
+        let mut at = 0;
+        while at < entries.len() {
+            at += growth.append_some(&entries[at..])?;
         }
         Ok(growth)
     }
@@ -111,6 +115,57 @@ impl<A: Allocator + Copy> Growth<A> {
             self.waiting.push_reserved(Batch { bundle, tiles });
         }
         Ok(())
+    }
+
+    /// Takes in four entries more, as so many calls of `append` do, where none of them fills a bundle, and hashes them
+    /// side by side. Where memory is refused nothing changes.
+    pub(crate) fn append_four(
+        &mut self,
+        first: &[u8],
+        second: &[u8],
+        third: &[u8],
+        fourth: &[u8],
+    ) -> Result<(), AllocError>
+        requires room { self.old.edge.size < 2 ^ 32 - 4 }
+        requires within { self.old.edge.size % 256 < 252 }
+        requires short { IsShortEntry first.now × IsShortEntry second.now
+            × IsShortEntry third.now × IsShortEntry fourth.now }
+        ensures grown { (start : ℕ) (entries : List (List ℕ))
+            → IsGrown sha256 start entries self.old → OnOk result (IsGrown sha256 start
+            (entries ++ first.now ∷ second.now ∷ third.now ∷ fourth.now ∷ []) self.new) }
+        ensures size { OnOk result (self.new.edge.size ≡ self.old.edge.size + 4) }
+        ensures unchanged { OnErr result (self.new ≡ self.old) }
+    {
+        let bytes = first.len() + second.len() + third.len() + fourth.len();
+        self.bundle.reserve(8 + bytes)?;
+        self.edge.push_four(first, second, third, fourth)?;
+        push_reserved_entry(&mut self.bundle, first);
+        push_reserved_entry(&mut self.bundle, second);
+        push_reserved_entry(&mut self.bundle, third);
+        push_reserved_entry(&mut self.bundle, fourth);
+        Ok(())
+    }
+
+    // Takes in the first of some entries: four, or one where there are fewer or they fill a bundle. Gives how many.
+    fn append_some(&mut self, entries: &[Vec<u8, A>]) -> Result<usize, AllocError>
+        requires some { 0 < length entries.now }
+        requires small { self.old.edge.size + length entries.now < 2 ^ 32 }
+        requires short { AreShortEntries (map vec_items entries.now) }
+        ensures some { IfOk result (λ count. 0 < count) }
+        ensures within { IfOk result (λ count. count ≤ length entries.now) }
+        ensures grown { (start : ℕ) (before : List (List ℕ))
+            → IsGrown sha256 start before self.old → IfOk result (λ count. IsGrown sha256 start
+            (before ++ map vec_items (take count entries.now)) self.new) }
+        ensures size { IfOk result (λ count. self.new.edge.size ≡ self.old.edge.size + count) }
+    {
+        if self.size() % 256 < 252 {
+            if let [first, second, third, fourth, ..] = entries {
+                self.append_four(first, second, third, fourth)?;
+                return Ok(4);
+            }
+        }
+        self.append(&entries[0])?;
+        Ok(1)
     }
 
     /// Size and tree hash of the entries.

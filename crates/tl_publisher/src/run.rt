@@ -43,6 +43,36 @@ impl<R: Wait + Drop> Model for Run<R> {
     ghost invariant = { λ r. running.IsRunning r.log r.growth r.board };
 }
 
+// Takes in the next entries of the log: four, or one where there are fewer or they fill a bundle.
+fn take_some(growth: &mut Growth<Global>, log: &Sequencer<Global, Global>) -> Result<(), AllocError>
+    requires few { log.now.limit < 2 ^ 32 }
+    requires within { growth.old.edge.size < length (entries_of log.now) }
+    ensures grown { (start : ℕ)
+        → IsGrown sha256 start (take growth.old.edge.size (entries_of log.now)) growth.old
+        → IsGrown sha256 start (take growth.new.edge.size (entries_of log.now)) growth.new }
+    ensures within { growth.new.edge.size ≤ length (entries_of log.now) }
+    ensures more { OnOk result (growth.old.edge.size < growth.new.edge.size) }
+{
+    let place = growth.size();
+    let len = log.len();
+    let Some(first) = log.entry(place) else {
+        unreachable!()
+    };
+    if place % 256 < 252 && len - place >= 4 {
+        let (Some(second), Some(third), Some(fourth)) = (
+            log.entry(place + 1),
+            log.entry(place + 2),
+            log.entry(place + 3),
+        ) else {
+            unreachable!()
+        };
+        growth.append_four(first, second, third, fourth)?;
+        return Ok(());
+    }
+    growth.append(first)?;
+    Ok(())
+}
+
 // Takes in the entries of the log that the growth doesn't have yet. Where memory is refused it has some of them.
 fn take_in(growth: &mut Growth<Global>, log: &Sequencer<Global, Global>) -> Result<(), AllocError>
     requires few { log.now.limit < 2 ^ 32 }
@@ -53,11 +83,8 @@ fn take_in(growth: &mut Growth<Global>, log: &Sequencer<Global, Global>) -> Resu
     ensures within { growth.new.edge.size ≤ length (entries_of log.now) }
     ensures all { OnOk result (growth.new.edge.size ≡ length (entries_of log.now)) }
 {
-    for place in growth.size()..log.len() {
-        let Some(entry) = log.entry(place) else {
-            unreachable!()
-        };
-        growth.append(entry)?;
+    while growth.size() < log.len() {
+        take_some(growth, log)?;
     }
     Ok(())
 }

@@ -1,20 +1,32 @@
-use Rattle.std.proofs.Common.{◌++◌, ◌∷◌, [], map, take, vec_items, sym, ap, subst, ◌∙◌, arith}
+use Rattle.std.proofs.Common.{◌++◌, List, ℕ, drop, map, take, take-add, vec_items, sym, ap, subst, ◌∙◌, length, arith}
+use Rattle.std.proofs.lemmas.List.{map-append, take_rest, length-drop, drop-map}
+use Rattle.std.proofs.lemmas.List.Elements.{All-drop}
 use Rattle.sha2.specs.Sha256.{sha256}
-use Rattle.tl_tile.specs.Bundle.{IsShortEntry}
+use Rattle.tl_tile.specs.Bundle.{IsShortEntry, AreShortEntries}
 use Rattle.tl_publisher.specs.Grown.{IsGrown}
-use Rattle.tl_publisher.proofs.Resumptions.{entry_next, entry_short}
 use Rattle.tl_publisher.proofs.growth.Growth.of.Goals as goal
 
-pub append-requires-clause-short : goal.append-requires-clause-short
-append-requires-clause-short g c =
-    subst IsShortEntry (sym c.deref.ensures.value) (entry_short c.args.entries.now c.loop-entry.entry-index c.entry-item.result c.loop-entry-test.true c.entry-item.is c.requires.short)
+pub append_some-requires-clause-short : goal.append_some-requires-clause-short
+append_some-requires-clause-short g c =
+    let entries = c.args.entries.now in
+    let at = c.loop-at.at in
+    subst AreShortEntries (drop-map vec_items at entries ∙ ap (map vec_items) (sym (take_rest entries at)))
+    (All-drop IsShortEntry at (map vec_items entries) c.requires.short)
 
-pub loop-entry-preserved : goal.loop-entry-preserved
-loop-entry-preserved g c =
-    let inv = c.loop-entry.invariant in
-    let next = entry_next c.args.entries.now c.loop-entry.entry-index c.entry-item.result c.loop-entry-test.true c.entry-item.is in
-    let made = c.in_ok-append.ensures.grown 0 _ inv.grown in
+pub loop-at-preserved : goal.loop-at-preserved
+loop-at-preserved g c =
+    let entries = c.args.entries.now in
+    let at = c.loop-at.at in
+    let taken = c.in_ok-at.field-0 in
+    let inv = c.loop-at.invariant in
+    let more = c.in_ok-at.ensures in
+    let rest = take_rest entries at in
+    let same =
+    ap (λ (list : List _). map vec_items (take at entries) ++ map vec_items (take taken list)) rest
+    ∙ sym (map-append vec_items (take at entries) (take taken (drop at entries)))
+    ∙ ap (map vec_items) (sym (take-add at taken entries)) in
     record {
-      size = omega (arith, c.in_ok-append.ensures.size, inv.size);
-      grown = subst (λ es. IsGrown sha256 0 es c.append.new.self) (ap (λ e. map vec_items (take c.loop-entry.entry-index c.args.entries.now) ++ e ∷ []) c.deref.ensures.value ∙ sym next) made;
+      within = omega (arith, inv.within, more.within, ap length rest, length-drop at entries);
+      size = omega (arith, more.size, inv.size);
+      grown = subst (λ (es : List (List ℕ)). IsGrown sha256 0 es c.append_some.new.self) same (more.grown 0 _ inv.grown);
     }
