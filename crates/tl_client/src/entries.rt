@@ -95,8 +95,8 @@ pub fn read_entries<S: ResourceSource, A: Allocator + Copy>(
 
 /// As `read_entries`, after tiles that passed all checks against this size and root, or none: those are neither fetched
 /// nor hashed again. The tiles that are fetched come behind them, also after a fault, and of a `BadTile` the tile, so
-/// that they haven't passed then. Over a run of bundles, `FetchedTiles::keep_path` between two of them lets the tiles go
-/// that the next one doesn't need.
+/// that they haven't passed then. Over a run of bundles, `FetchedTiles::keep_path` between two of them lets those go that
+/// the next one doesn't need.
 pub fn read_entries_after<S: ResourceSource, A: Allocator + Copy>(
     alloc: A,
     source: &S,

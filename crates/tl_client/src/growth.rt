@@ -48,12 +48,11 @@ fn proof_between<S: ResourceSource, A: Allocator + Copy>(
     Ok(proof)
 }
 
-/// A consistency proof that the new log begins with the old one (RFC 6962, section 2.1.2). It is made from checked
-/// tiles of the new log, those over the last old entry, and accepted. `Shrunk` comes where the new log is the smaller
-/// one, then `Range` where it has more than 2^62 entries; `Unavailable` where the source lacks such a tile or the
-/// proof asks for another; `Forked` where the old root isn't that of the new log's first entries. From no entries, and
-/// between equal sizes, nothing is fetched. `fetched` then holds the tiles that were fetched and no others, also after a
-/// fault.
+/// A consistency proof that the new log begins with the old one (RFC 6962, section 2.1.2), made from checked tiles of
+/// the new log over the last old entry, and accepted. `fetched` then holds these and no others, also after a fault: none
+/// from no entries, or between equal sizes. `Shrunk`: the new log is the smaller one. `Range`: it has more than 2^62
+/// entries. `Unavailable`: the source lacks such a tile, or the proof asks for another. `Forked`: the old root isn't that
+/// of the new log's first entries.
 pub fn prove_growth<S: ResourceSource, A: Allocator + Copy>(
     alloc: A,
     source: &S,

@@ -27,8 +27,8 @@ fn numbers_of<A: Allocator>(alloc: A, first: u64, count: u32) -> Result<Vec<u64,
     Ok(numbers)
 }
 
-/// So many leaf hashes of a log of this size and root, from the one of this entry on, after tiles that passed all checks,
-/// or none. The tiles that are fetched come behind them.
+/// So many leaf hashes of a log of this size and root, from the one of this entry on, after tiles that passed all
+/// checks, or none. The tiles that are fetched come behind them.
 pub(crate) fn read_leaves<S: ResourceSource, A: Allocator + Copy>(
     alloc: A,
     source: &S,

@@ -142,8 +142,8 @@ impl<A: Allocator + Copy> Growing<A> {
         self.take_four(piece)
     }
 
-    // The beginning of a piece: whole lines of it that are hashed side by side, or else one, or all of it where it has no
-    // newline. Gives the number of bytes taken.
+    // The beginning of a piece: whole lines of it that are hashed side by side, or else one, or all of it where it has
+    // no newline. Gives the number of bytes taken.
     fn take_some(&mut self, piece: &[u8]) -> Result<usize, AllocError>
         requires { self.old.edge.size + length piece.now < 2 ^ 32 }
         ensures some { 0 < length piece.now → IfOk result (λ taken. 0 < taken) }

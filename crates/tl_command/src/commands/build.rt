@@ -186,10 +186,10 @@ fn build<
 }
 
 /// Reads the whole input and writes what a static mirror of the log of its lines serves (C2SP tlog-tiles): with no path
-/// a line `path length` for each resource, tiles by level and index, bundles, the checkpoint; with a path its bytes.
-/// The checkpoint is a note by the log's key, whose name is the log's. A name that is no key's is `BadOrigin`, a path
-/// of no resource `BadPath`, both before anything is read; what the log hasn't got is `NotThere`. The key takes its
-/// memory from `global`. Up to `threads` threads hash at once, with memory from `workers`, where the root is needed.
+/// a line `path length` for each resource, the checkpoint last; with a path its bytes. The checkpoint is a note by the
+/// log's key, whose name is the log's. `BadOrigin`: no key has that name. `BadPath`: no resource has that path. Nothing
+/// is read then. `NotThere`: the log hasn't got it. The key takes its memory from `global`. Up to `threads` threads hash
+/// for the root, with memory from `workers`.
 pub fn run_build<
     H: Threads + Sync,
     K: LogSigner,

@@ -49,8 +49,8 @@ fn empty_block<A: Allocator>(alloc: A) -> Result<Vec<u8, A>, AllocError>
     vec![in alloc; 0u8; BLOCK]
 }
 
-/// The right edge of the log of the lines of an input, hashed by so many threads, which take memory from `workers`. Where
-/// a line has more than 65,535 bytes, it is `EntryTooLong` of the first such line.
+/// The right edge of the log of the lines of an input, hashed by so many threads, which take memory from `workers`.
+/// Where a line has more than 65,535 bytes, it is `EntryTooLong` of the first such line.
 pub(crate) fn edge_of<H: Threads + Sync, A: Allocator + Copy, B: Allocator + Copy + Send>(
     rt: &H,
     alloc: A,

@@ -6,7 +6,7 @@ use Rattle.tl_folder.specs.declared.staged.Staged.{Staged}
 use Rattle.tl_folder.specs.Settling.{syncing}
 use Rattle.tl_folder.specs.Inner.Staged.{move_of}
 use Rattle.tl_folder.proofs.Beginnings.{is_err_at, stops, goes_on}
-use Rattle.tl_folder.proofs.system.note_files.Goals as goal
+use Rattle.tl_folder.proofs.system.many.note_files.Goals as goal
 
 asked : (path : Path) (file at : Staged) → path ≡ string_bytes at.beside → file ≡ at → step.Sync path ≡ syncing (move_of file)
 asked path file at is same = ap (λ (p : Path). step.Sync p) is ∙ ap (λ (f : Staged). step.Sync (string_bytes f.beside)) (sym same)

@@ -4,7 +4,7 @@ use Rattle.tl_folder.specs.Step.{Path}
 use Rattle.tl_folder.specs.Step as step
 use Rattle.tl_folder.specs.Settling.{naming}
 use Rattle.tl_folder.proofs.Beginnings.{is_err_at, stops, goes_on}
-use Rattle.tl_folder.proofs.system.note_folders.Goals as goal
+use Rattle.tl_folder.proofs.system.many.note_folders.Goals as goal
 
 pub returns-in_err-outcome : goal.returns-in_err-outcome
 returns-in_err-outcome c =

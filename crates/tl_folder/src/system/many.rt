@@ -1,0 +1,129 @@
+//! Syncs of many files or folders, as a disk makes them, and how they are noted.
+
+ghost use Rattle.std.specs.Prelude.{◌≡◌, length, map, string_bytes, vec_len, IfOk};
+ghost use Rattle.tl_folder.specs.FileCalls.{Does};
+ghost use Rattle.tl_folder.specs.Settling.{naming, syncing};
+ghost use Rattle.tl_folder.specs.Inner.Staged.{move_of};
+
+use crate::call_log::{Asked, CallLog};
+use crate::staged::{Staged, sync_folders, sync_staged};
+use crate::system::SystemCalls;
+use crate::together::{ManyCalls, SyncKind, SyncOutcome, SyncsTogether};
+use std::alloc::{AllocError, Global};
+use std::fs::Files;
+use tl_device::DeviceFault;
+
+// The paths of the files.
+fn paths_of(alloc: Global, staged: &[Staged]) -> Result<Vec<String>, AllocError> {
+    let mut paths = Vec::new(alloc);
+    for file in staged {
+        paths.push(file.beside.clone()?)?;
+    }
+    Ok(paths)
+}
+
+// What came of each path, as a disk syncs many.
+fn outcomes_of<H: Files, D: SyncsTogether>(
+    files: &H,
+    disk: &D,
+    alloc: Global,
+    kind: SyncKind,
+    paths: &[String],
+    count: usize,
+) -> Result<Vec<SyncOutcome>, AllocError>
+    ensures { IfOk result (λ outcomes. vec_len outcomes ≡ count) }
+{
+    let mut outcomes = vec![in alloc; Err(DeviceFault::System); count]?;
+    disk.sync_each(files, kind, paths, outcomes.as_mut_slice());
+    Ok(outcomes)
+}
+
+// What came of each of the files.
+fn outcomes_of_files<H: Files, D: SyncsTogether>(
+    files: &H,
+    disk: &D,
+    alloc: Global,
+    staged: &[Staged],
+) -> Result<Vec<SyncOutcome>, AllocError>
+    ensures { IfOk result (λ outcomes. vec_len outcomes ≡ length staged.now) }
+{
+    let paths = paths_of(alloc, staged)?;
+    outcomes_of(
+        files,
+        disk,
+        alloc,
+        SyncKind::File,
+        paths.as_slice(),
+        staged.len(),
+    )
+}
+
+// Notes what came of each of the files, up to and with the first that failed, whose fault is the answer.
+fn note_files(
+    log: &mut CallLog,
+    staged: &[Staged],
+    outcomes: &[Result<(), DeviceFault>],
+) -> Result<(), DeviceFault>
+    requires { length outcomes.now ≡ length staged.now }
+    ensures { Does (map (λ file. syncing (move_of file)) staged.now) log.old log.new result }
+{
+    for i in 0..staged.len() {
+        let outcome = outcomes[i];
+        log.note(Asked::Sync, staged[i].beside.as_str(), &[], outcome.is_ok());
+        outcome?;
+    }
+    Ok(())
+}
+
+// Notes what came of each of the folders, up to and with the first that failed, whose fault is the answer.
+fn note_folders(
+    log: &mut CallLog,
+    folders: &[String],
+    outcomes: &[Result<(), DeviceFault>],
+) -> Result<(), DeviceFault>
+    requires { length outcomes.now ≡ length folders.now }
+    ensures { Does (map (λ folder. naming (string_bytes folder)) folders.now) log.old log.new result }
+{
+    for i in 0..folders.len() {
+        let outcome = outcomes[i];
+        log.note(Asked::SyncFolder, folders[i].as_str(), &[], outcome.is_ok());
+        outcome?;
+    }
+    Ok(())
+}
+
+// A sync changes nothing but what it is of. So one that was made and isn't noted, as it came after one that failed, only
+// makes surer what the notes say may be lost; one that failed spoils only a file beside its place, which is written anew
+// before it is ever put there; and after a failure every call of the folder fails.
+impl<H: Files> ManyCalls for SystemCalls<H> {
+    fn sync_files<D: SyncsTogether>(
+        &mut self,
+        disk: &D,
+        alloc: Global,
+        staged: &[Staged],
+    ) -> Result<(), DeviceFault> {
+        match outcomes_of_files(&self.files, disk, alloc, staged) {
+            Ok(outcomes) => note_files(&mut self.log, staged, outcomes.as_slice()),
+            Err(_) => sync_staged(self, staged),
+        }
+    }
+
+    fn sync_folders<D: SyncsTogether>(
+        &mut self,
+        disk: &D,
+        alloc: Global,
+        folders: &[String],
+    ) -> Result<(), DeviceFault> {
+        match outcomes_of(
+            &self.files,
+            disk,
+            alloc,
+            SyncKind::Folder,
+            folders,
+            folders.len(),
+        ) {
+            Ok(outcomes) => note_folders(&mut self.log, folders, outcomes.as_slice()),
+            Err(_) => sync_folders(self, folders),
+        }
+    }
+}
