@@ -4,5 +4,5 @@ use Rattle.tl_cli.proofs.running.build_signed.Goals as goal
 
 pub returns : goal.returns
 returns g c =
-    builds_signed _ _ _ _ _ _ c.run_build_signed.result (inl (c.as_slice.result.now, c.run_build_signed.ensures))
+    builds_signed _ _ _ _ _ _ c.run_build_signed.result (inl (c.as_slice-bytes.result.now, c.run_build_signed.ensures))
     c.as_str-origin.ensures.value (search rules)
