@@ -88,7 +88,8 @@ impl<A: Allocator + Copy> Growing<A> {
     }
 
     // The first four lines of a piece, hashed side by side. Gives the number of bytes taken: none where a line is
-    // begun, a line was too long, or no four whole lines stand there that an entry can have.
+    // begun, a line was too long, or no four whole lines stand there that an entry can have; nor where four lines would
+    // go past the beginning of a tile.
     fn take_four(&mut self, piece: &[u8]) -> Result<usize, AllocError>
         requires { self.old.edge.size + length piece.now < 2 ^ 32 }
         ensures within { IfOk result (λ taken. taken ≤ length piece.now) }
@@ -96,7 +97,7 @@ impl<A: Allocator + Copy> Growing<A> {
         ensures grows { (input : Bytes) → IsGrowing self.old input
             → IfOk result (λ taken. IsGrowing self.new (input ++ take taken piece.now)) }
     {
-        if !self.line.is_empty() || self.too_long.is_some() {
+        if !self.line.is_empty() || self.too_long.is_some() || self.edge.size() % 4 != 0 {
             return Ok(0);
         }
         let Some(four) = cut_four(piece) else {
