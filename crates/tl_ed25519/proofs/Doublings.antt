@@ -13,44 +13,44 @@ use Rattle.tl_ed25519.specs.declared.table.t_rows.TheConstants.{T}
 
 -- a row has carried limbs, and spells a number of the field
 unfoldable pub spells : List ℕ → ℕ → Bool
-spells row n =
-    (value row % prime == n)
-    && (nat_lt (slice_index_or row 0 0) (2 ^ 51) && (nat_lt (slice_index_or row 1 0) (2 ^ 52) && (nat_lt (slice_index_or row 2 0) (2 ^ 51) && (nat_lt (slice_index_or row 3 0) (2 ^ 51) && nat_lt (slice_index_or row 4 0) (2 ^ 51)))))
+spells five n =
+    (value five % prime == n)
+    && (nat_lt (slice_index_or five 0 0) (2 ^ 51) && (nat_lt (slice_index_or five 1 0) (2 ^ 52) && (nat_lt (slice_index_or five 2 0) (2 ^ 51) && (nat_lt (slice_index_or five 3 0) (2 ^ 51) && nat_lt (slice_index_or five 4 0) (2 ^ 51)))))
 
-spelled : (row : List ℕ) (n : ℕ) → spells row n ≡ true → IsRow row × (value row % prime ≡ n)
+spelled : (five : List ℕ) (n : ℕ) → spells five n ≡ true → IsRow five × (value five % prime ≡ n)
 unfolding spells
-spelled row n h =
-    let t4 : Bool = nat_lt (slice_index_or row 4 0) (2 ^ 51) in
-    let t3 : Bool = nat_lt (slice_index_or row 3 0) (2 ^ 51) && t4 in
-    let t2 : Bool = nat_lt (slice_index_or row 2 0) (2 ^ 51) && t3 in
-    let t1 : Bool = nat_lt (slice_index_or row 1 0) (2 ^ 52) && t2 in
-    let p0 = and_parts (value row % prime == n) (nat_lt (slice_index_or row 0 0) (2 ^ 51) && t1) h in
-    let p1 = and_parts (nat_lt (slice_index_or row 0 0) (2 ^ 51)) t1 p0.1 in
-    let p2 = and_parts (nat_lt (slice_index_or row 1 0) (2 ^ 52)) t2 p1.1 in
-    let p3 = and_parts (nat_lt (slice_index_or row 2 0) (2 ^ 51)) t3 p2.1 in
-    let p4 = and_parts (nat_lt (slice_index_or row 3 0) (2 ^ 51)) t4 p3.1 in (
+spelled five n h =
+    let t4 : Bool = nat_lt (slice_index_or five 4 0) (2 ^ 51) in
+    let t3 : Bool = nat_lt (slice_index_or five 3 0) (2 ^ 51) && t4 in
+    let t2 : Bool = nat_lt (slice_index_or five 2 0) (2 ^ 51) && t3 in
+    let t1 : Bool = nat_lt (slice_index_or five 1 0) (2 ^ 52) && t2 in
+    let p0 = and_parts (value five % prime == n) (nat_lt (slice_index_or five 0 0) (2 ^ 51) && t1) h in
+    let p1 = and_parts (nat_lt (slice_index_or five 0 0) (2 ^ 51)) t1 p0.1 in
+    let p2 = and_parts (nat_lt (slice_index_or five 1 0) (2 ^ 52)) t2 p1.1 in
+    let p3 = and_parts (nat_lt (slice_index_or five 2 0) (2 ^ 51)) t3 p2.1 in
+    let p4 = and_parts (nat_lt (slice_index_or five 3 0) (2 ^ 51)) t4 p3.1 in (
       record {
-        first = ltb-true (slice_index_or row 0 0) (2 ^ 51) p1.0;
-        second = ltb-true (slice_index_or row 1 0) (2 ^ 52) p2.0;
-        third = ltb-true (slice_index_or row 2 0) (2 ^ 51) p3.0;
-        fourth = ltb-true (slice_index_or row 3 0) (2 ^ 51) p4.0;
-        fifth = ltb-true (slice_index_or row 4 0) (2 ^ 51) p4.1;
+        first = ltb-true (slice_index_or five 0 0) (2 ^ 51) p1.0;
+        second = ltb-true (slice_index_or five 1 0) (2 ^ 52) p2.0;
+        third = ltb-true (slice_index_or five 2 0) (2 ^ 51) p3.0;
+        fourth = ltb-true (slice_index_or five 3 0) (2 ^ 51) p4.0;
+        fifth = ltb-true (slice_index_or five 4 0) (2 ^ 51) p4.1;
       },
-      eqb-true (value row % prime) n p0.0,
+      eqb-true (value five % prime) n p0.0,
     )
 
 -- each row spells what f is of the next doubling
 unfoldable pub column_ok : (Point → ℕ) → List (List ℕ) → Point → Bool
 column_ok f [] p = true
-column_ok f (row ∷ rows) p = spells row (f p) && column_ok f rows (point_add p p)
+column_ok f (five ∷ rows) p = spells five (f p) && column_ok f rows (point_add p p)
 
 at_row : (f : Point → ℕ) (rows : List (List ℕ)) (p : Point) (i : ℕ) → column_ok f rows p ≡ true → i < length rows →
     spells (slice_index_or rows i []) (f (doubled i p)) ≡ true
 unfolding column_ok doubled
 at_row f [] p i h l = absurd (omega (arith, l))
-at_row f (row ∷ rows) p zero h l = (and_parts (spells row (f p)) (column_ok f rows (point_add p p)) h).0
-at_row f (row ∷ rows) p (suc i) h l =
-    at_row f rows (point_add p p) i (and_parts (spells row (f p)) (column_ok f rows (point_add p p)) h).1 (omega (arith, l))
+at_row f (five ∷ rows) p zero h l = (and_parts (spells five (f p)) (column_ok f rows (point_add p p)) h).0
+at_row f (five ∷ rows) p (suc i) h l =
+    at_row f rows (point_add p p) i (and_parts (spells five (f p)) (column_ok f rows (point_add p p)) h).1 (omega (arith, l))
 
 less_ok : column_ok (λ p. sub p.y p.x) LESS base_point ≡ true
 unfolding column_ok spells point_add base_point affine add sub mul
