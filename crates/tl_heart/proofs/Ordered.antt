@@ -8,7 +8,7 @@ use Rattle.tl_heart.specs.declared.heart.Event.TheVariants as event
 use Rattle.tl_heart.specs.declared.heart.Doing.{Doing}
 use Rattle.tl_heart.specs.declared.heart.Doing.TheVariants as doing
 use Rattle.tl_heart.specs.declared.heart.Heart.{Heart}
-use Rattle.tl_heart.specs.Heart.{after, after_done, after_failure, after_nothing, if_waiting, is_waiting, next_rest, next_taking, now_doing, step_of, with_taken}
+use Rattle.tl_heart.specs.Heart.{after, after_done, after_failure, after_nothing, if_waiting, is_waiting, next_due, next_rest, next_taking, now_doing, step_of, with_taken}
 use Rattle.tl_heart.specs.Order.{Begins, MayDo, Owed, nothing, publication, telling, after_all, once_done, once_nothing, owed_after, owed_all, owed_new, with_entries}
 
 -- what is done, whether something is new, and what is owed meanwhile
@@ -175,9 +175,11 @@ fits_after : {F : Type 0} (h : Heart F) (e : Event F) (owed : Owed) → Suits h 
 fits_after h (event.Done count) owed fits = fits_done h.doing count h owed fits
 fits_after h event.NothingNew owed fits = fits_nothing h.doing h owed fits
 fits_after h (event.TooLong line) owed fits = fits_news h (doing.TellingTooLong line) owed fits (λ is. is)
-fits_after h event.InputEnded owed fits =
-    fits_news h (if h.ends_with_input then doing.Closing else doing.TellingInputEnded) owed fits
-    (λ is. fits_if h.ends_with_input doing.Closing doing.TellingInputEnded h.has_new owed (λ _. is) (λ _. is))
+fits_after h event.InputEnded owed fits = fits_news h doing.TellingInputEnded owed fits (λ is. is)
+fits_after h event.Due owed fits =
+    fits_news h (next_due h) owed fits
+    (λ is. fits_if h.has_new (doing.Publishing false) doing.Waiting h.has_new owed
+    (λ some. some_new h.has_new owed is some) (λ _. is))
 fits_after h event.Stopped owed fits = fits_news h doing.Closing owed fits (λ is. is)
 fits_after h (event.Failed fault) owed fits = fits_failure fault h.doing h.has_new owed fits
 

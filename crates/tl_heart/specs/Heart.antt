@@ -81,9 +81,9 @@ after_failure fault (doing.Failing first) = doing.Ended (Err first)
 after_failure fault (doing.Ended outcome) = doing.Ended outcome
 after_failure fault _ = doing.Failing fault
 
--- where the input ends while it waits
-abbrev pub doing_on_input : {F : Type 0} → Heart F → Doing F
-doing_on_input h = if h.ends_with_input then doing.Closing else doing.TellingInputEnded
+-- where a publication is due while it waits: what is new is published
+abbrev pub next_due : {F : Type 0} → Heart F → Doing F
+next_due h = if h.has_new then doing.Publishing false else doing.Waiting
 
 -- what comes while nothing is waited for counts for nothing
 abbrev pub if_waiting : {F : Type 0} → Heart F → Doing F → Heart F
@@ -94,6 +94,7 @@ abbrev pub after : {F : Type 0} → Heart F → Event F → Heart F
 after h (event.Done count) = after_done h.doing count h
 after h event.NothingNew = after_nothing h.doing h
 after h (event.TooLong line) = if_waiting h (doing.TellingTooLong line)
-after h event.InputEnded = if_waiting h (doing_on_input h)
+after h event.InputEnded = if_waiting h doing.TellingInputEnded
+after h event.Due = if_waiting h (next_due h)
 after h event.Stopped = if_waiting h doing.Closing
 after h (event.Failed fault) = now_doing h (after_failure fault h.doing)

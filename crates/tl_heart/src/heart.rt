@@ -2,8 +2,8 @@
 
 ghost use Rattle.std.specs.Prelude.{◌≡◌, false, true};
 ghost use Rattle.tl_heart.specs.declared.heart.Doing.TheVariants as doing;
-ghost use Rattle.tl_heart.specs.Order.{Begins, owed_new, telling};
-ghost use Rattle.tl_heart.specs.Heart.{after, after_done, after_failure, after_nothing, doing_on_input, is_waiting, next_taking, now_doing, step_of, with_taken, without_new};
+ghost use Rattle.tl_heart.specs.Order.{Begins, telling};
+ghost use Rattle.tl_heart.specs.Heart.{after, after_done, after_failure, after_nothing, is_waiting, next_due, next_taking, now_doing, step_of, with_taken, without_new};
 
 /// What came of a step, or came meanwhile.
 #[derive(Clone, Copy, Debug, PartialEq, Eq)]
@@ -17,6 +17,8 @@ pub enum Event<F> {
     TooLong(u64),
     /// The input has ended.
     InputEnded,
+    /// What was taken in has waited long enough for more.
+    Due,
     /// The log is to end: as many connections as are to be answered are answered, and nothing is sent any more.
     Stopped,
     /// What was to be done failed, or what goes on beside it did.
@@ -90,22 +92,20 @@ pub struct Heart<F> {
     pub left: u64,
     /// The same after a publication.
     pub batch: u64,
-    /// Whether fewer entries wait for more; else they are published once no more wait.
+    /// Whether fewer entries wait for more until a publication is due; else they are published once no more wait.
     pub gathers: bool,
-    /// Whether the log ends with its input.
-    pub ends_with_input: bool,
 }
 
 impl<F: Copy> Heart<F> {
-    /// A log that is served: it was published, which is told first, and publishes what comes.
-    pub fn serving(batch: u64) -> Heart<F>
+    /// A log that is served: it was published, which is told first, and publishes what comes: each `batch` entries at
+    /// once, and fewer once no more wait, or, where it gathers, once they have waited long enough.
+    pub fn serving(batch: u64, gathers: bool) -> Heart<F>
         ensures value { result ≡ record {
           doing = doing.Telling false;
           has_new = false;
           left = batch;
           batch = batch;
-          gathers = false;
-          ends_with_input = false;
+          gathers = gathers;
         } }
         ensures begins { Begins result telling }
     {
@@ -114,31 +114,7 @@ impl<F: Copy> Heart<F> {
             has_new: false,
             left: batch,
             batch,
-            gathers: false,
-            ends_with_input: false,
-        }
-    }
-
-    /// A log to which an input is appended, and that ends with it: it publishes after each batch and at the end.
-    /// `has_new` says that it was never published.
-    pub fn appending(batch: u64, has_new: bool) -> Heart<F>
-        ensures value { result ≡ record {
-          doing = doing.Waiting;
-          has_new = has_new;
-          left = batch;
-          batch = batch;
-          gathers = true;
-          ends_with_input = true;
-        } }
-        ensures begins { Begins result (owed_new has_new) }
-    {
-        Heart {
-            doing: Doing::Waiting,
-            has_new,
-            left: batch,
-            batch,
-            gathers: true,
-            ends_with_input: true,
+            gathers,
         }
     }
 
@@ -279,14 +255,14 @@ impl<F: Copy> Heart<F> {
         }
     }
 
-    // What is done where the input ends while it waits.
-    fn doing_on_input(self) -> Doing<F>
-        ensures { result ≡ doing_on_input self }
+    // What is done where a publication is due while it waits.
+    fn next_due(self) -> Doing<F>
+        ensures { result ≡ next_due self }
     {
-        if self.ends_with_input {
-            Doing::Closing
+        if self.has_new {
+            Doing::Publishing(false)
         } else {
-            Doing::TellingInputEnded
+            Doing::Waiting
         }
     }
 
@@ -300,7 +276,8 @@ impl<F: Copy> Heart<F> {
             Event::Failed(fault) => self.now_doing(self.after_failure(fault)),
             _ if !self.is_waiting() => self,
             Event::TooLong(line) => self.now_doing(Doing::TellingTooLong(line)),
-            Event::InputEnded => self.now_doing(self.doing_on_input()),
+            Event::InputEnded => self.now_doing(Doing::TellingInputEnded),
+            Event::Due => self.now_doing(self.next_due()),
             Event::Stopped => self.now_doing(Doing::Closing),
         }
     }

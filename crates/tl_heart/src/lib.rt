@@ -1,7 +1,7 @@
 //! What a running log does next, event by event: decided in one place, without threads, clocks or devices.
 //!
 //! ```
-//! let mut heart = Heart::serving(256);
+//! let mut heart = Heart::serving(256, false);
 //! loop {
 //!     let event = match heart.step() {
 //!         Step::Wait => next_news(),
