@@ -1,12 +1,9 @@
 -- Reads of one piece after another into a buffer.
-use Rattle.std.proofs.Common.{◌≡◌, ℕ, ◌+◌, ◌<◌, ◌≤◌, List, [], ◌++◌, Option, Bool, true, false, length, take, ap, subst, sym, ◌∙◌, append-nil, append_assoc, refl, arith}
-use Rattle.std.proofs.lemmas.List.{take-append-le, take_all, length-take-le}
-use Rattle.std.proofs.Math.Seq.{take-append-add}
-use Rattle.std.proofs.KnownBytes.{Consumes-nil, Consumes-trans}
-use Rattle.std.specs.Io.KnownBytes.{Consumes, IsAtEnd}
-use borrow.Rule.Slice.PartMut.{put_mid, post_of}
+use Rattle.std.proofs.Common.{◌≡◌, ℕ, ◌<◌, ◌≤◌, List, [], ◌++◌, Option, Bool, length, take, ap, subst, sym, ◌∙◌, append-nil, append_assoc, arith}
+use Rattle.std.proofs.lemmas.List.{take_all, length-take-le}
+use Rattle.std.proofs.KnownBytes.{Consumes-trans}
+use Rattle.std.specs.Io.KnownBytes.{Consumes}
 use Rattle.tl_device.specs.Device.{Passage}
-use Rattle.tl_device.specs.Reading.{Gave}
 use Rattle.tl_server.specs.Inner.Bodies.{GrownBody}
 use Rattle.tl_device.proofs.SendingLemmas.{over}
 use Rattle.tl_device.proofs.ReadLemmas.{gave_none, never}

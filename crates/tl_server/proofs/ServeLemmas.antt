@@ -1,5 +1,6 @@
 -- From the steps of a request to the whole.
-use Rattle.std.proofs.Common.{◌≡◌, ◌≢◌, ℕ, List, [], ◌++◌, Option, Some, None, Result, Ok, Err, false, length, length-take, take, drop, ap, subst, sym, ◌∙◌, refl, inl, inr, arith}
+use Rattle.std.proofs.Common.{◌≡◌, ◌≢◌, ℕ, List, [], ◌++◌, Option, Some, None, Result, Ok, Err, Bool, false, length, length-take, take, drop, append_assoc, append-nil, ap, subst, sym, ◌∙◌, refl, inl, inr, arith}
+use Rattle.std.proofs.KnownBytes.{Consumes-trans}
 use Rattle.std.proofs.lemmas.List.{length-map}
 use Rattle.std.specs.Prelude.{min}
 use Rattle.httparse.specs.declared.spans.HeaderSpan.{HeaderSpan}
@@ -11,10 +12,11 @@ use Rattle.tl_device.specs.Device.{Passage}
 use Rattle.tl_server.specs.Answer.{Answer, bare}
 use Rattle.tl_server.specs.Head.{HasHead}
 use Rattle.tl_server.specs.Exchange.{Begun, Exchange}
-use Rattle.tl_server.specs.Serve.{Sends, Sent, Serves}
-use Rattle.tl_server.specs.Inner.Deciding.{Answered, ReadNoHead, IsHeaded}
+use Rattle.tl_server.specs.Serve.{Came, Sends, Sent, Serves}
+use Rattle.tl_server.specs.Inner.Deciding.{Answered, ReadNoHead, IsHeaded, Rest}
 use Rattle.tl_server.specs.declared.fault.ServeFault.{ServeFault}
 use Rattle.tl_server.specs.declared.fault.ServeFault.TheVariants.{Read, Write}
+use Rattle.tl_device.proofs.SendingLemmas.{over}
 use Rattle.tl_server.proofs.HeadLaws.{no_request}
 
 -- an answer that was sent is what was served
@@ -70,7 +72,55 @@ whole_begins i buf headers len spans is more input same =
       },
     )
 
--- an input with a head, which answers to its method and its target decide
+-- what is so of every input that begins with what was read came of it
+pub came_decided : {X : Type 0} (So : List ℕ → X → Type 0) (i : Passage) (buf : List ℕ) (headers : List HeaderSpan) (len : ℕ) (spans : RequestSpans) (x : X)
+    → IsHeaded i buf headers len spans → ((input more : List ℕ) → input ≡ take len buf ++ more → So input x) → Came So i x
+came_decided So i buf headers len spans x is so = record {
+  bytes = take len buf;
+  ended = false;
+  gave = is.gave;
+  so = λ input may. so input may.more may.joined;
+}
+
+-- the same, where more was read behind a head
+pub came_after : {X : Type 0} (Rests So : List ℕ → X → Type 0) (a b c : Option (List ℕ)) (f g h : Bool) (buf : List ℕ) (headers : List HeaderSpan) (len : ℕ) (spans : RequestSpans) (x : X)
+    → IsHeaded (over a b f g) buf headers len spans
+    → ((input more : List ℕ) → input ≡ take len buf ++ more → Rests more x → So input x)
+    → Came Rests (over b c g h) x → Came So (over a c f h) x
+came_after Rests So a b c f g h buf headers len spans x is so came = record {
+  bytes = take len buf ++ came.bytes;
+  ended = came.ended;
+  gave = record {
+    consumed = Consumes-trans a b c (take len buf) came.bytes is.gave.consumed came.gave.consumed;
+    at_end = came.gave.at_end;
+    steady = came.gave.steady ∙ is.gave.steady;
+  };
+  so = λ input may.
+      let joined : input ≡ take len buf ++ (came.bytes ++ may.more) = may.joined ∙ append_assoc (take len buf) came.bytes may.more in
+      so input (came.bytes ++ may.more) joined (came.so (came.bytes ++ may.more) (record { more = may.more; joined = refl; none = may.none }));
+}
+
+-- nothing comes where something does
+pub something : {X : Type 0} (Rests : List ℕ → X → Type 0) (i : Passage) → Came (Rest Rests) i None → ⊥
+something Rests i came = came.so came.bytes (record { more = []; joined = sym (append-nil came.bytes); none = λ e. refl })
+
+-- an input with a head, which that and what follows it decide
+pub decided_serves : (Idle : Type 0) (Decides : Begun → Answer → Type 0) (i o : Passage) (buf : List ℕ) (headers : List HeaderSpan) (len : ℕ) (spans : RequestSpans)
+    (is : IsHeaded i buf headers len spans) (answer : Answer) (result : Result (Option ℕ) ServeFault)
+    → ((rest : List ℕ) → Decides (record { head = head_in i buf headers len spans is; rest = drop spans.len (take len buf) ++ rest }) answer)
+    → Sends answer o result → Serves Idle (Exchange Idle Decides) i o result
+decided_serves Idle Decides i o buf headers len spans is answer result decides sends =
+    sent_serves Idle (Exchange Idle Decides) i o result (record {
+      answer = answer;
+      came = came_decided (Exchange Idle Decides) i buf headers len spans (Some answer) is (λ input more joined.
+          let whole = whole_begins i buf headers len spans is more input joined in (
+            whole.0,
+            inr (record { head = head_in i buf headers len spans is; rest = drop spans.len (take len buf) ++ more }, whole.1, decides more),
+          ));
+      sends = sends;
+    })
+
+-- the same, where its method and its target decide
 pub headed_serves : (Idle : Type 0) (Answers : List ℕ → List ℕ → Answer → Type 0) (i o : Passage) (buf : List ℕ) (headers : List HeaderSpan) (len : ℕ) (spans : RequestSpans)
     (method target : List ℕ) (result : Result (Option ℕ) ServeFault)
     → method ≡ span_bytes (take len buf) spans.method → target ≡ span_bytes (take len buf) spans.path
@@ -82,15 +132,4 @@ headed_serves Idle Answers i o buf headers len spans method target result same_m
     let decided : Answers head.method head.target answered.answer =
     subst (λ (m : List ℕ). Answers m head.target answered.answer) (same_method ∙ at.method)
     (subst (λ (t : List ℕ). Answers method t answered.answer) (same_target ∙ at.path) answered.decided) in
-    sent_serves Idle (Exchange Idle (λ b a. Answers b.head.method b.head.target a)) i o result (record {
-      answer = answered.answer;
-      came = record {
-        bytes = take len buf;
-        ended = false;
-        gave = is.gave;
-        so = λ input may.
-            let whole = whole_begins i buf headers len spans is may.more input may.joined in
-            (whole.0, inr (record { head = head; rest = drop spans.len (take len buf) ++ may.more }, whole.1, decided));
-      };
-      sends = answered.sends;
-    })
+    decided_serves Idle (λ b a. Answers b.head.method b.head.target a) i o buf headers len spans is answered.answer result (λ rest. decided) answered.sends

@@ -30,6 +30,7 @@ phrase status =
     else if status == 413 then codes "Payload Too Large"
     else if status == 422 then codes "Unprocessable Entity"
     else if status == 431 then codes "Request Header Fields Too Large"
+    else if status == 503 then codes "Service Unavailable"
     else codes "Internal Server Error"
 
 -- the end of a line of a head

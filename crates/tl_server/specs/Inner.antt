@@ -8,4 +8,8 @@ pub
 pub
     mod Bodies
 pub
-    mod AskedOf
+    mod Posts
+pub
+    mod Places
+pub
+    mod Opening

@@ -4,5 +4,7 @@ pub mod Head
 pub mod Exchange
 pub mod Log
 pub mod Witness
+pub mod Adding
 pub mod Serve
+pub mod ServeOpen
 pub mod Inner

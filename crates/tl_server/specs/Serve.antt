@@ -1,5 +1,5 @@
 -- One request over a reader and a writer.
-use Rattle.std.specs.Prelude.{◌≡◌, ℕ, [], ◌++◌, Bool, true, Option, Some, None, Result, Ok, Err}
+use Rattle.std.specs.Prelude.{◌≡◌, ℕ, Bool, Option, Some, None, Result, Ok, Err}
 use Rattle.tl_device.specs.Device.{Passage, HasFailed, IsUnwritten, WroteWhole, WrotePart}
 use Rattle.tl_device.specs.Reading.{Gave, MayBe}
 use Rattle.tl_hash.specs.Bytes.{Bytes}
@@ -7,8 +7,8 @@ use Rattle.tl_server.specs.Answer.{Answer, answer_text}
 use Rattle.tl_server.specs.declared.fault.ServeFault.{ServeFault}
 use Rattle.tl_server.specs.declared.fault.ServeFault.TheVariants.{Read, Write}
 
--- this is the answer to what was read, whatever may follow it
-pub record Came (Answers : Bytes → Option Answer → Type 0) (i : Passage) (answer : Option Answer) : Type 0 where
+-- this is the answer to what was read, or else what becomes of it, whatever may follow
+pub record Came {X : Type 0} (Answers : Bytes → X → Type 0) (i : Passage) (answer : X) : Type 0 where
   pub bytes : Bytes
   pub ended : Bool
   pub gave : Gave i bytes ended

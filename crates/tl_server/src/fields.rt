@@ -1,14 +1,11 @@
 //! The length of a request's body, by the fields of its head.
 
-ghost use Rattle.std.specs.Prelude.{All, length, map};
+ghost use Rattle.std.specs.Prelude.{◌-◌, ◌<◌, ◌^◌, All, length, map};
 ghost use Rattle.httparse.specs.Spans.{IsHeaderWithin, header_bytes};
 ghost use Rattle.tl_server.specs.Inner.Fields.{SizesBody};
 
 use httparse::spans::HeaderSpan;
 use tl_http::{Values, number_in, values_in};
-
-/// The most bytes of a body.
-pub(crate) const MOST_BODY: u64 = 1_048_576;
 
 /// How long a body is.
 #[derive(Clone, Copy)]
@@ -21,10 +18,11 @@ pub(crate) enum Length {
     Is(u64),
 }
 
-/// The length of the body that follows a head with these fields.
-pub(crate) fn length_in(buf: &[u8], headers: &[HeaderSpan]) -> Length
-    requires { All (IsHeaderWithin (length buf.now)) headers.now }
-    ensures { SizesBody (map (header_bytes buf.now) headers.now) result }
+/// The length of the body that follows a head with these fields, of at most so many bytes.
+pub(crate) fn length_in(buf: &[u8], headers: &[HeaderSpan], most: u64) -> Length
+    requires within { All (IsHeaderWithin (length buf.now)) headers.now }
+    requires counted { most < 2 ^ 64 - 1 }
+    ensures { SizesBody most (map (header_bytes buf.now) headers.now) result }
 {
     match values_in(buf, headers, b"Transfer-Encoding") {
         Values::None => {}
@@ -36,7 +34,7 @@ pub(crate) fn length_in(buf: &[u8], headers: &[HeaderSpan]) -> Length
     };
     match number_in(text) {
         None => Length::Unknown,
-        Some(n) if n > MOST_BODY => Length::TooLarge,
+        Some(n) if n > most => Length::TooLarge,
         Some(n) => Length::Is(n),
     }
 }

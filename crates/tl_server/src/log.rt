@@ -60,8 +60,8 @@ fn answer_look<A: Allocator, O: Write>(
     }
 }
 
-// Answers a request by its method and its target.
-fn answer_log<A: Allocator, B: Allocator, O: Write>(
+/// Answers a request by its method and its target.
+pub(crate) fn answer_log<A: Allocator, B: Allocator, O: Write>(
     alloc: A,
     writer: &mut Counted<O>,
     board: &mut BoardReader<B>,

@@ -3,16 +3,17 @@
 ghost use Rattle.std.specs.Prelude.{◌≡◌, ◌++◌};
 ghost use Rattle.tl_device.specs.Device.{passage};
 ghost use Rattle.tl_server.specs.Exchange.{Exchange};
-ghost use Rattle.tl_server.specs.Inner.AskedOf.{AskedAnswers};
 ghost use Rattle.tl_server.specs.Inner.Deciding.{Rest};
+ghost use Rattle.tl_server.specs.Inner.Posts.{PostAnswers};
 ghost use Rattle.tl_server.specs.Serve.{Sends, Serves};
 ghost use Rattle.tl_server.specs.Witness.{Replies, WitnessDecides, reply_answer, reply_kind};
 
-use crate::asked::{Target, asked_of};
-use crate::body::{Body, read_body};
 use crate::fault::ServeFault;
 use crate::head::{HeadRead, MOST_FIELDS, MOST_HEAD, read_head};
-use crate::sending::{refuse, refuse_method, send};
+use crate::method::is_text;
+use crate::posted::{Posted, posted_of};
+use crate::receive::{Received, receive};
+use crate::sending::{refuse, refuse_post, send};
 use crate::witness::Witness;
 use httparse::spans::EMPTY_HEADER_SPAN;
 use std::alloc::Allocator;
@@ -20,6 +21,9 @@ use std::io::{Read, Write};
 use std::sync::Wait;
 use tl_device::Counted;
 use tl_witness::Saver;
+
+/// The most bytes of a request's body.
+const MOST_BODY: u64 = 1_048_576;
 
 // The type of a reply's body.
 fn type_of(status: u16) -> &'static [u8]
@@ -44,8 +48,8 @@ fn send_reply<O: Write>(
     send(writer, status, b"", type_of(status), body)
 }
 
-// Answers what the head of a request asked. Some of what follows was read with the head.
-fn answer_asked<R: Wait, A: Allocator, I: Read, O: Write, W: Witness<A>, S: Saver>(
+// Replies to a body of which a head says so much. Some of what follows was read with the head.
+fn answer_posted<R: Wait, A: Allocator, I: Read, O: Write, W: Witness<A>, S: Saver>(
     rt: &R,
     alloc: A,
     reader: &mut Counted<I>,
@@ -53,27 +57,19 @@ fn answer_asked<R: Wait, A: Allocator, I: Read, O: Write, W: Witness<A>, S: Save
     witness: &W,
     time: u64,
     saver: &mut S,
-    asked: Target,
+    posted: Posted,
     part: &[u8],
 ) -> Result<Option<u16>, ServeFault>
     ensures { Serves (S.saved saver.new ≡ S.saved saver.old)
-        (Rest (AskedAnswers (S.saved saver.new ≡ S.saved saver.old) (Replies W.digest
-        (W.shown witness.now) time (S.saved saver.old) (S.saved saver.new)) asked part.now))
+        (Rest (PostAnswers (S.saved saver.new ≡ S.saved saver.old) (Replies W.digest
+        (W.shown witness.now) time (S.saved saver.old) (S.saved saver.new)) posted part.now))
         (passage I.remaining reader.old reader.new)
         (passage O.contents writer.old writer.new) result }
 {
-    let most = match asked {
-        Target::NotFound => return refuse(writer, 404),
-        Target::OtherMethod => return refuse_method(writer, b"POST"),
-        Target::Unsized => return refuse(writer, 400),
-        Target::TooLarge => return refuse(writer, 413),
-        Target::Decision(most) => most,
-    };
-    match read_body(alloc, reader, part, most as usize) {
-        Body::Failed => Err(ServeFault::Read),
-        Body::Cut => refuse(writer, 400),
-        Body::NoMemory => refuse(writer, 500),
-        Body::Whole(body) => {
+    match receive(alloc, reader, posted, part) {
+        Received::Failed => Err(ServeFault::Read),
+        Received::Refused(status) => refuse_post(writer, status),
+        Received::Whole(body) => {
             let reply = witness.reply(rt, body.as_slice(), time, saver);
             send_reply(writer, reply.status, reply.body.as_slice())
         }
@@ -107,9 +103,14 @@ pub fn serve_witness<R: Wait, A: Allocator, I: Read, O: Write, W: Witness<A>, S:
         HeadRead::NoHead(status) => refuse(writer, status),
         HeadRead::Head(len, spans) => {
             let bytes = &buf[..len];
-            let asked = asked_of(bytes, &headers, spans);
+            if !is_text(spans.path.of(bytes), b"/add-checkpoint") {
+                return refuse(writer, 404);
+            }
+            let posted = posted_of(bytes, &headers, spans, MOST_BODY);
             let part = &bytes[spans.len..];
-            answer_asked(rt, alloc, reader, writer, witness, time, saver, asked, part)
+            answer_posted(
+                rt, alloc, reader, writer, witness, time, saver, posted, part,
+            )
         }
     }
 }

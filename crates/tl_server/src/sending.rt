@@ -5,7 +5,7 @@ ghost use Rattle.tl_device.specs.Device.{passage, WroteWhole, WrotePart};
 ghost use Rattle.tl_server.specs.Answer.{phrase, bare, not_allowed};
 ghost use Rattle.tl_server.specs.Serve.{Sends};
 ghost use Rattle.tl_device.specs.Pieces.{pieces_text};
-ghost use Rattle.tl_server.specs.Inner.Sending.{beside, answer_pieces};
+ghost use Rattle.tl_server.specs.Inner.Sending.{beside, answer_pieces, refusal};
 
 use crate::fault::ServeFault;
 use itoa::Buffer;
@@ -26,6 +26,7 @@ fn phrase_of(status: u16) -> &'static str
         413 => "Payload Too Large",
         422 => "Unprocessable Entity",
         431 => "Request Header Fields Too Large",
+        503 => "Service Unavailable",
         _ => "Internal Server Error",
     }
 }
@@ -111,4 +112,18 @@ pub(crate) fn refuse_method<W: Write>(
     ensures { Sends (not_allowed allowed.now) (passage W.contents writer.old writer.new) result }
 {
     send(writer, 405, allowed, b"", b"")
+}
+
+/// Writes the answer with this status to a request whose body wasn't received.
+pub(crate) fn refuse_post<W: Write>(
+    writer: &mut Counted<W>,
+    status: u16,
+) -> Result<Option<u16>, ServeFault>
+    ensures { Sends (refusal status) (passage W.contents writer.old writer.new) result }
+{
+    if status == 405 {
+        refuse_method(writer, b"POST")
+    } else {
+        refuse(writer, status)
+    }
 }

@@ -35,8 +35,8 @@ fn answer_read<A: Allocator, O: Write>(
     }
 }
 
-// Answers a request by its method and its target.
-fn answer_shelf<A: Allocator, S: Shelf, O: Write>(
+/// Answers a request by its method and its target.
+pub(crate) fn answer_shelf<A: Allocator, S: Shelf, O: Write>(
     alloc: A,
     writer: &mut Counted<O>,
     shelf: &S,

@@ -29,8 +29,8 @@ pub record Answered (Answers : Answer → Type 0) (o : Passage) (result : Result
   pub decided : Answers answer
   pub sends : Sends answer o result
 
--- an answer to what follows a head: there is one
-abbrev pub Rest : (Bytes → Answer → Type 0) → Bytes → Option Answer → Type 0
+-- an answer to what follows a head, or a course: there is one
+abbrev pub Rest : {X : Type 0} → (Bytes → X → Type 0) → Bytes → Option X → Type 0
 Rest Answers rest None = ⊥
 Rest Answers rest (Some a) = Answers rest a
 

@@ -5,8 +5,8 @@ use Rattle.tl_server.specs.Head.{IsSized}
 use Rattle.tl_server.specs.declared.fields.Length.{Length}
 use Rattle.tl_server.specs.declared.fields.Length.TheVariants as lengths
 
--- what fields say of the length of a body
-abbrev pub SizesBody : List (Bytes × Bytes) → Length → Type 0
-SizesBody fields lengths.Unknown = (n : ℕ) → ¬ (IsSized fields n)
-SizesBody fields lengths.TooLarge = (n : ℕ) × IsSized fields n × ¬ (n ≤ 1048576)
-SizesBody fields (lengths.Is n) = IsSized fields n × (n ≤ 1048576)
+-- what fields say of the length of a body of at most so many bytes
+abbrev pub SizesBody : ℕ → List (Bytes × Bytes) → Length → Type 0
+SizesBody most fields lengths.Unknown = (n : ℕ) → ¬ (IsSized fields n)
+SizesBody most fields lengths.TooLarge = (n : ℕ) × IsSized fields n × ¬ (n ≤ most)
+SizesBody most fields (lengths.Is n) = IsSized fields n × (n ≤ most)

@@ -1,7 +1,7 @@
 -- The steps of writing an answer.
-use Rattle.std.specs.Prelude.{List, [], ◌∷◌, codes}
+use Rattle.std.specs.Prelude.{ℕ, List, [], ◌∷◌, ◌==◌, if◌then◌else◌, codes}
 use Rattle.tl_hash.specs.Bytes.{Bytes}
-use Rattle.tl_server.specs.Answer.{crlf}
+use Rattle.tl_server.specs.Answer.{Answer, bare, crlf, not_allowed}
 
 -- the text, or none where the list is empty
 abbrev pub beside : Bytes → Bytes → Bytes
@@ -15,3 +15,7 @@ answer_pieces status reason allow kind size body =
     ∷ beside allow (codes "Allow: ") ∷ allow ∷ beside allow crlf
     ∷ beside body (codes "Content-Type: ") ∷ beside body kind ∷ beside body crlf
     ∷ codes "Content-Length: " ∷ size ∷ codes "\r\nConnection: close\r\n\r\n" ∷ body ∷ []
+
+-- the answer with this status to a POST whose body wasn't received
+abbrev pub refusal : ℕ → Answer
+refusal status = if status == 405 then not_allowed (codes "POST") else bare status

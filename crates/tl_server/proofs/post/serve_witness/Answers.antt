@@ -1,16 +1,21 @@
-use Rattle.std.proofs.Common.{refl}
+use Rattle.std.proofs.Common.{refl, rules}
+use Rattle.tl_server.specs.Witness.{Replies}
 use Rattle.tl_server.proofs.ServeLemmas.{headless_serves}
-use Rattle.tl_server.proofs.WitnessLemmas.{head_asks, serves_after}
+use Rattle.tl_server.proofs.WitnessLemmas.{other_target, serves_after, witness_posted}
 use Rattle.tl_server.proofs.post.serve_witness.Goals as goal
 
 pub returns-in-NoHead : goal.returns-in-NoHead
 returns-in-NoHead g c = headless_serves _ _ _ _ c.in-NoHead.status c.refuse.result refl c.in-NoHead.ensures c.refuse.ensures
 
-pub returns-in-Head : goal.returns-in-Head
-returns-in-Head g c =
+pub returns-then-not-is_text : goal.returns-then-not-is_text
+returns-then-not-is_text g c =
+    other_target _ _ _ _ c.read_head.new.buf c.read_head.new.headers c.in-Head.len c.in-Head.spans _ c.refuse-then-not-is_text.result c.in-Head.ensures c.of.ensures (search rules) refl c.refuse-then-not-is_text.ensures
+
+pub returns-else-not-is_text : goal.returns-else-not-is_text
+returns-else-not-is_text g c =
     let buf = c.read_head.new.buf in
     let headers = c.read_head.new.headers in
     let len = c.in-Head.len in
     let spans = c.in-Head.spans in
-    serves_after _ _ _ _ _ _ _ _ _ _ buf headers len spans c.answer_asked.result c.in-Head.ensures
-    (λ rest answer is. head_asks _ _ _ buf headers len spans c.in-Head.ensures c.asked_of-asked.result rest answer c.asked_of-asked.ensures is) c.answer_asked.ensures
+    serves_after _ _ _ _ _ _ _ _ _ _ buf headers len spans c.answer_posted.result c.in-Head.ensures
+    (λ rest answer is. witness_posted _ (Replies _ _ _ _ _) _ buf headers len spans c.in-Head.ensures _ c.posted_of-posted.result rest answer c.of.ensures (search rules) c.posted_of-posted.ensures is) c.answer_posted.ensures

@@ -1,0 +1,21 @@
+use Rattle.std.proofs.Common.{◌++◌, false, refl}
+use Rattle.tl_server.specs.Adding.{Reply}
+use Rattle.tl_server.specs.Inner.Opening.{ToldOnBoard}
+use Rattle.tl_server.specs.Inner.Sending.{refusal}
+use Rattle.tl_server.proofs.OpenLemmas.{received_course, refused_course, rest_open, sent_takes}
+use Rattle.tl_server.proofs.open_log.answer_posted.Goals as goal
+
+pub returns-in-Refused : goal.returns-in-Refused
+returns-in-Refused g c =
+    let is = c.in-Refused.ensures in
+    let answer = refusal c.in-Refused.status in
+    rest_open _ _ _ _ is.bytes is.ended (Reply answer) c.outcome_of.result is.gave
+    (λ rest may. refused_course _ _ _ c.args.posted (c.args.part.now ++ rest) answer (is.so rest may) refl refl)
+    (sent_takes answer _ c.refuse_post.result c.outcome_of.result c.refuse_post.ensures c.outcome_of.ensures)
+
+pub returns-in-Whole : goal.returns-in-Whole
+returns-in-Whole g c =
+    let is = c.in-Whole.ensures in
+    let done = c.answer_told.ensures in
+    rest_open _ _ _ _ is.read.bytes false done.course c.answer_told.result is.read.gave
+    (λ rest may. received_course _ _ (g.T.Teller.tells c.args.teller.now c.tell-told.new.self) (ToldOnBoard _ _ _) _ c.args.posted c.args.part.now _ _ rest c.tell-told.result done.course is c.as_slice-entry.ensures.value may c.tell-told.ensures done.decided) done.takes

@@ -1,0 +1,25 @@
+use Rattle.std.proofs.Common.{refl, rules}
+use Rattle.tl_server.specs.Adding.{LooksOnce}
+use Rattle.tl_server.specs.Answer.{bare}
+use Rattle.tl_server.proofs.OpenLemmas.{headless_open, open_after, open_posted, other_page, sent_takes}
+use Rattle.tl_server.proofs.open_log.serve_open_log.Goals as goal
+
+pub returns-in-NoHead : goal.returns-in-NoHead
+returns-in-NoHead g c =
+    headless_open _ _ _ _ c.in-NoHead.status c.outcome_of.result (refl, refl) c.in-NoHead.ensures
+    (sent_takes (bare c.in-NoHead.status) _ c.refuse.result c.outcome_of.result c.refuse.ensures c.outcome_of.ensures)
+
+pub returns-then-not-is_text : goal.returns-then-not-is_text
+returns-then-not-is_text g c =
+    other_page LooksOnce (g.T.Teller.tells _ _) _ _ _ _ _ _ c.read_head.new.buf c.read_head.new.headers c.in-Head.len c.in-Head.spans _ _ c.answer_log.result c.outcome_of-then-not-is_text.result c.in-Head.ensures
+    c.of-method.ensures c.of-target.ensures (search rules) refl c.answer_log.ensures c.outcome_of-then-not-is_text.ensures
+
+pub returns-else-not-is_text : goal.returns-else-not-is_text
+returns-else-not-is_text g c =
+    let buf = c.read_head.new.buf in
+    let headers = c.read_head.new.headers in
+    let len = c.in-Head.len in
+    let spans = c.in-Head.spans in
+    open_after _ _ _ _ _ _ _ _ _ _ buf headers len spans c.answer_posted.result c.in-Head.ensures
+    (λ rest course is. open_posted LooksOnce (g.T.Teller.tells _ _) _ _ _ _ buf headers len spans c.in-Head.ensures _ c.posted_of-posted.result rest course c.of-target.ensures (search rules) c.posted_of-posted.ensures is)
+    c.answer_posted.ensures

@@ -1,0 +1,132 @@
+-- What a log that takes entries answers to a request. POST /add hands an entry in, and is answered with its index.
+use Rattle.std.specs.Prelude.{◌≡◌, ◌≢◌, ◌⊎◌, ℕ, ◌<◌, ◌≤◌, ◌/◌, ◌%◌, List, [], Bool, Some, codes, decimal, slice_get}
+use Rattle.tl_archive.specs.Shelves.{Held}
+use Rattle.tl_archive.specs.declared.fault.ShelfFault.{ShelfFault}
+use Rattle.tl_hash.specs.Bytes.{Bytes}
+use Rattle.tl_http.specs.Fields.{fields_of}
+use Rattle.tl_publisher.specs.Histories.{Past}
+use Rattle.tl_tile.specs.Bundle.{most_entry, bundle_text, AreEntries, IsBundle}
+use Rattle.tl_tile.specs.Needed.{bundle_width}
+use Rattle.tl_tile.specs.declared.resource.Resource.{Resource}
+use Rattle.tl_tile.specs.declared.resource.Resource.TheVariants as resource
+use Rattle.tl_witness.specs.Cases.{Unless, UnlessSome}
+use Rattle.tl_server.specs.Answer.{Answer, bare, not_allowed, plain_text, octets}
+use Rattle.tl_server.specs.Exchange.{Begun}
+use Rattle.tl_server.specs.Head.{IsSized, HasBody}
+use Rattle.tl_server.specs.Log.{ResourceAnswers, LooksUp, ReadsShelf}
+use Rattle.tl_server.specs.declared.adding.Told.{Told}
+use Rattle.tl_server.specs.declared.adding.Told.TheVariants as told
+
+-- what becomes of a request
+pub data Course : Type 0 where
+  -- it is answered
+  Reply : Answer → Course
+  -- it is answered with 500: what the pages show doesn't have its entry at the index that was told
+  Misplace : Course
+  -- nothing is answered yet
+  Postpone : Course
+
+-- the answer to who asks for a bundle that is there
+abbrev pub bundle_answer : Bytes → Answer
+bundle_answer bytes = record { status = 200; allow = []; kind = octets; body = bytes }
+
+-- the answer that says an index
+abbrev pub index_answer : ℕ → Answer
+index_answer index = record { status = 200; allow = []; kind = plain_text; body = decimal index }
+
+-- the pages gave a bundle in which the entry with this index is this one
+pub record HasAt (Gives : Resource → Answer → Type 0) (index : ℕ) (entry : Bytes) : Type 0 where
+  pub width : ℕ
+  pub entries : List Bytes
+  pub are : AreEntries width entries
+  pub gave : Gives (resource.Entries (index / 256) width) (bundle_answer (bundle_text entries))
+  pub there : slice_get entries (index % 256) ≡ Some entry
+
+-- these bytes are a bundle of so many entries, of which another one has this place, or none
+pub record HasOther (bytes : Bytes) (width place : ℕ) (entry : Bytes) : Type 0 where
+  pub entries : List Bytes
+  pub are : AreEntries width entries
+  pub spelled : bytes ≡ bundle_text entries
+  pub other : slice_get entries place ≢ Some entry
+
+-- what was given isn't this entry: no bundle, bytes that are none of so many entries, or another entry at the place
+abbrev pub LacksEntry : ℕ → ℕ → Bytes → Answer → Type 0
+LacksEntry width place entry a =
+    (a ≡ bare 404)
+    ⊎ ((bytes : Bytes) × (a ≡ bundle_answer bytes)
+    × (¬ IsBundle bytes width ⊎ HasOther bytes width place entry))
+
+-- looking for the bundle with this index and width gave an answer: `seen` is the width that was looked at last.
+-- One look: a board has the partial bundle of each publication
+abbrev pub LooksOnce : (Resource → Answer → Type 0) → ℕ → ℕ → ℕ → Answer → Type 0
+LooksOnce Gives bundle width seen a = (seen ≡ width) × Gives (resource.Entries bundle seen) a
+
+-- one look, and one at the full bundle where that one isn't there, which a shelf may have in its place
+abbrev pub LooksTwice : (Resource → Answer → Type 0) → ℕ → ℕ → ℕ → Answer → Type 0
+LooksTwice Gives bundle width seen a =
+    (LooksOnce Gives bundle width seen a × (a.status ≢ 404))
+    ⊎ (Gives (resource.Entries bundle width) (bare 404) × LooksOnce Gives bundle 256 seen a)
+
+-- the rows of the table below for an index in a log of so many entries
+abbrev pub PlaceAnswers
+    : Type 0 → (Resource → Answer → Type 0) → (ℕ → ℕ → ℕ → Answer → Type 0)
+    → ℕ → ℕ → Bytes → Course → Type 0
+PlaceAnswers Unseen Gives Looks index size entry c =
+    Unless (index < size) (Unseen × (c ≡ Misplace))
+    ((HasAt Gives index entry × (c ≡ Reply (index_answer index)))
+    ⊎ ((seen : ℕ) × (a : Answer) × Looks (index / 256) (bundle_width size (index / 256)) seen a
+    × (((a ≡ bare 500) × (c ≡ Reply (bare 500)))
+    ⊎ (LacksEntry seen (index % 256) entry a × (c ≡ Misplace)))))
+
+-- the same for what was told of an entry
+abbrev pub ToldAnswers
+    : Type 0 → (Resource → Answer → Type 0) → (ℕ → ℕ → ℕ → Answer → Type 0)
+    → Bytes → Told → Course → Type 0
+ToldAnswers Unseen Gives Looks entry told.Later c = Unseen × (c ≡ Postpone)
+ToldAnswers Unseen Gives Looks entry told.Refused c = Unseen × (c ≡ Reply (bare 503))
+ToldAnswers Unseen Gives Looks entry told.NoMemory c = Unseen × (c ≡ Reply (bare 500))
+ToldAnswers Unseen Gives Looks entry (told.At index size) c = PlaceAnswers Unseen Gives Looks index size entry c
+
+-- the table of a log that takes entries, of which the first row that applies decides:
+--     as of a log  the target isn't /add
+--     405  the method isn't POST
+--     400  the fields don't say how long the body is
+--     413  it has more than 65,535 bytes
+--     500  it has some, and memory for them was refused
+--     400  the input ends before it
+--     --   it is told that its place isn't known yet
+--     503  it is told that the log takes nothing now
+--     500  it is told that memory was refused
+--     500  it is told an index that isn't below the size told with it: misplaced
+--     200  it is told an index, and the pages gave a bundle that has the entry there
+--     500  the bundle was looked for, and a GET of it is answered with 500
+--     500  the bundle was looked for, and what was given isn't the entry: misplaced
+-- Unasked says that nobody was asked where an entry is, Tells that one call told this of an entry, Unseen that no page
+-- was looked at, Gives what a GET of a page is answered with, Looks what looking for a bundle gave
+abbrev pub OpenDecides
+    : Type 0 → (Bytes → Told → Type 0)
+    → Type 0 → (Resource → Answer → Type 0) → (ℕ → ℕ → ℕ → Answer → Type 0)
+    → Begun → Course → Type 0
+OpenDecides Unasked Tells Unseen Gives Looks b c =
+    Unless (b.head.target ≡ codes "/add")
+    (Unasked × ((a : Answer) × ResourceAnswers Unseen Gives b.head.method b.head.target a × (c ≡ Reply a)))
+    (Unless (b.head.method ≡ codes "POST") (Unasked × Unseen × (c ≡ Reply (not_allowed (codes "POST"))))
+    (UnlessSome (IsSized (fields_of b.head.fields)) (Unasked × Unseen × (c ≡ Reply (bare 400))) (λ n.
+    Unless (n ≤ most_entry) (Unasked × Unseen × (c ≡ Reply (bare 413)))
+    (((0 < n) × (Unasked × Unseen × (c ≡ Reply (bare 500))))
+    ⊎ UnlessSome (HasBody b.rest n) (Unasked × Unseen × (c ≡ Reply (bare 400))) (λ entry.
+    (told : Told) × Tells entry told × ToldAnswers Unseen Gives Looks entry told c)))))
+
+-- the same over a board
+abbrev pub OpenLogDecides : Type 0 → Type 0 → (Bytes → Told → Type 0) → Past → Past → Begun → Course → Type 0
+OpenLogDecides A Unasked Tells old new =
+    OpenDecides Unasked Tells (new ≡ old) (LooksUp A old new) (LooksOnce (LooksUp A old new))
+
+-- the same over a shelf
+abbrev pub OpenShelfDecides
+    : Type 0 → Type 0 → (Bytes → Told → Type 0)
+    → Bool → Held → (Resource → ShelfFault → Type 0)
+    → Begun → Course → Type 0
+OpenShelfDecides A Unasked Tells is_honest held MayFail =
+    OpenDecides Unasked Tells (Unit {0}) (ReadsShelf A is_honest held MayFail)
+    (LooksTwice (ReadsShelf A is_honest held MayFail))

@@ -1,0 +1,41 @@
+-- The steps of finding an entry where it was told to be.
+use Rattle.std.specs.Prelude.{◌≡◌, ◌⊎◌, ℕ, ◌%◌, List, Option, Some, None, slice_get, vec_items}
+use Rattle.tl_hash.specs.Bytes.{Bytes}
+use Rattle.tl_tile.specs.Bundle.{bundle_text, AreEntries, IsBundle}
+use Rattle.tl_server.specs.Adding.{Course, Reply, Misplace, HasOther, bundle_answer, index_answer}
+use Rattle.tl_server.specs.Answer.{Answer, bare}
+use Rattle.tl_server.specs.declared.look.Looked.{Looked}
+use Rattle.tl_server.specs.declared.look.Looked.TheVariants as looked
+
+-- bytes are a bundle of so many entries, and this is what it has at a place
+pub record Finds (bytes : Bytes) (width place : ℕ) (found : Option Bytes) : Type 0 where
+  pub entries : List Bytes
+  pub are : AreEntries width entries
+  pub spelled : bytes ≡ bundle_text entries
+  pub there : slice_get entries place ≡ found
+
+-- bytes are a bundle of so many entries, and this one has that place
+abbrev pub HasEntry : Bytes → ℕ → ℕ → Bytes → Type 0
+HasEntry bytes width place entry = Finds bytes width place (Some entry)
+
+-- bytes are no bundle of so many entries, or one that has nothing at the place
+abbrev pub FindsNone : Bytes → ℕ → ℕ → Type 0
+FindsNone bytes width place = ¬ IsBundle bytes width ⊎ Finds bytes width place None
+
+-- bytes are no bundle of so many entries, or another one has that place
+abbrev pub LacksIt : Bytes → ℕ → ℕ → Bytes → Type 0
+LacksIt bytes width place entry = ¬ IsBundle bytes width ⊎ HasOther bytes width place entry
+
+-- what looks at a bundle gave; Looks says what they may give, by the width that was looked at last
+abbrev pub IsLooked : {A : Type 0} → (ℕ → Answer → Type 0) → Looked A → Type 0
+IsLooked Looks looked.Failed = (seen : ℕ) × Looks seen (bare 500)
+IsLooked Looks looked.Nothing = (seen : ℕ) × Looks seen (bare 404)
+IsLooked Looks (looked.Bytes bytes seen) = Looks seen (bundle_answer (vec_items bytes))
+
+-- what becomes of an entry that was told to have this index
+abbrev pub LookedCourse : {A : Type 0} → ℕ → Bytes → Looked A → Course → Type 0
+LookedCourse index entry looked.Failed c = c ≡ Reply (bare 500)
+LookedCourse index entry looked.Nothing c = c ≡ Misplace
+LookedCourse index entry (looked.Bytes bytes seen) c =
+    (HasEntry (vec_items bytes) seen (index % 256) entry × (c ≡ Reply (index_answer index)))
+    ⊎ (LacksIt (vec_items bytes) seen (index % 256) entry × (c ≡ Misplace))

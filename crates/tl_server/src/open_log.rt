@@ -1,0 +1,120 @@
+//! One request to a log that takes entries.
+
+ghost use Rattle.std.specs.Prelude.{◌≡◌};
+ghost use Rattle.tl_device.specs.Device.{passage};
+ghost use Rattle.tl_server.specs.Adding.{OpenLogDecides};
+ghost use Rattle.tl_server.specs.Inner.Deciding.{Rest};
+ghost use Rattle.tl_server.specs.Inner.Opening.{Concluded, SomeTold, ToldOnBoard};
+ghost use Rattle.tl_server.specs.Inner.Posts.{PostCourses};
+ghost use Rattle.tl_server.specs.ServeOpen.{OpenExchange, ServesOpen};
+
+use crate::adding::{Outcome, Teller, Told};
+use crate::course::{answer_looked, answer_misplaced, outcome_of};
+use crate::fault::ServeFault;
+use crate::head::{HeadRead, MOST_FIELDS, MOST_HEAD, read_head};
+use crate::log::answer_log;
+use crate::look::look_on_board;
+use crate::method::is_text;
+use crate::posted::{Posted, posted_of};
+use crate::receive::{Received, receive};
+use crate::sending::{refuse, refuse_post};
+use httparse::spans::EMPTY_HEADER_SPAN;
+use std::alloc::Allocator;
+use std::io::{Read, Write};
+use tl_device::Counted;
+use tl_publisher::BoardReader;
+use tl_tile::{LONGEST_ENTRY, bundle_width};
+
+/// The most bytes of an entry.
+pub(crate) const MOST_ENTRY: u64 = LONGEST_ENTRY as u64;
+
+// Answers to an entry of which this was told.
+fn answer_told<A: Allocator, B: Allocator, O: Write>(
+    alloc: A,
+    writer: &mut Counted<O>,
+    board: &mut BoardReader<B>,
+    told: Told,
+    entry: &[u8],
+) -> Result<Outcome, ServeFault>
+    ensures { Concluded (ToldOnBoard A board.old board.new told entry.now)
+        (passage O.contents writer.old writer.new) result }
+{
+    let (index, size) = match told {
+        Told::Later => return Ok(Outcome::Later),
+        Told::Refused => return outcome_of(refuse(writer, 503)),
+        Told::NoMemory => return outcome_of(refuse(writer, 500)),
+        Told::At { index, size } => (index, size),
+    };
+    if index >= size {
+        return answer_misplaced(writer);
+    }
+    let bundle = index / 256;
+    let width = bundle_width(size, bundle);
+    let looked = look_on_board(alloc, board, bundle, width);
+    answer_looked(writer, index, entry, looked)
+}
+
+// Takes an entry in, of which a head says so much. Some of what follows was read with the head.
+fn answer_posted<A: Allocator + Copy, B: Allocator, T: Teller, I: Read, O: Write>(
+    alloc: A,
+    reader: &mut Counted<I>,
+    writer: &mut Counted<O>,
+    board: &mut BoardReader<B>,
+    teller: &mut T,
+    posted: Posted,
+    part: &[u8],
+) -> Result<Outcome, ServeFault>
+    ensures { ServesOpen ((teller.new ≡ teller.old) × (board.new ≡ board.old))
+        (Rest (PostCourses (teller.new ≡ teller.old) (board.new ≡ board.old) (SomeTold
+        (T.tells teller.old teller.new) (ToldOnBoard A board.old board.new)) posted part.now))
+        (passage I.remaining reader.old reader.new)
+        (passage O.contents writer.old writer.new) result }
+{
+    match receive(alloc, reader, posted, part) {
+        Received::Failed => Err(ServeFault::Read),
+        Received::Refused(status) => outcome_of(refuse_post(writer, status)),
+        Received::Whole(body) => {
+            let entry = body.as_slice();
+            let told = teller.tell(entry);
+            answer_told(alloc, writer, board, told, entry)
+        }
+    }
+}
+
+/// Answers one request to a log that takes entries: as `serve_log`, and `POST /add` with the index of the entry in its
+/// body, where the board has it there: 405 for another method, 400 without one `Content-Length` (RFC 9112, section 6),
+/// 413 above 65,535 bytes, 400 where the input ends before them, 503 where the log takes nothing, 500 where memory was
+/// refused or the entry isn't there. Where its place isn't known yet nothing is written: call again with the same
+/// bytes.
+pub fn serve_open_log<A: Allocator + Copy, B: Allocator, T: Teller, I: Read, O: Write>(
+    alloc: A,
+    reader: &mut Counted<I>,
+    writer: &mut Counted<O>,
+    board: &mut BoardReader<B>,
+    teller: &mut T,
+) -> Result<Outcome, ServeFault>
+    ensures { ServesOpen ((teller.new ≡ teller.old) × (board.new ≡ board.old))
+        (OpenExchange ((teller.new ≡ teller.old) × (board.new ≡ board.old))
+        (OpenLogDecides A (teller.new ≡ teller.old) (T.tells teller.old teller.new)
+        board.old board.new))
+        (passage I.remaining reader.old reader.new)
+        (passage O.contents writer.old writer.new) result }
+{
+    let mut buf = [0u8; MOST_HEAD];
+    let mut headers = [EMPTY_HEADER_SPAN; MOST_FIELDS];
+    match read_head(reader, &mut buf, &mut headers) {
+        HeadRead::Failed => Err(ServeFault::Read),
+        HeadRead::Nothing => Ok(Outcome::Nothing),
+        HeadRead::NoHead(status) => outcome_of(refuse(writer, status)),
+        HeadRead::Head(len, spans) => {
+            let bytes = &buf[..len];
+            let (method, target) = (spans.method.of(bytes), spans.path.of(bytes));
+            if !is_text(target, b"/add") {
+                return outcome_of(answer_log(alloc, writer, board, method, target));
+            }
+            let posted = posted_of(bytes, &headers, spans, MOST_ENTRY);
+            let part = &bytes[spans.len..];
+            answer_posted(alloc, reader, writer, board, teller, posted, part)
+        }
+    }
+}

@@ -1,0 +1,116 @@
+//! One request to a log that takes entries and shows what is on a shelf.
+
+ghost use Rattle.std.specs.Prelude.{◌≡◌};
+ghost use Rattle.tl_device.specs.Device.{passage};
+ghost use Rattle.tl_server.specs.Adding.{OpenShelfDecides};
+ghost use Rattle.tl_server.specs.Inner.Deciding.{Rest};
+ghost use Rattle.tl_server.specs.Inner.Opening.{Concluded, SomeTold, ToldOnShelf};
+ghost use Rattle.tl_server.specs.Inner.Posts.{PostCourses};
+ghost use Rattle.tl_server.specs.ServeOpen.{OpenExchange, ServesOpen};
+
+use crate::adding::{Outcome, Teller, Told};
+use crate::course::{answer_looked, answer_misplaced, outcome_of};
+use crate::fault::ServeFault;
+use crate::head::{HeadRead, MOST_FIELDS, MOST_HEAD, read_head};
+use crate::look::look_on_shelf;
+use crate::method::is_text;
+use crate::open_log::MOST_ENTRY;
+use crate::posted::{Posted, posted_of};
+use crate::receive::{Received, receive};
+use crate::sending::{refuse, refuse_post};
+use crate::shelf::answer_shelf;
+use httparse::spans::EMPTY_HEADER_SPAN;
+use std::alloc::Allocator;
+use std::io::{Read, Write};
+use tl_archive::Shelf;
+use tl_device::Counted;
+use tl_tile::bundle_width;
+
+// Answers to an entry of which this was told.
+fn answer_told<A: Allocator + Copy, S: Shelf, O: Write>(
+    alloc: A,
+    writer: &mut Counted<O>,
+    shelf: &S,
+    told: Told,
+    entry: &[u8],
+) -> Result<Outcome, ServeFault>
+    ensures { Concluded (ToldOnShelf A S.is_honest (S.kept shelf.now).held (S.may_fail shelf.now)
+        told entry.now) (passage O.contents writer.old writer.new) result }
+{
+    let (index, size) = match told {
+        Told::Later => return Ok(Outcome::Later),
+        Told::Refused => return outcome_of(refuse(writer, 503)),
+        Told::NoMemory => return outcome_of(refuse(writer, 500)),
+        Told::At { index, size } => (index, size),
+    };
+    if index >= size {
+        return answer_misplaced(writer);
+    }
+    let bundle = index / 256;
+    let width = bundle_width(size, bundle);
+    let looked = look_on_shelf(alloc, shelf, bundle, width);
+    answer_looked(writer, index, entry, looked)
+}
+
+// Takes an entry in, of which a head says so much. Some of what follows was read with the head.
+fn answer_posted<A: Allocator + Copy, S: Shelf, T: Teller, I: Read, O: Write>(
+    alloc: A,
+    reader: &mut Counted<I>,
+    writer: &mut Counted<O>,
+    shelf: &S,
+    teller: &mut T,
+    posted: Posted,
+    part: &[u8],
+) -> Result<Outcome, ServeFault>
+    ensures { ServesOpen (teller.new ≡ teller.old)
+        (Rest (PostCourses (teller.new ≡ teller.old) (Unit {0}) (SomeTold
+        (T.tells teller.old teller.new) (ToldOnShelf A S.is_honest (S.kept shelf.now).held
+        (S.may_fail shelf.now))) posted part.now))
+        (passage I.remaining reader.old reader.new)
+        (passage O.contents writer.old writer.new) result }
+{
+    match receive(alloc, reader, posted, part) {
+        Received::Failed => Err(ServeFault::Read),
+        Received::Refused(status) => outcome_of(refuse_post(writer, status)),
+        Received::Whole(body) => {
+            let entry = body.as_slice();
+            let told = teller.tell(entry);
+            answer_told(alloc, writer, shelf, told, entry)
+        }
+    }
+}
+
+/// Answers one request to a log that takes entries, with what is on a shelf: `POST /add` as `serve_open_log`, and any
+/// other target as `serve_shelf`. A shelf may have the full bundle in place of the one that the size tells: it is read
+/// where that one isn't there.
+pub fn serve_open_shelf<A: Allocator + Copy, S: Shelf, T: Teller, I: Read, O: Write>(
+    alloc: A,
+    reader: &mut Counted<I>,
+    writer: &mut Counted<O>,
+    shelf: &S,
+    teller: &mut T,
+) -> Result<Outcome, ServeFault>
+    ensures { ServesOpen (teller.new ≡ teller.old)
+        (OpenExchange (teller.new ≡ teller.old) (OpenShelfDecides A (teller.new ≡ teller.old)
+        (T.tells teller.old teller.new) S.is_honest (S.kept shelf.now).held (S.may_fail shelf.now)))
+        (passage I.remaining reader.old reader.new)
+        (passage O.contents writer.old writer.new) result }
+{
+    let mut buf = [0u8; MOST_HEAD];
+    let mut headers = [EMPTY_HEADER_SPAN; MOST_FIELDS];
+    match read_head(reader, &mut buf, &mut headers) {
+        HeadRead::Failed => Err(ServeFault::Read),
+        HeadRead::Nothing => Ok(Outcome::Nothing),
+        HeadRead::NoHead(status) => outcome_of(refuse(writer, status)),
+        HeadRead::Head(len, spans) => {
+            let bytes = &buf[..len];
+            let (method, target) = (spans.method.of(bytes), spans.path.of(bytes));
+            if !is_text(target, b"/add") {
+                return outcome_of(answer_shelf(alloc, writer, shelf, method, target));
+            }
+            let posted = posted_of(bytes, &headers, spans, MOST_ENTRY);
+            let part = &bytes[spans.len..];
+            answer_posted(alloc, reader, writer, shelf, teller, posted, part)
+        }
+    }
+}

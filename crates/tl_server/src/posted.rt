@@ -1,0 +1,44 @@
+//! What the head of a request says of the body that it hands in.
+
+ghost use Rattle.std.specs.Prelude.{◌≡◌, ◌-◌, ◌<◌, ◌^◌, map, take};
+ghost use Rattle.httparse.specs.Spans.{IsRequestWithin, header_bytes, span_bytes};
+ghost use Rattle.tl_server.specs.Inner.Posts.{AsksPost};
+
+use crate::fields::{Length, length_in};
+use crate::method::is_text;
+use httparse::spans::{HeaderSpan, RequestSpans};
+
+/// What a head says of the body that follows it.
+#[derive(Clone, Copy)]
+pub(crate) enum Posted {
+    /// Another method than POST.
+    OtherMethod,
+    /// The length of the body isn't said.
+    Unsized,
+    /// The body is too large.
+    TooLarge,
+    /// It has so many bytes.
+    Sized(u64),
+}
+
+/// What the head at the front of these bytes says, whose parts are there, of a body of at most so many bytes.
+pub(crate) fn posted_of(
+    bytes: &[u8],
+    headers: &[HeaderSpan],
+    spans: RequestSpans,
+    most: u64,
+) -> Posted
+    requires within { IsRequestWithin bytes.now headers.now spans }
+    requires counted { most < 2 ^ 64 - 1 }
+    ensures { AsksPost most (span_bytes bytes.now spans.method)
+        (map (header_bytes bytes.now) (take spans.headers headers.now)) result }
+{
+    if !is_text(spans.method.of(bytes), b"POST") {
+        return Posted::OtherMethod;
+    }
+    match length_in(bytes, &headers[..spans.headers], most) {
+        Length::Unknown => Posted::Unsized,
+        Length::TooLarge => Posted::TooLarge,
+        Length::Is(n) => Posted::Sized(n),
+    }
+}
