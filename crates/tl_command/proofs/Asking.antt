@@ -1,14 +1,14 @@
 -- Where a command asks for memory: something was read, or something is printed of nothing.
-use Rattle.std.proofs.Common.{◌≡◌, ℕ, ◌+◌, ◌<◌, ◌≤◌, inl, inr, List, [], ◌∷◌, length, None, refl, ap, arith}
+use Rattle.std.proofs.Common.{◌≡◌, ℕ, ◌+◌, ◌<◌, ◌≤◌, inl, inr, List, [], ◌∷◌, length, None, refl, sym, ap, ◌∙◌, arith, Some}
 use Rattle.std.proofs.lemmas.Bool.{cases_lt}
 use Rattle.std.specs.Prelude.{Err}
 use Rattle.tl_text.specs.Text.{IsOneLine}
-use Rattle.tl_device.specs.Device.{Passage, IsUnwritten, GaveSome}
+use Rattle.tl_device.specs.Device.{Passage, IsUnwritten, GaveSome, ReadWhole}
 use Rattle.tl_command.specs.Inner.Growing.{ReadsEdge}
 use Rattle.tl_command.specs.declared.fault.RunFault.{RunFault}
 use Rattle.tl_command.specs.declared.fault.RunFault.TheVariants.{Refused, Read, Write, TooLarge, EntryTooLong, BadOrigin, BadIndex, BadOld, BadPath, NotThere, Malformed, Chain, Sign, Operator, Listen, Accept, OutOfMemory, BadName, BadKey, BadCheckpoint, WrongSignature, Unverified, Device, BadKeyFile}
 use Rattle.tl_command.specs.Lines.{entries_of, first_too_long}
-use Rattle.tl_command.specs.Run.{IsAsking, ReadEntries}
+use Rattle.tl_command.specs.Run.{Output, Fails, Runs, IsAsking, IsEntryFault, ReadEntries, most_input}
 use Rattle.tl_command.specs.Head.{HeadComes, RunsHead, head_text}
 use Rattle.tl_command.specs.ProofText.{consistency_text}
 use Rattle.tl_command.specs.ProofCommands.{ConsistencyComes, consistency_of}
@@ -26,11 +26,15 @@ none_too_long = ap first_too_long (entries_of_nothing [] refl)
 pub gave_entry : (p : Passage) (most : ℕ) (entries : List (List ℕ)) → ReadEntries p most entries → 0 < length entries → GaveSome p
 gave_entry p most entries read some = (read.input, read.whole.consumed, lines_some read.input (omega (arith, some, ap length read.lines)))
 
--- a consistency proof is printed of no entries where the old size is 0
-pub asks_of_old : (old : ℕ) (p : Passage) (most : ℕ) (entries : List (List ℕ)) → ReadEntries p most entries → old ≤ length entries → IsAsking (ConsistencyComes old) p
-asks_of_old old p most entries read within =
+-- a reader that gave a line gave some bytes
+pub gave_line : (p : Passage) (most : ℕ) (input : List ℕ) → ReadWhole p most input → 0 < length (entries_of input) → GaveSome p
+gave_line p most input whole some = (input, whole.consumed, lines_some input some)
+
+-- a consistency proof is printed of no lines where the old size is 0
+pub asks_of_old : (old : ℕ) (p : Passage) (most : ℕ) (input : List ℕ) → ReadWhole p most input → old ≤ length (entries_of input) → IsAsking (ConsistencyComes old) p
+asks_of_old old p most input whole within =
     elim (cases_lt 0 old) as (λ _. IsAsking (ConsistencyComes old) p) [
-      | inl some ↦ inl (gave_entry p most entries read (omega (arith, some, within)))
+      | inl some ↦ inl (gave_line p most input whole (omega (arith, some, within)))
       | inr none ↦ inr (consistency_text (consistency_of old (entries_of [])), (none_too_long, omega (arith, none), refl))
     ]
 
@@ -64,3 +68,38 @@ head_fault origin i o BadKeyFile line none reads = absurd reads
 head_fault origin i o (BadCheckpoint place) line none reads = absurd reads
 head_fault origin i o (WrongSignature place) line none reads = absurd reads
 head_fault origin i o Unverified line none reads = absurd reads
+
+-- the lines of the whole input, none of which is too long
+pub read_lines : (p : Passage) (most : ℕ) (input text : List ℕ) (lines : List (List ℕ)) → ReadWhole p most input → text ≡ input → lines ≡ entries_of text
+    → first_too_long (entries_of text) ≡ None → ReadEntries p most lines
+read_lines p most input text lines whole same is short =
+    record { input = input; whole = whole; lines = is ∙ ap entries_of same; short = ap first_too_long is ∙ short }
+
+-- a line of the whole input that is too long is a fault of the run
+pub entry_fails : (Comes : List ℕ → Output → Type 0) (i o : Passage) (input text : List ℕ) (fault : RunFault) → ReadWhole i most_input input → text ≡ input → IsUnwritten o
+    → ((place : ℕ) → first_too_long (entries_of input) ≡ Some place → Comes input (Fails (EntryTooLong place))) → IsEntryFault (entries_of text) fault → Runs Comes i o (Err fault)
+entry_fails Comes i o input text (EntryTooLong place) whole same none comes given =
+    (record { input = input; whole = whole; so = comes place (ap (λ (t : List ℕ). first_too_long (entries_of t)) (sym same) ∙ given) }, none)
+entry_fails Comes i o input text Refused whole same none comes given = absurd given
+entry_fails Comes i o input text Read whole same none comes given = absurd given
+entry_fails Comes i o input text Write whole same none comes given = absurd given
+entry_fails Comes i o input text TooLarge whole same none comes given = absurd given
+entry_fails Comes i o input text BadOrigin whole same none comes given = absurd given
+entry_fails Comes i o input text BadIndex whole same none comes given = absurd given
+entry_fails Comes i o input text BadOld whole same none comes given = absurd given
+entry_fails Comes i o input text BadPath whole same none comes given = absurd given
+entry_fails Comes i o input text NotThere whole same none comes given = absurd given
+entry_fails Comes i o input text Malformed whole same none comes given = absurd given
+entry_fails Comes i o input text (Chain place) whole same none comes given = absurd given
+entry_fails Comes i o input text Sign whole same none comes given = absurd given
+entry_fails Comes i o input text Operator whole same none comes given = absurd given
+entry_fails Comes i o input text Listen whole same none comes given = absurd given
+entry_fails Comes i o input text Accept whole same none comes given = absurd given
+entry_fails Comes i o input text (Device place why) whole same none comes given = absurd given
+entry_fails Comes i o input text OutOfMemory whole same none comes given = absurd given
+entry_fails Comes i o input text BadName whole same none comes given = absurd given
+entry_fails Comes i o input text BadKey whole same none comes given = absurd given
+entry_fails Comes i o input text BadKeyFile whole same none comes given = absurd given
+entry_fails Comes i o input text (BadCheckpoint place) whole same none comes given = absurd given
+entry_fails Comes i o input text (WrongSignature place) whole same none comes given = absurd given
+entry_fails Comes i o input text Unverified whole same none comes given = absurd given

@@ -1,22 +1,15 @@
 -- The entries of a bundle, and that they can be written.
-use Rattle.std.proofs.Common.{◌≡◌, ℕ, ◌+◌, ◌-◌, ◌≤◌, inl, inr, Bool, true, false, cond, get_or, List, length, map, take, drop, refl, sym, ap, subst, ◌∙◌, arith}
+use Rattle.std.proofs.Common.{◌≡◌, ℕ, ◌≤◌, inl, inr, Bool, true, false, cond, get_or, List, length, refl, sym, ap, subst, ◌∙◌, arith}
 use Rattle.std.specs.Prelude.{Err, None, Some, not}
 use Rattle.std.specs.List.{position_or_len}
 use Rattle.std.proofs.lemmas.Bool.{cases_lt, lt-ltb, ltb-false, not-true}
 use Rattle.std.proofs.lemmas.List.Sums.{prefix_len_passes}
-use Rattle.std.proofs.lemmas.List.{take-map, drop-map}
-use Rattle.std.proofs.lemmas.List.Elements.{All-take, All-drop, All-get_or}
+use Rattle.std.proofs.lemmas.List.Elements.{All-get_or}
 use Rattle.tl_tile.specs.Bundle.{IsShortEntry, AreShortEntries}
 use Rattle.tl_tile.specs.ReadBundle.{WritesBundle}
 use Rattle.tl_command.specs.Lines.{first_too_long, is_too_long}
 use Rattle.tl_tile.specs.declared.bundle.BundleFault.{BundleFault}
 use Rattle.tl_tile.specs.declared.bundle.BundleFault.TheVariants.{EntryTooLong, Truncated, Trailing, OutOfMemory}
-
--- a part of a list, where each element is seen as its text
-pub part_seen : {X : Type 0} (f : X → List ℕ) (xs : List X) (start width : ℕ) → map f (take (start + width - start) (drop start xs)) ≡ take width (drop start (map f xs))
-part_seen f xs start width =
-    let count : start + width - start ≡ width = omega arith in
-    ap (λ (n : ℕ). map f (take n (drop start xs))) count ∙ sym (take-map f width (drop start xs)) ∙ ap (λ (t : List (List ℕ)). take width t) (sym (drop-map f start xs))
 
 -- entries that are not too long fail for want of memory alone
 pub short_fault : (A : Type 0) (entries : List (List ℕ)) (fault : BundleFault) → AreShortEntries entries → WritesBundle {A = A} entries (Err fault) → fault ≡ OutOfMemory
@@ -26,10 +19,6 @@ short_fault A entries EntryTooLong short (k, entry, less, at, long) =
 short_fault A entries Truncated short given = absurd given
 short_fault A entries Trailing short given = absurd given
 short_fault A entries OutOfMemory short given = refl
-
--- a part of entries that are not too long
-pub part_short : (part entries : List (List ℕ)) (start width : ℕ) → part ≡ take width (drop start entries) → AreShortEntries entries → AreShortEntries part
-part_short part entries start width same short = subst AreShortEntries (sym same) (All-take IsShortEntry width (drop start entries) (All-drop IsShortEntry start entries short))
 
 -- where no entry is the first that is too long, none is
 pub none_too_long : (entries : List (List ℕ)) → first_too_long entries ≡ None → AreShortEntries entries

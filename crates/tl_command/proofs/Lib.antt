@@ -1,6 +1,5 @@
 pub mod LinesLemmas
 pub mod Asking
-pub mod StoreLemmas
 pub mod LineTexts
 pub mod LineFields
 pub mod HashLines
@@ -21,3 +20,5 @@ pub mod TileHashes
 pub mod Names
 pub mod Wanted
 pub mod SignedRuns
+pub mod Counting
+pub mod SplitProofs

@@ -1,20 +1,16 @@
 -- The lines of a proof's text have no newline, and what the provers give is what the text has.
-use Rattle.std.proofs.Common.{◌≡◌, ℕ, ◌<◌, ◌≤◌, true, List, [], ◌∷◌, ◌++◌, length, get_or, map, take, refl, ap, ◌∙◌, arith, All, append-nil}
-use Rattle.std.specs.Prelude.{codes, nat_le, slice_index_or}
+use Rattle.std.proofs.Common.{◌≡◌, ℕ, ◌<◌, ◌≤◌, true, List, [], ◌∷◌, ◌++◌, length, get_or, map, refl, ap, ◌∙◌, arith, All}
+use Rattle.std.specs.Prelude.{codes, nat_le}
 use Rattle.std.specs.List.{list_all}
 use Rattle.std.proofs.lemmas.Bool.{leb-true}
-use Rattle.std.proofs.lemmas.List.{take_all, get_or-map, length-map}
+use Rattle.std.proofs.lemmas.List.{get_or-map, length-map}
 use Rattle.std.proofs.lemmas.List.Elements.{All-cons, All-append}
 use Rattle.std.proofs.lemmas.List.Sums.{AllPass-from_list_all}
-use Rattle.sha2.specs.Sha256.{sha256}
 use Rattle.tl_hash.specs.Bytes.{IsHash}
-use Rattle.tl_hash.specs.Tree.{leaf_input, tree_hash}
 use Rattle.tl_text.specs.Text.{number_text, base64_text, HasNoControl, IsSize}
 use Rattle.tl_text.proofs.PlainText.{number_plain, base64_plain}
-use Rattle.tl_proof.specs.Proofs.{inclusion_proof, consistency_proof}
 use Rattle.tl_command.specs.Lines.{entries_of, HasNoNewline}
-use Rattle.tl_command.specs.ProofText.{Inclusion, Consistency, Proof, Included, Consistent, IsProof, proof_lines, proof_text}
-use Rattle.tl_command.specs.ProofCommands.{inclusion_of, consistency_of}
+use Rattle.tl_command.specs.ProofText.{Proof, Included, Consistent, IsProof, proof_lines, proof_text}
 use Rattle.tl_command.proofs.LineTexts.{entries_of_lines}
 
 abbrev IsPlain : ℕ → Type 0
@@ -59,39 +55,3 @@ proof_plain (Consistent p) lawful =
 -- the entries of a proof's text are its lines
 pub entries_of_proof : (p : Proof) (text : List ℕ) → IsProof p → text ≡ proof_text p → entries_of text ≡ proof_lines p
 entries_of_proof p text lawful e = ap entries_of e ∙ entries_of_lines (proof_lines p) (proof_plain p lawful)
-
-whole : {X : Type 0} (entries : List X) (size : ℕ) → size ≡ length entries → take size entries ≡ entries
-whole entries size e = take_all size entries (omega (arith, e))
-
-pub whole_more : {X : Type 0} (entries : List X) (size : ℕ) → size ≡ length entries → take size (entries ++ []) ≡ entries
-whole_more {X} entries size e = ap (λ (xs : List X). take size xs) (append-nil entries) ∙ whole entries size e
-
-unfoldable inclusion : ℕ → ℕ → List ℕ → List ℕ → List (List ℕ) → Inclusion
-inclusion index size leaf root proof = record { index = index; size = size; leaf = leaf; root = root; proof = proof }
-
-pub inclusion_is : (entries : List (List ℕ)) (index size : ℕ) (leaf root : List ℕ) (proof : List (List ℕ)) → size ≡ length entries
-    → leaf ≡ sha256 (leaf_input (slice_index_or entries index [])) → root ≡ tree_hash sha256 (take size entries)
-    → proof ≡ inclusion_proof sha256 index (take size (entries ++ []))
-    → record { index = index; size = size; leaf = leaf; root = root; proof = proof } ≡ inclusion_of index entries
-unfolding inclusion
-inclusion_is entries index size leaf root proof count is_leaf is_root is_proof =
-    ap (λ (k : ℕ). inclusion index k leaf root proof) count
-    ∙ ap (λ (h : List ℕ). inclusion index (length entries) h root proof) is_leaf
-    ∙ ap (λ (h : List ℕ). inclusion index (length entries) (sha256 (leaf_input (slice_index_or entries index []))) h proof) (is_root ∙ ap (tree_hash sha256) (whole entries size count))
-    ∙ ap (λ (hs : List (List ℕ)). inclusion index (length entries) (sha256 (leaf_input (slice_index_or entries index []))) (tree_hash sha256 entries) hs)
-    (is_proof ∙ ap (inclusion_proof sha256 index) (whole_more entries size count))
-
-unfoldable consistency : ℕ → List ℕ → ℕ → List ℕ → List (List ℕ) → Consistency
-consistency old old_root size root proof = record { old = old; old_root = old_root; size = size; root = root; proof = proof }
-
-pub consistency_is : (entries : List (List ℕ)) (old : ℕ) (old_root : List ℕ) (size : ℕ) (root : List ℕ) (proof : List (List ℕ)) → size ≡ length entries
-    → old_root ≡ tree_hash sha256 (take old entries) → root ≡ tree_hash sha256 (take size entries)
-    → proof ≡ consistency_proof sha256 old (take size (entries ++ []))
-    → record { old = old; old_root = old_root; size = size; root = root; proof = proof } ≡ consistency_of old entries
-unfolding consistency
-consistency_is entries old old_root size root proof count is_old is_root is_proof =
-    ap (λ (k : ℕ). consistency old old_root k root proof) count
-    ∙ ap (λ (h : List ℕ). consistency old h (length entries) root proof) is_old
-    ∙ ap (λ (h : List ℕ). consistency old (tree_hash sha256 (take old entries)) (length entries) h proof) (is_root ∙ ap (tree_hash sha256) (whole entries size count))
-    ∙ ap (λ (hs : List (List ℕ)). consistency old (tree_hash sha256 (take old entries)) (length entries) (tree_hash sha256 entries) hs)
-    (is_proof ∙ ap (consistency_proof sha256 old) (whole_more entries size count))

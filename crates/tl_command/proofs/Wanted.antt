@@ -198,14 +198,19 @@ shows_all note n entries resources size wanted text is same count all spelled =
     spelled ∙ ap (λ (t : List ℕ). listing_text t entries resources) same ∙ ap (λ (rs : List Resource). listing_text note entries rs) (all ∙ ap mirrored (sym count)) in
     subst (λ (w : Option Resource). IsShown note entries w text) (sym is) whole
 
+-- the log hasn't got what is wanted
+pub not_there : (key : LogKey) (wanted : Option Resource) (i o : Passage) (entries : List (List ℕ)) → ReadEntries i most_input entries → IsUnwritten o
+    → ¬ (IsServed (mirrored (length entries)) wanted) → Runs (WantedComes key wanted) i o (Err fault.NotThere)
+not_there key wanted i o entries read none given =
+    let short : first_too_long (entries_of read.input) ≡ None = sym (ap first_too_long read.lines) ∙ read.short in
+    let absent : ¬ (IsServed (mirrored (length (entries_of read.input))) wanted) = subst (λ (es : List (List ℕ)). ¬ (IsServed (mirrored (length es)) wanted)) read.lines given in
+    (record { input = read.input; whole = read.whole; so = (short, absent) }, none)
+
 -- where there is no answer, the run has failed
 pub answer_fails : (A : Type 0) (key : LogKey) (wanted : Option Resource) (i o : Passage) (f : RunFault) (entries : List (List ℕ)) → ReadEntries i most_input entries → IsUnwritten o
     → IsAsking (WantedComes key wanted) i
     → AnswersWanted {A = A} (checkpoint_note key entries) entries wanted (Err f) → Runs (WantedComes key wanted) i o (Err f)
-answer_fails A key wanted i o fault.NotThere entries read none asks given =
-    let short : first_too_long (entries_of read.input) ≡ None = sym (ap first_too_long read.lines) ∙ read.short in
-    let absent : ¬ (IsServed (mirrored (length (entries_of read.input))) wanted) = subst (λ (es : List (List ℕ)). ¬ (IsServed (mirrored (length es)) wanted)) read.lines given in
-    (record { input = read.input; whole = read.whole; so = (short, absent) }, none)
+answer_fails A key wanted i o fault.NotThere entries read none asks given = not_there key wanted i o entries read none given
 answer_fails A key wanted i o fault.OutOfMemory entries read none asks given = (read.whole.steady, none, asks)
 answer_fails A key wanted i o fault.Refused entries read none asks given = absurd given
 answer_fails A key wanted i o fault.Read entries read none asks given = absurd given

@@ -27,14 +27,14 @@ plain_before s end within none =
     none_found (take end s) (λ j low lt same. none j low (omega (arith, lt, count)) (ap (λ (b : ℕ). b == 10) (sym (get_or-take end s j 0 (omega (arith, lt, count)))) ∙ same))
 
 -- that and the newline are the front of the bytes
-line_ends : (s : List ℕ) (end : ℕ) → end < length s → (get_or s end 0 == 10) ≡ true → line (take end s) ≡ take (end + 1) s
+pub line_ends : (s : List ℕ) (end : ℕ) → end < length s → (get_or s end 0 == 10) ≡ true → line (take end s) ≡ take (end + 1) s
 line_ends s end lt found = ap (λ (b : ℕ). take end s ++ b ∷ []) (sym (eqb-true (get_or s end 0) 10 found)) ∙ sym (take_more s end 0 lt)
 
 pub line_front : (input s : List ℕ) (end : ℕ) → end < length s → (get_or s end 0 == 10) ≡ true → (input ++ take end s) ++ 10 ∷ [] ≡ input ++ take (end + 1) s
 line_front input s end lt found = append_assoc input (take end s) (10 ∷ []) ∙ ap (λ (t : List ℕ). input ++ t) (line_ends s end lt found)
 
 -- the text of one line
-one_line : (text : List ℕ) → lines_text (text ∷ []) ≡ line text
+pub one_line : (text : List ℕ) → lines_text (text ∷ []) ≡ line text
 one_line text = flat_map-cons line text [] ∙ append-nil (line text)
 
 -- bytes begin with the line that a search found, if it isn't too long

@@ -14,4 +14,8 @@ pub
 pub
     mod Steps
 pub
-    mod Logs
+    mod Cuts
+pub
+    mod Subproofs
+pub
+    mod BundleLengths

@@ -22,10 +22,11 @@ mod fault;
 mod growing;
 mod keys;
 mod lines;
+mod log_lines;
 mod place;
 mod proof_text;
-mod stored;
 mod streams;
+mod text;
 mod whole_lines;
 
 pub use commands::audit::run_audit;

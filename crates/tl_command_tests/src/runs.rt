@@ -130,8 +130,8 @@ fn outcome_of<H: Threads + Sync, A: Allocator + Copy, R: Read, W: Write>(
             let key = HmacLogSigner::new(ORIGIN, b"s");
             run_build(rt, heap, alloc, 2, alloc, &key, get, reader, writer)
         }
-        Asked::Inclusion(index) => run_inclusion(heap, index, reader, writer),
-        Asked::Consistency(old) => run_consistency(heap, old, reader, writer),
+        Asked::Inclusion(index) => run_inclusion(rt, heap, alloc, 2, index, reader, writer),
+        Asked::Consistency(old) => run_consistency(rt, heap, alloc, 2, old, reader, writer),
         Asked::Check => run_check(heap, reader, writer),
         Asked::Audit => run_audit(heap, SumDigest, reader, writer),
         Asked::Entries => copy_entries(heap, reader, writer),

@@ -1,10 +1,7 @@
 //! The command `build`: what a static mirror of the log of the lines of the input serves.
 
-ghost use Rattle.std.specs.Prelude.{◌≡◌, ◌<◌, ◌^◌, ◌↔◌, ◌⊎◌, IsTrue, IfErr, IfOk, IfSome, MatchBool, Contains, length, map, vec_items, option_map};
-ghost use Rattle.sha2.specs.Sha256.{sha256};
-ghost use Rattle.tl_hash.specs.Tree.{tree_hash};
+ghost use Rattle.std.specs.Prelude.{◌≡◌, ◌<◌, ◌^◌, ◌↔◌, ◌⊎◌, IsTrue, IfErr, IfOk, MatchBool, Contains, length, option_map};
 ghost use Rattle.tl_note.specs.Key.{IsKeyName};
-ghost use Rattle.tl_tile.specs.Bundle.{AreShortEntries};
 ghost use Rattle.tl_device.specs.Device.{passage};
 ghost use Rattle.tl_command.specs.Run.{Runs};
 ghost use Rattle.tl_command.specs.Mirror.{checkpoint_note, mirrored, resource_text};
@@ -17,9 +14,9 @@ pub(crate) mod log_signer;
 pub(crate) mod resource_bytes;
 pub(crate) mod signed;
 
-use crate::entries::{ReadLog, read_log};
 use crate::fault::RunFault;
-use crate::streams::print_text;
+use crate::log_lines::LogLines;
+use crate::streams::{MOST_INPUT, print_text, read_input};
 use checkpoint_note::checkpoint_note_of;
 use listing::{listing_of, mirrored_of};
 use log_signer::LogSigner;
@@ -28,7 +25,6 @@ use std::alloc::{Allocator, Global};
 use std::io::{Read, Write};
 use std::thread::Threads;
 use tl_device::Counted;
-use tl_hash::Hash;
 use tl_note::is_key_name;
 use tl_tile::{Resource, parse_path};
 
@@ -69,7 +65,7 @@ fn is_served(resources: &[Resource], wanted: Option<Resource>) -> bool
 }
 
 // Whether a log of so many entries has none, and a tile or an entry bundle is wanted of it.
-fn is_of_no_entry(count: usize, wanted: Option<Resource>) -> bool
+fn is_of_no_entry(count: u64, wanted: Option<Resource>) -> bool
     ensures { MatchBool result
         ((count ≡ 0) × ¬ (IsServed (mirrored 0) wanted))
         ((0 < count) ⊎ IsServed (mirrored 0) wanted) }
@@ -84,66 +80,60 @@ fn is_of_no_entry(count: usize, wanted: Option<Resource>) -> bool
     }
 }
 
-// The bytes of a resource that the log of these entries has. No more is made than it needs: a tile hashes the entries
-// under it and no others, a bundle hashes nothing, and neither signs.
-fn wanted_bytes<K: LogSigner, A: Allocator + Copy>(
+// The bytes of a resource that the log of these lines has. No more is made than it needs: a tile hashes the lines under
+// it and no others, a bundle copies its own and hashes nothing, and neither signs.
+fn wanted_bytes<H: Threads + Sync, K: LogSigner, A: Allocator + Copy, B: Allocator + Copy + Send>(
+    rt: &H,
     alloc: A,
+    workers: B,
+    threads: usize,
     global: Global,
     key: &K,
     resource: Resource,
-    entries: &[Vec<u8, A>],
-    root: Option<Hash>,
+    lines: &LogLines<'_>,
 ) -> Result<Vec<u8, A>, RunFault>
     requires origin { IsKeyName (K.log_key key.now).name }
-    requires served { Contains (mirrored (length entries.now)) resource }
-    requires few { length entries.now < 2 ^ 32 }
-    requires short { AreShortEntries (map vec_items entries.now) }
-    requires root { IfSome root (λ root. root ≡ tree_hash sha256 (map vec_items entries.now)) }
-    ensures text { IfOk result (λ bytes. bytes.items ≡ resource_text (checkpoint_note
-        (K.log_key key.now) (map vec_items entries.now)) (map vec_items entries.now) resource) }
+    requires served { Contains (mirrored (length lines.now)) resource }
+    requires few { length lines.now < 2 ^ 32 }
+    ensures text { IfOk result (λ bytes. bytes.items
+        ≡ resource_text (checkpoint_note (K.log_key key.now) lines.now) lines.now resource) }
     ensures fault { IfErr result (λ fault. fault ≡ RunFault.OutOfMemory) }
 {
     match resource {
-        Resource::Tile(tile) => Ok(tile_of(alloc, tile, entries)?),
-        Resource::Entries { index, width } => bundle_of(alloc, index, width, entries),
+        Resource::Tile(tile) => Ok(tile_of(rt, alloc, workers, threads, tile, lines)?),
+        Resource::Entries { index, width } => bundle_of(alloc, index, width, lines),
         Resource::Checkpoint => {
-            let note = checkpoint_note_of(alloc, global, key, entries, root)?;
+            let note = checkpoint_note_of(rt, alloc, workers, threads, global, key, lines)?;
             Ok(note.into_bytes())
         }
     }
 }
 
-// The listing of the log of these entries, or the bytes of the resource that is wanted.
-fn answer_of<K: LogSigner, A: Allocator + Copy>(
+// The listing of the log of these lines, or the bytes of the resource that is wanted.
+fn answer_of<H: Threads + Sync, K: LogSigner, A: Allocator + Copy, B: Allocator + Copy + Send>(
+    rt: &H,
     alloc: A,
+    workers: B,
+    threads: usize,
     global: Global,
     key: &K,
     wanted: Option<Resource>,
-    entries: &[Vec<u8, A>],
-    root: Option<Hash>,
+    lines: &LogLines<'_>,
 ) -> Result<Vec<u8, A>, RunFault>
-    requires origin { IsKeyName (K.log_key key.now).name }
-    requires few { length entries.now < 2 ^ 32 }
-    requires short { AreShortEntries (map vec_items entries.now) }
-    requires root { IfSome root (λ root. root ≡ tree_hash sha256 (map vec_items entries.now)) }
-    ensures { AnswersWanted (checkpoint_note (K.log_key key.now) (map vec_items entries.now))
-        (map vec_items entries.now) wanted result }
+    requires { IsKeyName (K.log_key key.now).name }
+    ensures { AnswersWanted
+        (checkpoint_note (K.log_key key.now) lines.now) lines.now wanted result }
 {
-    let resources = mirrored_of(alloc, entries.len() as u64)?;
+    let resources = mirrored_of(alloc, lines.count())?;
     if !is_served(resources.as_slice(), wanted) {
         return Err(RunFault::NotThere);
     }
     if let Some(resource) = wanted {
-        return wanted_bytes(alloc, global, key, resource, entries, root);
+        return wanted_bytes(rt, alloc, workers, threads, global, key, resource, lines);
     }
-    let note = checkpoint_note_of(alloc, global, key, entries, root)?;
-    let listing = listing_of(alloc, resources.as_slice(), entries, note.as_str())?;
+    let note = checkpoint_note_of(rt, alloc, workers, threads, global, key, lines)?;
+    let listing = listing_of(alloc, resources.as_slice(), lines, note.as_str())?;
     Ok(listing.into_bytes())
-}
-
-// Whether the root of the log is wanted: the checkpoint has it, and the listing the checkpoint's length.
-fn is_root_wanted(wanted: Option<Resource>) -> bool {
-    matches!(wanted, None | Some(Resource::Checkpoint))
 }
 
 // Reads the whole input and writes what is wanted of the log of its lines.
@@ -169,15 +159,15 @@ fn build<
     ensures { Runs (WantedComes (K.log_key key.now) wanted) (passage
         R.remaining reader.old reader.new) (passage W.contents writer.old writer.new) result }
 {
-    let is_rooted = is_root_wanted(wanted);
-    let ReadLog { entries, root } = match read_log(rt, alloc, workers, threads, is_rooted, reader) {
-        Ok(log) => log,
+    let input = read_input(alloc, reader, MOST_INPUT)?;
+    let lines = match LogLines::of(input.as_slice()) {
+        Ok(lines) => lines,
         Err(fault) => return Err(fault),
     };
-    if is_of_no_entry(entries.len(), wanted) {
+    if is_of_no_entry(lines.count(), wanted) {
         return Err(RunFault::NotThere);
     }
-    let answer = match answer_of(alloc, global, key, wanted, entries.as_slice(), root) {
+    let answer = match answer_of(rt, alloc, workers, threads, global, key, wanted, &lines) {
         Ok(answer) => answer,
         Err(fault) => return Err(fault),
     };
@@ -188,8 +178,8 @@ fn build<
 /// Reads the whole input and writes what a static mirror of the log of its lines serves (C2SP tlog-tiles): with no path
 /// a line `path length` for each resource, the checkpoint last; with a path its bytes. The checkpoint is a note by the
 /// log's key, whose name is the log's. `BadOrigin`: no key has that name. `BadPath`: no resource has that path. Nothing
-/// is read then. `NotThere`: the log hasn't got it. The key takes its memory from `global`. Up to `threads` threads hash
-/// for the root, with memory from `workers`.
+/// is read then. `NotThere`: the log hasn't got it. The key's memory is `global`. Up to `threads` threads hash, with
+/// memory from `workers`.
 pub fn run_build<
     H: Threads + Sync,
     K: LogSigner,

@@ -1,9 +1,9 @@
 //! Places at which a piece of input is cut after whole lines. They say how work is shared, and no more is promised of
 //! them than that they stand in the piece.
 
-ghost use Rattle.std.specs.Prelude.{◌≤◌, length, IfSome};
+ghost use Rattle.std.specs.Prelude.{◌≤◌, length};
 
-use memchr::memchr;
+use crate::text::lines_end;
 
 // How many lines a tile has.
 const TILE: usize = 256;
@@ -13,18 +13,6 @@ const TILE: usize = 256;
 pub(super) struct Tiles {
     pub(super) end: usize,
     pub(super) count: usize,
-}
-
-// How many bytes the first `count` lines of a piece have: none are given where it has fewer lines.
-pub(super) fn lines_end(piece: &[u8], count: usize) -> Option<usize>
-    ensures { IfSome result (λ end. end ≤ length piece.now) }
-{
-    let mut at = 0;
-    for _line in 0..count {
-        let newline = memchr(b'\n', &piece[at..])?;
-        at += newline + 1;
-    }
-    Some(at)
 }
 
 // The tiles of lines at the beginning of a piece, `most` of them at most.

@@ -7,7 +7,8 @@ ghost use Rattle.tl_hash.specs.Bytes.{Bytes};
 ghost use Rattle.tl_command.specs.Inner.Growing.{IsGrowing};
 
 use crate::growing::Growing;
-use crate::growing::cuts::{Tiles, first_tiles, lines_end};
+use crate::growing::cuts::{Tiles, first_tiles};
+use crate::text::lines_end;
 use std::alloc::{AllocError, Allocator};
 use std::thread::{Threads, join};
 

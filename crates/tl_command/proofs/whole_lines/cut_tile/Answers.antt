@@ -1,4 +1,4 @@
-use Rattle.std.proofs.Common.{◌+◌, ◌∙◌, List, ℕ, map, length, take, sym, subst, rules, arith}
+use Rattle.std.proofs.Common.{◌+◌, ◌∙◌, List, ℕ, map, take, sym, subst, rules, arith}
 use Rattle.std.proofs.lemmas.List.{length-map, length-set, map-set, take_all}
 use Rattle.tl_command.specs.Inner.Growing.{BeginsWith}
 use Rattle.tl_command.proofs.WholeLines.{begins_nothing, begins_placed}

@@ -1,6 +1,6 @@
 //! The checkpoint of a log as a note, signed by the log's key.
 
-ghost use Rattle.std.specs.Prelude.{◌≡◌, ◌<◌, ◌^◌, List, length, map, vec_items, string_bytes, IfOk, IfErr, IfSome};
+ghost use Rattle.std.specs.Prelude.{◌≡◌, List, length, string_bytes, IfOk, IfErr};
 ghost use Rattle.sha2.specs.Sha256.{sha256};
 ghost use Rattle.tl_hash.specs.Bytes.{Bytes};
 ghost use Rattle.tl_hash.specs.Tree.{tree_hash};
@@ -11,8 +11,10 @@ ghost use Rattle.tl_command.specs.Mirror.{checkpoint_note};
 use crate::commands::build::log_signer::LogSigner;
 use crate::commands::head::checkpoint_of;
 use crate::fault::RunFault;
+use crate::log_lines::LogLines;
 use std::alloc::{Allocator, Global};
-use tl_hash::{Hash, Sha256Tree, entry_root};
+use std::thread::Threads;
+use tl_hash::Hash;
 
 /// The note of the checkpoint of a log of `size` entries, below 2^63, with this root (C2SP tlog-checkpoint,
 /// signed-note), signed by the log's key. `global` is what the key takes its memory from. It fails for want of memory
@@ -38,25 +40,27 @@ pub fn sign_checkpoint<K: LogSigner, A: Allocator + Copy>(
     Ok(note)
 }
 
-/// The note of the checkpoint of the log of these entries, signed by the log's key. `root` is that of the log, if it is
-/// known already.
-pub(crate) fn checkpoint_note_of<K: LogSigner, A: Allocator + Copy>(
+/// The note of the checkpoint of the log of these lines, signed by the log's key. Up to `threads` threads hash, with
+/// memory from `workers`.
+pub(crate) fn checkpoint_note_of<
+    H: Threads + Sync,
+    K: LogSigner,
+    A: Allocator + Copy,
+    B: Allocator + Copy + Send,
+>(
+    rt: &H,
     alloc: A,
+    workers: B,
+    threads: usize,
     global: Global,
     key: &K,
-    entries: &[Vec<u8, A>],
-    root: Option<Hash>,
+    lines: &LogLines<'_>,
 ) -> Result<String<A>, RunFault>
-    requires origin { IsKeyName (K.log_key key.now).name }
-    requires few { length entries.now < 2 ^ 32 }
-    requires root { IfSome root (λ root. root ≡ tree_hash sha256 (map vec_items entries.now)) }
-    ensures note { IfOk result (λ note.
-        string_bytes note ≡ checkpoint_note (K.log_key key.now) (map vec_items entries.now)) }
+    requires { IsKeyName (K.log_key key.now).name }
+    ensures note { IfOk result
+        (λ note. string_bytes note ≡ checkpoint_note (K.log_key key.now) lines.now) }
     ensures fault { IfErr result (λ fault. fault ≡ RunFault.OutOfMemory) }
 {
-    let root = match root {
-        Some(root) => root,
-        None => entry_root(Sha256Tree, entries),
-    };
-    sign_checkpoint(alloc, global, key, entries.len() as u64, root)
+    let root = lines.root(rt, workers, threads)?;
+    sign_checkpoint(alloc, global, key, lines.count(), root)
 }

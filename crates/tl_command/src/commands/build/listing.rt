@@ -1,12 +1,15 @@
 //! The listing of the resources of a log: the path and the length of each, which takes none of their bytes.
 
-ghost use Rattle.std.specs.Prelude.{◌≡◌, ◌<◌, ◌≤◌, ◌^◌, ◌++◌, ◌∷◌, All, length, map, vec_items, string_bytes, Contains, IfOk, OnOk};
+ghost use Rattle.std.specs.Prelude.{◌≡◌, ◌<◌, ◌≤◌, ◌^◌, ◌++◌, ◌∷◌, All, List, length, string_bytes, Contains, IfOk, OnOk};
+ghost use Rattle.tl_hash.specs.Bytes.{Bytes};
 ghost use Rattle.tl_text.specs.Text.{line, number_text};
-ghost use Rattle.tl_tile.specs.Bundle.{bundle_text, AreShortEntries};
+ghost use Rattle.tl_tile.specs.Bundle.{bundle_text};
 ghost use Rattle.tl_tile.specs.Path.{IsResource, path_text};
+ghost use Rattle.tl_command.specs.Inner.BundleLengths.{AreBundleLengths, HasLength};
 ghost use Rattle.tl_command.specs.Mirror.{mirrored, resource_text, listing_text};
 
-use crate::commands::build::resource_bytes::bundled;
+use crate::entries::first_entry;
+use crate::log_lines::LogLines;
 use itoa::Buffer;
 use std::alloc::{AllocError, Allocator};
 use tl_tile::{Resource, needed, path_of};
@@ -21,30 +24,50 @@ pub(crate) fn mirrored_of<A: Allocator>(alloc: A, size: u64) -> Result<Vec<Resou
     Ok(resources)
 }
 
-// The number of bytes of the bundle of these entries: each has its length in front, two bytes.
-fn bundle_length<A: Allocator>(entries: &[Vec<u8, A>]) -> usize
-    requires few { length entries.now ≤ 256 }
-    requires short { AreShortEntries (map vec_items entries.now) }
-    ensures { result ≡ length (bundle_text (map vec_items entries.now)) }
+// The number of bytes of the bundle of these lines: each has its length in front, two bytes.
+fn bundle_length(lines: &LogLines<'_>) -> u64
+    ensures { result ≡ length (bundle_text lines.now) }
 {
     let mut count = 0;
-    for entry in entries {
-        count += 2 + entry.len();
+    let mut rest = lines.text();
+    while !rest.is_empty() {
+        let (line, others) = first_entry(rest);
+        count += 2 + line.len() as u64;
+        rest = others;
     }
     count
 }
 
-// The number of bytes of a resource of the log of these entries, where this is the checkpoint's note.
-fn resource_length<A: Allocator>(resource: Resource, entries: &[Vec<u8, A>], note: &str) -> usize
-    requires served { Contains (mirrored (length entries.now)) resource }
-    requires few { length entries.now < 2 ^ 32 }
-    requires short { AreShortEntries (map vec_items entries.now) }
-    ensures { result ≡ length (resource_text note.now (map vec_items entries.now) resource) }
+// The numbers of bytes of the bundles of a log, from the first, found in one pass over its lines.
+fn bundle_lengths_of<A: Allocator>(
+    alloc: A,
+    lines: &LogLines<'_>,
+) -> Result<Vec<u64, A>, AllocError>
+    ensures { IfOk result (λ lengths. AreBundleLengths lengths.items lines.now) }
+{
+    let mut lengths = Vec::new(alloc);
+    let (_none, mut rest) = lines.split(0);
+    while rest.count() > 0 {
+        let (bundle, others) = rest.split(256);
+        lengths.push(bundle_length(&bundle))?;
+        rest = others;
+    }
+    Ok(lengths)
+}
+
+// The number of bytes of a resource of a log whose bundles have these lengths, where this is the checkpoint's note.
+fn resource_length(resource: Resource, lengths: &[u64], note: &str) -> u64
+    requires { HasLength lengths.now resource }
+    ensures { (entries : List Bytes)
+        → length entries < 2 ^ 32
+        → AreBundleLengths lengths.now entries
+        → Contains (mirrored (length entries)) resource
+        → result ≡ length (resource_text note.now entries resource) }
 {
     match resource {
-        Resource::Tile(tile) => 32 * tile.width as usize,
-        Resource::Entries { index, width } => bundle_length(bundled(index, width, entries)),
-        Resource::Checkpoint => note.len(),
+        Resource::Tile(tile) => 32 * tile.width as u64,
+        Resource::Entries { index, width: _ } => lengths[index as usize],
+        Resource::Checkpoint => note.len() as u64,
     }
 }
 
@@ -53,7 +76,7 @@ fn push_line<A: Allocator + Copy>(
     alloc: A,
     out: &mut String<A>,
     resource: &Resource,
-    count: usize,
+    count: u64,
 ) -> Result<(), AllocError>
     requires { IsResource resource.now }
     ensures { OnOk result (string_bytes out.new
@@ -66,22 +89,22 @@ fn push_line<A: Allocator + Copy>(
     Ok(())
 }
 
-/// The line of each of these resources of the log of the entries, whose checkpoint's note this is.
+/// The line of each of these resources of the log of the lines, whose checkpoint's note this is.
 pub(crate) fn listing_of<A: Allocator + Copy>(
     alloc: A,
     resources: &[Resource],
-    entries: &[Vec<u8, A>],
+    lines: &LogLines<'_>,
     note: &str,
 ) -> Result<String<A>, AllocError>
-    requires served { All (Contains (mirrored (length entries.now))) resources.now }
-    requires few { length entries.now < 2 ^ 32 }
-    requires short { AreShortEntries (map vec_items entries.now) }
-    ensures { IfOk result (λ text.
-        string_bytes text ≡ listing_text note.now (map vec_items entries.now) resources.now) }
+    requires served { All (Contains (mirrored (length lines.now))) resources.now }
+    requires few { length lines.now < 2 ^ 32 }
+    ensures { IfOk result
+        (λ text. string_bytes text ≡ listing_text note.now lines.now resources.now) }
 {
+    let lengths = bundle_lengths_of(alloc, lines)?;
     let mut out = String::new(alloc);
     for resource in resources {
-        let count = resource_length(*resource, entries, note);
+        let count = resource_length(*resource, lengths.as_slice(), note);
         push_line(alloc, &mut out, resource, count)?;
     }
     Ok(out)

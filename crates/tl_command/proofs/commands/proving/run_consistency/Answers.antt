@@ -1,20 +1,22 @@
-use Rattle.std.proofs.Common.{ap, arith, length, refl, vec_items}
+use Rattle.std.proofs.Common.{◌∙◌, ap, arith, length, refl, vec_items}
 use Rattle.std.proofs.KnownBytes.{Keeps-refl}
 use Rattle.std.proofs.lemmas.Result.{err_from_is_err_and}
-use Rattle.std.proofs.lemmas.List.{length-map}
-use Rattle.tl_command.proofs.LinesLemmas.{length-entries_of}
-use Rattle.tl_command.proofs.Asking.{asks_of_old}
+use Rattle.tl_command.specs.Lines.{entries_of}
+use Rattle.tl_command.specs.ProofCommands.{ConsistencyComes}
+use Rattle.tl_command.proofs.Asking.{asks_of_old, entry_fails}
 use Rattle.tl_command.proofs.commands.proving.run_consistency.Goals as goal
 
-pub consistency_text_over-requires-clause-few : goal.consistency_text_over-requires-clause-few
-consistency_text_over-requires-clause-few g c =
-    let read = c.in_ok-entries.ensures in
-    let few = length-entries_of read.input in
-    let same = ap length read.lines in
-    omega (arith, few, same, read.whole.fits, length-map c.in_ok-entries.entries.items vec_items, ap length c.as_slice.ensures.value)
+pub returns-in-Err : goal.returns-in-Err
+returns-in-Err g c =
+    entry_fails (ConsistencyComes c.args.old) _ _ (vec_items c.in_ok-input.input) c.as_slice.result.now c.in-Err.fault c.in_ok-input.ensures c.as_slice.ensures.value
+    (Keeps-refl (g.W.Write.contents c.args.writer.now.device), refl) (λ place long. long) c.in-Err.ensures.fault
 
 pub returns-in_err-text : goal.returns-in_err-text
 returns-in_err-text g c =
     let p = err_from_is_err_and c.from_residual-in_err-text.result c.from_residual-in_err-text.ensures.1 in
-    rw (p.1, p.2, c.in_err-text.ensures.fault)
-    (c.in_ok-entries.ensures.whole.steady, (Keeps-refl (g.W.Write.contents c.args.writer.now.device), refl), asks_of_old c.args.old _ _ _ c.in_ok-entries.ensures (omega (arith, c.if-old-len.false, c.len.ensures, length-map c.in_ok-entries.entries.items vec_items)))
+    let lines = ap length (c.in-Ok.ensures.lines ∙ ap entries_of c.as_slice.ensures.value) in
+    rw (p.1, p.2, c.in_err-text.ensures.fault) (
+      c.in_ok-input.ensures.steady,
+      (Keeps-refl (g.W.Write.contents c.args.writer.now.device), refl),
+      asks_of_old c.args.old _ _ (vec_items c.in_ok-input.input) c.in_ok-input.ensures (omega (arith, c.if-old-count.false, c.count.ensures.count, lines)),
+    )

@@ -1,16 +1,14 @@
-use Rattle.std.proofs.Common.{arith}
-use Rattle.tl_tile.proofs.BundleLemmas.{short_at}
-use Rattle.tl_command.proofs.Lengths.{length-bundle_more}
+use Rattle.std.proofs.Common.{sym}
+use Rattle.tl_command.proofs.Lengths.{bundled_all, bundled_more, bundled_none}
 use Rattle.tl_command.proofs.commands.build.listing.bundle_length.Goals as goal
 
-pub loop-entry-preserved : goal.loop-entry-preserved
-loop-entry-preserved g c =
-    let entries = c.args.entries.now in
-    let i = c.loop-entry.entry-index in
-    let so_far = c.loop-entry.invariant in
-    let more = length-bundle_more entries i c.entry-item.result c.loop-entry-test.true c.entry-item.is in
-    let short = short_at entries i c.entry-item.result c.loop-entry-test.true c.entry-item.is c.requires.short in
-    record {
-      count = omega (arith, so_far.count, c.len.ensures, more);
-      few = omega (arith, so_far.few, c.len.ensures, short);
-    }
+pub loop-rest-init : goal.loop-rest-init
+loop-rest-init c = bundled_none c.args.lines.now c.text-rest.result.now c.text-rest.ensures.lines c.text-rest.ensures.bytes
+
+pub loop-rest-preserved : goal.loop-rest-preserved
+loop-rest-preserved c =
+    bundled_more c.args.lines.now c.loop-rest.rest.now c.first_entry.result.1.now c.first_entry.result.0.now c.loop-rest.count
+    c.loop-rest.invariant c.first_entry.ensures.entry c.first_entry.ensures.shorter c.first_entry.ensures.bytes
+
+pub returns : goal.returns
+returns c = bundled_all c.args.lines.now c.loop-rest.rest.now c.loop-rest.count c.loop-rest.invariant (sym c.loop-rest-test.ensures)

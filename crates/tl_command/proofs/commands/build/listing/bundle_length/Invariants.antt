@@ -1,10 +1,10 @@
-use Rattle.std.proofs.Common.{◌≡◌, ◌*◌, ◌≤◌, length, map, take, vec_items}
-use Rattle.tl_tile.specs.Bundle.{bundle_text}
+use Rattle.std.proofs.Common.{length}
+use Rattle.tl_command.proofs.Lengths.{IsBundled}
 use Rattle.tl_command.proofs.commands.build.listing.bundle_length.Given as goal
 
--- the bytes of the entries so far
-abbrev pub invariant-loop-entry : goal.invariant-loop-entry
-invariant-loop-entry g l = record {
-  count : l.count ≡ length (bundle_text (map vec_items (take l.entry-index l.entries)));
-  few : l.count ≤ 65537 * l.entry-index;
-}
+-- the bytes of the lines so far are counted
+abbrev pub invariant-loop-rest : goal.invariant-loop-rest
+invariant-loop-rest l = IsBundled l.lines l.rest l.count
+
+abbrev pub decreases-loop-rest : goal.decreases-loop-rest
+decreases-loop-rest l = length l.rest
