@@ -72,8 +72,8 @@ RunsJob held reached (BuildSigned options) folder i o e result =
 RunsJob held reached (Append options) folder i o e result =
     IsRun (λ ran. RefusesOrigin (string_bytes options.origin) i ran × AppendsIn held reached options i o folder ran) result
     × IsUnwritten e
-RunsJob held reached (Inclusion index) folder i o e result = IsRun (Runs (InclusionComes index) i o) result × IsUnwritten e
-RunsJob held reached (Consistency old) folder i o e result = IsRun (Runs (ConsistencyComes old) i o) result × IsUnwritten e
+RunsJob held reached (Inclusion options) folder i o e result = IsRun (Runs (InclusionComes options.index) i o) result × IsUnwritten e
+RunsJob held reached (Consistency options) folder i o e result = IsRun (Runs (ConsistencyComes options.old) i o) result × IsUnwritten e
 RunsJob held reached Check folder i o e result = IsRun (Runs CheckComes i o) result × IsUnwritten e
 RunsJob held reached (CheckUnder options) folder i o e result =
     IsRun (ChecksFile (string_bytes options.key) (option_map string_bytes options.entry) i o) result × IsUnwritten e

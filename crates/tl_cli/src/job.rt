@@ -5,6 +5,24 @@ use tl_command::{BuildOptions, CheckOptions, HeadOptions, KeygenOptions, SignedO
 use tl_fetch::FetchOptions;
 use tl_serve::{ServeOptions, WitnessOptions};
 
+/// The options of `inclusion`.
+#[derive(Clone, Copy)]
+pub struct InclusionOptions {
+    /// The place of the line, counted from 0.
+    pub index: u64,
+    /// How many threads hash at once, 1 at least; without it, as many as the machine has.
+    pub threads: Option<u16>,
+}
+
+/// The options of `consistency`.
+#[derive(Clone, Copy)]
+pub struct ConsistencyOptions {
+    /// The number of the first lines.
+    pub old: u64,
+    /// How many threads hash at once, 1 at least; without it, as many as the machine has.
+    pub threads: Option<u16>,
+}
+
 /// A command of the program, with its options.
 #[derive(Drop)]
 pub enum Job {
@@ -17,15 +35,9 @@ pub enum Job {
     /// Append the lines of standard input to the log in a folder.
     Append(AppendOptions),
     /// Print the inclusion proof of a line of standard input.
-    Inclusion {
-        /// The place of the line, counted from 0.
-        index: u64,
-    },
+    Inclusion(InclusionOptions),
     /// Print the consistency proof from the first lines of standard input to all of them.
-    Consistency {
-        /// The number of the first lines.
-        old: u64,
-    },
+    Consistency(ConsistencyOptions),
     /// Say whether the proof on standard input is accepted.
     Check,
     /// Say whether it is accepted and about a signed checkpoint.

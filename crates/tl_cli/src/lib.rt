@@ -19,7 +19,7 @@ mod version;
 mod words;
 
 pub use fault::CommandFault;
-pub use job::Job;
+pub use job::{ConsistencyOptions, InclusionOptions, Job};
 pub use own_folder::OwnFolder;
 pub use running::{end_early, end_run, run_job, run_words};
 pub use streams::Streams;

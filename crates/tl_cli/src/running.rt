@@ -6,11 +6,13 @@ ghost use Rattle.tl_device.specs.Device.{passage};
 ghost use Rattle.tl_command.specs.Head.{RunsHead};
 ghost use Rattle.tl_cli.specs.Job.{BuildsDemo, BuildsSigned, ChecksFile, EndsWords, RunsJob, key_kind};
 ghost use Rattle.tl_command.specs.Keygen.{GivesKey};
+ghost use Rattle.tl_command.specs.ProofCommands.{InclusionComes, ConsistencyComes};
+ghost use Rattle.tl_command.specs.Run.{Runs};
 ghost use Rattle.tl_cli.specs.Ending.{Told, status_of};
 ghost use Rattle.tl_cli.specs.Told.{Tells};
 
 use crate::fault::{CommandFault, after_fetch, after_run, command_exit_of};
-use crate::job::Job;
+use crate::job::{ConsistencyOptions, InclusionOptions, Job};
 use crate::lasting::{append, serve, witness};
 use crate::own_folder::OwnFolder;
 use crate::streams::Streams;
@@ -59,6 +61,52 @@ fn head<H: Threads + Sync, R: Read, W: Write>(
 {
     let (threads, origin) = (threads_of(rt, options.threads), options.origin.as_str());
     run_head(rt, alloc, alloc, threads, origin, reader, writer)
+}
+
+// Proves that a line of the input is in the log of its lines.
+fn inclusion<H: Threads + Sync, R: Read, W: Write>(
+    rt: &H,
+    alloc: Global,
+    options: InclusionOptions,
+    reader: &mut Counted<R>,
+    writer: &mut Counted<W>,
+) -> Result<(), RunFault>
+    ensures { Runs (InclusionComes options.index) (passage R.remaining reader.old reader.new)
+        (passage W.contents writer.old writer.new) result }
+{
+    let InclusionOptions { index, threads } = options;
+    run_inclusion(
+        rt,
+        alloc,
+        alloc,
+        threads_of(rt, threads),
+        index,
+        reader,
+        writer,
+    )
+}
+
+// Proves that the log of the input's lines goes on from its first ones.
+fn consistency<H: Threads + Sync, R: Read, W: Write>(
+    rt: &H,
+    alloc: Global,
+    options: ConsistencyOptions,
+    reader: &mut Counted<R>,
+    writer: &mut Counted<W>,
+) -> Result<(), RunFault>
+    ensures { Runs (ConsistencyComes options.old) (passage R.remaining reader.old reader.new)
+        (passage W.contents writer.old writer.new) result }
+{
+    let ConsistencyOptions { old, threads } = options;
+    run_consistency(
+        rt,
+        alloc,
+        alloc,
+        threads_of(rt, threads),
+        old,
+        reader,
+        writer,
+    )
 }
 
 // Makes a key of a witness or of a log.
@@ -180,8 +228,8 @@ pub fn run_job<
         Job::Build(options) => after_run(build(rt, alloc, options, reader, writer)),
         Job::BuildSigned(options) => after_run(build_signed(rt, alloc, options, reader, writer)),
         Job::Append(options) => after_run(append(disk, rt, alloc, options, folder, reader, writer)),
-        Job::Inclusion { index } => after_run(run_inclusion(alloc, *index, reader, writer)),
-        Job::Consistency { old } => after_run(run_consistency(alloc, *old, reader, writer)),
+        Job::Inclusion(options) => after_run(inclusion(rt, alloc, *options, reader, writer)),
+        Job::Consistency(options) => after_run(consistency(rt, alloc, *options, reader, writer)),
         Job::Check => after_run(run_check(alloc, reader, writer)),
         Job::CheckUnder(options) => after_run(check_under(rt, alloc, options, reader, writer)),
         Job::Keygen(options) => after_run(key(rt, alloc, options, writer, errors)),

@@ -1,6 +1,6 @@
 //! The command line: from words to a job.
 
-use crate::job::Job;
+use crate::job::{ConsistencyOptions, InclusionOptions, Job};
 use clap::error::ErrorKind;
 use clap::{ArgMatches, Command, Error as ClapError};
 use std::alloc::{AllocError, Global};
@@ -143,12 +143,14 @@ fn job_of(alloc: Global, command: &str, options: &ArgMatches<'_>) -> Result<Job,
         })),
         "build" => building::build_job(alloc, options),
         "append" => building::append_job(alloc, options),
-        "inclusion" => Ok(Job::Inclusion {
+        "inclusion" => Ok(Job::Inclusion(InclusionOptions {
             index: given::number_of(alloc, options, "index")?,
-        }),
-        "consistency" => Ok(Job::Consistency {
+            threads: options.get_one::<u16>("threads"),
+        })),
+        "consistency" => Ok(Job::Consistency(ConsistencyOptions {
             old: given::number_of(alloc, options, "old")?,
-        }),
+            threads: options.get_one::<u16>("threads"),
+        })),
         "check" => proving::checking_job(alloc, options),
         "keygen" => Ok(Job::Keygen(KeygenOptions {
             name: given::text_of(alloc, options, "name")?,

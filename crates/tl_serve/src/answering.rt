@@ -17,14 +17,15 @@ use tl_command::RunFault;
 pub(crate) type AnsweringThread = JoinHandle<()>;
 
 // Answers connections from these pages, until no more are to be taken.
-fn answer_from<H: Clock + Net, P: Pages>(
+fn answer_from<H: Clock + Net + Wait, P: Pages>(
     rt: &H,
     alloc: Global,
     door: &Door,
     poll: Poll,
     pages: P,
+    news: &News,
 ) -> Result<(), RunFault> {
-    let mut guests = Guests::new(rt, alloc, door, poll)?;
+    let mut guests = Guests::new(rt, alloc, door, news, poll)?;
     guests.answer_all(rt, pages)
 }
 
@@ -37,7 +38,7 @@ pub(crate) fn answer<H: Clock + Net + Wait, P: Pages>(
     pages: P,
     news: &News,
 ) {
-    if let Err(fault) = answer_from(rt, alloc, door, poll, pages) {
+    if let Err(fault) = answer_from(rt, alloc, door, poll, pages, news) {
         news.tell_fault(rt, fault);
     }
     news.end_answering();

@@ -146,8 +146,8 @@ impl Door {
         self.limit
     }
 
-    // Wakes all threads that watch the door.
-    fn wake_all(&self) {
+    /// Wakes all threads that watch the door.
+    pub(crate) fn wake_all(&self) {
         for waker in self.wakers.iter() {
             let _ = waker.wake();
         }

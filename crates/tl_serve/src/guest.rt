@@ -1,14 +1,18 @@
 //! One connection, which waits without a thread of its own.
 
+use crate::news::News;
 use crate::pages::Pages;
+use crate::receipt::Receipt;
 use crate::request::Request;
+use crate::turn::Turn;
 use mio::Interest;
 use mio::net::TcpStream;
 use std::alloc::Global;
 use std::io::{ErrorKind, Read, Write};
 use std::net;
+use std::sync::{Arc, Wait};
 use tl_device::Counted;
-use tl_server::ServeFault;
+use tl_server::{Outcome, ServeFault};
 
 // How many bytes are read at once.
 const BLOCK: usize = 8192;
@@ -24,6 +28,8 @@ const MOST_LEFT: u32 = 256;
 pub(crate) struct Guest {
     pub(crate) stream: TcpStream,
     request: Request,
+    // What it handed in an entry for, whose place is waited for.
+    receipt: Option<Arc<Receipt>>,
     // The answer, once there is one, and how much of it was written.
     answer: Option<Vec<u8>>,
     written: usize,
@@ -52,6 +58,7 @@ impl Guest {
         Guest {
             stream: TcpStream::from_std(stream),
             request: Request::new(alloc),
+            receipt: None,
             answer: None,
             written: 0,
             came,
@@ -63,6 +70,14 @@ impl Guest {
     /// Whether there is an answer.
     pub(crate) fn is_answered(&self) -> bool {
         self.answer.is_some()
+    }
+
+    /// Whether it waits for the place of an entry that is below this size.
+    pub(crate) fn is_published(&self, size: u64) -> bool {
+        match &self.receipt {
+            Some(receipt) => self.answer.is_none() && receipt.index_below(size).is_some(),
+            None => false,
+        }
     }
 
     /// When its time is over: the head of a request may take half of the time alone.
@@ -100,17 +115,54 @@ impl Guest {
         Next::Leave
     }
 
-    // Tries an answer to what came. Where it depends on what follows, more is waited for.
-    fn try_answer<P: Pages>(&mut self, alloc: Global, pages: &mut P) -> Next {
+    // Has the entry remembered whose place was told.
+    fn remember<H: Wait>(&self, rt: &H, news: &News, status: u16) {
+        let (Some(receipt), Some(desk), 200) = (&self.receipt, news.desk(), status) else {
+            return;
+        };
+        if let Some(index) = receipt.index_below(u64::MAX) {
+            desk.remember(rt, &receipt.leaf, index);
+        }
+    }
+
+    // Tells that the log hasn't got the entry where it was told to be.
+    fn tell_damage<H: Wait>(&self, rt: &H, news: &News) {
+        if let (Some(receipt), Some(desk)) = (&self.receipt, news.desk()) {
+            news.tell_fault(rt, desk.damage(receipt));
+        }
+    }
+
+    // Tries an answer to what came. Where it depends on what follows, or on a place that isn't known yet, that is
+    // waited for. An entry that isn't where it was told to be is a fault of the log's.
+    fn try_answer<H: Wait, P: Pages>(
+        &mut self,
+        rt: &H,
+        alloc: Global,
+        news: &News,
+        pages: &mut P,
+    ) -> Next {
         let mut reader = Counted::new(self.request.reader());
         let mut writer = Counted::new(Vec::new(alloc));
-        let outcome = pages.answer(alloc, &mut reader, &mut writer);
+        let mut turn = Turn {
+            rt,
+            news,
+            receipt: self.receipt.take(),
+        };
+        let outcome = pages.answer(alloc, &mut reader, &mut writer, &mut turn);
         let asked = reader.into_inner().asked();
+        self.receipt = turn.receipt;
         match outcome {
-            Ok(Some(_status)) => {
+            Ok(Outcome::Answered(status)) => {
+                self.remember(rt, news, status);
                 self.answer = Some(writer.into_inner());
                 Next::GoOn
             }
+            Ok(Outcome::Misplaced) => {
+                self.tell_damage(rt, news);
+                self.answer = Some(writer.into_inner());
+                Next::GoOn
+            }
+            Ok(Outcome::Later) => Next::Wait,
             Err(ServeFault::Read) if !self.request.has_ended() => {
                 self.request.want(asked);
                 Next::Wait
@@ -119,18 +171,41 @@ impl Guest {
         }
     }
 
+    // Reads, unless an entry's place is waited for, and tries an answer. Whether to go on.
+    fn read_and_try<H: Wait, P: Pages>(
+        &mut self,
+        rt: &H,
+        alloc: Global,
+        news: &News,
+        pages: &mut P,
+    ) -> Next {
+        if self.receipt.is_none() {
+            let next = self.read_more();
+            if next != Next::GoOn {
+                return next;
+            }
+        }
+        match self.try_answer(rt, alloc, news, pages) {
+            Next::Wait if self.receipt.is_none() => Next::GoOn,
+            next => next,
+        }
+    }
+
     // Reads and tries until there is an answer.
-    fn prepare<P: Pages>(&mut self, alloc: Global, pages: &mut P) -> Next {
+    fn prepare<H: Wait, P: Pages>(
+        &mut self,
+        rt: &H,
+        alloc: Global,
+        news: &News,
+        pages: &mut P,
+    ) -> Next {
         for _ in 0..u64::MAX {
             if self.answer.is_some() {
                 return Next::GoOn;
             }
-            match self.read_more() {
-                Next::GoOn => {}
-                next => return next,
-            }
-            if self.try_answer(alloc, pages) == Next::Leave {
-                return Next::Leave;
+            let next = self.read_and_try(rt, alloc, news, pages);
+            if next != Next::GoOn {
+                return next;
             }
         }
         Next::Leave
@@ -181,8 +256,14 @@ impl Guest {
     }
 
     /// Does what can be done now.
-    pub(crate) fn go_on<P: Pages>(&mut self, alloc: Global, pages: &mut P) -> Next {
-        let next = self.prepare(alloc, pages);
+    pub(crate) fn go_on<H: Wait, P: Pages>(
+        &mut self,
+        rt: &H,
+        alloc: Global,
+        news: &News,
+        pages: &mut P,
+    ) -> Next {
+        let next = self.prepare(rt, alloc, news, pages);
         if next != Next::GoOn {
             return next;
         }

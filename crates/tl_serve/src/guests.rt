@@ -2,12 +2,14 @@
 
 use crate::door::{Accepted, Door, LISTENER};
 use crate::guest::{Guest, Next};
+use crate::news::News;
 use crate::pages::Pages;
 use mio::{Events, Poll, Token};
 use slab::Slab;
-use std::alloc::Global;
+use std::alloc::{AllocError, Global};
 use std::net;
 use std::net::Net;
+use std::sync::Wait;
 use std::time::{Clock, Duration, Instant};
 use tl_command::RunFault;
 
@@ -26,6 +28,7 @@ const PAUSE: u64 = 10;
 #[derive(Drop)]
 pub(crate) struct Guests<'d> {
     door: &'d Door,
+    news: &'d News,
     alloc: Global,
     poll: Poll,
     guests: Slab<Guest>,
@@ -35,6 +38,8 @@ pub(crate) struct Guests<'d> {
     due: u64,
     // When all are let go, once the door is closed.
     end: u64,
+    // How many entries were published when those were answered last that wait for a publication.
+    published: u64,
     // Whether connections may wait at the door, and how often in turn an accept was refused for now.
     has_callers: bool,
     refusals: u32,
@@ -46,6 +51,7 @@ impl<'d> Guests<'d> {
         rt: &H,
         alloc: Global,
         door: &'d Door,
+        news: &'d News,
         poll: Poll,
     ) -> Result<Guests<'d>, RunFault> {
         let Ok(start) = Instant::now(rt) else {
@@ -53,6 +59,7 @@ impl<'d> Guests<'d> {
         };
         Ok(Guests {
             door,
+            news,
             alloc,
             poll,
             guests: Slab::new(alloc),
@@ -60,6 +67,7 @@ impl<'d> Guests<'d> {
             now: 0,
             due: u64::MAX,
             end: u64::MAX,
+            published: 0,
             has_callers: true,
             refusals: 0,
         })
@@ -101,9 +109,9 @@ impl<'d> Guests<'d> {
     }
 
     // Goes on with a connection of which something was told.
-    fn go_on<P: Pages>(&mut self, key: usize, pages: &mut P) {
+    fn go_on<H: Wait, P: Pages>(&mut self, rt: &H, key: usize, pages: &mut P) {
         let next = match self.guests.get_mut(key) {
-            Some(guest) => guest.go_on(self.alloc, pages),
+            Some(guest) => guest.go_on(rt, self.alloc, self.news, pages),
             None => return,
         };
         if next == Next::Leave || !self.watch(key) {
@@ -113,14 +121,43 @@ impl<'d> Guests<'d> {
     }
 
     // Goes on with all connections of which something was told.
-    fn go_on_with<P: Pages>(&mut self, events: &Events, pages: &mut P) {
+    fn go_on_with<H: Wait, P: Pages>(&mut self, rt: &H, events: &Events, pages: &mut P) {
         for event in events.iter() {
             if event.token() == LISTENER {
                 self.has_callers = true;
                 continue;
             }
             let Token(key) = event.token();
-            self.go_on(key, pages);
+            self.go_on(rt, key, pages);
+        }
+    }
+
+    // Those that wait for the place of an entry, where the log has this size.
+    fn published_below(&self, size: u64) -> Result<Vec<usize>, AllocError> {
+        let mut keys = Vec::new(self.alloc);
+        for (key, guest) in self.guests.iter() {
+            if guest.is_published(size) {
+                keys.push(key)?;
+            }
+        }
+        Ok(keys)
+    }
+
+    // Goes on with all connections whose entries were published since that was last looked for.
+    fn go_on_published<H: Wait, P: Pages>(&mut self, rt: &H, pages: &mut P) {
+        let Some(desk) = self.news.desk() else {
+            return;
+        };
+        let size = desk.published();
+        if size == self.published {
+            return;
+        }
+        let Ok(keys) = self.published_below(size) else {
+            return;
+        };
+        self.published = size;
+        for key in keys {
+            self.go_on(rt, key, pages);
         }
     }
 
@@ -142,12 +179,12 @@ impl<'d> Guests<'d> {
     }
 
     // Answers a new connection, or holds it where that has to wait.
-    fn welcome<P: Pages>(&mut self, stream: net::TcpStream, pages: &mut P) {
+    fn welcome<H: Wait, P: Pages>(&mut self, rt: &H, stream: net::TcpStream, pages: &mut P) {
         if !self.door.hold() {
             return;
         }
         let is_kept = match stream.set_nonblocking(true) {
-            Ok(()) => self.begin(stream, pages),
+            Ok(()) => self.begin(rt, stream, pages),
             Err(_) => false,
         };
         if !is_kept {
@@ -156,13 +193,13 @@ impl<'d> Guests<'d> {
     }
 
     // Begins with a connection. Whether it is held.
-    fn begin<P: Pages>(&mut self, stream: net::TcpStream, pages: &mut P) -> bool {
+    fn begin<H: Wait, P: Pages>(&mut self, rt: &H, stream: net::TcpStream, pages: &mut P) -> bool {
         let mut guest = Guest::new(self.alloc, stream, self.now);
-        guest.go_on(self.alloc, pages) == Next::Wait && self.keep(guest)
+        guest.go_on(rt, self.alloc, self.news, pages) == Next::Wait && self.keep(guest)
     }
 
     // Lets in all connections that wait at the door. `Accept`: none can be accepted for good.
-    fn let_in<P: Pages>(&mut self, pages: &mut P) -> Result<(), RunFault> {
+    fn let_in<H: Wait, P: Pages>(&mut self, rt: &H, pages: &mut P) -> Result<(), RunFault> {
         for _ in 0..u64::MAX {
             if !self.has_callers {
                 break;
@@ -170,7 +207,7 @@ impl<'d> Guests<'d> {
             match self.door.accept()? {
                 Accepted::Stream(stream) => {
                     self.refusals = 0;
-                    self.welcome(stream, pages);
+                    self.welcome(rt, stream, pages);
                 }
                 Accepted::Later => {
                     self.refusals = self.refusals.saturating_add(1);
@@ -217,7 +254,7 @@ impl<'d> Guests<'d> {
     }
 
     /// Answers connections, until no more are to be taken and none is held. `Accept`: none can be accepted for good.
-    pub(crate) fn answer_all<H: Clock + Net, P: Pages>(
+    pub(crate) fn answer_all<H: Clock + Net + Wait, P: Pages>(
         &mut self,
         rt: &H,
         pages: P,
@@ -225,7 +262,7 @@ impl<'d> Guests<'d> {
         let mut pages = pages;
         let mut events = Events::with_capacity(self.alloc, MOST_EVENTS)?;
         for _ in 0..u64::MAX {
-            self.let_in(&mut pages)?;
+            self.let_in(rt, &mut pages)?;
             if self.door.is_over() && self.guests.is_empty() {
                 break;
             }
@@ -234,7 +271,8 @@ impl<'d> Guests<'d> {
                 return Err(RunFault::Accept);
             }
             self.look_at_clock(rt);
-            self.go_on_with(&events, &mut pages);
+            self.go_on_with(rt, &events, &mut pages);
+            self.go_on_published(rt, &mut pages);
             self.let_go();
         }
         Ok(())

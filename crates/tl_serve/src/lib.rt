@@ -9,27 +9,35 @@
 
 mod answering;
 mod awaited;
+mod desk;
 mod door;
 mod following;
 mod gate;
 mod guest;
 mod guests;
+mod handed;
 mod host;
 mod lanes;
 mod live_log;
 mod memory_log;
 mod news;
+mod news_feed;
 mod opening;
 mod options;
 mod pages;
+mod receipt;
+mod remembered;
 mod request;
 mod running;
 mod saver;
 mod serve;
 mod serve_shelf;
+mod server;
 mod serving;
 mod shelf_log;
 mod telling;
+mod turn;
+mod watch;
 mod witness;
 mod written;
 

@@ -1,45 +1,15 @@
 //! What the threads of a server tell the one that carries steps out.
 
-use crate::running::Feed;
-use mio::{Events, Poll, Token, Waker};
+use crate::desk::Desk;
+use crate::watch::Watch;
+use mio::Waker;
 use std::alloc::Global;
 use std::net::Net;
 use std::sync::atomic::{AtomicBool, AtomicU64, Ordering};
 use std::sync::{Mutex, Wait};
+use std::time::Duration;
 use tl_command::RunFault;
 use tl_heart::Event;
-
-// How many events of the system are told at once.
-const MOST_EVENTS: usize = 4;
-
-// What the thread that carries steps out waits with.
-#[derive(Drop)]
-struct Watch {
-    poll: Poll,
-    events: Events,
-}
-
-impl Watch {
-    // A wait, and what ends it. `Read`: the system refuses.
-    fn new<H: Net>(rt: &H, alloc: Global) -> Result<(Watch, Waker), RunFault> {
-        let events = Events::with_capacity(alloc, MOST_EVENTS)?;
-        let Ok(poll) = Poll::new(rt) else {
-            return Err(RunFault::Read);
-        };
-        match Waker::new(poll.registry(), Token(0)) {
-            Ok(waker) => Ok((Watch { poll, events }, waker)),
-            Err(_) => Err(RunFault::Read),
-        }
-    }
-
-    // Waits until it is woken. `Read`: the system refuses to wait.
-    fn wait(&mut self) -> Result<(), RunFault> {
-        match self.poll.poll(&mut self.events, None) {
-            Ok(()) => Ok(()),
-            Err(_) => Err(RunFault::Read),
-        }
-    }
-}
 
 /// What happens beside the thread that carries steps out.
 #[derive(Drop)]
@@ -48,6 +18,8 @@ pub(crate) struct News {
     waker: Waker,
     // What wakes the thread that follows the input, if one does.
     following: Option<Waker>,
+    // Where connections hand entries in, if they may.
+    desk: Option<Desk>,
     // Whether entries were sent since they were last looked for.
     has_entries: AtomicBool,
     // Whether the input ended since that was last looked for.
@@ -64,17 +36,20 @@ pub(crate) struct News {
 }
 
 impl News {
-    /// Nothing yet. `following` wakes the thread that follows the input, if one does. `Read`: the system refuses.
+    /// Nothing yet. `following` wakes the thread that follows the input, if one does; at the desk, if there is one,
+    /// connections hand entries in. `Read`: the system refuses.
     pub(crate) fn new<H: Net>(
         rt: &H,
         alloc: Global,
         following: Option<Waker>,
+        desk: Option<Desk>,
     ) -> Result<News, RunFault> {
         let (watch, waker) = Watch::new(rt, alloc)?;
         Ok(News {
             watch: Mutex::new(watch),
             waker,
             following,
+            desk,
             has_entries: AtomicBool::new(false),
             has_ended: AtomicBool::new(false),
             too_long: Mutex::new(Vec::new(alloc)),
@@ -100,7 +75,7 @@ impl News {
     pub(crate) fn end_answering(&self) {
         if self.answering.fetch_sub(1, Ordering::SeqCst) == 1 {
             self.is_over.store(true, Ordering::SeqCst);
-            self.wake_follower();
+            self.wake_senders();
             self.wake();
         }
     }
@@ -116,11 +91,19 @@ impl News {
         self.wake();
     }
 
-    // Wakes the thread that follows the input, if one does.
-    fn wake_follower(&self) {
+    // Wakes the threads that send what comes: from the input, and from the desk.
+    fn wake_senders(&self) {
         if let Some(waker) = &self.following {
             let _ = waker.wake();
         }
+        if let Some(desk) = &self.desk {
+            desk.wake();
+        }
+    }
+
+    /// Where connections hand entries in, if they may.
+    pub(crate) fn desk(&self) -> Option<&Desk> {
+        self.desk.as_ref()
     }
 
     /// Whether all connections are answered, so that the log ends with its input.
@@ -131,7 +114,7 @@ impl News {
     /// From now on nothing is taken any more: those that send end.
     pub(crate) fn stop(&self) {
         self.is_stopped.store(true, Ordering::SeqCst);
-        self.wake_follower();
+        self.wake_senders();
     }
 
     /// Whether nothing is taken any more.
@@ -207,33 +190,28 @@ impl News {
         None
     }
 
+    /// Waits until something happens, no longer than this; then nothing has. `Read`: the system refuses to wait.
+    pub(crate) fn wait_for<H: Wait>(
+        &self,
+        rt: &H,
+        limit: Option<Duration>,
+    ) -> Option<Event<RunFault>> {
+        if let Some(event) = self.look(rt) {
+            return Some(event);
+        }
+        match self.watch.lock(rt).wait(limit) {
+            Ok(()) => self.look(rt),
+            Err(fault) => Some(Event::Failed(fault)),
+        }
+    }
+
     /// Waits until something happens. `Read`: the system refuses to wait.
     pub(crate) fn wait<H: Wait>(&self, rt: &H) -> Event<RunFault> {
         for _ in 0..u64::MAX {
-            if let Some(event) = self.look(rt) {
+            if let Some(event) = self.wait_for(rt, None) {
                 return event;
-            }
-            if let Err(fault) = self.watch.lock(rt).wait() {
-                return Event::Failed(fault);
             }
         }
         Event::Stopped
-    }
-}
-
-/// What happens beside the thread that carries steps out, as the other threads tell.
-#[derive(Drop)]
-pub(crate) struct Told<'n, H> {
-    pub(crate) rt: &'n H,
-    pub(crate) news: &'n News,
-}
-
-impl<H: Wait> Feed for Told<'_, H> {
-    ghost use Rattle.std.specs.Prelude.{◌≡◌};
-
-    ghost gives = { λ a b _. b ≡ a };
-
-    fn wait(&mut self) -> Event<RunFault> {
-        self.news.wait(self.rt)
     }
 }

@@ -51,7 +51,7 @@ pub(crate) fn size_of(
 }
 
 /// What a log is opened with: the entries that it goes on from, those that it is to be sent, lines that come later, how
-/// many lanes there are, and the room of each.
+/// many lanes there are, the last for entries that are posted where these are taken, and the room of each.
 #[derive(Drop)]
 pub(crate) struct Plan {
     pub(crate) base: Vec<Vec<u8>>,
@@ -108,6 +108,11 @@ pub(crate) fn read_plan<R: Read>(
     if options.follow && lanes != 1 {
         return Err(RunFault::Operator);
     }
+    let lanes = if options.takes_posts {
+        lanes.saturating_add(1)
+    } else {
+        lanes
+    };
     Ok(Plan {
         base,
         entries,
@@ -117,8 +122,8 @@ pub(crate) fn read_plan<R: Read>(
     })
 }
 
-/// What each submitter is to send: the entries are dealt out in turn.
-pub(crate) fn lanes_of(
+// What each submitter is to send: the entries are dealt out in turn.
+fn lanes_of(
     alloc: Global,
     submitters: Vec<Submitter<Global, Global>>,
     entries: Vec<Vec<u8>>,
@@ -134,5 +139,28 @@ pub(crate) fn lanes_of(
         let entries = lists.next().unwrap_or(Vec::new(alloc));
         lanes.push(Sending { submitter, entries })?;
     }
+    Ok(lanes)
+}
+
+/// What each submitter is to send: the entries are dealt out in turn. The last submitter is for entries that are
+/// posted, if these are taken: it is dealt none.
+pub(crate) fn lanes_and_desk(
+    alloc: Global,
+    submitters: Vec<Submitter<Global, Global>>,
+    entries: Vec<Vec<u8>>,
+    takes_posts: bool,
+) -> Result<Vec<Sending>, AllocError>
+    ensures { IfOk result (λ lanes. map (λ l. l.submitter) lanes.items ≡ submitters.items) }
+{
+    if !takes_posts {
+        return lanes_of(alloc, submitters, entries);
+    }
+    let mut submitters = submitters;
+    let Some(submitter) = submitters.pop() else {
+        return Ok(Vec::new(alloc));
+    };
+    let mut lanes = lanes_of(alloc, submitters, entries)?;
+    let entries = Vec::new(alloc);
+    lanes.push(Sending { submitter, entries })?;
     Ok(lanes)
 }

@@ -58,6 +58,12 @@ pub struct ServeOptions {
     pub dir: Option<String>,
     /// Whether lines are published as they come.
     pub follow: bool,
+    /// Whether entries are taken that are posted, and answered with their places.
+    pub takes_posts: bool,
+    /// For how many milliseconds at most entries that came wait for more before they are published.
+    pub interval: u64,
+    /// How many entries are remembered with their places; one that is posted again isn't added again.
+    pub remember: u64,
     /// Whether a log in a folder may go on from a checkpoint of fewer entries than were published.
     pub allows_older: bool,
     /// Whether partial tiles and bundles stay in a folder that full ones have replaced.

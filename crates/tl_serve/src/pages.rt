@@ -5,27 +5,50 @@ use std::io::{Read, Write};
 use tl_archive::Shelf;
 use tl_device::Counted;
 use tl_publisher::BoardReader;
-use tl_server::{ServeFault, serve_log, serve_shelf};
+use tl_server::{
+    Outcome, ServeFault, Teller, serve_log, serve_open_log, serve_open_shelf, serve_shelf,
+};
 
 /// What a thread answers requests from.
 pub(crate) trait Pages: Drop {
-    /// Answers one request: its status, none where no byte came.
-    fn answer<I: Read, O: Write>(
+    /// Answers one request, where its answer is known. The teller is asked for the place of an entry that is posted.
+    fn answer<I: Read, O: Write, T: Teller>(
         &mut self,
         alloc: Global,
         reader: &mut Counted<I>,
         writer: &mut Counted<O>,
-    ) -> Result<Option<u16>, ServeFault>;
+        teller: &mut T,
+    ) -> Result<Outcome, ServeFault>;
 }
 
-impl Pages for BoardReader<Global> {
-    fn answer<I: Read, O: Write>(
+/// What came of a request that was answered at once: its status, none where no byte came.
+pub(crate) fn outcome_of(status: Option<u16>) -> Outcome {
+    match status {
+        Some(status) => Outcome::Answered(status),
+        None => Outcome::Nothing,
+    }
+}
+
+/// What a board has.
+#[derive(Drop)]
+pub(crate) struct OnBoard {
+    pub(crate) board: BoardReader<Global>,
+    /// Whether the log takes entries that are posted.
+    pub(crate) is_open: bool,
+}
+
+impl Pages for OnBoard {
+    fn answer<I: Read, O: Write, T: Teller>(
         &mut self,
         alloc: Global,
         reader: &mut Counted<I>,
         writer: &mut Counted<O>,
-    ) -> Result<Option<u16>, ServeFault> {
-        serve_log(alloc, reader, writer, self)
+        teller: &mut T,
+    ) -> Result<Outcome, ServeFault> {
+        if self.is_open {
+            return serve_open_log(alloc, reader, writer, &mut self.board, teller);
+        }
+        Ok(outcome_of(serve_log(alloc, reader, writer, &mut self.board)?))
     }
 }
 
@@ -33,15 +56,21 @@ impl Pages for BoardReader<Global> {
 #[derive(Drop)]
 pub(crate) struct OnShelf<S> {
     pub(crate) shelf: S,
+    /// Whether the log takes entries that are posted.
+    pub(crate) is_open: bool,
 }
 
 impl<S: Shelf + Send + Drop> Pages for OnShelf<S> {
-    fn answer<I: Read, O: Write>(
+    fn answer<I: Read, O: Write, T: Teller>(
         &mut self,
         alloc: Global,
         reader: &mut Counted<I>,
         writer: &mut Counted<O>,
-    ) -> Result<Option<u16>, ServeFault> {
-        serve_shelf(alloc, reader, writer, &self.shelf)
+        teller: &mut T,
+    ) -> Result<Outcome, ServeFault> {
+        if self.is_open {
+            return serve_open_shelf(alloc, reader, writer, &self.shelf, teller);
+        }
+        Ok(outcome_of(serve_shelf(alloc, reader, writer, &self.shelf)?))
     }
 }

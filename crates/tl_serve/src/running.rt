@@ -26,16 +26,27 @@ pub(crate) trait Feed {
     /// What waiting makes of it, by what happened.
     ghost gives: { Self → Self → Event RunFault → Type 0 };
 
-    /// Waits until something happens.
-    fn wait(&mut self) -> Event<RunFault>
+    /// Waits until something happens. Where entries were taken in that aren't published, `published` are: then it
+    /// waits no longer than until a publication is due.
+    fn wait(&mut self, published: Option<u64>) -> Event<RunFault>
         ensures { gives self.old self.new result };
+
+    /// Takes note that so many entries of a lane were taken in, the first of them at this index of the log.
+    fn note_taken(&self, lane: u32, index: u64, count: u64);
+
+    /// Takes note that so many entries of the log are published.
+    fn note_published(&self, size: u64);
 }
 
 /// How much is taken and published at a time, and what is told.
 #[derive(Clone, Copy)]
 pub(crate) struct Rounds {
+    /// How many entries the log has that were there before.
+    pub(crate) before: u64,
     /// How many entries make a publication due at once.
     pub(crate) batch: u64,
+    /// Whether fewer wait for more until a publication is due.
+    pub(crate) gathers: bool,
     /// How many lanes there are.
     pub(crate) lanes: u32,
     /// How many entries of a lane are taken at most in a round; without it, as many as make a publication due.
@@ -63,8 +74,14 @@ fn done(outcome: Result<(), RunFault>) -> Event<RunFault>
     }
 }
 
-// Takes from each lane in turn: how many entries in all.
-fn take_round<O: LiveLog>(log: &mut O, lanes: u32, most: u64) -> Result<u64, RunFault>
+// Takes from each lane in turn: how many entries in all. The first of them has this index in the log.
+fn take_round<O: LiveLog, F: Feed>(
+    log: &mut O,
+    feed: &F,
+    lanes: u32,
+    most: u64,
+    index: u64,
+) -> Result<u64, RunFault>
     requires { O.holds log.old }
     ensures kept { StaysRunning O.holds O.log O.begun log.old log.new }
     ensures taken { TakesRound lanes most (O.log log.old) (O.log log.new) result }
@@ -72,7 +89,10 @@ fn take_round<O: LiveLog>(log: &mut O, lanes: u32, most: u64) -> Result<u64, Run
     let mut count = 0u64;
     for lane in 0..lanes {
         match log.take_in(lane, most) {
-            Ok(taken) => count = count.saturating_add(taken),
+            Ok(taken) => {
+                feed.note_taken(lane, index.saturating_add(count), taken);
+                count = count.saturating_add(taken);
+            }
             Err(fault) => return Err(fault),
         }
     }
@@ -116,7 +136,7 @@ impl<O: LiveLog> Running<O> {
         ensures begins { Begins result telling }
         ensures batch { (result.batch ≡ self.now.rounds.batch) × (result.left ≡ self.now.rounds.batch) }
     {
-        Heart::serving(self.rounds.batch)
+        Heart::serving(self.rounds.batch, self.rounds.gathers)
     }
 
     // Counts entries that were taken.
@@ -137,13 +157,14 @@ impl<O: LiveLog> Running<O> {
     }
 
     // Takes in what waits, of each lane at most as many as a round takes.
-    fn take(&mut self, left: u64) -> Event<RunFault>
+    fn take<F: Feed>(&mut self, left: u64, feed: &F) -> Event<RunFault>
         requires { O.holds self.old.log }
         ensures kept { StaysRunning O.holds O.log O.begun self.old.log self.new.log }
         ensures counts { CountsRound O.log left self.old self.new result }
     {
         let most = self.rounds.most.unwrap_or(left);
-        let outcome = take_round(&mut self.log, self.rounds.lanes, most);
+        let index = self.rounds.before.saturating_add(self.taken);
+        let outcome = take_round(&mut self.log, feed, self.rounds.lanes, most, index);
         self.count(outcome)
     }
 
@@ -159,7 +180,7 @@ impl<O: LiveLog> Running<O> {
     }
 
     // Publishes what was taken in.
-    fn publish(&mut self) -> Event<RunFault>
+    fn publish<F: Feed>(&mut self, feed: &F) -> Event<RunFault>
         requires { O.holds self.old.log }
         ensures kept { StaysRunning O.holds O.log O.begun self.old.log self.new.log }
         ensures shown { ShowsTaken O.shows self.old self.new result }
@@ -167,6 +188,7 @@ impl<O: LiveLog> Running<O> {
         match self.log.show() {
             Ok(true) => {
                 self.published = self.taken;
+                feed.note_published(self.rounds.before.saturating_add(self.taken));
                 Event::Done(0)
             }
             Ok(false) => Event::NothingNew,
@@ -200,6 +222,15 @@ impl<O: LiveLog> Running<O> {
         }
     }
 
+    // How many entries that were taken are published, where others wait for more.
+    fn pending(&self, heart: Heart<RunFault>) -> Option<u64> {
+        if heart.has_new {
+            Some(self.published)
+        } else {
+            None
+        }
+    }
+
     // Carries a step out: what came of it. None where the step is another thread's, too.
     fn carry_out<F: Feed, L: Write>(
         &mut self,
@@ -215,9 +246,9 @@ impl<O: LiveLog> Running<O> {
             (record { running = self.new; feed = feed.new; out = out.new }) result }
     {
         match heart.step() {
-            Step::Wait => Some(feed.wait()),
-            Step::Take => Some(self.take(heart.left)),
-            Step::Publish => Some(self.publish()),
+            Step::Wait => Some(feed.wait(self.pending(heart))),
+            Step::Take => Some(self.take(heart.left, feed)),
+            Step::Publish => Some(self.publish(feed)),
             Step::TellHead => Some(self.tell_head(alloc, out)),
             Step::TellTooLong(line) => Some(done(tell_too_long(alloc, out, line))),
             Step::TellInputEnded => Some(self.tell_input_ended(out)),

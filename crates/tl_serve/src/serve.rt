@@ -4,26 +4,19 @@ ghost use Rattle.std.specs.Prelude.{◌≡◌, ◌≤◌, All, string_bytes};
 ghost use Rattle.tl_device.specs.Device.{passage};
 ghost use Rattle.tl_publisher.specs.Operating.{IsOperating};
 ghost use Rattle.tl_sequencer.specs.Log.{IsSenderOf, rings_of};
-ghost use Rattle.tl_serve.specs.Inner.Running.{StaysRunning};
 ghost use Rattle.tl_command.specs.Origins.{RefusesOrigin};
 
-use crate::awaited::Awaited;
-use crate::door::Door;
-use crate::following::Followed;
 use crate::gate::{Gate, OpenGate};
 use crate::host::Host;
-use crate::lanes::Sending;
-use crate::live_log::{LiveLog, MOST_ENTRIES};
+use crate::live_log::MOST_ENTRIES;
 use crate::memory_log::{BoardLog, MemoryLog};
-use crate::news::News;
-use crate::opening::{bundles_of, lanes_of, read_plan, size_of, with_newline};
+use crate::opening::{bundles_of, lanes_and_desk, read_plan, size_of, with_newline};
 use crate::options::ServeOptions;
-use crate::pages::Pages;
-use crate::running::{Rounds, Running};
-use crate::serving::{Common, Ran, check_closing, run_log, tell_end};
-use crate::telling::tell_in_memory;
-use mio::Waker;
-use std::alloc::Global;
+use crate::pages::OnBoard;
+use crate::running::Running;
+use crate::server::{Base, Server};
+use crate::serving::{Ran, check_closing, tell_end};
+use std::alloc::{AllocError, Global};
 use std::io::{Read, Write};
 use std::net::{Net, TcpListener, TcpStream};
 use std::os::fd::RawFd;
@@ -85,148 +78,25 @@ fn publish_first<O: BoardLog>(
     }
 }
 
-// What is told before size and root.
-const PUBLISHED: &str = "published ";
-
-/// What a log is served with.
-#[derive(Drop)]
-pub(crate) struct Server<'s, H, G> {
-    pub(crate) rt: &'s H,
-    pub(crate) alloc: Global,
-    pub(crate) options: &'s ServeOptions,
-    // The descriptor of the input, if there is one to wait for.
-    pub(crate) input: Option<RawFd>,
-    pub(crate) gate: &'s G,
-}
-
-// What a log is served with beside its pages.
-#[derive(Drop)]
-struct Prepared<'r, R> {
-    followed: Option<Followed<'r, R>>,
-    news: News,
-    door: Door,
+// What each thread answers from.
+fn pages_of(
+    alloc: Global,
+    readers: Vec<BoardReader<Global>>,
+    is_open: bool,
+) -> Result<Vec<OnBoard>, AllocError> {
+    let mut pages = Vec::new(alloc);
+    for board in readers {
+        pages.push(OnBoard { board, is_open })?;
+    }
+    Ok(pages)
 }
 
 impl<H: Host + Net<Listener = TcpListener, Stream = TcpStream>, G: Gate> Server<'_, H, G> {
-    // How many readers the board has: one for each thread that answers, and one for that which tells.
-    fn readers(&self) -> u32 {
-        threads_of(self.rt, self.options.server.threads) + 1
-    }
-
-    // How much is taken at a time from so many lanes, and what is told. Lines that are followed are gathered to a batch
-    // while more wait.
-    fn rounds(&self, lanes: usize) -> Rounds {
-        Rounds {
-            batch: if self.options.follow {
-                self.options.batch
-            } else {
-                1
-            },
-            lanes: u32::try_from(lanes).unwrap_or(u32::MAX),
-            most: if self.options.follow {
-                None
-            } else {
-                Some(self.options.batch)
-            },
-            word: if self.options.server.quiet {
-                None
-            } else {
-                Some(PUBLISHED)
-            },
-        }
-    }
-
-    // Opens the door, and tells where it is, and whether the log is in memory alone.
-    fn open_door<L: Write>(&self, threads: usize, log: &mut Counted<L>) -> Result<Door, RunFault> {
-        let threads = u32::try_from(threads).unwrap_or(u32::MAX);
-        let server = &self.options.server;
-        let door = Door::open(self.rt, self.alloc, server, threads, log)?;
-        if self.options.dir.is_none() && !server.quiet {
-            tell_in_memory(log)?;
-        }
-        Ok(door)
-    }
-
-    // The lines that are followed, if any are, and what wakes the thread that waits for them.
-    fn follow<'r, R: Read + Send>(
-        &self,
-        lines: Lines<Global>,
-        reader: &'r mut Counted<R>,
-    ) -> Result<(Option<Followed<'r, R>>, Option<Waker>), RunFault> {
-        if !self.options.follow {
-            return Ok((None, None));
-        }
-        let (input, waker) = Awaited::new(self.rt, self.alloc, self.input)?;
-        let before = lines.entries();
-        let followed = Followed {
-            lines,
-            reader,
-            input,
-            before,
-        };
-        Ok((Some(followed), Some(waker)))
-    }
-
-    // What a log is served with beside its pages: what is followed, what the threads tell, and the door.
-    fn prepare<'r, R: Read + Send, L: Write>(
-        &self,
-        lines: Lines<Global>,
-        reader: &'r mut Counted<R>,
-        threads: usize,
-        out: &mut Counted<L>,
-    ) -> Result<Prepared<'r, R>, RunFault> {
-        let (followed, following) = self.follow(lines, reader)?;
-        let news = News::new(self.rt, self.alloc, following)?;
-        let door = self.open_door(threads, out)?;
-        Ok(Prepared {
-            followed,
-            news,
-            door,
-        })
-    }
-
-    /// Serves a log that was published once, and hands it back.
-    pub(crate) fn serve_published<O: LiveLog, P: Pages + Send, R: Read + Send, L: Write>(
-        &self,
-        log: O,
-        lanes: Vec<Sending>,
-        pages: Vec<P>,
-        lines: Lines<Global>,
-        reader: &mut Counted<R>,
-        out: &mut Counted<L>,
-    ) -> Ran<O>
-        requires holds { O.holds log }
-        requires senders { All (λ l. IsSenderOf l.submitter (O.log log)) lanes.items }
-        ensures { StaysRunning O.holds O.log O.begun log result.running.log }
-    {
-        let running = Running::new(log, self.rounds(lanes.len()));
-        let Prepared {
-            followed,
-            news,
-            door,
-        } = match self.prepare(lines, reader, pages.len(), out) {
-            Ok(prepared) => prepared,
-            Err(fault) => {
-                return Ran {
-                    running,
-                    heart: Err(fault),
-                };
-            }
-        };
-        let common = Common {
-            rt: self.rt,
-            alloc: self.alloc,
-            door: &door,
-            gate: self.gate,
-            news: &news,
-        };
-        run_log(common, running, pages, lanes, followed, out)
-    }
-
-    // Serves a log in memory that was opened, and is to be sent these entries.
+    // Serves a log in memory that was opened with so many entries, and is to be sent these.
     fn serve_opened<O: BoardLog, R: Read + Send, L: Write>(
         &self,
         opened: O,
+        before: u64,
         submitters: Vec<Submitter<Global, Global>>,
         readers: Vec<BoardReader<Global>>,
         entries: Vec<Vec<u8>>,
@@ -239,13 +109,21 @@ impl<H: Host + Net<Listener = TcpListener, Stream = TcpStream>, G: Gate> Server<
         requires seen { All (λ w. w ≡ (O.state opened).past) readers.items }
     {
         let mut operator = opened;
-        let lanes = lanes_of(self.alloc, submitters, entries)?;
-        let mut pages = publish_first(&mut operator, readers)?;
-        let Some(board) = pages.pop() else {
+        let takes_posts = self.options.takes_posts;
+        let lanes = lanes_and_desk(self.alloc, submitters, entries, takes_posts)?;
+        let mut readers = publish_first(&mut operator, readers)?;
+        let Some(board) = readers.pop() else {
             return Err(RunFault::Operator);
         };
+        let pages = pages_of(self.alloc, readers, takes_posts)?;
         let log = MemoryLog { operator, board };
-        let Ran { running, heart } = self.serve_published(log, lanes, pages, lines, reader, out);
+        let base = Base {
+            size: before,
+            remembered: self.remembered(),
+        };
+        let Ran { running, heart } = self.serve_published(
+            log, base, lanes, pages, lines, reader, out,
+        );
         let heart = check_closing(heart)?;
         let Running { log, .. } = running;
         let size = log.operator.finish()?;
@@ -270,7 +148,9 @@ impl<H: Host + Net<Listener = TcpListener, Stream = TcpStream>, G: Gate> Server<
         ) {
             Ok((operator, submitters, readers)) => {
                 let (entries, lines) = (plan.entries, plan.lines);
-                self.serve_opened(operator, submitters, readers, entries, lines, reader, log)
+                self.serve_opened(
+                    operator, 0, submitters, readers, entries, lines, reader, log,
+                )
             }
             Err(OperatorFault::OutOfMemory) => Err(RunFault::OutOfMemory),
             Err(_) => Err(RunFault::Operator),
@@ -300,7 +180,9 @@ impl<H: Host + Net<Listener = TcpListener, Stream = TcpStream>, G: Gate> Server<
         ) {
             Ok((operator, submitters, readers)) => {
                 let (entries, lines) = (plan.entries, plan.lines);
-                self.serve_opened(operator, submitters, readers, entries, lines, reader, log)
+                self.serve_opened(
+                    operator, size, submitters, readers, entries, lines, reader, log,
+                )
             }
             Err(ResumeFault::OutOfMemory) => Err(RunFault::OutOfMemory),
             Err(_) => Err(RunFault::Operator),

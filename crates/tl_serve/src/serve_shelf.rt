@@ -16,11 +16,11 @@ use crate::gate::OpenGate;
 use crate::host::Host;
 use crate::lanes::Sending;
 use crate::live_log::{LiveLog, MOST_ENTRIES};
-use crate::opening::{Plan, lanes_of, read_plan};
+use crate::opening::{Plan, lanes_and_desk, read_plan};
 use crate::options::ServeOptions;
 use crate::pages::OnShelf;
 use crate::running::Running;
-use crate::serve::Server;
+use crate::server::{Base, Server};
 use crate::serving::{Ran, check_closing, tell_end};
 use crate::shelf_log::ShelfLog;
 use std::alloc::{AllocError, Global};
@@ -47,10 +47,14 @@ pub struct Served<S> {
 }
 
 // What each thread answers from.
-fn pages_of<P: Drop>(alloc: Global, shown: Vec<P>) -> Result<Vec<OnShelf<P>>, AllocError> {
+fn pages_of<P: Drop>(
+    alloc: Global,
+    shown: Vec<P>,
+    is_open: bool,
+) -> Result<Vec<OnShelf<P>>, AllocError> {
     let mut pages = Vec::new(alloc);
     for shelf in shown {
-        pages.push(OnShelf { shelf })?;
+        pages.push(OnShelf { shelf, is_open })?;
     }
     Ok(pages)
 }
@@ -115,8 +119,8 @@ fn open_log<S: Shelf, P: Drop, R: Read>(
         Err(fault) => return Err(fault),
     };
     let Plan { entries, lines, .. } = plan;
-    let lanes = lanes_of(alloc, submitters, entries)?;
-    let pages = pages_of(alloc, shown)?;
+    let lanes = lanes_and_desk(alloc, submitters, entries, options.takes_posts)?;
+    let pages = pages_of(alloc, shown, options.takes_posts)?;
     Ok(Opened {
         ledger,
         is_first: found.head.is_none(),
@@ -146,6 +150,17 @@ fn close<S: Shelf + Drop, L: Write>(
         Err(fault) => return Err(fault),
     };
     tell_end(alloc, heart, size, is_quiet, out)
+}
+
+// What a log of so many entries on a shelf has, of which the last are remembered, if any are.
+fn base_of<H: Host + Net<Listener = TcpListener, Stream = TcpStream>, S: Shelf>(
+    server: &Server<'_, H, OpenGate>,
+    shelf: &S,
+    size: u64,
+) -> Base {
+    let mut remembered = server.remembered();
+    remembered.put_last(shelf, size);
+    Base { size, remembered }
 }
 
 // Serves the log on a shelf under these keys.
@@ -187,12 +202,15 @@ fn serve_under<
         lines,
     } = opened;
     let keeps = options.keeps_partials;
+    let base = base_of(server, &shelf, ledger.size());
     let mut log = ShelfLog::new(alloc, signer, shelf, ledger, intake, is_first, keeps);
     if let Err(fault) = log.show() {
         let (shelf, outcome) = (log.into_shelf(), Err(fault));
         return Served { shelf, outcome };
     }
-    let Ran { running, heart } = server.serve_published(log, lanes, pages, lines, reader, out);
+    let Ran { running, heart } = server.serve_published(
+        log, base, lanes, pages, lines, reader, out,
+    );
     let outcome = close(alloc, &running.log, heart, options.server.quiet, out);
     let Running { log, .. } = running;
     let shelf = log.into_shelf();

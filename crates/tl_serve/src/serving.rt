@@ -9,10 +9,12 @@ use crate::answering::{end_answering, start_answering};
 use crate::door::Door;
 use crate::following::{Source, start_following};
 use crate::gate::Gate;
+use crate::handed::Handed;
 use crate::host::Host;
 use crate::lanes::{AllSent, LaneThread, Sending, join_lanes, start_lanes};
 use crate::live_log::LiveLog;
-use crate::news::{News, Told};
+use crate::news::News;
+use crate::news_feed::NewsFeed;
 use crate::pages::Pages;
 use crate::running::{Feed, Running};
 use crate::telling::tell_closed;
@@ -33,10 +35,32 @@ pub(crate) struct Common<'c, H, G> {
     pub(crate) door: &'c Door,
     pub(crate) gate: &'c G,
     pub(crate) news: &'c News,
+    // For how many milliseconds entries that came wait for more.
+    pub(crate) interval: u64,
 }
 
-// Starts the threads that send: one for each lane, or the one that follows the input.
-fn start_sending<'s, E, H: Host, S: Source + 's, G: Gate>(
+// Starts the thread that sends what comes from a source, by the last of the lanes.
+fn start_last<'s, E, H: Host, S: Source + 's>(
+    scope: &'s Scope<'s, E>,
+    rt: &'s H,
+    lanes: &mut Vec<Sending>,
+    source: S,
+    news: &'s News,
+) -> Result<LaneThread, RunFault>
+    ensures left { (log : Log GlobalValue) → All (λ l. IsSenderOf l.submitter log) lanes.old.items
+        → All (λ l. IsSenderOf l.submitter log) lanes.new.items }
+    ensures promised { (log : Log GlobalValue)
+        → All (λ l. IsSenderOf l.submitter log) lanes.old.items
+        → IfOk result (λ thread. IsSenderOf thread.promise.0.value log) }
+{
+    let Some(lane) = lanes.pop() else {
+        return Err(RunFault::Operator);
+    };
+    start_following(scope, rt, source, lane, news)
+}
+
+// Starts the threads that send what doesn't come from the desk: one for each lane, or the one that follows the input.
+fn start_lines<'s, E, H: Host, S: Source + 's, G: Gate>(
     scope: &'s Scope<'s, E>,
     rt: &'s H,
     alloc: Global,
@@ -52,11 +76,32 @@ fn start_sending<'s, E, H: Host, S: Source + 's, G: Gate>(
         return start_lanes(scope, alloc, gate, lanes, news);
     };
     let mut lanes = lanes;
-    let Some(lane) = lanes.pop() else {
-        return Err(RunFault::Operator);
-    };
-    let thread = start_following(scope, rt, source, lane, news)?;
+    let thread = start_last(scope, rt, &mut lanes, source, news)?;
     let mut threads = Vec::new(alloc);
+    threads.push(thread)?;
+    Ok(threads)
+}
+
+// Starts the threads that send: that of the desk, if there is one, by the last lane, and those of all else.
+fn start_sending<'s, E, H: Host, S: Source + 's, G: Gate>(
+    scope: &'s Scope<'s, E>,
+    rt: &'s H,
+    alloc: Global,
+    lanes: Vec<Sending>,
+    followed: Option<S>,
+    gate: &'s G,
+    news: &'s News,
+) -> Result<Vec<LaneThread>, RunFault>
+    ensures { (log : Log GlobalValue) → All (λ l. IsSenderOf l.submitter log) lanes.items
+        → IfOk result (λ threads. All (λ h. IsSenderOf h.promise.0.value log) threads.items) }
+{
+    let Some(desk) = news.desk() else {
+        return start_lines(scope, rt, alloc, lanes, followed, gate, news);
+    };
+    let mut lanes = lanes;
+    let handed = Handed::new(rt, alloc, desk);
+    let thread = start_last(scope, rt, &mut lanes, handed, news)?;
+    let mut threads = start_lines(scope, rt, alloc, lanes, followed, gate, news)?;
     threads.push(thread)?;
     Ok(threads)
 }
@@ -149,8 +194,9 @@ fn run_threads<
     ensures { StaysRunning O.holds O.log O.begun running.old.log running.new.log }
 {
     let (rt, alloc, door, news) = (common.rt, common.alloc, common.door, common.news);
-    let mut feed = Told { rt, news };
-    let sending = start_sending(scope, rt, alloc, lanes, followed, common.gate, news)?;
+    let gate = common.gate;
+    let mut feed = NewsFeed::new(rt, news, door, common.interval);
+    let sending = start_sending(scope, rt, alloc, lanes, followed, gate, news)?;
     let answering = start_answering(scope, rt, alloc, door, pages, news)?;
     let heart = running.drive(alloc, running.begin(), &mut feed, out);
     news.stop();

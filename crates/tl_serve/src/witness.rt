@@ -9,7 +9,7 @@ use crate::door::Door;
 use crate::host::Host;
 use crate::news::News;
 use crate::options::{LogVerifierKey, WitnessOptions, WitnessSignerKey};
-use crate::pages::Pages;
+use crate::pages::{Pages, outcome_of};
 use crate::saver::LineSaver;
 use crate::serve::threads_of;
 use mio::Poll;
@@ -28,7 +28,7 @@ use tl_heart::Event;
 use tl_key::{Cosignature, DemoKey, Note, SignerKey, VerifierKey, demo_key};
 use tl_note::{NoteFault, Signer, Verifier, is_key_name};
 use tl_proof::Link;
-use tl_server::{ServeFault, Witness, serve_witness};
+use tl_server::{Outcome, ServeFault, Teller, Witness, serve_witness};
 use tl_witness::{Book, BookFault, ChainFault, SharedWitness, Trust, read_chain};
 
 // The chains that an earlier run printed.
@@ -80,19 +80,20 @@ fn seconds<H: Clock>(rt: &H, given: Option<u64>) -> u64 {
 }
 
 impl<H: Clock + Wait, W: Witness<Global>, O: Write> Pages for Asked<'_, '_, H, W, O> {
-    fn answer<I: Read, Z: Write>(
+    fn answer<I: Read, Z: Write, T: Teller>(
         &mut self,
         alloc: Global,
         reader: &mut Counted<I>,
         writer: &mut Counted<Z>,
-    ) -> Result<Option<u16>, ServeFault> {
+        _teller: &mut T,
+    ) -> Result<Outcome, ServeFault> {
         let (rt, time) = (self.rt, seconds(self.rt, self.time));
         let mut saver = LineSaver::new(rt, alloc, self.out);
         let outcome = serve_witness(rt, alloc, reader, writer, self.witness, time, &mut saver);
         if saver.has_failed() {
             self.news.tell_fault(rt, RunFault::Write);
         }
-        outcome
+        Ok(outcome_of(outcome?))
     }
 }
 
@@ -188,7 +189,7 @@ fn serve_all<
     log: &mut Counted<L>,
 ) -> Result<(), RunFault> {
     let threads = threads_of(rt, options.server.threads);
-    let news = News::new(rt, alloc, None)?;
+    let news = News::new(rt, alloc, None, None)?;
     let door = Door::open(rt, alloc, &options.server, threads, log)?;
     let out = Mutex::new(&mut *writer);
     answer_all(rt, alloc, options.time, &door, witness, &out, &news)

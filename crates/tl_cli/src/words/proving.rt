@@ -32,6 +32,7 @@ const INCLUSION: Words = Words {
     after_help: texts::INCLUSION,
     words: &[words![
         "index" "N" Kind::RequiredNumber => "The place of the line, counted from 0";
+        "threads" "N" Kind::Short => "How many threads hash at once";
     ]],
 };
 
@@ -46,6 +47,7 @@ const CONSISTENCY: Words = Words {
     after_help: texts::CONSISTENCY,
     words: &[words![
         "old" "N" Kind::RequiredNumber => "The number of the first lines";
+        "threads" "N" Kind::Short => "How many threads hash at once";
     ]],
 };
 

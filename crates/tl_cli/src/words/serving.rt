@@ -24,6 +24,18 @@ const ONE_BASE: &str = "--note and --dir are not given together";
 // What is said where options of a log in a folder are given, and no folder.
 const OF_A_FOLDER: &str = "--older and --keep-partials are given with --dir alone";
 
+// What is said where an interval is given, and no entries come while the log is served.
+const OF_WHAT_COMES: &str = "--interval is given with --follow or --add alone";
+
+// What is said where it is told how many entries are remembered, and none are posted.
+const OF_POSTS: &str = "--remember is given with --add alone";
+
+// How many entries are remembered, where that isn't told.
+const REMEMBER: u64 = 65_536;
+
+// How many milliseconds entries wait for more where they are posted, and no interval is given.
+const INTERVAL: u64 = 1000;
+
 // What is said where not one key of the log is given to a witness.
 const ONE_LOG_KEY: &str = "either --secret or --log-key is given";
 
@@ -53,6 +65,11 @@ const SERVE: Words = Words {
             "note" "NOTE" Kind::Text => "The signed checkpoint that the log goes on from";
             "dir" "DIR" Kind::Path => "The folder of the log, which goes on from what is there";
             "follow" "" Kind::Flag => "Publish lines as they come";
+            "add" "" Kind::Flag => "Take entries that are posted, and answer with their places";
+            "interval" "MS" Kind::Number(0, 86_400_000)
+                => "How many milliseconds entries wait for more before they are published";
+            "remember" "N" Kind::Number(0, 16_777_216)
+                => "How many entries are known again when they are posted again";
             "older" "" Kind::Flag => "Go on from a checkpoint that is older than one that was there";
             "keep-partials" "" Kind::Flag => "Leave partial tiles that full ones have replaced";
         ],
@@ -103,6 +120,29 @@ fn listen_options(alloc: Global, options: &ArgMatches<'_>) -> Result<ListenOptio
     })
 }
 
+// For how many milliseconds entries wait for more: none unless an interval is given, or entries are posted.
+fn interval_of(alloc: Global, options: &ArgMatches<'_>) -> Result<u64, WordsFault> {
+    let takes_posts = options.get_flag("add");
+    match options.get_one::<u64>("interval") {
+        Some(_) if !takes_posts && !options.get_flag("follow") => {
+            Err(usage_error(alloc, serve(), OF_WHAT_COMES))
+        }
+        Some(interval) => Ok(interval),
+        None if takes_posts => Ok(INTERVAL),
+        None => Ok(0),
+    }
+}
+
+// How many entries are remembered, where entries are posted alone.
+fn remember_of(alloc: Global, options: &ArgMatches<'_>) -> Result<u64, WordsFault> {
+    let takes_posts = options.get_flag("add");
+    match options.get_one::<u64>("remember") {
+        Some(_) if !takes_posts => Err(usage_error(alloc, serve(), OF_POSTS)),
+        Some(remember) => Ok(remember),
+        None => Ok(REMEMBER),
+    }
+}
+
 // The job of `serve`: not both a note and a folder are given, and what is of a folder with one alone.
 pub(super) fn serve_job(alloc: Global, options: &ArgMatches<'_>) -> Result<Job, WordsFault> {
     let Some(key) = log_key_if_one(alloc, options)? else {
@@ -127,6 +167,9 @@ pub(super) fn serve_job(alloc: Global, options: &ArgMatches<'_>) -> Result<Job, 
         note,
         dir,
         follow: options.get_flag("follow"),
+        takes_posts: options.get_flag("add"),
+        interval: interval_of(alloc, options)?,
+        remember: remember_of(alloc, options)?,
         allows_older: older,
         keeps_partials: kept,
     }))

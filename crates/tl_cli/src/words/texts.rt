@@ -42,12 +42,14 @@ or a write failed. A refusal is one line 'tlog: ..' on standard error.";
 pub(super) const INCLUSION: &str = "Input: the entries of the log, one a line, as for 'tlog head'.
 Output: lines 'inclusion', 'index I', 'size N', 'leaf HASH', 'root HASH', and the hashes of the proof (RFC 6962,
 section 2.1.1), one a line, the one nearest to the leaf first. Hashes are in base64. 'tlog check' reads it.
+--threads: how many threads hash at once; without it, as many as the machine has. The output is the same.
 Exit status: 0 done; 1 refused (no line at the index, input too large, an entry too long, out of memory); 2 wrong
 arguments or a call for help; 3 a read or a write failed. A refusal is one line 'tlog: ..' on standard error.";
 
 pub(super) const CONSISTENCY: &str = "Input: the entries of the log, one a line, as for 'tlog head'.
 Output: lines 'consistency', 'old M', 'oldroot HASH', 'size N', 'root HASH', and the hashes of the proof (RFC 6962,
 section 2.1.2), one a line. Hashes are in base64. From 0 lines the proof is empty. 'tlog check' reads it.
+--threads: how many threads hash at once; without it, as many as the machine has. The output is the same.
 Exit status: 0 done; 1 refused (fewer lines than N, input too large, an entry too long, out of memory); 2 wrong
 arguments or a call for help; 3 a read or a write failed. A refusal is one line 'tlog: ..' on standard error.";
 
@@ -91,12 +93,15 @@ in the log, 'lines not published: N'. Checkpoints are signed as those of 'tlog b
 the entries of that signed checkpoint, and the log goes on from it. With --dir the log is in that folder, as that of
 'tlog append', and goes on from what is there (with --older and --keep-partials as there): requests are answered with
 the folder's files, and a publication is shown once it outlasts a crash.
-Defaults: --lanes 1, --capacity 256, --batch 256, --timeout 10, --clients 1024, as many threads as the machine has
-processors, and any number of connections.
+With --add an entry, of at most 65,535 bytes, is posted to /add, and answered with its index in decimal, once it is
+published and was seen to stand there. One of the last N of --remember that is posted again has its first index. What
+comes waits for more until it has waited --interval milliseconds, or a batch is there.
+Defaults: --lanes 1, --capacity 256, --batch 256, --timeout 10, --clients 1024, --interval 1000 with --add and else 0,
+--remember 65536, as many threads as the machine has processors, and any number of connections.
 Exit status: 0 done; 1 refused (a bad key, a bad origin, input too large, an entry too long, fewer lines than the note's
-size, a bad checkpoint, an older one, a bundle not there, in use, the operator refused, signing failed, out of memory);
-2 wrong arguments or a call for help; 3 a read, a write, the address or an accept failed. A refusal is one line
-'tlog: ..' on standard error.";
+size, a bad checkpoint, an older one, a bundle not there, in use, a bundle damaged, the operator refused,
+signing failed, out of memory); 2 wrong arguments or a call for help; 3 a read, a write, the address or an accept failed. A
+refusal is one line 'tlog: ..' on standard error.";
 
 pub(super) const WITNESS: &str =
     "Input: what an earlier run printed, a line for each checkpoint that it cosigned.

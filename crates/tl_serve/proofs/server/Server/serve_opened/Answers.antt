@@ -1,9 +1,9 @@
 use Rattle.std.proofs.Common.{ap}
 use Rattle.tl_sequencer.specs.Log.{rings_of}
 use Rattle.tl_serve.proofs.Ends.{senders_of}
-use Rattle.tl_serve.proofs.serve.Server.serve_opened.Goals as goal
+use Rattle.tl_serve.proofs.server.Server.serve_opened.Goals as goal
 
 pub serve_published-running-requires-clause-senders : goal.serve_published-running-requires-clause-senders
 serve_published-running-requires-clause-senders g c κs within =
     senders_of (λ l. l.submitter) c.in_ok-lanes.lanes.items c.args.submitters.items (g.O.RunningLog.state c.args.opened).log (g.O.RunningLog.state c.publish_first.new.log).log
-    c.in_ok-lanes.ensures.submitters c.requires.senders (ap rings_of c.publish_first.ensures.same)
+    c.in_ok-lanes.ensures c.requires.senders (ap rings_of c.publish_first.ensures.same)

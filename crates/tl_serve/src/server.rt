@@ -1,0 +1,210 @@
+//! What a log is served with, in memory or on a shelf.
+
+ghost use Rattle.std.specs.Prelude.{All};
+ghost use Rattle.tl_sequencer.specs.Log.{IsSenderOf};
+ghost use Rattle.tl_serve.specs.Inner.Running.{StaysRunning};
+
+use crate::awaited::Awaited;
+use crate::desk::Desk;
+use crate::door::Door;
+use crate::following::Followed;
+use crate::gate::Gate;
+use crate::host::Host;
+use crate::lanes::Sending;
+use crate::live_log::LiveLog;
+use crate::news::News;
+use crate::options::ServeOptions;
+use crate::pages::Pages;
+use crate::remembered::Remembered;
+use crate::running::{Rounds, Running};
+use crate::serve::threads_of;
+use crate::serving::{Common, Ran, run_log};
+use crate::telling::tell_in_memory;
+use mio::Waker;
+use std::alloc::Global;
+use std::io::{Read, Write};
+use std::net::{Net, TcpListener, TcpStream};
+use std::os::fd::RawFd;
+use tl_command::RunFault;
+use tl_device::Counted;
+use tl_lines::Lines;
+
+// What is told before size and root.
+const PUBLISHED: &str = "published ";
+
+/// What a log is served with.
+#[derive(Drop)]
+pub(crate) struct Server<'s, H, G> {
+    pub(crate) rt: &'s H,
+    pub(crate) alloc: Global,
+    pub(crate) options: &'s ServeOptions,
+    // The descriptor of the input, if there is one to wait for.
+    pub(crate) input: Option<RawFd>,
+    pub(crate) gate: &'s G,
+}
+
+/// What a log has that is to be served: so many entries, of which some are remembered.
+#[derive(Drop)]
+pub(crate) struct Base {
+    pub(crate) size: u64,
+    pub(crate) remembered: Remembered,
+}
+
+// What a log is served with beside its pages.
+#[derive(Drop)]
+struct Prepared<'r, R> {
+    followed: Option<Followed<'r, R>>,
+    news: News,
+    door: Door,
+}
+
+impl<H: Host + Net<Listener = TcpListener, Stream = TcpStream>, G: Gate> Server<'_, H, G> {
+    /// How many readers the board has: one for each thread that answers, and one for that which tells.
+    pub(crate) fn readers(&self) -> u32 {
+        threads_of(self.rt, self.options.server.threads) + 1
+    }
+
+    // Whether entries come while the log is served: they are gathered to a batch while more wait.
+    fn goes_on(&self) -> bool {
+        self.options.follow || self.options.takes_posts
+    }
+
+    // How much is taken at a time from so many lanes, behind so many entries, and what is told.
+    fn rounds(&self, before: u64, lanes: usize) -> Rounds {
+        Rounds {
+            before,
+            batch: if self.goes_on() {
+                self.options.batch
+            } else {
+                1
+            },
+            gathers: self.options.interval > 0,
+            lanes: u32::try_from(lanes).unwrap_or(u32::MAX),
+            most: if self.goes_on() {
+                None
+            } else {
+                Some(self.options.batch)
+            },
+            word: if self.options.server.quiet {
+                None
+            } else {
+                Some(PUBLISHED)
+            },
+        }
+    }
+
+    // Opens the door, and tells where it is, and whether the log is in memory alone.
+    fn open_door<L: Write>(&self, threads: usize, log: &mut Counted<L>) -> Result<Door, RunFault> {
+        let threads = u32::try_from(threads).unwrap_or(u32::MAX);
+        let server = &self.options.server;
+        let door = Door::open(self.rt, self.alloc, server, threads, log)?;
+        if self.options.dir.is_none() && !server.quiet {
+            tell_in_memory(log)?;
+        }
+        Ok(door)
+    }
+
+    // The lines that are followed, if any are, and what wakes the thread that waits for them.
+    fn follow<'r, R: Read + Send>(
+        &self,
+        lines: Lines<Global>,
+        reader: &'r mut Counted<R>,
+    ) -> Result<(Option<Followed<'r, R>>, Option<Waker>), RunFault> {
+        if !self.options.follow {
+            return Ok((None, None));
+        }
+        let (input, waker) = Awaited::new(self.rt, self.alloc, self.input)?;
+        let before = lines.entries();
+        let followed = Followed {
+            lines,
+            reader,
+            input,
+            before,
+        };
+        Ok((Some(followed), Some(waker)))
+    }
+
+    // The desk, if entries are taken that are posted, whose lane is the last of so many.
+    fn open_desk(&self, base: Base, lanes: usize) -> Result<Option<Desk>, RunFault> {
+        if !self.options.takes_posts {
+            return Ok(None);
+        }
+        let lane = u32::try_from(lanes).unwrap_or(u32::MAX).saturating_sub(1);
+        let room = usize::try_from(self.options.capacity).unwrap_or(usize::MAX);
+        let Base { size, remembered } = base;
+        let desk = Desk::new(self.rt, self.alloc, lane, room, size, remembered)?;
+        Ok(Some(desk))
+    }
+
+    // What a log is served with beside its pages: what is followed, what the threads tell, and the door.
+    fn prepare<'r, R: Read + Send, L: Write>(
+        &self,
+        base: Base,
+        lanes: usize,
+        lines: Lines<Global>,
+        reader: &'r mut Counted<R>,
+        threads: usize,
+        out: &mut Counted<L>,
+    ) -> Result<Prepared<'r, R>, RunFault> {
+        let (followed, following) = self.follow(lines, reader)?;
+        let desk = self.open_desk(base, lanes)?;
+        let news = News::new(self.rt, self.alloc, following, desk)?;
+        let door = self.open_door(threads, out)?;
+        Ok(Prepared {
+            followed,
+            news,
+            door,
+        })
+    }
+
+    /// What is remembered of posted entries: none yet.
+    pub(crate) fn remembered(&self) -> Remembered {
+        let most = if self.options.takes_posts {
+            self.options.remember
+        } else {
+            0
+        };
+        Remembered::new(self.rt, self.alloc, most)
+    }
+
+    /// Serves a log that was published once, and hands it back.
+    pub(crate) fn serve_published<O: LiveLog, P: Pages + Send, R: Read + Send, L: Write>(
+        &self,
+        log: O,
+        base: Base,
+        lanes: Vec<Sending>,
+        pages: Vec<P>,
+        lines: Lines<Global>,
+        reader: &mut Counted<R>,
+        out: &mut Counted<L>,
+    ) -> Ran<O>
+        requires holds { O.holds log }
+        requires senders { All (λ l. IsSenderOf l.submitter (O.log log)) lanes.items }
+        ensures { StaysRunning O.holds O.log O.begun log result.running.log }
+    {
+        let count = lanes.len();
+        let running = Running::new(log, self.rounds(base.size, count));
+        let Prepared {
+            followed,
+            news,
+            door,
+        } = match self.prepare(base, count, lines, reader, pages.len(), out) {
+            Ok(prepared) => prepared,
+            Err(fault) => {
+                return Ran {
+                    running,
+                    heart: Err(fault),
+                };
+            }
+        };
+        let common = Common {
+            rt: self.rt,
+            alloc: self.alloc,
+            door: &door,
+            gate: self.gate,
+            news: &news,
+            interval: self.options.interval,
+        };
+        run_log(common, running, pages, lanes, followed, out)
+    }
+}
