@@ -131,15 +131,11 @@ const EACH_CALL: [Cut; 6] = [
 
 const PAST_A_BUNDLE: [Cut; 2] = [(257, 100, 1), (600, 100, 1)];
 
-const LARGE_BATCHES: [Cut; 5] = [
-    (255, 256, 1),
-    (256, 256, 1),
-    (257, 256, 1),
-    (600, 256, 1),
-    (255, 1, 500),
-];
+const LARGE_BATCHES: [Cut; 4] = [(255, 256, 1), (256, 256, 1), (257, 256, 1), (600, 256, 1)];
 
-const LONG: [Cut; 2] = [(5_000, 4_096, 459), (70_000, 256, 1_500)];
+const ONE_BY_ONE: [Cut; 1] = [(130, 1, 500)];
+
+const LONG: [Cut; 2] = [(5_000, 4_096, 459), (70_000, 256, 2_001)];
 
 #[test]
 fn logs_at_each_call(rt: HostRuntime) {
@@ -164,6 +160,16 @@ fn logs_past_a_bundle_at_each_call(rt: HostRuntime) {
 #[test]
 fn logs_in_large_batches_at_each_call(rt: HostRuntime) {
     for (size, batch, stride) in LARGE_BATCHES {
+        assert!(rt;
+            lost_of(&rt, rt.alloc(), size, batch, stride) == Some(0),
+            "{size} by {batch}"
+        );
+    }
+}
+
+#[test]
+fn logs_one_by_one_at_some_calls(rt: HostRuntime) {
+    for (size, batch, stride) in ONE_BY_ONE {
         assert!(rt;
             lost_of(&rt, rt.alloc(), size, batch, stride) == Some(0),
             "{size} by {batch}"

@@ -16,14 +16,16 @@ use tl_folder::{AnyOutcome, FolderShelf};
 use tl_ledger::Found;
 use tl_serve::{Host, run_serve_shelf};
 
-/// A new folder.
+/// A new folder, in memory where the system has room for files there: the disk is not what is tried.
 pub fn room<H: Files>(rt: &H, alloc: Global) -> Option<String> {
     for number in 0..100_000u32 {
-        let Ok(path) = format!(in alloc; "/tmp/tlog-cut-{number}") else {
-            return None;
-        };
-        if create_dir(rt, path.as_str()).is_ok() {
-            return Some(path);
+        for base in ["/dev/shm", "/tmp"] {
+            let Ok(path) = format!(in alloc; "{base}/tlog-cut-{number}") else {
+                return None;
+            };
+            if create_dir(rt, path.as_str()).is_ok() {
+                return Some(path);
+            }
         }
     }
     None

@@ -80,9 +80,10 @@ impl Guest {
         }
     }
 
-    /// When its time is over: the head of a request may take half of the time alone.
+    /// When its time is over: the head of a request may take half of the time alone, and what waits for a place was read.
     pub(crate) fn deadline(&self, limit: u64) -> u64 {
-        let time = if self.answer.is_none() && self.request.is_begun() {
+        let is_reading = self.answer.is_none() && self.receipt.is_none();
+        let time = if is_reading && self.request.is_begun() {
             limit - limit / 2
         } else {
             limit
