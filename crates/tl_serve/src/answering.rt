@@ -1,6 +1,7 @@
 //! The threads that answer connections.
 
 use crate::door::Door;
+use crate::guest::House;
 use crate::guests::Guests;
 use crate::host::Host;
 use crate::news::News;
@@ -25,8 +26,8 @@ fn answer_from<H: Clock + Net + Wait, P: Pages>(
     pages: P,
     news: &News,
 ) -> Result<(), RunFault> {
-    let mut guests = Guests::new(rt, alloc, door, news, poll)?;
-    guests.answer_all(rt, pages)
+    let mut guests = Guests::new(House { rt, alloc, news }, door, poll)?;
+    guests.answer_all(pages)
 }
 
 /// Answers connections from these pages, until no more are to be taken. Tells a fault, and when it ends.

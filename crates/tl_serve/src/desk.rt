@@ -25,7 +25,7 @@ struct HandedIn {
 /// Why an entry wasn't taken.
 #[derive(Clone, Copy, PartialEq, Eq)]
 pub(crate) enum Untaken {
-    /// There is no room for it now, or nothing is taken any more.
+    /// There is no room for it now.
     Refused,
     /// Memory was refused.
     NoMemory,
@@ -117,7 +117,9 @@ impl Desk {
         handed_in.entries.reserve(1)?;
         handed_in.receipts.push_back(own)?;
         handed_in.entries.push(entry)?;
-        self.wake();
+        if handed_in.entries.len() == 1 {
+            self.wake();
+        }
         Ok(receipt)
     }
 

@@ -41,6 +41,14 @@ pub(crate) struct Guest {
     is_leaving: bool,
 }
 
+/// What connections are answered with: the system, memory, and what the threads tell each other.
+#[derive(Drop)]
+pub(crate) struct House<'h, H> {
+    pub(crate) rt: &'h H,
+    pub(crate) alloc: Global,
+    pub(crate) news: &'h News,
+}
+
 /// What is to be done with a connection.
 #[derive(Clone, Copy, PartialEq, Eq)]
 pub(crate) enum Next {
@@ -117,49 +125,43 @@ impl Guest {
     }
 
     // Has the entry remembered whose place was told.
-    fn remember<H: Wait>(&self, rt: &H, news: &News, status: u16) {
-        let (Some(receipt), Some(desk), 200) = (&self.receipt, news.desk(), status) else {
+    fn remember<H: Wait>(&self, house: &House<'_, H>, status: u16) {
+        let (Some(receipt), Some(desk), 200) = (&self.receipt, house.news.desk(), status) else {
             return;
         };
         if let Some(index) = receipt.index_below(u64::MAX) {
-            desk.remember(rt, &receipt.leaf, index);
+            desk.remember(house.rt, &receipt.leaf, index);
         }
     }
 
     // Tells that the log hasn't got the entry where it was told to be.
-    fn tell_damage<H: Wait>(&self, rt: &H, news: &News) {
-        if let (Some(receipt), Some(desk)) = (&self.receipt, news.desk()) {
-            news.tell_fault(rt, desk.damage(receipt));
+    fn tell_damage<H: Wait>(&self, house: &House<'_, H>) {
+        if let (Some(receipt), Some(desk)) = (&self.receipt, house.news.desk()) {
+            house.news.tell_fault(house.rt, desk.damage(receipt));
         }
     }
 
     // Tries an answer to what came. Where it depends on what follows, or on a place that isn't known yet, that is
     // waited for. An entry that isn't where it was told to be is a fault of the log's.
-    fn try_answer<H: Wait, P: Pages>(
-        &mut self,
-        rt: &H,
-        alloc: Global,
-        news: &News,
-        pages: &mut P,
-    ) -> Next {
+    fn try_answer<H: Wait, P: Pages>(&mut self, house: &House<'_, H>, pages: &mut P) -> Next {
         let mut reader = Counted::new(self.request.reader());
-        let mut writer = Counted::new(Vec::new(alloc));
+        let mut writer = Counted::new(Vec::new(house.alloc));
         let mut turn = Turn {
-            rt,
-            news,
+            rt: house.rt,
+            news: house.news,
             receipt: self.receipt.take(),
         };
-        let outcome = pages.answer(alloc, &mut reader, &mut writer, &mut turn);
+        let outcome = pages.answer(house.alloc, &mut reader, &mut writer, &mut turn);
         let asked = reader.into_inner().asked();
         self.receipt = turn.receipt;
         match outcome {
             Ok(Outcome::Answered(status)) => {
-                self.remember(rt, news, status);
+                self.remember(house, status);
                 self.answer = Some(writer.into_inner());
                 Next::GoOn
             }
             Ok(Outcome::Misplaced) => {
-                self.tell_damage(rt, news);
+                self.tell_damage(house);
                 self.answer = Some(writer.into_inner());
                 Next::GoOn
             }
@@ -173,38 +175,26 @@ impl Guest {
     }
 
     // Reads, unless an entry's place is waited for, and tries an answer. Whether to go on.
-    fn read_and_try<H: Wait, P: Pages>(
-        &mut self,
-        rt: &H,
-        alloc: Global,
-        news: &News,
-        pages: &mut P,
-    ) -> Next {
+    fn read_and_try<H: Wait, P: Pages>(&mut self, house: &House<'_, H>, pages: &mut P) -> Next {
         if self.receipt.is_none() {
             let next = self.read_more();
             if next != Next::GoOn {
                 return next;
             }
         }
-        match self.try_answer(rt, alloc, news, pages) {
+        match self.try_answer(house, pages) {
             Next::Wait if self.receipt.is_none() => Next::GoOn,
             next => next,
         }
     }
 
     // Reads and tries until there is an answer.
-    fn prepare<H: Wait, P: Pages>(
-        &mut self,
-        rt: &H,
-        alloc: Global,
-        news: &News,
-        pages: &mut P,
-    ) -> Next {
+    fn prepare<H: Wait, P: Pages>(&mut self, house: &House<'_, H>, pages: &mut P) -> Next {
         for _ in 0..u64::MAX {
             if self.answer.is_some() {
                 return Next::GoOn;
             }
-            let next = self.read_and_try(rt, alloc, news, pages);
+            let next = self.read_and_try(house, pages);
             if next != Next::GoOn {
                 return next;
             }
@@ -257,14 +247,8 @@ impl Guest {
     }
 
     /// Does what can be done now.
-    pub(crate) fn go_on<H: Wait, P: Pages>(
-        &mut self,
-        rt: &H,
-        alloc: Global,
-        news: &News,
-        pages: &mut P,
-    ) -> Next {
-        let next = self.prepare(rt, alloc, news, pages);
+    pub(crate) fn go_on<H: Wait, P: Pages>(&mut self, house: &House<'_, H>, pages: &mut P) -> Next {
+        let next = self.prepare(house, pages);
         if next != Next::GoOn {
             return next;
         }

@@ -1,7 +1,7 @@
 //! The connections that a thread holds, each of which waits without a thread of its own.
 
 use crate::door::{Accepted, Door, LISTENER};
-use crate::guest::{Guest, Next};
+use crate::guest::{Guest, House, Next};
 use crate::news::News;
 use crate::pages::Pages;
 use mio::{Events, Poll, Token};
@@ -26,10 +26,9 @@ const PAUSE: u64 = 10;
 
 /// The connections that a thread holds.
 #[derive(Drop)]
-pub(crate) struct Guests<'d> {
+pub(crate) struct Guests<'d, H> {
+    house: House<'d, H>,
     door: &'d Door,
-    news: &'d News,
-    alloc: Global,
     poll: Poll,
     guests: Slab<Guest>,
     start: Instant,
@@ -45,24 +44,21 @@ pub(crate) struct Guests<'d> {
     refusals: u32,
 }
 
-impl<'d> Guests<'d> {
+impl<'d, H: Clock + Net + Wait> Guests<'d, H> {
     /// None yet. `Accept`: the machine's clock can't be read.
-    pub(crate) fn new<H: Clock>(
-        rt: &H,
-        alloc: Global,
+    pub(crate) fn new(
+        house: House<'d, H>,
         door: &'d Door,
-        news: &'d News,
         poll: Poll,
-    ) -> Result<Guests<'d>, RunFault> {
-        let Ok(start) = Instant::now(rt) else {
+    ) -> Result<Guests<'d, H>, RunFault> {
+        let Ok(start) = Instant::now(house.rt) else {
             return Err(RunFault::Accept);
         };
         Ok(Guests {
+            guests: Slab::new(house.alloc),
+            house,
             door,
-            news,
-            alloc,
             poll,
-            guests: Slab::new(alloc),
             start,
             now: 0,
             due: u64::MAX,
@@ -74,8 +70,8 @@ impl<'d> Guests<'d> {
     }
 
     // Takes note of the time. A clock that can't be read stands still.
-    fn look_at_clock<H: Clock>(&mut self, rt: &H) {
-        if let Ok(time) = self.start.elapsed(rt) {
+    fn look_at_clock(&mut self) {
+        if let Ok(time) = self.start.elapsed(self.house.rt) {
             self.now = u64::try_from(time.as_millis()).unwrap_or(u64::MAX);
         }
     }
@@ -109,9 +105,9 @@ impl<'d> Guests<'d> {
     }
 
     // Goes on with a connection of which something was told.
-    fn go_on<H: Wait, P: Pages>(&mut self, rt: &H, key: usize, pages: &mut P) {
+    fn go_on<P: Pages>(&mut self, key: usize, pages: &mut P) {
         let next = match self.guests.get_mut(key) {
-            Some(guest) => guest.go_on(rt, self.alloc, self.news, pages),
+            Some(guest) => guest.go_on(&self.house, pages),
             None => return,
         };
         if next == Next::Leave || !self.watch(key) {
@@ -121,20 +117,20 @@ impl<'d> Guests<'d> {
     }
 
     // Goes on with all connections of which something was told.
-    fn go_on_with<H: Wait, P: Pages>(&mut self, rt: &H, events: &Events, pages: &mut P) {
+    fn go_on_with<P: Pages>(&mut self, events: &Events, pages: &mut P) {
         for event in events.iter() {
             if event.token() == LISTENER {
                 self.has_callers = true;
                 continue;
             }
             let Token(key) = event.token();
-            self.go_on(rt, key, pages);
+            self.go_on(key, pages);
         }
     }
 
     // Those that wait for the place of an entry, where the log has this size.
     fn published_below(&self, size: u64) -> Result<Vec<usize>, AllocError> {
-        let mut keys = Vec::new(self.alloc);
+        let mut keys = Vec::new(self.house.alloc);
         for (key, guest) in self.guests.iter() {
             if guest.is_published(size) {
                 keys.push(key)?;
@@ -144,8 +140,8 @@ impl<'d> Guests<'d> {
     }
 
     // Goes on with all connections whose entries were published since that was last looked for.
-    fn go_on_published<H: Wait, P: Pages>(&mut self, rt: &H, pages: &mut P) {
-        let Some(desk) = self.news.desk() else {
+    fn go_on_published<P: Pages>(&mut self, pages: &mut P) {
+        let Some(desk) = self.house.news.desk() else {
             return;
         };
         let size = desk.published();
@@ -157,7 +153,7 @@ impl<'d> Guests<'d> {
         };
         self.published = size;
         for key in keys {
-            self.go_on(rt, key, pages);
+            self.go_on(key, pages);
         }
     }
 
@@ -179,12 +175,12 @@ impl<'d> Guests<'d> {
     }
 
     // Answers a new connection, or holds it where that has to wait.
-    fn welcome<H: Wait, P: Pages>(&mut self, rt: &H, stream: net::TcpStream, pages: &mut P) {
+    fn welcome<P: Pages>(&mut self, stream: net::TcpStream, pages: &mut P) {
         if !self.door.hold() {
             return;
         }
         let is_kept = match stream.set_nonblocking(true) {
-            Ok(()) => self.begin(rt, stream, pages),
+            Ok(()) => self.begin(stream, pages),
             Err(_) => false,
         };
         if !is_kept {
@@ -193,13 +189,13 @@ impl<'d> Guests<'d> {
     }
 
     // Begins with a connection. Whether it is held.
-    fn begin<H: Wait, P: Pages>(&mut self, rt: &H, stream: net::TcpStream, pages: &mut P) -> bool {
-        let mut guest = Guest::new(self.alloc, stream, self.now);
-        guest.go_on(rt, self.alloc, self.news, pages) == Next::Wait && self.keep(guest)
+    fn begin<P: Pages>(&mut self, stream: net::TcpStream, pages: &mut P) -> bool {
+        let mut guest = Guest::new(self.house.alloc, stream, self.now);
+        guest.go_on(&self.house, pages) == Next::Wait && self.keep(guest)
     }
 
     // Lets in all connections that wait at the door. `Accept`: none can be accepted for good.
-    fn let_in<H: Wait, P: Pages>(&mut self, rt: &H, pages: &mut P) -> Result<(), RunFault> {
+    fn let_in<P: Pages>(&mut self, pages: &mut P) -> Result<(), RunFault> {
         for _ in 0..u64::MAX {
             if !self.has_callers {
                 break;
@@ -207,7 +203,7 @@ impl<'d> Guests<'d> {
             match self.door.accept()? {
                 Accepted::Stream(stream) => {
                     self.refusals = 0;
-                    self.welcome(rt, stream, pages);
+                    self.welcome(stream, pages);
                 }
                 Accepted::Later => {
                     self.refusals = self.refusals.saturating_add(1);
@@ -254,15 +250,11 @@ impl<'d> Guests<'d> {
     }
 
     /// Answers connections, until no more are to be taken and none is held. `Accept`: none can be accepted for good.
-    pub(crate) fn answer_all<H: Clock + Net + Wait, P: Pages>(
-        &mut self,
-        rt: &H,
-        pages: P,
-    ) -> Result<(), RunFault> {
+    pub(crate) fn answer_all<P: Pages>(&mut self, pages: P) -> Result<(), RunFault> {
         let mut pages = pages;
-        let mut events = Events::with_capacity(self.alloc, MOST_EVENTS)?;
+        let mut events = Events::with_capacity(self.house.alloc, MOST_EVENTS)?;
         for _ in 0..u64::MAX {
-            self.let_in(rt, &mut pages)?;
+            self.let_in(&mut pages)?;
             if self.door.is_over() && self.guests.is_empty() {
                 break;
             }
@@ -270,9 +262,9 @@ impl<'d> Guests<'d> {
             if self.poll.poll(&mut events, pause).is_err() {
                 return Err(RunFault::Accept);
             }
-            self.look_at_clock(rt);
-            self.go_on_with(rt, &events, &mut pages);
-            self.go_on_published(rt, &mut pages);
+            self.look_at_clock();
+            self.go_on_with(&events, &mut pages);
+            self.go_on_published(&mut pages);
             self.let_go();
         }
         Ok(())
