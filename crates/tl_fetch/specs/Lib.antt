@@ -7,5 +7,7 @@ pub mod Listed
 pub mod Entries
 pub mod Printed
 pub mod Fetching
+pub mod Feeding
 pub mod Command
+pub mod FeedCommand
 pub mod Inner

@@ -34,8 +34,8 @@ use tl_source::{
     AnySource, CachedSource, FolderSource, FullSource, HttpSource, Lack, NamesLack, Url,
 };
 
-// The source that the options name: what has a scheme is an address, and all else a folder.
-fn source_of<'s, H: Files + Net<Stream = TcpStream> + Clock>(
+/// The source that the options name: what has a scheme is an address, and all else a folder.
+pub(crate) fn source_of<'s, H: Files + Net<Stream = TcpStream> + Clock>(
     rt: &'s H,
     alloc: Global,
     options: &'s FetchOptions,
@@ -102,8 +102,11 @@ fn name_lack(fault: FetchFault, lack: Option<Lack>) -> FetchFault
     }
 }
 
-// How a run ended, whose fault names what the last call of the source lacked where that is why it came.
-fn with_lack(outcome: Result<(), FetchFault>, lack: Option<Lack>) -> Result<(), FetchFault>
+/// How a run ended, whose fault names what the last call of the source lacked where that is why it came.
+pub(crate) fn with_lack(
+    outcome: Result<(), FetchFault>,
+    lack: Option<Lack>,
+) -> Result<(), FetchFault>
     ensures { Renames outcome result }
 {
     match outcome {

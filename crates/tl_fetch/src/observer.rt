@@ -24,3 +24,19 @@ pub trait Observer {
     fn passed<A: Allocator>(&mut self, head: &Head, tiles: &FetchedTiles<A>)
         requires { AreVerified sha256 head.now.size head.now.root tiles.now };
 }
+
+/// Nobody is told.
+#[derive(Clone, Copy, Debug, PartialEq, Eq)]
+pub(crate) struct Nobody;
+
+impl Observer for Nobody {
+    fn checked<A: Allocator>(
+        &mut self,
+        _head: &Head,
+        _tiles: &FetchedTiles<A>,
+        _known: usize,
+        _next: u64,
+    ) {}
+
+    fn passed<A: Allocator>(&mut self, _head: &Head, _tiles: &FetchedTiles<A>) {}
+}

@@ -111,13 +111,13 @@ fn print_asked<S: ResourceSource, O: Observer, W: Write>(
     }
 }
 
-// From what was trusted last to what is trusted now: two notes, and what they say.
+/// From what was trusted last to what is trusted now: two notes, and what they say.
 #[derive(Drop)]
-struct Update<'t> {
-    last: Option<&'t str>,
-    old: &'t Head,
-    note: &'t str,
-    new: &'t Head,
+pub(crate) struct Update<'t> {
+    pub(crate) last: Option<&'t str>,
+    pub(crate) old: &'t Head,
+    pub(crate) note: &'t str,
+    pub(crate) new: &'t Head,
 }
 
 // Whether a growth is refused since the log shrank or forked.
@@ -127,8 +127,8 @@ fn is_accusation(fault: &ClientFault) -> bool
     matches!(fault, ClientFault::Shrunk | ClientFault::Forked)
 }
 
-// Checks that the log goes on from what was known. Where it shrank or forked, both notes are printed.
-fn judge<S: ResourceSource, O: Observer, W: Write>(
+/// Checks that the log goes on from what was known. Where it shrank or forked, both notes are printed.
+pub(crate) fn judge<S: ResourceSource, O: Observer, W: Write>(
     alloc: Global,
     source: &S,
     step: &Update<'_>,

@@ -36,8 +36,9 @@ impl<'s, H: Net<Stream = TcpStream> + Clock> Model for HttpSource<'s, H> {
     ghost view = { λ s. s.url };
 }
 
-// A connection to the first address of the host that takes one, before the time since `start` is over.
-fn connect<H: Net<Stream = TcpStream> + Clock>(
+/// A connection to the first address of the host that takes one, before the time since `start` is over. `NoHost`: it has
+/// no address; else why the last one took none.
+pub fn connect<H: Net<Stream = TcpStream> + Clock>(
     rt: &H,
     url: &Url<'_>,
     start: &Instant,

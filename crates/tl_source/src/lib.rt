@@ -26,7 +26,7 @@ pub use any::AnySource;
 pub use cached::CachedSource;
 pub use folder::FolderSource;
 pub use full::FullSource;
-pub use http::HttpSource;
+pub use http::{HttpSource, connect};
 pub use lack::{Lack, NamesLack};
 pub use place::place_of;
 pub use url::Url;

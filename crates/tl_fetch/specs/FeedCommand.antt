@@ -1,0 +1,46 @@
+-- The command `feed` (C2SP signed-note, "Verifier keys"; tlog-witness).
+use Rattle.std.specs.Prelude.{◌≡◌, ◌⊎◌, Result, Ok, Err, map, string_bytes, vec_items}
+use Rattle.std.specs.List.{Any}
+use Rattle.tl_device.specs.Device.{Passage, IsUnwritten}
+use Rattle.tl_source.specs.Fulls.{may_answer_front}
+use Rattle.tl_source.specs.Sources.{Origin, any_answers}
+use Rattle.tl_source.specs.Url.{IsNoUrl}
+use Rattle.tl_command.specs.declared.fault.RunFault.TheVariants.{OutOfMemory}
+use Rattle.tl_fetch.specs.declared.fault.FetchFault.{FetchFault}
+use Rattle.tl_fetch.specs.declared.fault.FetchFault.TheVariants.{BadAddress, Run}
+use Rattle.tl_fetch.specs.declared.options.FetchOptions.{FetchOptions}
+use Rattle.tl_fetch.specs.declared.feed.command.FeedOptions.{FeedOptions}
+use Rattle.tl_fetch.specs.Command.{HasScheme, IsKeyFault, IsOriginOf, IsPolicyOf, IsToldAs, grounds_over, may_have}
+use Rattle.tl_fetch.specs.Feeding.{HasFed, RefusesFeed}
+use Rattle.tl_fetch.specs.Fetching.{AreTwo, Grounds, Two}
+use Rattle.tl_fetch.specs.Trusting.{Policy, alone}
+
+-- the text that the log is read from has a scheme and is no address, or that of a witness is none; or memory ran out
+abbrev pub IsAddressFault : FeedOptions → FetchFault → Type 0
+IsAddressFault options fault =
+    ((fault ≡ BadAddress) × HasScheme (string_bytes options.log.from) × IsNoUrl (string_bytes options.log.from))
+    ⊎ (((fault ≡ BadAddress) × Any IsNoUrl (map string_bytes (vec_items options.to)))
+    ⊎ (fault ≡ Run OutOfMemory))
+
+-- over the folder or the host, whose full tiles and bundles stand for partial ones that are gone
+abbrev pub feed_grounds : Origin → FetchOptions → Grounds
+feed_grounds origin options = grounds_over (may_answer_front (any_answers origin) (λ r. Unit {0})) (λ r. Unit {0}) options
+
+-- a run under a policy: two checkpoints are trusted, the state's and the source's, and the source's was fed; or an
+-- address is none, and nothing is printed; or as `RefusesFeed` has it
+abbrev pub RunsFeedUnder : Policy → FeedOptions → Passage → Result (Unit {0}) FetchFault → Type 0
+RunsFeedUnder policy options o (Ok done) =
+    (two : Two) × AreTwo (may_have options.log.state) (alone policy) two × HasFed (λ note. Unit {0}) policy two o
+RunsFeedUnder policy options o (Err told) =
+    (IsAddressFault options told × IsUnwritten o)
+    ⊎ ((origin : Origin) × IsOriginOf (string_bytes options.log.from) origin
+    × ((fault : FetchFault) × IsToldAs fault told × RefusesFeed (feed_grounds origin options.log) policy fault o))
+
+-- a run under the policy that the options tell
+abbrev pub FeedsAsTold : FeedOptions → Passage → Result (Unit {0}) FetchFault → Type 0
+FeedsAsTold options o result = (policy : Policy) × IsPolicyOf options.log policy × RunsFeedUnder policy options o result
+
+-- a run: where a text is of no key, or of one that was told before, nothing is printed
+abbrev pub RunsFeed : FeedOptions → Passage → Result (Unit {0}) FetchFault → Type 0
+RunsFeed options o (Ok done) = FeedsAsTold options o (Ok done)
+RunsFeed options o (Err fault) = FeedsAsTold options o (Err fault) ⊎ (IsKeyFault options.log fault × IsUnwritten o)

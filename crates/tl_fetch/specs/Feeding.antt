@@ -1,0 +1,70 @@
+-- What comes of bringing a log's checkpoint before witnesses (C2SP tlog-witness, tlog-cosignature).
+use Rattle.std.specs.Prelude.{◌≡◌, ◌⊎◌, ◌++◌, ◌≤◌, ℕ, List, take}
+use Rattle.sha2.specs.Sha256.{sha256}
+use Rattle.tl_hash.specs.Bytes.{Bytes}
+use Rattle.tl_hash.specs.Tree.{tree_hash}
+use Rattle.tl_hash.specs.declared.head.Head.{Head}
+use Rattle.tl_device.specs.Device.{Passage, IsUnwritten}
+use Rattle.tl_proof.specs.Proofs.{consistency_proof}
+use Rattle.tl_tile.specs.declared.resource.Resource.{Resource}
+use Rattle.tl_tile.specs.declared.resource.Resource.TheVariants as resource
+use Rattle.tl_tile.specs.TileReader.{StandsAgainst}
+use Rattle.tl_command.specs.declared.fault.RunFault.TheVariants.{OutOfMemory, Write}
+use Rattle.tl_fetch.specs.declared.fault.FetchFault.{FetchFault}
+use Rattle.tl_fetch.specs.declared.fault.FetchFault.TheVariants.{Run}
+use Rattle.tl_fetch.specs.Faults.{IsNoAccusation, bad_checkpoint}
+use Rattle.tl_fetch.specs.Fetching.{AreTwo, Grounds, LacksTrust, RefusesTwo, Two}
+use Rattle.tl_fetch.specs.Opening.{RefusesNote}
+use Rattle.tl_fetch.specs.Printed.{PrintedSome, PrintedWhole}
+use Rattle.tl_fetch.specs.Trusting.{Policy, IsGrown, IsNoteOf, alone}
+
+-- ---- what a witness is asked
+
+-- the log of this head, over tiles that the source may answer: each list of its size and root, no input of which
+-- collides with a string that is hashed for such tiles
+abbrev pub IsLogOf : (Resource → Bytes → Type 0) → Head → List Bytes → Type 0
+IsLogOf answers head entries = StandsAgainst sha256 (λ t. answers (resource.Tile t)) head.size head.root sha256 entries
+
+-- the proof is the one from so many of the log's first entries to all of them (RFC 6962, section 2.1.2)
+pub record IsGrowthFrom (answers : Resource → Bytes → Type 0) (head : Head) (old : ℕ) (proof : List Bytes) : Type 0 where
+  pub within : old ≤ head.size
+  pub made : (entries : List Bytes) → IsLogOf answers head entries → proof ≡ consistency_proof sha256 old entries
+
+-- ---- what is printed
+
+-- the text is this note and more lines behind it; it is trusted, of the same log, size and root: so many of the
+-- witnesses cosigned this very checkpoint
+pub record IsFedNote (policy : Policy) (note : Bytes) (head : Head) (text : Bytes) : Type 0 where
+  pub lines : Bytes
+  pub joined : text ≡ note ++ lines
+  pub trusted : IsNoteOf policy text head
+
+-- the source's note, which the log's key signed, goes on from the state's and is kept there, and was printed as enough
+-- witnesses cosigned it
+pub record HasFed (has_kept : Bytes → Type 0) (policy : Policy) (two : Two) (o : Passage) : Type 0 where
+  pub grown : IsGrown two.old two.new
+  pub kept : has_kept two.note
+  pub printed : PrintedWhole (IsFedNote policy two.note two.new) o
+
+-- ---- why nothing is printed, or not all
+
+-- the note with what the witnesses answered isn't trusted, for a reason that is told as this; or memory ran out
+abbrev pub IsUnfed : Policy → Bytes → FetchFault → Type 0
+IsUnfed policy note fault =
+    ((lines : Bytes) × RefusesNote policy (note ++ lines) fault)
+    ⊎ ((fault ≡ Run OutOfMemory) ⊎ (fault ≡ Run bad_checkpoint))
+
+-- the log goes on from what was known, and the state fails, it isn't cosigned by enough, or the writer fails
+pub record RefusesFed (grounds : Grounds) (policy : Policy) (two : Two) (fault : FetchFault) (o : Passage) : Type 0 where
+  pub grown : IsGrown two.old two.new
+  pub why : grounds.fails fault ⊎ (IsUnfed policy two.note fault ⊎ (fault ≡ Run Write))
+  pub fair : IsNoAccusation fault
+  pub printed : PrintedSome (IsFedNote policy two.note two.new) o
+
+-- as `RefusesFetch` has it: before there is trust, over two checkpoints of which one doesn't go on from the other, or
+-- after that
+abbrev pub RefusesFeed : Grounds → Policy → FetchFault → Passage → Type 0
+RefusesFeed grounds policy fault o =
+    (LacksTrust grounds (alone policy) fault × IsNoAccusation fault × IsUnwritten o)
+    ⊎ ((two : Two) × AreTwo grounds.has (alone policy) two
+    × (RefusesTwo grounds two fault o ⊎ RefusesFed grounds policy two fault o))

@@ -1,0 +1,7 @@
+//! Bringing a log's checkpoint before witnesses.
+
+pub(crate) mod asking;
+pub(crate) mod command;
+pub(crate) mod feeding;
+pub(crate) mod growing;
+pub(crate) mod witnesses;

@@ -1,0 +1,177 @@
+//! The command `feed`.
+
+ghost use Rattle.std.specs.Prelude.{◌≡◌, ◌∷◌, [], map, string_bytes};
+ghost use Rattle.tl_device.specs.Device.{passage};
+ghost use Rattle.tl_fetch.specs.Command.{HaveOwnKeys, witness_texts};
+ghost use Rattle.tl_fetch.specs.FeedCommand.{RunsFeed, RunsFeedUnder};
+ghost use Rattle.tl_fetch.specs.Inner.FeedRuns.{FeedsOver};
+ghost use Rattle.tl_fetch.specs.Trusting.{policy_of};
+ghost use Rattle.tl_key.specs.KeyText.{IsVerifierText};
+ghost use Rattle.tl_key.specs.NoteKey.{PublicKey, note_kind, verifier_key};
+
+use crate::command::{source_of, with_lack};
+use crate::fault::FetchFault;
+use crate::feed::asking::AsksWitnesses;
+use crate::feed::feeding::feed_under;
+use crate::feed::witnesses::{HttpWitnesses, addresses};
+use crate::observer::Nobody;
+use crate::options::FetchOptions;
+use crate::policy::Policy;
+use crate::state::NoState;
+use crate::state_file::{FileState, file_refusal};
+use crate::witnesses::{check_keys, witness_key};
+use std::alloc::Global;
+use std::fs::{File, Files};
+use std::io::Write;
+use std::net::{Net, TcpStream};
+use std::time::{Clock, Duration};
+use tl_client::ResourceSource;
+use tl_command::read_log_key;
+use tl_device::Counted;
+use tl_folder::AtomicFile;
+use tl_note::Verifier;
+use tl_source::{FullSource, NamesLack};
+
+/// The options of `feed`.
+#[derive(Drop)]
+pub struct FeedOptions {
+    /// Where the log is, its key, the witnesses' keys, how many of them must cosign, the file of the state, and how many
+    /// seconds one answer may take, as `fetch` has them. No cache is used, and nothing else is wanted.
+    pub log: FetchOptions,
+    /// The addresses of the witnesses, in the order of their keys.
+    pub to: Vec<String>,
+}
+
+// Brings the log's checkpoint before the witnesses, with the state in a file, if one is named.
+fn feed_with_state<H: Files<File = File>, S: ResourceSource, Q: AsksWitnesses, W: Write>(
+    rt: &H,
+    alloc: Global,
+    source: &S,
+    policy: &Policy<'_>,
+    options: &FetchOptions,
+    asker: &mut Q,
+    writer: &mut Counted<W>,
+) -> Result<(), FetchFault>
+    ensures { FeedsOver (S.may_answer source.now) (S.may_lack source.now)
+        (policy_of policy.now.origin.now (map (λ v. key v) policy.now.log.now)
+        (map (λ w. key w) policy.now.witnesses.now) policy.now.need) options.now
+        (passage W.contents writer.old writer.new) result }
+{
+    let mut nobody = Nobody;
+    let Some(path) = &options.state else {
+        let mut state = NoState;
+        return match feed_under(
+            alloc,
+            source,
+            policy,
+            &mut state,
+            asker,
+            &mut nobody,
+            writer,
+        ) {
+            Ok(()) => Ok(()),
+            Err(fault) => Err(fault),
+        };
+    };
+    let file = match AtomicFile::open(rt, alloc, path.as_str()) {
+        Ok(file) => file,
+        Err(fault) => return Err(file_refusal(fault)),
+    };
+    let mut state = FileState(file);
+    match feed_under(
+        alloc,
+        source,
+        policy,
+        &mut state,
+        asker,
+        &mut nobody,
+        writer,
+    ) {
+        Ok(()) => Ok(()),
+        Err(fault) => Err(fault),
+    }
+}
+
+// Brings the checkpoint of the log that is named before the witnesses.
+fn feed_as_asked<'s, H: Files<File = File> + Net<Stream = TcpStream> + Clock, W: Write, E: Write>(
+    rt: &'s H,
+    alloc: Global,
+    policy: &Policy<'_>,
+    options: &'s FeedOptions,
+    writer: &mut Counted<W>,
+    errors: &'s mut Counted<E>,
+) -> Result<(), FetchFault>
+    ensures { RunsFeedUnder (policy_of policy.now.origin.now (map (λ v. key v) policy.now.log.now)
+        (map (λ w. key w) policy.now.witnesses.now) policy.now.need) options.now
+        (passage W.contents writer.old writer.new) result }
+{
+    let urls = match addresses(alloc, options.to.as_slice()) {
+        Ok(urls) => urls,
+        Err(fault) => return Err(fault),
+    };
+    let source = match source_of(rt, alloc, &options.log) {
+        Ok(source) => source,
+        Err(fault) => return Err(fault),
+    };
+    let source = FullSource::new(alloc, &source);
+    let mut asker = HttpWitnesses {
+        rt,
+        alloc,
+        urls,
+        limit: Duration::from_secs(options.log.timeout),
+        errors,
+    };
+    let outcome = feed_with_state(rt, alloc, &source, policy, &options.log, &mut asker, writer);
+    with_lack(outcome, source.lack())
+}
+
+// The same, where the policy is the one that the options tell.
+fn feed_as_told<'s, H: Files<File = File> + Net<Stream = TcpStream> + Clock, W: Write, E: Write>(
+    rt: &'s H,
+    alloc: Global,
+    policy: &Policy<'_>,
+    options: &'s FeedOptions,
+    writer: &mut Counted<W>,
+    errors: &'s mut Counted<E>,
+) -> Result<(), FetchFault>
+    requires { (k : PublicKey) × IsVerifierText note_kind (string_bytes options.now.log.key) k
+        × (policy.now.origin.now ≡ k.name) × (map (λ v. key v) policy.now.log.now
+        ≡ verifier_key k ∷ []) × (policy.now.need ≡ options.now.log.need)
+        × HaveOwnKeys (k.key ∷ []) (witness_texts options.now.log) }
+    ensures { RunsFeed options.now (passage W.contents writer.old writer.new) result }
+{
+    match feed_as_asked(rt, alloc, policy, options, writer, errors) {
+        Ok(()) => Ok(()),
+        Err(fault) => Err(fault),
+    }
+}
+
+/// `feed`: reads the keys of the log and of the witnesses (C2SP signed-note, "Verifier keys"), and brings the checkpoint
+/// of the log, which is read from a folder or over HTTP, before each witness, as `feed_under` does. Why a witness gave
+/// no cosignature is told on `errors`, a line each.
+pub fn run_feed<'s, H: Files<File = File> + Net<Stream = TcpStream> + Clock, W: Write, E: Write>(
+    rt: &'s H,
+    alloc: Global,
+    options: &'s FeedOptions,
+    writer: &mut Counted<W>,
+    errors: &'s mut Counted<E>,
+) -> Result<(), FetchFault>
+    ensures { RunsFeed options.now (passage W.contents writer.old writer.new) result }
+{
+    let key = read_log_key(alloc, options.log.key.as_str())?;
+    check_keys(alloc, &options.log, key.public_key())?;
+    let origin = String::from_str(alloc, key.name())?;
+    let log: Box<dyn Verifier> = Box::new(alloc, key)?;
+    let mut witnesses: Vec<Box<dyn Verifier>> = Vec::new(alloc);
+    for place in 0..options.log.witnesses.len() {
+        let key = witness_key(alloc, &options.log, place)?;
+        witnesses.push(Box::new(alloc, key)?)?;
+    }
+    let policy = Policy {
+        origin: origin.as_str(),
+        log: &[log],
+        witnesses: witnesses.as_slice(),
+        need: options.log.need,
+    };
+    feed_as_told(rt, alloc, &policy, options, writer, errors)
+}

@@ -1,0 +1,185 @@
+//! Bringing a log's checkpoint before witnesses, from any source, whoever asks and whoever keeps the state.
+
+ghost use Rattle.std.specs.Prelude.{◌++◌, ◌≡◌, ◌⊎◌, ◌↔◌, IfErr, IfOk, IsTrue, OnErr, OnOk, map, option_map, string_bytes};
+ghost use Rattle.tl_hash.specs.Bytes.{Bytes};
+ghost use Rattle.tl_device.specs.Device.{passage};
+ghost use Rattle.tl_fetch.specs.Faults.{IsNoAccusation};
+ghost use Rattle.tl_fetch.specs.Feeding.{HasFed, IsFedNote, IsUnfed, RefusesFeed};
+ghost use Rattle.tl_fetch.specs.Fetching.{AreTwo, Two, grounds_of};
+ghost use Rattle.tl_fetch.specs.Printed.{PrintedSome, PrintedWhole};
+ghost use Rattle.tl_fetch.specs.Trusting.{IsGrown, IsKnown, IsNoteOf, alone, policy_of};
+
+use crate::fault::FetchFault;
+use crate::faults::BAD_CHECKPOINT;
+use crate::feed::asking::{AsksWitnesses, line_by};
+use crate::observer::Observer;
+use crate::opening::{open_trusted, trusted_two};
+use crate::policy::Policy;
+use crate::run::{Update, judge};
+use crate::state::TrustStore;
+use std::alloc::{AllocError, Global};
+use std::io::Write;
+use tl_client::{Head, ResourceSource};
+use tl_command::{RunFault, print_text};
+use tl_device::Counted;
+
+// The note, and behind it the lines of all witnesses that cosign it.
+fn with_lines<S: ResourceSource, Q: AsksWitnesses>(
+    alloc: Global,
+    source: &S,
+    policy: &Policy<'_>,
+    note: &str,
+    head: &Head,
+    known: u64,
+    asker: &mut Q,
+) -> Result<String, AllocError>
+    requires { IsNoteOf (alone
+        (policy_of policy.now.origin.now (map (λ v. key v) policy.now.log.now)
+        (map (λ w. key w) policy.now.witnesses.now) policy.now.need)) note.now head.now }
+    ensures { IfOk result (λ text. (lines : Bytes) × (string_bytes text ≡ note.now ++ lines)) }
+{
+    let mut lines = String::new(alloc);
+    for place in 0..policy.witnesses.len() {
+        if let Some(line) = line_by(alloc, source, policy, note, head, known, asker, place)? {
+            lines.push_str(line.as_str())?;
+        }
+    }
+    let mut text = String::from_str(alloc, note)?;
+    text.push_str(lines.as_str())?;
+    Ok(text)
+}
+
+// Whether two heads are the same.
+fn is_same(one: &Head, other: &Head) -> bool
+    ensures { IsTrue result ↔ (one.now ≡ other.now) }
+{
+    one.size == other.size && one.root == other.root
+}
+
+// The note as enough witnesses cosigned it.
+fn cosigned<S: ResourceSource, Q: AsksWitnesses>(
+    alloc: Global,
+    source: &S,
+    policy: &Policy<'_>,
+    note: &str,
+    head: &Head,
+    known: u64,
+    asker: &mut Q,
+) -> Result<String, FetchFault>
+    requires { IsNoteOf (alone
+        (policy_of policy.now.origin.now (map (λ v. key v) policy.now.log.now)
+        (map (λ w. key w) policy.now.witnesses.now) policy.now.need)) note.now head.now }
+    ensures fed { IfOk result (λ text. IsFedNote
+        (policy_of policy.now.origin.now (map (λ v. key v) policy.now.log.now)
+        (map (λ w. key w) policy.now.witnesses.now) policy.now.need)
+        note.now head.now (string_bytes text)) }
+    ensures unfed { IfErr result (IsUnfed
+        (policy_of policy.now.origin.now (map (λ v. key v) policy.now.log.now)
+        (map (λ w. key w) policy.now.witnesses.now) policy.now.need) note.now) }
+    ensures fair { IfErr result IsNoAccusation }
+{
+    let text = with_lines(alloc, source, policy, note, head, known, asker)?;
+    let found = match open_trusted(alloc, policy, text.as_str()) {
+        Ok(found) => found,
+        Err(fault) => return Err(fault),
+    };
+    if !is_same(&found, head) {
+        return Err(FetchFault::Run(BAD_CHECKPOINT));
+    }
+    Ok(text)
+}
+
+// Keeps the new note, and prints it as enough witnesses cosigned it.
+fn keep_and_feed<S: ResourceSource, K: TrustStore, Q: AsksWitnesses, W: Write>(
+    alloc: Global,
+    source: &S,
+    policy: &Policy<'_>,
+    log: &Policy<'_>,
+    step: &Update<'_>,
+    state: &mut K,
+    asker: &mut Q,
+    writer: &mut Counted<W>,
+) -> Result<(), FetchFault>
+    requires log { policy_of log.now.origin.now (map (λ v. key v) log.now.log.now)
+        (map (λ w. key w) log.now.witnesses.now) log.now.need
+        ≡ alone (policy_of policy.now.origin.now (map (λ v. key v) policy.now.log.now)
+        (map (λ w. key w) policy.now.witnesses.now) policy.now.need) }
+    requires known { IsKnown (policy_of log.now.origin.now (map (λ v. key v) log.now.log.now)
+        (map (λ w. key w) log.now.witnesses.now) log.now.need)
+        (option_map (λ s. s.now) step.now.last) step.now.old.now }
+    requires trusted { IsNoteOf (policy_of log.now.origin.now (map (λ v. key v) log.now.log.now)
+        (map (λ w. key w) log.now.witnesses.now) log.now.need) step.now.note.now step.now.new.now }
+    requires grown { IsGrown step.now.old.now step.now.new.now }
+    ensures kept { OnOk result (K.has_kept state.new step.now.note.now) }
+    ensures printed { OnOk result (PrintedWhole (IsFedNote
+        (policy_of policy.now.origin.now (map (λ v. key v) policy.now.log.now)
+        (map (λ w. key w) policy.now.witnesses.now) policy.now.need)
+        step.now.note.now step.now.new.now) (passage W.contents writer.old writer.new)) }
+    ensures part { OnErr result (PrintedSome (IsFedNote
+        (policy_of policy.now.origin.now (map (λ v. key v) policy.now.log.now)
+        (map (λ w. key w) policy.now.witnesses.now) policy.now.need)
+        step.now.note.now step.now.new.now) (passage W.contents writer.old writer.new)) }
+    ensures fair { IfErr result IsNoAccusation }
+    ensures refused { IfErr result (λ fault. K.may_fail state.old fault
+        ⊎ (IsUnfed (policy_of policy.now.origin.now (map (λ v. key v) policy.now.log.now)
+        (map (λ w. key w) policy.now.witnesses.now) policy.now.need) step.now.note.now fault
+        ⊎ (fault ≡ FetchFault.Run RunFault.Write))) }
+{
+    state.keep(log, step.last, step.note)?;
+    let (note, head, known) = (step.note, step.new, step.old.size);
+    let text = cosigned(alloc, source, policy, note, head, known, asker)?;
+    print_text(writer, text.as_bytes())?;
+    Ok(())
+}
+
+/// Brings the checkpoint of the log of this policy before its witnesses (C2SP tlog-witness): the source's checkpoint has
+/// to be signed by the log, and to go on from the state's by a consistency proof that is accepted. It is kept then, and
+/// each witness is asked with the proof from the size that it has. The note is printed with the lines of all that
+/// cosigned this very checkpoint, where they are as many as the policy needs; `TooFew` says how many were. Where the log
+/// shrank or forked, the state's note and the new one are printed.
+pub fn feed_under<S: ResourceSource, K: TrustStore, O: Observer, Q: AsksWitnesses, W: Write>(
+    alloc: Global,
+    source: &S,
+    policy: &Policy<'_>,
+    state: &mut K,
+    asker: &mut Q,
+    observer: &mut O,
+    writer: &mut Counted<W>,
+) -> Result<(), FetchFault>
+    ensures fed { OnOk result ((two : Two) × AreTwo (K.may_have state.old)
+        (alone (policy_of policy.now.origin.now (map (λ v. key v) policy.now.log.now)
+        (map (λ w. key w) policy.now.witnesses.now) policy.now.need)) two
+        × HasFed (K.has_kept state.new)
+        (policy_of policy.now.origin.now (map (λ v. key v) policy.now.log.now)
+        (map (λ w. key w) policy.now.witnesses.now) policy.now.need) two
+        (passage W.contents writer.old writer.new)) }
+    ensures refused { IfErr result (λ fault. RefusesFeed (grounds_of (S.may_answer source.now)
+        (S.may_lack source.now) (K.may_have state.old) (K.may_fail state.old))
+        (policy_of policy.now.origin.now (map (λ v. key v) policy.now.log.now)
+        (map (λ w. key w) policy.now.witnesses.now) policy.now.need) fault
+        (passage W.contents writer.old writer.new)) }
+{
+    let log = Policy {
+        origin: policy.origin,
+        log: policy.log,
+        witnesses: &[],
+        need: 0,
+    };
+    let (last, now) = match trusted_two(alloc, source, &log, state) {
+        Ok(both) => both,
+        Err(fault) => return Err(fault),
+    };
+    let step = Update {
+        last: last.note.as_deref(),
+        old: &last.head,
+        note: now.note.as_str(),
+        new: &now.head,
+    };
+    if let Err(fault) = judge(alloc, source, &step, observer, writer) {
+        return Err(fault);
+    }
+    match keep_and_feed(alloc, source, policy, &log, &step, state, asker, writer) {
+        Ok(()) => Ok(()),
+        Err(fault) => Err(fault),
+    }
+}
