@@ -10,7 +10,7 @@ use Rattle.tl_command.specs.ProofCommands.{InclusionComes, ConsistencyComes, Che
 use Rattle.tl_command.specs.AuditCommand.{AuditComes}
 use Rattle.tl_command.specs.declared.fault.RunFault.{RunFault}
 use Rattle.tl_cli.specs.declared.job.Job.{Job}
-use Rattle.tl_cli.specs.declared.job.Job.TheVariants.{Head, Build, BuildSigned, Append, Inclusion, Consistency, Check, CheckUnder, Keygen, Open, Audit, Serve, Witness, Fetch, Version}
+use Rattle.tl_cli.specs.declared.job.Job.TheVariants.{Head, Build, BuildSigned, Append, Inclusion, Consistency, Check, CheckUnder, Keygen, Open, Audit, Serve, Witness, Fetch, Feed, Version}
 use Rattle.tl_command.specs.Mirror.{demo_log_key}
 use Rattle.tl_command.specs.Build.{RunsBuild}
 use Rattle.tl_command.specs.Signed.{RunsSigned}
@@ -20,6 +20,7 @@ use Rattle.tl_command.specs.Keys.{IsFileFault}
 use Rattle.tl_command.specs.Keygen.{GivesKey}
 use Rattle.tl_command.specs.Open.{RunsOpen}
 use Rattle.tl_fetch.specs.Command.{RunsFetch}
+use Rattle.tl_fetch.specs.FeedCommand.{RunsFeed}
 use Rattle.tl_command.specs.Origins.{RefusesOrigin}
 use Rattle.tl_hash.specs.Bytes.{Bytes}
 use Rattle.tl_fetch.specs.declared.fault.FetchFault.{FetchFault}
@@ -60,8 +61,8 @@ IsRun Is result = (outcome : Result (Unit {0}) RunFault) × Is outcome × (resul
 abbrev pub IsFetched : (Result (Unit {0}) FetchFault → Type 0) → Result (Unit {0}) CommandFault → Type 0
 IsFetched Is result = (outcome : Result (Unit {0}) FetchFault) × Is outcome × (result ≡ by_fetch outcome)
 
--- a run of a job's command: i is its reader, o its writer, and e standard error, to which keygen, fetch and the servers
--- alone write; and the folder of a log that it had to itself, if it had one, whatever was there at first
+-- a run of a job's command: i is its reader, o its writer, and e standard error, to which keygen, fetch, feed and the
+-- servers alone write; and the folder of a log that it had to itself, if it had one, whatever was there at first
 abbrev pub RunsJob : Held → Reached → Job → Option Folder → Passage → Passage → Passage → Result (Unit {0}) CommandFault → Type 0
 RunsJob held reached (Head options) folder i o e result = IsRun (RunsHead (string_bytes options.origin) i o) result × IsUnwritten e
 RunsJob held reached (Build options) folder i o e result =
@@ -87,6 +88,7 @@ RunsJob held reached (Serve options) folder i o e result =
 RunsJob held reached (Witness options) folder i o e result =
     IsRun (RefusesOrigin (string_bytes options.origin) i) result × SparesStreams options i o
 RunsJob held reached (Fetch options) folder i o e result = IsFetched (RunsFetch options o) result × IsUnread i
+RunsJob held reached (Feed options) folder i o e result = IsFetched (RunsFeed options o) result × IsUnread i
 RunsJob held reached Version folder i o e result = IsRun (PrintsVersion o) result × IsUnread i × IsUnwritten e
 
 -- the job's command ran, its fault was told, and the exit status says how it ended. In between standard error held

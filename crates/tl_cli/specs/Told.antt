@@ -19,7 +19,7 @@ use Rattle.tl_command.specs.declared.keys.LogKey.TheVariants as key
 use Rattle.tl_serve.specs.declared.options.WitnessSignerKey.{WitnessSignerKey}
 use Rattle.tl_serve.specs.declared.options.WitnessSignerKey.TheVariants as cosigner
 use Rattle.tl_cli.specs.declared.job.Job.{Job}
-use Rattle.tl_cli.specs.declared.job.Job.TheVariants.{BuildSigned, Append, CheckUnder, Serve, Witness, Fetch}
+use Rattle.tl_cli.specs.declared.job.Job.TheVariants.{BuildSigned, Append, CheckUnder, Serve, Witness, Fetch, Feed}
 use Rattle.tl_cli.specs.declared.fault.CommandFault.{CommandFault}
 use Rattle.tl_cli.specs.declared.fault.CommandFault.TheVariants as fault
 
@@ -47,6 +47,7 @@ file_of job = None
 abbrev pub state_of : Job → Option Bytes
 state_of (Witness options) = option_map string_bytes options.state
 state_of (Fetch options) = option_map string_bytes options.state
+state_of (Feed options) = option_map string_bytes options.log.state
 state_of job = None
 
 -- the folder of a log
@@ -58,6 +59,7 @@ log_of job = None
 -- the folder or the address that is fetched from
 abbrev pub source_of : Job → Option Bytes
 source_of (Fetch options) = Some (string_bytes options.from)
+source_of (Feed options) = Some (string_bytes options.log.from)
 source_of job = None
 
 -- what they name for a place, and the resource under it that the place is, if it is one

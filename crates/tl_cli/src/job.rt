@@ -2,7 +2,7 @@
 
 use tl_append::AppendOptions;
 use tl_command::{BuildOptions, CheckOptions, HeadOptions, KeygenOptions, SignedOptions};
-use tl_fetch::FetchOptions;
+use tl_fetch::{FeedOptions, FetchOptions};
 use tl_serve::{ServeOptions, WitnessOptions};
 
 /// The options of `inclusion`.
@@ -57,6 +57,8 @@ pub enum Job {
     Witness(WitnessOptions),
     /// Fetch from a log that isn't trusted.
     Fetch(FetchOptions),
+    /// Bring a log's checkpoint before witnesses.
+    Feed(FeedOptions),
     /// Print the program's version.
     Version,
 }

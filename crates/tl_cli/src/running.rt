@@ -31,7 +31,7 @@ use tl_command::{
     run_consistency, run_head, run_inclusion, run_keygen, run_open,
 };
 use tl_device::{Counted, write_whole};
-use tl_fetch::run_fetch;
+use tl_fetch::{run_feed, run_fetch};
 use tl_folder::CrashOutcome;
 use tl_hash::Sha256Tree;
 use tl_key::{Cosignature, Note};
@@ -196,7 +196,7 @@ fn check_under<H: Files, R: Read, W: Write>(
 }
 
 /// Runs the command of a job with its options: each job its own command, which reads the reader and writes the writer.
-/// `keygen`, `serve` and `witness` write to `errors` too, and so does `fetch` where that is a terminal. The folder of a
+/// `keygen`, `serve`, `witness` and `feed` write to `errors` too, and so does `fetch` where that is a terminal. The folder of a
 /// log that `append` or `serve` had to itself is then in `folder`, locked until it is dropped. The servers may wait.
 pub fn run_job<
     D: CrashOutcome + Copy + Send + Drop,
@@ -242,6 +242,7 @@ pub fn run_job<
         Job::Fetch(options) => {
             after_fetch(run_fetch(rt, alloc, options, writer, errors, is_terminal))
         }
+        Job::Feed(options) => after_fetch(run_feed(rt, alloc, options, writer, errors)),
         Job::Version => after_run(print_version(writer)),
     }
 }

@@ -57,6 +57,7 @@ fn state_of(job: &Job) -> Option<&str>
     match job {
         Job::Witness(options) => options.state.as_deref(),
         Job::Fetch(options) => options.state.as_deref(),
+        Job::Feed(options) => options.log.state.as_deref(),
         _ => None,
     }
 }
@@ -78,6 +79,7 @@ fn source_of(job: &Job) -> Option<&str>
 {
     match job {
         Job::Fetch(options) => Some(options.from.as_str()),
+        Job::Feed(options) => Some(options.log.from.as_str()),
         _ => None,
     }
 }

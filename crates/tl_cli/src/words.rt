@@ -15,6 +15,7 @@ macro_rules! words {
 }
 
 mod building;
+mod feeding;
 mod fetching;
 mod given;
 mod proving;
@@ -89,10 +90,11 @@ enum Named {
     Serve,
     Witness,
     Fetch,
+    Feed,
 }
 
 // The commands in the order in which help lists them.
-const COMMANDS: [Named; 12] = [
+const COMMANDS: [Named; 13] = [
     Named::Head,
     Named::Build,
     Named::Append,
@@ -105,6 +107,7 @@ const COMMANDS: [Named; 12] = [
     Named::Serve,
     Named::Witness,
     Named::Fetch,
+    Named::Feed,
 ];
 
 // The words of a command.
@@ -122,6 +125,7 @@ fn words_of(command: Named) -> &'static Words {
         Named::Serve => serving::serve(),
         Named::Witness => serving::witness(),
         Named::Fetch => fetching::fetch(),
+        Named::Feed => feeding::feed(),
     }
 }
 
@@ -163,6 +167,7 @@ fn job_of(alloc: Global, command: &str, options: &ArgMatches<'_>) -> Result<Job,
         "serve" => serving::serve_job(alloc, options),
         "witness" => serving::witness_job(alloc, options),
         "fetch" => fetching::fetch_job(alloc, options),
+        "feed" => feeding::feed_job(alloc, options),
         _ => Err(given::no_word(alloc)),
     }
 }

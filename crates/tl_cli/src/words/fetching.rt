@@ -1,11 +1,11 @@
 //! The words of the command `fetch`.
 
-use super::given::{text_if_given, text_of, usage_error};
+use super::given::{text_if_given, text_of, texts_of, usage_error};
 use super::table::{Kind, Word, Words};
 use super::{LOG_KEY, TIMEOUT, WordsFault, texts};
 use crate::job::Job;
 use clap::ArgMatches;
-use std::alloc::{AllocError, Global};
+use std::alloc::Global;
 use tl_fetch::{FetchOptions, FetchRequest};
 
 // What is said where not one of the four is given.
@@ -57,16 +57,18 @@ fn wanted_if_one(options: &ArgMatches<'_>) -> Option<FetchRequest> {
     }
 }
 
-// The texts of the witnesses' keys, in order.
-fn witnesses(alloc: Global, options: &ArgMatches<'_>) -> Result<Vec<String>, AllocError> {
-    let mut keys = Vec::new(alloc);
-    let Some(texts) = options.get_strs("witness") else {
-        return Ok(keys);
-    };
-    for text in texts {
-        keys.push(String::from_str(alloc, text)?)?;
+// How many of the witnesses must have cosigned: all, unless a number is given.
+pub(super) fn need_of(
+    alloc: Global,
+    row: &Words,
+    options: &ArgMatches<'_>,
+    all: u64,
+) -> Result<u64, WordsFault> {
+    let need = options.get_one::<u64>("need").unwrap_or(all);
+    if need > all {
+        return Err(usage_error(alloc, row, FEWER));
     }
-    Ok(keys)
+    Ok(need)
 }
 
 // The job of `fetch`: one of the four is given, and no more cosignatures are needed than there are witnesses.
@@ -74,12 +76,8 @@ pub(super) fn fetch_job(alloc: Global, options: &ArgMatches<'_>) -> Result<Job, 
     let Some(wanted) = wanted_if_one(options) else {
         return Err(usage_error(alloc, fetch(), ONE_WANTED));
     };
-    let witnesses = witnesses(alloc, options)?;
-    let all = witnesses.len() as u64;
-    let need = options.get_one::<u64>("need").unwrap_or(all);
-    if need > all {
-        return Err(usage_error(alloc, fetch(), FEWER));
-    }
+    let witnesses = texts_of(alloc, options, "witness")?;
+    let need = need_of(alloc, fetch(), options, witnesses.len() as u64)?;
     Ok(Job::Fetch(FetchOptions {
         from: text_of(alloc, options, "from")?,
         key: text_of(alloc, options, "key")?,

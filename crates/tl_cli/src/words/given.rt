@@ -47,6 +47,22 @@ pub(super) fn text_if_given(
     }
 }
 
+/// The texts behind a word that may be given several times, in order.
+pub(super) fn texts_of(
+    alloc: Global,
+    options: &ArgMatches<'_>,
+    name: &str,
+) -> Result<Vec<String>, AllocError> {
+    let mut given = Vec::new(alloc);
+    let Some(texts) = options.get_strs(name) else {
+        return Ok(given);
+    };
+    for text in texts {
+        given.push(String::from_str(alloc, text)?)?;
+    }
+    Ok(given)
+}
+
 /// The number behind a word that has to be given.
 pub(super) fn number_of(
     alloc: Global,

@@ -132,3 +132,16 @@ Exit status: 0 done; 1 refused (a bad key, a witness with the key of another or 
 that opens, checkpoint of another log, cosigned by N witnesses, no entry at the index, a tile, a bundle or an entry wrong, bad state, out of memory); 2 wrong arguments
 or a call for help; 3 not available, or a read or a write failed; 4 log shrank, log forked. A refusal is one line
 'tlog: ..' on standard error.";
+
+pub(super) const FEED: &str =
+    "Reads the log's checkpoint from a folder or over HTTP, as 'tlog fetch' does: it opens under the log's key (C2SP
+signed-note, tlog-checkpoint), and extends the one in the file of --state by a consistency proof over tiles that are
+checked. It is kept in that file. Then each witness is asked to cosign it (tlog-witness, tlog-cosignature), with the
+proof from the size that it has, at its --to: the first --to is the address of the first --witness, and so on.
+Output: the checkpoint with the lines of all witnesses that cosigned this very one, if they are --need. Where the log
+shrank or forked, both checkpoints: the state's and the new one. Why a witness gave no cosignature is told on standard
+error, a line 'tlog: witness K: ..' each, counted from 0.
+Defaults: --need all witnesses that are given, --timeout 10.
+Exit status: 0 done; 1 refused (as 'tlog fetch'; cosigned by N witnesses); 2 wrong arguments or a call for help; 3 the
+log isn't available, or a read or a write failed; 4 log shrank, log forked. A refusal is one line 'tlog: ..' on standard
+error.";

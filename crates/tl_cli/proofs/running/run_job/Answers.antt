@@ -24,5 +24,9 @@ pub returns-in-Fetch : goal.returns-in-Fetch
 returns-in-Fetch g c = rw c.in-Fetch.is
     ((c.run_fetch.result, c.run_fetch.ensures, c.after_fetch.ensures), (Keeps-refl (g.R.Read.remaining c.args.reader.now.device), refl))
 
+pub returns-in-Feed : goal.returns-in-Feed
+returns-in-Feed g c = rw c.in-Feed.is
+    ((c.run_feed.result, c.run_feed.ensures, c.after_fetch-in-Feed.ensures), (Keeps-refl (g.R.Read.remaining c.args.reader.now.device), refl))
+
 pub returns-in-Serve : goal.returns-in-Serve
 returns-in-Serve g c = rw c.in-Serve.is ((c.serve.result, (c.serve.ensures.refuses, c.serve.ensures.serves), search rules), search rules)

@@ -1,0 +1,55 @@
+//! The words of the command `feed`.
+
+use super::fetching::need_of;
+use super::given::{text_if_given, text_of, texts_of, usage_error};
+use super::table::{Kind, Word, Words};
+use super::{LOG_KEY, TIMEOUT, WordsFault, texts};
+use crate::job::Job;
+use clap::ArgMatches;
+use std::alloc::Global;
+use tl_fetch::{FeedOptions, FetchOptions, FetchRequest};
+
+// What is said where not each witness has its address.
+const PAIRS: &str = "--to and --witness are given equally often, once at least, in the same order";
+
+const FEED: Words = Words {
+    name: "feed",
+    about: "Brings a log's checkpoint before witnesses, and prints it as they cosigned it",
+    after_help: texts::FEED,
+    words: &[words![
+        "from" "FROM" Kind::RequiredText
+            => "The folder of the log, or its address, http://HOST[:PORT][/PATH]";
+        "key" "VKEY" Kind::RequiredText => LOG_KEY;
+        "to" "URL" Kind::Texts => "The address of a witness, http://HOST[:PORT][/PATH]";
+        "witness" "VKEY" Kind::Texts => "The verifier key of a witness";
+        "need" "N" Kind::Number(0, u64::MAX) => "How many of the witnesses must cosign";
+        "state" "FILE" Kind::Path => "The file with the checkpoint that was trusted last";
+        "timeout" "N" Kind::Number(1, 86_400) => "How many seconds one answer may take";
+    ]],
+};
+
+/// The words of `feed`.
+pub(super) fn feed() -> &'static Words {
+    &FEED
+}
+
+// The job of `feed`: each witness has its address, and no more must cosign than there are.
+pub(super) fn feed_job(alloc: Global, options: &ArgMatches<'_>) -> Result<Job, WordsFault> {
+    let to = texts_of(alloc, options, "to")?;
+    let witnesses = texts_of(alloc, options, "witness")?;
+    if to.is_empty() || to.len() != witnesses.len() {
+        return Err(usage_error(alloc, feed(), PAIRS));
+    }
+    let need = need_of(alloc, feed(), options, witnesses.len() as u64)?;
+    let log = FetchOptions {
+        from: text_of(alloc, options, "from")?,
+        key: text_of(alloc, options, "key")?,
+        witnesses,
+        need,
+        state: text_if_given(alloc, options, "state")?,
+        cache: None,
+        timeout: options.get_one::<u64>("timeout").unwrap_or(TIMEOUT),
+        wanted: FetchRequest::Head,
+    };
+    Ok(Job::Feed(FeedOptions { log, to }))
+}
