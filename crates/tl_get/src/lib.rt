@@ -20,9 +20,14 @@ mod fields;
 mod framing;
 mod growth;
 mod head;
+mod posting;
+mod request;
 mod sending;
+mod taken;
 mod target;
 mod window;
 
 pub use exchange::get;
 pub use fault::GetFault;
+pub use posting::post;
+pub use request::{Post, Reply};
