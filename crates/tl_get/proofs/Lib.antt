@@ -11,5 +11,6 @@ pub mod ChunkLemmas
 pub mod ChunkLaws
 pub mod PassedLemmas
 pub mod ExchangeLemmas
+pub mod ReplyLemmas
 pub mod ResponseLaws
 pub mod Fits

@@ -20,12 +20,12 @@ joined_post : (a b c d e f g h : List ℕ)
 joined_post a b c d e f g h =
     ap (λ (l : List ℕ). a ++ (b ++ (c ++ (d ++ (e ++ (f ++ (g ++ l))))))) (append-nil h)
     ∙ sym (
-      append_assoc (((((a ++ b) ++ c) ++ d) ++ e) ++ f) g h
-      ∙ (append_assoc ((((a ++ b) ++ c) ++ d) ++ e) f (g ++ h)
-      ∙ (append_assoc (((a ++ b) ++ c) ++ d) e (f ++ (g ++ h))
-      ∙ (append_assoc ((a ++ b) ++ c) d (e ++ (f ++ (g ++ h)))
-      ∙ (append_assoc (a ++ b) c (d ++ (e ++ (f ++ (g ++ h))))
-      ∙ append_assoc a b (c ++ (d ++ (e ++ (f ++ (g ++ h)))))))))
+    append_assoc (((((a ++ b) ++ c) ++ d) ++ e) ++ f) g h
+    ∙ (append_assoc ((((a ++ b) ++ c) ++ d) ++ e) f (g ++ h)
+    ∙ (append_assoc (((a ++ b) ++ c) ++ d) e (f ++ (g ++ h))
+    ∙ (append_assoc ((a ++ b) ++ c) d (e ++ (f ++ (g ++ h)))
+    ∙ (append_assoc (a ++ b) c (d ++ (e ++ (f ++ (g ++ h))))
+    ∙ append_assoc a b (c ++ (d ++ (e ++ (f ++ (g ++ h)))))))))
     )
 
 pub post_in_pieces : (host target body : List ℕ) → pieces_text (λ p. p) (post_pieces host target (decimal (length body)) body) ≡ post_text host target body
