@@ -1,16 +1,16 @@
 -- From the steps of reading a reply to the whole.
-use Rattle.std.proofs.Common.{◌≡◌, ◌-◌, ◌<◌, ℕ, List, ◌++◌, Contains, Option, Some, Result, Ok, Err, Bool, length, slice_range, take, drop, map, ap, refl, sym, ◌∙◌, inl, inr}
+use Rattle.std.proofs.Common.{◌≡◌, ◌-◌, ◌<◌, ℕ, List, ◌++◌, Contains, Option, Some, Ok, Err, Bool, length, slice_range, take, drop, ap, refl, sym, ◌∙◌, inl, inr}
 use Rattle.httparse.specs.declared.spans.HeaderSpan.{HeaderSpan}
 use Rattle.httparse.specs.declared.spans.ResponseSpans.{ResponseSpans}
 use Rattle.httparse.specs.Grammar.{ResponseHead, status_code}
 use Rattle.httparse.specs.Spans.{IsResponseAt}
 use Rattle.tl_device.specs.Device.{Passage}
 use Rattle.tl_device.proofs.SendingLemmas.{over}
-use Rattle.tl_http.specs.Fields.{fields_of, values_of}
+use Rattle.tl_http.specs.Fields.{values_of}
 use Rattle.tl_get.specs.Get.{Receives}
 use Rattle.tl_get.specs.Post.{Given, Replied, Replies, ReplyDecides, field_value, only_one, with_head}
 use Rattle.tl_get.specs.Response.{BodyDecides, Outcome}
-use Rattle.tl_get.specs.Inner.Heads.{IsHeaded, IsTaken, TookHead, faulty}
+use Rattle.tl_get.specs.Inner.Heads.{TookHead, faulty}
 use Rattle.tl_get.specs.declared.fault.GetFault.{GetFault}
 use Rattle.tl_get.specs.declared.fault.GetFault.TheVariants.{OutOfMemory, Read}
 use Rattle.tl_get.specs.declared.taken.Taken.{Taken}
@@ -44,7 +44,7 @@ one_read fault same = let e : fault ≡ Read = cc in ap reply_fault e
 pub no_body : (statuses name : List ℕ) (limit : ℕ) (a b c : Option (List ℕ)) (f g h : Bool) (buf : List ℕ) (headers : List HeaderSpan) (taken : Taken) (fault : GetFault)
     → TookHead (Contains statuses) (over a b f g) buf headers taken
     → Receives (λ rest r. BodyDecides limit taken.framing (take (length (slice_range buf taken.start taken.len) - taken.spans.len) (drop taken.spans.len (slice_range buf taken.start taken.len)) ++ rest) r)
-        (over b c g h) (Err fault)
+    (over b c g h) (Err fault)
     → Receives (Replies statuses name limit) (over a c f h) (Err fault)
 no_body statuses name limit a b c f g h buf headers taken fault took received =
     body_after Given (Contains statuses) (λ b framing r. ReplyDecides name limit b framing r) a b c f g h buf headers taken.start taken.len taken.spans limit taken.framing
@@ -63,7 +63,7 @@ pub whole_reply : (statuses name : List ℕ) (limit : ℕ) (a b c : Option (List
     → TookHead (Contains statuses) (over a b f g) buf headers taken
     → field ≡ only_one (values_of name (fields_at (slice_range buf taken.start taken.len) headers taken.spans))
     → Receives (λ rest r. BodyDecides limit taken.framing (take (length (slice_range buf taken.start taken.len) - taken.spans.len) (drop taken.spans.len (slice_range buf taken.start taken.len)) ++ rest) r)
-        (over b c g h) (Ok body)
+    (over b c g h) (Ok body)
     → Receives (Replies statuses name limit) (over a c f h) (Ok (record { status = taken.spans.code; field = field; body = body }))
 whole_reply statuses name limit a b c f g h buf headers taken field body took copied received =
     let part : List ℕ = slice_range buf taken.start taken.len in

@@ -1,4 +1,4 @@
-//! One GET request over HTTP/1.1, over any reader and writer, for what a server has under a target.
+//! One request over HTTP/1.1, by GET or by POST, over any reader and writer.
 //!
 //! ```
 //! let mut reader = Counted::new(&stream);
