@@ -14,8 +14,8 @@ use Rattle.tl_get.specs.declared.framing.Framing.{Framing}
 use Rattle.tl_get.specs.declared.request.Post.{Post}
 use Rattle.tl_get.specs.declared.request.Reply.{Reply}
 
--- what is asked: of which host, under which target, with which body; the statuses of responses whose body is wanted, and
--- the field of the response that is
+-- what is asked: of which host, under which target, with which body; the statuses of responses whose body is wanted,
+-- and the name of the field that is
 pub record Asked : Type 0 where
   pub host : Bytes
   pub target : Bytes
@@ -36,8 +36,8 @@ asked post = record {
 -- the whole request, after which the connection is to be closed; the length of its body is in decimal
 unfoldable pub post_text : Bytes → Bytes → Bytes → Bytes
 post_text host target body =
-    codes "POST " ++ target ++ codes " HTTP/1.1\r\nHost: " ++ host ++ codes "\r\nContent-Length: " ++ decimal (length body)
-    ++ codes "\r\nConnection: close\r\n\r\n" ++ body
+    codes "POST " ++ target ++ codes " HTTP/1.1\r\nHost: " ++ host
+    ++ codes "\r\nContent-Length: " ++ decimal (length body) ++ codes "\r\nConnection: close\r\n\r\n" ++ body
 
 -- the value that is the only one
 abbrev pub only_one : List Bytes → Option Bytes

@@ -112,7 +112,8 @@ BodyDecides limit Chunked rest r = ChunksDecide limit rest r
 
 -- the rows of a head, with its minor version, status and fields: which statuses are wanted, and what decides where the
 -- body is taken that the head frames
-abbrev pub HeadDecides : {R : Type 0} → (ℕ → Type 0) → ℕ → ℕ → List (Bytes × Bytes) → (Framing → Type 0) → Result R GetFault → Type 0
+abbrev pub HeadDecides : {R : Type 0} → (ℕ → Type 0) → ℕ → ℕ → List (Bytes × Bytes)
+    → (Framing → Type 0) → Result R GetFault → Type 0
 HeadDecides Wanted minor status fields Taken r =
     Unless (minor ≤ 1) (r ≡ Err Version)
     (Unless (Wanted status) (r ≡ Err (Status status))
@@ -127,13 +128,14 @@ HeadDecides Wanted minor status fields Taken r =
 --                  `identity` once
 --     BadLength    it has fields Content-Length that aren't one number below 2^63, or one beside Transfer-Encoding
 -- and then what decides of the head, what follows it and its framing
-abbrev pub ResponseDecides : {R : Type 0} → (ℕ → Type 0) → (Begun → Framing → Type 0) → Bytes → Result R GetFault → Type 0
+abbrev pub ResponseDecides : {R : Type 0} → (ℕ → Type 0)
+    → (Begun → Framing → Type 0) → Bytes → Result R GetFault → Type 0
 ResponseDecides Wanted Taken input r =
     UnlessSome (Begins input) (r ≡ Err NoHead) (λ b.
     HeadDecides Wanted b.head.minor (status_code b.head) (fields_of b.head.fields) (Taken b) r)
 
--- that table where status 200 is wanted, and the body alone. Its last rows are, of a body in chunks, the table above, or
--- else:
+-- that table where status 200 is wanted, and the body alone. Its last rows are, of a body in chunks, the table above,
+-- or else:
 --     TooLarge     the number is above the limit
 --     OutOfMemory  some of the body came, and a growth for it was refused
 --     TooLarge     without a number, more bytes than the limit follow the head

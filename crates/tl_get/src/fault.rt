@@ -7,8 +7,8 @@ use std::alloc::AllocError;
 use thiserror::Error;
 use tl_device::WriteFault;
 
-/// Why a request by GET or POST gives no body, in the order in which the refusals are checked. Those of a body come as it is read, and
-/// the first that is met is told.
+/// Why a request by GET or POST gives no body, in the order in which the refusals are checked. Those of a body come as
+/// it is read, and the first that is met is told.
 #[derive(Clone, Copy, Debug, PartialEq, Eq, Error)]
 pub enum GetFault {
     /// Host and target can't be asked for. Nothing was written or read.

@@ -26,8 +26,8 @@ pub(crate) fn lacks_field(buf: &[u8], headers: &[HeaderSpan], name: &[u8]) -> bo
     matches!(values_in(buf, headers, name), Values::None)
 }
 
-/// A copy of the value of the one field with this name, or `None` where there is no such field or more than one. It fails
-/// only where a growth for some bytes was refused.
+/// A copy of the value of the one field with this name, or `None` where there is no such field or more than one. It
+/// fails only where a growth for some bytes was refused.
 pub(crate) fn copy_value<A: Allocator + Copy>(
     alloc: A,
     buf: &[u8],
