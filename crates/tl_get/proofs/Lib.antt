@@ -14,3 +14,4 @@ pub mod ExchangeLemmas
 pub mod ReplyLemmas
 pub mod ResponseLaws
 pub mod Fits
+pub mod Wanted
