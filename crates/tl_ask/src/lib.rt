@@ -1,47 +1,22 @@
-//! One question to a witness (a stand-in).
+//! One question to a witness: to cosign a checkpoint (C2SP tlog-witness, "add-checkpoint").
+//!
+//! ```
+//! let question = Question { old: 12, proof: &proof, note: &note };
+//! match ask_witness(alloc, &mut reader, &mut writer, "witness.example", "/add-checkpoint", &question) {
+//!     Ok(WitnessAnswer::Cosigned(lines)) => {} // lines of signatures, none of them verified yet
+//!     Ok(WitnessAnswer::At(size)) => {}        // it cosigned this size last: the next proof starts there
+//!     Err(_) => {}                             // why it didn't cosign
+//! }
+//! ```
 #![tactic(auto)]
 
-use std::alloc::Allocator;
-use std::io::{Read, Write};
-use thiserror::Error;
-use tl_device::Counted;
-use tl_get::GetFault;
-use tl_hash::Hash;
+mod asking;
+mod fault;
+mod question;
+mod reading;
+mod writing;
 
-/// What a witness is asked to cosign.
-#[derive(Clone, Copy)]
-pub struct Question<'q> {
-    pub old: u64,
-    pub proof: &'q [Hash],
-    pub note: &'q str,
-}
-
-/// What a witness answered.
-#[derive(Drop)]
-pub enum WitnessAnswer<A: Allocator> {
-    /// It cosigned.
-    Cosigned(String<A>),
-    /// It cosigned this size last.
-    At(u64),
-}
-
-/// Why not.
-#[derive(Clone, Copy, Debug, PartialEq, Eq, Error)]
-pub enum AskFault {
-    #[error("{0}")]
-    Get(GetFault),
-    #[error("out of memory")]
-    OutOfMemory,
-}
-
-/// Asks.
-pub fn ask_witness<A: Allocator + Copy, I: Read, O: Write>(
-    _alloc: A,
-    _reader: &mut Counted<I>,
-    _writer: &mut Counted<O>,
-    _host: &str,
-    _target: &str,
-    _question: &Question<'_>,
-) -> Result<WitnessAnswer<A>, AskFault> {
-    Err(AskFault::OutOfMemory)
-}
+pub use asking::ask_witness;
+pub use fault::AskFault;
+pub use question::{Question, WitnessAnswer};
+pub use writing::question_bytes;

@@ -1,5 +1,5 @@
 -- The table of a chunked body tells one outcome of an input, but where a growth was refused.
-use Rattle.std.proofs.Common.{◌≡◌, ◌+◌, ◌-◌, ◌<◌, ◌≤◌, ℕ, List, [], ◌∷◌, ◌++◌, Ok, Err, All, append-nil, append_assoc, ap, arith, codes, drop, inl, inr, length, length-append, refl, subst, sym, take, ◌⊎◌, ◌∙◌}
+use Rattle.std.proofs.Common.{◌≡◌, ◌+◌, ◌-◌, ◌<◌, ◌≤◌, ℕ, List, [], ◌∷◌, ◌++◌, Result, Ok, Err, All, append-nil, append_assoc, ap, arith, codes, drop, inl, inr, length, length-append, refl, subst, sym, take, ◌⊎◌, ◌∙◌}
 use Rattle.std.proofs.lemmas.List.{drop_at, take_at}
 use Rattle.std.proofs.lemmas.List.Elements.{All-head, All-tail}
 use Rattle.std.proofs.Math.Seq.{take-append-add}
@@ -7,6 +7,7 @@ use Rattle.httparse.specs.Grammar.{ReadsChunkLine, chunk_size, print_chunk_line}
 use Rattle.httparse.proofs.ChunkLemmas.{chunk_line_unique}
 use Rattle.tl_get.specs.Chunks.{Chunk, IsChunk, IsCutData, IsCutLine, IsLine, LacksEnd, LacksLine, chunk_text, chunks_content, chunks_text}
 use Rattle.tl_get.specs.Response.{ChunkDecides, ChunksDecide, DataDecides, LineDecides, Outcome, SizeDecides}
+use Rattle.tl_get.specs.declared.fault.GetFault.{GetFault}
 use Rattle.tl_get.specs.declared.fault.GetFault.TheVariants.{OutOfMemory}
 
 -- a text begins with one line of a chunk
@@ -63,7 +64,7 @@ no_cut_ending n text cut lacks =
     lacks.never more [] (end ∙ sym (append-nil (codes "\r\n")))
 
 -- two outcomes are the same, but where a growth was refused
-abbrev pub IsOne : Outcome → Outcome → Type 0
+abbrev pub IsOne : {R : Type 0} → Result R GetFault → Result R GetFault → Type 0
 IsOne r q = (r ≡ q) ⊎ ((r ≡ Err OutOfMemory) ⊎ (q ≡ Err OutOfMemory))
 
 -- one outcome of the same data

@@ -4,6 +4,7 @@ use Rattle.tl_http.specs.Fields.{values_of}
 use Rattle.tl_get.specs.Fields.{HasFraming, HasLength, IsChunked, IsIdentity, IsSent}
 use Rattle.tl_get.specs.Response.{HeadDecides}
 use Rattle.tl_get.specs.Inner.Framings.{FramesBody}
+use Rattle.tl_get.specs.Inner.Heads.{faulty}
 use Rattle.tl_get.specs.declared.fault.GetFault.{GetFault}
 use Rattle.tl_get.specs.declared.framing.Framing.{Framing}
 use Rattle.tl_get.specs.declared.framing.Framing.TheVariants.{Sized, UntilEnd, Chunked}
@@ -32,10 +33,10 @@ unsent minor fields some other (inl none) = some none
 unsent minor fields some other (inr chunked) = other chunked
 
 -- fields that don't frame a body decide
-pub framing_decides : (limit minor status : ℕ) (fields : List (List ℕ × List ℕ)) (rest : List ℕ) (fault : GetFault)
-    → minor ≤ 1 → status ≡ 200 → IsIdentity (values_of (codes "Content-Encoding") fields) → FramesBody minor fields (Err fault)
-    → HeadDecides limit minor status fields rest (Err fault)
-framing_decides limit minor status fields rest fault version found kept (inl encoded) =
+pub framing_decides : (Wanted : ℕ → Type 0) (minor status : ℕ) (fields : List (List ℕ × List ℕ)) (fault : GetFault)
+    → minor ≤ 1 → Wanted status → IsIdentity (values_of (codes "Content-Encoding") fields) → FramesBody minor fields (Err fault)
+    → HeadDecides Wanted minor status fields (λ _. ⊥) (faulty fault)
+framing_decides Wanted minor status fields fault version found kept (inl encoded) =
     inr (version, inr (found, inl ((λ plain. encoded.1 plain.sent), ap Err encoded.0)))
-framing_decides limit minor status fields rest fault version found kept (inr bad) =
+framing_decides Wanted minor status fields fault version found kept (inr bad) =
     inr (version, inr (found, inr (record { sent = bad.1; kept = kept }, inl (bad.2, ap Err bad.0))))

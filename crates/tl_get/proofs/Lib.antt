@@ -11,5 +11,7 @@ pub mod ChunkLemmas
 pub mod ChunkLaws
 pub mod PassedLemmas
 pub mod ExchangeLemmas
+pub mod ReplyLemmas
 pub mod ResponseLaws
 pub mod Fits
+pub mod Wanted

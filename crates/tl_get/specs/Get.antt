@@ -1,10 +1,11 @@
 -- One request over a reader and a writer.
-use Rattle.std.specs.Prelude.{◌≡◌, ◌⊎◌, ℕ, Bool, Err}
+use Rattle.std.specs.Prelude.{◌≡◌, ◌⊎◌, ℕ, Bool, Result, Err}
 use Rattle.tl_device.specs.Device.{Passage, HasFailed, IsUnread, IsUnwritten, WroteWhole, WrotePart}
 use Rattle.tl_device.specs.Reading.{Gave, MayBe}
 use Rattle.tl_hash.specs.Bytes.{Bytes}
 use Rattle.tl_get.specs.Request.{IsAskable, request_text}
 use Rattle.tl_get.specs.Response.{Outcome, Responds, Unless}
+use Rattle.tl_get.specs.declared.fault.GetFault.{GetFault}
 use Rattle.tl_get.specs.declared.fault.GetFault.TheVariants.{BadTarget, Read, Write}
 
 -- this holds of the whole input, whatever follows what was read
@@ -15,10 +16,10 @@ pub record Came (Holds : Bytes → Type 0) (i : Passage) : Type 0 where
   pub so : (input : Bytes) → MayBe bytes ended input → Holds input
 
 -- a read failed, or what was read decides
-abbrev pub Receives : (Bytes → Outcome → Type 0) → Passage → Outcome → Type 0
+abbrev pub Receives : {R : Type 0} → (Bytes → Result R GetFault → Type 0) → Passage → Result R GetFault → Type 0
 Receives Decides i r = ((r ≡ Err Read) × HasFailed i) ⊎ Came (λ input. Decides input r) i
 
--- the table of a request, of which the first row that applies decides; i is the reader, o the writer:
+-- the table of a request by GET, of which the first row that applies decides; i is the reader, o the writer:
 --     BadTarget  host and target can't be asked for; nothing is written or read
 --     Write      a write failed, after some of the request's first bytes; nothing is read
 --     Read       the request was written, and a read failed

@@ -11,3 +11,5 @@ pub
     mod Taking
 pub
     mod ChunkReads
+pub
+    mod Values

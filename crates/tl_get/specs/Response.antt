@@ -110,23 +110,32 @@ BodyDecides limit UntilEnd rest r =
     (r ≡ Ok rest)
 BodyDecides limit Chunked rest r = ChunksDecide limit rest r
 
--- the rows of a head, with its minor version, status and fields
-abbrev pub HeadDecides : ℕ → ℕ → ℕ → List (Bytes × Bytes) → Bytes → Outcome → Type 0
-HeadDecides limit minor status fields rest r =
+-- the rows of a head, with its minor version, status and fields: which statuses are wanted, and what decides where the
+-- body is taken that the head frames
+abbrev pub HeadDecides : {R : Type 0} → (ℕ → Type 0) → ℕ → ℕ → List (Bytes × Bytes)
+    → (Framing → Type 0) → Result R GetFault → Type 0
+HeadDecides Wanted minor status fields Taken r =
     Unless (minor ≤ 1) (r ≡ Err Version)
-    (Unless (status ≡ 200) (r ≡ Err (Status status))
+    (Unless (Wanted status) (r ≡ Err (Status status))
     (Unless (IsPlain minor fields) (r ≡ Err Encoded)
-    (UnlessSome (HasFraming fields) (r ≡ Err BadLength) (λ framing.
-    BodyDecides limit framing rest r))))
+    (UnlessSome (HasFraming fields) (r ≡ Err BadLength) Taken)))
 
 -- the table of what comes of an input, of which the first row that applies decides:
 --     NoHead       the input doesn't begin with the head of a response, after interim ones or none
 --     Version      the head is of a later version than HTTP/1.1
---     Status       its status isn't 200
+--     Status       its status isn't wanted
 --     Encoded      it has fields Transfer-Encoding, and not `chunked` once over HTTP/1.1, or Content-Encoding and not
 --                  `identity` once
 --     BadLength    it has fields Content-Length that aren't one number below 2^63, or one beside Transfer-Encoding
--- and then, of a body in chunks, the table above, or else:
+-- and then what decides of the head, what follows it and its framing
+abbrev pub ResponseDecides : {R : Type 0} → (ℕ → Type 0)
+    → (Begun → Framing → Type 0) → Bytes → Result R GetFault → Type 0
+ResponseDecides Wanted Taken input r =
+    UnlessSome (Begins input) (r ≡ Err NoHead) (λ b.
+    HeadDecides Wanted b.head.minor (status_code b.head) (fields_of b.head.fields) (Taken b) r)
+
+-- that table where status 200 is wanted, and the body alone. Its last rows are, of a body in chunks, the table above,
+-- or else:
 --     TooLarge     the number is above the limit
 --     OutOfMemory  some of the body came, and a growth for it was refused
 --     TooLarge     without a number, more bytes than the limit follow the head
@@ -134,5 +143,4 @@ HeadDecides limit minor status fields rest r =
 --     Ok           else: so many bytes after the head, or without a number all
 abbrev pub Responds : ℕ → Bytes → Outcome → Type 0
 Responds limit input r =
-    UnlessSome (Begins input) (r ≡ Err NoHead) (λ b.
-    HeadDecides limit b.head.minor (status_code b.head) (fields_of b.head.fields) b.rest r)
+    ResponseDecides (λ status. status ≡ 200) (λ b framing. BodyDecides limit framing b.rest r) input r

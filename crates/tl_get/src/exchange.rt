@@ -1,21 +1,21 @@
-//! One request and its response.
+//! One request by GET and its response.
 
 ghost use Rattle.tl_device.specs.Device.{passage};
 ghost use Rattle.tl_get.specs.Get.{Gets, Receives};
 ghost use Rattle.tl_get.specs.Response.{Responds, outcome};
 
-use crate::announced::announced;
 use crate::body::read_body;
 use crate::fault::GetFault;
-use crate::head::{HeadRead, MOST_FIELDS, MOST_HEAD, read_head};
+use crate::head::{MOST_FIELDS, MOST_HEAD};
 use crate::sending::send_request;
+use crate::taken::read_taken;
 use crate::target::is_askable;
 use httparse::spans::EMPTY_HEADER_SPAN;
 use std::alloc::Allocator;
 use std::io::{Read, Write};
 use tl_device::Counted;
 
-// Reads a response.
+// Reads a response with status 200.
 fn read_response<A: Allocator + Copy, I: Read>(
     alloc: A,
     reader: &mut Counted<I>,
@@ -26,15 +26,17 @@ fn read_response<A: Allocator + Copy, I: Read>(
 {
     let mut buf = [0u8; MOST_HEAD];
     let mut headers = [EMPTY_HEADER_SPAN; MOST_FIELDS];
-    match read_head(reader, &mut buf, &mut headers) {
-        HeadRead::Failed => Err(GetFault::Read),
-        HeadRead::Missing => Err(GetFault::NoHead),
-        HeadRead::Head(start, len, spans) => {
-            let bytes = &buf[start..len];
-            match announced(bytes, &headers, spans) {
-                Err(fault) => Err(fault),
-                Ok(framing) => read_body(alloc, reader, &bytes[spans.len..], framing, limit),
-            }
+    match read_taken(reader, &mut buf, &mut headers, &[200]) {
+        Err(fault) => Err(fault),
+        Ok(taken) => {
+            let bytes = &buf[taken.start..taken.len];
+            read_body(
+                alloc,
+                reader,
+                &bytes[taken.spans.len..],
+                taken.framing,
+                limit,
+            )
         }
     }
 }

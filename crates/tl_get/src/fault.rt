@@ -1,4 +1,4 @@
-//! Why a request gives no body.
+//! Why a request gives no response.
 
 ghost use Rattle.std.specs.Prelude.{◌≡◌};
 ghost use Rattle.tl_get.specs.declared.fault.GetFault.TheVariants as faults;
@@ -7,8 +7,8 @@ use std::alloc::AllocError;
 use thiserror::Error;
 use tl_device::WriteFault;
 
-/// Why a request gives no body, in the order in which the refusals are checked. Those of a body come as it is read, and
-/// the first that is met is told.
+/// Why a request by GET or POST gives no body, in the order in which the refusals are checked. Those of a body come as
+/// it is read, and the first that is met is told.
 #[derive(Clone, Copy, Debug, PartialEq, Eq, Error)]
 pub enum GetFault {
     /// Host and target can't be asked for. Nothing was written or read.
@@ -27,7 +27,7 @@ pub enum GetFault {
     /// The response is of a later version than HTTP/1.1.
     #[error("the response is of a later version than HTTP/1.1")]
     Version,
-    /// The response has this status, which isn't 200.
+    /// The response has this status, which isn't wanted: `get` wants 200 alone.
     #[error("the response has status {0}")]
     Status(u16),
     /// The response has fields Transfer-Encoding and not `chunked` once over HTTP/1.1, or Content-Encoding and not
@@ -48,7 +48,7 @@ pub enum GetFault {
     /// follows a chunk's data.
     #[error("a chunk of the body isn't well formed")]
     BadChunk,
-    /// A growth was refused.
+    /// A growth was refused, or memory for the value of the field that `post` wants.
     #[error("out of memory")]
     OutOfMemory,
 }

@@ -6,9 +6,13 @@ ghost use Rattle.tl_hash.specs.Bytes.{Bytes};
 ghost use Rattle.tl_http.specs.Fields.{values_of};
 ghost use Rattle.tl_get.specs.Fields.{IsChunked, IsIdentity, IsLength};
 ghost use Rattle.tl_get.specs.Inner.Framings.{SaysLength};
+ghost use Rattle.tl_get.specs.Inner.Values.{CopiesValue};
+ghost use Rattle.tl_get.specs.Post.{only_one};
 
 use crate::fault::GetFault;
+use crate::growth::append;
 use httparse::spans::HeaderSpan;
+use std::alloc::{AllocError, Allocator};
 use tl_http::{Values, number_in, values_in};
 
 // The end of what a length may be.
@@ -20,6 +24,26 @@ pub(crate) fn lacks_field(buf: &[u8], headers: &[HeaderSpan], name: &[u8]) -> bo
     ensures { IsTrue result ↔ (values_of name.now (map (header_bytes buf.now) headers.now) ≡ []) }
 {
     matches!(values_in(buf, headers, name), Values::None)
+}
+
+/// A copy of the value of the one field with this name, or `None` where there is no such field or more than one. It
+/// fails only where a growth for some bytes was refused.
+pub(crate) fn copy_value<A: Allocator + Copy>(
+    alloc: A,
+    buf: &[u8],
+    headers: &[HeaderSpan],
+    name: &[u8],
+) -> Result<Option<Vec<u8, A>>, AllocError>
+    requires { All (IsHeaderWithin (length buf.now)) headers.now }
+    ensures { CopiesValue
+        (only_one (values_of name.now (map (header_bytes buf.now) headers.now))) result }
+{
+    let Values::One(value) = values_in(buf, headers, name) else {
+        return Ok(None);
+    };
+    let mut copy = Vec::new(alloc);
+    append(alloc, &mut copy, value, value.len())?;
+    Ok(Some(copy))
 }
 
 /// Whether no field Content-Encoding is there, or one that says that there is no coding.

@@ -1,4 +1,4 @@
-//! One GET request over HTTP/1.1, over any reader and writer, for what a server has under a target.
+//! One request over HTTP/1.1, by GET or by POST, over any reader and writer.
 //!
 //! ```
 //! let mut reader = Counted::new(&stream);
@@ -20,9 +20,14 @@ mod fields;
 mod framing;
 mod growth;
 mod head;
+mod posting;
+mod request;
 mod sending;
+mod taken;
 mod target;
 mod window;
 
 pub use exchange::get;
 pub use fault::GetFault;
+pub use posting::post;
+pub use request::{Post, Reply};

@@ -1,21 +1,22 @@
 -- The steps of reading a head.
-use Rattle.std.specs.Prelude.{◌≡◌, ℕ, ◌≤◌, List, ◌++◌, false, All, Ok, Err, Result, length, slice_range, take}
+use Rattle.std.specs.Prelude.{◌≡◌, ℕ, ◌≤◌, List, ◌++◌, false, All, Ok, Err, Result, length, map, slice_range, take}
 use Rattle.std.specs.List.{flat_map}
 use Rattle.httparse.specs.declared.spans.HeaderSpan.{HeaderSpan}
 use Rattle.httparse.specs.declared.spans.ResponseSpans.{ResponseSpans}
-use Rattle.httparse.specs.Spans.{IsResponseWithin, IsResponseOf, ResponseOverflows}
+use Rattle.httparse.specs.Spans.{IsResponseWithin, IsResponseOf, ResponseOverflows, header_bytes}
 use Rattle.httparse.specs.Grammar.{HasNoResponse, ResponseHead, print_response}
 use Rattle.tl_device.specs.Device.{Passage, HasFailed}
 use Rattle.tl_hash.specs.Bytes.{Bytes}
 use Rattle.tl_get.specs.Fields.{HasFraming, IsPlain}
 use Rattle.tl_device.specs.Reading.{Gave}
-use Rattle.tl_get.specs.Get.{Came}
-use Rattle.tl_get.specs.Response.{Begins, Begun, HeadDecides, IsInterim, IsInterimStatus}
+use Rattle.tl_get.specs.Get.{Came, Receives}
+use Rattle.tl_get.specs.Response.{Begins, Begun, HeadDecides, IsInterim, IsInterimStatus, Outcome, ResponseDecides}
 use Rattle.tl_get.specs.declared.fault.GetFault.{GetFault}
 use Rattle.tl_get.specs.declared.framing.Framing.{Framing}
 use Rattle.tl_get.specs.declared.head.Parsed.{Parsed}
 use Rattle.tl_get.specs.declared.head.Parsed.TheVariants.{Whole, Partial, Refused}
 use Rattle.tl_get.specs.declared.head.HeadRead.{HeadRead}
+use Rattle.tl_get.specs.declared.taken.Taken.{Taken}
 use Rattle.tl_get.specs.declared.head.HeadRead.TheVariants.{Failed, Missing, Head}
 
 -- what the parser says of bytes, with room for 64 fields
@@ -23,6 +24,10 @@ abbrev pub Parses : Bytes → List HeaderSpan → Parsed → Type 0
 Parses bytes headers (Whole spans) = IsResponseWithin bytes headers spans × IsResponseOf bytes headers spans
 Parses bytes headers Partial = HasNoResponse bytes
 Parses bytes headers Refused = ResponseOverflows 64 bytes
+
+-- an outcome that is a fault
+abbrev pub faulty : GetFault → Outcome
+faulty fault = Err fault
 
 -- the input begins with no head within the limits
 abbrev pub HasNoHead : Bytes → Type 0
@@ -52,14 +57,24 @@ ReadsHead i buf headers Missing = Came HasNoHead i
 ReadsHead i buf headers (Head start len spans) = IsHeaded i buf headers start len spans
 
 -- what a head announces that is taken
-pub record IsTaken (minor status : ℕ) (fields : List (Bytes × Bytes)) (framing : Framing) : Type 0 where
+pub record IsTaken (Wanted : ℕ → Type 0) (minor status : ℕ) (fields : List (Bytes × Bytes)) (framing : Framing) : Type 0 where
   pub version : minor ≤ 1
-  pub found : status ≡ 200
+  pub wanted : Wanted status
   pub plain : IsPlain minor fields
   pub framed : HasFraming fields framing
 
 -- a head is taken with its framing, or decides alone
-abbrev pub Announces : ℕ → ℕ → List (Bytes × Bytes) → Result Framing GetFault → Type 0
-Announces minor status fields (Ok framing) = IsTaken minor status fields framing
-Announces minor status fields (Err fault) =
-    (limit : ℕ) (rest : Bytes) → HeadDecides limit minor status fields rest (Err fault)
+abbrev pub Announces : (ℕ → Type 0) → ℕ → ℕ → List (Bytes × Bytes) → Result Framing GetFault → Type 0
+Announces Wanted minor status fields (Ok framing) = IsTaken Wanted minor status fields framing
+Announces Wanted minor status fields (Err fault) = HeadDecides Wanted minor status fields (λ _. ⊥) (faulty fault)
+
+-- a head in the buffer that is taken
+pub record TookHead (Wanted : ℕ → Type 0) (i : Passage) (buf : Bytes) (headers : List HeaderSpan) (taken : Taken) : Type 0 where
+  pub headed : IsHeaded i buf headers taken.start taken.len taken.spans
+  pub is : IsTaken Wanted taken.spans.version taken.spans.code
+      (map (header_bytes (slice_range buf taken.start taken.len)) (take taken.spans.headers headers)) taken.framing
+
+-- reading a head that is taken, or one that decides alone
+abbrev pub ReadsTaken : (ℕ → Type 0) → Passage → Bytes → List HeaderSpan → Result Taken GetFault → Type 0
+ReadsTaken Wanted i buf headers (Ok taken) = TookHead Wanted i buf headers taken
+ReadsTaken Wanted i buf headers (Err fault) = Receives (ResponseDecides Wanted (λ _ _. ⊥)) i (faulty fault)

@@ -1,13 +1,15 @@
-use Rattle.tl_get.proofs.ExchangeLemmas.{no_head, head_alone, body_after}
+use Rattle.std.proofs.Common.{Contains, List, ℕ, [], ◌∷◌}
+use Rattle.tl_get.specs.Response.{BodyDecides}
+use Rattle.tl_get.proofs.ExchangeLemmas.{body_after, decides_alone, found_receives}
 use Rattle.tl_get.proofs.exchange.read_response.Goals as goal
-
-pub returns-in-Missing : goal.returns-in-Missing
-returns-in-Missing g c = no_head _ c.args.limit c.in-Missing.ensures
 
 pub returns-in-Err : goal.returns-in-Err
 returns-in-Err g c =
-    head_alone _ c.read_head.new.buf c.read_head.new.headers c.in-Head.start c.in-Head.len c.in-Head.spans c.args.limit c.in-Err.fault c.in-Head.ensures c.in-Err.ensures
+    found_receives c.args.limit _ _ (decides_alone (List ℕ) (Contains (200 ∷ [])) (λ b framing r. BodyDecides c.args.limit framing b.rest r) _ c.in-Err.fault c.in-Err.ensures)
 
 pub returns-in-Ok : goal.returns-in-Ok
 returns-in-Ok g c =
-    body_after _ _ _ _ _ _ c.read_head.new.buf c.read_head.new.headers c.in-Head.start c.in-Head.len c.in-Head.spans c.args.limit c.in-Ok.framing _ c.in-Head.ensures c.in-Ok.ensures c.read_body.ensures
+    let taken = c.in-Ok.taken in
+    found_receives c.args.limit _ _
+    (body_after (List ℕ) (Contains (200 ∷ [])) (λ b framing r. BodyDecides c.args.limit framing b.rest r) _ _ _ _ _ _ c.read_taken.new.buf c.read_taken.new.headers taken.start taken.len taken.spans c.args.limit taken.framing _ _
+    c.in-Ok.ensures.headed c.in-Ok.ensures.is (λ same. same) (λ rest decides. decides) c.read_body.ensures)
