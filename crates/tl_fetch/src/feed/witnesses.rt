@@ -15,6 +15,7 @@ use tl_ask::{AskFault, Question, WitnessAnswer, ask_witness};
 use tl_client::{Head, ResourceSource};
 use tl_command::{RunFault, print_text};
 use tl_device::{Counted, DeviceFault, Timed};
+use tl_get::GetFault;
 use tl_source::{Url, connect};
 
 // Where a witness is asked under its address (C2SP tlog-witness, "add-checkpoint").
@@ -92,7 +93,21 @@ impl<H: Net<Stream = TcpStream> + Clock, E: Write> HttpWitnesses<'_, H, E> {
             question,
         ) {
             Ok(answer) => Ok(answer),
-            Err(fault) => Err(Unasked::Ask(fault)),
+            Err(fault) => Err(self.why_none(&start, fault)),
+        }
+    }
+
+    // Why a witness gave no answer, that was asked then.
+    fn why_none(&self, start: &Instant, fault: AskFault) -> Unasked {
+        let is_late = match start.elapsed(self.rt) {
+            Ok(elapsed) => elapsed >= self.limit,
+            Err(_) => false,
+        };
+        match fault {
+            AskFault::Get(GetFault::Read | GetFault::Write) if is_late => {
+                Unasked::Device(DeviceFault::TimedOut)
+            }
+            _ => Unasked::Ask(fault),
         }
     }
 
