@@ -1,3 +1,4 @@
+pub mod GrowthLemmas
 pub mod EntryLemmas
 pub mod Passages
 pub mod ListedLemmas

@@ -34,7 +34,7 @@ pub use feed::asking::{AsksWitnesses, Unasked};
 pub use feed::command::{FeedOptions, run_feed};
 pub use feed::feeding::feed_under;
 pub use feed::growing::growth_from;
-pub use law::listing_is_one_list;
+pub use law::{honest_growth_is_accepted, listing_is_one_list};
 pub use listing::print_entries;
 pub use observer::Observer;
 pub use opening::{open_trusted, trusted_head};
