@@ -1,6 +1,8 @@
 //! A folder or a host as one source.
 
+use crate::ahead::AsksHost;
 use crate::folder::FolderSource;
+use crate::host::LogHost;
 use crate::http::HttpSource;
 use crate::lack::{Lack, NamesLack};
 use std::alloc::Allocator;
@@ -24,6 +26,22 @@ impl<H: Files + Net<Stream = TcpStream> + Clock> NamesLack for AnySource<'_, H> 
         match self {
             AnySource::Folder(source) => source.lack(),
             AnySource::Http(source) => source.lack(),
+        }
+    }
+}
+
+impl<H: Files + Net<Stream = TcpStream> + Clock> AsksHost for AnySource<'_, H> {
+    fn host(&self) -> Option<&LogHost<'_>> {
+        match self {
+            AnySource::Folder(_) => None,
+            AnySource::Http(source) => source.host(),
+        }
+    }
+
+    fn asks_for(&self, resource: &Resource) -> bool {
+        match self {
+            AnySource::Folder(_) => false,
+            AnySource::Http(source) => source.asks_for(resource),
         }
     }
 }

@@ -4,9 +4,12 @@ ghost use Rattle.std.specs.Prelude.{◌≡◌};
 ghost use Rattle.tl_tile.specs.Path.{IsResource};
 ghost use Rattle.tl_source.specs.Caches.{may_answer_either, may_lack_both};
 
+use crate::ahead::AsksHost;
+use crate::host::LogHost;
 use std::alloc::{Allocator, Global};
 use std::marker::Model;
 use tl_client::ResourceSource;
+use tl_folder::has_path;
 use tl_tile::{Resource, SourceFault};
 
 /// A source of a log's resources behind a cache of its tiles. Contracts see the cache and the source.
@@ -32,6 +35,22 @@ impl<'s, C: ResourceSource, S: ResourceSource> CachedSource<'s, C, S> {
             alloc,
             cache,
             source,
+        }
+    }
+}
+
+impl<C: ResourceSource, S: ResourceSource + AsksHost> AsksHost for CachedSource<'_, C, S> {
+    fn host(&self) -> Option<&LogHost<'_>> {
+        self.source.host()
+    }
+
+    /// A tile that the cache has is not asked for.
+    fn asks_for(&self, resource: &Resource) -> bool {
+        match resource {
+            Resource::Tile(_) if has_path(resource) => {
+                self.cache.get(self.alloc, resource).is_err() && self.source.asks_for(resource)
+            }
+            _ => self.source.asks_for(resource),
         }
     }
 }

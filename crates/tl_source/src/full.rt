@@ -6,6 +6,8 @@ ghost use Rattle.tl_source.specs.Fulls.{IsFrontBundle, IsFrontOf, full_of, may_a
 ghost use Rattle.tl_tile.specs.Path.{IsResource};
 ghost use Rattle.tl_tile.specs.declared.source.SourceFault.TheVariants.{Unavailable};
 
+use crate::ahead::AsksHost;
+use crate::host::LogHost;
 use crate::lack::{Lack, LastLack, NamesLack};
 use std::alloc::{AllocError, Allocator, Global};
 use std::marker::Model;
@@ -151,6 +153,16 @@ impl<'s, S: ResourceSource + NamesLack> FullSource<'s, S> {
 impl<S: ResourceSource + NamesLack> NamesLack for FullSource<'_, S> {
     fn lack(&self) -> Option<Lack> {
         self.last.get()
+    }
+}
+
+impl<S: ResourceSource + NamesLack + AsksHost> AsksHost for FullSource<'_, S> {
+    fn host(&self) -> Option<&LogHost<'_>> {
+        self.source.host()
+    }
+
+    fn asks_for(&self, resource: &Resource) -> bool {
+        self.source.asks_for(resource)
     }
 }
 

@@ -12,21 +12,27 @@
 //! ```
 #![tactic(auto)]
 
+mod ahead;
 mod any;
 mod asking;
 mod cached;
 mod folder;
 mod full;
+mod host;
 mod http;
 mod lack;
 mod place;
 mod url;
+mod window;
 
+pub use ahead::{AsksHost, Requests};
 pub use any::AnySource;
 pub use cached::CachedSource;
 pub use folder::FolderSource;
 pub use full::FullSource;
-pub use http::{HttpSource, connect};
+pub use host::{LogHost, connect};
+pub use http::HttpSource;
 pub use lack::{Lack, NamesLack};
 pub use place::place_of;
 pub use url::Url;
+pub use window::Window;

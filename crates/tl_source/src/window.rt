@@ -1,0 +1,100 @@
+//! A source with resources of it that were got ahead.
+
+ghost use Rattle.std.specs.Prelude.{◌≡◌, ◌↔◌, All, IsTrue, MatchOption};
+ghost use Rattle.tl_source.specs.Ahead.{IsAnswer};
+ghost use Rattle.tl_source.specs.Inner.Ahead.{IsGot};
+
+use crate::ahead::{AsksHost, Got, Requests, answers_of};
+use std::alloc::{Allocator, Global};
+use std::marker::Model;
+use std::net::{Net, TcpListener, TcpStream};
+use std::thread::Threads;
+use std::time::Clock;
+use tl_client::ResourceSource;
+use tl_tile::{Resource, SourceFault};
+
+/// A source of a log's resources, and what its host answered for some of them that will be asked for soon. Contracts
+/// see the source.
+#[derive(Drop)]
+pub struct Window<'s, S: AsksHost> {
+    source: &'s S,
+    got: Vec<Option<Got>>,
+}
+
+impl<'s, S: AsksHost> Model for Window<'s, S> {
+    ghost Value = { S };
+
+    ghost view = { λ w. w.source.now };
+
+    ghost invariant = { λ w. All (IsAnswer (S.may_answer w.source.now)) w.got.items };
+}
+
+impl<'s, S: AsksHost> Window<'s, S> {
+    /// The source, with nothing that was got ahead.
+    pub fn new(alloc: Global, source: &'s S) -> Window<'s, S>
+        ensures { result ≡ source.now }
+    {
+        Window {
+            source,
+            got: Vec::new(alloc),
+        }
+    }
+
+    /// Gets the first of these resources ahead, as many as are asked for at once, and lets go of what was got before.
+    /// What the host has not got is asked for again by `get`.
+    pub fn get_ahead<H: Threads + Sync + Net<Listener = TcpListener, Stream = TcpStream> + Clock>(
+        &mut self,
+        requests: &Requests<'_, H>,
+        wanted: &[Resource],
+    )
+        ensures { self.new ≡ self.old }
+    {
+        self.got = answers_of(requests, self.source, wanted);
+    }
+}
+
+// Whether two resources are the same.
+fn is_same(one: &Resource, other: &Resource) -> bool
+    ensures { IsTrue result ↔ (one.now ≡ other.now) }
+{
+    one == other
+}
+
+// The bytes of a resource, where it is what was got.
+fn bytes_of<'g>(one: &'g Option<Got>, resource: &Resource) -> Option<&'g [u8]>
+    ensures { MatchOption result (Unit {0}) (λ bytes. IsGot one.now resource.now bytes.now) }
+{
+    match one {
+        Some(got) if is_same(&got.resource, resource) => Some(got.bytes.as_slice()),
+        _ => None,
+    }
+}
+
+impl<'s, S: AsksHost> Window<'s, S> {
+    // The bytes of a resource, where it was got ahead.
+    fn find(&self, resource: &Resource) -> Option<&[u8]>
+        ensures { MatchOption result (Unit {0})
+            (λ bytes. S.may_answer self.now resource.now bytes.now) }
+    {
+        for one in &self.got {
+            if let Some(bytes) = bytes_of(one, resource) {
+                return Some(bytes);
+            }
+        }
+        None
+    }
+}
+
+impl<S: AsksHost> ResourceSource for Window<'_, S> {
+    ghost may_answer = { λ s. S.may_answer s };
+
+    ghost may_lack = { λ s. S.may_lack s };
+
+    /// What was got ahead, and what wasn't from the source.
+    fn get<A: Allocator>(&self, alloc: A, resource: &Resource) -> Result<Vec<u8, A>, SourceFault> {
+        match self.find(resource) {
+            Some(bytes) => Ok(Vec::from_slice(alloc, bytes)?),
+            None => self.source.get(alloc, resource),
+        }
+    }
+}
