@@ -45,8 +45,8 @@ fn put_post<'a, W: Write>(
     let method: &'a [u8] = b"POST ";
     let version: &'a [u8] = b" HTTP/1.1\r\nHost: ";
     let size_name: &'a [u8] = b"\r\nContent-Length: ";
-    let close: &'a [u8] = b"\r\nConnection: close\r\n\r\n";
-    let pieces: [&'a [u8]; 8] = [method, target, version, host, size_name, size, close, body];
+    let end: &'a [u8] = b"\r\nConnection: close\r\n\r\n";
+    let pieces: [&'a [u8]; 8] = [method, target, version, host, size_name, size, end, body];
     write_pieces(writer, &pieces)
 }
 
