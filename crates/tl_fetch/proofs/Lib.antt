@@ -1,4 +1,5 @@
 pub mod GrowthLemmas
+pub mod FeedLemmas
 pub mod EntryLemmas
 pub mod Passages
 pub mod ListedLemmas

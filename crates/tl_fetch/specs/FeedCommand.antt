@@ -1,5 +1,5 @@
 -- The command `feed` (C2SP signed-note, "Verifier keys"; tlog-witness).
-use Rattle.std.specs.Prelude.{◌≡◌, ◌⊎◌, Result, Ok, Err, map, string_bytes, vec_items}
+use Rattle.std.specs.Prelude.{◌≡◌, ◌⊎◌, Result, Ok, Err, string_bytes, vec_items}
 use Rattle.std.specs.List.{Any}
 use Rattle.tl_device.specs.Device.{Passage, IsUnwritten}
 use Rattle.tl_source.specs.Fulls.{may_answer_front}
@@ -19,7 +19,7 @@ use Rattle.tl_fetch.specs.Trusting.{Policy, alone}
 abbrev pub IsAddressFault : FeedOptions → FetchFault → Type 0
 IsAddressFault options fault =
     ((fault ≡ BadAddress) × HasScheme (string_bytes options.log.from) × IsNoUrl (string_bytes options.log.from))
-    ⊎ (((fault ≡ BadAddress) × Any IsNoUrl (map string_bytes (vec_items options.to)))
+    ⊎ (((fault ≡ BadAddress) × Any (λ text. IsNoUrl (string_bytes text)) (vec_items options.to))
     ⊎ (fault ≡ Run OutOfMemory))
 
 -- over the folder or the host, whose full tiles and bundles stand for partial ones that are gone

@@ -1,6 +1,6 @@
 //! Witnesses that are asked over HTTP.
 
-ghost use Rattle.std.specs.Prelude.{◌≡◌, ◌⊎◌, IfErr, map, string_bytes};
+ghost use Rattle.std.specs.Prelude.{◌≡◌, ◌⊎◌, IfErr, string_bytes};
 ghost use Rattle.std.specs.List.{Any};
 ghost use Rattle.tl_source.specs.Url.{IsNoUrl};
 
@@ -24,7 +24,7 @@ const TARGET: &str = "/add-checkpoint";
 /// The addresses that these texts are. `BadAddress`: one is none over HTTP.
 pub(crate) fn addresses(alloc: Global, texts: &[String]) -> Result<Vec<Url<'_>>, FetchFault>
     ensures { IfErr result (λ fault. (fault ≡ FetchFault.Run RunFault.OutOfMemory)
-        ⊎ ((fault ≡ FetchFault.BadAddress) × Any IsNoUrl (map string_bytes texts.now))) }
+        ⊎ ((fault ≡ FetchFault.BadAddress) × Any (λ t. IsNoUrl (string_bytes t)) texts.now)) }
 {
     let mut urls = Vec::new(alloc);
     for text in texts {
