@@ -1,14 +1,25 @@
 -- What comes of bringing a log's checkpoint before witnesses, and what was printed before.
-use Rattle.std.proofs.Common.{◌≡◌, ◌⊎◌, ◌++◌, ◌∙◌, inl, inr, subst, sym, Option, Some, None}
+use Rattle.std.proofs.Common.{◌≡◌, ◌⊎◌, ◌++◌, inl, inr, subst, sym, string_bytes, vec_items, List, String, Option, Some, None, Result, Ok, Err}
+use Rattle.std.specs.Global.{Global}
+use Rattle.std.specs.List.{Any}
 use Rattle.tl_hash.specs.Bytes.{Bytes}
 use Rattle.tl_hash.specs.declared.head.Head.{Head}
 use Rattle.tl_device.specs.Device.{Passage, IsUnwritten}
 use Rattle.tl_fetch.specs.declared.fault.FetchFault.{FetchFault}
 use Rattle.tl_fetch.specs.declared.fault.FetchFault.TheVariants as fetch
 use Rattle.tl_command.specs.declared.fault.RunFault.TheVariants as run
+use Rattle.tl_tile.specs.declared.resource.Resource.{Resource}
+use Rattle.tl_source.specs.Fulls.{may_answer_front}
+use Rattle.tl_source.specs.Sources.{Origin, any_answers}
+use Rattle.tl_source.specs.Url.{IsNoUrl}
+use Rattle.tl_fetch.specs.declared.feed.command.FeedOptions.{FeedOptions}
+use Rattle.tl_fetch.specs.Command.{IsOriginOf, IsStateFault, may_have, state_fails}
+use Rattle.tl_fetch.specs.FeedCommand.{IsAddressFault, RunsFeedUnder}
+use Rattle.tl_fetch.specs.Inner.FeedRuns.{FeedsOver}
+use Rattle.tl_fetch.specs.Inner.Naming.{Renames}
 use Rattle.tl_fetch.specs.Faults.{IsNoAccusation}
 use Rattle.tl_fetch.specs.Feeding.{HasFed, IsFedNote, IsUnfed, RefusesFeed, RefusesFed}
-use Rattle.tl_fetch.specs.Fetching.{AreTwo, Grounds, RefusesTwo, Two}
+use Rattle.tl_fetch.specs.Fetching.{AreTwo, Grounds, RefusesTwo, Two, grounds_of}
 use Rattle.tl_fetch.specs.Opening.{RefusesNote}
 use Rattle.tl_fetch.specs.Printed.{PrintedSome, PrintedWhole}
 use Rattle.tl_fetch.specs.Trusting.{IsGrown, Policy, alone}
@@ -35,3 +46,33 @@ pub unfed_two : (grounds : Grounds) (policy : Policy) (two : Two) (fault : Fetch
     → grounds.fails fault ⊎ (IsUnfed policy two.note fault ⊎ (fault ≡ fetch.Run run.Write)) → RefusesFeed grounds policy fault (joined o p)
 unfed_two grounds policy two fault o p are grown on none fair printed why =
     inr (two, are, inr (record { grown = grown; why = why; fair = fair; printed = silent_some (IsFedNote policy two.note two.new) o p on none printed }))
+
+-- the grounds of a run without a file of a state, and with one
+pub feed_no_state : {A : Type 0} (state : Option A) (answers : Resource → Bytes → Type 0) (lacks : Resource → Type 0) (policy : Policy) (fault : FetchFault) (o : Passage) → state ≡ None
+    → RefusesFeed (grounds_of answers lacks (λ note. note ≡ None) (λ f. ⊥)) policy fault o → RefusesFeed (grounds_of answers lacks (may_have state) (state_fails state)) policy fault o
+feed_no_state state answers lacks policy fault o none refused =
+    subst (λ s. RefusesFeed (grounds_of answers lacks (may_have s) (state_fails s)) policy fault o) (sym none) refused
+
+pub feed_some_state : {A : Type 0} (state : Option A) (path : A) (answers : Resource → Bytes → Type 0) (lacks : Resource → Type 0) (policy : Policy) (fault : FetchFault) (o : Passage) → state ≡ Some path
+    → RefusesFeed (grounds_of answers lacks (λ note. Unit {0}) IsStateFault) policy fault o → RefusesFeed (grounds_of answers lacks (may_have state) (state_fails state)) policy fault o
+feed_some_state state path answers lacks policy fault o some refused =
+    subst (λ s. RefusesFeed (grounds_of answers lacks (may_have s) (state_fails s)) policy fault o) (sym some) refused
+
+-- the end of a run over a folder or a host, whose fault names what was lacked
+pub feed_renamed : (policy : Policy) (options : FeedOptions) (origin : Origin) (o : Passage) (outcome told : Result (Unit {0}) FetchFault) → IsOriginOf (string_bytes options.log.from) origin
+    → Renames outcome told → FeedsOver (may_answer_front (any_answers origin) (λ r. Unit {0})) (λ r. Unit {0}) policy options.log o outcome
+    → RunsFeedUnder policy options o told
+feed_renamed policy options origin o (Ok done) (Ok again) at same runs = runs
+feed_renamed policy options origin o (Ok done) (Err other) at same runs = absurd same
+feed_renamed policy options origin o (Err fault) (Ok done) at same runs = absurd same
+feed_renamed policy options origin o (Err fault) (Err other) at same runs = inr (origin, at, (fault, same, runs))
+
+-- an address that is none, or memory that ran out before one was read: nothing was printed
+pub no_address : (policy : Policy) (options : FeedOptions) (fault : FetchFault) (o : Passage) → IsUnwritten o → IsAddressFault options fault → RunsFeedUnder policy options o (Err fault)
+no_address policy options fault o none why = inl (why, none)
+
+-- a text among those of the witnesses' addresses that is none, or memory that ran out
+pub bad_texts : (options : FeedOptions) (texts : List (String Global)) (fault : FetchFault) → texts ≡ vec_items options.to
+    → (fault ≡ fetch.Run run.OutOfMemory) ⊎ ((fault ≡ fetch.BadAddress) × Any (λ t. IsNoUrl (string_bytes t)) texts) → IsAddressFault options fault
+bad_texts options texts fault same (inl memory) = inr (inr memory)
+bad_texts options texts fault same (inr (bad, some)) = inr (inl (bad, subst (λ (ts : List (String Global)). Any (λ t. IsNoUrl (string_bytes t)) ts) same some))

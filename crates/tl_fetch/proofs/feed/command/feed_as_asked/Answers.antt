@@ -1,0 +1,15 @@
+use Rattle.std.proofs.Common.{string_bytes, subst, sym}
+use Rattle.tl_source.specs.Sources.{origin_of}
+use Rattle.tl_fetch.specs.Command.{IsOriginOf}
+use Rattle.tl_fetch.proofs.FeedLemmas.{bad_texts, feed_renamed, no_address}
+use Rattle.tl_fetch.proofs.Passages.{still}
+use Rattle.tl_fetch.proofs.feed.command.feed_as_asked.Goals as goal
+
+pub returns-in-Err : goal.returns-in-Err
+returns-in-Err g c =
+    no_address _ c.args.options.now c.in-Err.fault _ (still _ _) (bad_texts c.args.options.now c.as_slice.result.now c.in-Err.fault c.as_slice.ensures.value c.in-Err.ensures)
+
+pub returns : goal.returns
+returns g c =
+    let options = c.args.options.now in
+    feed_renamed _ options (origin_of c.new-source.result) _ _ _ (subst (λ s. IsOriginOf (string_bytes options.log.from) (origin_of s)) (sym c.new-source.ensures) c.in-Ok-source_of.ensures.found) c.with_lack.ensures c.feed_with_state-outcome.ensures
