@@ -5,3 +5,5 @@ pub
     mod Trusted
 pub
     mod Naming
+pub
+    mod Ahead

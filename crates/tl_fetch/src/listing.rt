@@ -8,6 +8,7 @@ ghost use Rattle.tl_fetch.specs.Listed.{length_line, listed, listed_text, needs_
 ghost use Rattle.tl_tile.specs.Verified.{HavePassed};
 ghost use Rattle.tl_fetch.specs.Printed.{FailsPrinting, PrintedSome, PrintedWhole, RefusesAll};
 
+use crate::ahead::Ahead;
 use crate::fault::FetchFault;
 use crate::faults::client_refusal;
 use crate::kept::read_bundle;
@@ -15,9 +16,13 @@ use crate::observer::Observer;
 use itoa::Buffer;
 use std::alloc::{AllocError, Allocator};
 use std::io::Write;
+use std::net::{Net, TcpListener, TcpStream};
+use std::thread::Threads;
+use std::time::Clock;
 use tl_client::{Head, ResourceSource};
 use tl_command::{RunFault, print_text};
 use tl_device::Counted;
+use tl_source::{AsksHost, Requests};
 use tl_tile::FetchedTiles;
 
 // Whether an entry is told after its length: its end isn't seen else.
@@ -126,11 +131,19 @@ fn print_bundle<S: ResourceSource, A: Allocator + Copy, O: Observer, W: Write>(
 
 /// Prints the entries from this index on, counted from 0, up to the end of a log of this size and root, a line each;
 /// one with a newline, or a backslash in front, after a line with a backslash and its length. Each is checked as by
-/// `fetch_entry`, and nothing is printed of a bundle that doesn't pass. A tile is asked for once, and hashed once.
+/// `fetch_entry`, and nothing is printed of a bundle that doesn't pass. A tile is asked for once, and hashed once. The
+/// next bundles and tiles are asked for before their turn where a host has them, as `requests` are sent.
 /// `BadIndex`: the index is above the size, or the log has more than 2^62 entries.
-pub fn print_entries<S: ResourceSource, A: Allocator + Copy, O: Observer, W: Write>(
+pub fn print_entries<
+    S: ResourceSource + AsksHost,
+    H: Threads + Sync + Net<Listener = TcpListener, Stream = TcpStream> + Clock,
+    A: Allocator + Copy,
+    O: Observer,
+    W: Write,
+>(
     alloc: A,
     source: &S,
+    requests: &Requests<'_, H>,
     head: &Head,
     from: u64,
     observer: &mut O,
@@ -147,9 +160,19 @@ pub fn print_entries<S: ResourceSource, A: Allocator + Copy, O: Observer, W: Wri
         return Err(FetchFault::Run(RunFault::BadIndex));
     }
     let mut kept = FetchedTiles::new(alloc);
+    let mut ahead = Ahead::new(requests.alloc, source);
     let mut next = from;
     while next < head.size {
-        next = match print_bundle(alloc, source, head, next, &mut kept, observer, writer) {
+        ahead.reach(requests, head, next, &kept);
+        next = match print_bundle(
+            alloc,
+            &ahead.window,
+            head,
+            next,
+            &mut kept,
+            observer,
+            writer,
+        ) {
             Ok(next) => next,
             Err(fault) => return Err(fault),
         };
