@@ -33,7 +33,7 @@ pub struct Requests<'r, H> {
     pub rt: &'r H,
     /// Where memory comes from.
     pub alloc: Global,
-    /// How many requests are in flight at once.
+    /// The most requests that are in flight at once.
     pub at_once: u16,
 }
 

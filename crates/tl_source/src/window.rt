@@ -49,6 +49,7 @@ impl<'s, S: AsksHost> Window<'s, S> {
     )
         ensures { self.new ≡ self.old }
     {
+        self.got.clear();
         self.got = answers_of(requests, self.source, wanted);
     }
 }
