@@ -4,11 +4,8 @@ ghost use Rattle.std.specs.Prelude.{◌≡◌, ◌<◌, ◌*◌, All, IfOk, OnOk
 ghost use Rattle.tl_fetch.specs.Inner.Ahead.{IsOfLog};
 
 use std::alloc::{AllocError, Allocator, Global};
-use std::net::{Net, TcpListener, TcpStream};
-use std::thread::Threads;
-use std::time::Clock;
 use tl_client::Head;
-use tl_source::{AsksHost, Requests, Window};
+use tl_source::{AsksHost, HostClient, Requests, Window};
 use tl_tile::{FetchedTiles, Resource, Tile, bundle_width};
 
 // Whether a tile is among those that were kept.
@@ -103,10 +100,13 @@ impl<'s, S: AsksHost> Ahead<'s, S> {
 
     /// Gets the next bundles ahead, and the tiles over them, where the bundle with this entry was not asked for yet.
     /// Where memory is refused, nothing more is got ahead.
-    pub(crate) fn reach<
-        H: Threads + Sync + Net<Listener = TcpListener, Stream = TcpStream> + Clock,
-        A: Allocator,
-    >(&mut self, requests: &Requests<'_, H>, head: &Head, from: u64, kept: &FetchedTiles<A>)
+    pub(crate) fn reach<H: HostClient, A: Allocator>(
+        &mut self,
+        requests: &Requests<'_, H>,
+        head: &Head,
+        from: u64,
+        kept: &FetchedTiles<A>,
+    )
         requires { from < head.now.size }
         ensures { self.new.window ≡ self.old.window }
     {

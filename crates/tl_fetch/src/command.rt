@@ -23,8 +23,7 @@ use crate::witnesses::{check_keys, witness_key};
 use std::alloc::Global;
 use std::fs::{File, Files};
 use std::io::Write;
-use std::net::{Net, TcpListener, TcpStream};
-use std::thread::Threads;
+use std::net::{Net, TcpStream};
 use std::time::{Clock, Duration};
 use tl_client::ResourceSource;
 use tl_command::{Place, RunFault, read_log_key};
@@ -32,8 +31,8 @@ use tl_device::Counted;
 use tl_folder::{AtomicFile, TileCache};
 use tl_note::Verifier;
 use tl_source::{
-    AnySource, AsksHost, CachedSource, FolderSource, FullSource, HttpSource, Lack, NamesLack,
-    Requests, Url,
+    AnySource, AsksHost, CachedSource, FolderSource, FullSource, HostClient, HttpSource, Lack,
+    NamesLack, Requests, Url,
 };
 
 // How many requests to a host are in flight at once, where that isn't told.
@@ -63,11 +62,7 @@ fn source_of<'s, H: Files + Net<Stream = TcpStream> + Clock>(
 
 // Fetches with the state in a file, if one is named.
 fn fetch_with_state<
-    H: Files<File = File>
-        + Net<Listener = TcpListener, Stream = TcpStream>
-        + Clock
-        + Threads
-        + Sync,
+    H: Files<File = File> + HostClient,
     S: ResourceSource + AsksHost,
     O: Observer,
     W: Write,
@@ -137,11 +132,7 @@ fn with_lack(outcome: Result<(), FetchFault>, lack: Option<Lack>) -> Result<(), 
 
 // Fetches from a source, and before it from the cache of tiles, if one is named.
 fn fetch_through<
-    H: Files<File = File>
-        + Net<Listener = TcpListener, Stream = TcpStream>
-        + Clock
-        + Threads
-        + Sync,
+    H: Files<File = File> + HostClient,
     S: ResourceSource + AsksHost,
     W: Write,
     E: Write,
@@ -177,16 +168,7 @@ fn fetch_through<
 }
 
 // Fetches from the source that is named.
-fn fetch_as_asked<
-    's,
-    H: Files<File = File>
-        + Net<Listener = TcpListener, Stream = TcpStream>
-        + Clock
-        + Threads
-        + Sync,
-    W: Write,
-    E: Write,
->(
+fn fetch_as_asked<'s, H: Files<File = File> + HostClient, W: Write, E: Write>(
     rt: &'s H,
     alloc: Global,
     policy: &Policy<'_>,
@@ -218,16 +200,7 @@ fn fetch_as_asked<
 }
 
 // The same, where the policy is the one that the options tell.
-fn fetch_as_told<
-    's,
-    H: Files<File = File>
-        + Net<Listener = TcpListener, Stream = TcpStream>
-        + Clock
-        + Threads
-        + Sync,
-    W: Write,
-    E: Write,
->(
+fn fetch_as_told<'s, H: Files<File = File> + HostClient, W: Write, E: Write>(
     rt: &'s H,
     alloc: Global,
     policy: &Policy<'_>,
@@ -251,16 +224,7 @@ fn fetch_as_told<
 /// `fetch`: reads the keys of the log and of the witnesses (C2SP signed-note, "Verifier keys"), and fetches what is
 /// wanted from the folder or over HTTP as `fetch_under` does, of the log with the name of its key, with as many requests
 /// in flight as the options tell. Where `errors` goes to a terminal, it is told how far the checks are.
-pub fn run_fetch<
-    's,
-    H: Files<File = File>
-        + Net<Listener = TcpListener, Stream = TcpStream>
-        + Clock
-        + Threads
-        + Sync,
-    W: Write,
-    E: Write,
->(
+pub fn run_fetch<'s, H: Files<File = File> + HostClient, W: Write, E: Write>(
     rt: &'s H,
     alloc: Global,
     options: &'s FetchOptions,

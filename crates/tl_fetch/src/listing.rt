@@ -16,13 +16,10 @@ use crate::observer::Observer;
 use itoa::Buffer;
 use std::alloc::{AllocError, Allocator};
 use std::io::Write;
-use std::net::{Net, TcpListener, TcpStream};
-use std::thread::Threads;
-use std::time::Clock;
 use tl_client::{Head, ResourceSource};
 use tl_command::{RunFault, print_text};
 use tl_device::Counted;
-use tl_source::{AsksHost, Requests};
+use tl_source::{AsksHost, HostClient, Requests};
 use tl_tile::FetchedTiles;
 
 // Whether an entry is told after its length: its end isn't seen else.
@@ -131,12 +128,11 @@ fn print_bundle<S: ResourceSource, A: Allocator + Copy, O: Observer, W: Write>(
 
 /// Prints the entries from this index on, counted from 0, up to the end of a log of this size and root, a line each;
 /// one with a newline, or a backslash in front, after a line with a backslash and its length. Each is checked as by
-/// `fetch_entry`, and nothing is printed of a bundle that doesn't pass. A tile is asked for once, and hashed once. The
-/// next bundles and tiles are asked for before their turn where a host has them, as `requests` are sent.
-/// `BadIndex`: the index is above the size, or the log has more than 2^62 entries.
+/// `fetch_entry`, and nothing is printed of a bundle that doesn't pass. A tile is asked for once, and hashed once; by
+/// `requests` a host is asked ahead. `BadIndex`: the index is above the size, or the log has more than 2^62 entries.
 pub fn print_entries<
     S: ResourceSource + AsksHost,
-    H: Threads + Sync + Net<Listener = TcpListener, Stream = TcpStream> + Clock,
+    H: HostClient,
     A: Allocator + Copy,
     O: Observer,
     W: Write,

@@ -20,13 +20,10 @@ use crate::printing::{print_entry, print_head, print_proof};
 use crate::state::TrustStore;
 use std::alloc::Global;
 use std::io::Write;
-use std::net::{Net, TcpListener, TcpStream};
-use std::thread::Threads;
-use std::time::Clock;
 use tl_client::{ClientFault, Head, ResourceSource, prove_growth};
 use tl_command::{RunFault, print_text};
 use tl_device::Counted;
-use tl_source::{AsksHost, Requests};
+use tl_source::{AsksHost, HostClient, Requests};
 use tl_tile::FetchedTiles;
 
 // Checks that a log goes on from what was known, by a consistency proof that is accepted, and tells of its tiles.
@@ -90,12 +87,7 @@ struct Task {
 }
 
 // Prints what is asked of the log of a policy.
-fn print_asked<
-    S: ResourceSource + AsksHost,
-    H: Threads + Sync + Net<Listener = TcpListener, Stream = TcpStream> + Clock,
-    O: Observer,
-    W: Write,
->(
+fn print_asked<S: ResourceSource + AsksHost, H: HostClient, O: Observer, W: Write>(
     alloc: Global,
     source: &S,
     requests: &Requests<'_, H>,
@@ -169,7 +161,7 @@ fn judge<S: ResourceSource, O: Observer, W: Write>(
 // Keeps the new note and prints what is wanted, all entries before it is kept.
 fn print_and_keep<
     S: ResourceSource + AsksHost,
-    H: Threads + Sync + Net<Listener = TcpListener, Stream = TcpStream> + Clock,
+    H: HostClient,
     K: TrustStore,
     O: Observer,
     W: Write,
@@ -219,7 +211,7 @@ fn print_and_keep<
 /// the log shrank or forked, the state's note and the new one are printed.
 pub fn fetch_under<
     S: ResourceSource + AsksHost,
-    H: Threads + Sync + Net<Listener = TcpListener, Stream = TcpStream> + Clock,
+    H: HostClient,
     K: TrustStore,
     O: Observer,
     W: Write,
