@@ -21,9 +21,13 @@ class OldFiles(Files):
     protocol_version = 'HTTP/1.0'
 
 
+class Server(http.server.ThreadingHTTPServer):
+    request_queue_size = 128
+
+
 def serving(handler):
     """Serves by this handler, in threads that end with the script: the address."""
-    server = http.server.ThreadingHTTPServer(('127.0.0.1', 0), handler)
+    server = Server(('127.0.0.1', 0), handler)
     threading.Thread(target=server.serve_forever, daemon=True).start()
     return f'http://127.0.0.1:{server.server_port}'
 
@@ -107,5 +111,40 @@ class Liar(Files):
         try:
             for piece in LIES[lie if which == kind else 'missing' if body is None else 'true'](body or b''):
                 time.sleep(piece) if isinstance(piece, (int, float)) else self.connection.sendall(piece)
+        except OSError:
+            pass
+
+
+class Late(Files):
+    """A web server of files that answers late, each path as late as `late` says: `asked` are the paths that it was asked for,
+    and `most` says how many clients it had at once. A client counts until its answer is sent."""
+    lock, asked, late = threading.Lock(), [], {}
+    now = most = 0
+
+    @classmethod
+    def clear(cls, late=None):
+        cls.asked.clear()
+        cls.most, cls.late = 0, late or {}
+
+    @classmethod
+    def count(cls, more):
+        with cls.lock:
+            cls.now += more
+            cls.most = max(cls.most, cls.now)
+
+    def setup(self):
+        self.count(1)
+        super().setup()
+
+    def do_GET(self):
+        path = self.path[1:]
+        Late.asked.append(path.split('/', 1)[1])
+        time.sleep(self.late.get(path.split('/', 1)[1], 0.03))
+        body = read(path)
+        self.count(-1)
+        self.close_connection = True
+        try:
+            for piece in whole(body or b'', '404 Not Found' if body is None else '200 OK'):
+                self.connection.sendall(piece)
         except OSError:
             pass

@@ -7,3 +7,5 @@ pub
     mod Naming
 pub
     mod FeedRuns
+pub
+    mod Ahead

@@ -31,8 +31,12 @@ use tl_device::Counted;
 use tl_folder::{AtomicFile, TileCache};
 use tl_note::Verifier;
 use tl_source::{
-    AnySource, CachedSource, FolderSource, FullSource, HttpSource, Lack, NamesLack, Url,
+    AnySource, AsksHost, CachedSource, FolderSource, FullSource, HostClient, HttpSource, Lack,
+    NamesLack, Requests, Url,
 };
+
+// How many requests to a host are in flight at once, where that isn't told.
+const AT_ONCE: u16 = 8;
 
 /// The source that the options name: what has a scheme is an address, and all else a folder.
 pub(crate) fn source_of<'s, H: Files + Net<Stream = TcpStream> + Clock>(
@@ -57,7 +61,12 @@ pub(crate) fn source_of<'s, H: Files + Net<Stream = TcpStream> + Clock>(
 }
 
 // Fetches with the state in a file, if one is named.
-fn fetch_with_state<H: Files<File = File>, S: ResourceSource, O: Observer, W: Write>(
+fn fetch_with_state<
+    H: Files<File = File> + HostClient,
+    S: ResourceSource + AsksHost,
+    O: Observer,
+    W: Write,
+>(
     rt: &H,
     alloc: Global,
     source: &S,
@@ -72,9 +81,16 @@ fn fetch_with_state<H: Files<File = File>, S: ResourceSource, O: Observer, W: Wr
         (passage W.contents writer.old writer.new) result }
 {
     let wanted = options.wanted;
+    let requests = Requests {
+        rt,
+        alloc,
+        at_once: options.threads.unwrap_or(AT_ONCE),
+    };
     let Some(path) = &options.state else {
         let mut state = NoState;
-        return match fetch_under(alloc, source, policy, wanted, &mut state, observer, writer) {
+        return match fetch_under(
+            alloc, source, &requests, policy, wanted, &mut state, observer, writer,
+        ) {
             Ok(()) => Ok(()),
             Err(fault) => Err(fault),
         };
@@ -84,7 +100,9 @@ fn fetch_with_state<H: Files<File = File>, S: ResourceSource, O: Observer, W: Wr
         Err(fault) => return Err(file_refusal(fault)),
     };
     let mut state = FileState(file);
-    match fetch_under(alloc, source, policy, wanted, &mut state, observer, writer) {
+    match fetch_under(
+        alloc, source, &requests, policy, wanted, &mut state, observer, writer,
+    ) {
         Ok(()) => Ok(()),
         Err(fault) => Err(fault),
     }
@@ -117,8 +135,8 @@ pub(crate) fn with_lack(
 
 // Fetches from a source, and before it from the cache of tiles, if one is named.
 fn fetch_through<
-    H: Files<File = File> + Net<Stream = TcpStream> + Clock,
-    S: ResourceSource,
+    H: Files<File = File> + HostClient,
+    S: ResourceSource + AsksHost,
     W: Write,
     E: Write,
 >(
@@ -153,7 +171,7 @@ fn fetch_through<
 }
 
 // Fetches from the source that is named.
-fn fetch_as_asked<'s, H: Files<File = File> + Net<Stream = TcpStream> + Clock, W: Write, E: Write>(
+fn fetch_as_asked<'s, H: Files<File = File> + HostClient, W: Write, E: Write>(
     rt: &'s H,
     alloc: Global,
     policy: &Policy<'_>,
@@ -185,7 +203,7 @@ fn fetch_as_asked<'s, H: Files<File = File> + Net<Stream = TcpStream> + Clock, W
 }
 
 // The same, where the policy is the one that the options tell.
-fn fetch_as_told<'s, H: Files<File = File> + Net<Stream = TcpStream> + Clock, W: Write, E: Write>(
+fn fetch_as_told<'s, H: Files<File = File> + HostClient, W: Write, E: Write>(
     rt: &'s H,
     alloc: Global,
     policy: &Policy<'_>,
@@ -207,9 +225,9 @@ fn fetch_as_told<'s, H: Files<File = File> + Net<Stream = TcpStream> + Clock, W:
 }
 
 /// `fetch`: reads the keys of the log and of the witnesses (C2SP signed-note, "Verifier keys"), and fetches what is
-/// wanted from the folder or over HTTP as `fetch_under` does, of the log with the name of its key. Where `errors` goes
-/// to a terminal, it is told how far the checks are.
-pub fn run_fetch<'s, H: Files<File = File> + Net<Stream = TcpStream> + Clock, W: Write, E: Write>(
+/// wanted from the folder or over HTTP as `fetch_under` does, of the log with the name of its key, with as many requests
+/// in flight as the options tell. Where `errors` goes to a terminal, it is told how far the checks are.
+pub fn run_fetch<'s, H: Files<File = File> + HostClient, W: Write, E: Write>(
     rt: &'s H,
     alloc: Global,
     options: &'s FetchOptions,

@@ -7,6 +7,7 @@
 //! ```
 #![tactic(auto)]
 
+mod ahead;
 mod caching;
 mod command;
 mod entry;

@@ -8,6 +8,7 @@ ghost use Rattle.tl_fetch.specs.Listed.{length_line, listed, listed_text, needs_
 ghost use Rattle.tl_tile.specs.Verified.{HavePassed};
 ghost use Rattle.tl_fetch.specs.Printed.{FailsPrinting, PrintedSome, PrintedWhole, RefusesAll};
 
+use crate::ahead::Ahead;
 use crate::fault::FetchFault;
 use crate::faults::client_refusal;
 use crate::kept::read_bundle;
@@ -18,6 +19,7 @@ use std::io::Write;
 use tl_client::{Head, ResourceSource};
 use tl_command::{RunFault, print_text};
 use tl_device::Counted;
+use tl_source::{AsksHost, HostClient, Requests};
 use tl_tile::FetchedTiles;
 
 // Whether an entry is told after its length: its end isn't seen else.
@@ -126,11 +128,18 @@ fn print_bundle<S: ResourceSource, A: Allocator + Copy, O: Observer, W: Write>(
 
 /// Prints the entries from this index on, counted from 0, up to the end of a log of this size and root, a line each;
 /// one with a newline, or a backslash in front, after a line with a backslash and its length. Each is checked as by
-/// `fetch_entry`, and nothing is printed of a bundle that doesn't pass. A tile is asked for once, and hashed once.
-/// `BadIndex`: the index is above the size, or the log has more than 2^62 entries.
-pub fn print_entries<S: ResourceSource, A: Allocator + Copy, O: Observer, W: Write>(
+/// `fetch_entry`, and nothing is printed of a bundle that doesn't pass. A tile is asked for once, and hashed once; by
+/// `requests` a host is asked ahead. `BadIndex`: the index is above the size, or the log has more than 2^62 entries.
+pub fn print_entries<
+    S: ResourceSource + AsksHost,
+    H: HostClient,
+    A: Allocator + Copy,
+    O: Observer,
+    W: Write,
+>(
     alloc: A,
     source: &S,
+    requests: &Requests<'_, H>,
     head: &Head,
     from: u64,
     observer: &mut O,
@@ -147,9 +156,19 @@ pub fn print_entries<S: ResourceSource, A: Allocator + Copy, O: Observer, W: Wri
         return Err(FetchFault::Run(RunFault::BadIndex));
     }
     let mut kept = FetchedTiles::new(alloc);
+    let mut ahead = Ahead::new(requests.alloc, source);
     let mut next = from;
     while next < head.size {
-        next = match print_bundle(alloc, source, head, next, &mut kept, observer, writer) {
+        ahead.reach(requests, head, next, &kept);
+        next = match print_bundle(
+            alloc,
+            &ahead.window,
+            head,
+            next,
+            &mut kept,
+            observer,
+            writer,
+        ) {
             Ok(next) => next,
             Err(fault) => return Err(fault),
         };

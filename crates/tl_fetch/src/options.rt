@@ -30,6 +30,8 @@ pub struct FetchOptions {
     pub cache: Option<String>,
     /// How many seconds one answer may take, at least 1.
     pub timeout: u64,
+    /// How many requests to a host are in flight at once; without it 8.
+    pub threads: Option<u16>,
     /// What is printed.
     pub wanted: FetchRequest,
 }

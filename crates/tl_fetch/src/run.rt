@@ -23,6 +23,7 @@ use std::io::Write;
 use tl_client::{ClientFault, Head, ResourceSource, prove_growth};
 use tl_command::{RunFault, print_text};
 use tl_device::Counted;
+use tl_source::{AsksHost, HostClient, Requests};
 use tl_tile::FetchedTiles;
 
 // Checks that a log goes on from what was known, by a consistency proof that is accepted, and tells of its tiles.
@@ -86,9 +87,10 @@ struct Task {
 }
 
 // Prints what is asked of the log of a policy.
-fn print_asked<S: ResourceSource, O: Observer, W: Write>(
+fn print_asked<S: ResourceSource + AsksHost, H: HostClient, O: Observer, W: Write>(
     alloc: Global,
     source: &S,
+    requests: &Requests<'_, H>,
     policy: &Policy<'_>,
     head: &Head,
     asked: Task,
@@ -106,7 +108,9 @@ fn print_asked<S: ResourceSource, O: Observer, W: Write>(
     match asked.wanted {
         FetchRequest::Head => print_head(alloc, policy.origin, head, writer),
         FetchRequest::Entry(index) => print_entry(alloc, source, head, index, observer, writer),
-        FetchRequest::All => print_entries(alloc, source, head, asked.known, observer, writer),
+        FetchRequest::All => {
+            print_entries(alloc, source, requests, head, asked.known, observer, writer)
+        }
         FetchRequest::Proof(index) => print_proof(alloc, source, head, index, observer, writer),
     }
 }
@@ -155,9 +159,16 @@ pub(crate) fn judge<S: ResourceSource, O: Observer, W: Write>(
 }
 
 // Keeps the new note and prints what is wanted, all entries before it is kept.
-fn print_and_keep<S: ResourceSource, K: TrustStore, O: Observer, W: Write>(
+fn print_and_keep<
+    S: ResourceSource + AsksHost,
+    H: HostClient,
+    K: TrustStore,
+    O: Observer,
+    W: Write,
+>(
     alloc: Global,
     source: &S,
+    requests: &Requests<'_, H>,
     policy: &Policy<'_>,
     step: &Update<'_>,
     wanted: FetchRequest,
@@ -184,21 +195,30 @@ fn print_and_keep<S: ResourceSource, K: TrustStore, O: Observer, W: Write>(
 {
     let known = step.old.size;
     if let FetchRequest::All = wanted {
-        print_entries(alloc, source, step.new, known, observer, writer)?;
+        print_entries(alloc, source, requests, step.new, known, observer, writer)?;
         return state.keep(policy, step.last, step.note);
     }
     state.keep(policy, step.last, step.note)?;
     let asked = Task { wanted, known };
-    print_asked(alloc, source, policy, step.new, asked, observer, writer)
+    print_asked(
+        alloc, source, requests, policy, step.new, asked, observer, writer,
+    )
 }
 
 /// Fetches what is wanted of the log of this policy. The source's checkpoint has to be trusted (`open_trusted`), and
 /// to go on from the state's by a consistency proof that is accepted (`tl_client::prove_growth`). It is kept then, and
 /// what is wanted is printed; all entries are printed before it is kept, so that none is lost where that fails. Where
 /// the log shrank or forked, the state's note and the new one are printed.
-pub fn fetch_under<S: ResourceSource, K: TrustStore, O: Observer, W: Write>(
+pub fn fetch_under<
+    S: ResourceSource + AsksHost,
+    H: HostClient,
+    K: TrustStore,
+    O: Observer,
+    W: Write,
+>(
     alloc: Global,
     source: &S,
+    requests: &Requests<'_, H>,
     policy: &Policy<'_>,
     wanted: FetchRequest,
     state: &mut K,
@@ -229,7 +249,7 @@ pub fn fetch_under<S: ResourceSource, K: TrustStore, O: Observer, W: Write>(
         return Err(fault);
     }
     match print_and_keep(
-        alloc, source, policy, &step, wanted, state, observer, writer,
+        alloc, source, requests, policy, &step, wanted, state, observer, writer,
     ) {
         Ok(()) => Ok(()),
         Err(fault) => Err(fault),

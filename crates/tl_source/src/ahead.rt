@@ -26,6 +26,14 @@ pub trait AsksHost: ResourceSource {
     fn asks_for(&self, resource: &Resource) -> bool;
 }
 
+/// What asks hosts: it opens connections, reads the clock and starts threads.
+pub trait HostClient: Threads + Sync + Net<Listener = TcpListener, Stream = TcpStream> + Clock {}
+
+impl<H> HostClient for H
+where
+    H: Threads + Sync + Net<Listener = TcpListener, Stream = TcpStream> + Clock,
+{}
+
 /// How requests are sent: how many at once, by what, and with memory from where.
 #[derive(Drop)]
 pub struct Requests<'r, H> {
@@ -33,7 +41,7 @@ pub struct Requests<'r, H> {
     pub rt: &'r H,
     /// Where memory comes from.
     pub alloc: Global,
-    /// How many requests are in flight at once.
+    /// The most requests that are in flight at once.
     pub at_once: u16,
 }
 
@@ -67,7 +75,7 @@ fn ask_host<H: Net<Stream = TcpStream> + Clock>(
 }
 
 // The same for each of these resources, all at once.
-fn ask_each<H: Threads + Sync + Net<Listener = TcpListener, Stream = TcpStream> + Clock>(
+fn ask_each<H: HostClient>(
     rt: &H,
     alloc: Global,
     host: &LogHost<'_>,

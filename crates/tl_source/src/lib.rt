@@ -25,7 +25,7 @@ mod place;
 mod url;
 mod window;
 
-pub use ahead::{AsksHost, Requests};
+pub use ahead::{AsksHost, HostClient, Requests};
 pub use any::AnySource;
 pub use cached::CachedSource;
 pub use folder::FolderSource;

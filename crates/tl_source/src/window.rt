@@ -4,12 +4,9 @@ ghost use Rattle.std.specs.Prelude.{◌≡◌, ◌↔◌, All, IsTrue, MatchOpti
 ghost use Rattle.tl_source.specs.Ahead.{IsAnswer};
 ghost use Rattle.tl_source.specs.Inner.Ahead.{IsGot};
 
-use crate::ahead::{AsksHost, Got, Requests, answers_of};
+use crate::ahead::{AsksHost, Got, HostClient, Requests, answers_of};
 use std::alloc::{Allocator, Global};
 use std::marker::Model;
-use std::net::{Net, TcpListener, TcpStream};
-use std::thread::Threads;
-use std::time::Clock;
 use tl_client::ResourceSource;
 use tl_tile::{Resource, SourceFault};
 
@@ -42,13 +39,10 @@ impl<'s, S: AsksHost> Window<'s, S> {
 
     /// Gets the first of these resources ahead, as many as are asked for at once, and lets go of what was got before.
     /// What the host has not got is asked for again by `get`.
-    pub fn get_ahead<H: Threads + Sync + Net<Listener = TcpListener, Stream = TcpStream> + Clock>(
-        &mut self,
-        requests: &Requests<'_, H>,
-        wanted: &[Resource],
-    )
+    pub fn get_ahead<H: HostClient>(&mut self, requests: &Requests<'_, H>, wanted: &[Resource])
         ensures { self.new ≡ self.old }
     {
+        self.got.clear();
         self.got = answers_of(requests, self.source, wanted);
     }
 }

@@ -27,6 +27,7 @@ const FETCH: Words = Words {
         "state" "FILE" Kind::Path => "The file with the checkpoint that was trusted last";
         "cache" "DIR" Kind::Path => "The folder where tiles are kept that were checked";
         "timeout" "N" Kind::Number(1, 86_400) => "How many seconds one answer may take";
+        "threads" "N" Kind::Few => "How many requests to a host are in flight at once";
         "head" "" Kind::Flag => "Print the log's name, size and root";
         "index" "N" Kind::Number(0, u64::MAX) => "Print the entry with this index";
         "all" "" Kind::Flag => "Print every entry that the state doesn't count yet";
@@ -86,6 +87,7 @@ pub(super) fn fetch_job(alloc: Global, options: &ArgMatches<'_>) -> Result<Job, 
         state: text_if_given(alloc, options, "state")?,
         cache: text_if_given(alloc, options, "cache")?,
         timeout: options.get_one::<u64>("timeout").unwrap_or(TIMEOUT),
+        threads: options.get_one::<u16>("threads"),
         wanted,
     }))
 }

@@ -25,6 +25,8 @@ pub(super) enum Kind {
     RequiredNumber,
     /// A number from 1 to 65,535.
     Short,
+    /// A number from 1 to 64.
+    Few,
 }
 
 /// A word of a command, which stands behind two hyphens.
@@ -70,6 +72,7 @@ fn argument<'a>(alloc: Global, word: &Word) -> Arg<'a> {
         Kind::Number(least, most) => between(arg, least, most),
         Kind::RequiredNumber => between(arg, 0, u64::MAX).required(true),
         Kind::Short => arg.value_parser(ValueParser::signed(1, 65_535)),
+        Kind::Few => arg.value_parser(ValueParser::signed(1, 64)),
     }
 }
 

@@ -126,8 +126,9 @@ Output: with --head three lines, the log's name, its size and its root; with --i
 every entry from the state's size on, one a line, each checked before it is printed (one that has a newline or begins
 with a backslash after a line with a backslash and its length in bytes); with --prove the text that 'tlog check' reads.
 Where the log shrank or forked, both checkpoints: the state's and the new one.
-Defaults: --need all witnesses that are given, --timeout 10. With --cache tiles that passed are kept in that folder, and
-checked again when they are read.
+Defaults: --need all witnesses that are given, --timeout 10, --threads 8. With --cache tiles that passed are kept in that
+folder, and checked again when they are read. --threads: with --all over HTTP so many requests are in flight at once,
+from 1 to 64; the output is the same.
 Exit status: 0 done; 1 refused (a bad key, a witness with the key of another or of the log, a bad address, no checkpoint
 that opens, checkpoint of another log, cosigned by N witnesses, no entry at the index, a tile, a bundle or an entry wrong, bad state, out of memory); 2 wrong arguments
 or a call for help; 3 not available, or a read or a write failed; 4 log shrank, log forked. A refusal is one line

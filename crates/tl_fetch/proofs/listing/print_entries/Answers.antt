@@ -1,5 +1,7 @@
-use Rattle.std.proofs.Common.{arith, refl, ◌/◌}
+use Rattle.std.proofs.Common.{arith, refl, subst, ◌∙◌, ◌/◌}
 use Rattle.tl_client.proofs.LeafReads.{none_passed}
+use Rattle.tl_fetch.specs.Entries.{RefusesBundle}
+use Rattle.tl_fetch.specs.Printed.{FailsPrinting}
 use Rattle.tl_fetch.proofs.ListingLemmas.{refuses_all, printed_further, printed_some, printing_none}
 use Rattle.tl_fetch.proofs.listing.print_entries.Goals as goal
 
@@ -8,7 +10,12 @@ returns-in-Err-clause-part g c = printed_some c.args.head.now c.args.from _ _ _ 
 
 pub returns-in-Err-clause-refused : goal.returns-in-Err-clause-refused
 returns-in-Err-clause-refused g c =
-    refuses_all (g.S.ResourceSource.may_answer c.args.source.now) (g.S.ResourceSource.may_lack c.args.source.now) c.args.head.now c.args.from (c.loop-next.next / 256) c.in-Err.fault c.in-Err.ensures.refused
+    let head = c.args.head.now in
+    let bundle = c.loop-next.next / 256 in
+    let answers = g.S.ResourceSource.may_answer in
+    let lacks = g.S.ResourceSource.may_lack in
+    refuses_all (answers c.args.source.now) (lacks c.args.source.now) head c.args.from bundle c.in-Err.fault
+    (subst (λ s. FailsPrinting (RefusesBundle (answers s) (lacks s) head bundle) c.in-Err.fault) (c.reach.ensures ∙ c.loop-next.invariant.2) c.in-Err.ensures.refused)
 
 pub loop-next-preserved : goal.loop-next-preserved
 loop-next-preserved g c = (
@@ -17,7 +24,12 @@ loop-next-preserved g c = (
     within = c.in-Ok.ensures.within;
   },
   c.in-Ok.ensures.passed,
+  c.reach.ensures ∙ c.loop-next.invariant.2,
 )
 
 pub loop-next-init : goal.loop-next-init
-loop-next-init g c = (printing_none c.args.head.now c.args.from _ _ (omega (arith, c.if-from-head.false)), none_passed c.args.head.now.size c.args.head.now.root c.new-kept.result c.new-kept.ensures)
+loop-next-init g c = (
+  printing_none c.args.head.now c.args.from _ _ (omega (arith, c.if-from-head.false)),
+  none_passed c.args.head.now.size c.args.head.now.root c.new-kept.result c.new-kept.ensures,
+  c.new-ahead.ensures.window,
+)
