@@ -7,8 +7,7 @@ use Rattle.tl_witness.specs.Request.{Body, body_text}
 use Rattle.tl_ask.specs.Answer.{AnswerDecides, Answered}
 use Rattle.tl_ask.specs.declared.fault.AskFault.TheVariants.{OutOfMemory}
 
--- the request of a question: its body is sent by POST, and that of a response with status 200 or 409 is wanted, with its
--- type
+-- the request of a question: its body is sent, and of a response with status 200 or 409 the body is wanted and its type
 abbrev pub request_of : Bytes → Bytes → Body → Asked
 request_of host target question = record {
   host = host;

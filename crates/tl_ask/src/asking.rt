@@ -17,9 +17,9 @@ use tl_get::{Post, post};
 // The most bytes of an answer's body.
 const MOST_ANSWER: usize = 16_384;
 
-/// Asks a witness to cosign a checkpoint: one POST request of the question to a target of its host, and what it answers,
-/// of at most 16,384 bytes (C2SP tlog-witness, "add-checkpoint"). No signature is verified, and nothing that comes is
-/// trusted. The connection is of no use then.
+/// Asks a witness to cosign a checkpoint: one POST request of the question to a target of its host, and what it
+/// answers, in at most 16,384 bytes (C2SP tlog-witness, "add-checkpoint"). `AskFault` says why it neither cosigned nor
+/// told a size. No signature is verified, and nothing that comes is trusted. The connection is of no use then.
 pub fn ask_witness<A: Allocator + Copy, I: Read, O: Write>(
     alloc: A,
     reader: &mut Counted<I>,

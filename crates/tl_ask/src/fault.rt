@@ -22,7 +22,7 @@ pub enum AskFault {
     /// The witness doesn't accept the proof (422).
     #[error("the witness doesn't accept the proof")]
     Unproved,
-    /// There is no response that is taken, for another reason.
+    /// There is no response that is taken, for another reason, such as a body of more than 16,384 bytes.
     #[error("{0}")]
     Get(GetFault),
     /// The body with status 200 isn't lines of signatures, 1 to 100.

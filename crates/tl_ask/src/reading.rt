@@ -17,8 +17,11 @@ fn are_signatures<A: Allocator>(alloc: A, text: &str) -> Result<bool, AllocError
     ensures told { IfOk result (λ are. IsTrue are ↔ AreSignatures text.now) }
     ensures refused { OnErr result (AreSignatures text.now) }
 {
+    if text.is_empty() {
+        return Ok(false);
+    }
     match parse_signatures(alloc, text) {
-        Ok(lines) => Ok(!lines.is_empty()),
+        Ok(_) => Ok(true),
         Err(NoteFault::OutOfMemory) => Err(AllocError),
         Err(_) => Ok(false),
     }

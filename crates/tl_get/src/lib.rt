@@ -8,6 +8,14 @@
 //!     Err(GetFault::Status(404)) => {}  // the server has nothing there
 //!     Err(_) => {}                      // no body that is taken
 //! }
+//!
+//! let statuses = [200, 409];
+//! let asked = Post { host: "example.com", target: "/add", body: b"text", statuses: &statuses, field: "Content-Type" };
+//! match post(alloc, &mut reader, &mut writer, &asked, 65_536) {
+//!     Ok(reply) => {}                   // one of these statuses, the field's value, the body
+//!     Err(GetFault::Status(_)) => {}    // another status
+//!     Err(_) => {}                      // no response that is taken
+//! }
 //! ```
 #![tactic(auto)]
 
