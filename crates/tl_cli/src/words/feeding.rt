@@ -49,6 +49,7 @@ pub(super) fn feed_job(alloc: Global, options: &ArgMatches<'_>) -> Result<Job, W
         state: text_if_given(alloc, options, "state")?,
         cache: None,
         timeout: options.get_one::<u64>("timeout").unwrap_or(TIMEOUT),
+        threads: None,
         wanted: FetchRequest::Head,
     };
     Ok(Job::Feed(FeedOptions { log, to }))
