@@ -1,0 +1,3 @@
+pub mod LogsFile
+pub mod ReadLogs
+pub mod Inner
