@@ -1,11 +1,6 @@
 -- What is of logs that are known.
-use Rattle.std.proofs.Common.{◌≡◌, ℕ, ◌+◌, ◌<◌, Bool, true, false, cond, List, [], ◌∷◌, ◌++◌, Option, Some, None, map, take, length, slice_index_or, refl, sym, ap, ◌∙◌, append_assoc, append-nil, arith}
-use Rattle.std.specs.Prelude.{◌||◌, bytes_eq, filter, is_some}
-use Rattle.std.proofs.lemmas.List.{map_more}
-use Rattle.std.proofs.lemmas.List.Folds.{list_any-append}
-use Rattle.tl_logs.specs.LogsFile.{Log}
-use Rattle.tl_logs.specs.ReadLogs.{is_origin_of}
-use Rattle.tl_logs.specs.Inner.ByOrigin.{Index, PutsOrigin}
+use Rattle.std.proofs.Common.{◌≡◌, Bool, true, false, cond, List, [], ◌∷◌, ◌++◌, length, sym, ap, ◌∙◌, append_assoc, append-nil, arith}
+use Rattle.std.specs.Prelude.{filter}
 
 -- ---- what is kept of what is left
 

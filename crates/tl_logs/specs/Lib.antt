@@ -1,3 +1,4 @@
+pub mod FaultWords
 pub mod LogsFile
 pub mod ReadLogs
 pub mod Inner

@@ -4,8 +4,8 @@ use Rattle.std.specs.List.{list_any}
 use Rattle.std.specs.declared.vec.Vec.{Vec}
 use Rattle.tl_hash.specs.Bytes.{Bytes}
 use Rattle.tl_logs.specs.declared.log.KnownLog.{KnownLog}
-use Rattle.tl_logs.specs.declared.reading.LogsFault.{LogsFault}
-use Rattle.tl_logs.specs.declared.reading.LogsFault.TheVariants.{Malformed, Twice, OutOfMemory}
+use Rattle.tl_logs.specs.declared.fault.LogsFault.{LogsFault}
+use Rattle.tl_logs.specs.declared.fault.LogsFault.TheVariants.{Malformed, Twice, OutOfMemory}
 use Rattle.tl_logs.specs.LogsFile.{FileLine, GivesKey, HasEachOnce, IsFileLine, IsFileText, IsKnown, IsNoLine, Log, LogKey, StandsBehind, keys_in, log, logs}
 
 -- what logs say, whatever memory they are in

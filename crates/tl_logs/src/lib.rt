@@ -8,12 +8,14 @@
 #![tactic(auto)]
 
 mod by_origin;
+mod fault;
 mod known;
 mod line;
 mod log;
 mod placing;
 mod reading;
 
+pub use fault::LogsFault;
 pub use known::keep_known;
 pub use log::KnownLog;
-pub use reading::{LogsFault, read_logs};
+pub use reading::read_logs;

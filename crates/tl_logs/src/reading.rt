@@ -6,25 +6,11 @@ ghost use Rattle.tl_logs.specs.Inner.Lines.{CutsLine};
 ghost use Rattle.tl_logs.specs.Inner.Placing.{fault_at};
 
 use crate::by_origin::ByOrigin;
+use crate::fault::LogsFault;
 use crate::line::LineFault;
 use crate::log::KnownLog;
 use crate::placing::take_line;
 use std::alloc::Allocator;
-use thiserror::Error;
-
-/// Why the file of the logs isn't read. Lines are counted from 0.
-#[derive(Clone, Copy, Debug, PartialEq, Eq, Error)]
-pub enum LogsFault {
-    /// This line is none of the file's, and the first that isn't taken.
-    #[error("line {0} is malformed")]
-    Malformed(u64),
-    /// This line gives a log a key that it has, and is the first that isn't taken.
-    #[error("line {0} has a key again")]
-    Twice(u64),
-    /// A growth was refused.
-    #[error("out of memory")]
-    OutOfMemory,
-}
 
 // The place of the first newline.
 fn first_newline(bytes: &[u8]) -> Option<usize>

@@ -4,8 +4,8 @@ use Rattle.tl_hash.specs.Bytes.{Bytes}
 use Rattle.tl_key.specs.NoteKey.{PublicKey}
 use Rattle.tl_logs.specs.declared.line.LineFault.{LineFault}
 use Rattle.tl_logs.specs.declared.line.LineFault.TheVariants.{Malformed, Twice, OutOfMemory}
-use Rattle.tl_logs.specs.declared.reading.LogsFault.{LogsFault}
-use Rattle.tl_logs.specs.declared.reading.LogsFault.TheVariants as why
+use Rattle.tl_logs.specs.declared.fault.LogsFault.{LogsFault}
+use Rattle.tl_logs.specs.declared.fault.LogsFault.TheVariants as why
 use Rattle.tl_logs.specs.LogsFile.{GivesKey, IsAmong, IsNoLine, IsPassedOver, Log, LogKey, key_name, log}
 use Rattle.tl_logs.specs.Inner.ByOrigin.{log_origins}
 
