@@ -2,14 +2,16 @@
 use Rattle.std.specs.Prelude.{◌⊎◌, ℕ, Result, Ok, Err}
 use Rattle.tl_hash.specs.Bytes.{Bytes}
 use Rattle.tl_device.specs.Device.{Passage, IsUnwritten, WroteWhole, WrotePart}
-use Rattle.tl_command.specs.Faults.{exit_status}
+use Rattle.tl_command.specs.Faults.{device_status, exit_status}
 use Rattle.tl_command.specs.declared.fault.RunFault.{RunFault}
 use Rattle.tl_fetch.specs.FaultWords.{fetch_status}
 use Rattle.tl_fetch.specs.declared.fault.FetchFault.{FetchFault}
+use Rattle.tl_serve.specs.declared.witness_fault.WitnessFault.{WitnessFault}
+use Rattle.tl_serve.specs.declared.witness_fault.WitnessFault.TheVariants as why
 use Rattle.tl_cli.specs.declared.fault.CommandFault.{CommandFault}
-use Rattle.tl_cli.specs.declared.fault.CommandFault.TheVariants.{Run, Fetch}
+use Rattle.tl_cli.specs.declared.fault.CommandFault.TheVariants.{Run, Fetch, Witness}
 
--- how a command ended that isn't `fetch`, and how `fetch` ended
+-- how a command ended that is neither `fetch` nor `witness`, how `fetch` ended, and how `witness` did
 abbrev pub by_run : Result (Unit {0}) RunFault → Result (Unit {0}) CommandFault
 by_run (Ok done) = Ok done
 by_run (Err fault) = Err (Run fault)
@@ -18,10 +20,21 @@ abbrev pub by_fetch : Result (Unit {0}) FetchFault → Result (Unit {0}) Command
 by_fetch (Ok done) = Ok done
 by_fetch (Err fault) = Err (Fetch fault)
 
+abbrev pub by_witness : Result (Unit {0}) WitnessFault → Result (Unit {0}) CommandFault
+by_witness (Ok done) = Ok done
+by_witness (Err fault) = Err (Witness fault)
+
+-- the exit status of a fault of `witness`: where the file of the logs isn't read, that of the device's fault
+abbrev pub witness_status : WitnessFault → ℕ
+witness_status (why.Run fault) = exit_status fault
+witness_status (why.LogsFile fault) = device_status fault
+witness_status (why.Logs fault) = 1
+
 -- the exit status of a fault
 abbrev pub command_status : CommandFault → ℕ
 command_status (Run fault) = exit_status fault
 command_status (Fetch fault) = fetch_status fault
+command_status (Witness fault) = witness_status fault
 
 -- the exit status: 0 where all was done, and else that of the fault
 abbrev pub status_of : Result (Unit {0}) CommandFault → ℕ

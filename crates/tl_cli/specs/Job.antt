@@ -25,7 +25,9 @@ use Rattle.tl_command.specs.Origins.{RefusesOrigin}
 use Rattle.tl_hash.specs.Bytes.{Bytes}
 use Rattle.tl_fetch.specs.declared.fault.FetchFault.{FetchFault}
 use Rattle.tl_cli.specs.declared.fault.CommandFault.{CommandFault}
-use Rattle.tl_cli.specs.Ending.{by_fetch, by_run, status_of}
+use Rattle.tl_serve.specs.Knowing.{RefusesLog}
+use Rattle.tl_serve.specs.declared.witness_fault.WitnessFault.{WitnessFault}
+use Rattle.tl_cli.specs.Ending.{by_fetch, by_run, by_witness, status_of}
 use Rattle.tl_cli.specs.Lasting.{Folder, AppendsIn, ServesIn, SparesStreams}
 use Rattle.tl_cli.specs.Told.{Tells}
 use Rattle.tl_cli.specs.Version.{PrintsVersion}
@@ -54,12 +56,15 @@ abbrev pub key_kind : Bool → ℕ
 key_kind true = cosignature_kind
 key_kind false = note_kind
 
--- how a command ended of which this is known, and how `fetch` ended
+-- how a command ended of which this is known, how `fetch` ended, and how `witness` did
 abbrev pub IsRun : (Result (Unit {0}) RunFault → Type 0) → Result (Unit {0}) CommandFault → Type 0
 IsRun Is result = (outcome : Result (Unit {0}) RunFault) × Is outcome × (result ≡ by_run outcome)
 
 abbrev pub IsFetched : (Result (Unit {0}) FetchFault → Type 0) → Result (Unit {0}) CommandFault → Type 0
 IsFetched Is result = (outcome : Result (Unit {0}) FetchFault) × Is outcome × (result ≡ by_fetch outcome)
+
+abbrev pub IsWitness : (Result (Unit {0}) WitnessFault → Type 0) → Result (Unit {0}) CommandFault → Type 0
+IsWitness Is result = (outcome : Result (Unit {0}) WitnessFault) × Is outcome × (result ≡ by_witness outcome)
 
 -- a run of a job's command: i is its reader, o its writer, and e standard error, to which keygen, fetch, feed and the
 -- servers alone write; and the folder of a log that it had to itself, if it had one, whatever was there at first
@@ -86,7 +91,7 @@ RunsJob held reached (Serve options) folder i o e result =
     IsRun (λ ran. RefusesOrigin (string_bytes options.origin) i ran × ServesIn held reached options i folder ran) result
     × IsUnwritten o
 RunsJob held reached (Witness options) folder i o e result =
-    IsRun (RefusesOrigin (string_bytes options.origin) i) result × SparesStreams options i o
+    IsWitness (RefusesLog options.logs i) result × SparesStreams options i o
 RunsJob held reached (Fetch options) folder i o e result = IsFetched (RunsFetch options o) result × IsUnread i
 RunsJob held reached (Feed options) folder i o e result = IsFetched (RunsFeed options o) result × IsUnread i
 RunsJob held reached Version folder i o e result = IsRun (PrintsVersion o) result × IsUnread i × IsUnwritten e

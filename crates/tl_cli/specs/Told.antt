@@ -18,6 +18,11 @@ use Rattle.tl_command.specs.declared.keys.LogKey.{LogKey}
 use Rattle.tl_command.specs.declared.keys.LogKey.TheVariants as key
 use Rattle.tl_serve.specs.declared.options.WitnessSignerKey.{WitnessSignerKey}
 use Rattle.tl_serve.specs.declared.options.WitnessSignerKey.TheVariants as cosigner
+use Rattle.tl_serve.specs.declared.options.KnownLogs.{KnownLogs}
+use Rattle.tl_serve.specs.declared.options.KnownLogs.TheVariants.{One, Listed}
+use Rattle.tl_serve.specs.declared.witness_fault.WitnessFault.{WitnessFault}
+use Rattle.tl_serve.specs.declared.witness_fault.WitnessFault.TheVariants as why
+use Rattle.tl_logs.specs.FaultWords.{logs_words}
 use Rattle.tl_cli.specs.declared.job.Job.{Job}
 use Rattle.tl_cli.specs.declared.job.Job.TheVariants.{BuildSigned, Append, CheckUnder, Serve, Witness, Fetch, Feed}
 use Rattle.tl_cli.specs.declared.fault.CommandFault.{CommandFault}
@@ -62,6 +67,15 @@ source_of (Fetch options) = Some (string_bytes options.from)
 source_of (Feed options) = Some (string_bytes options.log.from)
 source_of job = None
 
+-- the file of the logs that a witness knows
+abbrev pub listed_file : KnownLogs → Option Bytes
+listed_file (One origin key) = None
+listed_file (Listed path) = Some (string_bytes path)
+
+abbrev pub logs_file : Job → Option Bytes
+logs_file (Witness options) = listed_file options.logs
+logs_file job = None
+
 -- what they name for a place, and the resource under it that the place is, if it is one
 abbrev pub base_of : Job → Place → Option Bytes
 base_of job place.File = file_of job
@@ -101,11 +115,23 @@ IsLineOfRun job (BadCheckpoint place) text = IsLineAt (base_of job place) place 
 IsLineOfRun job BadKeyFile text = IsLineAt (file_of job) place.File (codes "bad key") text
 IsLineOfRun job other text = text ≡ line_or_none (fault_text other)
 
+-- the line of a fault over the file of the logs
+abbrev pub logs_line : Option Bytes → Bytes → Bytes
+logs_line None words = line (codes "tlog: " ++ codes "logs" ++ codes ": " ++ words)
+logs_line (Some path) words = line (codes "tlog: " ++ path ++ codes ": " ++ words)
+
+-- the line of a fault of `witness`
+abbrev pub IsLineOfWitness : Job → WitnessFault → Bytes → Type 0
+IsLineOfWitness job (why.Run other) text = IsLineOfRun job other text
+IsLineOfWitness job (why.LogsFile other) text = text ≡ logs_line (logs_file job) (device_words other)
+IsLineOfWitness job (why.Logs other) text = text ≡ logs_line (logs_file job) (logs_words other)
+
 -- the line of a fault of a job, if it has one
 abbrev pub IsLineOf : Job → CommandFault → Bytes → Type 0
 IsLineOf job (fault.Run other) text = IsLineOfRun job other text
 IsLineOf job (fault.Fetch (fetch.Run other)) text = IsLineOfRun job other text
 IsLineOf job (fault.Fetch other) text = text ≡ line_or_none (fetch_text other)
+IsLineOf job (fault.Witness other) text = IsLineOfWitness job other text
 
 -- a text was written to standard error, or a part of it where that failed
 abbrev pub Wrote : Bytes → Passage → Type 0

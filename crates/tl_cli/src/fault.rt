@@ -1,18 +1,32 @@
 //! The faults of all commands.
 
 ghost use Rattle.std.specs.Prelude.{◌≡◌};
-ghost use Rattle.tl_cli.specs.Ending.{by_fetch, by_run, command_status};
+ghost use Rattle.tl_cli.specs.Ending.{by_fetch, by_run, by_witness, command_status, witness_status};
 
-use tl_command::{RunFault, exit_of};
+use tl_command::{Place, RunFault, exit_of};
 use tl_fetch::{FetchFault, fetch_exit_of};
+use tl_serve::WitnessFault;
 
 /// Why a command ends without success.
 #[derive(Clone, Copy, Debug, PartialEq, Eq)]
 pub enum CommandFault {
-    /// A fault of another command than `fetch`.
+    /// A fault of another command than `fetch` and `witness`.
     Run(RunFault),
     /// A fault of `fetch`.
     Fetch(FetchFault),
+    /// A fault of `witness`.
+    Witness(WitnessFault),
+}
+
+// The exit status of a fault of `witness`.
+fn witness_exit_of(fault: &WitnessFault) -> u8
+    ensures { result ≡ witness_status fault.now }
+{
+    match fault {
+        WitnessFault::Run(fault) => exit_of(fault),
+        WitnessFault::LogsFile(fault) => exit_of(&RunFault::Device(Place::File, *fault)),
+        WitnessFault::Logs(_) => 1,
+    }
 }
 
 // The exit status of a fault.
@@ -22,10 +36,11 @@ pub(crate) fn command_exit_of(fault: &CommandFault) -> u8
     match fault {
         CommandFault::Run(fault) => exit_of(fault),
         CommandFault::Fetch(fault) => fetch_exit_of(fault),
+        CommandFault::Witness(fault) => witness_exit_of(fault),
     }
 }
 
-// How a command ended that isn't `fetch`.
+// How a command ended that is neither `fetch` nor `witness`.
 pub(crate) fn after_run(outcome: Result<(), RunFault>) -> Result<(), CommandFault>
     ensures { result ≡ by_run outcome }
 {
@@ -42,5 +57,15 @@ pub(crate) fn after_fetch(outcome: Result<(), FetchFault>) -> Result<(), Command
     match outcome {
         Ok(()) => Ok(()),
         Err(fault) => Err(CommandFault::Fetch(fault)),
+    }
+}
+
+// How `witness` ended.
+pub(crate) fn after_witness(outcome: Result<(), WitnessFault>) -> Result<(), CommandFault>
+    ensures { result ≡ by_witness outcome }
+{
+    match outcome {
+        Ok(()) => Ok(()),
+        Err(fault) => Err(CommandFault::Witness(fault)),
     }
 }

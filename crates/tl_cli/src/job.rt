@@ -53,7 +53,7 @@ pub enum Job {
     Audit,
     /// Serve the log of the lines of standard input.
     Serve(ServeOptions),
-    /// Serve a witness of one log.
+    /// Serve a witness of one log, or of those that a file names.
     Witness(WitnessOptions),
     /// Fetch from a log that isn't trusted.
     Fetch(FetchOptions),

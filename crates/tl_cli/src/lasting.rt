@@ -1,6 +1,7 @@
 //! Commands on folders and files that outlast the program.
 
-ghost use Rattle.std.specs.Prelude.{◌≡◌, None, string_bytes};
+ghost use Rattle.std.specs.Prelude.{◌≡◌, ◌↔◌, IsTrue, None, string_bytes};
+ghost use Rattle.tl_serve.specs.Knowing.{MayServe, RefusesLog};
 ghost use Rattle.tl_device.specs.Device.{passage};
 ghost use Rattle.tl_command.specs.Origins.{RefusesOrigin};
 ghost use Rattle.tl_cli.specs.Lasting.{AppendsIn, ServesAt, ServesIn, SparesStreams};
@@ -17,7 +18,8 @@ use tl_device::Counted;
 use tl_folder::{CrashOutcome, FolderShelf, LineFile, open_lines};
 use tl_note::is_key_name;
 use tl_serve::{
-    Host, ServeOptions, Served, WitnessOptions, run_serve, run_serve_shelf, run_witness, threads_of,
+    Host, KnownLogs, ServeOptions, Served, WitnessFault, WitnessOptions, run_serve,
+    run_serve_shelf, run_witness, threads_of,
 };
 
 /// Appends the lines of the input to the log in a folder, where no other process works meanwhile. The folder is then in
@@ -153,6 +155,16 @@ pub(crate) fn serve<
     }
 }
 
+// Whether a witness of these may be served: one log has a key's name.
+fn may_serve(logs: &KnownLogs) -> bool
+    ensures { IsTrue result ↔ MayServe logs.now }
+{
+    match logs {
+        KnownLogs::One(origin, _) => is_key_name(origin.as_str()),
+        KnownLogs::Listed(_) => true,
+    }
+}
+
 /// Serves a witness whose lines are those of a file, where one is given, and else of the input and the output.
 pub(crate) fn witness<
     H: Host
@@ -168,26 +180,28 @@ pub(crate) fn witness<
     reader: &mut Counted<R>,
     writer: &mut Counted<W>,
     errors: &mut Counted<E>,
-) -> Result<(), RunFault>
-    ensures refuses { RefusesOrigin
-        (string_bytes options.now.origin) (passage R.remaining reader.old reader.new) result }
+) -> Result<(), WitnessFault>
+    ensures refuses { RefusesLog
+        options.now.logs (passage R.remaining reader.old reader.new) result }
     ensures spares { SparesStreams options.now (passage R.remaining reader.old reader.new)
         (passage W.contents writer.old writer.new) }
 {
     let Some(path) = &options.state else {
         return run_witness(rt, alloc, options, reader, writer, errors);
     };
-    if !is_key_name(options.origin.as_str()) {
-        return Err(RunFault::BadOrigin);
+    if !may_serve(&options.logs) {
+        return Err(WitnessFault::Run(RunFault::BadOrigin));
     }
     let LineFile { lines, end } = match open_lines(rt, alloc, path, MOST_INPUT) {
         Ok(file) => file,
-        Err(fault) => return Err(RunFault::of_device(Place::State, fault)),
+        Err(fault) => return Err(WitnessFault::Run(RunFault::of_device(Place::State, fault))),
     };
     let (mut reader, mut writer) = (Counted::new(lines.as_slice()), Counted::new(end));
     let outcome = run_witness(rt, alloc, options, &mut reader, &mut writer, errors);
     match (outcome, writer.into_inner().fault()) {
-        (Err(RunFault::Write), Some(fault)) => Err(RunFault::of_device(Place::State, fault)),
+        (Err(WitnessFault::Run(RunFault::Write)), Some(fault)) => {
+            Err(WitnessFault::Run(RunFault::of_device(Place::State, fault)))
+        }
         (outcome, _) => outcome,
     }
 }

@@ -11,7 +11,7 @@ ghost use Rattle.tl_command.specs.Run.{Runs};
 ghost use Rattle.tl_cli.specs.Ending.{Told, status_of};
 ghost use Rattle.tl_cli.specs.Told.{Tells};
 
-use crate::fault::{CommandFault, after_fetch, after_run, command_exit_of};
+use crate::fault::{CommandFault, after_fetch, after_run, after_witness, command_exit_of};
 use crate::job::{ConsistencyOptions, InclusionOptions, Job};
 use crate::lasting::{append, serve, witness};
 use crate::own_folder::OwnFolder;
@@ -238,7 +238,9 @@ pub fn run_job<
         Job::Serve(options) => {
             after_run(serve(disk, rt, alloc, options, input, folder, reader, errors))
         }
-        Job::Witness(options) => after_run(witness(rt, alloc, options, reader, writer, errors)),
+        Job::Witness(options) => {
+            after_witness(witness(rt, alloc, options, reader, writer, errors))
+        }
         Job::Fetch(options) => {
             after_fetch(run_fetch(rt, alloc, options, writer, errors, is_terminal))
         }

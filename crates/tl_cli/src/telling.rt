@@ -3,7 +3,7 @@
 ghost use Rattle.std.specs.Prelude.{◌≡◌, ◌++◌, IfOk, codes, option_map, string_bytes};
 ghost use Rattle.tl_text.specs.Text.{line};
 ghost use Rattle.tl_device.specs.Device.{passage};
-ghost use Rattle.tl_cli.specs.Told.{IsLineAt, IsLineOf, IsLineOfRun, IsWhere, TellsFault, Wrote, base_of, file_of, key_file, line_or_none, log_of, resource_of, source_of, state_of, witness_file};
+ghost use Rattle.tl_cli.specs.Told.{IsLineAt, IsLineOf, IsLineOfRun, IsLineOfWitness, IsWhere, TellsFault, Wrote, base_of, file_of, key_file, line_or_none, listed_file, log_of, logs_file, logs_line, resource_of, source_of, state_of, witness_file};
 
 use crate::fault::CommandFault;
 use crate::job::Job;
@@ -12,7 +12,7 @@ use std::io::Write;
 use tl_command::{LogKey, Place, RunFault, fault_line};
 use tl_device::{Counted, write_whole};
 use tl_fetch::{FetchFault, fetch_fault_line};
-use tl_serve::WitnessSignerKey;
+use tl_serve::{KnownLogs, WitnessFault, WitnessSignerKey};
 use tl_source::place_of;
 use tl_tile::Resource;
 
@@ -58,6 +58,26 @@ fn state_of(job: &Job) -> Option<&str>
         Job::Witness(options) => options.state.as_deref(),
         Job::Fetch(options) => options.state.as_deref(),
         Job::Feed(options) => options.log.state.as_deref(),
+        _ => None,
+    }
+}
+
+// The file of the logs that a witness knows.
+fn listed_file(logs: &KnownLogs) -> Option<&str>
+    ensures { option_map (λ s. s.now) result ≡ listed_file logs.now }
+{
+    match logs {
+        KnownLogs::One(_, _) => None,
+        KnownLogs::Listed(path) => Some(path.as_str()),
+    }
+}
+
+// The file of the logs that the options name.
+fn logs_file(job: &Job) -> Option<&str>
+    ensures { option_map (λ s. s.now) result ≡ logs_file job.now }
+{
+    match job {
+        Job::Witness(options) => listed_file(&options.logs),
         _ => None,
     }
 }
@@ -189,6 +209,37 @@ fn run_line<A: Allocator + Copy>(
     }
 }
 
+// The line of a fault over the file of the logs.
+fn logs_line<A: Allocator>(alloc: A, job: &Job, words: &str) -> Result<String<A>, AllocError>
+    ensures { IfOk result (λ text. string_bytes text ≡ logs_line (logs_file job.now) words.now) }
+{
+    match logs_file(job) {
+        None => line_at(alloc, "logs", words),
+        Some(path) => line_at(alloc, path, words),
+    }
+}
+
+// What is told of a fault of `witness`: its line, if it has one.
+fn witness_line<A: Allocator + Copy>(
+    alloc: A,
+    job: &Job,
+    fault: &WitnessFault,
+) -> Result<String<A>, AllocError>
+    ensures { IfOk result (λ text. IsLineOfWitness job.now fault.now (string_bytes text)) }
+{
+    match fault {
+        WitnessFault::Run(fault) => run_line(alloc, job, fault),
+        WitnessFault::LogsFile(why) => {
+            let words = format!(in alloc; "{why}")?;
+            logs_line(alloc, job, words.as_str())
+        }
+        WitnessFault::Logs(why) => {
+            let words = format!(in alloc; "{why}")?;
+            logs_line(alloc, job, words.as_str())
+        }
+    }
+}
+
 // What is told of a fault of a job: its line, if it has one.
 fn line_of<A: Allocator + Copy>(
     alloc: A,
@@ -201,6 +252,7 @@ fn line_of<A: Allocator + Copy>(
         CommandFault::Run(fault) => run_line(alloc, job, fault),
         CommandFault::Fetch(FetchFault::Run(fault)) => run_line(alloc, job, fault),
         CommandFault::Fetch(fault) => whole_line(alloc, fetch_fault_line(alloc, fault)?),
+        CommandFault::Witness(fault) => witness_line(alloc, job, fault),
     }
 }
 

@@ -4,9 +4,13 @@ pub
 pub
     mod Live
 pub
+    mod Queueing
+pub
     mod Rounds
 pub
     mod Running
+pub
+    mod Saving
 pub
     mod Shelved
 pub

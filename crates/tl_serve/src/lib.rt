@@ -9,6 +9,7 @@
 
 mod answering;
 mod awaited;
+mod cosigner;
 mod desk;
 mod door;
 mod following;
@@ -18,6 +19,7 @@ mod guests;
 mod handed;
 mod host;
 mod lanes;
+mod listed;
 mod live_log;
 mod memory_log;
 mod news;
@@ -25,6 +27,7 @@ mod news_feed;
 mod opening;
 mod options;
 mod pages;
+mod queue;
 mod receipt;
 mod remembered;
 mod request;
@@ -39,12 +42,17 @@ mod telling;
 mod turn;
 mod watch;
 mod witness;
+mod witness_fault;
 mod written;
 
 pub use gate::Gate;
 pub use host::Host;
-pub use options::{ListenOptions, LogVerifierKey, ServeOptions, WitnessOptions, WitnessSignerKey};
+pub use options::{
+    KnownLogs, ListenOptions, LogVerifierKey, ServeOptions, WitnessOptions, WitnessSignerKey,
+};
+pub use queue::LineQueue;
 pub use saver::LineSaver;
 pub use serve::{run_serve, serve_gated, threads_of};
 pub use serve_shelf::{Served, run_serve_shelf};
 pub use witness::run_witness;
+pub use witness_fault::WitnessFault;

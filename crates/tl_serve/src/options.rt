@@ -11,6 +11,15 @@ pub enum LogVerifierKey {
     Text(String),
 }
 
+/// Which logs a witness knows.
+#[derive(Drop)]
+pub enum KnownLogs {
+    /// One log, of this name, a key's name, and known by this key.
+    One(String, LogVerifierKey),
+    /// Those that the lines of the file at this path name (`tl_logs::read_logs`).
+    Listed(String),
+}
+
 /// By which key a witness cosigns.
 #[derive(Drop)]
 pub enum WitnessSignerKey {
@@ -73,10 +82,8 @@ pub struct ServeOptions {
 /// The options of `witness`.
 #[derive(Drop)]
 pub struct WitnessOptions {
-    /// The name of the log, a key's name.
-    pub origin: String,
-    /// The log's key.
-    pub log_key: LogVerifierKey,
+    /// The logs that it knows.
+    pub logs: KnownLogs,
     /// The witness's key.
     pub key: WitnessSignerKey,
     /// The seconds since 1970 that it cosigns with; without it, those of the machine's clock.

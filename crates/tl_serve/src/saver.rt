@@ -4,35 +4,31 @@ ghost use Rattle.std.specs.Prelude.{◌≡◌, ◌<◌, ◌-◌, ◌^◌, ◌⊎
 ghost use Rattle.tl_proof.specs.Acceptance.{step_of};
 ghost use Rattle.tl_witness.specs.ChainLine.{IsChainLine};
 
-use crate::written::{WrittenLink, write_link};
+use crate::queue::LineQueue;
+use crate::written::{LinkLine, WrittenLink};
 use std::alloc::{Allocator, Global};
 use std::io::Write;
-use std::sync::{Mutex, Wait};
-use tl_device::Counted;
+use std::sync::Wait;
 use tl_proof::Link;
 use tl_witness::{SaveFault, Saver};
 
-/// A saver that writes the line of each link to a writer that several threads share, and keeps what it wrote.
+/// A saver that has the line of each link written by a queue that several threads share, and keeps what was written.
 #[derive(Drop)]
 pub struct LineSaver<'a, 'w, H: Wait, O> {
     rt: &'a H,
     alloc: Global,
-    out: &'a Mutex<&'w mut Counted<O>>,
+    queue: &'a LineQueue<'w, O>,
     failures: u64,
     links: Vec<WrittenLink>,
 }
 
 impl<'a, 'w, H: Wait, O: Write> LineSaver<'a, 'w, H, O> {
-    /// A saver that has nothing, and writes to `out`.
-    pub fn new(
-        rt: &'a H,
-        alloc: Global,
-        out: &'a Mutex<&'w mut Counted<O>>,
-    ) -> LineSaver<'a, 'w, H, O> {
+    /// A saver that has nothing, and hands lines to `queue`.
+    pub fn new(rt: &'a H, alloc: Global, queue: &'a LineQueue<'w, O>) -> LineSaver<'a, 'w, H, O> {
         LineSaver {
             rt,
             alloc,
-            out,
+            queue,
             failures: 0,
             links: Vec::new(alloc),
         }
@@ -43,13 +39,18 @@ impl<'a, 'w, H: Wait, O: Write> LineSaver<'a, 'w, H, O> {
         self.failures > 0
     }
 
-    // Writes the line of a link.
+    // Has the line of a link written. What comes back is looked at.
     fn print<A: Allocator>(&self, origin: &str, link: &Link<A>) -> Result<WrittenLink, SaveFault>
         requires { IsChainLine (record { origin = origin.now; step = step_of link.now }) }
         ensures { IfOk result (λ written. written ≡ (origin.now, step_of link.now)) }
     {
-        let mut out = self.out.lock(self.rt);
-        write_link(self.alloc, &mut *out, origin, link)
+        let Ok(line) = LinkLine::of(self.alloc, origin, link) else {
+            return Err(SaveFault);
+        };
+        match self.queue.save(self.rt, line) {
+            Ok(written) if written.is_of(origin, link) => Ok(written),
+            _ => Err(SaveFault),
+        }
     }
 
     // One failure more.

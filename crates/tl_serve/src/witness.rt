@@ -1,23 +1,26 @@
-//! The command `witness`: a witness of one log over HTTP.
+//! The command `witness`: a witness of one log, or of many, over HTTP.
 
-ghost use Rattle.std.specs.Prelude.{string_bytes};
 ghost use Rattle.tl_device.specs.Device.{passage};
 ghost use Rattle.tl_command.specs.Origins.{RefusesOrigin};
+ghost use Rattle.tl_serve.specs.Knowing.{RefusesLog};
 
 use crate::answering::answer;
 use crate::door::Door;
 use crate::host::Host;
+use crate::listed::run_listed;
 use crate::news::News;
-use crate::options::{LogVerifierKey, WitnessOptions, WitnessSignerKey};
+use crate::options::{KnownLogs, LogVerifierKey, WitnessOptions, WitnessSignerKey};
 use crate::pages::{Pages, outcome_of};
+use crate::queue::LineQueue;
 use crate::saver::LineSaver;
 use crate::serve::threads_of;
+use crate::witness_fault::{WitnessFault, after_run};
 use mio::Poll;
 use std::alloc::Global;
 use std::fs::Files;
 use std::io::{Read, Write};
 use std::net::{Net, TcpListener, TcpStream};
-use std::sync::{Mutex, Wait};
+use std::sync::Wait;
 use std::thread;
 use std::thread::Scope;
 use std::time::{Clock, SystemTime, UNIX_EPOCH};
@@ -31,21 +34,29 @@ use tl_proof::Link;
 use tl_server::{Outcome, ServeFault, Teller, Witness, serve_witness};
 use tl_witness::{Book, BookFault, ChainFault, SharedWitness, Trust, read_chain};
 
-// The chains that an earlier run printed.
-fn read_chains<R: Read>(
+/// The chains that an earlier run printed.
+pub(crate) fn chains_of(
     alloc: Global,
-    reader: &mut Counted<R>,
+    input: &[u8],
 ) -> Result<Vec<(String, Vec<Link<Global>>)>, RunFault> {
-    let input = read_input(alloc, reader, MOST_INPUT)?;
-    match read_chain(alloc, input.as_slice()) {
+    match read_chain(alloc, input) {
         Ok(chains) => Ok(chains),
         Err(ChainFault::Malformed(line)) => Err(RunFault::Chain(line as u64)),
         Err(ChainFault::OutOfMemory) => Err(RunFault::OutOfMemory),
     }
 }
 
-// Why a book was not opened.
-fn refusal(fault: BookFault) -> RunFault {
+// The chains that an earlier run printed.
+fn read_chains<R: Read>(
+    alloc: Global,
+    reader: &mut Counted<R>,
+) -> Result<Vec<(String, Vec<Link<Global>>)>, RunFault> {
+    let input = read_input(alloc, reader, MOST_INPUT)?;
+    chains_of(alloc, input.as_slice())
+}
+
+/// Why a book was not opened.
+pub(crate) fn refusal(fault: BookFault) -> RunFault {
     match fault {
         BookFault::OutOfMemory => RunFault::OutOfMemory,
         BookFault::BadName(_) => RunFault::Sign,
@@ -61,7 +72,7 @@ struct Asked<'w, 'o, H, W, O> {
     rt: &'w H,
     witness: &'w W,
     time: Option<u64>,
-    out: &'w Mutex<&'o mut Counted<O>>,
+    queue: &'w LineQueue<'o, O>,
     news: &'w News,
 }
 
@@ -88,7 +99,7 @@ impl<H: Clock + Wait, W: Witness<Global>, O: Write> Pages for Asked<'_, '_, H, W
         _teller: &mut T,
     ) -> Result<Outcome, ServeFault> {
         let (rt, time) = (self.rt, seconds(self.rt, self.time));
-        let mut saver = LineSaver::new(rt, alloc, self.out);
+        let mut saver = LineSaver::new(rt, alloc, self.queue);
         let outcome = serve_witness(rt, alloc, reader, writer, self.witness, time, &mut saver);
         if saver.has_failed() {
             self.news.tell_fault(rt, RunFault::Write);
@@ -105,14 +116,14 @@ fn answer_witness<H: Clock + Net + Wait, W: Witness<Global>, O: Write>(
     poll: Poll,
     witness: &W,
     time: Option<u64>,
-    out: &Mutex<&mut Counted<O>>,
+    queue: &LineQueue<'_, O>,
     news: &News,
 ) {
     let pages = Asked {
         rt,
         witness,
         time,
-        out,
+        queue,
         news,
     };
     answer(rt, alloc, door, poll, pages, news);
@@ -133,7 +144,7 @@ fn answer_in<
     time: Option<u64>,
     door: &'s Door,
     witness: &'s W,
-    out: &'s Mutex<&'o mut Counted<O>>,
+    queue: &'s LineQueue<'o, O>,
     news: &'s News,
 ) -> Result<(), RunFault> {
     for _ in 0..u64::MAX {
@@ -141,7 +152,7 @@ fn answer_in<
             break;
         };
         news.begin_answering();
-        let job = move || answer_witness(rt, alloc, door, poll, witness, time, out, news);
+        let job = move || answer_witness(rt, alloc, door, poll, witness, time, queue, news);
         if scope.spawn(job).is_err() {
             news.end_answering();
             break;
@@ -166,16 +177,16 @@ fn answer_all<
     time: Option<u64>,
     door: &Door,
     witness: &W,
-    out: &Mutex<&mut Counted<O>>,
+    queue: &LineQueue<'_, O>,
     news: &News,
 ) -> Result<(), RunFault> {
     thread::scope(thread::scope_env(), rt, |scope| {
-        answer_in(scope, rt, alloc, time, door, witness, out, news)
+        answer_in(scope, rt, alloc, time, door, witness, queue, news)
     })
 }
 
-// Listens, and answers connections to a witness.
-fn serve_all<
+/// Listens, and answers connections to a witness.
+pub(crate) fn serve_all<
     H: Host + Net<Listener = TcpListener, Stream = TcpStream>,
     W: Witness<Global> + Sync,
     O: Write + Send,
@@ -191,8 +202,8 @@ fn serve_all<
     let threads = threads_of(rt, options.server.threads);
     let news = News::new(rt, alloc, None, None)?;
     let door = Door::open(rt, alloc, &options.server, threads, log)?;
-    let out = Mutex::new(&mut *writer);
-    answer_all(rt, alloc, options.time, &door, witness, &out, &news)
+    let queue = LineQueue::new(alloc, &mut *writer)?;
+    answer_all(rt, alloc, options.time, &door, witness, &queue, &news)
 }
 
 // Serves a witness that knows its log by this key, cosigns by that one, and has cosigned these chains.
@@ -204,6 +215,7 @@ fn serve_under<
     rt: &H,
     alloc: Global,
     options: &WitnessOptions,
+    origin: &str,
     verifier: Box<dyn Verifier>,
     cosigner: Box<dyn Signer>,
     chains: Vec<(String, Vec<Link<Global>>)>,
@@ -213,7 +225,7 @@ fn serve_under<
     let mut verifiers = Vec::new(alloc);
     verifiers.push(verifier)?;
     let trust = Trust {
-        origin: String::from_str(alloc, &options.origin)?,
+        origin: String::from_str(alloc, origin)?,
         verifiers,
         cosigner,
     };
@@ -250,10 +262,9 @@ enum Known {
     Public(VerifierKey<Note, Global>),
 }
 
-// The key that the options name for the log. `BadOrigin`: it is of another name.
-fn known_key(alloc: Global, options: &WitnessOptions) -> Result<Known, RunFault> {
-    let origin = options.origin.as_str();
-    match &options.log_key {
+// The key that a log of this name is known by. `BadOrigin`: it is of another name.
+fn known_key(alloc: Global, origin: &str, key: &LogVerifierKey) -> Result<Known, RunFault> {
+    match key {
         LogVerifierKey::Secret(secret) => {
             let key = demonstration(alloc, origin, secret, RunFault::BadOrigin)?;
             Ok(Known::Demonstration(key))
@@ -268,15 +279,19 @@ fn known_key(alloc: Global, options: &WitnessOptions) -> Result<Known, RunFault>
     }
 }
 
-// The key that the witness cosigns by.
+/// The key that the witness cosigns by.
 #[derive(Drop)]
-enum Own {
+pub(crate) enum Own {
     Demonstration(DemoKey<Global>),
     Private(SignerKey<Cosignature, Global>),
 }
 
-// The key that the options name for the witness.
-fn own_key<H: Files>(rt: &H, alloc: Global, options: &WitnessOptions) -> Result<Own, RunFault> {
+/// The key that the options name for the witness.
+pub(crate) fn own_key<H: Files>(
+    rt: &H,
+    alloc: Global,
+    options: &WitnessOptions,
+) -> Result<Own, RunFault> {
     match &options.key {
         WitnessSignerKey::Secret(name, secret) => {
             let key = demonstration(alloc, name, secret, RunFault::Sign)?;
@@ -290,10 +305,45 @@ fn own_key<H: Files>(rt: &H, alloc: Global, options: &WitnessOptions) -> Result<
     }
 }
 
-/// Serves a witness of one log over HTTP: reads the lines that an earlier run printed, tells the address, then answers
+// Serves a witness of one log.
+fn run_one<
+    H: Host + Net<Listener = TcpListener, Stream = TcpStream>,
+    R: Read,
+    O: Write + Send,
+    L: Write,
+>(
+    rt: &H,
+    alloc: Global,
+    options: &WitnessOptions,
+    origin: &str,
+    key: &LogVerifierKey,
+    reader: &mut Counted<R>,
+    writer: &mut Counted<O>,
+    log: &mut Counted<L>,
+) -> Result<(), RunFault>
+    ensures { RefusesOrigin origin.now (passage R.remaining reader.old reader.new) result }
+{
+    if !is_key_name(origin) {
+        return Err(RunFault::BadOrigin);
+    }
+    let chains = read_chains(alloc, reader)?;
+    let verifier: Box<dyn Verifier> = match known_key(alloc, origin, key)? {
+        Known::Demonstration(key) => Box::new(alloc, key)?,
+        Known::Public(key) => Box::new(alloc, key)?,
+    };
+    let cosigner: Box<dyn Signer> = match own_key(rt, alloc, options)? {
+        Own::Demonstration(key) => Box::new(alloc, key)?,
+        Own::Private(key) => Box::new(alloc, key)?,
+    };
+    serve_under(
+        rt, alloc, options, origin, verifier, cosigner, chains, writer, log,
+    )
+}
+
+/// Serves a witness over HTTP: reads the lines that an earlier run printed, tells the address, then answers
 /// connections, each by `tl_server::serve_witness`, and ends after as many as the options say, or once something fails.
-/// A line for each checkpoint that it cosigns anew is printed before the answer; where that fails, it ends. It may
-/// wait.
+/// A line for each checkpoint that it cosigns anew is printed before the answer; where that fails, it ends. Lines of
+/// logs that a file doesn't name are passed over. It may wait.
 pub fn run_witness<
     H: Host + Net<Listener = TcpListener, Stream = TcpStream>,
     R: Read,
@@ -306,22 +356,13 @@ pub fn run_witness<
     reader: &mut Counted<R>,
     writer: &mut Counted<O>,
     log: &mut Counted<L>,
-) -> Result<(), RunFault>
-    ensures { RefusesOrigin
-        (string_bytes options.now.origin) (passage R.remaining reader.old reader.new) result }
+) -> Result<(), WitnessFault>
+    ensures { RefusesLog options.now.logs (passage R.remaining reader.old reader.new) result }
 {
-    let origin = options.origin.as_str();
-    if !is_key_name(origin) {
-        return Err(RunFault::BadOrigin);
+    match &options.logs {
+        KnownLogs::One(origin, key) => after_run(run_one(
+            rt, alloc, options, origin, key, reader, writer, log,
+        )),
+        KnownLogs::Listed(path) => run_listed(rt, alloc, options, path, reader, writer, log),
     }
-    let chains = read_chains(alloc, reader)?;
-    let verifier: Box<dyn Verifier> = match known_key(alloc, options)? {
-        Known::Demonstration(key) => Box::new(alloc, key)?,
-        Known::Public(key) => Box::new(alloc, key)?,
-    };
-    let cosigner: Box<dyn Signer> = match own_key(rt, alloc, options)? {
-        Own::Demonstration(key) => Box::new(alloc, key)?,
-        Own::Private(key) => Box::new(alloc, key)?,
-    };
-    serve_under(rt, alloc, options, verifier, cosigner, chains, writer, log)
 }

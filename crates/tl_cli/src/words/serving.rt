@@ -7,7 +7,9 @@ use super::{EITHER_KEY, LOG_KEY, TIMEOUT, WordsFault, texts};
 use crate::job::Job;
 use clap::ArgMatches;
 use std::alloc::Global;
-use tl_serve::{ListenOptions, LogVerifierKey, ServeOptions, WitnessOptions, WitnessSignerKey};
+use tl_serve::{
+    KnownLogs, ListenOptions, LogVerifierKey, ServeOptions, WitnessOptions, WitnessSignerKey,
+};
 
 // What an option is where it is left out.
 const LANES: u64 = 1;
@@ -38,6 +40,9 @@ const INTERVAL: u64 = 1000;
 
 // What is said where not one key of the log is given to a witness.
 const ONE_LOG_KEY: &str = "either --secret or --log-key is given";
+
+// What is said where neither one log is given to a witness nor a file of logs.
+const ONE_OR_MANY: &str = "either --origin, with one key of the log, or --logs is given";
 
 // What is said where not one key of the witness is given.
 const ONE_WITNESS_KEY: &str = "either --name and --witness-secret or --key is given";
@@ -88,9 +93,10 @@ const WITNESS: Words = Words {
     after_help: texts::WITNESS,
     words: &[
         words![
-            "origin" "NAME" Kind::RequiredText => "The name of the log, a key's name";
+            "origin" "NAME" Kind::Text => "The name of the log, a key's name";
             "secret" "SECRET" Kind::Text => "The secret of the log's demonstration key";
             "log-key" "VKEY" Kind::Text => LOG_KEY;
+            "logs" "FILE" Kind::Path => "The file of the logs, in place of one, a line for each key";
             "name" "NAME" Kind::Text => "The name of the witness's demonstration key";
             "witness-secret" "SECRET" Kind::Text => "The secret of that key";
             "key" "FILE" Kind::Path => "The file with the witness's private key";
@@ -175,14 +181,22 @@ pub(super) fn serve_job(alloc: Global, options: &ArgMatches<'_>) -> Result<Job, 
     }))
 }
 
-// The key by which a witness knows its log: of the secret and the text one is given.
-fn known_key(alloc: Global, options: &ArgMatches<'_>) -> Result<LogVerifierKey, WordsFault> {
+// The logs that a witness knows: one by its name, and of the secret and the text of its key one; or those of a file.
+fn known_logs(alloc: Global, options: &ArgMatches<'_>) -> Result<KnownLogs, WordsFault> {
+    let origin = text_if_given(alloc, options, "origin")?;
     let secret = text_if_given(alloc, options, "secret")?;
     let key = text_if_given(alloc, options, "log-key")?;
-    match (secret, key) {
-        (Some(secret), None) => Ok(LogVerifierKey::Secret(secret)),
-        (None, Some(text)) => Ok(LogVerifierKey::Text(text)),
-        _ => Err(usage_error(alloc, witness(), ONE_LOG_KEY)),
+    let file = text_if_given(alloc, options, "logs")?;
+    match (origin, secret, key, file) {
+        (None, None, None, Some(file)) => Ok(KnownLogs::Listed(file)),
+        (Some(origin), Some(secret), None, None) => {
+            Ok(KnownLogs::One(origin, LogVerifierKey::Secret(secret)))
+        }
+        (Some(origin), None, Some(text), None) => {
+            Ok(KnownLogs::One(origin, LogVerifierKey::Text(text)))
+        }
+        (Some(_), _, _, None) => Err(usage_error(alloc, witness(), ONE_LOG_KEY)),
+        _ => Err(usage_error(alloc, witness(), ONE_OR_MANY)),
     }
 }
 
@@ -201,8 +215,7 @@ fn cosigner_key(alloc: Global, options: &ArgMatches<'_>) -> Result<WitnessSigner
 // The job of `witness`.
 pub(super) fn witness_job(alloc: Global, options: &ArgMatches<'_>) -> Result<Job, WordsFault> {
     Ok(Job::Witness(WitnessOptions {
-        origin: text_of(alloc, options, "origin")?,
-        log_key: known_key(alloc, options)?,
+        logs: known_logs(alloc, options)?,
         key: cosigner_key(alloc, options)?,
         time: options.get_one::<u64>("time"),
         state: text_if_given(alloc, options, "state")?,

@@ -105,16 +105,19 @@ refusal is one line 'tlog: ..' on standard error.";
 
 pub(super) const WITNESS: &str =
     "Input: what an earlier run printed, a line for each checkpoint that it cosigned.
-Serves a witness of one log over HTTP (C2SP tlog-witness, tlog-cosignature): 'listening ADDRESS' on standard error says
-where. Output: a line for each new checkpoint that it cosigns, before it answers: size, root, the hashes of the proof
-from the one before, and the log's name. The log is known by --log-key or, for demonstrations, by --secret; the witness
+Serves a witness of one log, or of many, over HTTP (C2SP tlog-witness, tlog-cosignature): 'listening ADDRESS' on
+standard error says where. Output: a line for each new checkpoint that it cosigns, before it answers: size, root, the
+hashes of the proof from the one before, and the log's name. One log, --origin, is known by --log-key or, for
+demonstrations, by --secret. With --logs the logs are those of that file, a line for each key: the text of a verifier
+key, for the log of its name, or a log's name, a space and that text. Empty lines and those that begin with '#' are
+passed over, and so are lines of the input of logs that aren't in the file. It is read once, at the start. The witness
 cosigns by the private key in the file of --key, as 'tlog keygen --cosigner' prints it, or, for demonstrations, by
 --name and --witness-secret. With --state those lines are read from that file, and each is written to it, and outlasts
 a crash, before the answer.
 Defaults: --timeout 10, --clients 1024, as many threads as the machine has processors, any number of connections, and
 the machine's clock for the time of a cosignature.
-Exit status: 0 done; 1 refused (a bad key, a bad origin, a bad name, line K of the input refused, in use, out of
-memory); 2 wrong arguments or a call for help; 3 a read, a write, the address or an accept failed. A refusal is one line
+Exit status: 0 done; 1 refused (a bad key, a bad origin, a bad name, line K of the logs malformed or with a key again,
+line K of the input refused, each counted from 0, in use, out of memory); 2 wrong arguments or a call for help; 3 a read, a write, the address or an accept failed. A refusal is one line
 'tlog: ..' on standard error.";
 
 pub(super) const FETCH: &str =

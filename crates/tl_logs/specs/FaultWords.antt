@@ -1,0 +1,11 @@
+-- What a fault of the file of the logs says.
+use Rattle.std.specs.Prelude.{◌++◌, codes}
+use Rattle.tl_hash.specs.Bytes.{Bytes}
+use Rattle.tl_text.specs.Text.{number_text}
+use Rattle.tl_logs.specs.declared.fault.LogsFault.{LogsFault}
+use Rattle.tl_logs.specs.declared.fault.LogsFault.TheVariants.{Malformed, Twice, OutOfMemory}
+
+abbrev pub logs_words : LogsFault → Bytes
+logs_words (Malformed place) = codes "line " ++ number_text place ++ codes " malformed"
+logs_words (Twice place) = codes "line " ++ number_text place ++ codes " has a key again"
+logs_words OutOfMemory = codes "out of memory"

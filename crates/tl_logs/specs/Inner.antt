@@ -1,0 +1,7 @@
+-- Private words: what contracts of private functions and proofs need.
+pub
+    mod ByOrigin
+pub
+    mod Lines
+pub
+    mod Placing

@@ -1,0 +1,4 @@
+pub mod FaultWords
+pub mod LogsFile
+pub mod ReadLogs
+pub mod Inner

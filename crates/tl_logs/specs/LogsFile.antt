@@ -1,0 +1,122 @@
+-- The file of the logs that a witness knows: a line for each key (a format of this project). The texts of keys are those
+-- of C2SP signed-note, "Verifier keys".
+use Rattle.std.specs.Prelude.{◌≡◌, ◌≢◌, ℕ, ◌⊎◌, not, List, [], ◌∷◌, ◌++◌, All, map, filter, IsUtf8, bytes_eq}
+use Rattle.std.specs.List.{flat_map}
+use Rattle.tl_hash.specs.Bytes.{Bytes}
+use Rattle.tl_text.specs.Text.{line}
+use Rattle.tl_note.specs.Key.{IsKeyName}
+use Rattle.tl_key.specs.KeyText.{IsVerifierText}
+use Rattle.tl_key.specs.NoteKey.{PublicKey, key_id, note_kind}
+
+-- ---- a line
+
+-- a key, and the log that it is of
+pub record LogKey : Type 0 where
+  pub origin : Bytes
+  pub key : PublicKey
+
+-- the words of a line that is passed over: there are none, or they begin with '#'
+abbrev pub IsPassedOver : Bytes → Type 0
+IsPassedOver words = (words ≡ []) ⊎ ((rest : Bytes) × (words ≡ 35 ∷ rest))
+
+-- the words are the log's name, a space and the text of a key; or the text of a key alone, whose name is the log's
+abbrev pub NamesKey : Bytes → LogKey → Type 0
+NamesKey words k =
+    ((text : Bytes) × IsKeyName k.origin × IsVerifierText note_kind text k.key × (words ≡ k.origin ++ 32 ∷ text))
+    ⊎ (IsVerifierText note_kind words k.key × (k.origin ≡ k.key.name))
+
+-- the words of a line that gives a log a key
+pub record GivesKey (words : Bytes) (k : LogKey) : Type 0 where
+  pub utf8 : IsUtf8 words
+  pub taken : ¬ (IsPassedOver words)
+  pub named : NamesKey words k
+
+-- the words are of no line of the file
+pub record IsNoLine (words : Bytes) : Type 0 where
+  pub taken : ¬ (IsPassedOver words)
+  pub none : (k : LogKey) → ¬ (GivesKey words k)
+
+-- ---- lines
+
+-- a line, without its newline, and the keys that it gives
+pub record FileLine : Type 0 where
+  pub words : Bytes
+  pub gives : List LogKey
+
+-- no byte is a newline
+abbrev pub IsInOneLine : Bytes → Type 0
+IsInOneLine words = All (λ byte. byte ≢ 10) words
+
+-- a line gives one key, or none where it is passed over
+pub record IsFileLine (l : FileLine) : Type 0 where
+  pub one_line : IsInOneLine l.words
+  pub given : (IsPassedOver l.words × (l.gives ≡ [])) ⊎ ((k : LogKey) × GivesKey l.words k × (l.gives ≡ k ∷ []))
+
+-- lines, one after the other
+abbrev pub file_text : List FileLine → Bytes
+file_text lines = flat_map (λ l. line l.words) lines
+
+-- the keys that they give, in order
+abbrev pub keys_in : List FileLine → List LogKey
+keys_in lines = flat_map (λ l. l.gives) lines
+
+-- bytes are these lines; the newline of the last may be left out
+pub record IsFileText (bytes : Bytes) (lines : List FileLine) : Type 0 where
+  pub each : All IsFileLine lines
+  pub spelled : (bytes ≡ file_text lines) ⊎ (line bytes ≡ file_text lines)
+
+-- these words stand behind these lines, to a newline or to the end
+pub record StandsBehind (bytes : Bytes) (lines : List FileLine) (words : Bytes) : Type 0 where
+  pub one_line : IsInOneLine words
+  pub joined : ((after : Bytes) × (bytes ≡ file_text lines ++ (line words ++ after))) ⊎ (bytes ≡ file_text lines ++ words)
+
+-- ---- logs
+
+-- a log and the keys that it is known by
+pub record Log : Type 0 where
+  pub origin : Bytes
+  pub keys : List PublicKey
+
+abbrev pub log : Bytes → List PublicKey → Log
+log origin keys = record { origin = origin; keys = keys }
+
+-- the others, without this one
+abbrev pub without : Bytes → List Bytes → List Bytes
+without origin others = filter (λ other. not (bytes_eq origin other)) others
+
+-- the logs in the order of their first keys: that of the first key, and then the other keys' without it
+abbrev pub origins : List LogKey → List Bytes
+origins [] = []
+origins (first ∷ keys) = first.origin ∷ without first.origin (origins keys)
+
+-- the keys of one log, in order
+abbrev pub keys_of : Bytes → List LogKey → List PublicKey
+keys_of origin keys = map (λ k. k.key) (filter (λ k. bytes_eq k.origin origin) keys)
+
+-- each log with its keys
+abbrev pub logs : List LogKey → List Log
+logs keys = map (λ origin. log origin (keys_of origin keys)) (origins keys)
+
+-- ---- keys that come twice
+
+-- x is one of these
+abbrev pub IsAmong : {A : Type 0} → A → List A → Type 0
+IsAmong x [] = ⊥
+IsAmong x (y ∷ ys) = (y ≡ x) ⊎ IsAmong x ys
+
+-- one of these stands there twice
+abbrev pub HasTwice : {A : Type 0} → List A → Type 0
+HasTwice [] = ⊥
+HasTwice (x ∷ xs) = IsAmong x xs ⊎ HasTwice xs
+
+-- a key's name and identifier
+abbrev pub key_name : PublicKey → Bytes × ℕ
+key_name k = (k.name, key_id k.name k.kind k.key)
+
+-- no two keys of a log have one name and identifier
+abbrev pub HasEachOnce : Log → Type 0
+HasEachOnce known = ¬ (HasTwice (map key_name known.keys))
+
+-- a key of that name and identifier is among those of its log
+abbrev pub IsKnown : LogKey → List LogKey → Type 0
+IsKnown k keys = IsAmong (key_name k.key) (map key_name (keys_of k.origin keys))

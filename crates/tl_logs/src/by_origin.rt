@@ -1,0 +1,40 @@
+//! Finds the place of an origin in a list, in time that grows with the logarithm of the list's length.
+
+ghost use Rattle.std.specs.Prelude.{◌≡◌, None, OnOk};
+ghost use Rattle.tl_hash.specs.Bytes.{Bytes};
+ghost use Rattle.tl_logs.specs.Inner.ByOrigin.{PutsOrigin, index_of};
+
+use std::alloc::{AllocError, Allocator};
+use std::collections::BTreeMap;
+
+/// Which place each origin has. A contract sees it by `index_of`, the function from an origin to its place.
+#[derive(Drop)]
+pub(crate) struct ByOrigin<A: Allocator> {
+    places: BTreeMap<String<A>, usize, A>,
+}
+
+impl<A: Allocator + Copy> ByOrigin<A> {
+    /// No origin has a place. It takes no memory.
+    pub(crate) fn new(alloc: A) -> Self
+        ensures { (origin : Bytes) → index_of result origin ≡ None }
+    {
+        ByOrigin {
+            places: BTreeMap::new(alloc),
+        }
+    }
+
+    /// The place of an origin.
+    pub(crate) fn find(&self, origin: &str) -> Option<usize>
+        ensures { result ≡ index_of self.now origin.now }
+    {
+        self.places.get(origin).copied()
+    }
+
+    /// Gives an origin this place, and no longer another. It fails only where a growth was refused.
+    pub(crate) fn add(&mut self, alloc: A, origin: &str, place: usize) -> Result<(), AllocError>
+        ensures { OnOk result (PutsOrigin origin.now place (index_of self.old) (index_of self.new)) }
+    {
+        self.places.insert(String::from_str(alloc, origin)?, place)?;
+        Ok(())
+    }
+}

@@ -1,0 +1,32 @@
+//! Why the file of the logs isn't read.
+
+use std::error::Error;
+use std::fmt::{self, Display, Formatter};
+
+/// Why the file of the logs isn't read. Lines are counted from 0.
+#[derive(Clone, Copy, Debug, PartialEq, Eq)]
+pub enum LogsFault {
+    /// This line is none of the file's, and the first that isn't taken.
+    Malformed(u64),
+    /// This line gives a log a key that it has, and is the first that isn't taken.
+    Twice(u64),
+    /// A growth was refused.
+    OutOfMemory,
+}
+
+impl Display for LogsFault {
+    ghost use Rattle.std.specs.Prelude.{Some};
+    ghost use Rattle.tl_logs.specs.FaultWords.{logs_words};
+
+    ghost output = { λ fault. Some (logs_words fault) };
+
+    fn fmt<W: fmt::Write>(&self, f: &mut Formatter<W>) -> fmt::Result {
+        match self {
+            LogsFault::Malformed(line) => write!(f, "line {line} malformed"),
+            LogsFault::Twice(line) => write!(f, "line {line} has a key again"),
+            LogsFault::OutOfMemory => f.write_str("out of memory"),
+        }
+    }
+}
+
+impl Error for LogsFault {}

@@ -1,0 +1,139 @@
+//! One line of the file of the logs.
+
+ghost use Rattle.std.specs.Prelude.{◌≡◌, ◌↔◌, IsTrue};
+ghost use Rattle.tl_logs.specs.LogsFile.{IsPassedOver};
+ghost use Rattle.tl_logs.specs.Inner.Lines.{ReadsAlone, ReadsBehind, ReadsLine, ReadsNamed, ReadsText};
+
+use std::alloc::{AllocError, AllocFailed, Allocator};
+use std::str;
+use tl_key::{KeyFault, NoteVerifier, read_verifier_key};
+use tl_note::{Verifier, is_key_name};
+
+/// A key, and the name of the log that a line gives it.
+#[derive(Drop)]
+pub(crate) struct KeyLine<A: Allocator> {
+    pub(crate) origin: String<A>,
+    pub(crate) key: NoteVerifier<A>,
+}
+
+/// Why a line isn't taken.
+#[derive(Clone, Copy, Debug)]
+pub(crate) enum LineFault {
+    Malformed,
+    Twice,
+    OutOfMemory,
+}
+
+impl From<AllocError> for LineFault {
+    ghost use Rattle.std.specs.Prelude.{◌≡◌};
+    ghost use Rattle.tl_logs.specs.declared.line.LineFault.TheVariants.{OutOfMemory};
+
+    ghost from_gives = { λ _ fault. fault ≡ OutOfMemory };
+
+    fn from(_fault: AllocError) -> LineFault {
+        LineFault::OutOfMemory
+    }
+}
+
+impl<X: Drop> From<AllocFailed<X>> for LineFault {
+    ghost use Rattle.std.specs.Prelude.{◌≡◌};
+    ghost use Rattle.tl_logs.specs.declared.line.LineFault.TheVariants.{OutOfMemory};
+
+    ghost from_gives = { λ _ fault. fault ≡ OutOfMemory };
+
+    fn from(_fault: AllocFailed<X>) -> LineFault {
+        LineFault::OutOfMemory
+    }
+}
+
+// Whether a line is passed over.
+fn is_passed_over(words: &[u8]) -> bool
+    ensures { IsTrue result ↔ IsPassedOver words.now }
+{
+    match words {
+        [] => true,
+        [first, ..] => *first == b'#',
+    }
+}
+
+// The key that a text is of.
+fn read_key<A: Allocator + Send + Sync>(alloc: A, text: &str) -> Result<NoteVerifier<A>, LineFault>
+    ensures { ReadsText text.now result }
+{
+    match read_verifier_key(alloc, text) {
+        Ok(key) => Ok(key),
+        Err(KeyFault::OutOfMemory) => Err(LineFault::OutOfMemory),
+        Err(_) => Err(LineFault::Malformed),
+    }
+}
+
+// The key that a text is of, for the log of its name.
+fn key_alone<A: Allocator + Copy + Send + Sync>(
+    alloc: A,
+    text: &str,
+) -> Result<KeyLine<A>, LineFault>
+    ensures { ReadsAlone text.now result }
+{
+    let key = match read_key(alloc, text) {
+        Ok(key) => key,
+        Err(fault) => return Err(fault),
+    };
+    let Ok(origin) = String::from_str(alloc, key.name()) else {
+        return Err(LineFault::OutOfMemory);
+    };
+    Ok(KeyLine { origin, key })
+}
+
+// The key that stands in a text behind the name of its log.
+fn key_behind<A: Allocator + Copy + Send + Sync>(
+    alloc: A,
+    text: &str,
+) -> Result<KeyLine<A>, LineFault>
+    ensures { ReadsBehind text.now result }
+{
+    let Some((name, key)) = text.split_once(' ') else {
+        return Err(LineFault::Malformed);
+    };
+    if !is_key_name(name) {
+        return Err(LineFault::Malformed);
+    }
+    let key = match read_key(alloc, key) {
+        Ok(key) => key,
+        Err(fault) => return Err(fault),
+    };
+    let Ok(origin) = String::from_str(alloc, name) else {
+        return Err(LineFault::OutOfMemory);
+    };
+    Ok(KeyLine { origin, key })
+}
+
+// The key that a text names.
+fn key_in<A: Allocator + Copy + Send + Sync>(alloc: A, text: &str) -> Result<KeyLine<A>, LineFault>
+    ensures { ReadsNamed text.now result }
+{
+    match key_alone(alloc, text) {
+        Ok(line) => Ok(line),
+        Err(LineFault::Malformed) => key_behind(alloc, text),
+        Err(LineFault::Twice) => Err(LineFault::Twice),
+        Err(LineFault::OutOfMemory) => Err(LineFault::OutOfMemory),
+    }
+}
+
+/// The key that a line gives, or none where it is passed over. Memory is asked for after the line is known to be right.
+pub(crate) fn read_line<A: Allocator + Copy + Send + Sync>(
+    alloc: A,
+    words: &[u8],
+) -> Result<Option<KeyLine<A>>, LineFault>
+    ensures { ReadsLine words.now result }
+{
+    if is_passed_over(words) {
+        return Ok(None);
+    }
+    let Ok(text) = str::from_utf8(words) else {
+        return Err(LineFault::Malformed);
+    };
+    match key_in(alloc, text) {
+        Ok(line) => Ok(Some(line)),
+        Err(fault) => Err(fault),
+    }
+}

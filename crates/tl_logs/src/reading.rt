@@ -1,0 +1,67 @@
+//! Reads the file of the logs that a witness knows.
+
+ghost use Rattle.std.specs.Prelude.{◌≡◌, ◌==◌, position};
+ghost use Rattle.tl_logs.specs.ReadLogs.{ReadsLogs};
+ghost use Rattle.tl_logs.specs.Inner.Lines.{CutsLine};
+ghost use Rattle.tl_logs.specs.Inner.Placing.{fault_at};
+
+use crate::by_origin::ByOrigin;
+use crate::fault::LogsFault;
+use crate::line::LineFault;
+use crate::log::KnownLog;
+use crate::placing::take_line;
+use std::alloc::Allocator;
+
+// The place of the first newline.
+fn first_newline(bytes: &[u8]) -> Option<usize>
+    ensures { result ≡ position (λ byte. byte == 10) bytes.now }
+{
+    bytes.iter().position(|byte| *byte == b'\n')
+}
+
+// The first line of bytes, without its newline, and what follows it.
+fn cut_line(bytes: &[u8]) -> (&[u8], &[u8])
+    ensures { CutsLine bytes.now result.0.now result.1.now }
+{
+    match first_newline(bytes) {
+        Some(end) => (&bytes[..end], &bytes[end + 1..]),
+        None => (bytes, &bytes[bytes.len()..]),
+    }
+}
+
+// Why a line at this place isn't taken.
+fn fault_at(fault: LineFault, line: u64) -> LogsFault
+    ensures { result ≡ fault_at fault line }
+{
+    match fault {
+        LineFault::Malformed => LogsFault::Malformed(line),
+        LineFault::Twice => LogsFault::Twice(line),
+        LineFault::OutOfMemory => LogsFault::OutOfMemory,
+    }
+}
+
+/// The logs that the lines of a file give keys, in the order of their first lines, each with its keys in order. A line
+/// is `KEY`, the text of a note verifier's key, whose name is then the log's, or `ORIGIN KEY`; empty lines and those
+/// that begin with `#` are passed over. `Malformed` names the first line that is none of these, `Twice` the first whose
+/// key, by name and identifier, its log has already, whichever comes first.
+pub fn read_logs<A: Allocator + Copy + Send + Sync>(
+    alloc: A,
+    bytes: &[u8],
+) -> Result<Vec<KnownLog<A>, A>, LogsFault>
+    ensures { ReadsLogs bytes.now result }
+{
+    let mut logs = Vec::new(alloc);
+    let mut index = ByOrigin::new(alloc);
+    let mut left = bytes;
+    let mut line = 0;
+    while !left.is_empty() {
+        let (words, rest) = cut_line(left);
+        match take_line(alloc, &mut logs, &mut index, words) {
+            Ok(()) => {}
+            Err(fault) => return Err(fault_at(fault, line)),
+        }
+        left = rest;
+        line += 1;
+    }
+    Ok(logs)
+}

@@ -1,0 +1,25 @@
+-- Which logs a witness knows, and what is refused before anything is read (C2SP signed-note, "Format", for the names of
+-- keys).
+use Rattle.std.specs.Prelude.{◌≡◌, ⊤, Result, Ok, Err, string_bytes}
+use Rattle.tl_note.specs.Key.{IsKeyName}
+use Rattle.tl_device.specs.Device.{Passage, IsUnread}
+use Rattle.tl_command.specs.declared.fault.RunFault.{RunFault}
+use Rattle.tl_command.specs.declared.fault.RunFault.TheVariants.{BadOrigin}
+use Rattle.tl_serve.specs.declared.options.KnownLogs.{KnownLogs}
+use Rattle.tl_serve.specs.declared.options.KnownLogs.TheVariants.{One, Listed}
+use Rattle.tl_serve.specs.declared.witness_fault.WitnessFault.{WitnessFault}
+use Rattle.tl_serve.specs.declared.witness_fault.WitnessFault.TheVariants.{Run}
+
+-- how a witness ended that ends as other commands do
+abbrev pub by_witness : Result (Unit {0}) RunFault → Result (Unit {0}) WitnessFault
+by_witness (Ok done) = Ok done
+by_witness (Err fault) = Err (Run fault)
+
+-- one log is served where its name is a key's; those that a file names are looked at once it was read
+abbrev pub MayServe : KnownLogs → Type 0
+MayServe (One origin key) = IsKeyName (string_bytes origin)
+MayServe (Listed path) = ⊤
+
+-- others are refused, and nothing was read
+abbrev pub RefusesLog : KnownLogs → Passage → Result (Unit {0}) WitnessFault → Type 0
+RefusesLog logs i result = (MayServe logs → ⊥) → (result ≡ Err (Run BadOrigin)) × IsUnread i

@@ -1,0 +1,196 @@
+//! Lines that wait to be written: one write takes all that came while another was under way.
+
+ghost use Rattle.std.specs.Prelude.{◌≡◌, ◌==◌, ◌++◌, ◌∷◌, [], None, OnSome, IsErr, IsTrue, false, position, true};
+ghost use Rattle.tl_serve.specs.Inner.Queueing.{Steps};
+
+use crate::written::{LinkLine, WrittenLink, write_lines};
+use std::alloc::{AllocError, Global};
+use std::io::Write;
+use std::mem;
+use std::sync::{Condvar, Mutex, Wait};
+use tl_device::Counted;
+use tl_witness::SaveFault;
+
+// How many threads save at once, at most; each waits for its line.
+const MOST_THREADS: usize = 64;
+
+// A link that was written, for who has this ticket.
+#[derive(Drop)]
+struct Kept {
+    ticket: u64,
+    link: WrittenLink,
+}
+
+// Lines that wait together. The first has this ticket, and each other the next.
+#[derive(Drop)]
+struct Batch {
+    first: u64,
+    lines: Vec<LinkLine>,
+}
+
+// What waits, and what was written and not fetched yet.
+#[derive(Drop)]
+struct Waiting {
+    batch: Batch,
+    kept: Vec<Kept>,
+    is_writing: bool,
+    has_failed: bool,
+}
+
+// What is to be done by who waits for a line.
+#[derive(Drop)]
+enum Step {
+    // Nothing: it was written.
+    Fetch(WrittenLink),
+    // Nothing: a write failed, and nothing is known of the end of what was written.
+    Fail,
+    // To write these, its own among them.
+    Write(Batch),
+}
+
+impl Waiting {
+    // Puts a line behind the others: its ticket, or none where it can't be taken.
+    fn put(&mut self, line: LinkLine) -> Option<u64>
+        ensures put { OnSome result
+            (self.new.batch.lines.items ≡ self.old.batch.lines.items ++ line ∷ []) }
+        ensures kept { self.new.kept ≡ self.old.kept }
+        ensures failed { self.new.has_failed ≡ self.old.has_failed }
+        ensures none { self.old.has_failed ≡ true → result ≡ None }
+    {
+        if self.has_failed || self.batch.lines.push(line).is_err() {
+            return None;
+        }
+        let others = self.batch.lines.len() - 1;
+        Some(self.batch.first.wrapping_add(others as u64))
+    }
+
+    // The place among those that were written of the one with this ticket.
+    fn place_of(&self, ticket: u64) -> Option<usize>
+        ensures { result ≡ position (λ kept. kept.ticket == ticket) self.now.kept.items }
+    {
+        self.kept.iter().position(|kept| kept.ticket == ticket)
+    }
+
+    // Whether who has this ticket must wait for who writes.
+    fn is_early(&self, ticket: u64) -> bool
+        ensures { IsTrue result → (self.now.is_writing ≡ true) × (self.now.has_failed ≡ false) }
+    {
+        self.is_writing && !self.has_failed && self.place_of(ticket).is_none()
+    }
+
+    // Takes what who has this ticket is to do, once it need not wait.
+    fn step(&mut self, alloc: Global, ticket: u64) -> Step
+        ensures { Steps ticket self.old self.new result }
+    {
+        if let Some(place) = self.place_of(ticket) {
+            return Step::Fetch(self.kept.swap_remove(place).link);
+        }
+        if self.has_failed {
+            return Step::Fail;
+        }
+        self.is_writing = true;
+        let first = self.batch.first.wrapping_add(self.batch.lines.len() as u64);
+        let next = Batch {
+            first,
+            lines: Vec::new(alloc),
+        };
+        Step::Write(mem::replace(&mut self.batch, next))
+    }
+
+    // Takes in what came of a write of lines, the first of which has this ticket.
+    fn finish(&mut self, first: u64, outcome: Result<Vec<WrittenLink>, SaveFault>)
+        ensures ends { self.new.is_writing ≡ false }
+        ensures failed { IsErr outcome → self.new.has_failed ≡ true }
+        ensures lines { self.new.batch ≡ self.old.batch }
+    {
+        self.is_writing = false;
+        let Ok(links) = outcome else {
+            self.has_failed = true;
+            return;
+        };
+        let mut ticket = first;
+        for link in links {
+            if self.kept.push(Kept { ticket, link }).is_err() {
+                self.has_failed = true;
+            }
+            ticket = ticket.wrapping_add(1);
+        }
+    }
+}
+
+/// Lines that wait for a writer that several threads share.
+#[derive(Drop)]
+pub struct LineQueue<'w, O> {
+    alloc: Global,
+    waiting: Mutex<Waiting>,
+    changed: Condvar,
+    out: Mutex<&'w mut Counted<O>>,
+}
+
+impl<'w, O: Write> LineQueue<'w, O> {
+    /// None waits. It fails only where a growth was refused.
+    pub fn new(alloc: Global, out: &'w mut Counted<O>) -> Result<LineQueue<'w, O>, AllocError> {
+        let mut kept = Vec::new(alloc);
+        kept.reserve(MOST_THREADS)?;
+        let waiting = Waiting {
+            batch: Batch {
+                first: 0,
+                lines: Vec::new(alloc),
+            },
+            kept,
+            is_writing: false,
+            has_failed: false,
+        };
+        Ok(LineQueue {
+            alloc,
+            waiting: Mutex::new(waiting),
+            changed: Condvar::new(),
+            out: Mutex::new(out),
+        })
+    }
+
+    // Puts a line behind the others: its ticket, or none where it can't be taken.
+    fn put<R: Wait>(&self, rt: &R, line: LinkLine) -> Option<u64> {
+        let mut waiting = self.waiting.lock(rt);
+        waiting.put(line)
+    }
+
+    // What who has this ticket is to do, once who writes has done so.
+    fn step<R: Wait>(&self, rt: &R, ticket: u64) -> Step {
+        let waiting = self.waiting.lock(rt);
+        let mut waiting = self
+            .changed
+            .wait_while(rt, waiting, |waiting| waiting.is_early(ticket));
+        waiting.step(self.alloc, ticket)
+    }
+
+    // Writes lines, and tells the others what came of it.
+    fn write<R: Wait>(&self, rt: &R, batch: Batch) {
+        let Batch { first, lines } = batch;
+        let outcome = {
+            let mut out = self.out.lock(rt);
+            write_lines(self.alloc, &mut *out, lines)
+        };
+        {
+            let mut waiting = self.waiting.lock(rt);
+            waiting.finish(first, outcome);
+        }
+        self.changed.notify_all();
+    }
+
+    /// Has a line written: the link comes back once its line was, by this thread or by another. Once a write failed,
+    /// each that comes fails, and so do all that wait. It may wait.
+    pub(crate) fn save<R: Wait>(&self, rt: &R, line: LinkLine) -> Result<WrittenLink, SaveFault> {
+        let Some(ticket) = self.put(rt, line) else {
+            return Err(SaveFault);
+        };
+        for _ in 0..u64::MAX {
+            match self.step(rt, ticket) {
+                Step::Fetch(link) => return Ok(link),
+                Step::Fail => return Err(SaveFault),
+                Step::Write(batch) => self.write(rt, batch),
+            }
+        }
+        Err(SaveFault)
+    }
+}

@@ -1,0 +1,62 @@
+//! Why a witness ends without success.
+
+ghost use Rattle.std.specs.Prelude.{◌≡◌};
+ghost use Rattle.tl_serve.specs.Knowing.{by_witness};
+
+use std::alloc::{AllocError, AllocFailed};
+use tl_command::RunFault;
+use tl_device::DeviceFault;
+use tl_logs::LogsFault;
+
+/// Why a witness ends without success.
+#[derive(Clone, Copy, Debug, PartialEq, Eq)]
+pub enum WitnessFault {
+    /// A fault as other commands have it, too.
+    Run(RunFault),
+    /// The file of the logs isn't read.
+    LogsFile(DeviceFault),
+    /// A line of it isn't taken.
+    Logs(LogsFault),
+}
+
+impl From<AllocError> for WitnessFault {
+    ghost use Rattle.tl_command.specs.declared.fault.RunFault.TheVariants.{OutOfMemory};
+    ghost use Rattle.tl_serve.specs.declared.witness_fault.WitnessFault.TheVariants.{Run};
+
+    ghost from_gives = { λ _ fault. fault ≡ Run OutOfMemory };
+
+    fn from(_fault: AllocError) -> WitnessFault {
+        WitnessFault::Run(RunFault::OutOfMemory)
+    }
+}
+
+impl<X: Drop> From<AllocFailed<X>> for WitnessFault {
+    ghost use Rattle.tl_command.specs.declared.fault.RunFault.TheVariants.{OutOfMemory};
+    ghost use Rattle.tl_serve.specs.declared.witness_fault.WitnessFault.TheVariants.{Run};
+
+    ghost from_gives = { λ _ fault. fault ≡ Run OutOfMemory };
+
+    fn from(_fault: AllocFailed<X>) -> WitnessFault {
+        WitnessFault::Run(RunFault::OutOfMemory)
+    }
+}
+
+impl From<RunFault> for WitnessFault {
+    ghost use Rattle.tl_serve.specs.declared.witness_fault.WitnessFault.TheVariants.{Run};
+
+    ghost from_gives = { λ run fault. fault ≡ Run run };
+
+    fn from(fault: RunFault) -> WitnessFault {
+        WitnessFault::Run(fault)
+    }
+}
+
+// How a witness ended that ends as other commands do.
+pub(crate) fn after_run(outcome: Result<(), RunFault>) -> Result<(), WitnessFault>
+    ensures { result ≡ by_witness outcome }
+{
+    match outcome {
+        Ok(()) => Ok(()),
+        Err(fault) => Err(WitnessFault::Run(fault)),
+    }
+}
