@@ -25,7 +25,7 @@ returns-in-Ok-keep_and_feed-clause-fed g c =
       two,
       are_two _ _ last _ _ _ _ _ c.as_deref.ensures.value (sym c.as_str.ensures.value) c.in-Ok.ensures.had c.in-Ok.ensures.known c.in-Ok.ensures.trusted,
       fed_two (g.K.TrustStore.has_kept c.keep_and_feed.new.state) _ two _ _ c.in_default.ensures.grown (record { bytes = refl; failed = refl }) c.in_default.ensures.silent
-      c.in-Ok-keep_and_feed.ensures.kept c.in-Ok-keep_and_feed.ensures.printed,
+          c.in-Ok-keep_and_feed.ensures.kept c.in-Ok-keep_and_feed.ensures.printed,
     )
 
 pub returns-clause-refused : goal.returns-clause-refused
