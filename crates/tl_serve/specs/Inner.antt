@@ -2,6 +2,8 @@
 pub
     mod Carrying
 pub
+    mod Cosigning
+pub
     mod Live
 pub
     mod Queueing

@@ -1,21 +1,31 @@
-//! A key that many boxes share.
+//! The key that a witness cosigns by, which many boxes may share.
 
 ghost use Rattle.std.specs.Arc.{arc_value};
 ghost use Rattle.std.specs.Prelude.{◌≡◌, IfOk};
 
 use std::alloc::{AllocError, Global};
 use std::sync::Arc;
+use tl_key::{Cosignature, DemoKey, SignerKey};
 use tl_note::{SignFault, Signer};
+
+/// The key that the witness cosigns by.
+#[derive(Drop)]
+pub(crate) enum Own {
+    /// A demonstration key.
+    Demonstration(DemoKey<Global>),
+    /// A private key.
+    Private(SignerKey<Cosignature, Global>),
+}
 
 /// Who signs by a key that others share.
 #[derive(Drop)]
-pub(crate) struct SharedSigner<S: Signer> {
-    key: Arc<S>,
+pub(crate) struct SharedSigner {
+    key: Arc<Own>,
 }
 
-impl<S: Signer> SharedSigner<S> {
+impl SharedSigner {
     /// Who signs by this key.
-    pub(crate) fn new(key: &Arc<S>) -> Result<SharedSigner<S>, AllocError>
+    pub(crate) fn new(key: &Arc<Own>) -> Result<SharedSigner, AllocError>
         ensures { IfOk result (λ signer. arc_value signer.key ≡ arc_value key.now) }
     {
         Ok(SharedSigner {
@@ -24,20 +34,30 @@ impl<S: Signer> SharedSigner<S> {
     }
 }
 
-impl<S: Signer> Signer for SharedSigner<S> {
+impl Signer for SharedSigner {
     ghost use Rattle.std.specs.Arc.{arc_value};
+    ghost use Rattle.tl_serve.specs.Inner.Cosigning.{own_signing_key};
 
-    ghost signing_key = { λ s. S.signing_key (arc_value s.key) };
+    ghost signing_key = { λ s. own_signing_key (arc_value s.key) };
 
     fn name(&self) -> &str {
-        self.key.name()
+        match &*self.key {
+            Own::Demonstration(key) => key.name(),
+            Own::Private(key) => key.name(),
+        }
     }
 
     fn key_id(&self) -> u32 {
-        self.key.key_id()
+        match &*self.key {
+            Own::Demonstration(key) => key.key_id(),
+            Own::Private(key) => key.key_id(),
+        }
     }
 
     fn sign(&self, alloc: Global, message: &[u8]) -> Result<Vec<u8>, SignFault> {
-        self.key.sign(alloc, message)
+        match &*self.key {
+            Own::Demonstration(key) => key.sign(alloc, message),
+            Own::Private(key) => key.sign(alloc, message),
+        }
     }
 }

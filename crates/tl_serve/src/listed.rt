@@ -1,10 +1,10 @@
 //! A witness of the logs that a file names.
 
-use crate::cosigner::SharedSigner;
+use crate::cosigner::{Own, SharedSigner};
 use crate::host::Host;
 use crate::options::WitnessOptions;
-use crate::witness::{Own, chains_of, own_key, refusal, serve_all};
-use crate::witness_fault::WitnessFault;
+use crate::witness::{chains_of, own_key, refusal, serve_all};
+use crate::witness_fault::{WitnessFault, after_run};
 use std::alloc::{AllocError, Global};
 use std::fs::{Files, metadata};
 use std::io::{Read, Write};
@@ -87,7 +87,6 @@ fn refusal_in(fault: BookFault, input: &[u8], origins: &[String]) -> RunFault {
 
 // Serves a witness of these logs that cosigns by this key. What it cosigned for others is left out.
 fn serve_listed<
-    S: Signer + 'static,
     H: Host + Net<Listener = TcpListener, Stream = TcpStream>,
     R: Read,
     O: Write + Send,
@@ -97,7 +96,7 @@ fn serve_listed<
     alloc: Global,
     options: &WitnessOptions,
     logs: Vec<KnownLog<Global>>,
-    key: Arc<S>,
+    key: Arc<Own>,
     reader: &mut Counted<R>,
     writer: &mut Counted<O>,
     log: &mut Counted<L>,
@@ -149,15 +148,6 @@ pub(crate) fn run_listed<
     log: &mut Counted<L>,
 ) -> Result<(), WitnessFault> {
     let logs = known_logs(rt, alloc, path)?;
-    match own_key(rt, alloc, options)? {
-        Own::Demonstration(key) => {
-            let key = Arc::new(alloc, key)?;
-            serve_listed(rt, alloc, options, logs, key, reader, writer, log)?;
-        }
-        Own::Private(key) => {
-            let key = Arc::new(alloc, key)?;
-            serve_listed(rt, alloc, options, logs, key, reader, writer, log)?;
-        }
-    }
-    Ok(())
+    let key = Arc::new(alloc, own_key(rt, alloc, options)?)?;
+    after_run(serve_listed(rt, alloc, options, logs, key, reader, writer, log))
 }

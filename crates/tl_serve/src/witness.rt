@@ -5,6 +5,7 @@ ghost use Rattle.tl_command.specs.Origins.{RefusesOrigin};
 ghost use Rattle.tl_serve.specs.Knowing.{RefusesLog};
 
 use crate::answering::answer;
+use crate::cosigner::Own;
 use crate::door::Door;
 use crate::host::Host;
 use crate::listed::run_listed;
@@ -28,7 +29,7 @@ use tl_command::{MOST_INPUT, RunFault, read_file, read_input, read_log_key, read
 use tl_device::Counted;
 use tl_hash::Sha256Tree;
 use tl_heart::Event;
-use tl_key::{Cosignature, DemoKey, Note, SignerKey, VerifierKey, demo_key};
+use tl_key::{Cosignature, DemoKey, Note, VerifierKey, demo_key};
 use tl_note::{NoteFault, Signer, Verifier, is_key_name};
 use tl_proof::Link;
 use tl_server::{Outcome, ServeFault, Teller, Witness, serve_witness};
@@ -277,13 +278,6 @@ fn known_key(alloc: Global, origin: &str, key: &LogVerifierKey) -> Result<Known,
             Ok(Known::Public(key))
         }
     }
-}
-
-/// The key that the witness cosigns by.
-#[derive(Drop)]
-pub(crate) enum Own {
-    Demonstration(DemoKey<Global>),
-    Private(SignerKey<Cosignature, Global>),
 }
 
 /// The key that the options name for the witness.
