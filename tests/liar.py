@@ -116,15 +116,15 @@ class Liar(Files):
 
 
 class Late(Files):
-    """A web server of files that answers late, each path as late as `late` says: `asked` are the paths that it was asked for,
-    and `most` says how many clients it had at once. A client counts until its answer is sent."""
-    lock, asked, late = threading.Lock(), [], {}
+    """A web server of files that answers late, each path by the seconds that `late` or `others` says: `asked` are the paths
+    that it was asked for, and `most` says how many clients it had at once. A client counts until its answer is sent."""
+    lock, asked, late, others = threading.Lock(), [], {}, 0.01
     now = most = 0
 
     @classmethod
-    def clear(cls, late=None):
+    def clear(cls, late=None, others=0.01):
         cls.asked.clear()
-        cls.most, cls.late = 0, late or {}
+        cls.most, cls.late, cls.others = 0, late or {}, others
 
     @classmethod
     def count(cls, more):
@@ -138,8 +138,9 @@ class Late(Files):
 
     def do_GET(self):
         path = self.path[1:]
-        Late.asked.append(path.split('/', 1)[1])
-        time.sleep(self.late.get(path.split('/', 1)[1], 0.03))
+        asked = path.split('/', 1)[1]
+        self.asked.append(asked)
+        time.sleep(self.late.get(asked, self.others))
         body = read(path)
         self.count(-1)
         self.close_connection = True
