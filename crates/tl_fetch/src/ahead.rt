@@ -49,7 +49,7 @@ struct Wanted {
 }
 
 // The bundles of a log of this size from the one with this entry on, and the tiles of level 0 over them that aren't
-// known: as many as are asked for at once, and all of the log.
+// known: as many as are asked for at once, or a tile more, and all of the log; none where one is asked for at once.
 fn wanted_from<S: AsksHost, A: Allocator>(
     alloc: Global,
     source: &S,
@@ -65,7 +65,7 @@ fn wanted_from<S: AsksHost, A: Allocator>(
     let first = from / 256;
     let end = ((size - 1) / 256 + 1).min(first + u64::from(at_once));
     for bundle in first..end {
-        if resources.len() + 2 > usize::from(at_once) {
+        if at_once < 2 || resources.len() >= usize::from(at_once) {
             return Ok(Wanted {
                 resources,
                 end: bundle,

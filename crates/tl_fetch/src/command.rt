@@ -23,7 +23,8 @@ use crate::witnesses::{check_keys, witness_key};
 use std::alloc::Global;
 use std::fs::{File, Files};
 use std::io::Write;
-use std::net::{Net, TcpStream};
+use std::net::{Net, TcpListener, TcpStream};
+use std::thread::Threads;
 use std::time::{Clock, Duration};
 use tl_client::ResourceSource;
 use tl_command::{Place, RunFault, read_log_key};
@@ -227,7 +228,16 @@ fn fetch_as_told<'s, H: Files<File = File> + HostClient, W: Write, E: Write>(
 /// `fetch`: reads the keys of the log and of the witnesses (C2SP signed-note, "Verifier keys"), and fetches what is
 /// wanted from the folder or over HTTP as `fetch_under` does, of the log with the name of its key, with as many requests
 /// in flight as the options tell. Where `errors` goes to a terminal, it is told how far the checks are.
-pub fn run_fetch<'s, H: Files<File = File> + HostClient, W: Write, E: Write>(
+pub fn run_fetch<
+    's,
+    H: Files<File = File>
+        + Net<Listener = TcpListener, Stream = TcpStream>
+        + Clock
+        + Threads
+        + Sync,
+    W: Write,
+    E: Write,
+>(
     rt: &'s H,
     alloc: Global,
     options: &'s FetchOptions,
