@@ -61,7 +61,7 @@ fn is_of(line: &[u8], origin: &str) -> bool {
 // The place of the line of an origin's link at this place, among all lines.
 fn line_of(input: &[u8], origin: &str, link: usize) -> u64 {
     let mut others = link;
-    let mut place = 0;
+    let mut place: u64 = 0;
     for line in input.split(|byte| *byte == b'\n') {
         if is_of(line, origin) {
             if others == 0 {
@@ -69,7 +69,7 @@ fn line_of(input: &[u8], origin: &str, link: usize) -> u64 {
             }
             others -= 1;
         }
-        place += 1;
+        place = place.saturating_add(1);
     }
     place
 }
