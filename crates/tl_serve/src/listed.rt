@@ -61,7 +61,7 @@ fn is_of(line: &[u8], origin: &str) -> bool {
 // The place of the line of an origin's link at this place, among all lines.
 fn line_of(input: &[u8], origin: &str, link: usize) -> u64 {
     let mut others = link;
-    let mut place = 0;
+    let mut place: u64 = 0;
     for line in input.split(|byte| *byte == b'\n') {
         if is_of(line, origin) {
             if others == 0 {
@@ -69,7 +69,7 @@ fn line_of(input: &[u8], origin: &str, link: usize) -> u64 {
             }
             others -= 1;
         }
-        place += 1;
+        place = place.saturating_add(1);
     }
     place
 }
@@ -83,6 +83,34 @@ fn refusal_in(fault: BookFault, input: &[u8], origins: &[String]) -> RunFault {
         },
         _ => refusal(fault),
     }
+}
+
+// Serves a witness that trusts these, and has cosigned these chains, which are of the input and of these origins.
+fn serve_trusted<
+    H: Host + Net<Listener = TcpListener, Stream = TcpStream>,
+    O: Write + Send,
+    L: Write,
+>(
+    rt: &H,
+    alloc: Global,
+    options: &WitnessOptions,
+    trusts: Vec<Trust<Global>>,
+    chains: Vec<(String, Vec<Link<Global>>)>,
+    input: Vec<u8>,
+    origins: Vec<String>,
+    writer: &mut Counted<O>,
+    log: &mut Counted<L>,
+) -> Result<(), RunFault> {
+    let book = match Book::open(alloc, alloc, Sha256Tree, trusts, chains) {
+        Ok(book) => book,
+        Err(fault) => return Err(refusal_in(fault, input.as_slice(), origins.as_slice())),
+    };
+    drop(input);
+    drop(origins);
+    let Ok(witness) = SharedWitness::new(book) else {
+        return Err(RunFault::OutOfMemory);
+    };
+    serve_all(rt, alloc, options, &witness, writer, log)
 }
 
 // Serves a witness of these logs that cosigns by this key. What it cosigned for others is left out.
@@ -120,16 +148,9 @@ fn serve_listed<
             cosigner,
         })?;
     }
-    let book = match Book::open(alloc, alloc, Sha256Tree, trusts, chains) {
-        Ok(book) => book,
-        Err(fault) => return Err(refusal_in(fault, input.as_slice(), origins.as_slice())),
-    };
-    drop(input);
-    drop(origins);
-    let Ok(witness) = SharedWitness::new(book) else {
-        return Err(RunFault::OutOfMemory);
-    };
-    serve_all(rt, alloc, options, &witness, writer, log)
+    serve_trusted(
+        rt, alloc, options, trusts, chains, input, origins, writer, log,
+    )
 }
 
 /// Serves a witness of the logs that the file at this path names.
