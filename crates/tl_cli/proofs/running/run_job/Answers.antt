@@ -28,5 +28,8 @@ pub returns-in-Feed : goal.returns-in-Feed
 returns-in-Feed g c = rw c.in-Feed.is
     ((c.run_feed.result, c.run_feed.ensures, c.after_fetch-in-Feed.ensures), (Keeps-refl (g.R.Read.remaining c.args.reader.now.device), refl))
 
+pub returns-in-Witness : goal.returns-in-Witness
+returns-in-Witness g c = rw c.in-Witness.is ((c.witness.result, c.witness.ensures.refuses, c.after_witness.ensures), c.witness.ensures.spares)
+
 pub returns-in-Serve : goal.returns-in-Serve
 returns-in-Serve g c = rw c.in-Serve.is ((c.serve.result, (c.serve.ensures.refuses, c.serve.ensures.serves), search rules), search rules)
