@@ -196,8 +196,9 @@ fn check_under<H: Files, R: Read, W: Write>(
 }
 
 /// Runs the command of a job with its options: each job its own command, which reads the reader and writes the writer.
-/// `keygen`, `serve`, `witness` and `feed` write to `errors` too, and so does `fetch` where that is a terminal. The folder of a
-/// log that `append` or `serve` had to itself is then in `folder`, locked until it is dropped. The servers may wait.
+/// `keygen`, `serve`, `witness` and `feed` write to `errors` too, and so does `fetch` where that is a terminal. The
+/// folder of a log that `append` or `serve` had to itself is then in `folder`, locked until it is dropped. The servers
+/// may wait.
 pub fn run_job<
     D: CrashOutcome + Copy + Send + Drop,
     H: Host

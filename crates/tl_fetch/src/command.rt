@@ -226,8 +226,8 @@ fn fetch_as_told<'s, H: Files<File = File> + HostClient, W: Write, E: Write>(
 }
 
 /// `fetch`: reads the keys of the log and of the witnesses (C2SP signed-note, "Verifier keys"), and fetches what is
-/// wanted from the folder or over HTTP as `fetch_under` does, of the log with the name of its key, with as many requests
-/// in flight as the options tell. Where `errors` goes to a terminal, it is told how far the checks are.
+/// wanted from the folder or over HTTP as `fetch_under` does, of the log with the name of its key, with as many
+/// requests in flight as the options tell. Where `errors` goes to a terminal, it is told how far the checks are.
 pub fn run_fetch<
     's,
     H: Files<File = File>

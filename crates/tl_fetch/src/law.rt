@@ -18,8 +18,8 @@ pub fn listing_is_one_list()
         → listed_text xs ≡ listed_text ys → xs ≡ ys }
 {}
 
-/// A witness that has so many of the first entries of a log, by their root, accepts the proof that it is asked with over
-/// tiles of this source (RFC 6962, section 2.1.2). It computes nothing: its contract is the law.
+/// A witness that has so many of the first entries of a log, by their root, accepts the proof that it is asked with
+/// over tiles of this source (RFC 6962, section 2.1.2). It computes nothing: its contract is the law.
 pub fn honest_growth_is_accepted<S: ResourceSource>(_source: &S)
     ensures { (head : Head) (old : ℕ) (proof entries : List Bytes)
         → IsGrowthFrom (S.may_answer _source.now) head old proof

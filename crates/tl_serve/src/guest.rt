@@ -88,7 +88,7 @@ impl Guest {
         }
     }
 
-    /// When its time is over: the head of a request may take half of the time alone, and what waits for a place was read.
+    /// When its time is over: a request that is being read may take half of the time alone.
     pub(crate) fn deadline(&self, limit: u64) -> u64 {
         let is_reading = self.answer.is_none() && self.receipt.is_none();
         let time = if is_reading && self.request.is_begun() {

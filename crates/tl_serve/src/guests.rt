@@ -44,7 +44,7 @@ pub(crate) struct Guests<'d, H> {
     refusals: u32,
 }
 
-impl<'d, H: Clock + Net + Wait> Guests<'d, H> {
+impl<'d, H: Clock> Guests<'d, H> {
     /// None yet. `Accept`: the machine's clock can't be read.
     pub(crate) fn new(
         house: House<'d, H>,
@@ -75,7 +75,9 @@ impl<'d, H: Clock + Net + Wait> Guests<'d, H> {
             self.now = u64::try_from(time.as_millis()).unwrap_or(u64::MAX);
         }
     }
+}
 
+impl<'d, H> Guests<'d, H> {
     // How long nothing is to be done where no event comes.
     fn pause(&self) -> Option<Duration> {
         if self.refusals > 0 && !self.door.is_over() {
@@ -104,6 +106,64 @@ impl<'d, H: Clock + Net + Wait> Guests<'d, H> {
             .is_ok()
     }
 
+    // Those that wait for the place of an entry, where the log has this size.
+    fn published_below(&self, size: u64) -> Result<Vec<usize>, AllocError> {
+        let mut keys = Vec::new(self.house.alloc);
+        for (key, guest) in self.guests.iter() {
+            if guest.is_published(size) {
+                keys.push(key)?;
+            }
+        }
+        Ok(keys)
+    }
+
+    // Holds a connection that has to wait. Whether it can.
+    fn keep(&mut self, guest: Guest) -> bool {
+        let mut guest = guest;
+        let (key, interest) = (self.guests.vacant_key(), guest.interest());
+        guest.is_writing = guest.wants_to_write();
+        let due = guest.deadline(self.door.limit());
+        let is_watched = self
+            .poll
+            .registry()
+            .register(&mut guest.stream, Token(key), interest);
+        if is_watched.is_err() || self.guests.insert(guest).is_err() {
+            return false;
+        }
+        self.due = self.due.min(due);
+        true
+    }
+
+    // Lets go those whose time is over, and once the door is closed those that have no answer yet.
+    fn let_go(&mut self) {
+        let is_closed = self.door.is_closed();
+        if is_closed && self.end == u64::MAX {
+            self.end = self.now.saturating_add(GRACE);
+        }
+        if self.now < self.due && !is_closed {
+            return;
+        }
+        let (now, end, limit) = (self.now, self.end, self.door.limit());
+        let before = self.guests.len();
+        self.guests.retain(|_, guest| {
+            now < guest.deadline(limit).min(end) && (guest.is_answered() || !is_closed)
+        });
+        let gone = before.saturating_sub(self.guests.len());
+        self.door.let_go(gone as u64);
+        self.due = self.next_due();
+    }
+
+    // When the time of the first of them is over.
+    fn next_due(&self) -> u64 {
+        let mut due = u64::MAX;
+        for (_, guest) in self.guests.iter() {
+            due = due.min(guest.deadline(self.door.limit()));
+        }
+        due
+    }
+}
+
+impl<'d, H: Clock + Net + Wait> Guests<'d, H> {
     // Goes on with a connection of which something was told.
     fn go_on<P: Pages>(&mut self, key: usize, pages: &mut P) {
         let next = match self.guests.get_mut(key) {
@@ -128,17 +188,6 @@ impl<'d, H: Clock + Net + Wait> Guests<'d, H> {
         }
     }
 
-    // Those that wait for the place of an entry, where the log has this size.
-    fn published_below(&self, size: u64) -> Result<Vec<usize>, AllocError> {
-        let mut keys = Vec::new(self.house.alloc);
-        for (key, guest) in self.guests.iter() {
-            if guest.is_published(size) {
-                keys.push(key)?;
-            }
-        }
-        Ok(keys)
-    }
-
     // Goes on with all connections whose entries were published since that was last looked for.
     fn go_on_published<P: Pages>(&mut self, pages: &mut P) {
         let Some(desk) = self.house.news.desk() else {
@@ -155,23 +204,6 @@ impl<'d, H: Clock + Net + Wait> Guests<'d, H> {
         for key in keys {
             self.go_on(key, pages);
         }
-    }
-
-    // Holds a connection that has to wait. Whether it can.
-    fn keep(&mut self, guest: Guest) -> bool {
-        let mut guest = guest;
-        let (key, interest) = (self.guests.vacant_key(), guest.interest());
-        guest.is_writing = guest.wants_to_write();
-        let due = guest.deadline(self.door.limit());
-        let is_watched = self
-            .poll
-            .registry()
-            .register(&mut guest.stream, Token(key), interest);
-        if is_watched.is_err() || self.guests.insert(guest).is_err() {
-            return false;
-        }
-        self.due = self.due.min(due);
-        true
     }
 
     // Answers a new connection, or holds it where that has to wait.
@@ -219,34 +251,6 @@ impl<'d, H: Clock + Net + Wait> Guests<'d, H> {
             return Err(RunFault::Accept);
         }
         Ok(())
-    }
-
-    // Lets go those whose time is over, and once the door is closed those that have no answer yet.
-    fn let_go(&mut self) {
-        let is_closed = self.door.is_closed();
-        if is_closed && self.end == u64::MAX {
-            self.end = self.now.saturating_add(GRACE);
-        }
-        if self.now < self.due && !is_closed {
-            return;
-        }
-        let (now, end, limit) = (self.now, self.end, self.door.limit());
-        let before = self.guests.len();
-        self.guests.retain(|_, guest| {
-            now < guest.deadline(limit).min(end) && (guest.is_answered() || !is_closed)
-        });
-        let gone = before.saturating_sub(self.guests.len());
-        self.door.let_go(gone as u64);
-        self.due = self.next_due();
-    }
-
-    // When the time of the first of them is over.
-    fn next_due(&self) -> u64 {
-        let mut due = u64::MAX;
-        for (_, guest) in self.guests.iter() {
-            due = due.min(guest.deadline(self.door.limit()));
-        }
-        due
     }
 
     /// Answers connections, until no more are to be taken and none is held. `Accept`: none can be accepted for good.

@@ -23,8 +23,8 @@ pub struct LogHost<'t> {
     pub limit: Duration,
 }
 
-/// A connection to the first address of the host that takes one, before the time since `start` is over. `NoHost`: it has
-/// no address; else why the last one took none.
+/// A connection to the first address of the host that takes one, before the time since `start` is over. `NoHost`: it
+/// has no address; else why the last one took none.
 pub fn connect<H: Net<Stream = TcpStream> + Clock>(
     rt: &H,
     url: &Url<'_>,

@@ -35,8 +35,8 @@ use tl_source::{FullSource, NamesLack};
 /// The options of `feed`.
 #[derive(Drop)]
 pub struct FeedOptions {
-    /// Where the log is, its key, the witnesses' keys, how many of them must cosign, the file of the state, and how many
-    /// seconds one answer may take, as `fetch` has them. No cache is used, and nothing else is wanted.
+    /// Where the log is, its key, the witnesses' keys, how many of them must cosign, the file of the state, and how
+    /// many seconds one answer may take, as `fetch` has them. No cache is used, and nothing else is wanted.
     pub log: FetchOptions,
     /// The addresses of the witnesses, in the order of their keys.
     pub to: Vec<String>,
@@ -146,9 +146,9 @@ fn feed_as_told<'s, H: Files<File = File> + Net<Stream = TcpStream> + Clock, W: 
     }
 }
 
-/// `feed`: reads the keys of the log and of the witnesses (C2SP signed-note, "Verifier keys"), and brings the checkpoint
-/// of the log, which is read from a folder or over HTTP, before each witness, as `feed_under` does. Why a witness gave
-/// no cosignature is told on `errors`, a line each.
+/// `feed`: reads the keys of the log and of the witnesses (C2SP signed-note, "Verifier keys"), and brings the
+/// checkpoint of the log, which is read from a folder or over HTTP, before each witness, as `feed_under` does. Why a
+/// witness gave no cosignature is told on `errors`, a line each.
 pub fn run_feed<'s, H: Files<File = File> + Net<Stream = TcpStream> + Clock, W: Write, E: Write>(
     rt: &'s H,
     alloc: Global,

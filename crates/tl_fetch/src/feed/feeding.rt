@@ -132,11 +132,11 @@ fn keep_and_feed<S: ResourceSource, K: TrustStore, Q: AsksWitnesses, W: Write>(
     Ok(())
 }
 
-/// Brings the checkpoint of the log of this policy before its witnesses (C2SP tlog-witness): the source's checkpoint has
-/// to be signed by the log, and to go on from the state's by a consistency proof that is accepted. It is kept then, and
-/// each witness is asked with the proof from the size that it has. The note is printed with the lines of all that
-/// cosigned this very checkpoint, where they are as many as the policy needs; `TooFew` says how many were. Where the log
-/// shrank or forked, the state's note and the new one are printed.
+/// Brings the checkpoint of the log of this policy before its witnesses (C2SP tlog-witness): the source's has to be
+/// signed by the log, and to go on from the state's by a consistency proof that is accepted. It is kept then, and each
+/// witness is asked with the proof from the size that it has. The note is printed with the lines of all that cosigned
+/// it, if they are as many as the policy needs; else `TooFew`. Where the log shrank or forked, the state's note and the
+/// new one are printed.
 pub fn feed_under<S: ResourceSource, K: TrustStore, O: Observer, Q: AsksWitnesses, W: Write>(
     alloc: Global,
     source: &S,
