@@ -16,19 +16,25 @@ use tl_folder::{AnyOutcome, FolderShelf};
 use tl_ledger::Found;
 use tl_serve::{Host, run_serve_shelf};
 
-/// A new folder, in memory where the system has room for files there: the disk is not what is tried.
-pub fn room<H: Files>(rt: &H, alloc: Global) -> Option<String> {
-    for number in 0..100_000u32 {
-        for base in ["/dev/shm", "/tmp"] {
-            let Ok(path) = format!(in alloc; "{base}/tlog-cut-{number}") else {
-                return None;
-            };
-            if create_dir(rt, path.as_str()).is_ok() {
-                return Some(path);
-            }
+// A new folder under this one, if it takes any.
+fn room_in<H: Files>(rt: &H, alloc: Global, base: &str) -> Option<String> {
+    for number in 0..1_000u32 {
+        let Ok(path) = format!(in alloc; "{base}/tlog-cut-{number}") else {
+            return None;
+        };
+        if create_dir(rt, path.as_str()).is_ok() {
+            return Some(path);
         }
     }
     None
+}
+
+/// A new folder, in memory where the system has room for files there: the disk is not what is tried.
+pub fn room<H: Files>(rt: &H, alloc: Global) -> Option<String> {
+    match room_in(rt, alloc, "/dev/shm") {
+        Some(path) => Some(path),
+        None => room_in(rt, alloc, "/tmp"),
+    }
 }
 
 /// So many lines, from this number on.
