@@ -20,7 +20,7 @@ use Rattle.tl_ledger.specs.Keeping.{IsKeeping, published}
 use Rattle.tl_ledger.specs.Spent.{IsShown}
 use Rattle.tl_command.specs.Mirror.{LogKey, checkpoint_note}
 use Rattle.tl_append.specs.Appending.{Appends, AppendsAtMost, AppendsThen, Course, PrintsHeads, head_line, joined, publication_line, published_after}
-use Rattle.tl_append.specs.Inner.Turns.{Publishes, Shows}
+use Rattle.tl_append.specs.Inner.Turns.{Publishes, HasShown}
 
 -- a shelf and a ledger before and after
 abbrev pub along : Kept → Kept → List Kept → List Kept → Ledger → Ledger → Course
@@ -229,7 +229,7 @@ safe_both h saw mid sees first then = record {
 }
 
 pub spent_removed : (key : LogKey) (batch : List Bytes) (a m b : Kept) (saw mid sees : List Kept) (was is : Ledger)
-    → Appends key (batch ∷ []) (along a m saw mid was is) → Shows key batch (along a m saw mid was is)
+    → Appends key (batch ∷ []) (along a m saw mid was is) → HasShown key batch (along a m saw mid was is)
     → ((h : List Prefix) (log : List Bytes) → IsKeeping sha256 h log m is → IsShown h log m.held → IsKeeping sha256 h log b is)
     → ((h : List Prefix) (log : List Bytes) → IsKeeping sha256 h log m is → IsShown h log m.held → KeptSafe sha256 h mid sees)
     → Appends key (batch ∷ []) (along a b saw sees was is)

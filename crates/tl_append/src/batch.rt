@@ -10,7 +10,7 @@ ghost use Rattle.tl_archive.specs.Complete.{KeptSafe};
 ghost use Rattle.tl_ledger.specs.Keeping.{IsKeeping};
 ghost use Rattle.tl_ledger.specs.Spent.{LacksSpent};
 ghost use Rattle.tl_append.specs.Appending.{Appends, AppendsAtMost, course};
-ghost use Rattle.tl_append.specs.Inner.Turns.{Shows};
+ghost use Rattle.tl_append.specs.Inner.Turns.{HasShown};
 
 use crate::faults::{unkept, unput};
 use std::alloc::Global;
@@ -21,8 +21,8 @@ use tl_ledger::Ledger;
 // The most entries of a log.
 const MOST_ENTRIES: u64 = 4_294_967_295;
 
-// Puts a batch behind a log. `Operator`: it has no room for it, and nothing was put.
-fn put_batch<S: Shelf>(
+/// Puts a batch behind a log. `Operator`: it has no room for it, and nothing was put.
+pub(crate) fn put_batch<S: Shelf>(
     shelf: &mut S,
     ledger: &mut Ledger<Global>,
     batch: &[Vec<u8>],
@@ -65,7 +65,7 @@ fn publish_batch<K: LogSigner, S: Shelf>(
     requires short { AreShortEntries (map vec_items batch.now) }
     ensures all { OnOk result (Appends (K.log_key key.now) (map vec_items batch.now ∷ [])
         (course S.kept S.trace shelf.old shelf.new ledger.old ledger.new)) }
-    ensures shown { OnOk result (Shows (K.log_key key.now) (map vec_items batch.now)
+    ensures shown { OnOk result (HasShown (K.log_key key.now) (map vec_items batch.now)
         (course S.kept S.trace shelf.old shelf.new ledger.old ledger.new)) }
     ensures sized { OnOk result
         (ledger.new.edge.size ≡ ledger.old.edge.size + length batch.now) }

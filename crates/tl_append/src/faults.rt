@@ -4,9 +4,10 @@ ghost use Rattle.std.specs.Prelude.{◌≡◌, Some};
 ghost use Rattle.tl_command.specs.Faults.{after_device};
 ghost use Rattle.tl_command.specs.declared.place.Place.TheVariants.{Log};
 ghost use Rattle.tl_append.specs.Faults.{after_lines};
-ghost use Rattle.tl_append.specs.Inner.Faults.{after_ledger, after_mark, after_open, after_shelf, is_taken};
+ghost use Rattle.tl_append.specs.Inner.Faults.{after_ledger, after_mark, after_open, after_proposal, after_shelf, is_taken};
 
 use tl_archive::ShelfFault;
+use tl_checkpoint::OpenCheckpointFault;
 use tl_command::{Place, RunFault};
 use tl_device::DeviceFault;
 use tl_ledger::{LedgerFault, MarkFault, OpenFault};
@@ -61,6 +62,16 @@ pub(crate) fn unopened(fault: OpenFault) -> RunFault
         OpenFault::Damaged(resource) => unfit(resource, DeviceFault::Damaged),
         OpenFault::Shelf(fault) => unkept(fault),
         OpenFault::OutOfMemory => RunFault::OutOfMemory,
+    }
+}
+
+/// What a command ends with where a proposal doesn't open.
+pub(crate) fn unproposed(fault: OpenCheckpointFault) -> RunFault
+    ensures { result ≡ after_proposal fault }
+{
+    match fault {
+        OpenCheckpointFault::OutOfMemory => RunFault::OutOfMemory,
+        _ => RunFault::BadCheckpoint(Place::Log(None)),
     }
 }
 

@@ -1,24 +1,40 @@
-//! The command `append`: lines that go into a log whose entries are on a shelf alone.
+//! The command `append`: lines that go into a log whose entries are on a shelf alone; and shelves whose log is shown
+//! once witnesses cosigned it.
 //!
 //! ```
 //! let mut found = Found::new(alloc);
-//! run_append(&rt, alloc, &options, &mut shelf, &mut found, &mut reader, &mut writer)?; // prints `2 n5+..`
+//! run_append(
+//!     &rt, alloc, &options, &mut shelf, &store, &mut found, &mut reader, &mut writer,
+//! )?; // prints `2 n5+..`
+//! let mut cosigned = CosignedShelf::new(shelf, store, asker, quorum, false);
+//! let mut log = cosigned.open(alloc, keys.verifier, false, &mut found)?;
+//! cosigned.append(alloc, &keys.signer, &batch, &mut log.ledger)?; // two witnesses cosigned it
 //! ```
 #![tactic(auto)]
 
 mod appending;
 mod batch;
+mod cosigned_shelf;
+mod cosigners;
 mod faults;
 mod keys;
+mod log_shelf;
 mod opening;
 mod options;
 mod printing;
+mod proposal;
 mod running;
+mod signed_shelf;
 
 pub use appending::append_lines;
 pub use batch::append_batch;
+pub use cosigned_shelf::CosignedShelf;
+pub use cosigners::{AsksCosigners, ChecksCosigned, LogQuorum};
 pub use faults::line_fault;
 pub use keys::{LogKeys, LogOpeningKey, LogSigningKey, keys_of};
+pub use log_shelf::{LogShelf, OpenedLog};
 pub use opening::open_ledger;
 pub use options::AppendOptions;
+pub use proposal::{NoProposals, ProposalStore};
 pub use running::run_append;
+pub use signed_shelf::SignedShelf;

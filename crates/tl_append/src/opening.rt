@@ -1,64 +1,179 @@
 //! Opening the log on a shelf under the key of its operator.
 
-ghost use Rattle.std.specs.Prelude.{◌≡◌, ◌∷◌, [], true, false, map, IfOk, OnOk};
+ghost use Rattle.std.specs.Prelude.{◌≡◌, ◌∷◌, [], true, false, map, IfOk, OnOk, None, Some};
 ghost use Rattle.sha2.specs.Sha256.{sha256};
+ghost use Rattle.tl_hash.specs.declared.head.Head.{Head as HeadValue};
 ghost use Rattle.tl_ledger.specs.Marks.{IsWithin};
-ghost use Rattle.tl_ledger.specs.Opening.{Opens, found_size};
+ghost use Rattle.tl_ledger.specs.Opening.{IsOfNote, Opens, found_size};
 ghost use Rattle.tl_append.specs.Keys.{opening_key_of};
+ghost use Rattle.tl_append.specs.Proposing.{HasProposal, IsStated, IsThere};
 
-use crate::faults::{outrun, unopened};
+use crate::faults::{outrun, unopened, unproposed};
 use crate::keys::LogOpeningKey;
+use crate::log_shelf::OpenedLog;
+use crate::proposal::ProposalStore;
 use std::alloc::Global;
 use std::snapshot::Snapshot;
 use tl_archive::Shelf;
+use tl_checkpoint::open_checkpoint;
 use tl_command::RunFault;
-use tl_ledger::{Found, Ledger};
+use tl_ledger::{Found, Ledger, OpenFault};
 use tl_note::Verifier;
 
-// The ledger of the log on this shelf, whose checkpoint these verifiers open, of which this one is the only one.
-fn open_by<S: Shelf>(
+// STAND-IN until tl_ledger has `Ledger::open_note`, with the clauses of that.
+fn open_note<S: Shelf>(
+    _alloc: Global,
+    _shelf: &S,
+    _note: &str,
+    _verifiers: &[Box<dyn Verifier>],
+    _found: &mut Found<Global>,
+) -> Result<Ledger<Global>, OpenFault>
+    ensures opens { IfOk result
+        (Opens sha256 (map (λ v. key v) _verifiers.now) _found.new) }
+    ensures stated { OnOk result
+        (IsStated _note.now (map (λ v. key v) _verifiers.now) _found.new.head) }
+{
+    Err(OpenFault::OutOfMemory)
+}
+
+// The number of entries of the checkpoint that a proposal is of.
+fn proposed_size(
     alloc: Global,
-    own: &Snapshot<LogOpeningKey>,
+    note: &str,
+    verifiers: &[Box<dyn Verifier>],
+) -> Result<u64, RunFault>
+    ensures { IfOk result (λ size. (head : HeadValue)
+        × IsOfNote note.now (map (λ v. key v) verifiers.now) head × (head.size ≡ size)) }
+{
+    match open_checkpoint(alloc, note, verifiers) {
+        Ok(checkpoint) => Ok(checkpoint.size),
+        Err(fault) => Err(unproposed(fault)),
+    }
+}
+
+// The ledger of the log on this shelf, as far as its checkpoint goes.
+fn open_shown<S: Shelf>(
+    alloc: Global,
     verifiers: &[Box<dyn Verifier>],
     shelf: &S,
     found: &mut Found<Global>,
-) -> Result<Ledger<Global>, RunFault>
-    requires { map (λ v. key v) verifiers.now ≡ opening_key_of own.now.value ∷ [] }
-    ensures { IfOk result (Opens sha256 (opening_key_of own.now.value ∷ []) found.new) }
+) -> Result<OpenedLog, RunFault>
+    ensures opens { IfOk result
+        (λ o. Opens sha256 (map (λ v. key v) verifiers.now) found.new o.ledger) }
+    ensures first { IfOk result (λ o. found.new.head ≡ None → o.is_due ≡ true) }
+    ensures there { S.is_honest ≡ true → IfOk result (λ o. o.is_due ≡ false
+        → IsThere (S.kept shelf.now).held (map (λ v. key v) verifiers.now) found.new.head) }
 {
-    match Ledger::open(alloc, shelf, verifiers, found) {
-        Ok(ledger) => Ok(ledger),
+    let ledger = match Ledger::open(alloc, shelf, verifiers, found) {
+        Ok(ledger) => ledger,
+        Err(fault) => return Err(unopened(fault)),
+    };
+    let is_due = found.head.is_none();
+    Ok(OpenedLog { ledger, is_due })
+}
+
+// The ledger of the log on this shelf, as far as its checkpoint goes or the proposal that is kept, whichever has more
+// entries. Of an older proposal nothing is read: its partial tiles may be gone.
+fn open_newest<S: Shelf, P: ProposalStore>(
+    alloc: Global,
+    verifiers: &[Box<dyn Verifier>],
+    shelf: &S,
+    store: &P,
+    found: &mut Found<Global>,
+) -> Result<OpenedLog, RunFault>
+    ensures opens { IfOk result
+        (λ o. Opens sha256 (map (λ v. key v) verifiers.now) found.new o.ledger) }
+    ensures newest { OnOk result (HasProposal (P.may_have store.now)
+        (map (λ v. key v) verifiers.now) (found_size found.new.head)) }
+    ensures first { IfOk result (λ o. found.new.head ≡ None → o.is_due ≡ true) }
+    ensures there { S.is_honest ≡ true → IfOk result (λ o. o.is_due ≡ false
+        → IsThere (S.kept shelf.now).held (map (λ v. key v) verifiers.now) found.new.head) }
+{
+    let shown = match open_shown(alloc, verifiers, shelf, found) {
+        Ok(shown) => shown,
+        Err(fault) => return Err(fault),
+    };
+    let note = match store.last(alloc) {
+        Ok(Some(note)) => note,
+        Ok(None) => return Ok(shown),
+        Err(fault) => return Err(fault),
+    };
+    let size = match proposed_size(alloc, note.as_str(), verifiers) {
+        Ok(size) => size,
+        Err(fault) => return Err(fault),
+    };
+    if size <= shown.ledger.size() {
+        return Ok(shown);
+    }
+    match open_note(alloc, shelf, note.as_str(), verifiers, found) {
+        Ok(ledger) => Ok(OpenedLog {
+            ledger,
+            is_due: true,
+        }),
         Err(fault) => Err(unopened(fault)),
     }
 }
 
-/// The ledger of the log on this shelf, whose checkpoint the verifier has to open (C2SP tlog-checkpoint): of no entries
-/// where there is none. `found` holds what was read. `Older`: more entries were published, and that isn't allowed.
-pub fn open_ledger<S: Shelf>(
+// As `open_ledger`, by these verifiers, of which this one is the only one.
+fn open_by<S: Shelf, P: ProposalStore>(
+    alloc: Global,
+    own: &Snapshot<LogOpeningKey>,
+    verifiers: &[Box<dyn Verifier>],
+    shelf: &S,
+    store: &P,
+    found: &mut Found<Global>,
+) -> Result<OpenedLog, RunFault>
+    requires { map (λ v. key v) verifiers.now ≡ opening_key_of own.now.value ∷ [] }
+    ensures opens { IfOk result
+        (λ o. Opens sha256 (opening_key_of own.now.value ∷ []) found.new o.ledger) }
+    ensures newest { OnOk result (HasProposal (P.may_have store.now)
+        (opening_key_of own.now.value ∷ []) (found_size found.new.head)) }
+    ensures first { IfOk result (λ o. found.new.head ≡ None → o.is_due ≡ true) }
+    ensures there { S.is_honest ≡ true → IfOk result (λ o. o.is_due ≡ false
+        → IsThere (S.kept shelf.now).held (opening_key_of own.now.value ∷ []) found.new.head) }
+{
+    match open_newest(alloc, verifiers, shelf, store, found) {
+        Ok(opened) => Ok(opened),
+        Err(fault) => Err(fault),
+    }
+}
+
+/// Opens the log on this shelf, whose checkpoint the verifier has to open (C2SP tlog-checkpoint), as far as that goes
+/// or the proposal that the store keeps, whichever has more entries: of no entries where there is neither. `found` holds
+/// what was read. `Older`: more entries were published, and that isn't allowed. `BadCheckpoint` over no resource: the
+/// proposal doesn't open.
+pub fn open_ledger<S: Shelf, P: ProposalStore>(
     alloc: Global,
     verifier: LogOpeningKey,
     allows_older: bool,
     shelf: &S,
+    store: &P,
     found: &mut Found<Global>,
-) -> Result<Ledger<Global>, RunFault>
-    ensures opens { IfOk result (Opens sha256 (opening_key_of verifier ∷ []) found.new) }
+) -> Result<OpenedLog, RunFault>
+    ensures opens { IfOk result
+        (λ o. Opens sha256 (opening_key_of verifier ∷ []) found.new o.ledger) }
     ensures within { allows_older ≡ false → S.is_honest ≡ true
         → OnOk result (IsWithin (found_size found.new.head) (S.published shelf.now)) }
+    ensures newest { OnOk result (HasProposal (P.may_have store.now)
+        (opening_key_of verifier ∷ []) (found_size found.new.head)) }
+    ensures first { IfOk result (λ o. found.new.head ≡ None → o.is_due ≡ true) }
+    ensures there { S.is_honest ≡ true → IfOk result (λ o. o.is_due ≡ false
+        → IsThere (S.kept shelf.now).held (opening_key_of verifier ∷ []) found.new.head) }
 {
     let own = Snapshot::of(&verifier);
     let verifier: Box<dyn Verifier> = match Box::new(alloc, verifier) {
         Ok(verifier) => verifier,
         Err(_) => return Err(RunFault::OutOfMemory),
     };
-    let ledger = match open_by(alloc, &own, &[verifier], shelf, found) {
-        Ok(ledger) => ledger,
+    let opened = match open_by(alloc, &own, &[verifier], shelf, store, found) {
+        Ok(opened) => opened,
         Err(fault) => return Err(fault),
     };
     if allows_older {
-        return Ok(ledger);
+        return Ok(opened);
     }
-    match ledger.check_mark(shelf) {
-        Ok(()) => Ok(ledger),
+    match opened.ledger.check_mark(shelf) {
+        Ok(()) => Ok(opened),
         Err(fault) => Err(outrun(fault)),
     }
 }

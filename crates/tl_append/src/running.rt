@@ -15,6 +15,7 @@ use crate::faults::taken;
 use crate::keys::{LogKeys, keys_of};
 use crate::opening::open_ledger;
 use crate::options::AppendOptions;
+use crate::proposal::ProposalStore;
 use std::alloc::Global;
 use std::fs::Files;
 use std::io::{Read, Write};
@@ -25,11 +26,12 @@ use tl_ledger::Found;
 use tl_note::is_key_name;
 
 // Appends to the log on the shelf under these keys.
-fn append_under<S: Shelf, R: Read, W: Write>(
+fn append_under<S: Shelf, P: ProposalStore, R: Read, W: Write>(
     alloc: Global,
     keys: LogKeys,
     options: &AppendOptions,
     shelf: &mut S,
+    store: &P,
     found: &mut Found<Global>,
     reader: &mut Counted<R>,
     writer: &mut Counted<W>,
@@ -47,10 +49,12 @@ fn append_under<S: Shelf, R: Read, W: Write>(
     ensures place { S.place shelf.new ≡ S.place shelf.old }
 {
     let LogKeys { signer, verifier } = keys;
-    let mut ledger = match open_ledger(alloc, verifier, options.allows_older, shelf, found) {
-        Ok(ledger) => ledger,
+    let allows_older = options.allows_older;
+    let opened = match open_ledger(alloc, verifier, allows_older, shelf, store, found) {
+        Ok(opened) => opened,
         Err(fault) => return Err(fault),
     };
+    let mut ledger = opened.ledger;
     let is_first = found.head.is_none();
     if options.is_new && !is_first {
         return Err(taken());
@@ -75,11 +79,12 @@ fn append_under<S: Shelf, R: Read, W: Write>(
 /// many entries as the options say, and at the end, and each time a line with size and root is printed. The note of the
 /// checkpoint that was there has to open under the log's key, and its partial tiles and bundle to have its root;
 /// `found` holds what was read. `Taken`: there is a log, and none is to be. `Older`: more entries were published.
-pub fn run_append<H: Files, S: Shelf, R: Read, W: Write>(
+pub fn run_append<H: Files, S: Shelf, P: ProposalStore, R: Read, W: Write>(
     rt: &H,
     alloc: Global,
     options: &AppendOptions,
     shelf: &mut S,
+    store: &P,
     found: &mut Found<Global>,
     reader: &mut Counted<R>,
     writer: &mut Counted<W>,
@@ -106,7 +111,7 @@ pub fn run_append<H: Files, S: Shelf, R: Read, W: Write>(
         Ok(keys) => keys,
         Err(fault) => return Err(fault),
     };
-    match append_under(alloc, keys, options, shelf, found, reader, writer) {
+    match append_under(alloc, keys, options, shelf, store, found, reader, writer) {
         Ok(()) => Ok(()),
         Err(fault) => Err(fault),
     }

@@ -1,8 +1,10 @@
 -- What the faults of a ledger and of its shelf are told as.
-use Rattle.std.specs.Prelude.{Some}
+use Rattle.std.specs.Prelude.{None, Some}
 use Rattle.tl_device.specs.declared.fault.DeviceFault.TheVariants as device
 use Rattle.tl_tile.specs.declared.resource.Resource.TheVariants as resource
 use Rattle.tl_archive.specs.declared.fault.ShelfFault.{ShelfFault}
+use Rattle.tl_checkpoint.specs.declared.opening.OpenCheckpointFault.{OpenCheckpointFault}
+use Rattle.tl_checkpoint.specs.declared.opening.OpenCheckpointFault.TheVariants as unopened
 use Rattle.tl_command.specs.Faults.{after_device}
 use Rattle.tl_command.specs.declared.fault.RunFault.{RunFault}
 use Rattle.tl_command.specs.declared.fault.RunFault.TheVariants as run
@@ -31,6 +33,11 @@ after_open (opening.Missing r) = after_device (Log (Some r)) device.NotThere
 after_open (opening.Damaged r) = after_device (Log (Some r)) device.Damaged
 after_open (opening.Shelf fault) = after_shelf fault
 after_open opening.OutOfMemory = run.OutOfMemory
+
+-- where a proposal doesn't open
+abbrev pub after_proposal : OpenCheckpointFault → RunFault
+after_proposal unopened.OutOfMemory = run.OutOfMemory
+after_proposal fault = run.BadCheckpoint (Log None)
 
 -- where a log may not go on, by its mark
 abbrev pub after_mark : MarkFault → RunFault

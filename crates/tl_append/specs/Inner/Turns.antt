@@ -10,8 +10,8 @@ use Rattle.tl_command.specs.Mirror.{LogKey}
 use Rattle.tl_append.specs.Appending.{Appends, Course, PrintsHeads, joined, published_after}
 
 -- the checkpoint that is there is that of the log with the batch behind it
-abbrev pub Shows : LogKey → List Bytes → Course → Type 0
-Shows key batch c =
+abbrev pub HasShown : LogKey → List Bytes → Course → Type 0
+HasShown key batch c =
     (history : List Prefix) (log : List Bytes) → IsKeeping sha256 history log c.before c.was
     → IsShown (history ++ published_after key log (batch ∷ [])) (log ++ joined (batch ∷ [])) c.after.held
 

@@ -1,0 +1,169 @@
+//! Shelves whose log is shown once enough witnesses cosigned it.
+
+ghost use Rattle.std.specs.Prelude.{◌≡◌, ◌++◌, string_bytes, IfOk, Option};
+ghost use Rattle.tl_hash.specs.Bytes.{Bytes};
+ghost use Rattle.tl_append.specs.Cosigning.{HasQuorum};
+
+use crate::batch::put_batch;
+use crate::cosigners::{AsksCosigners, ChecksCosigned};
+use crate::faults::unkept;
+use crate::keys::LogOpeningKey;
+use crate::log_shelf::{LogShelf, OpenedLog};
+use crate::opening::open_ledger;
+use crate::proposal::ProposalStore;
+use std::alloc::Global;
+use tl_archive::Shelf;
+use tl_command::{LogSigner, RunFault, sign_checkpoint};
+use tl_hash::Head;
+use tl_ledger::{Found, Ledger};
+
+/// A shelf whose log is shown with the lines of enough witnesses (C2SP tlog-cosignature). Before anybody is asked, the
+/// note is kept that is proposed.
+#[derive(Drop)]
+pub struct CosignedShelf<S, P, Q, C> {
+    shelf: S,
+    store: P,
+    asker: Q,
+    quorum: C,
+    keeps_partials: bool,
+}
+
+impl<
+    S: Shelf + Drop,
+    P: ProposalStore + Drop,
+    Q: AsksCosigners + Drop,
+    C: ChecksCosigned + Drop,
+> CosignedShelf<S, P, Q, C> {
+    /// This shelf, who keeps proposals, who asks witnesses, and who checks what they answer. `keeps_partials`: partial
+    /// tiles and bundles stay that full ones have replaced.
+    pub fn new(
+        shelf: S,
+        store: P,
+        asker: Q,
+        quorum: C,
+        keeps_partials: bool,
+    ) -> CosignedShelf<S, P, Q, C>
+        ensures kept { ⟦<CosignedShelf<S, P, Q, C> as LogShelf>⟧.kept result ≡ S.kept shelf }
+        ensures trace { ⟦<CosignedShelf<S, P, Q, C> as LogShelf>⟧.trace result ≡ S.trace shelf }
+        ensures place { ⟦<CosignedShelf<S, P, Q, C> as LogShelf>⟧.place result ≡ S.place shelf }
+        ensures quorum { ⟦<CosignedShelf<S, P, Q, C> as LogShelf>⟧.quorum result
+            ≡ C.quorum quorum }
+        ensures may_have { (note : Option Bytes)
+            → ⟦<CosignedShelf<S, P, Q, C> as LogShelf>⟧.may_have result note
+            → P.may_have store note }
+    {
+        CosignedShelf {
+            shelf,
+            store,
+            asker,
+            quorum,
+            keeps_partials,
+        }
+    }
+
+    // The note of a checkpoint of this size and root, kept as what is proposed, and behind it lines by which enough
+    // witnesses cosigned it.
+    fn cosigned(&mut self, alloc: Global, note: String, head: &Head) -> Result<String, RunFault>
+        ensures lines { IfOk result (λ text. (lines : Bytes)
+            × (string_bytes text ≡ string_bytes note ++ lines)) }
+        ensures quorum { IfOk result (λ text. HasQuorum (C.quorum self.old.quorum)
+            (string_bytes text)) }
+        ensures shelf { self.new.shelf ≡ self.old.shelf }
+        ensures same { self.new.quorum ≡ self.old.quorum }
+    {
+        match self.store.keep(note.as_str()) {
+            Ok(()) => {}
+            Err(fault) => return Err(fault),
+        }
+        let lines = match self.asker.ask(&self.store, note.as_str(), head) {
+            Ok(lines) => lines,
+            Err(fault) => return Err(fault),
+        };
+        let mut text = note;
+        text.push_str(lines.as_str())?;
+        match self.quorum.check(alloc, text.as_str()) {
+            Ok(()) => Ok(text),
+            Err(fault) => Err(fault),
+        }
+    }
+
+    /// The shelf.
+    pub fn into_shelf(self) -> S
+        ensures kept { S.kept result ≡ ⟦<CosignedShelf<S, P, Q, C> as LogShelf>⟧.kept self }
+        ensures trace { S.trace result ≡ ⟦<CosignedShelf<S, P, Q, C> as LogShelf>⟧.trace self }
+        ensures place { S.place result ≡ ⟦<CosignedShelf<S, P, Q, C> as LogShelf>⟧.place self }
+    {
+        let CosignedShelf { shelf, .. } = self;
+        shelf
+    }
+}
+
+impl<
+    S: Shelf + Drop,
+    P: ProposalStore + Drop,
+    Q: AsksCosigners + Drop,
+    C: ChecksCosigned + Drop,
+> LogShelf for CosignedShelf<S, P, Q, C> {
+    ghost kept = { λ l. S.kept l.shelf };
+
+    ghost trace = { λ l. S.trace l.shelf };
+
+    ghost place = { λ l. S.place l.shelf };
+
+    ghost quorum = { λ l. C.quorum l.quorum };
+
+    ghost may_have = { λ l note. P.may_have l.store note };
+
+    type Shelf = S;
+
+    fn shelf(&self) -> &S {
+        &self.shelf
+    }
+
+    fn open(
+        &mut self,
+        alloc: Global,
+        verifier: LogOpeningKey,
+        allows_older: bool,
+        found: &mut Found<Global>,
+    ) -> Result<OpenedLog, RunFault> {
+        match open_ledger(alloc, verifier, allows_older, &self.shelf, &self.store, found) {
+            Ok(opened) => Ok(opened),
+            Err(fault) => Err(fault),
+        }
+    }
+
+    fn append<K: LogSigner>(
+        &mut self,
+        alloc: Global,
+        key: &K,
+        batch: &[Vec<u8>],
+        ledger: &mut Ledger<Global>,
+    ) -> Result<(), RunFault> {
+        let from = ledger.size();
+        match put_batch(&mut self.shelf, ledger, batch) {
+            Ok(()) => {}
+            Err(fault) => return Err(fault),
+        }
+        let (size, root) = (ledger.size(), ledger.root());
+        let note = match sign_checkpoint(alloc, alloc, key, size, root) {
+            Ok(note) => note,
+            Err(fault) => return Err(fault),
+        };
+        let text = match self.cosigned(alloc, note, &Head { size, root }) {
+            Ok(text) => text,
+            Err(fault) => return Err(fault),
+        };
+        match ledger.seal(&mut self.shelf, text.as_bytes()) {
+            Ok(()) => {}
+            Err(fault) => return Err(unkept(fault)),
+        }
+        if self.keeps_partials {
+            return Ok(());
+        }
+        match ledger.remove_spent(&mut self.shelf, from) {
+            Ok(()) => Ok(()),
+            Err(fault) => Err(unkept(fault)),
+        }
+    }
+}

@@ -1,0 +1,79 @@
+//! The witnesses that cosign what a log proposes.
+
+use crate::proposal::ProposalStore;
+use std::alloc::Global;
+use tl_client::open_cosigned;
+use tl_command::RunFault;
+use tl_hash::Head;
+use tl_note::Verifier;
+
+/// Who asks witnesses. Nothing is known of what they answer: they may lie.
+pub trait AsksCosigners {
+    /// Lines by which witnesses cosign this note of a checkpoint of this size and root (C2SP tlog-witness). It may wait
+    /// until there are enough. It is only ever asked about a note that the store keeps.
+    fn ask<P: ProposalStore>(
+        &mut self,
+        store: &P,
+        note: &str,
+        head: &Head,
+    ) -> Result<String, RunFault>
+        requires { P.has_kept store.now note.now };
+}
+
+/// Who checks that enough witnesses cosigned a checkpoint.
+pub trait ChecksCosigned {
+    ghost use Rattle.std.specs.Prelude.{OnOk};
+    ghost use Rattle.tl_append.specs.Cosigning.{HasQuorum, Quorum};
+
+    /// Which witnesses, and how many of them must have.
+    ghost quorum: { Self → Quorum };
+
+    /// Passes a note of a checkpoint that opens under the log's keys, and that enough of the witnesses cosigned.
+    fn check(&self, alloc: Global, note: &str) -> Result<(), RunFault>
+        ensures { OnOk result (HasQuorum (quorum self.now) note.now) };
+}
+
+/// So many of these witnesses, and the keys of the log whose checkpoints they cosign.
+#[derive(Drop)]
+pub struct LogQuorum {
+    log: Vec<Box<dyn Verifier>>,
+    witnesses: Vec<Box<dyn Verifier>>,
+    need: u64,
+}
+
+impl LogQuorum {
+    ghost use Rattle.std.specs.Prelude.{◌≡◌, map};
+
+    /// At least `need` of these witnesses, and the log's keys.
+    pub fn new(
+        log: Vec<Box<dyn Verifier>>,
+        witnesses: Vec<Box<dyn Verifier>>,
+        need: u64,
+    ) -> LogQuorum
+        ensures { ⟦<LogQuorum as ChecksCosigned>⟧.quorum result
+            ≡ record { witnesses = map (λ w. key w) witnesses.items; need = need } }
+    {
+        LogQuorum {
+            log,
+            witnesses,
+            need,
+        }
+    }
+}
+
+impl ChecksCosigned for LogQuorum {
+    ghost use Rattle.std.specs.Prelude.{map};
+
+    ghost quorum = { λ q. record {
+      witnesses = map (λ w. (Verifier-box w).key w.value) q.witnesses.items;
+      need = q.need;
+    } };
+
+    fn check(&self, alloc: Global, note: &str) -> Result<(), RunFault> {
+        let (log, witnesses) = (self.log.as_slice(), self.witnesses.as_slice());
+        match open_cosigned(alloc, note, log, witnesses, self.need) {
+            Ok(_checkpoint) => Ok(()),
+            Err(_) => Err(RunFault::Operator),
+        }
+    }
+}

@@ -1,0 +1,101 @@
+//! Shelves with a log that grows in batches.
+
+use crate::keys::LogOpeningKey;
+use std::alloc::Global;
+use tl_archive::Shelf;
+use tl_command::{LogSigner, RunFault};
+use tl_ledger::{Found, Ledger};
+
+/// A log that was opened.
+#[derive(Drop)]
+pub struct OpenedLog {
+    /// What it goes on from.
+    pub ledger: Ledger<Global>,
+    /// Whether it is due to be shown: it never was, or a proposal is kept that wasn't.
+    pub is_due: bool,
+}
+
+/// A shelf with a log that grows in batches, each shown once it may be, and with who keeps what is proposed before.
+/// Contracts see of the shelf what is there and what is staged, now and after each call so far, and where it is.
+pub trait LogShelf {
+    ghost use Rattle.std.specs.Prelude.{◌≡◌, ◌+◌, ◌<◌, ◌^◌, ◌∷◌, [], None, Option, true, List, length, map, vec_items, IfOk, OnErr, OnOk};
+    ghost use Rattle.sha2.specs.Sha256.{sha256};
+    ghost use Rattle.tl_hash.specs.Bytes.{Bytes};
+    ghost use Rattle.tl_note.specs.Key.{IsKeyName};
+    ghost use Rattle.tl_tile.specs.Bundle.{AreShortEntries};
+    ghost use Rattle.tl_archive.specs.Shelves.{Kept};
+    ghost use Rattle.tl_ledger.specs.Opening.{Opens, found_size};
+    ghost use Rattle.tl_append.specs.Appending.{course};
+    ghost use Rattle.tl_append.specs.Cosigning.{Quorum, ShowsAtMost, ShowsBatch};
+    ghost use Rattle.tl_append.specs.Keys.{opening_key_of};
+    ghost use Rattle.tl_append.specs.Proposing.{HasProposal};
+
+    /// What is there, and what is staged.
+    ghost kept: { Self → Kept };
+
+    /// The same after each call so far.
+    ghost trace: { Self → List Kept };
+
+    /// Where it is, as who opened it said. No call changes that.
+    ghost place: { Self → Bytes };
+
+    /// Who must have cosigned what is shown. No call changes that.
+    ghost quorum: { Self → Quorum };
+
+    /// Which note may be kept as the last proposal.
+    ghost may_have: { Self → Option Bytes → Type 0 };
+
+    /// The shelf.
+    type Shelf: Shelf;
+
+    /// The shelf.
+    fn shelf(&self) -> &Self::Shelf
+        ensures kept { Self.Shelf.kept result.now ≡ kept self.now }
+        ensures trace { Self.Shelf.trace result.now ≡ trace self.now }
+        ensures place { Self.Shelf.place result.now ≡ place self.now };
+
+    /// Opens the log, whose checkpoint the verifier has to open (C2SP tlog-checkpoint), as far as its checkpoint or the
+    /// proposal that is kept goes, whichever has more entries. `found` holds what was read. `Older`: more entries were
+    /// published, and that isn't allowed. `BadCheckpoint` over no resource: the proposal doesn't open.
+    fn open(
+        &mut self,
+        alloc: Global,
+        verifier: LogOpeningKey,
+        allows_older: bool,
+        found: &mut Found<Global>,
+    ) -> Result<OpenedLog, RunFault>
+        ensures opens { IfOk result (λ o.
+            Opens sha256 (opening_key_of verifier ∷ []) found.new o.ledger) }
+        ensures newest { OnOk result (HasProposal (may_have self.old)
+            (opening_key_of verifier ∷ []) (found_size found.new.head)) }
+        ensures first { IfOk result (λ o. found.new.head ≡ None → o.is_due ≡ true) }
+        ensures kept { kept self.new ≡ kept self.old }
+        ensures trace { trace self.new ≡ trace self.old }
+        ensures place { place self.new ≡ place self.old }
+        ensures quorum { quorum self.new ≡ quorum self.old };
+
+    /// Puts a batch behind the log, which is the ledger's, and shows that under a note of its checkpoint by the key,
+    /// whose name is the log's, once its tiles and bundles outlast a crash and so many cosigned it as must. At a fault
+    /// the ledger's size tells whether the batch was put. `Operator`: the log would have more than 2^32 - 1 entries, or
+    /// too few cosigned it.
+    fn append<K: LogSigner>(
+        &mut self,
+        alloc: Global,
+        key: &K,
+        batch: &[Vec<u8>],
+        ledger: &mut Ledger<Global>,
+    ) -> Result<(), RunFault>
+        requires origin { IsKeyName (K.log_key key.now).name }
+        requires short { AreShortEntries (map vec_items batch.now) }
+        ensures all { OnOk result (ShowsBatch (K.log_key key.now) (quorum self.old)
+            (map vec_items batch.now)
+            (course kept trace self.old self.new ledger.old ledger.new)) }
+        ensures part { OnErr result (ShowsAtMost (K.log_key key.now) (quorum self.old)
+            (map vec_items batch.now)
+            (course kept trace self.old self.new ledger.old ledger.new)) }
+        ensures sized { OnOk result
+            (ledger.new.edge.size ≡ ledger.old.edge.size + length batch.now) }
+        ensures small { OnOk result (ledger.new.edge.size < 2 ^ 32) }
+        ensures place { place self.new ≡ place self.old }
+        ensures quorum { quorum self.new ≡ quorum self.old };
+}
