@@ -21,13 +21,13 @@ use tl_source::Url;
 /// Who proposes what the threads of a ballot ask witnesses about, waits until so many have cosigned it, and tells why
 /// others haven't.
 #[derive(Drop)]
-pub(crate) struct Proposer<'b, H, L> {
+pub(crate) struct Proposer<'b, 'w, H, L> {
     pub(crate) rt: &'b H,
     pub(crate) alloc: Global,
     pub(crate) ballot: &'b Ballot,
     pub(crate) asked: &'b [AskedWitness],
     pub(crate) need: usize,
-    pub(crate) out: Counted<SharedWriter<'b, H, L>>,
+    pub(crate) out: Counted<SharedWriter<'b, 'w, H, L>>,
 }
 
 // The name that the text of a verifier key begins with.
@@ -38,7 +38,7 @@ fn name_of(text: &str) -> &str {
     }
 }
 
-impl<H: Wait, L: Write> Proposer<'_, H, L> {
+impl<H: Wait, L: Write> Proposer<'_, '_, H, L> {
     // Tells why a witness gave no cosignature.
     fn tell(&mut self, place: usize, why: Unasked) -> Result<(), RunFault> {
         let Some(witness) = self.asked.get(place) else {
@@ -50,7 +50,7 @@ impl<H: Wait, L: Write> Proposer<'_, H, L> {
     }
 }
 
-impl<H: Wait, L: Write> AsksCosigners for Proposer<'_, H, L> {
+impl<H: Wait, L: Write> AsksCosigners for Proposer<'_, '_, H, L> {
     fn ask<P: ProposalStore>(
         &mut self,
         _store: &P,
@@ -84,7 +84,7 @@ pub(crate) struct Asking<'b, H> {
 
 impl<'b, H: Host + Net<Stream = TcpStream>> Asking<'b, H> {
     // Asks the witness at this place in each round, with proofs from what the shelf has.
-    fn ask<P: Shelf>(&self, place: usize, shelf: P) {
+    fn ask<P: Shelf + Drop>(&self, place: usize, shelf: P) {
         let (Some(witness), Some(url)) = (self.witnesses.get(place), self.urls.get(place)) else {
             return;
         };

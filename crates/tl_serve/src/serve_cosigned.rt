@@ -103,6 +103,7 @@ fn serve_in<
     H: Host + Net<Listener = TcpListener, Stream = TcpStream>,
     S: Shelf + Drop,
     T: ProposalStore + Drop,
+    C: ChecksCosigned + Drop,
     P: Shelf + Send + Drop + 's,
     R: Read + Send,
     L: Write,
@@ -110,15 +111,15 @@ fn serve_in<
     scope: &'s Scope<'s, E>,
     asking: &'s Asking<'s, H>,
     options: &ServeOptions,
-    quorum: LogQuorum,
+    quorum: C,
     log: CosignedLog<S, T, P>,
     found: &mut Found<Global>,
     input: Option<RawFd>,
     reader: &mut Counted<R>,
-    out: &Mutex<&mut Counted<L>>,
+    out: &'s Mutex<&mut Counted<L>>,
 ) -> Served<S>
     ensures serves { Serves options.now.key (string_bytes options.now.origin)
-        (⟦<LogQuorum as ChecksCosigned>⟧.quorum quorum) found.new
+        (C.quorum quorum) found.new
         (visit S.kept S.trace log.shelf result.shelf) result.outcome }
     ensures place { S.place result.shelf ≡ S.place log.shelf }
 {
@@ -158,6 +159,7 @@ fn serve_asked<
     H: Host + Net<Listener = TcpListener, Stream = TcpStream>,
     S: Shelf + Drop,
     T: ProposalStore + Drop,
+    C: ChecksCosigned + Drop,
     P: Shelf + Send + Drop,
     R: Read + Send,
     L: Write,
@@ -166,7 +168,7 @@ fn serve_asked<
     alloc: Global,
     options: &ServeOptions,
     ready: &Ready<'_>,
-    quorum: LogQuorum,
+    quorum: C,
     log: CosignedLog<S, T, P>,
     found: &mut Found<Global>,
     input: Option<RawFd>,
@@ -174,7 +176,7 @@ fn serve_asked<
     out: &mut Counted<L>,
 ) -> Served<S>
     ensures serves { Serves options.now.key (string_bytes options.now.origin)
-        (⟦<LogQuorum as ChecksCosigned>⟧.quorum quorum) found.new
+        (C.quorum quorum) found.new
         (visit S.kept S.trace log.shelf result.shelf) result.outcome }
     ensures place { S.place result.shelf ≡ S.place log.shelf }
 {
@@ -194,7 +196,7 @@ fn serve_asked<
         rt,
         |scope| -> Served<S>
             ensures serves { Serves options.now.key (string_bytes options.now.origin)
-                (⟦<LogQuorum as ChecksCosigned>⟧.quorum quorum) found.new
+                (C.quorum quorum) found.new
                 (visit S.kept S.trace log.shelf result.shelf) result.outcome }
             ensures place { S.place result.shelf ≡ S.place log.shelf }
         { serve_in(scope, &asking, options, quorum, log, found, input, reader, &out) },

@@ -90,7 +90,7 @@ struct Opened<P> {
 }
 
 // Opens the log on a shelf, and the lanes that the options want.
-fn open_log<S: LogShelf, P: Drop, R: Read>(
+fn open_log<S: LogShelf + Drop, P: Drop, R: Read>(
     alloc: Global,
     options: &ServeOptions,
     verifier: LogOpeningKey,
@@ -133,7 +133,7 @@ fn open_log<S: LogShelf, P: Drop, R: Read>(
 }
 
 // Closes a log that ran, where its heart says so, and tells that.
-fn close<S: LogShelf, L: Write>(
+fn close<S: LogShelf + Drop, L: Write>(
     alloc: Global,
     log: &ShelfLog<S>,
     heart: Result<Heart<RunFault>, RunFault>,
@@ -167,7 +167,7 @@ fn base_of<H: Host + Net<Listener = TcpListener, Stream = TcpStream>, S: Shelf>(
 // Serves the log on a shelf under these keys.
 fn serve_under<
     H: Host + Net<Listener = TcpListener, Stream = TcpStream>,
-    S: LogShelf,
+    S: LogShelf + Drop,
     P: Shelf + Send + Drop,
     R: Read + Send,
     L: Write,
@@ -224,7 +224,7 @@ fn serve_under<
 /// server ends. Memory has what waits to be put. The shelf is given back; `found` has what was read of it. It may wait.
 pub fn run_serve_shelf<
     H: Host + Net<Listener = TcpListener, Stream = TcpStream>,
-    S: LogShelf,
+    S: LogShelf + Drop,
     P: Shelf + Send + Drop,
     R: Read + Send,
     L: Write,

@@ -6,12 +6,12 @@ use tl_device::Counted;
 
 /// A writer that several parts of a run write to: each text whole, where one call takes it. It may wait.
 #[derive(Drop)]
-pub(crate) struct SharedWriter<'w, H, L> {
-    pub(crate) rt: &'w H,
-    pub(crate) out: &'w Mutex<&'w mut Counted<L>>,
+pub(crate) struct SharedWriter<'s, 'w, H, L> {
+    pub(crate) rt: &'s H,
+    pub(crate) out: &'s Mutex<&'w mut Counted<L>>,
 }
 
-impl<H: Wait, L: Write> Write for SharedWriter<'_, H, L> {
+impl<H: Wait, L: Write> Write for SharedWriter<'_, '_, H, L> {
     fn write(&mut self, buf: &[u8]) -> io::Result<usize> {
         if buf.is_empty() {
             return Ok(0);

@@ -48,7 +48,7 @@ fn let_go(intake: &mut Intake<Global, Global>, before: u64, after: u64)
     }
 }
 
-impl<S: LogShelf> ShelfLog<S> {
+impl<S: LogShelf + Drop> ShelfLog<S> {
     /// A log on this shelf, of which the ledger is, whose lanes gave nothing yet. `is_due`: it was never published, or
     /// has entries that aren't.
     pub(crate) fn new(
@@ -106,7 +106,7 @@ impl<S: LogShelf> ShelfLog<S> {
     }
 }
 
-impl<S: LogShelf> LiveLog for ShelfLog<S> {
+impl<S: LogShelf + Drop> LiveLog for ShelfLog<S> {
     ghost use Rattle.std.specs.Prelude.{◌≡◌, Some};
     ghost use Rattle.tl_append.specs.Appending.{course};
     ghost use Rattle.tl_append.specs.Keys.{log_key_of};

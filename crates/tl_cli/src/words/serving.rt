@@ -178,7 +178,10 @@ fn all_asked(
 ) -> Result<Vec<AskedWitness>, WordsFault> {
     let mut asked = Vec::new(alloc);
     for text in texts_of(alloc, options, "witness")? {
-        asked.push(asked_of(alloc, text.as_str())?)?;
+        let witness = asked_of(alloc, text.as_str())?;
+        if asked.push(witness).is_err() {
+            return Err(WordsFault::OutOfMemory);
+        }
     }
     Ok(asked)
 }
