@@ -16,6 +16,7 @@ use Rattle.tl_command.specs.Mirror.{LogKey}
 use Rattle.tl_command.specs.declared.keys.LogKey.{LogKey as GivenKey}
 use Rattle.tl_command.specs.declared.keys.LogKey.TheVariants as given
 use Rattle.tl_append.specs.Appending.{AppendsLines, AppendsSome, AppendsThen, AreBatches, joined, published_after}
+use Rattle.tl_append.specs.Cosigning.{Quorum, Shows, ShowsThen, Turn}
 use Rattle.tl_append.specs.Running.{GoesOnPart, GoesOnWhole, Grows, IsLogKey, IsResting, OfFound, Stays, Visit, WroteHeads}
 use Rattle.tl_append.proofs.Turns.{along}
 
@@ -24,7 +25,7 @@ abbrev pub between : Kept → Kept → List Kept → List Kept → Visit
 between a b saw sees = record { before = a; after = b; saw = saw; sees = sees }
 
 -- what a ledger keeps rests, and what rests a ledger that stands at it keeps
-resting : (h : List Prefix) (l : List Bytes) (k : Kept) (x : Ledger) → IsKeeping sha256 h l k x → IsResting sha256 h l k
+pub resting : (h : List Prefix) (l : List Bytes) (k : Kept) (x : Ledger) → IsKeeping sha256 h l k x → IsResting sha256 h l k
 resting h l k x keeps = record { begins = keeps.begins; rests = keeps.rests; safe = keeps.safe; whole = keeps.whole }
 
 keeping : (h : List Prefix) (l : List Bytes) (k : Kept) (x : Ledger) → IsStanding sha256 l x → IsResting sha256 h l k → IsKeeping sha256 h l k x
@@ -64,6 +65,15 @@ module _ (key : LogKey) (keys : List Key) (found : Found) (a b : Kept) (saw sees
   grows_then batches rest appends = of_found (Grows key batches rest (between a b saw sees)) (λ h log keeps. record {
     rests = resting _ _ b is (appends.kept h log keeps);
     safe = appends.safe h log keeps;
+  })
+
+  -- turns that were shown, and what was put after them
+  pub shows_then : (q : Quorum) (turns : List Turn) (rest : List Bytes) → ShowsThen key q turns rest (along a b saw sees was is)
+      → OfFound found a (Shows key q turns rest (between a b saw sees))
+  shows_then q turns rest shows = of_found (Shows key q turns rest (between a b saw sees)) (λ h log keeps. record {
+    rests = resting _ _ b is (shows.kept h log keeps);
+    safe = shows.safe h log keeps;
+    cosigned = shows.cosigned h log keeps;
   })
 
   pub part_run : (i : Passage) → AppendsSome key (along a b saw sees was is) i → GoesOnPart key found (between a b saw sees) i

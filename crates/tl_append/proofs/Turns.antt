@@ -34,7 +34,7 @@ pub safe_as : (h h' : List Prefix) (saw sees : List Kept) → h ≡ h' → KeptS
 safe_as h h' saw sees eh is = subst (λ (t : List Prefix). KeptSafe sha256 t saw sees) eh is
 
 -- what is safe stays so as the history grows
-safe_wider : (h more : List Prefix) (k : Kept) → IsSafe sha256 h k → IsSafe sha256 (h ++ more) k
+pub safe_wider : (h more : List Prefix) (k : Kept) → IsSafe sha256 h k → IsSafe sha256 (h ++ more) k
 safe_wider h more k safe left may =
     elim (safe left may) as (λ _. IsComplete sha256 (h ++ more) left) [
       | inl none ↦ inl none
@@ -221,7 +221,7 @@ module _ (key : LogKey) (batch : List Bytes) (a m : Kept) (saw mid : List Kept) 
 
 -- ---- what is spent was removed
 
-safe_both : (h : List Prefix) (saw mid sees : List Kept) → KeptSafe sha256 h saw mid → KeptSafe sha256 h mid sees → KeptSafe sha256 h saw sees
+pub safe_both : (h : List Prefix) (saw mid sees : List Kept) → KeptSafe sha256 h saw mid → KeptSafe sha256 h mid sees → KeptSafe sha256 h saw sees
 safe_both h saw mid sees first then = record {
   steps = first.steps ++ then.steps;
   trace = then.trace ∙ ap (λ (t : List Kept). t ++ then.steps) first.trace ∙ append_assoc saw first.steps then.steps;
