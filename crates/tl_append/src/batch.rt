@@ -107,6 +107,9 @@ pub fn append_batch<K: LogSigner, S: Shelf>(
     requires short { AreShortEntries (map vec_items batch.now) }
     ensures all { OnOk result (Appends (K.log_key key.now) (map vec_items batch.now ∷ [])
         (course S.kept S.trace shelf.old shelf.new ledger.old ledger.new)) }
+    ensures there { OnOk result (HasCosigned (K.log_key key.now)
+        (record { witnesses = []; need = 0 }) (map vec_items batch.now)
+        (course S.kept S.trace shelf.old shelf.new ledger.old ledger.new)) }
     ensures sized { OnOk result
         (ledger.new.edge.size ≡ ledger.old.edge.size + length batch.now) }
     ensures small { OnOk result (ledger.new.edge.size < 2 ^ 32) }

@@ -1,6 +1,6 @@
 //! Shelves whose log is shown once enough witnesses cosigned it.
 
-ghost use Rattle.std.specs.Prelude.{◌≡◌, ◌+◌, ◌<◌, ◌^◌, ◌++◌, length, map, string_bytes, vec_items, IfOk, OnErr, OnOk, Option};
+ghost use Rattle.std.specs.Prelude.{◌≡◌, ◌+◌, ◌<◌, ◌^◌, ◌++◌, length, map, string_bytes, vec_items, IfOk, OnErr, OnOk, Option, Some};
 ghost use Rattle.tl_hash.specs.Bytes.{Bytes};
 ghost use Rattle.tl_note.specs.Key.{IsKeyName};
 ghost use Rattle.tl_tile.specs.Bundle.{AreShortEntries};
@@ -82,6 +82,8 @@ impl<
         ensures kept { ⟦<CosignedShelf<S, P, Q, C> as LogShelf>⟧.kept result ≡ S.kept shelf }
         ensures trace { ⟦<CosignedShelf<S, P, Q, C> as LogShelf>⟧.trace result ≡ S.trace shelf }
         ensures place { ⟦<CosignedShelf<S, P, Q, C> as LogShelf>⟧.place result ≡ S.place shelf }
+        ensures mark { ⟦<CosignedShelf<S, P, Q, C> as LogShelf>⟧.published result
+            ≡ S.published shelf }
         ensures quorum { ⟦<CosignedShelf<S, P, Q, C> as LogShelf>⟧.quorum result
             ≡ C.quorum quorum }
         ensures may_have { (note : Option Bytes)
@@ -115,6 +117,8 @@ impl<
             (course S.kept S.trace self.old.shelf self.new.shelf ledger.old ledger.new)) }
         ensures sized { OnOk result
             (ledger.new.edge.size ≡ ledger.old.edge.size + length batch.now) }
+        ensures marked { OnOk result
+            (S.published self.new.shelf ≡ Some ledger.new.edge.size) }
         ensures small { OnOk result (ledger.new.edge.size < 2 ^ 32) }
         ensures place { S.place self.new.shelf ≡ S.place self.old.shelf }
         ensures same { self.new.quorum ≡ self.old.quorum }
@@ -150,6 +154,7 @@ impl<
         ensures kept { S.kept result ≡ ⟦<CosignedShelf<S, P, Q, C> as LogShelf>⟧.kept self }
         ensures trace { S.trace result ≡ ⟦<CosignedShelf<S, P, Q, C> as LogShelf>⟧.trace self }
         ensures place { S.place result ≡ ⟦<CosignedShelf<S, P, Q, C> as LogShelf>⟧.place self }
+        ensures mark { S.published result ≡ ⟦<CosignedShelf<S, P, Q, C> as LogShelf>⟧.published self }
     {
         let CosignedShelf { shelf, .. } = self;
         shelf
@@ -167,6 +172,10 @@ impl<
     ghost trace = { λ l. S.trace l.shelf };
 
     ghost place = { λ l. S.place l.shelf };
+
+    ghost published = { λ l. S.published l.shelf };
+
+    ghost is_honest = { S.is_honest };
 
     ghost quorum = { λ l. C.quorum l.quorum };
 
