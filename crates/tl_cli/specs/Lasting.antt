@@ -1,5 +1,5 @@
 -- Commands on a log in a folder: the folder that their options name, and what becomes of it.
-use Rattle.std.specs.Prelude.{◌≡◌, [], Option, Some, None, IfSome, Result, Ok, Err, string_bytes}
+use Rattle.std.specs.Prelude.{◌≡◌, ◌<◌, [], Option, Some, None, IfSome, Result, Ok, Err, string_bytes}
 use Rattle.tl_device.specs.Device.{Passage, IsUnread}
 use Rattle.tl_archive.specs.Shelves.{Held}
 use Rattle.tl_ledger.specs.Opening.{Found}
@@ -9,6 +9,8 @@ use Rattle.tl_command.specs.CheckOpened.{IsIdle}
 use Rattle.tl_command.specs.declared.fault.RunFault.{RunFault}
 use Rattle.tl_append.specs.Running.{GoesOn, Visit, batch_size}
 use Rattle.tl_append.specs.declared.options.AppendOptions.{AppendOptions}
+use Rattle.tl_append.specs.Cosigning.{Quorum}
+use Rattle.tl_serve.specs.Asking.{ServesCosigned}
 use Rattle.tl_serve.specs.Serving.{Serves}
 use Rattle.tl_serve.specs.declared.options.ServeOptions.{ServeOptions}
 use Rattle.tl_serve.specs.declared.options.WitnessOptions.{WitnessOptions}
@@ -37,12 +39,21 @@ AppendsIn held reached options i o (Some folder) result =
     IsAt (string_bytes options.dir) folder
     × GoesOn options.key (string_bytes options.origin) (batch_size options.batch) folder.found (since_opened held reached folder.shelf) i o result
 
+-- nobody need cosign what is shown
+abbrev pub nobody : Quorum
+nobody = record { witnesses = []; need = 0 }
+
+-- `serve` of a log on a shelf: where some must have cosigned what is shown, and where nobody need
+pub record ServesBy (options : ServeOptions) (found : Found) (v : Visit) (result : Result (Unit {0}) RunFault) : Type 0 where
+  pub cosigned : 0 < options.need → ServesCosigned options found v result
+  pub signed : options.need ≡ 0 → Serves options.key (string_bytes options.origin) nobody found v result
+
 -- `serve` of a log in the folder of this path, likewise
 abbrev pub ServesAt : Held → Reached → ServeOptions → Path → Passage → Option Folder → Result (Unit {0}) RunFault → Type 0
 ServesAt held reached options path i None (Ok done) = ⊥
 ServesAt held reached options path i None (Err fault) = IsUnread i
 ServesAt held reached options path i (Some folder) result =
-    IsAt path folder × Serves options.key (string_bytes options.origin) folder.found (since_opened held reached folder.shelf) result
+    IsAt path folder × ServesBy options folder.found (since_opened held reached folder.shelf) result
 
 -- `serve`: a log in the folder that the options name, if they name one
 abbrev pub ServesIn : Held → Reached → ServeOptions → Passage → Option Folder → Result (Unit {0}) RunFault → Type 0

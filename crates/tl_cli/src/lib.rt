@@ -12,6 +12,7 @@ mod fault;
 mod job;
 mod lasting;
 mod own_folder;
+mod proposal_file;
 mod running;
 mod streams;
 mod telling;

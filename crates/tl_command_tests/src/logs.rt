@@ -9,7 +9,7 @@ use std::io::Read;
 use std::net::{Net, TcpListener, TcpStream};
 use std::str;
 use std::thread::Threads;
-use tl_append::{AppendOptions, run_append};
+use tl_append::{AppendOptions, NoProposals, SignedShelf, run_append};
 use tl_command::{HmacLogSigner, LogKey, RunFault, run_build};
 use tl_device::Counted;
 use tl_folder::{AnyOutcome, FolderShelf};
@@ -65,6 +65,7 @@ fn serve<
     shown.push(own)?;
     let (mut found, mut reader) = (Found::new(alloc), Counted::new(input));
     let mut log = Counted::new(Vec::new(alloc));
+    let shelf = SignedShelf::new(shelf, NoProposals, false);
     let served = run_serve_shelf(
         rt,
         alloc,
@@ -116,6 +117,7 @@ pub fn go_on<
         alloc,
         &options,
         &mut shelf,
+        &NoProposals,
         &mut found,
         &mut reader,
         printed,

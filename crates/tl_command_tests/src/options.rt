@@ -32,5 +32,7 @@ pub fn serve_options(alloc: Global, dir: Option<String>) -> Result<ServeOptions,
         remember: 0,
         allows_older: false,
         keeps_partials: false,
+        witnesses: Vec::new(alloc),
+        need: 0,
     })
 }

@@ -51,14 +51,14 @@ use Rattle.tl_client.proofs.Blamed.{tile_has_path}
 use Rattle.tl_archive.specs.Shelves.{Held, Item}
 use Rattle.tl_archive.specs.declared.fault.ShelfFault.{ShelfFault}
 use Rattle.tl_ledger.specs.Inner.Putting.{IsPartial}
-use Rattle.tl_ledger.specs.Inner.Reads.{AreHeld, AreThere, HasBundle, HasItem, HasLevel, HasLevels, HasPartials, IsBundleRead, LacksItem, ReadsOn, items_of}
+use Rattle.tl_ledger.specs.Inner.Reads.{AreHeld, AreThere, HasBundle, HasItem, HasLevel, HasLevels, HasPartials, IsBundleRead, LacksItem, ReadFails, ReadsOn, items_of}
 use Rattle.tl_ledger.specs.Standing.{Ledger, IsStanding}
-use Rattle.tl_ledger.specs.Opening.{Found, FoundCollides, IsLogOf, IsOfHeld, IsOfSigned, Opens, StandsWhereWhole, found_size}
+use Rattle.tl_ledger.specs.Opening.{Found, FoundCollides, IsLogOf, IsOfHeld, IsOfNote, IsOfSigned, Opens, StandsWhereWhole, found_size}
 use Rattle.tl_ledger.proofs.Adding.{needs_has}
-use Rattle.tl_ledger.specs.Inner.Restoring.{FindsNone, IsBundleOf, IsLogAt, PartFails, Restores, StandsWhereRead, StatesNone}
+use Rattle.tl_ledger.specs.Inner.Restoring.{FindsNone, HeadFails, IsBundleOf, IsLogAt, PartFails, Restores, StandsWhereRead, StatesNone}
 use Rattle.tl_ledger.specs.declared.opened.fault.OpenFault.{OpenFault}
 use Rattle.tl_ledger.specs.declared.opened.fault.OpenFault.TheVariants as opening
-use Rattle.tl_ledger.specs.OpenFaults.{HasSigned, IsBadBundle, IsDamaged, MayRead, OpenFails, last_read}
+use Rattle.tl_ledger.specs.OpenFaults.{HasSigned, IsBadBundle, IsDamaged, IsMissing, MayRead, OpenFails, OpenNoteFails, last_read}
 use Rattle.tl_ledger.proofs.Opening.{complete_tiles}
 use Rattle.tl_archive.specs.Complete.{HasAll}
 use Rattle.tl_ledger.proofs.OnlyPartials.{all_mapped, all_numbers, none_of, number_in_range, no_full_over}
@@ -393,13 +393,52 @@ has_signed honest held keys stated head found Holds is own_is signed there holds
   holds = holds;
 }
 
-pub part_failed : (honest : Bool) (held : Held) (may_fail : Resource → ShelfFault → Type 0) (keys : List Key) (items : List Item) (stated : Option Head) (head : Head) (found : Found) (fault : OpenFault) → AreHeld honest held items → found.head ≡ Some head → stated ≡ Some head
-    → IsOfSigned keys stated → (honest ≡ true → IsOfHeld held keys stated) → PartFails (λ r text. Contains items (r, text)) head found.edge_tiles found.entry_tiles fault → OpenFails honest held may_fail keys found fault
-part_failed honest held may_fail keys items stated head found opening.Checkpoint read is own_is signed there none = absurd none
-part_failed honest held may_fail keys items stated head found opening.TooLarge read is own_is signed there none = absurd none
-part_failed honest held may_fail keys items stated head found (opening.Missing r) read is own_is signed there none = absurd none
-part_failed honest held may_fail keys items stated head found (opening.Damaged r) read is own_is signed there damaged =
-    has_signed honest held keys stated head found (λ head. IsDamaged (MayRead honest held) head found.edge_tiles found.entry_tiles r) is own_is signed there
-    (more_damage (λ r text. Contains items (r, text)) (MayRead honest held) head found.edge_tiles found.entry_tiles r (λ q text has own. read own q text has) damaged)
-part_failed honest held may_fail keys items stated head found (opening.Shelf fault) read is own_is signed there none = absurd none
-part_failed honest held may_fail keys items stated head found opening.OutOfMemory read is own_is signed there memory = tt
+-- a part was not read, or not restored
+pub head_unread : (honest : Bool) (held : Held) (may_fail : Resource → ShelfFault → Type 0) (head : Head) (found : Found) (fault : OpenFault) → ReadFails honest held may_fail head.size fault → HeadFails honest held may_fail head found fault
+head_unread honest held may_fail head found opening.Checkpoint none = none
+head_unread honest held may_fail head found opening.TooLarge none = none
+head_unread honest held may_fail head found (opening.Missing r) missing = missing
+head_unread honest held may_fail head found (opening.Damaged r) none = absurd none
+head_unread honest held may_fail head found (opening.Shelf fault) fails = fails
+head_unread honest held may_fail head found opening.OutOfMemory memory = tt
+
+pub part_failed : (honest : Bool) (held : Held) (may_fail : Resource → ShelfFault → Type 0) (items : List Item) (head : Head) (found : Found) (fault : OpenFault) → AreHeld honest held items
+    → PartFails (λ r text. Contains items (r, text)) head found.edge_tiles found.entry_tiles fault → HeadFails honest held may_fail head found fault
+part_failed honest held may_fail items head found opening.Checkpoint read none = none
+part_failed honest held may_fail items head found opening.TooLarge read none = none
+part_failed honest held may_fail items head found (opening.Missing r) read none = absurd none
+part_failed honest held may_fail items head found (opening.Damaged r) read damaged =
+    more_damage (λ r text. Contains items (r, text)) (MayRead honest held) head found.edge_tiles found.entry_tiles r (λ q text has own. read own q text has) damaged
+part_failed honest held may_fail items head found (opening.Shelf fault) read none = absurd none
+part_failed honest held may_fail items head found opening.OutOfMemory read memory = tt
+
+-- a log was not opened as far as its checkpoint goes
+pub head_failed : (honest : Bool) (held : Held) (may_fail : Resource → ShelfFault → Type 0) (keys : List Key) (stated : Option Head) (head : Head) (found : Found) (fault : OpenFault) → found.head ≡ Some head → stated ≡ Some head
+    → IsOfSigned keys stated → (honest ≡ true → IsOfHeld held keys stated) → HeadFails honest held may_fail head found fault → OpenFails honest held may_fail keys found fault
+head_failed honest held may_fail keys stated head found opening.Checkpoint is own_is signed there none = absurd none
+head_failed honest held may_fail keys stated head found opening.TooLarge is own_is signed there none = absurd none
+head_failed honest held may_fail keys stated head found (opening.Missing r) is own_is signed there missing =
+    has_signed honest held keys stated head found (λ head. IsMissing honest held head.size r) is own_is signed there missing
+head_failed honest held may_fail keys stated head found (opening.Damaged r) is own_is signed there damaged =
+    has_signed honest held keys stated head found (λ head. IsDamaged (MayRead honest held) head found.edge_tiles found.entry_tiles r) is own_is signed there damaged
+head_failed honest held may_fail keys stated head found (opening.Shelf fault) is own_is signed there fails = fails
+head_failed honest held may_fail keys stated head found opening.OutOfMemory is own_is signed there memory = tt
+
+-- nor as far as a note goes
+pub note_failed : (honest : Bool) (held : Held) (may_fail : Resource → ShelfFault → Type 0) (note : Bytes) (keys : List Key) (head : Head) (found : Found) (fault : OpenFault) → found.head ≡ Some head
+    → IsOfNote note keys head → HeadFails honest held may_fail head found fault → OpenNoteFails honest held may_fail note keys found fault
+note_failed honest held may_fail note keys head found opening.Checkpoint is signed none = absurd none
+note_failed honest held may_fail note keys head found opening.TooLarge is signed none = absurd none
+note_failed honest held may_fail note keys head found (opening.Missing r) is signed missing = record { head = head; is = is; signed = signed; holds = missing }
+note_failed honest held may_fail note keys head found (opening.Damaged r) is signed damaged = record { head = head; is = is; signed = signed; holds = damaged }
+note_failed honest held may_fail note keys head found (opening.Shelf fault) is signed fails = fails
+note_failed honest held may_fail note keys head found opening.OutOfMemory is signed memory = tt
+
+-- nor is a note opened that states none
+pub unstated_note : (A : Type 0) (honest : Bool) (held : Held) (may_fail : Resource → ShelfFault → Type 0) (note : Bytes) (keys : List Key) (found : Found) (fault : OpenFault) → StatesNone A note keys fault → OpenNoteFails honest held may_fail note keys found fault
+unstated_note A honest held may_fail note keys found opening.Checkpoint (why, known, is) = inr (why, known, refused_any A note keys why is)
+unstated_note A honest held may_fail note keys found opening.TooLarge states = states
+unstated_note A honest held may_fail note keys found (opening.Missing r) none = absurd none
+unstated_note A honest held may_fail note keys found (opening.Damaged r) none = absurd none
+unstated_note A honest held may_fail note keys found (opening.Shelf fault) none = absurd none
+unstated_note A honest held may_fail note keys found opening.OutOfMemory memory = tt

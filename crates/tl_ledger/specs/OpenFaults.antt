@@ -21,7 +21,7 @@ use Rattle.tl_client.specs.Checked.{AreCheckedEntries}
 use Rattle.tl_client.specs.Refused.{AnswersOtherEntry, BundleRead}
 use Rattle.tl_archive.specs.Shelves.{Held}
 use Rattle.tl_archive.specs.declared.fault.ShelfFault.{ShelfFault}
-use Rattle.tl_ledger.specs.Opening.{Found, IsOfHeld, IsOfSigned}
+use Rattle.tl_ledger.specs.Opening.{Found, IsOfHeld, IsOfNote, IsOfSigned}
 use Rattle.tl_ledger.specs.declared.opened.fault.OpenFault.{OpenFault}
 use Rattle.tl_ledger.specs.declared.opened.fault.OpenFault.TheVariants as opening
 
@@ -102,3 +102,21 @@ OpenFails honest held may_fail keys found (opening.Damaged r) =
     HasSigned honest held keys found.head (λ head. IsDamaged (MayRead honest held) head found.edge_tiles found.entry_tiles r)
 OpenFails honest held may_fail keys found (opening.Shelf fault) = FailsRead may_fail fault
 OpenFails honest held may_fail keys found opening.OutOfMemory = ⊤
+
+-- the note states the size and the root that were found, and this holds of them
+pub record HasStated (note : Bytes) (keys : List Key) (found : Option Head) (Holds : Head → Type 0) : Type 0 where
+  pub head : Head
+  pub is : found ≡ Some head
+  pub signed : IsOfNote note keys head
+  pub holds : Holds head
+
+-- when each fault comes where a log is opened as far as a note goes
+abbrev pub OpenNoteFails : Bool → Held → (Resource → ShelfFault → Type 0) → Bytes → List Key → Found → OpenFault → Type 0
+OpenNoteFails honest held may_fail note keys found opening.Checkpoint = IsUnopened note keys
+OpenNoteFails honest held may_fail note keys found opening.TooLarge = StatesTooMany keys note
+OpenNoteFails honest held may_fail note keys found (opening.Missing r) =
+    HasStated note keys found.head (λ head. IsMissing honest held head.size r)
+OpenNoteFails honest held may_fail note keys found (opening.Damaged r) =
+    HasStated note keys found.head (λ head. IsDamaged (MayRead honest held) head found.edge_tiles found.entry_tiles r)
+OpenNoteFails honest held may_fail note keys found (opening.Shelf fault) = FailsRead may_fail fault
+OpenNoteFails honest held may_fail note keys found opening.OutOfMemory = ⊤

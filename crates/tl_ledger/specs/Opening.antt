@@ -55,6 +55,10 @@ abbrev pub IsOfHeld : Held → List Key → Option Head → Type 0
 IsOfHeld held keys None = held resource.Checkpoint ≡ None
 IsOfHeld held keys (Some head) = (note : Bytes) × (held resource.Checkpoint ≡ Some note) × IsOfNote note keys head
 
+-- the size and the root that were found are those that the note states
+abbrev pub IsStated : Bytes → List Key → Option Head → Type 0
+IsStated note keys found = (head : Head) × (found ≡ Some head) × IsOfNote note keys head
+
 -- a ledger of what was found: it stands at each log with the size and the root of the checkpoint, or inputs collide
 pub record Opens (H : Digest) (keys : List Key) (found : Found) (ledger : Ledger) : Type 0 where
   pub signed : IsOfSigned keys found.head

@@ -2,10 +2,10 @@
 
 ghost use Rattle.std.specs.Prelude.{◌≡◌, ◌<◌, ◌^◌, map, true, Some, Contains, IfOk, IfErr, OnOk};
 ghost use Rattle.sha2.specs.Sha256.{sha256};
-ghost use Rattle.tl_ledger.specs.Opening.{IsOfHeld, Opens, StandsWhereWhole};
-ghost use Rattle.tl_ledger.specs.OpenFaults.{OpenFails};
+ghost use Rattle.tl_ledger.specs.Opening.{IsOfHeld, IsStated, Opens, StandsWhereWhole};
+ghost use Rattle.tl_ledger.specs.OpenFaults.{OpenFails, OpenNoteFails};
 ghost use Rattle.tl_ledger.specs.Inner.Reads.{HasPartials};
-ghost use Rattle.tl_ledger.specs.Inner.Restoring.{PartFails, Restores, StandsWhereRead};
+ghost use Rattle.tl_ledger.specs.Inner.Restoring.{HeadFails, PartFails, Restores, StandsWhereRead};
 
 mod fault;
 mod found;
@@ -17,7 +17,7 @@ mod shelf_source;
 use crate::ledger::Ledger;
 pub use fault::OpenFault;
 pub use found::Found;
-use heading::find_head;
+use heading::{find_head, stated};
 use reading::read_partials;
 use restoring::{restore_bundle, restore_edge};
 use shelf_source::ShelfSource;
@@ -62,6 +62,33 @@ fn restore<A: Allocator + Copy>(
     Ok(Ledger::of(edge, bundle))
 }
 
+// The ledger of the log of this size and root on a shelf. `found` then holds what was read, also after a fault.
+fn open_head<S: Shelf, A: Allocator + Copy>(
+    alloc: A,
+    shelf: &S,
+    head: &Head,
+    found: &mut Found<A>,
+) -> Result<Ledger<A>, OpenFault>
+    requires { head.now.size < 2 ^ 32 }
+    ensures head { found.new.head ≡ Some head.now }
+    ensures restores { IfOk result (Restores head.now found.new) }
+    ensures honest { S.is_honest ≡ true → IfOk result
+        (StandsWhereWhole sha256 (S.kept shelf.now).held found.new) }
+    ensures refused { IfErr result (HeadFails S.is_honest (S.kept shelf.now).held
+        (S.may_fail shelf.now) head.now found.new) }
+{
+    *found = Found::new(alloc);
+    found.head = Some(*head);
+    let source = match read_partials(alloc, shelf, head.size) {
+        Ok(source) => source,
+        Err(fault) => return Err(fault),
+    };
+    match restore(alloc, &source, head, found) {
+        Ok(ledger) => Ok(ledger),
+        Err(fault) => Err(fault),
+    }
+}
+
 impl<A: Allocator + Copy> Ledger<A> {
     /// The ledger of the log on this shelf, as far as its checkpoint goes, which the verifiers have to open (C2SP
     /// tlog-checkpoint); of no entries where there is no checkpoint. It reads the checkpoint, the partial tiles and the
@@ -88,13 +115,36 @@ impl<A: Allocator + Copy> Ledger<A> {
             Ok(None) => return Ok(Ledger::new(alloc)),
             Err(fault) => return Err(fault),
         };
-        found.head = Some(head);
-        let size = head.size;
-        let source = match read_partials(alloc, shelf, size) {
-            Ok(source) => source,
+        match open_head(alloc, shelf, &head, found) {
+            Ok(ledger) => Ok(ledger),
+            Err(fault) => Err(fault),
+        }
+    }
+
+    /// As `open`, as far as this note goes, which the verifiers have to open, and not as the checkpoint that is there:
+    /// that of a checkpoint which isn't at its place yet. The checkpoint there isn't read.
+    pub fn open_note<S: Shelf>(
+        alloc: A,
+        shelf: &S,
+        note: &str,
+        verifiers: &[Box<dyn Verifier>],
+        found: &mut Found<A>,
+    ) -> Result<Ledger<A>, OpenFault>
+        ensures opens { IfOk result
+            (Opens sha256 (map (λ v. key v) verifiers.now) found.new) }
+        ensures honest { S.is_honest ≡ true → IfOk result
+            (StandsWhereWhole sha256 (S.kept shelf.now).held found.new) }
+        ensures stated { OnOk result
+            (IsStated note.now (map (λ v. key v) verifiers.now) found.new.head) }
+        ensures refused { IfErr result (OpenNoteFails S.is_honest (S.kept shelf.now).held
+            (S.may_fail shelf.now) note.now (map (λ v. key v) verifiers.now) found.new) }
+    {
+        *found = Found::new(alloc);
+        let head = match stated(alloc, note, verifiers) {
+            Ok(head) => head,
             Err(fault) => return Err(fault),
         };
-        match restore(alloc, &source, &head, found) {
+        match open_head(alloc, shelf, &head, found) {
             Ok(ledger) => Ok(ledger),
             Err(fault) => Err(fault),
         }

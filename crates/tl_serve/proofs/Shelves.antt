@@ -14,46 +14,47 @@ use Rattle.tl_ledger.specs.Opening.{Found, Opens}
 use Rattle.tl_command.specs.Mirror.{LogKey}
 use Rattle.tl_command.specs.declared.keys.LogKey.{LogKey as GivenKey}
 use Rattle.tl_command.specs.declared.fault.RunFault.{RunFault}
-use Rattle.tl_append.specs.Appending.{Appends, AppendsAtMost, AppendsThen, Course, IsPutOrNot, course, joined}
-use Rattle.tl_append.specs.Running.{Grows, IsLogKey, OfFound, Visit}
-use Rattle.tl_append.proofs.Onward.{same_entries, then_batches, then_put}
-use Rattle.tl_append.proofs.Runs.{between, grows_then}
-use Rattle.tl_append.proofs.Turns.{along, none_appended, nothing_then}
+use Rattle.tl_append.specs.Appending.{Course, IsPutOrNot, course}
+use Rattle.tl_append.specs.Cosigning.{Quorum, Shows, ShowsAtMost, ShowsBatch, ShowsThen, Turn, entries_of}
+use Rattle.tl_append.specs.Running.{IsLogKey, OfFound, Visit}
+use Rattle.tl_append.proofs.Runs.{between}
+use Rattle.tl_append.proofs.Showing.{none_shown, same_entries, shows_then, then_put, then_turns}
+use Rattle.tl_append.proofs.Turns.{along}
 use Rattle.tl_serve.specs.Serving.{Serves, ServesPart, ServesWhole}
 use Rattle.tl_serve.specs.Inner.Running.{Begun}
 use Rattle.tl_serve.specs.Inner.Shelved.{IsClosed, IsServing, ServesUnder}
 
 -- ---- at first
 
-pub serving_new : {A : Type 0} (key : LogKey) (k : Kept) (saw : List Kept) (was : Ledger) (i : Intake A) (is_due : Bool)
-    → IsKeyName key.name → i.drained ≡ [] → i.waiting ≡ [] → IsServing key (along k k saw saw was was) i is_due
-serving_new key k saw was i is_due named drained waiting = record {
+pub serving_new : {A : Type 0} (key : LogKey) (q : Quorum) (k : Kept) (saw : List Kept) (was : Ledger) (i : Intake A) (is_due : Bool)
+    → IsKeyName key.name → i.drained ≡ [] → i.waiting ≡ [] → IsServing key q (along k k saw saw was was) i is_due
+serving_new key q k saw was i is_due named drained waiting = record {
   named = named;
-  batches = [];
+  turns = [];
   rest = [];
-  appends = nothing_then key [] k k saw saw was was (none_appended key k saw was);
+  shows = none_shown key q k saw was;
   own = sym drained;
   all = λ _. refl;
   none = λ _. waiting;
 }
 
-pub serving_begun : {A S : Type 0} (key : LogKey) (kept : S → Kept) (trace : S → List Kept) (began shelf : S) (was ledger : Ledger) (i : Intake A) (is_due : Bool)
+pub serving_begun : {A S : Type 0} (key : LogKey) (q : Quorum) (kept : S → Kept) (trace : S → List Kept) (began shelf : S) (was ledger : Ledger) (i : Intake A) (is_due : Bool)
     → began ≡ shelf → was ≡ ledger → IsKeyName key.name → i.drained ≡ [] → i.waiting ≡ []
-    → IsServing key (course kept trace began shelf was ledger) i is_due
-serving_begun {A} {S} key kept trace began shelf was ledger i is_due same is named drained waiting =
-    subst (λ (b : S). IsServing key (course kept trace b shelf was ledger) i is_due) (sym same)
-    (subst (λ (w : Ledger). IsServing key (course kept trace shelf shelf w ledger) i is_due) (sym is)
-    (serving_new key (kept shelf) (trace shelf) ledger i is_due named drained waiting))
+    → IsServing key q (course kept trace began shelf was ledger) i is_due
+serving_begun {A} {S} key q kept trace began shelf was ledger i is_due same is named drained waiting =
+    subst (λ (b : S). IsServing key q (course kept trace b shelf was ledger) i is_due) (sym same)
+    (subst (λ (w : Ledger). IsServing key q (course kept trace shelf shelf w ledger) i is_due) (sym is)
+    (serving_new key q (kept shelf) (trace shelf) ledger i is_due named drained waiting))
 
 -- ---- once entries were taken
 
-pub serving_taken : {A : Type 0} (key : LogKey) (c : Course) (i j : Intake A) (due due' : Bool)
-    → IsServing key c i due → j.drained ≡ i.drained → (due' ≡ false → (due ≡ false) × (j.waiting ≡ [])) → IsServing key c j due'
-serving_taken key c i j due due' is drained none = record {
+pub serving_taken : {A : Type 0} (key : LogKey) (q : Quorum) (c : Course) (i j : Intake A) (due due' : Bool)
+    → IsServing key q c i due → j.drained ≡ i.drained → (due' ≡ false → (due ≡ false) × (j.waiting ≡ [])) → IsServing key q c j due'
+serving_taken key q c i j due due' is drained none = record {
   named = is.named;
-  batches = is.batches;
+  turns = is.turns;
   rest = is.rest;
-  appends = is.appends;
+  shows = is.shows;
   own = is.own ∙ sym drained;
   all = λ not. is.all (none not).0;
   none = λ not. (none not).1;
@@ -91,94 +92,94 @@ put_gone i j put c before after goes (inl none) =
 put_gone i j put c before after goes (inr all) =
     ap (λ (es : List Bytes). i.drained ++ es) all.0 ∙ sym ((all_gone i j c before after goes all.1).0 ∙ goes.parts)
 
-module _ {A : Type 0} (key : LogKey) (a m b : Kept) (saw mid sees : List Kept) (was now is : Ledger) (i j : Intake A) (due : Bool) (before after : ℕ)
-    (serving : IsServing key (along a m saw mid was now) i due) (goes : LetsGo i j (along m b mid sees now is) before after) where
-  -- all of it was published
-  pub serving_shown : is.edge.size ≡ now.edge.size + length i.waiting → Appends key (i.waiting ∷ []) (along m b mid sees now is)
-      → IsServing key (along a b saw sees was is) j false
+module _ {A : Type 0} (key : LogKey) (q : Quorum) (a m b : Kept) (saw mid sees : List Kept) (was now is : Ledger) (i j : Intake A) (due : Bool) (before after : ℕ)
+    (serving : IsServing key q (along a m saw mid was now) i due) (goes : LetsGo i j (along m b mid sees now is) before after) where
+  -- all of it was shown
+  pub serving_shown : is.edge.size ≡ now.edge.size + length i.waiting → ShowsBatch key q i.waiting (along m b mid sees now is)
+      → IsServing key q (along a b saw sees was is) j false
   serving_shown grown all =
       let gone = all_gone i j (along m b mid sees now is) before after goes grown in
+      let turn : Turn = record { batch = i.waiting; lines = all.0 } in
       record {
         named = serving.named;
-        batches = serving.batches ++ (serving.rest ++ i.waiting) ∷ [];
+        turns = serving.turns ++ record { batch = serving.rest ++ i.waiting; lines = all.0 } ∷ [];
         rest = [];
-        appends = then_batches key serving.batches serving.rest a m b saw mid sees was now is serving.appends i.waiting [] []
-            (nothing_then key (i.waiting ∷ []) m b mid sees now is all);
-        own = same_entries serving.batches serving.rest i.waiting [] []
-            ∙ ap (λ (es : List Bytes). (joined serving.batches ++ serving.rest) ++ es) (append-nil (i.waiting ++ []) ∙ append-nil i.waiting)
+        shows = then_turns key q serving.turns serving.rest a m b saw mid sees was now is serving.shows turn [] [] all.1;
+        own = same_entries serving.turns serving.rest turn [] []
+            ∙ ap (λ (es : List Bytes). (entries_of serving.turns ++ serving.rest) ++ es) (append-nil (i.waiting ++ []) ∙ append-nil i.waiting)
             ∙ ap (λ (es : List Bytes). es ++ i.waiting) serving.own ∙ sym (gone.0 ∙ goes.parts);
         all = λ _. refl;
         none = λ _. gone.1;
       }
 
-  -- it was at most: by what of it was published
-  serving_part : (ys : List (List Bytes)) (more : List Bytes) → AppendsThen key ys more (along m b mid sees now is)
-      → IsPutOrNot i.waiting (joined ys ++ more) (along m b mid sees now is) → IsServing key (along a b saw sees was is) j true
+  -- it was at most: by what of it was shown
+  serving_part : (ys : List Turn) (more : List Bytes) → ShowsThen key q ys more (along m b mid sees now is)
+      → IsPutOrNot i.waiting (entries_of ys ++ more) (along m b mid sees now is) → IsServing key q (along a b saw sees was is) j true
   serving_part [] more then own = record {
     named = serving.named;
-    batches = serving.batches;
+    turns = serving.turns;
     rest = serving.rest ++ more;
-    appends = then_put key serving.batches serving.rest a m b saw mid sees was now is serving.appends more then;
-    own = sym (append_assoc (joined serving.batches) serving.rest more)
+    shows = then_put key q serving.turns serving.rest a m b saw mid sees was now is serving.shows more then;
+    own = sym (append_assoc (entries_of serving.turns) serving.rest more)
         ∙ ap (λ (es : List Bytes). es ++ more) serving.own ∙ put_gone i j more (along m b mid sees now is) before after goes own;
     all = λ not. absurd (true≢false not);
     none = λ not. absurd (true≢false not);
   }
   serving_part (y ∷ ys) more then own = record {
     named = serving.named;
-    batches = serving.batches ++ (serving.rest ++ y) ∷ ys;
+    turns = serving.turns ++ record { batch = serving.rest ++ y.batch; lines = y.lines } ∷ ys;
     rest = more;
-    appends = then_batches key serving.batches serving.rest a m b saw mid sees was now is serving.appends y ys more then;
-    own = same_entries serving.batches serving.rest y ys more
-        ∙ ap (λ (es : List Bytes). es ++ (joined (y ∷ ys) ++ more)) serving.own
-        ∙ put_gone i j (joined (y ∷ ys) ++ more) (along m b mid sees now is) before after goes own;
+    shows = then_turns key q serving.turns serving.rest a m b saw mid sees was now is serving.shows y ys more then;
+    own = same_entries serving.turns serving.rest y ys more
+        ∙ ap (λ (es : List Bytes). es ++ (entries_of (y ∷ ys) ++ more)) serving.own
+        ∙ put_gone i j (entries_of (y ∷ ys) ++ more) (along m b mid sees now is) before after goes own;
     all = λ not. absurd (true≢false not);
     none = λ not. absurd (true≢false not);
   }
 
-  pub serving_failed : AppendsAtMost key i.waiting (along m b mid sees now is) → due ≡ true → IsServing key (along a b saw sees was is) j due
+  pub serving_failed : ShowsAtMost key q i.waiting (along m b mid sees now is) → due ≡ true → IsServing key q (along a b saw sees was is) j due
   serving_failed part is_due =
-      subst (λ (d : Bool). IsServing key (along a b saw sees was is) j d) (sym is_due) (serving_part part.batches part.rest part.appends part.own)
+      subst (λ (d : Bool). IsServing key q (along a b saw sees was is) j d) (sym is_due) (serving_part part.turns part.rest part.shows part.own)
 
 -- ---- the key
 
 -- how a log is served under the key that is known
-pub serves_given : (given : GivenKey) (name own_name : Bytes) (key : LogKey) (found : Found) (v : Visit) (outcome : Result (Unit {0}) RunFault) → name ≡ own_name
-    → IsLogKey given name key → ServesUnder key found v outcome → Serves given own_name found v outcome
-serves_given given name own_name key found v (Ok done) same is all = (key, subst (λ (n : Bytes). IsLogKey given n key) same is, all)
-serves_given given name own_name key found v (Err fault) same is (inl left) = inl left
-serves_given given name own_name key found v (Err fault) same is (inr part) = inr (key, subst (λ (n : Bytes). IsLogKey given n key) same is, part)
+pub serves_given : (given : GivenKey) (name own_name : Bytes) (key : LogKey) (q : Quorum) (found : Found) (v : Visit) (outcome : Result (Unit {0}) RunFault) → name ≡ own_name
+    → IsLogKey given name key → ServesUnder key q found v outcome → Serves given own_name q found v outcome
+serves_given given name own_name key q found v (Ok done) same is all = (key, subst (λ (n : Bytes). IsLogKey given n key) same is, all)
+serves_given given name own_name key q found v (Err fault) same is (inl left) = inl left
+serves_given given name own_name key q found v (Err fault) same is (inr part) = inr (key, subst (λ (n : Bytes). IsLogKey given n key) same is, part)
 
 -- ---- at the end
 
 pub begun_one : (x y : Begun) → Some x ≡ Some y → x ≡ y
 begun_one x y same = ap (λ (o : Option Begun). unwrap_or o x) same
 
-module _ (key : LogKey) (keys : List Key) (found : Found) (a b : Kept) (saw sees : List Kept) (was is : Ledger) (place : Bytes) (i : Intake Global) (due : Bool) (first : Begun)
-    (begun : Some (record { key = key; kept = a; saw = saw; was = was; place = place }) ≡ Some first) (opens : Opens sha256 keys found first.was)
-    (serving : IsServing key (along a b saw sees was is) i due) where
-  pub serves_part : ServesPart first.key found (between first.kept b first.saw sees)
+module _ (key : LogKey) (q : Quorum) (keys : List Key) (found : Found) (a b : Kept) (saw sees : List Kept) (was is : Ledger) (place : Bytes) (i : Intake Global) (due : Bool) (first : Begun)
+    (begun : Some (record { key = key; kept = a; saw = saw; was = was; place = place; quorum = q }) ≡ Some first) (opens : Opens sha256 keys found first.was)
+    (serving : IsServing key q (along a b saw sees was is) i due) where
+  pub serves_part : ServesPart first.key first.quorum found (between first.kept b first.saw sees)
   serves_part =
-      subst (λ (x : Begun). Opens sha256 keys found x.was → ServesPart x.key found (between x.kept b x.saw sees)) (begun_one _ _ begun)
+      subst (λ (x : Begun). Opens sha256 keys found x.was → ServesPart x.key x.quorum found (between x.kept b x.saw sees)) (begun_one _ _ begun)
       (λ own. record {
-        batches = serving.batches;
+        turns = serving.turns;
         rest = serving.rest;
-        grows = grows_then key keys found a b saw sees was is own serving.batches serving.rest serving.appends;
+        shows = shows_then key q keys found a b saw sees was is own serving.turns serving.rest serving.shows;
       })
       opens
 
-  pub serves_whole : IsClosed i due → ServesWhole first.key found (between first.kept b first.saw sees)
+  pub serves_whole : IsClosed i due → ServesWhole first.key first.quorum found (between first.kept b first.saw sees)
   serves_whole closed =
       let all : serving.rest ≡ [] = serving.all closed.none_due in
-      subst (λ (x : Begun). Opens sha256 keys found x.was → ServesWhole x.key found (between x.kept b x.saw sees)) (begun_one _ _ begun)
+      subst (λ (x : Begun). Opens sha256 keys found x.was → ServesWhole x.key x.quorum found (between x.kept b x.saw sees)) (begun_one _ _ begun)
       (λ own. record {
-        batches = serving.batches;
-        grows = subst (λ (r : List Bytes). OfFound found a (Grows key serving.batches r (between a b saw sees))) all
-            (grows_then key keys found a b saw sees was is own serving.batches serving.rest serving.appends);
+        turns = serving.turns;
+        shows = subst (λ (r : List Bytes). OfFound found a (Shows key q serving.turns r (between a b saw sees))) all
+            (shows_then key q keys found a b saw sees was is own serving.turns serving.rest serving.shows);
       })
       opens
 
   -- however it ended
-  pub serves_under : (outcome : Result (Unit {0}) RunFault) → OnOk outcome (IsClosed i due) → ServesUnder first.key found (between first.kept b first.saw sees) outcome
+  pub serves_under : (outcome : Result (Unit {0}) RunFault) → OnOk outcome (IsClosed i due) → ServesUnder first.key first.quorum found (between first.kept b first.saw sees) outcome
   serves_under (Ok done) closed = serves_whole closed
   serves_under (Err fault) closed = inr serves_part

@@ -5,26 +5,27 @@ use Rattle.tl_ledger.specs.Opening.{Found}
 use Rattle.tl_command.specs.Mirror.{LogKey}
 use Rattle.tl_command.specs.declared.keys.LogKey.{LogKey as GivenKey}
 use Rattle.tl_command.specs.declared.fault.RunFault.{RunFault}
-use Rattle.tl_append.specs.Running.{Grows, IsLogKey, OfFound, Visit}
+use Rattle.tl_append.specs.Cosigning.{Quorum, Shows, Turn}
+use Rattle.tl_append.specs.Running.{IsLogKey, OfFound, Visit}
 
--- batches were put behind the log that was found and published, each under a note of its own checkpoint by the key, and
--- then these entries were put behind it
-pub record ServesPart (key : LogKey) (found : Found) (v : Visit) : Type 0 where
-  pub batches : List (List Bytes)
+-- turns were put behind the log that was found and shown, each under a note of its own checkpoint by the key and with
+-- its quorum, and then these entries were put behind it
+pub record ServesPart (key : LogKey) (q : Quorum) (found : Found) (v : Visit) : Type 0 where
+  pub turns : List Turn
   pub rest : List Bytes
-  pub grows : OfFound found v.before (Grows key batches rest v)
+  pub shows : OfFound found v.before (Shows key q turns rest v)
 
--- nothing was put that isn't published
-pub record ServesWhole (key : LogKey) (found : Found) (v : Visit) : Type 0 where
-  pub batches : List (List Bytes)
-  pub grows : OfFound found v.before (Grows key batches [] v)
+-- nothing was put that isn't shown
+pub record ServesWhole (key : LogKey) (q : Quorum) (found : Found) (v : Visit) : Type 0 where
+  pub turns : List Turn
+  pub shows : OfFound found v.before (Shows key q turns [] v)
 
 -- nothing was written
 pub record IsLeft (v : Visit) : Type 0 where
   pub kept : v.after ≡ v.before
   pub trace : v.sees ≡ v.saw
 
--- how a log of this name is served, under the key that is given
-abbrev pub Serves : GivenKey → Bytes → Found → Visit → Result (Unit {0}) RunFault → Type 0
-Serves key name found v (Ok done) = (own : LogKey) × IsLogKey key name own × ServesWhole own found v
-Serves key name found v (Err fault) = IsLeft v ⊎ ((own : LogKey) × IsLogKey key name own × ServesPart own found v)
+-- how a log of this name is served, under the key that is given, where so many of these witnesses must cosign
+abbrev pub Serves : GivenKey → Bytes → Quorum → Found → Visit → Result (Unit {0}) RunFault → Type 0
+Serves key name q found v (Ok done) = (own : LogKey) × IsLogKey key name own × ServesWhole own q found v
+Serves key name q found v (Err fault) = IsLeft v ⊎ ((own : LogKey) × IsLogKey key name own × ServesPart own q found v)

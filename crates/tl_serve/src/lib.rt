@@ -8,8 +8,10 @@
 #![tactic(auto)]
 
 mod answering;
+mod asked;
 mod awaited;
 mod cosigner;
+mod cosigners;
 mod desk;
 mod door;
 mod following;
@@ -34,9 +36,11 @@ mod request;
 mod running;
 mod saver;
 mod serve;
+mod serve_cosigned;
 mod serve_shelf;
 mod server;
 mod serving;
+mod shared_writer;
 mod shelf_log;
 mod telling;
 mod turn;
@@ -48,11 +52,13 @@ mod written;
 pub use gate::Gate;
 pub use host::Host;
 pub use options::{
-    KnownLogs, ListenOptions, LogVerifierKey, ServeOptions, WitnessOptions, WitnessSignerKey,
+    AskedWitness, KnownLogs, ListenOptions, LogVerifierKey, ServeOptions, WitnessOptions,
+    WitnessSignerKey,
 };
 pub use queue::LineQueue;
 pub use saver::LineSaver;
 pub use serve::{run_serve, serve_gated, threads_of};
+pub use serve_cosigned::{CosignedLog, run_serve_cosigned};
 pub use serve_shelf::{Served, run_serve_shelf};
 pub use witness::run_witness;
 pub use witness_fault::WitnessFault;

@@ -46,6 +46,15 @@ pub struct ListenOptions {
     pub quiet: bool,
 }
 
+/// A witness that is asked to cosign what a log proposes (C2SP tlog-witness).
+#[derive(Drop)]
+pub struct AskedWitness {
+    /// The text of its verifier key.
+    pub key: String,
+    /// Its address, `http://HOST[:PORT][/PREFIX]`.
+    pub url: String,
+}
+
 /// The options of `serve`.
 #[derive(Drop)]
 pub struct ServeOptions {
@@ -77,6 +86,10 @@ pub struct ServeOptions {
     pub allows_older: bool,
     /// Whether partial tiles and bundles stay in a folder that full ones have replaced.
     pub keeps_partials: bool,
+    /// The witnesses that are asked to cosign each checkpoint of a log in a folder.
+    pub witnesses: Vec<AskedWitness>,
+    /// How many of them must have cosigned a checkpoint before it is shown.
+    pub need: u64,
 }
 
 /// The options of `witness`.

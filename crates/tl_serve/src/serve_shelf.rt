@@ -27,12 +27,12 @@ use std::alloc::{AllocError, Global};
 use std::io::{Read, Write};
 use std::net::{Net, TcpListener, TcpStream};
 use std::os::fd::RawFd;
-use tl_append::{LogKeys, LogOpeningKey, keys_of, open_ledger};
+use tl_append::{LogKeys, LogOpeningKey, LogShelf, OpenedLog, keys_of};
 use tl_archive::Shelf;
 use tl_command::RunFault;
 use tl_device::Counted;
 use tl_heart::Heart;
-use tl_ledger::{Found, Ledger};
+use tl_ledger::Found;
 use tl_lines::Lines;
 use tl_note::is_key_name;
 use tl_sequencer::{Intake, OpenFault, Submitter};
@@ -82,8 +82,7 @@ fn open_lanes(
 // A log that was found on a shelf, its lanes, and what answers.
 #[derive(Drop)]
 struct Opened<P> {
-    ledger: Ledger<Global>,
-    is_first: bool,
+    log: OpenedLog,
     intake: Intake<Global, Global>,
     lanes: Vec<Sending>,
     pages: Vec<OnShelf<P>>,
@@ -91,30 +90,33 @@ struct Opened<P> {
 }
 
 // Opens the log on a shelf, and the lanes that the options want.
-fn open_log<S: Shelf, P: Drop, R: Read>(
+fn open_log<S: LogShelf, P: Drop, R: Read>(
     alloc: Global,
     options: &ServeOptions,
     verifier: LogOpeningKey,
-    shelf: &S,
+    shelf: &mut S,
     shown: Vec<P>,
     found: &mut Found<Global>,
     reader: &mut Counted<R>,
 ) -> Result<Opened<P>, RunFault>
     ensures opens { IfOk result (λ o.
-        Opens sha256 (opening_key_of verifier ∷ []) found.new o.ledger) }
+        Opens sha256 (opening_key_of verifier ∷ []) found.new o.log.ledger) }
+    ensures left { (S.kept shelf.new ≡ S.kept shelf.old) × (S.trace shelf.new ≡ S.trace shelf.old) }
+    ensures place { S.place shelf.new ≡ S.place shelf.old }
+    ensures quorum { S.quorum shelf.new ≡ S.quorum shelf.old }
     ensures lanes { IfOk result
         (λ o. All (λ l. IsSenderOf l.submitter o.intake.log) o.lanes.items) }
     ensures none { IfOk result (λ o. (o.intake.drained ≡ []) × (o.intake.waiting ≡ [])) }
 {
-    let ledger = match open_ledger(alloc, verifier, options.allows_older, shelf, found) {
-        Ok(ledger) => ledger,
+    let log = match shelf.open(alloc, verifier, options.allows_older, found) {
+        Ok(log) => log,
         Err(fault) => return Err(fault),
     };
     let plan = match read_plan(alloc, options, 0, reader) {
         Ok(plan) => plan,
         Err(fault) => return Err(fault),
     };
-    let (intake, submitters) = match open_lanes(alloc, ledger.size(), plan.lanes, plan.room) {
+    let (intake, submitters) = match open_lanes(alloc, log.ledger.size(), plan.lanes, plan.room) {
         Ok(opened) => opened,
         Err(fault) => return Err(fault),
     };
@@ -122,8 +124,7 @@ fn open_log<S: Shelf, P: Drop, R: Read>(
     let lanes = lanes_and_desk(alloc, submitters, entries, options.takes_posts)?;
     let pages = pages_of(alloc, shown, options.takes_posts)?;
     Ok(Opened {
-        ledger,
-        is_first: found.head.is_none(),
+        log,
         intake,
         lanes,
         pages,
@@ -132,7 +133,7 @@ fn open_log<S: Shelf, P: Drop, R: Read>(
 }
 
 // Closes a log that ran, where its heart says so, and tells that.
-fn close<S: Shelf + Drop, L: Write>(
+fn close<S: LogShelf, L: Write>(
     alloc: Global,
     log: &ShelfLog<S>,
     heart: Result<Heart<RunFault>, RunFault>,
@@ -166,7 +167,7 @@ fn base_of<H: Host + Net<Listener = TcpListener, Stream = TcpStream>, S: Shelf>(
 // Serves the log on a shelf under these keys.
 fn serve_under<
     H: Host + Net<Listener = TcpListener, Stream = TcpStream>,
-    S: Shelf + Drop,
+    S: LogShelf,
     P: Shelf + Send + Drop,
     R: Read + Send,
     L: Write,
@@ -180,13 +181,14 @@ fn serve_under<
     out: &mut Counted<L>,
 ) -> Served<S>
     requires name { IsKeyName (log_key_of keys.signer).name }
-    ensures serves { ServesUnder (log_key_of keys.signer) found.new
+    ensures serves { ServesUnder (log_key_of keys.signer) (S.quorum shelf) found.new
         (visit S.kept S.trace shelf result.shelf) result.outcome }
     ensures place { S.place result.shelf ≡ S.place shelf }
 {
     let LogKeys { signer, verifier } = keys;
     let (alloc, options) = (server.alloc, server.options);
-    let opened = match open_log(alloc, options, verifier, &shelf, shown, found, reader) {
+    let mut shelf = shelf;
+    let opened = match open_log(alloc, options, verifier, &mut shelf, shown, found, reader) {
         Ok(opened) => opened,
         Err(fault) => {
             let outcome = Err(fault);
@@ -194,16 +196,15 @@ fn serve_under<
         }
     };
     let Opened {
-        ledger,
-        is_first,
+        log,
         intake,
         lanes,
         pages,
         lines,
     } = opened;
-    let keeps = options.keeps_partials;
-    let base = base_of(server, &shelf, ledger.size());
-    let mut log = ShelfLog::new(alloc, signer, shelf, ledger, intake, is_first, keeps);
+    let OpenedLog { ledger, is_due } = log;
+    let base = base_of(server, shelf.shelf(), ledger.size());
+    let mut log = ShelfLog::new(alloc, signer, shelf, ledger, intake, is_due);
     if let Err(fault) = log.show() {
         let (shelf, outcome) = (log.into_shelf(), Err(fault));
         return Served { shelf, outcome };
@@ -223,7 +224,7 @@ fn serve_under<
 /// server ends. Memory has what waits to be put. The shelf is given back; `found` has what was read of it. It may wait.
 pub fn run_serve_shelf<
     H: Host + Net<Listener = TcpListener, Stream = TcpStream>,
-    S: Shelf + Drop,
+    S: LogShelf,
     P: Shelf + Send + Drop,
     R: Read + Send,
     L: Write,
@@ -240,8 +241,8 @@ pub fn run_serve_shelf<
 ) -> Served<S>
     ensures refuses { RefusesOrigin (string_bytes options.now.origin)
         (passage R.remaining reader.old reader.new) result.outcome }
-    ensures serves { Serves options.now.key (string_bytes options.now.origin) found.new
-        (visit S.kept S.trace shelf result.shelf) result.outcome }
+    ensures serves { Serves options.now.key (string_bytes options.now.origin) (S.quorum shelf)
+        found.new (visit S.kept S.trace shelf result.shelf) result.outcome }
     ensures place { S.place result.shelf ≡ S.place shelf }
 {
     let origin = options.origin.as_str();

@@ -8,8 +8,7 @@ ghost use Rattle.tl_serve.specs.Inner.Shelved.{IsClosed};
 use crate::live_log::{LiveLog, refusal};
 use std::alloc::Global;
 use std::snapshot::Snapshot;
-use tl_append::{LogSigningKey, append_batch};
-use tl_archive::Shelf;
+use tl_append::{LogShelf, LogSigningKey};
 use tl_command::RunFault;
 use tl_hash::Head;
 use tl_ledger::Ledger;
@@ -26,7 +25,6 @@ pub(crate) struct ShelfLog<S> {
     pub(crate) intake: Intake<Global, Global>,
     // Whether something waits, or was put and isn't published, or the log was never published.
     pub(crate) is_due: bool,
-    keeps_partials: bool,
     began: Snapshot<S>,
     was: Snapshot<Ledger<Global>>,
 }
@@ -50,9 +48,9 @@ fn let_go(intake: &mut Intake<Global, Global>, before: u64, after: u64)
     }
 }
 
-impl<S: Shelf + Drop> ShelfLog<S> {
-    /// A log on this shelf, of which the ledger is, whose lanes gave nothing yet. `is_due`: it was never published.
-    /// `keeps_partials`: partial tiles and bundles stay that full ones have replaced.
+impl<S: LogShelf> ShelfLog<S> {
+    /// A log on this shelf, of which the ledger is, whose lanes gave nothing yet. `is_due`: it was never published, or
+    /// has entries that aren't.
     pub(crate) fn new(
         alloc: Global,
         key: LogSigningKey,
@@ -60,7 +58,6 @@ impl<S: Shelf + Drop> ShelfLog<S> {
         ledger: Ledger<Global>,
         intake: Intake<Global, Global>,
         is_due: bool,
-        keeps_partials: bool,
     ) -> ShelfLog<S>
         requires name { IsKeyName (log_key_of key).name }
         requires drained { intake.drained ≡ [] }
@@ -72,6 +69,7 @@ impl<S: Shelf + Drop> ShelfLog<S> {
           saw = S.trace shelf;
           was = ledger;
           place = S.place shelf;
+          quorum = S.quorum shelf;
         }) }
         ensures log { ⟦<ShelfLog<S> as LiveLog>⟧.log result ≡ intake.log }
     {
@@ -83,7 +81,6 @@ impl<S: Shelf + Drop> ShelfLog<S> {
             ledger,
             intake,
             is_due,
-            keeps_partials,
             began,
             was,
         }
@@ -109,7 +106,7 @@ impl<S: Shelf + Drop> ShelfLog<S> {
     }
 }
 
-impl<S: Shelf + Drop> LiveLog for ShelfLog<S> {
+impl<S: LogShelf> LiveLog for ShelfLog<S> {
     ghost use Rattle.std.specs.Prelude.{◌≡◌, Some};
     ghost use Rattle.tl_append.specs.Appending.{course};
     ghost use Rattle.tl_append.specs.Keys.{log_key_of};
@@ -117,7 +114,7 @@ impl<S: Shelf + Drop> LiveLog for ShelfLog<S> {
 
     ghost log = { λ l. l.intake.log };
 
-    ghost holds = { λ l. IsServing (log_key_of l.key)
+    ghost holds = { λ l. IsServing (log_key_of l.key) (S.quorum l.shelf)
         (course S.kept S.trace l.began.value l.shelf l.was.value l.ledger) l.intake l.is_due };
 
     ghost begun = { λ l. Some (record {
@@ -126,12 +123,13 @@ impl<S: Shelf + Drop> LiveLog for ShelfLog<S> {
       saw = S.trace l.began.value;
       was = l.was.value;
       place = S.place l.shelf;
+      quorum = S.quorum l.shelf;
     }) };
 
     ghost rests = { λ a b. (b.shelf ≡ a.shelf) × (b.ledger ≡ a.ledger)
         × (b.intake.drained ≡ a.intake.drained) };
 
-    ghost shows = { λ a b. Seals (log_key_of a.key)
+    ghost shows = { λ a b. Seals (log_key_of a.key) (S.quorum a.shelf)
         (course S.kept S.trace a.shelf b.shelf a.ledger b.ledger) a.intake b.intake };
 
     ghost heads = { λ a b head. (b ≡ a) × IsHeadOf a.ledger head };
@@ -162,9 +160,7 @@ impl<S: Shelf + Drop> LiveLog for ShelfLog<S> {
         }
         let size = self.ledger.size();
         let waiting = self.intake.waiting();
-        let (shelf, ledger) = (&mut self.shelf, &mut self.ledger);
-        let keeps = self.keeps_partials;
-        let outcome = append_batch(self.alloc, &self.key, waiting, keeps, shelf, ledger);
+        let outcome = self.shelf.append(self.alloc, &self.key, waiting, &mut self.ledger);
         let_go(&mut self.intake, size, self.ledger.size());
         match outcome {
             Ok(()) => {

@@ -1,14 +1,16 @@
 //! The words of the commands that serve.
 
 use super::building::LOG;
-use super::given::{log_key_if_one, text_if_given, text_of, usage_error};
+use super::fetching::need_of;
+use super::given::{log_key_if_one, text_if_given, text_of, texts_of, usage_error};
 use super::table::{Kind, Word, Words};
 use super::{EITHER_KEY, LOG_KEY, TIMEOUT, WordsFault, texts};
 use crate::job::Job;
 use clap::ArgMatches;
 use std::alloc::Global;
 use tl_serve::{
-    KnownLogs, ListenOptions, LogVerifierKey, ServeOptions, WitnessOptions, WitnessSignerKey,
+    AskedWitness, KnownLogs, ListenOptions, LogVerifierKey, ServeOptions, WitnessOptions,
+    WitnessSignerKey,
 };
 
 // What an option is where it is left out.
@@ -24,7 +26,13 @@ const CLIENTS: u64 = 1024;
 const ONE_BASE: &str = "--note and --dir are not given together";
 
 // What is said where options of a log in a folder are given, and no folder.
-const OF_A_FOLDER: &str = "--older and --keep-partials are given with --dir alone";
+const OF_A_FOLDER: &str = "--older, --keep-partials and --witness are given with --dir alone";
+
+// What is said where a witness is given without its key or its address.
+const NO_PAIR: &str = "--witness is VKEY=http://HOST[:PORT][/PATH]";
+
+// What is said where it is told how many must cosign, and nobody may, or where nobody need.
+const OF_WITNESSES: &str = "--need is given with --witness alone, and at least 1";
 
 // What is said where an interval is given, and no entries come while the log is served.
 const OF_WHAT_COMES: &str = "--interval is given with --follow or --add alone";
@@ -77,6 +85,9 @@ const SERVE: Words = Words {
                 => "How many entries are known again when they are posted again";
             "older" "" Kind::Flag => "Go on from a checkpoint that is older than one that was there";
             "keep-partials" "" Kind::Flag => "Leave partial tiles that full ones have replaced";
+            "witness" "VKEY=URL" Kind::Texts => "A witness that is asked to cosign, and its address";
+            "need" "N" Kind::Number(0, u64::MAX)
+                => "How many of the witnesses must have cosigned what is shown";
         ],
         SERVER,
     ],
@@ -149,6 +160,43 @@ fn remember_of(alloc: Global, options: &ArgMatches<'_>) -> Result<u64, WordsFaul
     }
 }
 
+// The witness that a text names: its key, and behind a `=` its address.
+fn asked_of(alloc: Global, text: &str) -> Result<AskedWitness, WordsFault> {
+    let Some(end) = text.find("=http://") else {
+        return Err(usage_error(alloc, serve(), NO_PAIR));
+    };
+    Ok(AskedWitness {
+        key: String::from_str(alloc, &text[..end])?,
+        url: String::from_str(alloc, &text[end + 1..])?,
+    })
+}
+
+// The witnesses that are asked.
+fn all_asked(
+    alloc: Global,
+    options: &ArgMatches<'_>,
+) -> Result<Vec<AskedWitness>, WordsFault> {
+    let mut asked = Vec::new(alloc);
+    for text in texts_of(alloc, options, "witness")? {
+        asked.push(asked_of(alloc, text.as_str())?)?;
+    }
+    Ok(asked)
+}
+
+// How many of so many witnesses must have cosigned what is shown: all, unless a number is given.
+fn must_cosign(
+    alloc: Global,
+    options: &ArgMatches<'_>,
+    witnesses: u64,
+) -> Result<u64, WordsFault> {
+    let given = options.get_one::<u64>("need");
+    match given {
+        Some(0) => Err(usage_error(alloc, serve(), OF_WITNESSES)),
+        Some(_) if witnesses == 0 => Err(usage_error(alloc, serve(), OF_WITNESSES)),
+        _ => need_of(alloc, serve(), options, witnesses),
+    }
+}
+
 // The job of `serve`: not both a note and a folder are given, and what is of a folder with one alone.
 pub(super) fn serve_job(alloc: Global, options: &ArgMatches<'_>) -> Result<Job, WordsFault> {
     let Some(key) = log_key_if_one(alloc, options)? else {
@@ -160,7 +208,8 @@ pub(super) fn serve_job(alloc: Global, options: &ArgMatches<'_>) -> Result<Job, 
         return Err(usage_error(alloc, serve(), ONE_BASE));
     }
     let (older, kept) = (options.get_flag("older"), options.get_flag("keep-partials"));
-    if dir.is_none() && (older || kept) {
+    let witnesses = all_asked(alloc, options)?;
+    if dir.is_none() && (older || kept || !witnesses.is_empty()) {
         return Err(usage_error(alloc, serve(), OF_A_FOLDER));
     }
     Ok(Job::Serve(ServeOptions {
@@ -178,6 +227,8 @@ pub(super) fn serve_job(alloc: Global, options: &ArgMatches<'_>) -> Result<Job, 
         remember: remember_of(alloc, options)?,
         allows_older: older,
         keeps_partials: kept,
+        need: must_cosign(alloc, options, witnesses.len() as u64)?,
+        witnesses,
     }))
 }
 

@@ -96,6 +96,10 @@ the folder's files, and a publication is shown once it outlasts a crash.
 With --add an entry, of at most 65,535 bytes, is posted to /add, and answered with its index in decimal, once it is
 published and was seen to stand there. One of the last N of --remember that is posted again has its first index. What
 comes waits for more until it has waited --interval milliseconds, or a batch is there.
+With --witness, which may be given several times, each checkpoint is kept in the folder as a proposal and sent to the
+witness (C2SP tlog-witness), and shown once --need of them have cosigned it (all, where --need is left out), with their
+lines. Why one hasn't is told, 'witness NAME: ..', and it is asked again 1 to 60 seconds later. Nothing is shown
+meanwhile, and a start goes on from what was proposed.
 Defaults: --lanes 1, --capacity 256, --batch 256, --timeout 10, --clients 1024, --interval 1000 with --add and else 0,
 --remember 65536, as many threads as the machine has processors, and any number of connections.
 Exit status: 0 done; 1 refused (a bad key, a bad origin, input too large, an entry too long, fewer lines than the note's

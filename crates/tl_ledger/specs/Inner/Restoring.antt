@@ -19,7 +19,7 @@ use Rattle.tl_archive.specs.declared.fault.ShelfFault.{ShelfFault}
 use Rattle.tl_archive.specs.Complete.{HasAll}
 use Rattle.tl_ledger.specs.Standing.{Ledger, IsStanding}
 use Rattle.tl_ledger.specs.Opening.{Found, FoundCollides}
-use Rattle.tl_ledger.specs.OpenFaults.{FailsRead, HasRead, IsDamaged, IsUnopened, StatesTooMany}
+use Rattle.tl_ledger.specs.OpenFaults.{FailsRead, HasRead, IsDamaged, IsMissing, IsUnopened, MayRead, StatesTooMany}
 use Rattle.tl_ledger.specs.Inner.Reads.{AreThere}
 use Rattle.tl_ledger.specs.declared.opened.fault.OpenFault.{OpenFault}
 use Rattle.tl_ledger.specs.declared.opened.fault.OpenFault.TheVariants as opening
@@ -76,3 +76,12 @@ abbrev pub StandsWhereRead : List Item → ℕ → Ledger → Type 0
 StandsWhereRead items size ledger =
     (held : Held) → AreThere held items → (log : List Bytes) → length log ≡ size → HasAll sha256 log held
     → IsStanding sha256 log ledger
+
+-- why a log of this size and root was not opened, by what was found
+abbrev pub HeadFails : Bool → Held → (Resource → ShelfFault → Type 0) → Head → Found → OpenFault → Type 0
+HeadFails honest held may_fail head found opening.Checkpoint = ⊥
+HeadFails honest held may_fail head found opening.TooLarge = ⊥
+HeadFails honest held may_fail head found (opening.Missing r) = IsMissing honest held head.size r
+HeadFails honest held may_fail head found (opening.Damaged r) = IsDamaged (MayRead honest held) head found.edge_tiles found.entry_tiles r
+HeadFails honest held may_fail head found (opening.Shelf fault) = FailsRead may_fail fault
+HeadFails honest held may_fail head found opening.OutOfMemory = ⊤

@@ -15,8 +15,8 @@ use tl_tile::Resource;
 
 const MOST_ENTRIES: u64 = 0xFFFF_FFFF;
 
-// The size and the root that the checkpoint of a note states.
-fn stated<A: Allocator + Copy>(
+/// The size and the root that the checkpoint of a note states.
+pub(crate) fn stated<A: Allocator + Copy>(
     alloc: A,
     note: &str,
     verifiers: &[Box<dyn Verifier>],

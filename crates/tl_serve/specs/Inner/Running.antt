@@ -5,15 +5,17 @@ use Rattle.tl_sequencer.specs.Log.{Log, rings_of}
 use Rattle.tl_archive.specs.Shelves.{Kept}
 use Rattle.tl_ledger.specs.Standing.{Ledger}
 use Rattle.tl_command.specs.Mirror.{LogKey}
+use Rattle.tl_append.specs.Cosigning.{Quorum}
 
--- what a log on a shelf began with: its key, what the shelf kept then and after each call before, and its ledger; and
--- where its shelf is
+-- what a log on a shelf began with: its key, what the shelf kept then and after each call before, and its ledger; where
+-- its shelf is, and who must cosign what is shown there
 pub record Begun : Type 0 where
   pub key : LogKey
   pub kept : Kept
   pub saw : List Kept
   pub was : Ledger
   pub place : Bytes
+  pub quorum : Quorum
 
 -- what holds of it holds, and its lanes are those that it had, and what it began with: the ends of its submitters are
 -- its ends

@@ -6,33 +6,34 @@ use Rattle.tl_hash.specs.Tree.{tree_hash}
 use Rattle.tl_hash.specs.declared.head.Head.{Head}
 use Rattle.tl_note.specs.Key.{IsKeyName}
 use Rattle.tl_sequencer.specs.Intake.{Intake}
-use Rattle.tl_sequencer.specs.Log.{entries_of}
+use Rattle.tl_sequencer.specs.Log.{entries_of as taken_of}
 use Rattle.tl_sequencer.specs.Merge.{IsMerge}
 use Rattle.tl_sequencer.specs.Steps.{IsComplete, sent_of}
 use Rattle.tl_ledger.specs.Opening.{Found}
 use Rattle.tl_ledger.specs.Standing.{IsStanding, Ledger}
 use Rattle.tl_command.specs.Mirror.{LogKey}
 use Rattle.tl_command.specs.declared.fault.RunFault.{RunFault}
-use Rattle.tl_append.specs.Appending.{Appends, AppendsAtMost, AppendsThen, Course, joined}
+use Rattle.tl_append.specs.Appending.{Course}
+use Rattle.tl_append.specs.Cosigning.{Quorum, ShowsAtMost, ShowsBatch, ShowsThen, Turn, entries_of}
 use Rattle.tl_append.specs.Running.{Visit}
 use Rattle.tl_serve.specs.Serving.{IsLeft, ServesPart, ServesWhole}
 
--- since it began, what was let go of what its lanes gave was appended in batches, each published under the log's key,
--- and then put behind the log; where no publication is due all is published, and nothing waits
-pub record IsServing {A : Type 0} (key : LogKey) (c : Course) (intake : Intake A) (is_due : Bool) : Type 0 where
+-- since it began, what was let go of what its lanes gave was appended in turns, each shown under the log's key with its
+-- quorum, and then put behind the log; where no publication is due all is shown, and nothing waits
+pub record IsServing {A : Type 0} (key : LogKey) (q : Quorum) (c : Course) (intake : Intake A) (is_due : Bool) : Type 0 where
   pub named : IsKeyName key.name
-  pub batches : List (List Bytes)
+  pub turns : List Turn
   pub rest : List Bytes
-  pub appends : AppendsThen key batches rest c
-  pub own : joined batches ++ rest ≡ intake.drained
+  pub shows : ShowsThen key q turns rest c
+  pub own : entries_of turns ++ rest ≡ intake.drained
   pub all : is_due ≡ false → rest ≡ []
   pub none : is_due ≡ false → intake.waiting ≡ []
 
 -- what waited is published, and let go; or nothing was due; or it was published, put, or left, as the shelf failed
-abbrev pub Seals : {A : Type 0} → LogKey → Course → Intake A → Intake A → Result Bool RunFault → Type 0
-Seals key c a b (Ok true) = Appends key (a.waiting ∷ []) c × (b.drained ≡ a.log.taken) × (b.log ≡ a.log)
-Seals key c a b (Ok false) = (a.waiting ≡ []) × (b ≡ a) × (c.is ≡ c.was) × (c.after ≡ c.before) × (c.sees ≡ c.saw)
-Seals key c a b (Err told) = AppendsAtMost key a.waiting c × (b.log ≡ a.log)
+abbrev pub Seals : {A : Type 0} → LogKey → Quorum → Course → Intake A → Intake A → Result Bool RunFault → Type 0
+Seals key q c a b (Ok true) = ShowsBatch key q a.waiting c × (b.drained ≡ a.log.taken) × (b.log ≡ a.log)
+Seals key q c a b (Ok false) = (a.waiting ≡ []) × (b ≡ a) × (c.is ≡ c.was) × (c.after ≡ c.before) × (c.sees ≡ c.saw)
+Seals key q c a b (Err told) = ShowsAtMost key q a.waiting c × (b.log ≡ a.log)
 
 -- size and root of the log that the ledger is of
 abbrev pub IsHeadOf : Ledger → Option Head → Type 0
@@ -45,10 +46,10 @@ IsHeadOf ledger (Some head) =
 pub record IsClosed {A : Type 0} (intake : Intake A) (is_due : Bool) : Type 0 where
   pub none_due : is_due ≡ false
   pub complete : IsComplete intake.log
-  pub merge : IsMerge (entries_of intake.log) [] (sent_of intake.log)
-  pub given : entries_of intake.log ≡ intake.drained ++ intake.waiting
+  pub merge : IsMerge (taken_of intake.log) [] (sent_of intake.log)
+  pub given : taken_of intake.log ≡ intake.drained ++ intake.waiting
 
 -- how a log is served once its key is known
-abbrev pub ServesUnder : LogKey → Found → Visit → Result (Unit {0}) RunFault → Type 0
-ServesUnder key found v (Ok done) = ServesWhole key found v
-ServesUnder key found v (Err fault) = IsLeft v ⊎ ServesPart key found v
+abbrev pub ServesUnder : LogKey → Quorum → Found → Visit → Result (Unit {0}) RunFault → Type 0
+ServesUnder key q found v (Ok done) = ServesWhole key q found v
+ServesUnder key q found v (Err fault) = IsLeft v ⊎ ServesPart key q found v

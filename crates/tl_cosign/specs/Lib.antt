@@ -1,0 +1,5 @@
+-- The definitions of asking witnesses about what a log proposes (C2SP tlog-witness, tlog-cosignature).
+pub mod Growing
+pub mod Proposing
+pub mod Lines
+pub mod Inner

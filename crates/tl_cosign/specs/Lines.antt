@@ -1,0 +1,17 @@
+-- The line by which a witness cosigns a note (C2SP signed-note, "Format"; tlog-cosignature, "Format").
+use Rattle.std.specs.Prelude.{◌≡◌, ℕ, List}
+use Rattle.tl_hash.specs.Bytes.{Bytes}
+use Rattle.tl_note.specs.Key.{Key}
+use Rattle.tl_note.specs.Note.{IsSignature, Note, Signature, signature_line}
+use Rattle.tl_checkpoint.specs.Cosignature.{IsCosignature}
+
+-- the line is one signature line, and by it this key cosigns the text of this note, at some time
+pub record CosignsNote (key : Key) (note line : Bytes) : Type 0 where
+  pub text : Bytes
+  pub lines : List Signature
+  pub noted : Note note text lines
+  pub signature : Signature
+  pub lawful : IsSignature signature
+  pub spelled : line ≡ signature_line signature
+  pub time : ℕ
+  pub valid : IsCosignature text key signature time

@@ -1,0 +1,121 @@
+//! Asking one witness about what a log proposes.
+
+ghost use Rattle.std.specs.Prelude.{◌≡◌, ◌++◌, IfOk, IfSome, OnOk, map, string_bytes};
+ghost use Rattle.tl_note.specs.Note.{Signature, signature_line};
+ghost use Rattle.tl_cosign.specs.Lines.{CosignsNote};
+ghost use Rattle.tl_cosign.specs.Proposing.{IsSignedBy};
+
+use crate::growing::growth_from;
+use crate::proposed::{AsksWitness, Proposed};
+use crate::unasked::Unasked;
+use std::alloc::{AllocError, Global};
+use tl_ask::{AskFault, Question, WitnessAnswer};
+use tl_checkpoint::check_cosignature;
+use tl_client::ResourceSource;
+use tl_note::{NoteFault, SigView, Verifier, parse_note, parse_signatures};
+
+// How often a witness is asked that tells of another size each time.
+const MOST_TRIES: u32 = 4;
+
+// The lines that a witness answers with, which is asked with the proof from the size that it tells.
+fn lines_of<S: ResourceSource, Q: AsksWitness>(
+    alloc: Global,
+    source: &S,
+    proposed: &Proposed<'_>,
+    known: &mut u64,
+    asker: &mut Q,
+) -> Result<String, Unasked>
+    requires { IsSignedBy proposed.now.origin.now
+        (map (λ v. key v) proposed.now.log.now) proposed.now.note.now proposed.now.head.now }
+{
+    for _ in 0..MOST_TRIES {
+        let old = *known;
+        let proof = match growth_from(alloc, source, proposed.head, old) {
+            Ok(proof) => proof,
+            Err(fault) => return Err(Unasked::Growth(fault)),
+        };
+        let question = Question {
+            old,
+            proof: proof.as_slice(),
+            note: proposed.note,
+        };
+        match asker.ask(source, proposed, &question)? {
+            WitnessAnswer::Cosigned(lines) => return Ok(lines),
+            WitnessAnswer::At(size) => *known = size,
+        }
+    }
+    Err(Unasked::Restless)
+}
+
+// Whether a line is a cosignature of this text by the witness.
+fn is_by(
+    alloc: Global,
+    text: &str,
+    line: &SigView<'_>,
+    witness: &Box<dyn Verifier>,
+) -> Result<bool, AllocError> {
+    Ok(check_cosignature(alloc, text, line, &**witness)?.is_some())
+}
+
+// A line, as it stands in a note.
+fn text_of(alloc: Global, line: &SigView<'_>) -> Result<String, AllocError>
+    ensures { IfOk result (λ text. string_bytes text ≡ signature_line line.now) }
+{
+    let mut text = String::new(alloc);
+    line.push_to(&mut text)?;
+    Ok(text)
+}
+
+// The first of these lines by which the witness cosigned the text of a note, as it stands in a note.
+fn own_line(
+    alloc: Global,
+    note: &str,
+    lines: &str,
+    witness: &Box<dyn Verifier>,
+) -> Result<String, Unasked>
+    ensures { IfOk result (λ line. CosignsNote (key witness.now) note.now (string_bytes line)) }
+{
+    let Ok(view) = parse_note(alloc, note) else {
+        return Err(Unasked::Ask(AskFault::OutOfMemory));
+    };
+    let views = match parse_signatures(alloc, lines) {
+        Ok(views) => views,
+        Err(NoteFault::OutOfMemory) => return Err(Unasked::Ask(AskFault::OutOfMemory)),
+        Err(_) => return Err(Unasked::Other),
+    };
+    for line in views.iter() {
+        if is_by(alloc, view.text, line, witness)? {
+            return Ok(text_of(alloc, line)?);
+        }
+    }
+    Err(Unasked::Other)
+}
+
+/// The line by which the witness cosigns the checkpoint (C2SP tlog-cosignature), asked with the proof from the size that
+/// it is known to have, and again from each size that it tells, four times at most. `known` is then the size that it told
+/// last, or that of the checkpoint. `Other`: none of the lines that it answers is of this checkpoint and by its key.
+pub fn line_of<S: ResourceSource, Q: AsksWitness>(
+    alloc: Global,
+    source: &S,
+    proposed: &Proposed<'_>,
+    known: &mut u64,
+    asker: &mut Q,
+    witness: &Box<dyn Verifier>,
+) -> Result<String, Unasked>
+    requires { IsSignedBy proposed.now.origin.now
+        (map (λ v. key v) proposed.now.log.now) proposed.now.note.now proposed.now.head.now }
+    ensures line { IfOk result
+        (λ line. CosignsNote (key witness.now) proposed.now.note.now (string_bytes line)) }
+    ensures known { OnOk result (known.new ≡ proposed.now.head.now.size) }
+{
+    let lines = match lines_of(alloc, source, proposed, known, asker) {
+        Ok(lines) => lines,
+        Err(why) => return Err(why),
+    };
+    let line = match own_line(alloc, proposed.note, lines.as_str(), witness) {
+        Ok(line) => line,
+        Err(why) => return Err(why),
+    };
+    *known = proposed.head.size;
+    Ok(line)
+}

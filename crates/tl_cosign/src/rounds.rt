@@ -1,0 +1,103 @@
+//! Asking one witness in each round of a ballot.
+
+ghost use Rattle.std.specs.Prelude.{◌≡◌, ◌≤◌, ◌*◌, IfSome, IfOk, map, min, string_bytes};
+ghost use Rattle.tl_cosign.specs.Lines.{CosignsNote};
+
+use crate::asking::line_of;
+use crate::ballot::Ballot;
+use crate::proposed::{AsksWitness, LogKeys, Proposed};
+use crate::unasked::Unasked;
+use std::alloc::Global;
+use std::sync::Wait;
+use std::time::{Clock, Duration};
+use tl_ask::AskFault;
+use tl_checkpoint::{OpenCheckpointFault, open_checkpoint};
+use tl_client::{Head, ResourceSource};
+use tl_note::Verifier;
+
+// How many seconds pass before a witness is asked again that gave no line: at first, and at most.
+const FIRST_PAUSE: u64 = 1;
+
+const MOST_PAUSE: u64 = 60;
+
+// How many seconds pass after so many.
+fn next_pause(pause: u64) -> u64
+    requires { pause ≤ 60 }
+    ensures { result ≡ min (2 * pause) 60 }
+{
+    (2 * pause).min(MOST_PAUSE)
+}
+
+// The line by which a witness cosigns a note, where it is of the log. None where it isn't, so that nobody is asked.
+fn line_by<S: ResourceSource, Q: AsksWitness>(
+    alloc: Global,
+    source: &S,
+    log: &LogKeys<'_>,
+    note: &str,
+    known: &mut u64,
+    asker: &mut Q,
+    witness: &Box<dyn Verifier>,
+) -> Result<Option<String>, Unasked>
+    ensures { IfOk result (λ found. IfSome found
+        (λ line. CosignsNote (key witness.now) note.now (string_bytes line))) }
+{
+    let checkpoint = match open_checkpoint(alloc, note, log.keys) {
+        Ok(checkpoint) => checkpoint,
+        Err(OpenCheckpointFault::OutOfMemory) => return Err(Unasked::Ask(AskFault::OutOfMemory)),
+        Err(_) => return Ok(None),
+    };
+    if checkpoint.origin.as_str() != log.origin {
+        return Ok(None);
+    }
+    let head = Head {
+        size: checkpoint.size,
+        root: checkpoint.root,
+    };
+    let proposed = Proposed {
+        origin: log.origin,
+        log: log.keys,
+        note,
+        head: &head,
+    };
+    match line_of(alloc, source, &proposed, known, asker, witness) {
+        Ok(line) => Ok(Some(line)),
+        Err(why) => Err(why),
+    }
+}
+
+/// Asks the witness at this place in each round of the ballot for the line by which it cosigns the note, until the ballot
+/// ends. After a fault, which who waits is told, it is asked again: a second later, and twice as long after each fault in
+/// a row, 60 seconds at most. A note that the log didn't sign is passed over. What an asker's thread does; it may wait.
+pub fn ask_in_rounds<R: Wait + Clock, S: ResourceSource, Q: AsksWitness>(
+    rt: &R,
+    alloc: Global,
+    ballot: &Ballot,
+    place: usize,
+    source: &S,
+    log: &LogKeys<'_>,
+    asker: &mut Q,
+    witness: &Box<dyn Verifier>,
+) {
+    let (mut known, mut after) = (0, 0);
+    let mut pause = FIRST_PAUSE;
+    for _ in rt.forever() {
+        let Some(round) = ballot.next(rt, place, after) else {
+            return;
+        };
+        let note = round.note.as_str();
+        match line_by(alloc, source, log, note, &mut known, asker, witness) {
+            Ok(Some(line)) => {
+                ballot.put_line(rt, place, round.number, line);
+                pause = FIRST_PAUSE;
+            }
+            Ok(None) => after = round.number.wrapping_add(1),
+            Err(why) => {
+                ballot.put_unasked(rt, place, why);
+                if !ballot.pause(rt, Duration::from_secs(pause)) {
+                    return;
+                }
+                pause = next_pause(pause);
+            }
+        }
+    }
+}

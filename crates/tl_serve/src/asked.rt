@@ -1,0 +1,59 @@
+//! The keys and the addresses of the witnesses that a log asks.
+
+ghost use Rattle.std.specs.Prelude.{◌≡◌, IfOk, IfSome, map, string_bytes};
+ghost use Rattle.tl_key.specs.KeyText.{IsVerifierText};
+ghost use Rattle.tl_key.specs.NoteKey.{cosignature_kind};
+ghost use Rattle.tl_serve.specs.Asking.{AreKeysOf};
+
+use crate::options::AskedWitness;
+use std::alloc::{AllocError, Global};
+use tl_checkpoint::have_distinct_names;
+use tl_command::RunFault;
+use tl_key::{CosignerVerifier, KeyFault, read_verifier_key};
+use tl_note::Verifier;
+use tl_source::Url;
+
+// The verifier's key of a witness that a text is of. `BadKey`: it is of none.
+fn key_of(alloc: Global, text: &str) -> Result<CosignerVerifier<Global>, RunFault>
+    ensures { IfOk result (IsVerifierText cosignature_kind text.now) }
+{
+    match read_verifier_key(alloc, text) {
+        Ok(key) => Ok(key),
+        Err(KeyFault::OutOfMemory) => Err(RunFault::OutOfMemory),
+        Err(_) => Err(RunFault::BadKey),
+    }
+}
+
+/// The verifier keys of these witnesses, in their order. `BadKey`: a text is of none, or two have one name.
+pub(crate) fn keys_of_asked(
+    alloc: Global,
+    asked: &[AskedWitness],
+) -> Result<Vec<Box<dyn Verifier>>, RunFault>
+    ensures { IfOk result (λ keys. AreKeysOf (map (λ w. string_bytes w.key) asked.now)
+        (map (λ w. key w) keys.items)) }
+{
+    let mut keys: Vec<Box<dyn Verifier>> = Vec::new(alloc);
+    for witness in asked {
+        let key = key_of(alloc, witness.key.as_str())?;
+        keys.push(Box::new(alloc, key)?)?;
+    }
+    if !have_distinct_names(keys.as_slice()) {
+        return Err(RunFault::BadKey);
+    }
+    Ok(keys)
+}
+
+/// The addresses of these witnesses, in their order. `BadAddress`: a text is none over HTTP.
+pub(crate) fn urls_of_asked(
+    alloc: Global,
+    asked: &[AskedWitness],
+) -> Result<Vec<Url<'_>>, RunFault> {
+    let mut urls = Vec::new(alloc);
+    for witness in asked {
+        let Some(url) = Url::parse(witness.url.as_str()) else {
+            return Err(RunFault::Malformed);
+        };
+        urls.push(url)?;
+    }
+    Ok(urls)
+}

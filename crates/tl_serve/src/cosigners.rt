@@ -1,0 +1,123 @@
+//! The threads that ask witnesses to cosign what a log proposes, and who waits for them.
+
+use crate::host::Host;
+use crate::options::AskedWitness;
+use crate::shared_writer::SharedWriter;
+use std::alloc::Global;
+use std::io::Write;
+use std::net::{Net, TcpStream};
+use std::sync::Wait;
+use std::thread::{JoinHandle, Scope};
+use std::time::Duration;
+use tl_append::{AsksCosigners, ProposalStore};
+use tl_archive::Shelf;
+use tl_command::{RunFault, print_text};
+use tl_cosign::{Ballot, BallotEvent, HttpWitness, LogKeys, ShelfReader, Unasked, ask_in_rounds};
+use tl_device::Counted;
+use tl_hash::Head;
+use tl_note::Verifier;
+use tl_source::Url;
+
+/// Who proposes what the threads of a ballot ask witnesses about, waits until so many have cosigned it, and tells why
+/// others haven't.
+#[derive(Drop)]
+pub(crate) struct Proposer<'b, H, L> {
+    pub(crate) rt: &'b H,
+    pub(crate) alloc: Global,
+    pub(crate) ballot: &'b Ballot,
+    pub(crate) asked: &'b [AskedWitness],
+    pub(crate) need: usize,
+    pub(crate) out: Counted<SharedWriter<'b, H, L>>,
+}
+
+// The name that the text of a verifier key begins with.
+fn name_of(text: &str) -> &str {
+    match text.find('+') {
+        Some(end) => &text[..end],
+        None => text,
+    }
+}
+
+impl<H: Wait, L: Write> Proposer<'_, H, L> {
+    // Tells why a witness gave no cosignature.
+    fn tell(&mut self, place: usize, why: Unasked) -> Result<(), RunFault> {
+        let Some(witness) = self.asked.get(place) else {
+            return Ok(());
+        };
+        let name = name_of(witness.key.as_str());
+        let line = format!(in self.alloc; "witness {name}: {why}\n")?;
+        print_text(&mut self.out, line.as_bytes())
+    }
+}
+
+impl<H: Wait, L: Write> AsksCosigners for Proposer<'_, H, L> {
+    fn ask<P: ProposalStore>(
+        &mut self,
+        _store: &P,
+        note: &str,
+        _head: &Head,
+    ) -> Result<String, RunFault> {
+        self.ballot.propose(self.rt, note)?;
+        for _ in 0..u64::MAX {
+            match self.ballot.wait(self.rt, self.need)? {
+                BallotEvent::Enough(lines) => return Ok(lines),
+                BallotEvent::Unasked(place, why) => self.tell(place, why)?,
+                BallotEvent::Ended => break,
+            }
+        }
+        Err(RunFault::Operator)
+    }
+}
+
+/// What the threads of a ballot share.
+#[derive(Drop)]
+pub(crate) struct Asking<'b, H> {
+    pub(crate) rt: &'b H,
+    pub(crate) alloc: Global,
+    pub(crate) ballot: &'b Ballot,
+    pub(crate) origin: &'b str,
+    pub(crate) log: &'b [Box<dyn Verifier>],
+    pub(crate) witnesses: &'b [Box<dyn Verifier>],
+    pub(crate) urls: &'b [Url<'b>],
+    pub(crate) limit: Duration,
+}
+
+impl<'b, H: Host + Net<Stream = TcpStream>> Asking<'b, H> {
+    // Asks the witness at this place in each round, with proofs from what the shelf has.
+    fn ask<P: Shelf>(&self, place: usize, shelf: P) {
+        let (Some(witness), Some(url)) = (self.witnesses.get(place), self.urls.get(place)) else {
+            return;
+        };
+        let mut asker = HttpWitness {
+            rt: self.rt,
+            alloc: self.alloc,
+            url: *url,
+            limit: self.limit,
+        };
+        let log = LogKeys {
+            origin: self.origin,
+            keys: self.log,
+        };
+        let (rt, source) = (self.rt, ShelfReader(shelf));
+        ask_in_rounds(
+            rt, self.alloc, self.ballot, place, &source, &log, &mut asker, witness,
+        );
+    }
+
+    /// Starts a thread for each witness, which reads what proofs need of a shelf of its own. `OutOfMemory`: one can't be
+    /// started.
+    pub(crate) fn start<'s, E, P: Shelf + Send + Drop + 's>(
+        &'s self,
+        scope: &'s Scope<'s, E>,
+        shelves: Vec<P>,
+    ) -> Result<Vec<JoinHandle<()>>, RunFault> {
+        let mut threads = Vec::new(self.alloc);
+        for (place, shelf) in shelves.into_iter().enumerate() {
+            match scope.spawn(move || self.ask(place, shelf)) {
+                Ok(thread) => threads.push(thread)?,
+                Err(_) => return Err(RunFault::OutOfMemory),
+            }
+        }
+        Ok(threads)
+    }
+}
