@@ -1,12 +1,12 @@
 -- Turns whose notes have no lines of witnesses, where nobody has to cosign.
-use Rattle.std.proofs.Common.{inl, ◌≡◌, List, [], ◌∷◌, ◌++◌, refl, sym, ap, subst, ◌∙◌}
+use Rattle.std.proofs.Common.{inl, Some, ◌≡◌, List, [], ◌∷◌, ◌++◌, refl, sym, ap, subst, ◌∙◌}
 use Rattle.std.proofs.lemmas.List.{append-nil}
 use Rattle.tl_hash.specs.Bytes.{Bytes}
 use Rattle.tl_publisher.specs.Histories.{Prefix}
 use Rattle.tl_ledger.specs.Keeping.{published}
 use Rattle.tl_command.specs.Mirror.{LogKey, checkpoint_note}
-use Rattle.tl_append.specs.Appending.{Appends, AppendsAtMost, AppendsThen, Course, IsPutOrNot, joined, published_after}
-use Rattle.tl_append.specs.Cosigning.{Quorum, ShowsAtMost, ShowsBatch, ShowsThen, Turn, entries_of, shown, shown_after}
+use Rattle.tl_append.specs.Appending.{Appends, AppendsAtMost, AppendsThen, Course, HasCheckpoint, IsPutOrNot, joined, published_after}
+use Rattle.tl_append.specs.Cosigning.{HasCosigned, Quorum, ShowsAtMost, ShowsBatch, ShowsThen, Turn, entries_of, shown, shown_after}
 use Rattle.tl_append.specs.Inner.Turns.{turn}
 use Rattle.tl_append.proofs.Turns.{kept_as, nothing_then, safe_as}
 
@@ -57,3 +57,8 @@ plain_at_most key batch c most = record {
   shows = shows_plain key most.batches most.rest c most.appends;
   own = subst (λ (es : List Bytes). IsPutOrNot batch (es ++ most.rest) c) (sym (plain_entries most.batches)) most.own;
 }
+
+-- its checkpoint has the quorum of nobody
+pub plain_cosigned : (key : LogKey) (batch : List Bytes) (c : Course) → HasCheckpoint key batch c → HasCosigned key nobody batch c
+plain_cosigned key batch c there = λ h log keeps.
+    ([], there h log keeps ∙ ap (λ (n : Bytes). Some n) (sym (append-nil (checkpoint_note key (log ++ batch)))), inl refl)

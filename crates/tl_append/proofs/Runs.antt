@@ -16,7 +16,6 @@ use Rattle.tl_command.specs.Mirror.{LogKey}
 use Rattle.tl_command.specs.declared.keys.LogKey.{LogKey as GivenKey}
 use Rattle.tl_command.specs.declared.keys.LogKey.TheVariants as given
 use Rattle.tl_append.specs.Appending.{AppendsLines, AppendsSome, AppendsThen, AreBatches, joined, published_after}
-use Rattle.tl_append.specs.Cosigning.{Quorum, Shows, ShowsThen, Turn}
 use Rattle.tl_append.specs.Running.{GoesOnPart, GoesOnWhole, Grows, IsLogKey, IsResting, OfFound, Stays, Visit, WroteHeads}
 use Rattle.tl_append.proofs.Turns.{along}
 
@@ -37,7 +36,7 @@ stayed a saw x f = record { kept = refl; trace = refl; unread = (Keeps-refl x, r
 
 module _ (key : LogKey) (keys : List Key) (found : Found) (a b : Kept) (saw sees : List Kept) (was is : Ledger) (opens : Opens sha256 keys found was) where
   -- what comes of a log at which the ledger stands
-  of_found : (Comes : List Prefix → List Bytes → Type 0) → ((h : List Prefix) (log : List Bytes) → IsKeeping sha256 h log a was → Comes h log) → OfFound found a Comes
+  pub of_found : (Comes : List Prefix → List Bytes → Type 0) → ((h : List Prefix) (log : List Bytes) → IsKeeping sha256 h log a was → Comes h log) → OfFound found a Comes
   of_found Comes comes h log of rests =
       elim (opens.stands log of) as (λ _. FoundCollides sha256 found log ⊎ Comes h log) [
         | inl stands ↦ inr (comes h log (keeping h log a was stands rests))
@@ -65,15 +64,6 @@ module _ (key : LogKey) (keys : List Key) (found : Found) (a b : Kept) (saw sees
   grows_then batches rest appends = of_found (Grows key batches rest (between a b saw sees)) (λ h log keeps. record {
     rests = resting _ _ b is (appends.kept h log keeps);
     safe = appends.safe h log keeps;
-  })
-
-  -- turns that were shown, and what was put after them
-  pub shows_then : (q : Quorum) (turns : List Turn) (rest : List Bytes) → ShowsThen key q turns rest (along a b saw sees was is)
-      → OfFound found a (Shows key q turns rest (between a b saw sees))
-  shows_then q turns rest shows = of_found (Shows key q turns rest (between a b saw sees)) (λ h log keeps. record {
-    rests = resting _ _ b is (shows.kept h log keeps);
-    safe = shows.safe h log keeps;
-    cosigned = shows.cosigned h log keeps;
   })
 
   pub part_run : (i : Passage) → AppendsSome key (along a b saw sees was is) i → GoesOnPart key found (between a b saw sees) i

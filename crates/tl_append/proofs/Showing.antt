@@ -6,14 +6,17 @@ use Rattle.std.proofs.lemmas.List.Elements.{All-append, All-nil}
 use Rattle.std.proofs.lemmas.Grind.{flat_map-append}
 use Rattle.sha2.specs.Sha256.{sha256}
 use Rattle.tl_hash.specs.Bytes.{Bytes}
+use Rattle.tl_note.specs.Key.{Key}
 use Rattle.tl_publisher.specs.Histories.{Prefix}
 use Rattle.tl_archive.specs.Shelves.{Kept}
 use Rattle.tl_archive.specs.Complete.{IsSafe, KeptSafe}
 use Rattle.tl_ledger.specs.Standing.{Ledger}
 use Rattle.tl_ledger.specs.Keeping.{IsKeeping}
+use Rattle.tl_ledger.specs.Opening.{Found, Opens}
 use Rattle.tl_command.specs.Mirror.{LogKey}
-use Rattle.tl_append.specs.Appending.{Course}
-use Rattle.tl_append.specs.Cosigning.{HasQuorum, Quorum, ShowsThen, Turn, entries_of, shown, shown_after}
+use Rattle.tl_append.specs.Cosigning.{HasQuorum, Quorum, Shows, ShowsThen, Turn, entries_of, shown, shown_after}
+use Rattle.tl_append.specs.Running.{OfFound}
+use Rattle.tl_append.proofs.Runs.{between, of_found, resting}
 use Rattle.tl_append.proofs.Turns.{along, kept_as, safe_as, safe_on}
 
 -- each of these publications has its quorum
@@ -114,3 +117,15 @@ module _ (key : LogKey) (q : Quorum) (xs : List Turn) (rest : List Bytes) (a m b
           (All-append (λ (p : Prefix). HasQuorum q p.note) (shown_after key log xs) (shown_after key ((log ++ entries_of xs) ++ rest) (y ∷ ys)) (first.cosigned h log keeps)
           (then.cosigned (h ++ shown_after key log xs) ((log ++ entries_of xs) ++ rest) (first.kept h log keeps)));
     }
+
+-- ---- over the log on a shelf
+
+-- turns that were shown, and what was put after them
+pub shows_then : (key : LogKey) (q : Quorum) (keys : List Key) (found : Found) (a b : Kept) (saw sees : List Kept) (was is : Ledger) → Opens sha256 keys found was
+    → (turns : List Turn) (rest : List Bytes) → ShowsThen key q turns rest (along a b saw sees was is) → OfFound found a (Shows key q turns rest (between a b saw sees))
+shows_then key q keys found a b saw sees was is opens turns rest shows =
+    of_found key keys found a b saw sees was is opens (Shows key q turns rest (between a b saw sees)) (λ h log keeps. record {
+      rests = resting _ _ b is (shows.kept h log keeps);
+      safe = shows.safe h log keeps;
+      cosigned = shows.cosigned h log keeps;
+    })

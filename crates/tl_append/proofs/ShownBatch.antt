@@ -12,12 +12,12 @@ use Rattle.tl_archive.specs.Complete.{KeptSafe}
 use Rattle.tl_archive.proofs.Lists.{has_head}
 use Rattle.tl_ledger.specs.Standing.{Ledger, IsStanding}
 use Rattle.tl_ledger.specs.Keeping.{IsKeeping, published}
-use Rattle.tl_ledger.specs.Spent.{IsShown}
+use Rattle.tl_ledger.specs.Spent.{IsShown, RemovesSpent}
 use Rattle.tl_command.specs.Mirror.{LogKey, checkpoint_note}
-use Rattle.tl_append.specs.Cosigning.{HasQuorum, Quorum, ShowsAtMost, ShowsBatch, ShowsThen, entries_of, shown, shown_after}
+use Rattle.tl_append.specs.Cosigning.{HasCosigned, HasQuorum, Quorum, ShowsAtMost, ShowsBatch, ShowsThen, entries_of, shown, shown_after}
 use Rattle.tl_append.specs.Inner.Turns.{SealsBatch, turn}
 use Rattle.tl_append.proofs.Showing.{AreCosigned}
-use Rattle.tl_append.proofs.Turns.{along, kept_as, safe_as, safe_both, safe_on}
+use Rattle.tl_append.proofs.Turns.{along, checkpoint_stays, kept_as, safe_as, safe_both, safe_on}
 
 -- what was shown is no more than at most
 pub shown_at_most : (key : LogKey) (q : Quorum) (batch : List Bytes) (lines : Bytes) (a b : Kept) (saw sees : List Kept) (was is : Ledger)
@@ -109,6 +109,10 @@ module _ (key : LogKey) (q : Quorum) (batch : List Bytes) (a m : Kept) (saw mid 
             subst (λ (es : List Bytes). IsShown (h ++ own ∷ []) es b.held) (whole log)
             (checkpoint_note key (log ++ batch) ++ lines, Contains-append_right h (own ∷ []) own (has_head own []),
             there h (log ++ batch) after ∙ ap (λ (n : Bytes). Some n) (same ∙ text_is h (log ++ batch) after));
+        cosigned = λ h log keeps.
+            let after = put h log keeps in
+            (lines, there h (log ++ batch) after ∙ ap (λ (n : Bytes). Some n) (same ∙ text_is h (log ++ batch) after),
+            subst (HasQuorum q) (text_is h (log ++ batch) after) cosigned);
       }
 
       pub not_sealed : ShowsAtMost key q batch (along a b saw sees was now)
@@ -131,3 +135,8 @@ module _ (key : LogKey) (q : Quorum) (batch : List Bytes) (a m b : Kept) (saw mi
 
   pub spent_at_most : is.edge.size ≡ was.edge.size + length batch → ShowsAtMost key q batch (along a b saw sees was is)
   spent_at_most grown = shown_at_most key q batch all.lines a b saw sees was is grown still_shown
+
+  pub spent_cosigned : (size : ℕ) → RemovesSpent size m b → HasCosigned key q batch (along a b saw sees was is)
+  spent_cosigned size spent = λ h log keeps.
+      let one = all.cosigned h log keeps in
+      (one.0, checkpoint_stays size m b spent ∙ one.1, one.2)

@@ -5,11 +5,7 @@ use Rattle.tl_hash.specs.declared.head.Head.{Head}
 use Rattle.tl_note.specs.Key.{Key}
 use Rattle.tl_tile.specs.declared.resource.Resource.TheVariants as resource
 use Rattle.tl_archive.specs.Shelves.{Held}
-use Rattle.tl_ledger.specs.Opening.{IsOfNote}
-
--- STAND-IN until tl_ledger has it
-abbrev pub IsStated : Bytes → List Key → Option Head → Type 0
-IsStated note keys found = (head : Head) × (found ≡ Some head) × IsOfNote note keys head
+use Rattle.tl_ledger.specs.Opening.{IsOfNote, IsStated}
 
 -- a log of so many entries has all that the note states, if there is one, which opens under these keys
 abbrev pub IsNoOlder : Option Bytes → List Key → ℕ → Type 0

@@ -17,7 +17,7 @@ pub struct OpenedLog {
 
 /// A shelf with a log that grows in batches, each shown once it may be, and with who keeps what is proposed before.
 /// Contracts see of the shelf what is there and what is staged, now and after each call so far, and where it is.
-pub trait LogShelf {
+pub trait LogShelf: Drop {
     ghost use Rattle.std.specs.Prelude.{◌≡◌, ◌⊎◌, ℕ, ◌+◌, ◌<◌, ◌^◌, ◌∷◌, [], None, Some, Option, Bool, false, true, List, length, map, vec_items, IfOk, OnErr, OnOk};
     ghost use Rattle.sha2.specs.Sha256.{sha256};
     ghost use Rattle.tl_hash.specs.Bytes.{Bytes};

@@ -7,7 +7,7 @@ ghost use Rattle.tl_tile.specs.declared.resource.Resource.TheVariants as resourc
 ghost use Rattle.tl_ledger.specs.Marks.{IsWithin};
 ghost use Rattle.tl_ledger.specs.Opening.{IsOfNote, Opens, found_size};
 ghost use Rattle.tl_append.specs.Keys.{opening_key_of};
-ghost use Rattle.tl_append.specs.Proposing.{HasProposal, IsNoOlder, IsProposed, IsStated, IsThere};
+ghost use Rattle.tl_append.specs.Proposing.{HasProposal, IsNoOlder, IsProposed, IsThere};
 
 use crate::faults::{outrun, unopened, unproposed};
 use crate::keys::LogOpeningKey;
@@ -18,24 +18,8 @@ use std::snapshot::Snapshot;
 use tl_archive::Shelf;
 use tl_checkpoint::open_checkpoint;
 use tl_command::RunFault;
-use tl_ledger::{Found, Ledger, OpenFault};
+use tl_ledger::{Found, Ledger};
 use tl_note::Verifier;
-
-// STAND-IN until tl_ledger has `Ledger::open_note`, with the clauses of that.
-fn open_note<S: Shelf>(
-    _alloc: Global,
-    _shelf: &S,
-    _note: &str,
-    _verifiers: &[Box<dyn Verifier>],
-    _found: &mut Found<Global>,
-) -> Result<Ledger<Global>, OpenFault>
-    ensures opens { IfOk result
-        (Opens sha256 (map (λ v. key v) _verifiers.now) _found.new) }
-    ensures stated { OnOk result
-        (IsStated _note.now (map (λ v. key v) _verifiers.now) _found.new.head) }
-{
-    Err(OpenFault::OutOfMemory)
-}
 
 // The number of entries of the checkpoint that a proposal is of.
 fn proposed_size(
@@ -115,7 +99,7 @@ fn open_newest<S: Shelf, P: ProposalStore>(
     if size <= shown.ledger.size() {
         return Ok(shown);
     }
-    match open_note(alloc, shelf, note.as_str(), verifiers, found) {
+    match Ledger::open_note(alloc, shelf, note.as_str(), verifiers, found) {
         Ok(ledger) => Ok(OpenedLog {
             ledger,
             is_due: true,
