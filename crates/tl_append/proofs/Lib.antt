@@ -1,5 +1,9 @@
 pub mod Loops
 pub mod Onward
+pub mod PlainTurns
+pub mod Proposals
 pub mod Reading
 pub mod Runs
+pub mod Showing
+pub mod ShownBatch
 pub mod Turns

@@ -24,7 +24,7 @@ abbrev pub between : Kept → Kept → List Kept → List Kept → Visit
 between a b saw sees = record { before = a; after = b; saw = saw; sees = sees }
 
 -- what a ledger keeps rests, and what rests a ledger that stands at it keeps
-resting : (h : List Prefix) (l : List Bytes) (k : Kept) (x : Ledger) → IsKeeping sha256 h l k x → IsResting sha256 h l k
+pub resting : (h : List Prefix) (l : List Bytes) (k : Kept) (x : Ledger) → IsKeeping sha256 h l k x → IsResting sha256 h l k
 resting h l k x keeps = record { begins = keeps.begins; rests = keeps.rests; safe = keeps.safe; whole = keeps.whole }
 
 keeping : (h : List Prefix) (l : List Bytes) (k : Kept) (x : Ledger) → IsStanding sha256 l x → IsResting sha256 h l k → IsKeeping sha256 h l k x
@@ -36,7 +36,7 @@ stayed a saw x f = record { kept = refl; trace = refl; unread = (Keeps-refl x, r
 
 module _ (key : LogKey) (keys : List Key) (found : Found) (a b : Kept) (saw sees : List Kept) (was is : Ledger) (opens : Opens sha256 keys found was) where
   -- what comes of a log at which the ledger stands
-  of_found : (Comes : List Prefix → List Bytes → Type 0) → ((h : List Prefix) (log : List Bytes) → IsKeeping sha256 h log a was → Comes h log) → OfFound found a Comes
+  pub of_found : (Comes : List Prefix → List Bytes → Type 0) → ((h : List Prefix) (log : List Bytes) → IsKeeping sha256 h log a was → Comes h log) → OfFound found a Comes
   of_found Comes comes h log of rests =
       elim (opens.stands log of) as (λ _. FoundCollides sha256 found log ⊎ Comes h log) [
         | inl stands ↦ inr (comes h log (keeping h log a was stands rests))

@@ -17,9 +17,9 @@ use Rattle.tl_archive.specs.Complete.{IsComplete, IsSafe, KeptSafe}
 use Rattle.tl_archive.proofs.Lists.{has_head}
 use Rattle.tl_ledger.specs.Standing.{Ledger, IsStanding}
 use Rattle.tl_ledger.specs.Keeping.{IsKeeping, published}
-use Rattle.tl_ledger.specs.Spent.{IsShown}
+use Rattle.tl_ledger.specs.Spent.{IsShown, RemovesSpent}
 use Rattle.tl_command.specs.Mirror.{LogKey, checkpoint_note}
-use Rattle.tl_append.specs.Appending.{Appends, AppendsAtMost, AppendsThen, Course, PrintsHeads, head_line, joined, publication_line, published_after}
+use Rattle.tl_append.specs.Appending.{Appends, AppendsAtMost, AppendsThen, Course, HasCheckpoint, PrintsHeads, head_line, joined, publication_line, published_after}
 use Rattle.tl_append.specs.Inner.Turns.{Publishes, HasShown}
 
 -- a shelf and a ledger before and after
@@ -34,7 +34,7 @@ pub safe_as : (h h' : List Prefix) (saw sees : List Kept) → h ≡ h' → KeptS
 safe_as h h' saw sees eh is = subst (λ (t : List Prefix). KeptSafe sha256 t saw sees) eh is
 
 -- what is safe stays so as the history grows
-safe_wider : (h more : List Prefix) (k : Kept) → IsSafe sha256 h k → IsSafe sha256 (h ++ more) k
+pub safe_wider : (h more : List Prefix) (k : Kept) → IsSafe sha256 h k → IsSafe sha256 (h ++ more) k
 safe_wider h more k safe left may =
     elim (safe left may) as (λ _. IsComplete sha256 (h ++ more) left) [
       | inl none ↦ inl none
@@ -216,12 +216,17 @@ module _ (key : LogKey) (batch : List Bytes) (a m : Kept) (saw mid : List Kept) 
           subst (λ (es : List Bytes). IsShown (h ++ own ∷ []) (log ++ es) b.held) (sym (joined_one batch))
           (checkpoint_note key (log ++ batch), Contains-append_right h (own ∷ []) own (has_head own []), there h (log ++ batch) after ∙ ap (λ (n : Bytes). Some n) is)
 
+      pub one_noted : ((h : List Prefix) (log : List Bytes) → IsKeeping sha256 h log m now → b.held resource.Checkpoint ≡ Some sealed) → HasCheckpoint key batch (along a b saw sees was now)
+      one_noted there h log keeps =
+          let after = put h log keeps in
+          there h (log ++ batch) after ∙ ap (λ (n : Bytes). Some n) (same ∙ signed (log ++ batch) (after.stands.at_edge.0 ∙ sym sized) (sym (rooted (log ++ batch) after.stands)))
+
       pub not_sealed : AppendsAtMost key batch (along a b saw sees was now)
       not_sealed = at_most key batch a b saw sees was now grown one_appended
 
 -- ---- what is spent was removed
 
-safe_both : (h : List Prefix) (saw mid sees : List Kept) → KeptSafe sha256 h saw mid → KeptSafe sha256 h mid sees → KeptSafe sha256 h saw sees
+pub safe_both : (h : List Prefix) (saw mid sees : List Kept) → KeptSafe sha256 h saw mid → KeptSafe sha256 h mid sees → KeptSafe sha256 h saw sees
 safe_both h saw mid sees first then = record {
   steps = first.steps ++ then.steps;
   trace = then.trace ∙ ap (λ (t : List Kept). t ++ then.steps) first.trace ∙ append_assoc saw first.steps then.steps;
@@ -237,3 +242,15 @@ spent_removed key batch a m b saw mid sees was is all shown kept safe = record {
   kept = λ h log keeps. kept _ _ (all.kept h log keeps) (shown h log keeps);
   safe = λ h log keeps. safe_both _ saw mid sees (all.safe h log keeps) (safe _ _ (all.kept h log keeps) (shown h log keeps));
 }
+
+-- the checkpoint stays
+pub checkpoint_stays : (size : ℕ) (m b : Kept) → RemovesSpent size m b → b.held resource.Checkpoint ≡ m.held resource.Checkpoint
+checkpoint_stays size m b spent =
+    elim (spent.others resource.Checkpoint) as (λ _. b.held resource.Checkpoint ≡ m.held resource.Checkpoint) [
+      | inl same ↦ same
+      | inr gone ↦ absurd gone.0
+    ]
+
+pub spent_noted : (key : LogKey) (batch : List Bytes) (a m b : Kept) (saw mid sees : List Kept) (was is : Ledger) (size : ℕ)
+    → HasCheckpoint key batch (along a m saw mid was is) → RemovesSpent size m b → HasCheckpoint key batch (along a b saw sees was is)
+spent_noted key batch a m b saw mid sees was is size there spent = λ h log keeps. checkpoint_stays size m b spent ∙ there h log keeps

@@ -1,5 +1,5 @@
 -- Entries that are appended to a log in batches, each of them published.
-use Rattle.std.specs.Prelude.{◌≡◌, ℕ, ◌+◌, ◌<◌, ◌≤◌, ◌⊎◌, ⊤, List, [], ◌∷◌, ◌++◌, length}
+use Rattle.std.specs.Prelude.{◌≡◌, ℕ, ◌+◌, ◌<◌, ◌≤◌, ◌⊎◌, ⊤, Some, List, [], ◌∷◌, ◌++◌, length}
 use Rattle.std.specs.List.{flat_map}
 use Rattle.sha2.specs.Sha256.{sha256}
 use Rattle.tl_hash.specs.Bytes.{Bytes}
@@ -8,6 +8,7 @@ use Rattle.tl_text.specs.Text.{line, number_text, base64_text}
 use Rattle.tl_device.specs.Device.{Passage, HasFailed, WroteWhole}
 use Rattle.tl_lines.specs.Lines.{Told, Uncut, unread}
 use Rattle.tl_lines.specs.Reading.{TellsOf, TellsAll, all_entries}
+use Rattle.tl_tile.specs.declared.resource.Resource.TheVariants as resource
 use Rattle.tl_publisher.specs.Histories.{Prefix}
 use Rattle.tl_archive.specs.Shelves.{Kept}
 use Rattle.tl_archive.specs.Complete.{KeptSafe}
@@ -66,6 +67,11 @@ pub record AppendsAtMost (key : LogKey) (batch : List Bytes) (c : Course) : Type
   pub rest : List Bytes
   pub appends : AppendsThen key batches rest c
   pub own : IsPutOrNot batch (joined batches ++ rest) c
+
+-- the checkpoint that is there then is that of the log with the batch, under its note by the log's key
+abbrev pub HasCheckpoint : LogKey → List Bytes → Course → Type 0
+HasCheckpoint key batch c = (history : List Prefix) (log : List Bytes) → IsKeeping sha256 history log c.before c.was
+    → c.after.held resource.Checkpoint ≡ Some (checkpoint_note key (log ++ batch))
 
 -- the line of a size and a root
 abbrev pub head_line : ℕ → Bytes → Bytes

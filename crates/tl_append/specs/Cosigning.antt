@@ -1,10 +1,11 @@
 -- Entries that are appended to a log in turns, each shown under the log's note with the lines of witnesses behind it
 -- (C2SP tlog-cosignature, tlog-witness).
-use Rattle.std.specs.Prelude.{◌≡◌, ℕ, ◌⊎◌, List, [], ◌∷◌, ◌++◌}
+use Rattle.std.specs.Prelude.{◌≡◌, ℕ, ◌⊎◌, Some, List, [], ◌∷◌, ◌++◌}
 use Rattle.std.specs.List.{All, flat_map}
 use Rattle.sha2.specs.Sha256.{sha256}
 use Rattle.tl_hash.specs.Bytes.{Bytes}
 use Rattle.tl_note.specs.Key.{Key}
+use Rattle.tl_tile.specs.declared.resource.Resource.TheVariants as resource
 use Rattle.tl_checkpoint.specs.Checkpoint as checkpoint
 use Rattle.tl_checkpoint.specs.Quorum.{AreApart}
 use Rattle.tl_client.specs.Trusted.{IsTrusted}
@@ -59,6 +60,12 @@ pub record ShowsThen (key : LogKey) (q : Quorum) (turns : List Turn) (rest : Lis
 -- a batch was appended and shown, with some lines
 abbrev pub ShowsBatch : LogKey → Quorum → List Bytes → Course → Type 0
 ShowsBatch key q batch c = (lines : Bytes) × ShowsThen key q (record { batch = batch; lines = lines } ∷ []) [] c
+
+-- the checkpoint that is there then is that of the log with the batch, by the log's key, with lines that make its quorum
+abbrev pub HasCosigned : LogKey → Quorum → List Bytes → Course → Type 0
+HasCosigned key q batch c = (history : List Prefix) (log : List Bytes) → IsKeeping sha256 history log c.before c.was
+    → (lines : Bytes) × (c.after.held resource.Checkpoint ≡ Some (checkpoint_note key (log ++ batch) ++ lines))
+    × HasQuorum q (checkpoint_note key (log ++ batch) ++ lines)
 
 -- at most: it was shown, or put behind the log and not shown, or neither
 pub record ShowsAtMost (key : LogKey) (q : Quorum) (batch : List Bytes) (c : Course) : Type 0 where

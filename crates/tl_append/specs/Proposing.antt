@@ -1,12 +1,13 @@
 -- What a log that is opened goes on from, where the note of a checkpoint is kept that it proposed.
-use Rattle.std.specs.Prelude.{◌≡◌, ◌≢◌, ℕ, ◌≤◌, ◌⊎◌, List, Option, Some, None, ⊤}
+use Rattle.std.specs.Prelude.{◌≡◌, ℕ, ◌≤◌, List, Option, Some, None, ⊤}
 use Rattle.tl_hash.specs.Bytes.{Bytes}
 use Rattle.tl_hash.specs.declared.head.Head.{Head}
 use Rattle.tl_note.specs.Key.{Key}
+use Rattle.tl_tile.specs.declared.resource.Resource.TheVariants as resource
 use Rattle.tl_archive.specs.Shelves.{Held}
-use Rattle.tl_ledger.specs.Opening.{IsOfHeld, IsOfNote}
+use Rattle.tl_ledger.specs.Opening.{IsOfNote, IsStated}
 
--- a log of so many entries has all of the proposal that is kept, if one is: the note opens under these keys
+-- a log of so many entries has all that the note states, if there is one, which opens under these keys
 abbrev pub IsNoOlder : Option Bytes → List Key → ℕ → Type 0
 IsNoOlder None keys size = ⊤
 IsNoOlder (Some note) keys size = (head : Head) × IsOfNote note keys head × (head.size ≤ size)
@@ -15,10 +16,10 @@ IsNoOlder (Some note) keys size = (head : Head) × IsOfNote note keys head × (h
 abbrev pub HasProposal : (Option Bytes → Type 0) → List Key → ℕ → Type 0
 HasProposal MayHave keys size = (note : Option Bytes) × MayHave note × IsNoOlder note keys size
 
+-- the size and the root are those of a proposal that may be kept
+abbrev pub IsProposed : (Option Bytes → Type 0) → List Key → Option Head → Type 0
+IsProposed MayHave keys found = (note : Bytes) × MayHave (Some note) × IsStated note keys found
+
 -- a checkpoint is there, which states the size and the root
 abbrev pub IsThere : Held → List Key → Option Head → Type 0
-IsThere held keys found = (found ≢ None) × IsOfHeld held keys found
-
--- STAND-IN until tl_ledger has it
-abbrev pub IsStated : Bytes → List Key → Option Head → Type 0
-IsStated note keys found = (head : Head) × (found ≡ Some head) × IsOfNote note keys head
+IsThere held keys found = (note : Bytes) × (held resource.Checkpoint ≡ Some note) × IsStated note keys found

@@ -9,7 +9,7 @@ ghost use Rattle.tl_publisher.specs.Histories.{Prefix};
 ghost use Rattle.tl_archive.specs.Complete.{KeptSafe};
 ghost use Rattle.tl_ledger.specs.Keeping.{IsKeeping};
 ghost use Rattle.tl_ledger.specs.Spent.{LacksSpent};
-ghost use Rattle.tl_append.specs.Appending.{Appends, AppendsAtMost, course};
+ghost use Rattle.tl_append.specs.Appending.{Appends, AppendsAtMost, HasCheckpoint, course};
 ghost use Rattle.tl_append.specs.Inner.Turns.{HasShown};
 
 use crate::faults::{unkept, unput};
@@ -67,6 +67,8 @@ fn publish_batch<K: LogSigner, S: Shelf>(
         (course S.kept S.trace shelf.old shelf.new ledger.old ledger.new)) }
     ensures shown { OnOk result (HasShown (K.log_key key.now) (map vec_items batch.now)
         (course S.kept S.trace shelf.old shelf.new ledger.old ledger.new)) }
+    ensures there { OnOk result (HasCheckpoint (K.log_key key.now) (map vec_items batch.now)
+        (course S.kept S.trace shelf.old shelf.new ledger.old ledger.new)) }
     ensures sized { OnOk result
         (ledger.new.edge.size ≡ ledger.old.edge.size + length batch.now) }
     ensures small { OnOk result (ledger.new.edge.size < 2 ^ 32) }
@@ -106,6 +108,8 @@ pub fn append_batch<K: LogSigner, S: Shelf>(
     requires origin { IsKeyName (K.log_key key.now).name }
     requires short { AreShortEntries (map vec_items batch.now) }
     ensures all { OnOk result (Appends (K.log_key key.now) (map vec_items batch.now ∷ [])
+        (course S.kept S.trace shelf.old shelf.new ledger.old ledger.new)) }
+    ensures there { OnOk result (HasCheckpoint (K.log_key key.now) (map vec_items batch.now)
         (course S.kept S.trace shelf.old shelf.new ledger.old ledger.new)) }
     ensures sized { OnOk result
         (ledger.new.edge.size ≡ ledger.old.edge.size + length batch.now) }

@@ -1,8 +1,12 @@
 //! Shelves whose log is shown once enough witnesses cosigned it.
 
-ghost use Rattle.std.specs.Prelude.{◌≡◌, ◌++◌, string_bytes, IfOk, Option};
+ghost use Rattle.std.specs.Prelude.{◌≡◌, ◌+◌, ◌<◌, ◌^◌, ◌++◌, length, map, string_bytes, vec_items, IfOk, OnErr, OnOk, Option, Some};
 ghost use Rattle.tl_hash.specs.Bytes.{Bytes};
-ghost use Rattle.tl_append.specs.Cosigning.{HasQuorum};
+ghost use Rattle.tl_note.specs.Key.{IsKeyName};
+ghost use Rattle.tl_tile.specs.Bundle.{AreShortEntries};
+ghost use Rattle.tl_append.specs.Appending.{course};
+ghost use Rattle.tl_append.specs.Cosigning.{HasQuorum, ShowsAtMost};
+ghost use Rattle.tl_append.specs.Inner.Turns.{SealsBatch};
 
 use crate::batch::put_batch;
 use crate::cosigners::{AsksCosigners, ChecksCosigned};
@@ -16,6 +20,38 @@ use tl_archive::Shelf;
 use tl_command::{LogSigner, RunFault, sign_checkpoint};
 use tl_hash::Head;
 use tl_ledger::{Found, Ledger};
+
+// The note of a checkpoint of this size and root, kept as what is proposed, and behind it lines by which enough
+// witnesses cosigned it.
+fn cosign<P: ProposalStore, Q: AsksCosigners, C: ChecksCosigned>(
+    alloc: Global,
+    store: &mut P,
+    asker: &mut Q,
+    quorum: &C,
+    note: String,
+    head: &Head,
+) -> Result<String, RunFault>
+    ensures lines { IfOk result (λ text. (lines : Bytes)
+        × (string_bytes text ≡ string_bytes note ++ lines)) }
+    ensures quorum { IfOk result
+        (λ text. HasQuorum (C.quorum quorum.now) (string_bytes text)) }
+    ensures kept { OnOk result (P.has_kept store.new (string_bytes note)) }
+{
+    match store.keep(note.as_str()) {
+        Ok(()) => {}
+        Err(fault) => return Err(fault),
+    }
+    let lines = match asker.ask(store, note.as_str(), head) {
+        Ok(lines) => lines,
+        Err(fault) => return Err(fault),
+    };
+    let mut text = note;
+    text.push_str(lines.as_str())?;
+    match quorum.check(alloc, text.as_str()) {
+        Ok(()) => Ok(text),
+        Err(fault) => Err(fault),
+    }
+}
 
 /// A shelf whose log is shown with the lines of enough witnesses (C2SP tlog-cosignature). Before anybody is asked, the
 /// note is kept that is proposed.
@@ -46,6 +82,8 @@ impl<
         ensures kept { ⟦<CosignedShelf<S, P, Q, C> as LogShelf>⟧.kept result ≡ S.kept shelf }
         ensures trace { ⟦<CosignedShelf<S, P, Q, C> as LogShelf>⟧.trace result ≡ S.trace shelf }
         ensures place { ⟦<CosignedShelf<S, P, Q, C> as LogShelf>⟧.place result ≡ S.place shelf }
+        ensures mark { ⟦<CosignedShelf<S, P, Q, C> as LogShelf>⟧.published result
+            ≡ S.published shelf }
         ensures quorum { ⟦<CosignedShelf<S, P, Q, C> as LogShelf>⟧.quorum result
             ≡ C.quorum quorum }
         ensures may_have { (note : Option Bytes)
@@ -61,29 +99,53 @@ impl<
         }
     }
 
-    // The note of a checkpoint of this size and root, kept as what is proposed, and behind it lines by which enough
-    // witnesses cosigned it.
-    fn cosigned(&mut self, alloc: Global, note: String, head: &Head) -> Result<String, RunFault>
-        ensures lines { IfOk result (λ text. (lines : Bytes)
-            × (string_bytes text ≡ string_bytes note ++ lines)) }
-        ensures quorum { IfOk result (λ text. HasQuorum (C.quorum self.old.quorum)
-            (string_bytes text)) }
-        ensures shelf { self.new.shelf ≡ self.old.shelf }
+    // Puts a batch behind a log, and shows that with lines of enough witnesses.
+    fn show<K: LogSigner>(
+        &mut self,
+        alloc: Global,
+        key: &K,
+        batch: &[Vec<u8>],
+        ledger: &mut Ledger<Global>,
+    ) -> Result<(), RunFault>
+        requires origin { IsKeyName (K.log_key key.now).name }
+        requires short { AreShortEntries (map vec_items batch.now) }
+        ensures all { OnOk result (SealsBatch (K.log_key key.now) (C.quorum self.old.quorum)
+            (map vec_items batch.now)
+            (course S.kept S.trace self.old.shelf self.new.shelf ledger.old ledger.new)) }
+        ensures part { OnErr result (ShowsAtMost (K.log_key key.now) (C.quorum self.old.quorum)
+            (map vec_items batch.now)
+            (course S.kept S.trace self.old.shelf self.new.shelf ledger.old ledger.new)) }
+        ensures sized { OnOk result
+            (ledger.new.edge.size ≡ ledger.old.edge.size + length batch.now) }
+        ensures marked { OnOk result
+            (S.published self.new.shelf ≡ Some ledger.new.edge.size) }
+        ensures small { OnOk result (ledger.new.edge.size < 2 ^ 32) }
+        ensures place { S.place self.new.shelf ≡ S.place self.old.shelf }
         ensures same { self.new.quorum ≡ self.old.quorum }
     {
-        match self.store.keep(note.as_str()) {
+        match put_batch(&mut self.shelf, ledger, batch) {
             Ok(()) => {}
             Err(fault) => return Err(fault),
         }
-        let lines = match self.asker.ask(&self.store, note.as_str(), head) {
-            Ok(lines) => lines,
+        let (size, root) = (ledger.size(), ledger.root());
+        let note = match sign_checkpoint(alloc, alloc, key, size, root) {
+            Ok(note) => note,
             Err(fault) => return Err(fault),
         };
-        let mut text = note;
-        text.push_str(lines.as_str())?;
-        match self.quorum.check(alloc, text.as_str()) {
-            Ok(()) => Ok(text),
-            Err(fault) => Err(fault),
+        let text = match cosign(
+            alloc,
+            &mut self.store,
+            &mut self.asker,
+            &self.quorum,
+            note,
+            &Head { size, root },
+        ) {
+            Ok(text) => text,
+            Err(fault) => return Err(fault),
+        };
+        match ledger.seal(&mut self.shelf, text.as_bytes()) {
+            Ok(()) => Ok(()),
+            Err(fault) => Err(unkept(fault)),
         }
     }
 
@@ -92,6 +154,7 @@ impl<
         ensures kept { S.kept result ≡ ⟦<CosignedShelf<S, P, Q, C> as LogShelf>⟧.kept self }
         ensures trace { S.trace result ≡ ⟦<CosignedShelf<S, P, Q, C> as LogShelf>⟧.trace self }
         ensures place { S.place result ≡ ⟦<CosignedShelf<S, P, Q, C> as LogShelf>⟧.place self }
+        ensures mark { S.published result ≡ ⟦<CosignedShelf<S, P, Q, C> as LogShelf>⟧.published self }
     {
         let CosignedShelf { shelf, .. } = self;
         shelf
@@ -109,6 +172,10 @@ impl<
     ghost trace = { λ l. S.trace l.shelf };
 
     ghost place = { λ l. S.place l.shelf };
+
+    ghost published = { λ l. S.published l.shelf };
+
+    ghost is_honest = { S.is_honest };
 
     ghost quorum = { λ l. C.quorum l.quorum };
 
@@ -141,22 +208,9 @@ impl<
         ledger: &mut Ledger<Global>,
     ) -> Result<(), RunFault> {
         let from = ledger.size();
-        match put_batch(&mut self.shelf, ledger, batch) {
+        match self.show(alloc, key, batch, ledger) {
             Ok(()) => {}
             Err(fault) => return Err(fault),
-        }
-        let (size, root) = (ledger.size(), ledger.root());
-        let note = match sign_checkpoint(alloc, alloc, key, size, root) {
-            Ok(note) => note,
-            Err(fault) => return Err(fault),
-        };
-        let text = match self.cosigned(alloc, note, &Head { size, root }) {
-            Ok(text) => text,
-            Err(fault) => return Err(fault),
-        };
-        match ledger.seal(&mut self.shelf, text.as_bytes()) {
-            Ok(()) => {}
-            Err(fault) => return Err(unkept(fault)),
         }
         if self.keeps_partials {
             return Ok(());

@@ -1,5 +1,8 @@
 //! The witnesses that cosign what a log proposes.
 
+ghost use Rattle.std.specs.Prelude.{map, OnOk};
+ghost use Rattle.tl_append.specs.Cosigning.{HasQuorum};
+
 use crate::proposal::ProposalStore;
 use std::alloc::Global;
 use tl_client::open_cosigned;
@@ -31,6 +34,23 @@ pub trait ChecksCosigned {
     /// Passes a note of a checkpoint that opens under the log's keys, and that enough of the witnesses cosigned.
     fn check(&self, alloc: Global, note: &str) -> Result<(), RunFault>
         ensures { OnOk result (HasQuorum (quorum self.now) note.now) };
+}
+
+// Passes a note that opens under the log's keys and that so many of these witnesses cosigned.
+fn check_cosigned(
+    alloc: Global,
+    note: &str,
+    log: &[Box<dyn Verifier>],
+    witnesses: &[Box<dyn Verifier>],
+    need: u64,
+) -> Result<(), RunFault>
+    ensures { OnOk result (HasQuorum
+        (record { witnesses = map (λ w. key w) witnesses.now; need = need }) note.now) }
+{
+    match open_cosigned(alloc, note, log, witnesses, need) {
+        Ok(_checkpoint) => Ok(()),
+        Err(_) => Err(RunFault::Operator),
+    }
 }
 
 /// So many of these witnesses, and the keys of the log whose checkpoints they cosign.
@@ -71,9 +91,9 @@ impl ChecksCosigned for LogQuorum {
 
     fn check(&self, alloc: Global, note: &str) -> Result<(), RunFault> {
         let (log, witnesses) = (self.log.as_slice(), self.witnesses.as_slice());
-        match open_cosigned(alloc, note, log, witnesses, self.need) {
-            Ok(_checkpoint) => Ok(()),
-            Err(_) => Err(RunFault::Operator),
+        match check_cosigned(alloc, note, log, witnesses, self.need) {
+            Ok(()) => Ok(()),
+            Err(fault) => Err(fault),
         }
     }
 }

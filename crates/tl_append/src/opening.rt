@@ -1,12 +1,13 @@
 //! Opening the log on a shelf under the key of its operator.
 
-ghost use Rattle.std.specs.Prelude.{◌≡◌, ◌∷◌, [], true, false, map, IfOk, OnOk, None, Some};
+ghost use Rattle.std.specs.Prelude.{◌≡◌, ◌⊎◌, ◌∷◌, [], true, false, map, IfOk, OnOk, None, Some};
 ghost use Rattle.sha2.specs.Sha256.{sha256};
 ghost use Rattle.tl_hash.specs.declared.head.Head.{Head as HeadValue};
+ghost use Rattle.tl_tile.specs.declared.resource.Resource.TheVariants as resource;
 ghost use Rattle.tl_ledger.specs.Marks.{IsWithin};
 ghost use Rattle.tl_ledger.specs.Opening.{IsOfNote, Opens, found_size};
 ghost use Rattle.tl_append.specs.Keys.{opening_key_of};
-ghost use Rattle.tl_append.specs.Proposing.{HasProposal, IsStated, IsThere};
+ghost use Rattle.tl_append.specs.Proposing.{HasProposal, IsNoOlder, IsProposed, IsThere};
 
 use crate::faults::{outrun, unopened, unproposed};
 use crate::keys::LogOpeningKey;
@@ -17,24 +18,8 @@ use std::snapshot::Snapshot;
 use tl_archive::Shelf;
 use tl_checkpoint::open_checkpoint;
 use tl_command::RunFault;
-use tl_ledger::{Found, Ledger, OpenFault};
+use tl_ledger::{Found, Ledger};
 use tl_note::Verifier;
-
-// STAND-IN until tl_ledger has `Ledger::open_note`, with the clauses of that.
-fn open_note<S: Shelf>(
-    _alloc: Global,
-    _shelf: &S,
-    _note: &str,
-    _verifiers: &[Box<dyn Verifier>],
-    _found: &mut Found<Global>,
-) -> Result<Ledger<Global>, OpenFault>
-    ensures opens { IfOk result
-        (Opens sha256 (map (λ v. key v) _verifiers.now) _found.new) }
-    ensures stated { OnOk result
-        (IsStated _note.now (map (λ v. key v) _verifiers.now) _found.new.head) }
-{
-    Err(OpenFault::OutOfMemory)
-}
 
 // The number of entries of the checkpoint that a proposal is of.
 fn proposed_size(
@@ -60,6 +45,10 @@ fn open_shown<S: Shelf>(
 ) -> Result<OpenedLog, RunFault>
     ensures opens { IfOk result
         (λ o. Opens sha256 (map (λ v. key v) verifiers.now) found.new o.ledger) }
+    ensures due { IfOk result (λ o. o.is_due ≡ true → found.new.head ≡ None) }
+    ensures shown { S.is_honest ≡ true → OnOk result
+        (IsNoOlder ((S.kept shelf.now).held resource.Checkpoint) (map (λ v. key v) verifiers.now)
+        (found_size found.new.head)) }
     ensures first { IfOk result (λ o. found.new.head ≡ None → o.is_due ≡ true) }
     ensures there { S.is_honest ≡ true → IfOk result (λ o. o.is_due ≡ false
         → IsThere (S.kept shelf.now).held (map (λ v. key v) verifiers.now) found.new.head) }
@@ -85,6 +74,11 @@ fn open_newest<S: Shelf, P: ProposalStore>(
         (λ o. Opens sha256 (map (λ v. key v) verifiers.now) found.new o.ledger) }
     ensures newest { OnOk result (HasProposal (P.may_have store.now)
         (map (λ v. key v) verifiers.now) (found_size found.new.head)) }
+    ensures due { IfOk result (λ o. o.is_due ≡ true → (found.new.head ≡ None)
+        ⊎ IsProposed (P.may_have store.now) (map (λ v. key v) verifiers.now) found.new.head) }
+    ensures shown { S.is_honest ≡ true → OnOk result
+        (IsNoOlder ((S.kept shelf.now).held resource.Checkpoint) (map (λ v. key v) verifiers.now)
+        (found_size found.new.head)) }
     ensures first { IfOk result (λ o. found.new.head ≡ None → o.is_due ≡ true) }
     ensures there { S.is_honest ≡ true → IfOk result (λ o. o.is_due ≡ false
         → IsThere (S.kept shelf.now).held (map (λ v. key v) verifiers.now) found.new.head) }
@@ -105,7 +99,7 @@ fn open_newest<S: Shelf, P: ProposalStore>(
     if size <= shown.ledger.size() {
         return Ok(shown);
     }
-    match open_note(alloc, shelf, note.as_str(), verifiers, found) {
+    match Ledger::open_note(alloc, shelf, note.as_str(), verifiers, found) {
         Ok(ledger) => Ok(OpenedLog {
             ledger,
             is_due: true,
@@ -128,6 +122,11 @@ fn open_by<S: Shelf, P: ProposalStore>(
         (λ o. Opens sha256 (opening_key_of own.now.value ∷ []) found.new o.ledger) }
     ensures newest { OnOk result (HasProposal (P.may_have store.now)
         (opening_key_of own.now.value ∷ []) (found_size found.new.head)) }
+    ensures due { IfOk result (λ o. o.is_due ≡ true → (found.new.head ≡ None)
+        ⊎ IsProposed (P.may_have store.now) (opening_key_of own.now.value ∷ []) found.new.head) }
+    ensures shown { S.is_honest ≡ true → OnOk result
+        (IsNoOlder ((S.kept shelf.now).held resource.Checkpoint) (opening_key_of own.now.value ∷ [])
+        (found_size found.new.head)) }
     ensures first { IfOk result (λ o. found.new.head ≡ None → o.is_due ≡ true) }
     ensures there { S.is_honest ≡ true → IfOk result (λ o. o.is_due ≡ false
         → IsThere (S.kept shelf.now).held (opening_key_of own.now.value ∷ []) found.new.head) }
@@ -156,6 +155,11 @@ pub fn open_ledger<S: Shelf, P: ProposalStore>(
         → OnOk result (IsWithin (found_size found.new.head) (S.published shelf.now)) }
     ensures newest { OnOk result (HasProposal (P.may_have store.now)
         (opening_key_of verifier ∷ []) (found_size found.new.head)) }
+    ensures due { IfOk result (λ o. o.is_due ≡ true → (found.new.head ≡ None)
+        ⊎ IsProposed (P.may_have store.now) (opening_key_of verifier ∷ []) found.new.head) }
+    ensures shown { S.is_honest ≡ true → OnOk result
+        (IsNoOlder ((S.kept shelf.now).held resource.Checkpoint) (opening_key_of verifier ∷ [])
+        (found_size found.new.head)) }
     ensures first { IfOk result (λ o. found.new.head ≡ None → o.is_due ≡ true) }
     ensures there { S.is_honest ≡ true → IfOk result (λ o. o.is_due ≡ false
         → IsThere (S.kept shelf.now).held (opening_key_of verifier ∷ []) found.new.head) }

@@ -1,12 +1,13 @@
 //! A run of the command `append`.
 
-ghost use Rattle.std.specs.Prelude.{◌≡◌, ◌⊎◌, true, false, string_bytes, OnErr, OnOk, None};
+ghost use Rattle.std.specs.Prelude.{◌≡◌, ◌⊎◌, ◌∷◌, [], List, true, false, string_bytes, OnErr, OnOk, None};
 ghost use Rattle.tl_device.specs.Device.{passage};
-ghost use Rattle.tl_note.specs.Key.{IsKeyName};
+ghost use Rattle.tl_note.specs.Key.{IsKeyName, Key};
 ghost use Rattle.tl_ledger.specs.Marks.{IsWithin};
 ghost use Rattle.tl_ledger.specs.Opening.{found_size};
 ghost use Rattle.tl_command.specs.Origins.{RefusesOrigin};
-ghost use Rattle.tl_append.specs.Keys.{log_key_of};
+ghost use Rattle.tl_append.specs.Keys.{log_key_of, opening_key_of};
+ghost use Rattle.tl_append.specs.Proposing.{HasProposal};
 ghost use Rattle.tl_append.specs.Running.{GoesOn, Stays, batch_size, visit};
 ghost use Rattle.tl_append.specs.Inner.Under.{GoesOnUnder};
 
@@ -46,6 +47,9 @@ fn append_under<S: Shelf, P: ProposalStore, R: Read, W: Write>(
         (passage R.remaining reader.old reader.new)) }
     ensures within { options.now.allows_older ≡ false → S.is_honest ≡ true
         → OnOk result (IsWithin (found_size found.new.head) (S.published shelf.old)) }
+    ensures newest { Stays (visit S.kept S.trace shelf.old shelf.new)
+        (passage R.remaining reader.old reader.new) ⊎ HasProposal (P.may_have store.now)
+        (opening_key_of keys.verifier ∷ []) (found_size found.new.head) }
     ensures place { S.place shelf.new ≡ S.place shelf.old }
 {
     let LogKeys { signer, verifier } = keys;
@@ -76,9 +80,9 @@ fn append_under<S: Shelf, P: ProposalStore, R: Read, W: Write>(
 }
 
 /// Appends the lines of the input to the log on the shelf, which begins one where it has none: it is published after so
-/// many entries as the options say, and at the end, and each time a line with size and root is printed. The note of the
-/// checkpoint that was there has to open under the log's key, and its partial tiles and bundle to have its root;
-/// `found` holds what was read. `Taken`: there is a log, and none is to be. `Older`: more entries were published.
+/// many entries as the options say, and at the end, and each time a line with size and root is printed. It goes on from
+/// the checkpoint that was there or the proposal of the store, as `open_ledger` does; `found` holds what was read.
+/// `Taken`: there is a log, and none is to be. `Older`: more entries were published.
 pub fn run_append<H: Files, S: Shelf, P: ProposalStore, R: Read, W: Write>(
     rt: &H,
     alloc: Global,
@@ -101,6 +105,9 @@ pub fn run_append<H: Files, S: Shelf, P: ProposalStore, R: Read, W: Write>(
         (passage R.remaining reader.old reader.new)) }
     ensures within { options.now.allows_older ≡ false → S.is_honest ≡ true
         → OnOk result (IsWithin (found_size found.new.head) (S.published shelf.old)) }
+    ensures newest { Stays (visit S.kept S.trace shelf.old shelf.new)
+        (passage R.remaining reader.old reader.new) ⊎ ((keys : List Key)
+        × HasProposal (P.may_have store.now) keys (found_size found.new.head)) }
     ensures place { S.place shelf.new ≡ S.place shelf.old }
 {
     let origin = options.origin.as_str();

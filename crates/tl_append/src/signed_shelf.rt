@@ -28,6 +28,8 @@ impl<S: Shelf + Drop, P: ProposalStore + Drop> SignedShelf<S, P> {
         ensures kept { ⟦<SignedShelf<S, P> as LogShelf>⟧.kept result ≡ S.kept shelf }
         ensures trace { ⟦<SignedShelf<S, P> as LogShelf>⟧.trace result ≡ S.trace shelf }
         ensures place { ⟦<SignedShelf<S, P> as LogShelf>⟧.place result ≡ S.place shelf }
+        ensures mark { ⟦<SignedShelf<S, P> as LogShelf>⟧.published result
+            ≡ S.published shelf }
         ensures quorum { ⟦<SignedShelf<S, P> as LogShelf>⟧.quorum result
             ≡ record { witnesses = []; need = 0 } }
         ensures may_have { (note : Option Bytes)
@@ -45,6 +47,7 @@ impl<S: Shelf + Drop, P: ProposalStore + Drop> SignedShelf<S, P> {
         ensures kept { S.kept result ≡ ⟦<SignedShelf<S, P> as LogShelf>⟧.kept self }
         ensures trace { S.trace result ≡ ⟦<SignedShelf<S, P> as LogShelf>⟧.trace self }
         ensures place { S.place result ≡ ⟦<SignedShelf<S, P> as LogShelf>⟧.place self }
+        ensures mark { S.published result ≡ ⟦<SignedShelf<S, P> as LogShelf>⟧.published self }
     {
         let SignedShelf { shelf, .. } = self;
         shelf
@@ -59,6 +62,10 @@ impl<S: Shelf + Drop, P: ProposalStore + Drop> LogShelf for SignedShelf<S, P> {
     ghost trace = { λ l. S.trace l.shelf };
 
     ghost place = { λ l. S.place l.shelf };
+
+    ghost published = { λ l. S.published l.shelf };
+
+    ghost is_honest = { S.is_honest };
 
     ghost quorum = { λ _. record { witnesses = []; need = 0 } };
 

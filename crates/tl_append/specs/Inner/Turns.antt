@@ -8,6 +8,7 @@ use Rattle.tl_ledger.specs.Keeping.{IsKeeping}
 use Rattle.tl_ledger.specs.Spent.{IsShown}
 use Rattle.tl_command.specs.Mirror.{LogKey}
 use Rattle.tl_append.specs.Appending.{Appends, Course, PrintsHeads, joined, published_after}
+use Rattle.tl_append.specs.Cosigning.{HasCosigned, Quorum, ShowsThen, Turn, entries_of, shown_after}
 
 -- the checkpoint that is there is that of the log with the batch behind it
 abbrev pub HasShown : LogKey → List Bytes → Course → Type 0
@@ -19,3 +20,15 @@ HasShown key batch c =
 pub record Publishes (key : LogKey) (batch : List Bytes) (c : Course) (o : Passage) : Type 0 where
   pub appends : Appends key (batch ∷ []) c
   pub heads : PrintsHeads key (batch ∷ []) c o
+
+-- a batch with lines of witnesses
+abbrev pub turn : List Bytes → Bytes → Turn
+turn batch lines = record { batch = batch; lines = lines }
+
+-- a batch was shown with some lines, and the checkpoint that is there is that of the log with it
+pub record SealsBatch (key : LogKey) (q : Quorum) (batch : List Bytes) (c : Course) : Type 0 where
+  pub lines : Bytes
+  pub shows : ShowsThen key q (turn batch lines ∷ []) [] c
+  pub there : (history : List Prefix) (log : List Bytes) → IsKeeping sha256 history log c.before c.was
+      → IsShown (history ++ shown_after key log (turn batch lines ∷ [])) ((log ++ entries_of (turn batch lines ∷ [])) ++ []) c.after.held
+  pub cosigned : HasCosigned key q batch c

@@ -1,6 +1,6 @@
 use Rattle.std.proofs.Common.{map, vec_items, arith}
 use Rattle.std.proofs.lemmas.List.{length-map}
-use Rattle.tl_append.proofs.Turns.{at_most, spent_removed}
+use Rattle.tl_append.proofs.Turns.{at_most, spent_noted, spent_removed}
 use Rattle.tl_append.proofs.batch.append_batch.Goals as goal
 
 pub returns-in-Ok-remove_spent-clause-all : goal.returns-in-Ok-remove_spent-clause-all
@@ -17,3 +17,9 @@ returns-in-Err-remove_spent-clause-part g c =
     (spent_removed (g.K.LogSigner.log_key c.args.key.now) (map vec_items c.args.batch.now) (g.S.Shelf.kept c.args.shelf.now) (g.S.Shelf.kept c.publish_batch.new.shelf) (g.S.Shelf.kept c.remove_spent.new.shelf)
     (g.S.Shelf.trace c.args.shelf.now) (g.S.Shelf.trace c.publish_batch.new.shelf) (g.S.Shelf.trace c.remove_spent.new.shelf) c.args.ledger.now c.publish_batch.new.ledger
     c.in-Ok.ensures.all c.in-Ok.ensures.shown c.remove_spent.ensures.kept c.remove_spent.ensures.safe)
+
+pub returns-in-Ok-remove_spent-clause-there : goal.returns-in-Ok-remove_spent-clause-there
+returns-in-Ok-remove_spent-clause-there g c =
+    spent_noted (g.K.LogSigner.log_key c.args.key.now) (map vec_items c.args.batch.now) (g.S.Shelf.kept c.args.shelf.now) (g.S.Shelf.kept c.publish_batch.new.shelf) (g.S.Shelf.kept c.remove_spent.new.shelf)
+    (g.S.Shelf.trace c.args.shelf.now) (g.S.Shelf.trace c.publish_batch.new.shelf) (g.S.Shelf.trace c.remove_spent.new.shelf) c.args.ledger.now c.publish_batch.new.ledger _
+    c.in-Ok.ensures.there c.remove_spent.ensures.spent

@@ -12,12 +12,12 @@ returns-then-not-is_first-clause-goes_on g c = inl (stayed (g.S.Shelf.kept c.arg
 
 pub returns-in-Ok-append_lines-clause-goes_on : goal.returns-in-Ok-append_lines-clause-goes_on
 returns-in-Ok-append_lines-clause-goes_on g c =
-    whole_run (log_key_of c.args.keys.signer) _ c.open_ledger.new.found (g.S.Shelf.kept c.args.shelf.now) (g.S.Shelf.kept c.append_lines.new.shelf) (g.S.Shelf.trace c.args.shelf.now) (g.S.Shelf.trace c.append_lines.new.shelf) c.in-Ok.ledger c.append_lines.new.ledger c.in-Ok.ensures.opens
+    whole_run (log_key_of c.args.keys.signer) _ c.open_ledger.new.found (g.S.Shelf.kept c.args.shelf.now) (g.S.Shelf.kept c.append_lines.new.shelf) (g.S.Shelf.trace c.args.shelf.now) (g.S.Shelf.trace c.append_lines.new.shelf) c.in-Ok.opened.ledger c.append_lines.new.ledger c.in-Ok.ensures.opens
     (passage g.R.Read.remaining c.args.reader.now c.append_lines.new.reader) (passage g.W.Write.contents c.args.writer.now c.append_lines.new.writer) _ c.batch_size-batch.result c.batch_size-batch.ensures.size c.in-Ok-append_lines.ensures.all
 
 pub returns-clause-goes_on : goal.returns-clause-goes_on
 returns-clause-goes_on g c =
-    inr (part_run (log_key_of c.args.keys.signer) _ c.open_ledger.new.found (g.S.Shelf.kept c.args.shelf.now) (g.S.Shelf.kept c.append_lines.new.shelf) (g.S.Shelf.trace c.args.shelf.now) (g.S.Shelf.trace c.append_lines.new.shelf) c.in-Ok.ledger c.append_lines.new.ledger c.in-Ok.ensures.opens
+    inr (part_run (log_key_of c.args.keys.signer) _ c.open_ledger.new.found (g.S.Shelf.kept c.args.shelf.now) (g.S.Shelf.kept c.append_lines.new.shelf) (g.S.Shelf.trace c.args.shelf.now) (g.S.Shelf.trace c.append_lines.new.shelf) c.in-Ok.opened.ledger c.append_lines.new.ledger c.in-Ok.ensures.opens
     (passage g.R.Read.remaining c.args.reader.now c.append_lines.new.reader) c.in-Err-append_lines.ensures.some)
 
 pub returns-in-Err-clause-left : goal.returns-in-Err-clause-left
@@ -25,3 +25,15 @@ returns-in-Err-clause-left g c = λ new. inr (stayed (g.S.Shelf.kept c.args.shel
 
 pub returns-then-not-is_first-clause-left : goal.returns-then-not-is_first-clause-left
 returns-then-not-is_first-clause-left g c = λ new. inr (stayed (g.S.Shelf.kept c.args.shelf.now) (g.S.Shelf.trace c.args.shelf.now) (g.R.Read.remaining c.args.reader.now.device) c.args.reader.now.failed)
+
+pub returns-in-Err-clause-newest : goal.returns-in-Err-clause-newest
+returns-in-Err-clause-newest g c = inl (stayed (g.S.Shelf.kept c.args.shelf.now) (g.S.Shelf.trace c.args.shelf.now) (g.R.Read.remaining c.args.reader.now.device) c.args.reader.now.failed)
+
+pub returns-then-not-is_first-clause-newest : goal.returns-then-not-is_first-clause-newest
+returns-then-not-is_first-clause-newest g c = inl (stayed (g.S.Shelf.kept c.args.shelf.now) (g.S.Shelf.trace c.args.shelf.now) (g.R.Read.remaining c.args.reader.now.device) c.args.reader.now.failed)
+
+pub returns-in-Ok-append_lines-clause-newest : goal.returns-in-Ok-append_lines-clause-newest
+returns-in-Ok-append_lines-clause-newest g c = inr c.in-Ok.ensures.newest
+
+pub returns-clause-newest : goal.returns-clause-newest
+returns-clause-newest g c = inr c.in-Ok.ensures.newest

@@ -2,6 +2,7 @@ use Rattle.std.proofs.Common.{inl, inr, refl, subst}
 use Rattle.tl_hash.specs.Bytes.{Bytes}
 use Rattle.tl_append.specs.Keys.{log_key_of}
 use Rattle.tl_append.specs.Running.{IsLogKey}
+use Rattle.tl_append.proofs.Proposals.{has_some}
 use Rattle.tl_append.proofs.Runs.{key_name, stayed, under_part}
 use Rattle.tl_append.proofs.running.run_append.Goals as goal
 
@@ -30,3 +31,15 @@ returns-then-not-is_key_name-clause-left g c = λ new. inr (stayed (g.S.Shelf.ke
 
 pub returns-in-Err-clause-left : goal.returns-in-Err-clause-left
 returns-in-Err-clause-left g c = λ new. inr (stayed (g.S.Shelf.kept c.args.shelf.now) (g.S.Shelf.trace c.args.shelf.now) (g.R.Read.remaining c.args.reader.now.device) c.args.reader.now.failed)
+
+pub returns-then-not-is_key_name-clause-newest : goal.returns-then-not-is_key_name-clause-newest
+returns-then-not-is_key_name-clause-newest g c = inl (stayed (g.S.Shelf.kept c.args.shelf.now) (g.S.Shelf.trace c.args.shelf.now) (g.R.Read.remaining c.args.reader.now.device) c.args.reader.now.failed)
+
+pub returns-in-Err-clause-newest : goal.returns-in-Err-clause-newest
+returns-in-Err-clause-newest g c = inl (stayed (g.S.Shelf.kept c.args.shelf.now) (g.S.Shelf.trace c.args.shelf.now) (g.R.Read.remaining c.args.reader.now.device) c.args.reader.now.failed)
+
+pub returns-in-Ok-append_under-clause-newest : goal.returns-in-Ok-append_under-clause-newest
+returns-in-Ok-append_under-clause-newest g c = has_some _ _ _ c.append_under.ensures.newest
+
+pub returns-in-Err-append_under-clause-newest : goal.returns-in-Err-append_under-clause-newest
+returns-in-Err-append_under-clause-newest g c = has_some _ _ _ c.append_under.ensures.newest

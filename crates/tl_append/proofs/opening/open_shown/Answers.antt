@@ -1,0 +1,5 @@
+use Rattle.tl_append.proofs.Proposals.{has_shown}
+use Rattle.tl_append.proofs.opening.open_shown.Goals as goal
+
+pub returns-clause-shown : goal.returns-clause-shown
+returns-clause-shown g c = λ honest. has_shown (g.S.Shelf.kept c.args.shelf.now).held _ c.open.new.found.head (c.in-Ok.ensures.read honest)
