@@ -1,5 +1,5 @@
 -- What the note of a checkpoint states, and what a log that is opened has of a proposal.
-use Rattle.std.proofs.Common.{inl, inr, option_map, ◌⊎◌, ◌≡◌, ℕ, ◌≤◌, ◌≢◌, List, [], map, Option, Some, None, refl, sym, ap, subst, ◌∙◌, arith}
+use Rattle.std.proofs.Common.{inl, inr, option_map, ◌⊎◌, ◌≡◌, ℕ, ◌≤◌, List, map, Option, Some, None, refl, sym, ap, subst, ◌∙◌, arith}
 use Rattle.tl_hash.specs.Bytes.{Bytes}
 use Rattle.tl_hash.specs.declared.head.Head.{Head}
 use Rattle.tl_note.specs.Key.{Key}

@@ -1,5 +1,5 @@
 -- Turns that are appended and shown one after another.
-use Rattle.std.proofs.Common.{inl, inr, ◌≡◌, ℕ, ◌+◌, List, [], ◌∷◌, ◌++◌, Some, length, refl, sym, ap, subst, ◌∙◌, append_assoc}
+use Rattle.std.proofs.Common.{◌≡◌, List, [], ◌∷◌, ◌++◌, sym, ap, subst, ◌∙◌, append_assoc}
 use Rattle.std.specs.Prelude.{All}
 use Rattle.std.proofs.lemmas.List.{append-nil}
 use Rattle.std.proofs.lemmas.List.Elements.{All-append, All-nil}
@@ -9,9 +9,8 @@ use Rattle.tl_hash.specs.Bytes.{Bytes}
 use Rattle.tl_note.specs.Key.{Key}
 use Rattle.tl_publisher.specs.Histories.{Prefix}
 use Rattle.tl_archive.specs.Shelves.{Kept}
-use Rattle.tl_archive.specs.Complete.{IsSafe, KeptSafe}
+use Rattle.tl_archive.specs.Complete.{IsSafe}
 use Rattle.tl_ledger.specs.Standing.{Ledger}
-use Rattle.tl_ledger.specs.Keeping.{IsKeeping}
 use Rattle.tl_ledger.specs.Opening.{Found, Opens}
 use Rattle.tl_command.specs.Mirror.{LogKey}
 use Rattle.tl_append.specs.Cosigning.{HasQuorum, Quorum, Shows, ShowsThen, Turn, entries_of, shown, shown_after}

@@ -14,7 +14,7 @@ use Rattle.tl_ledger.specs.Standing.{Ledger, IsStanding}
 use Rattle.tl_ledger.specs.Keeping.{IsKeeping, published}
 use Rattle.tl_ledger.specs.Spent.{IsShown, RemovesSpent}
 use Rattle.tl_command.specs.Mirror.{LogKey, checkpoint_note}
-use Rattle.tl_append.specs.Cosigning.{HasCosigned, HasQuorum, Quorum, ShowsAtMost, ShowsBatch, ShowsThen, entries_of, shown, shown_after}
+use Rattle.tl_append.specs.Cosigning.{HasCosigned, HasQuorum, Quorum, ShowsAtMost, ShowsBatch, ShowsThen, shown}
 use Rattle.tl_append.specs.Inner.Turns.{SealsBatch, turn}
 use Rattle.tl_append.proofs.Showing.{AreCosigned}
 use Rattle.tl_append.proofs.Turns.{along, checkpoint_stays, kept_as, safe_as, safe_both, safe_on}
@@ -106,13 +106,17 @@ module _ (key : LogKey) (q : Quorum) (batch : List Bytes) (a m : Kept) (saw mid 
         there = λ h log keeps.
             let after = put h log keeps in
             let own : Prefix = shown key (log ++ batch) lines in
-            subst (λ (es : List Bytes). IsShown (h ++ own ∷ []) es b.held) (whole log)
-            (checkpoint_note key (log ++ batch) ++ lines, Contains-append_right h (own ∷ []) own (has_head own []),
-            there h (log ++ batch) after ∙ ap (λ (n : Bytes). Some n) (same ∙ text_is h (log ++ batch) after));
+            subst (λ (es : List Bytes). IsShown (h ++ own ∷ []) es b.held) (whole log) (
+              checkpoint_note key (log ++ batch) ++ lines,
+              Contains-append_right h (own ∷ []) own (has_head own []),
+              there h (log ++ batch) after ∙ ap (λ (n : Bytes). Some n) (same ∙ text_is h (log ++ batch) after),
+            );
         cosigned = λ h log keeps.
-            let after = put h log keeps in
-            (lines, there h (log ++ batch) after ∙ ap (λ (n : Bytes). Some n) (same ∙ text_is h (log ++ batch) after),
-            subst (HasQuorum q) (text_is h (log ++ batch) after) cosigned);
+            let after = put h log keeps in (
+              lines,
+              there h (log ++ batch) after ∙ ap (λ (n : Bytes). Some n) (same ∙ text_is h (log ++ batch) after),
+              subst (HasQuorum q) (text_is h (log ++ batch) after) cosigned,
+            );
       }
 
       pub not_sealed : ShowsAtMost key q batch (along a b saw sees was now)

@@ -194,7 +194,14 @@ impl<
         allows_older: bool,
         found: &mut Found<Global>,
     ) -> Result<OpenedLog, RunFault> {
-        match open_ledger(alloc, verifier, allows_older, &self.shelf, &self.store, found) {
+        match open_ledger(
+            alloc,
+            verifier,
+            allows_older,
+            &self.shelf,
+            &self.store,
+            found,
+        ) {
             Ok(opened) => Ok(opened),
             Err(fault) => Err(fault),
         }

@@ -84,7 +84,14 @@ impl<S: Shelf + Drop, P: ProposalStore + Drop> LogShelf for SignedShelf<S, P> {
         allows_older: bool,
         found: &mut Found<Global>,
     ) -> Result<OpenedLog, RunFault> {
-        match open_ledger(alloc, verifier, allows_older, &self.shelf, &self.store, found) {
+        match open_ledger(
+            alloc,
+            verifier,
+            allows_older,
+            &self.shelf,
+            &self.store,
+            found,
+        ) {
             Ok(opened) => Ok(opened),
             Err(fault) => Err(fault),
         }
