@@ -1,7 +1,8 @@
 //! Asking one witness about what a log proposes.
 
-ghost use Rattle.std.specs.Prelude.{◌≡◌, ◌++◌, IfOk, IfSome, OnOk, map, string_bytes};
-ghost use Rattle.tl_note.specs.Note.{Signature, signature_line};
+ghost use Rattle.std.specs.Prelude.{◌≡◌, IfOk, OnOk, map, string_bytes};
+ghost use Rattle.tl_checkpoint.specs.Cosignature.{ChecksCosignature};
+ghost use Rattle.tl_note.specs.Note.{signature_line};
 ghost use Rattle.tl_cosign.specs.Lines.{CosignsNote};
 ghost use Rattle.tl_cosign.specs.Proposing.{IsSignedBy};
 
@@ -47,14 +48,16 @@ fn lines_of<S: ResourceSource, Q: AsksWitness>(
     Err(Unasked::Restless)
 }
 
-// Whether a line is a cosignature of this text by the witness.
-fn is_by(
+// The time of a line, where it is a cosignature of this text by the witness.
+fn time_by(
     alloc: Global,
     text: &str,
     line: &SigView<'_>,
     witness: &Box<dyn Verifier>,
-) -> Result<bool, AllocError> {
-    Ok(check_cosignature(alloc, text, line, &**witness)?.is_some())
+) -> Result<Option<u64>, AllocError>
+    ensures { IfOk result (ChecksCosignature text.now (key witness.now) line.now) }
+{
+    check_cosignature(alloc, text, line, &**witness)
 }
 
 // A line, as it stands in a note.
@@ -84,7 +87,7 @@ fn own_line(
         Err(_) => return Err(Unasked::Other),
     };
     for line in views.iter() {
-        if is_by(alloc, view.text, line, witness)? {
+        if let Some(_) = time_by(alloc, view.text, line, witness)? {
             return Ok(text_of(alloc, line)?);
         }
     }

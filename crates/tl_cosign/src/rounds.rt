@@ -1,6 +1,6 @@
 //! Asking one witness in each round of a ballot.
 
-ghost use Rattle.std.specs.Prelude.{◌≡◌, ◌≤◌, ◌*◌, IfSome, IfOk, map, min, string_bytes};
+ghost use Rattle.std.specs.Prelude.{◌≡◌, ◌*◌, IfOk, IfSome, min, string_bytes};
 ghost use Rattle.tl_cosign.specs.Lines.{CosignsNote};
 
 use crate::asking::line_of;
@@ -22,10 +22,9 @@ const MOST_PAUSE: u64 = 60;
 
 // How many seconds pass after so many.
 fn next_pause(pause: u64) -> u64
-    requires { pause ≤ 60 }
     ensures { result ≡ min (2 * pause) 60 }
 {
-    (2 * pause).min(MOST_PAUSE)
+    pause.saturating_mul(2).min(MOST_PAUSE)
 }
 
 // The line by which a witness cosigns a note, where it is of the log. None where it isn't, so that nobody is asked.

@@ -88,7 +88,9 @@ impl Tally {
         ensures ended { self.new.has_ended ≡ self.old.has_ended }
     {
         let number = self.next_number();
-        self.lines.fill_with(|| None);
+        for line in self.lines.iter_mut() {
+            *line = None;
+        }
         self.round = Some(Round { number, note });
         number
     }

@@ -19,7 +19,7 @@ joined lines = flat_map (λ line. line) (given lines)
 
 -- the round that is open has this number
 abbrev pub IsOpen : Tally → ℕ → Type 0
-IsOpen tally number = (round : Round) × (tally.round ≡ Some round) × (round.number ≡ number)
+IsOpen tally number = option_map (λ round. round.number) tally.round ≡ Some number
 
 -- the line of the witness at this place counts in the round with this number: it is the one that is open, and the
 -- witness gave none of it
