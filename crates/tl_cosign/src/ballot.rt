@@ -87,12 +87,13 @@ impl Ballot {
         self.changed.notify_all();
     }
 
-    /// Waits so long, or until the ballot has ended: whether it goes on. It may wait.
-    pub(crate) fn pause<R: Wait + Clock>(&self, rt: &R, time: Duration) -> bool {
+    /// Waits so long, or until another round than that with this number is open, or the ballot has ended: whether it goes
+    /// on. It may wait.
+    pub(crate) fn pause<R: Wait + Clock>(&self, rt: &R, number: u64, time: Duration) -> bool {
         let tally = self.tally.lock(rt);
         let (tally, _) = self
             .changed
-            .wait_timeout_while(rt, tally, time, |tally| !tally.has_ended());
+            .wait_timeout_while(rt, tally, time, |tally| tally.stays(number));
         !tally.has_ended()
     }
 }

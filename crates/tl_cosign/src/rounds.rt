@@ -1,6 +1,6 @@
 //! Asking one witness in each round of a ballot.
 
-ghost use Rattle.std.specs.Prelude.{◌≡◌, ◌*◌, IfOk, IfSome, min, string_bytes};
+ghost use Rattle.std.specs.Prelude.{◌≡◌, ◌≤◌, ◌*◌, None, true, IfOk, IfSome, min, string_bytes};
 ghost use Rattle.tl_cosign.specs.Lines.{CosignsNote};
 
 use crate::asking::line_of;
@@ -20,11 +20,42 @@ const FIRST_PAUSE: u64 = 1;
 
 const MOST_PAUSE: u64 = 60;
 
+// Why a witness gave no line, in which round, and how many seconds pass before it is asked again.
+#[derive(Clone, Copy)]
+struct Failure {
+    round: u64,
+    why: Unasked,
+    pause: u64,
+}
+
 // How many seconds pass after so many.
 fn next_pause(pause: u64) -> u64
     ensures { result ≡ min (2 * pause) 60 }
 {
     pause.saturating_mul(2).min(MOST_PAUSE)
+}
+
+// The failure in this round, after the last one in a row. In another round the pauses begin anew.
+fn next_failure(last: Option<Failure>, round: u64, why: Unasked) -> Failure
+    ensures round { result.round ≡ round }
+    ensures why { result.why ≡ why }
+    ensures pause { result.pause ≤ 60 }
+{
+    let pause = match last {
+        Some(last) if last.round == round => next_pause(last.pause),
+        _ => FIRST_PAUSE,
+    };
+    Failure { round, why, pause }
+}
+
+// Whether a failure is told, after the last one in a row: for another reason, or in the same round.
+fn is_told(last: Option<Failure>, failure: Failure) -> bool
+    ensures { last ≡ None → result ≡ true }
+{
+    match last {
+        Some(last) => last.round == failure.round || last.why != failure.why,
+        None => true,
+    }
 }
 
 // The line by which a witness cosigns a note, where it is of the log. None where it isn't, so that nobody is asked.
@@ -65,8 +96,9 @@ fn line_by<S: ResourceSource, Q: AsksWitness>(
 }
 
 /// Asks the witness at this place in each round of the ballot for the line by which it cosigns the note, until the ballot
-/// ends. After a fault, which who waits is told, it is asked again: a second later, and twice as long after each fault in
-/// a row, 60 seconds at most. A note that the log didn't sign is passed over. What an asker's thread does; it may wait.
+/// ends. After a fault it is asked again: once another round opens, or 1 second later, 2, 4, up to 60, as long as that
+/// round is open. Who waits is told the fault, but of those in a row for one reason only the first, and those of a round
+/// that stays open. A note that the log didn't sign is passed over. It may wait.
 pub fn ask_in_rounds<R: Wait + Clock, S: ResourceSource, Q: AsksWitness>(
     rt: &R,
     alloc: Global,
@@ -78,7 +110,7 @@ pub fn ask_in_rounds<R: Wait + Clock, S: ResourceSource, Q: AsksWitness>(
     witness: &Box<dyn Verifier>,
 ) {
     let (mut known, mut after) = (0, 0);
-    let mut pause = FIRST_PAUSE;
+    let mut last: Option<Failure> = None;
     for _ in rt.forever() {
         let Some(round) = ballot.next(rt, place, after) else {
             return;
@@ -87,15 +119,18 @@ pub fn ask_in_rounds<R: Wait + Clock, S: ResourceSource, Q: AsksWitness>(
         match line_by(alloc, source, log, note, &mut known, asker, witness) {
             Ok(Some(line)) => {
                 ballot.put_line(rt, place, round.number, line);
-                pause = FIRST_PAUSE;
+                last = None;
             }
             Ok(None) => after = round.number.wrapping_add(1),
             Err(why) => {
-                ballot.put_unasked(rt, place, why);
-                if !ballot.pause(rt, Duration::from_secs(pause)) {
+                let failure = next_failure(last, round.number, why);
+                if is_told(last, failure) {
+                    ballot.put_unasked(rt, place, why);
+                }
+                last = Some(failure);
+                if !ballot.pause(rt, round.number, Duration::from_secs(failure.pause)) {
                     return;
                 }
-                pause = next_pause(pause);
             }
         }
     }

@@ -165,6 +165,11 @@ impl Tally {
         }
     }
 
+    /// Whether the round with this number is open, and more may come.
+    pub(crate) fn stays(&self, number: u64) -> bool {
+        !self.has_ended && self.is_open(number)
+    }
+
     /// Whether the witness at this place waits for a round that isn't older than this.
     pub(crate) fn is_idle(&self, place: usize, after: u64) -> bool {
         !self.has_ended && !self.is_for(place, after)
