@@ -1,6 +1,5 @@
 //! The threads that ask witnesses to cosign what a log proposes, and who waits for them.
 
-use crate::host::Host;
 use crate::options::AskedWitness;
 use crate::shared_writer::SharedWriter;
 use std::alloc::Global;
@@ -8,7 +7,7 @@ use std::io::Write;
 use std::net::{Net, TcpStream};
 use std::sync::Wait;
 use std::thread::{JoinHandle, Scope};
-use std::time::Duration;
+use std::time::{Clock, Duration};
 use tl_append::{AsksCosigners, ProposalStore};
 use tl_archive::Shelf;
 use tl_command::{RunFault, print_text};
@@ -82,15 +81,22 @@ pub(crate) struct Asking<'b, H> {
     pub(crate) limit: Duration,
 }
 
-impl<'b, H: Host + Net<Stream = TcpStream>> Asking<'b, H> {
-    // Asks the witness at this place in each round, with proofs from what the shelf has.
-    fn ask<P: Shelf + Drop>(&self, place: usize, shelf: P) {
+/// Who asks the witness at a place in each round of a ballot, with proofs from what the shelf has. It may wait.
+pub(crate) trait AsksInRounds<P> {
+    fn ask(&self, place: usize, shelf: P);
+}
+
+impl<H: Wait + Clock + Net<Stream = TcpStream>, P: Shelf + Drop> AsksInRounds<P>
+    for Asking<'_, H>
+{
+    fn ask(&self, place: usize, shelf: P) {
         let (Some(witness), Some(url)) = (self.witnesses.get(place), self.urls.get(place)) else {
             return;
         };
+        let (rt, alloc, ballot) = (self.rt, self.alloc, self.ballot);
         let mut asker = HttpWitness {
-            rt: self.rt,
-            alloc: self.alloc,
+            rt,
+            alloc,
             url: *url,
             limit: self.limit,
         };
@@ -98,26 +104,27 @@ impl<'b, H: Host + Net<Stream = TcpStream>> Asking<'b, H> {
             origin: self.origin,
             keys: self.log,
         };
-        let (rt, source) = (self.rt, ShelfReader(shelf));
+        let source = ShelfReader(shelf);
         ask_in_rounds(
-            rt, self.alloc, self.ballot, place, &source, &log, &mut asker, witness,
+            rt, alloc, ballot, place, &source, &log, &mut asker, witness,
         );
     }
+}
 
-    /// Starts a thread for each witness, which reads what proofs need of a shelf of its own. `OutOfMemory`: one can't be
-    /// started.
-    pub(crate) fn start<'s, E, P: Shelf + Send + Drop + 's>(
-        &'s self,
-        scope: &'s Scope<'s, E>,
-        shelves: Vec<P>,
-    ) -> Result<Vec<JoinHandle<()>>, RunFault> {
-        let mut threads = Vec::new(self.alloc);
-        for (place, shelf) in shelves.into_iter().enumerate() {
-            match scope.spawn(move || self.ask(place, shelf)) {
-                Ok(thread) => threads.push(thread)?,
-                Err(_) => return Err(RunFault::OutOfMemory),
-            }
+/// Starts a thread for each witness, which reads what proofs need of a shelf of its own. `OutOfMemory`: one can't be
+/// started.
+pub(crate) fn start_asking<'s, E, A: AsksInRounds<P> + Sync + 's, P: Send + Drop + 's>(
+    scope: &'s Scope<'s, E>,
+    alloc: Global,
+    asker: &'s A,
+    shelves: Vec<P>,
+) -> Result<Vec<JoinHandle<()>>, RunFault> {
+    let mut threads = Vec::new(alloc);
+    for (place, shelf) in shelves.into_iter().enumerate() {
+        match scope.spawn(move || asker.ask(place, shelf)) {
+            Ok(thread) => threads.push(thread)?,
+            Err(_) => return Err(RunFault::OutOfMemory),
         }
-        Ok(threads)
     }
+    Ok(threads)
 }

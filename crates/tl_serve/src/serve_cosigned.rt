@@ -8,7 +8,7 @@ ghost use Rattle.tl_serve.specs.Asking.{IsQuorumOf, ServesCosigned};
 ghost use Rattle.tl_serve.specs.Serving.{Serves};
 
 use crate::asked::{keys_of_asked, urls_of_asked};
-use crate::cosigners::{Asking, Proposer};
+use crate::cosigners::{Asking, AsksInRounds, Proposer, start_asking};
 use crate::host::Host;
 use crate::options::ServeOptions;
 use crate::serve_shelf::{Served, run_serve_shelf};
@@ -41,6 +41,13 @@ pub struct CosignedLog<S, T, P> {
     pub shown: Vec<P>,
     /// Shelves of the same place, one for each witness.
     pub asked: Vec<P>,
+}
+
+// A shelf that is given back, how the server that had it ended, and what was read of it at first.
+#[derive(Drop)]
+struct Ended<S> {
+    served: Served<S>,
+    found: Found<Global>,
 }
 
 // The keys of a log and of its witnesses, and what asks the latter.
@@ -101,6 +108,7 @@ fn serve_in<
     's,
     E,
     H: Host + Net<Listener = TcpListener, Stream = TcpStream>,
+    A: AsksInRounds<P> + Sync,
     S: Shelf + Drop,
     T: ProposalStore + Drop,
     C: ChecksCosigned + Drop,
@@ -109,31 +117,34 @@ fn serve_in<
     L: Write,
 >(
     scope: &'s Scope<'s, E>,
-    asking: &'s Asking<'s, H>,
-    options: &ServeOptions,
+    rt: &'s H,
+    alloc: Global,
+    options: &'s ServeOptions,
+    ballot: &'s Ballot,
+    asker: &'s A,
     quorum: C,
     log: CosignedLog<S, T, P>,
-    found: &mut Found<Global>,
     input: Option<RawFd>,
     reader: &mut Counted<R>,
     out: &'s Mutex<&mut Counted<L>>,
-) -> Served<S>
+) -> Ended<S>
     ensures serves { Serves options.now.key (string_bytes options.now.origin)
-        (C.quorum quorum) found.new
-        (visit S.kept S.trace log.shelf result.shelf) result.outcome }
-    ensures place { S.place result.shelf ≡ S.place log.shelf }
+        (C.quorum quorum) result.found
+        (visit S.kept S.trace log.shelf result.served.shelf) result.served.outcome }
+    ensures place { S.place result.served.shelf ≡ S.place log.shelf }
 {
-    let (rt, alloc, ballot) = (asking.rt, asking.alloc, asking.ballot);
     let CosignedLog {
         shelf,
         store,
         shown,
         asked,
     } = log;
-    if let Err(fault) = asking.start(scope, asked) {
+    let mut found = Found::new(alloc);
+    if let Err(fault) = start_asking(scope, alloc, asker, asked) {
         ballot.end(rt);
         let outcome = Err(fault);
-        return Served { shelf, outcome };
+        let served = Served { shelf, outcome };
+        return Ended { served, found };
     }
     let proposer = Proposer {
         rt,
@@ -147,16 +158,18 @@ fn serve_in<
     let cosigned = CosignedShelf::new(shelf, store, proposer, quorum, keeps);
     let mut told = Counted::new(SharedWriter { rt, out });
     let Served { shelf, outcome } = run_serve_shelf(
-        rt, alloc, options, cosigned, shown, found, input, reader, &mut told,
+        rt, alloc, options, cosigned, shown, &mut found, input, reader, &mut told,
     );
     ballot.end(rt);
     let shelf = shelf.into_shelf();
-    Served { shelf, outcome }
+    let served = Served { shelf, outcome };
+    Ended { served, found }
 }
 
-// Serves the log by these witnesses.
+// The same in a scope of threads.
 fn serve_asked<
     H: Host + Net<Listener = TcpListener, Stream = TcpStream>,
+    A: AsksInRounds<P> + Sync,
     S: Shelf + Drop,
     T: ProposalStore + Drop,
     C: ChecksCosigned + Drop,
@@ -167,39 +180,33 @@ fn serve_asked<
     rt: &H,
     alloc: Global,
     options: &ServeOptions,
-    ready: &Ready<'_>,
+    ballot: &Ballot,
+    asker: &A,
     quorum: C,
     log: CosignedLog<S, T, P>,
-    found: &mut Found<Global>,
     input: Option<RawFd>,
     reader: &mut Counted<R>,
-    out: &mut Counted<L>,
-) -> Served<S>
+    out: &Mutex<&mut Counted<L>>,
+) -> Ended<S>
     ensures serves { Serves options.now.key (string_bytes options.now.origin)
-        (C.quorum quorum) found.new
-        (visit S.kept S.trace log.shelf result.shelf) result.outcome }
-    ensures place { S.place result.shelf ≡ S.place log.shelf }
+        (C.quorum quorum) result.found
+        (visit S.kept S.trace log.shelf result.served.shelf) result.served.outcome }
+    ensures place { S.place result.served.shelf ≡ S.place log.shelf }
 {
-    let asking = Asking {
-        rt,
-        alloc,
-        ballot: &ready.ballot,
-        origin: options.origin.as_str(),
-        log: ready.log.as_slice(),
-        witnesses: ready.witnesses.as_slice(),
-        urls: ready.urls.as_slice(),
-        limit: Duration::from_secs(options.server.timeout),
-    };
-    let out = Mutex::new(out);
     thread::scope(
         thread::scope_env(),
         rt,
-        |scope| -> Served<S>
-            ensures serves { Serves options.now.key (string_bytes options.now.origin)
-                (C.quorum quorum) found.new
-                (visit S.kept S.trace log.shelf result.shelf) result.outcome }
-            ensures place { S.place result.shelf ≡ S.place log.shelf }
-        { serve_in(scope, &asking, options, quorum, log, found, input, reader, &out) },
+        |scope| -> Ended<S>
+            ensures serves { Serves options.entry.now.key (string_bytes options.entry.now.origin)
+                (C.quorum quorum) result.found
+                (visit S.kept S.trace log.shelf result.served.shelf)
+                result.served.outcome }
+            ensures place { S.place result.served.shelf ≡ S.place log.shelf }
+        {
+            serve_in(
+                scope, rt, alloc, options, ballot, asker, quorum, log, input, reader, out,
+            )
+        },
     )
 }
 
@@ -242,5 +249,21 @@ pub fn run_serve_cosigned<
             return Served { shelf, outcome };
         }
     };
-    serve_asked(rt, alloc, options, &ready, quorum, log, found, input, reader, out)
+    let asker = Asking {
+        rt,
+        alloc,
+        ballot: &ready.ballot,
+        origin: options.origin.as_str(),
+        log: ready.log.as_slice(),
+        witnesses: ready.witnesses.as_slice(),
+        urls: ready.urls.as_slice(),
+        limit: Duration::from_secs(options.server.timeout),
+    };
+    let out = Mutex::new(&mut *out);
+    let ballot = &ready.ballot;
+    let ended = serve_asked(
+        rt, alloc, options, ballot, &asker, quorum, log, input, reader, &out,
+    );
+    *found = ended.found;
+    ended.served
 }
