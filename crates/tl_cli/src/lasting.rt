@@ -1,31 +1,26 @@
 //! Commands on folders and files that outlast the program.
 
-ghost use Rattle.std.specs.Prelude.{◌≡◌, ◌↔◌, IsTrue, None, string_bytes};
-ghost use Rattle.tl_serve.specs.Asking.{ServesCosigned};
+ghost use Rattle.std.specs.Prelude.{◌↔◌, IsTrue, string_bytes};
 ghost use Rattle.tl_serve.specs.Knowing.{MayServe, RefusesLog};
-ghost use Rattle.tl_serve.specs.Serving.{Serves};
-ghost use Rattle.tl_append.specs.Running.{visit};
-ghost use Rattle.tl_folder.specs.Folders.{kept_by, traced_by};
 ghost use Rattle.tl_device.specs.Device.{passage};
 ghost use Rattle.tl_command.specs.Origins.{RefusesOrigin};
-ghost use Rattle.tl_cli.specs.Lasting.{AppendsIn, ServesAt, ServesBy, ServesIn, SparesStreams, nobody};
+ghost use Rattle.tl_cli.specs.Lasting.{AppendsIn, ServesIn, SparesStreams};
 
-use crate::own_folder::{OwnFolder, open_folder, own_folder};
-use crate::proposal_file::{ProposalFile, ReadProposal, proposal_path};
+use crate::own_folder::{OwnFolder, own_folder};
+use crate::proposal_file::{ReadProposal, proposal_path};
+use crate::serving_folder::serve_at;
 use std::alloc::Global;
 use std::fs::{File, Files};
 use std::io::{Read, Write};
 use std::net::{Net, TcpListener, TcpStream};
 use std::os::fd::RawFd;
-use tl_append::{AppendOptions, SignedShelf, run_append};
+use tl_append::{AppendOptions, run_append};
 use tl_command::{MOST_INPUT, Place, RunFault};
 use tl_device::Counted;
-use tl_folder::{CrashOutcome, FolderShelf, LineFile, open_lines};
-use tl_ledger::Found;
+use tl_folder::{CrashOutcome, LineFile, open_lines};
 use tl_note::is_key_name;
 use tl_serve::{
-    CosignedLog, Host, KnownLogs, ServeOptions, Served, WitnessFault, WitnessOptions, run_serve,
-    run_serve_cosigned, run_serve_shelf, run_witness, threads_of,
+    Host, KnownLogs, ServeOptions, WitnessFault, WitnessOptions, run_serve, run_witness,
 };
 
 /// Appends the lines of the input to the log in a folder, where no other process works meanwhile. The folder is then in
@@ -69,199 +64,6 @@ pub(crate) fn append<
     let store = ReadProposal { rt, path };
     let outcome = run_append(
         rt, alloc, options, &mut shelf, &store, &mut found, reader, writer,
-    );
-    *folder = Some(OwnFolder { lock, shelf, found });
-    outcome
-}
-
-// What each thread that answers reads of the folder at this path.
-fn shown_of<D: CrashOutcome + Copy + Drop, H: Files + Copy + Drop>(
-    disk: D,
-    rt: &H,
-    alloc: Global,
-    dir: &str,
-    threads: u32,
-) -> Result<Vec<FolderShelf<D, H>>, RunFault> {
-    let mut shown = Vec::new(alloc);
-    for _ in 0..threads {
-        shown.push(open_folder(disk, *rt, alloc, dir)?)?;
-    }
-    Ok(shown)
-}
-
-// Serves the log in a folder, which is shown as it is signed.
-fn serve_signed<
-    D: CrashOutcome + Copy + Send + Drop,
-    H: Host
-        + Files<File = File, Dir: Send + Sync>
-        + Net<Listener = TcpListener, Stream = TcpStream>,
-    R: Read + Send,
-    E: Write,
->(
-    rt: &H,
-    alloc: Global,
-    options: &ServeOptions,
-    path: &str,
-    shelf: FolderShelf<D, H>,
-    shown: Vec<FolderShelf<D, H>>,
-    found: &mut Found<Global>,
-    input: Option<RawFd>,
-    reader: &mut Counted<R>,
-    errors: &mut Counted<E>,
-) -> Served<FolderShelf<D, H>>
-    ensures serves { Serves options.now.key (string_bytes options.now.origin) nobody found.new
-        (visit (kept_by D.held D.reached) (traced_by D.held D.reached) shelf result.shelf)
-        result.outcome }
-    ensures place { result.shelf.place ≡ shelf.place }
-{
-    let store = ReadProposal { rt, path };
-    let signed = SignedShelf::new(shelf, store, options.keeps_partials);
-    let Served { shelf, outcome } = run_serve_shelf(
-        rt, alloc, options, signed, shown, found, input, reader, errors,
-    );
-    let shelf = shelf.into_shelf();
-    Served { shelf, outcome }
-}
-
-// Serves the log in a folder, which is shown once enough witnesses have cosigned it.
-fn serve_cosigned<
-    D: CrashOutcome + Copy + Send + Drop,
-    H: Host
-        + Files<File = File, Dir: Send + Sync>
-        + Net<Listener = TcpListener, Stream = TcpStream>,
-    R: Read + Send,
-    E: Write,
->(
-    disk: D,
-    rt: &H,
-    alloc: Global,
-    options: &ServeOptions,
-    dir: &str,
-    path: &str,
-    shelf: FolderShelf<D, H>,
-    shown: Vec<FolderShelf<D, H>>,
-    found: &mut Found<Global>,
-    input: Option<RawFd>,
-    reader: &mut Counted<R>,
-    errors: &mut Counted<E>,
-) -> Served<FolderShelf<D, H>>
-    ensures serves { ServesCosigned options.now found.new
-        (visit (kept_by D.held D.reached) (traced_by D.held D.reached) shelf result.shelf)
-        result.outcome }
-    ensures place { result.shelf.place ≡ shelf.place }
-{
-    let store = match ProposalFile::open(rt, alloc, path) {
-        Ok(store) => store,
-        Err(fault) => {
-            let outcome = Err(fault);
-            return Served { shelf, outcome };
-        }
-    };
-    let asked = match shown_of(disk, rt, alloc, dir, options.witnesses.len() as u32) {
-        Ok(asked) => asked,
-        Err(fault) => {
-            let outcome = Err(fault);
-            return Served { shelf, outcome };
-        }
-    };
-    let log = CosignedLog {
-        shelf,
-        store,
-        shown,
-        asked,
-    };
-    run_serve_cosigned(rt, alloc, options, log, found, input, reader, errors)
-}
-
-// Serves the log in a folder by its options.
-fn serve_folder<
-    D: CrashOutcome + Copy + Send + Drop,
-    H: Host
-        + Files<File = File, Dir: Send + Sync>
-        + Net<Listener = TcpListener, Stream = TcpStream>,
-    R: Read + Send,
-    E: Write,
->(
-    disk: D,
-    rt: &H,
-    alloc: Global,
-    options: &ServeOptions,
-    dir: &str,
-    shelf: FolderShelf<D, H>,
-    shown: Vec<FolderShelf<D, H>>,
-    found: &mut Found<Global>,
-    input: Option<RawFd>,
-    reader: &mut Counted<R>,
-    errors: &mut Counted<E>,
-) -> Served<FolderShelf<D, H>>
-    ensures serves { ServesBy options.now found.new
-        (visit (kept_by D.held D.reached) (traced_by D.held D.reached) shelf result.shelf)
-        result.outcome }
-    ensures place { result.shelf.place ≡ shelf.place }
-{
-    let path = match proposal_path(alloc, dir) {
-        Ok(path) => path,
-        Err(_) => {
-            let outcome = Err(RunFault::OutOfMemory);
-            return Served { shelf, outcome };
-        }
-    };
-    let path = path.as_str();
-    if options.need == 0 {
-        serve_signed(
-            rt, alloc, options, path, shelf, shown, found, input, reader, errors,
-        )
-    } else {
-        serve_cosigned(
-            disk, rt, alloc, options, dir, path, shelf, shown, found, input, reader, errors,
-        )
-    }
-}
-
-// Serves a log that is in the folder at this path, where no other process works meanwhile.
-fn serve_at<
-    D: CrashOutcome + Copy + Send + Drop,
-    H: Host
-        + Files<File = File, Dir: Send + Sync>
-        + Net<Listener = TcpListener, Stream = TcpStream>,
-    R: Read + Send,
-    E: Write,
->(
-    disk: D,
-    rt: &H,
-    alloc: Global,
-    options: &ServeOptions,
-    dir: &str,
-    input: Option<RawFd>,
-    folder: &mut Option<OwnFolder<D, H>>,
-    reader: &mut Counted<R>,
-    errors: &mut Counted<E>,
-) -> Result<(), RunFault>
-    requires { folder.old ≡ None }
-    ensures refuses { RefusesOrigin
-        (string_bytes options.now.origin) (passage R.remaining reader.old reader.new) result }
-    ensures serves { ServesAt D.held D.reached options.now dir.now
-        (passage R.remaining reader.old reader.new) folder.new result }
-{
-    if !is_key_name(options.origin.as_str()) {
-        return Err(RunFault::BadOrigin);
-    }
-    let own = match own_folder(disk, rt, alloc, dir) {
-        Ok(own) => own,
-        Err(fault) => return Err(fault),
-    };
-    let threads = threads_of(rt, options.server.threads);
-    let shown = match shown_of(disk, rt, alloc, dir, threads) {
-        Ok(shown) => shown,
-        Err(fault) => return Err(fault),
-    };
-    let OwnFolder {
-        lock,
-        shelf,
-        mut found,
-    } = own;
-    let Served { shelf, outcome } = serve_folder(
-        disk, rt, alloc, options, dir, shelf, shown, &mut found, input, reader, errors,
     );
     *folder = Some(OwnFolder { lock, shelf, found });
     outcome

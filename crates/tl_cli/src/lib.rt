@@ -14,6 +14,7 @@ mod lasting;
 mod own_folder;
 mod proposal_file;
 mod running;
+mod serving_folder;
 mod streams;
 mod telling;
 mod version;

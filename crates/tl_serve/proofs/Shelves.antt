@@ -150,6 +150,17 @@ serves_given given name own_name key q found v (Ok done) same is all = (key, sub
 serves_given given name own_name key q found v (Err fault) same is (inl left) = inl left
 serves_given given name own_name key q found v (Err fault) same is (inr part) = inr (key, subst (λ (n : Bytes). IsLogKey given n key) same is, part)
 
+-- by another name of the quorum, and of what the shelf kept
+pub serves_as : (given : GivenKey) (name : Bytes) (q q' : Quorum) (found : Found) (a b a' b' : Kept) (saw sees saw' sees' : List Kept) (outcome : Result (Unit {0}) RunFault)
+    → q ≡ q' → a ≡ a' → b ≡ b' → saw ≡ saw' → sees ≡ sees'
+    → Serves given name q found (between a b saw sees) outcome → Serves given name q' found (between a' b' saw' sees') outcome
+serves_as given name q q' found a b a' b' saw sees saw' sees' outcome eq ea eb es et serves =
+    subst (λ (t : List Kept). Serves given name q' found (between a' b' saw' t) outcome) et
+    (subst (λ (t : List Kept). Serves given name q' found (between a' b' t sees) outcome) es
+    (subst (λ (k : Kept). Serves given name q' found (between a' k saw sees) outcome) eb
+    (subst (λ (k : Kept). Serves given name q' found (between k b saw sees) outcome) ea
+    (subst (λ (x : Quorum). Serves given name x found (between a b saw sees) outcome) eq serves))))
+
 -- ---- at the end
 
 pub begun_one : (x y : Begun) → Some x ≡ Some y → x ≡ y
