@@ -154,7 +154,8 @@ impl<
         ensures kept { S.kept result ≡ ⟦<CosignedShelf<S, P, Q, C> as LogShelf>⟧.kept self }
         ensures trace { S.trace result ≡ ⟦<CosignedShelf<S, P, Q, C> as LogShelf>⟧.trace self }
         ensures place { S.place result ≡ ⟦<CosignedShelf<S, P, Q, C> as LogShelf>⟧.place self }
-        ensures mark { S.published result ≡ ⟦<CosignedShelf<S, P, Q, C> as LogShelf>⟧.published self }
+        ensures mark { S.published result
+            ≡ ⟦<CosignedShelf<S, P, Q, C> as LogShelf>⟧.published self }
     {
         let CosignedShelf { shelf, .. } = self;
         shelf
