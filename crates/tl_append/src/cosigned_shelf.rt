@@ -86,6 +86,8 @@ impl<
             ≡ S.published shelf }
         ensures quorum { ⟦<CosignedShelf<S, P, Q, C> as LogShelf>⟧.quorum result
             ≡ C.quorum quorum }
+        ensures keeps { ⟦<CosignedShelf<S, P, Q, C> as LogShelf>⟧.keeps_partials result
+            ≡ keeps_partials }
         ensures may_have { (note : Option Bytes)
             → ⟦<CosignedShelf<S, P, Q, C> as LogShelf>⟧.may_have result note
             → P.may_have store note }
@@ -122,6 +124,7 @@ impl<
         ensures small { OnOk result (ledger.new.edge.size < 2 ^ 32) }
         ensures place { S.place self.new.shelf ≡ S.place self.old.shelf }
         ensures same { self.new.quorum ≡ self.old.quorum }
+        ensures keeps { self.new.keeps_partials ≡ self.old.keeps_partials }
     {
         match put_batch(&mut self.shelf, ledger, batch) {
             Ok(()) => {}
@@ -154,7 +157,8 @@ impl<
         ensures kept { S.kept result ≡ ⟦<CosignedShelf<S, P, Q, C> as LogShelf>⟧.kept self }
         ensures trace { S.trace result ≡ ⟦<CosignedShelf<S, P, Q, C> as LogShelf>⟧.trace self }
         ensures place { S.place result ≡ ⟦<CosignedShelf<S, P, Q, C> as LogShelf>⟧.place self }
-        ensures mark { S.published result ≡ ⟦<CosignedShelf<S, P, Q, C> as LogShelf>⟧.published self }
+        ensures mark { S.published result
+            ≡ ⟦<CosignedShelf<S, P, Q, C> as LogShelf>⟧.published self }
     {
         let CosignedShelf { shelf, .. } = self;
         shelf
@@ -178,6 +182,8 @@ impl<
     ghost is_honest = { S.is_honest };
 
     ghost quorum = { λ l. C.quorum l.quorum };
+
+    ghost keeps_partials = { λ l. l.keeps_partials };
 
     ghost may_have = { λ l note. P.may_have l.store note };
 

@@ -27,6 +27,7 @@ pub trait LogShelf: Drop {
     ghost use Rattle.tl_archive.specs.Shelves.{Kept};
     ghost use Rattle.tl_ledger.specs.Marks.{IsWithin};
     ghost use Rattle.tl_ledger.specs.Opening.{Opens, found_size};
+    ghost use Rattle.tl_ledger.specs.Spent.{LacksSpent};
     ghost use Rattle.tl_append.specs.Appending.{course};
     ghost use Rattle.tl_append.specs.Cosigning.{HasCosigned, Quorum, ShowsAtMost, ShowsBatch};
     ghost use Rattle.tl_append.specs.Keys.{opening_key_of};
@@ -49,6 +50,9 @@ pub trait LogShelf: Drop {
 
     /// Who must have cosigned what is shown. No call changes that.
     ghost quorum: { Self → Quorum };
+
+    /// Whether partial tiles and bundles stay that full ones have replaced. No call changes that.
+    ghost keeps_partials: { Self → Bool };
 
     /// Which note may be kept as the last proposal.
     ghost may_have: { Self → Option Bytes → Type 0 };
@@ -91,12 +95,14 @@ pub trait LogShelf: Drop {
         ensures trace { trace self.new ≡ trace self.old }
         ensures mark { published self.new ≡ published self.old }
         ensures place { place self.new ≡ place self.old }
-        ensures quorum { quorum self.new ≡ quorum self.old };
+        ensures quorum { quorum self.new ≡ quorum self.old }
+        ensures keeps { keeps_partials self.new ≡ keeps_partials self.old };
 
     /// Puts a batch behind the log, which is the ledger's, and shows that under a note of its checkpoint by the key,
-    /// whose name is the log's, once its tiles and bundles outlast a crash and so many cosigned it as must. At a fault
-    /// the ledger's size tells whether the batch was put. `Operator`: the log would have more than 2^32 - 1 entries, or
-    /// too few cosigned it.
+    /// whose name is the log's, once its tiles and bundles outlast a crash and so many cosigned it as must. The new
+    /// size is then marked, and unless they are kept, partial tiles and bundles that are spent since are removed. At a
+    /// fault the ledger's size tells whether the batch was put. `Operator`: the log would have more than 2^32 - 1
+    /// entries, or too few cosigned it.
     fn append<K: LogSigner>(
         &mut self,
         alloc: Global,
@@ -119,6 +125,9 @@ pub trait LogShelf: Drop {
             (ledger.new.edge.size ≡ ledger.old.edge.size + length batch.now) }
         ensures marked { OnOk result (published self.new ≡ Some ledger.new.edge.size) }
         ensures small { OnOk result (ledger.new.edge.size < 2 ^ 32) }
+        ensures spent { keeps_partials self.old ≡ false → OnOk result (LacksSpent
+            ledger.old.edge.size ledger.new.edge.size (kept self.new).held) }
         ensures place { place self.new ≡ place self.old }
-        ensures quorum { quorum self.new ≡ quorum self.old };
+        ensures quorum { quorum self.new ≡ quorum self.old }
+        ensures keeps { keeps_partials self.new ≡ keeps_partials self.old };
 }

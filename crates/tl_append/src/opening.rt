@@ -138,7 +138,7 @@ fn open_by<S: Shelf, P: ProposalStore>(
 }
 
 /// Opens the log on this shelf, whose checkpoint the verifier has to open (C2SP tlog-checkpoint), as far as that goes
-/// or the proposal that the store keeps, whichever has more entries: of no entries where there is neither. `found` holds
+/// or the proposal that the store keeps, whichever has more entries: of no entries where there is neither. `found` has
 /// what was read. `Older`: more entries were published, and that isn't allowed. `BadCheckpoint` over no resource: the
 /// proposal doesn't open.
 pub fn open_ledger<S: Shelf, P: ProposalStore>(

@@ -32,6 +32,8 @@ impl<S: Shelf + Drop, P: ProposalStore + Drop> SignedShelf<S, P> {
             ≡ S.published shelf }
         ensures quorum { ⟦<SignedShelf<S, P> as LogShelf>⟧.quorum result
             ≡ record { witnesses = []; need = 0 } }
+        ensures keeps { ⟦<SignedShelf<S, P> as LogShelf>⟧.keeps_partials result
+            ≡ keeps_partials }
         ensures may_have { (note : Option Bytes)
             → ⟦<SignedShelf<S, P> as LogShelf>⟧.may_have result note → P.may_have store note }
     {
@@ -68,6 +70,8 @@ impl<S: Shelf + Drop, P: ProposalStore + Drop> LogShelf for SignedShelf<S, P> {
     ghost is_honest = { S.is_honest };
 
     ghost quorum = { λ _. record { witnesses = []; need = 0 } };
+
+    ghost keeps_partials = { λ l. l.keeps_partials };
 
     ghost may_have = { λ l note. P.may_have l.store note };
 
