@@ -26,10 +26,6 @@ pub has_quorum : (note : Bytes) (keys witnesses : List Key) (need : ℕ) (c : ch
     → HasQuorum (record { witnesses = witnesses; need = need }) note
 has_quorum note keys witnesses need c (apart, trusted) = inr (apart, (keys, c, trusted))
 
-pub quorum_as : {X : Type 0} (key : X → Key) (xs ys : List X) (need : ℕ) (note : Bytes) → xs ≡ ys
-    → HasQuorum (record { witnesses = map key xs; need = need }) note → HasQuorum (record { witnesses = map key ys; need = need }) note
-quorum_as key xs ys need note same has = subst (λ (l : List _). HasQuorum (record { witnesses = map key l; need = need }) note) same has
-
 -- none is kept
 pub none_kept : (MayHave : Option Bytes → Type 0) (keys : List Key) (size : ℕ) → MayHave None → HasProposal MayHave keys size
 none_kept MayHave keys size had = (None, had, _)

@@ -55,23 +55,23 @@ fn check_cosigned(
 
 /// So many of these witnesses, and the keys of the log whose checkpoints they cosign.
 #[derive(Drop)]
-pub struct LogQuorum {
-    log: Vec<Box<dyn Verifier>>,
-    witnesses: Vec<Box<dyn Verifier>>,
+pub struct LogQuorum<'k> {
+    log: &'k [Box<dyn Verifier>],
+    witnesses: &'k [Box<dyn Verifier>],
     need: u64,
 }
 
-impl LogQuorum {
+impl<'k> LogQuorum<'k> {
     ghost use Rattle.std.specs.Prelude.{◌≡◌, map};
 
     /// At least `need` of these witnesses, and the log's keys.
     pub fn new(
-        log: Vec<Box<dyn Verifier>>,
-        witnesses: Vec<Box<dyn Verifier>>,
+        log: &'k [Box<dyn Verifier>],
+        witnesses: &'k [Box<dyn Verifier>],
         need: u64,
-    ) -> LogQuorum
-        ensures { ⟦<LogQuorum as ChecksCosigned>⟧.quorum result
-            ≡ record { witnesses = map (λ w. key w) witnesses.items; need = need } }
+    ) -> LogQuorum<'k>
+        ensures { ⟦<LogQuorum<'k> as ChecksCosigned>⟧.quorum result
+            ≡ record { witnesses = map (λ w. key w) witnesses.now; need = need } }
     {
         LogQuorum {
             log,
@@ -81,17 +81,16 @@ impl LogQuorum {
     }
 }
 
-impl ChecksCosigned for LogQuorum {
+impl ChecksCosigned for LogQuorum<'_> {
     ghost use Rattle.std.specs.Prelude.{map};
 
     ghost quorum = { λ q. record {
-      witnesses = map (λ w. (Verifier-box w).key w.value) q.witnesses.items;
+      witnesses = map (λ w. (Verifier-box w).key w.value) q.witnesses.now;
       need = q.need;
     } };
 
     fn check(&self, alloc: Global, note: &str) -> Result<(), RunFault> {
-        let (log, witnesses) = (self.log.as_slice(), self.witnesses.as_slice());
-        match check_cosigned(alloc, note, log, witnesses, self.need) {
+        match check_cosigned(alloc, note, self.log, self.witnesses, self.need) {
             Ok(()) => Ok(()),
             Err(fault) => Err(fault),
         }

@@ -1,3 +1,4 @@
+pub mod AskedKeys
 pub mod Driven
 pub mod Ends
 pub mod InTurn

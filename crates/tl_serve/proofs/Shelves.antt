@@ -194,3 +194,16 @@ module _ (key : LogKey) (q : Quorum) (keys : List Key) (found : Found) (a b : Ke
   pub serves_under : (outcome : Result (Unit {0}) RunFault) → OnOk outcome (IsClosed i due) → ServesUnder first.key first.quorum found (between first.kept b first.saw sees) outcome
   serves_under (Ok done) closed = serves_whole closed
   serves_under (Err fault) closed = inr serves_part
+
+-- ---- by another name of the quorum, and of what the shelf kept at first
+
+module _ (key : LogKey) (q q' : Quorum) (found : Found) (a a' b : Kept) (saw saw' sees : List Kept) (eq : q ≡ q') (ea : a ≡ a') (es : saw ≡ saw') where
+  pub part_as : ServesPart key q found (between a b saw sees) → ServesPart key q' found (between a' b saw' sees)
+  part_as part =
+      subst (λ (t : List Kept). ServesPart key q' found (between a' b t sees)) es
+      (subst (λ (k : Kept). ServesPart key q' found (between k b saw sees)) ea (subst (λ (x : Quorum). ServesPart key x found (between a b saw sees)) eq part))
+
+  pub under_as : (outcome : Result (Unit {0}) RunFault) → ServesUnder key q found (between a b saw sees) outcome → ServesUnder key q' found (between a' b saw' sees) outcome
+  under_as outcome under =
+      subst (λ (t : List Kept). ServesUnder key q' found (between a' b t sees) outcome) es
+      (subst (λ (k : Kept). ServesUnder key q' found (between k b saw sees) outcome) ea (subst (λ (x : Quorum). ServesUnder key x found (between a b saw sees) outcome) eq under))

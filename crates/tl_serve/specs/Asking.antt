@@ -1,9 +1,8 @@
 -- Who must cosign what a log shows (C2SP tlog-cosignature; signed-note, "Verifier keys").
 use Rattle.std.specs.Prelude.{◌≡◌, ◌⊎◌, [], ◌∷◌, List, Result, Ok, Err, map, string_bytes, vec_items}
 use Rattle.tl_hash.specs.Bytes.{Bytes}
-use Rattle.tl_note.specs.Key.{Key}
 use Rattle.tl_key.specs.KeyText.{IsVerifierText}
-use Rattle.tl_key.specs.NoteKey.{PublicKey, cosignature_kind, verifier_key}
+use Rattle.tl_key.specs.NoteKey.{PublicKey, cosignature_kind}
 use Rattle.tl_ledger.specs.Opening.{Found}
 use Rattle.tl_command.specs.declared.fault.RunFault.{RunFault}
 use Rattle.tl_append.specs.Cosigning.{Quorum}
@@ -12,16 +11,16 @@ use Rattle.tl_serve.specs.declared.options.ServeOptions.{ServeOptions}
 use Rattle.tl_serve.specs.Serving.{IsLeft, Serves}
 
 -- these are the keys of witnesses that these texts spell, one after another
-abbrev pub AreKeysOf : List Bytes → List Key → Type 0
+abbrev pub AreKeysOf : List Bytes → List PublicKey → Type 0
 AreKeysOf [] [] = Unit {0}
 AreKeysOf [] (key ∷ keys) = ⊥
 AreKeysOf (text ∷ texts) [] = ⊥
-AreKeysOf (text ∷ texts) (key ∷ keys) =
-    ((k : PublicKey) × IsVerifierText cosignature_kind text k × (key ≡ verifier_key k)) × AreKeysOf texts keys
+AreKeysOf (text ∷ texts) (key ∷ keys) = IsVerifierText cosignature_kind text key × AreKeysOf texts keys
 
--- so many of the witnesses that the options name, by the keys that their texts spell
+-- so many witnesses, where each that the options name is named by the text of a witness's key
 pub record IsQuorumOf (options : ServeOptions) (q : Quorum) : Type 0 where
-  pub keys : AreKeysOf (map (λ w. string_bytes w.key) (vec_items options.witnesses)) q.witnesses
+  pub keys : List PublicKey
+  pub spelled : AreKeysOf (map (λ w. string_bytes w.key) (vec_items options.witnesses)) keys
   pub need : q.need ≡ options.need
 
 -- how a log is served whose checkpoints are shown once so many of these witnesses have cosigned them; or nothing was

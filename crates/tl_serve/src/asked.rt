@@ -7,10 +7,8 @@ ghost use Rattle.tl_serve.specs.Asking.{AreKeysOf};
 
 use crate::options::AskedWitness;
 use std::alloc::{AllocError, Global};
-use tl_checkpoint::have_distinct_names;
 use tl_command::RunFault;
 use tl_key::{CosignerVerifier, KeyFault, read_verifier_key};
-use tl_note::Verifier;
 use tl_source::Url;
 
 // The verifier's key of a witness that a text is of. `BadKey`: it is of none.
@@ -24,21 +22,17 @@ fn key_of(alloc: Global, text: &str) -> Result<CosignerVerifier<Global>, RunFaul
     }
 }
 
-/// The verifier keys of these witnesses, in their order. `BadKey`: a text is of none, or two have one name.
+/// The verifier keys of these witnesses, in their order. `BadKey`: a text is of none.
 pub(crate) fn keys_of_asked(
     alloc: Global,
     asked: &[AskedWitness],
-) -> Result<Vec<Box<dyn Verifier>>, RunFault>
-    ensures { IfOk result (λ keys. AreKeysOf (map (λ w. string_bytes w.key) asked.now)
-        (map (λ w. key w) keys.items)) }
+) -> Result<Vec<CosignerVerifier<Global>>, RunFault>
+    ensures { IfOk result (λ keys. AreKeysOf (map (λ w. string_bytes w.key) asked.now) keys.items) }
 {
-    let mut keys: Vec<Box<dyn Verifier>> = Vec::new(alloc);
+    let mut keys = Vec::new(alloc);
     for witness in asked {
         let key = key_of(alloc, witness.key.as_str())?;
-        keys.push(Box::new(alloc, key)?)?;
-    }
-    if !have_distinct_names(keys.as_slice()) {
-        return Err(RunFault::BadKey);
+        keys.push(key)?;
     }
     Ok(keys)
 }

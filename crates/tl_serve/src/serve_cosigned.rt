@@ -1,10 +1,10 @@
 //! The command `serve` on a shelf, where witnesses must have cosigned what is shown.
 
-ghost use Rattle.std.specs.Prelude.{◌≡◌, IfOk, string_bytes};
+ghost use Rattle.std.specs.Prelude.{◌≡◌, Err, IfOk, map, string_bytes, vec_items};
 ghost use Rattle.tl_device.specs.Device.{passage};
 ghost use Rattle.tl_command.specs.Origins.{RefusesOrigin};
 ghost use Rattle.tl_append.specs.Running.{visit};
-ghost use Rattle.tl_serve.specs.Asking.{IsQuorumOf, ServesCosigned};
+ghost use Rattle.tl_serve.specs.Asking.{AreKeysOf, ServesCosigned};
 ghost use Rattle.tl_serve.specs.Serving.{Serves};
 
 use crate::asked::{keys_of_asked, urls_of_asked};
@@ -21,13 +21,17 @@ use std::sync::Mutex;
 use std::thread;
 use std::thread::Scope;
 use std::time::Duration;
-use tl_append::{ChecksCosigned, CosignedShelf, LogKeys, LogQuorum, ProposalStore, keys_of};
+use tl_append::{
+    ChecksCosigned, CosignedShelf, LogKeys, LogOpeningKey, LogQuorum, ProposalStore, keys_of,
+};
 use tl_archive::Shelf;
+use tl_checkpoint::have_distinct_names;
 use tl_command::RunFault;
 use tl_cosign::Ballot;
 use tl_device::Counted;
+use tl_key::CosignerVerifier;
 use tl_ledger::Found;
-use tl_note::{Verifier, is_key_name};
+use tl_note::Verifier;
 use tl_source::Url;
 
 /// The shelf of a log whose checkpoints witnesses cosign, and what is to be beside it.
@@ -50,57 +54,47 @@ struct Ended<S> {
     found: Found<Global>,
 }
 
-// The keys of a log and of its witnesses, and what asks the latter.
+// What the options tell of a log and of its witnesses: their keys, the addresses of the latter, and their ballot.
 #[derive(Drop)]
 struct Ready<'o> {
-    log: Vec<Box<dyn Verifier>>,
-    witnesses: Vec<Box<dyn Verifier>>,
+    log: LogOpeningKey,
+    witnesses: Vec<CosignerVerifier<Global>>,
     urls: Vec<Url<'o>>,
     ballot: Ballot,
 }
 
-// The key that opens what the log signs, as the only one.
-fn log_keys<H: Host>(
-    rt: &H,
-    alloc: Global,
-    options: &ServeOptions,
-) -> Result<Vec<Box<dyn Verifier>>, RunFault> {
-    let LogKeys { verifier, .. } = keys_of(rt, alloc, options.origin.as_str(), &options.key)?;
-    let mut keys: Vec<Box<dyn Verifier>> = Vec::new(alloc);
-    keys.push(Box::new(alloc, verifier)?)?;
-    Ok(keys)
-}
-
-// What the threads that ask stand on.
+// The same, read.
 fn prepare<'o, H: Host>(
     rt: &H,
     alloc: Global,
     options: &'o ServeOptions,
-) -> Result<Ready<'o>, RunFault> {
+) -> Result<Ready<'o>, RunFault>
+    ensures { IfOk result (λ r. AreKeysOf
+        (map (λ w. string_bytes w.key) (vec_items options.now.witnesses)) r.witnesses.items) }
+{
     let asked = options.witnesses.as_slice();
     let witnesses = keys_of_asked(alloc, asked)?;
     let urls = urls_of_asked(alloc, asked)?;
     let ballot = Ballot::new(alloc, asked.len())?;
+    let LogKeys { verifier, .. } = keys_of(rt, alloc, options.origin.as_str(), &options.key)?;
     Ok(Ready {
-        log: log_keys(rt, alloc, options)?,
+        log: verifier,
         witnesses,
         urls,
         ballot,
     })
 }
 
-// So many of the witnesses that the options name, and the key of the log.
-fn quorum_of<H: Host>(
-    rt: &H,
-    alloc: Global,
-    options: &ServeOptions,
-) -> Result<LogQuorum, RunFault>
-    ensures { IfOk result
-        (λ q. IsQuorumOf options.now (⟦<LogQuorum as ChecksCosigned>⟧.quorum q)) }
+// A shelf that is given back with nothing done.
+fn given_back<S: Drop, T: Drop, P: Drop>(log: CosignedLog<S, T, P>, fault: RunFault) -> Served<S>
+    ensures shelf { result.shelf ≡ log.shelf }
+    ensures fault { result.outcome ≡ Err fault }
 {
-    let log = log_keys(rt, alloc, options)?;
-    let witnesses = keys_of_asked(alloc, options.witnesses.as_slice())?;
-    Ok(LogQuorum::new(log, witnesses, options.need))
+    let CosignedLog { shelf, .. } = log;
+    Served {
+        shelf,
+        outcome: Err(fault),
+    }
 }
 
 // Starts the threads that ask, and serves the log meanwhile.
@@ -210,6 +204,40 @@ fn serve_asked<
     )
 }
 
+// Serves the log by these keys of it and of its witnesses.
+fn serve_keyed<
+    'x,
+    H: Host + Net<Listener = TcpListener, Stream = TcpStream>,
+    S: Shelf + Drop,
+    T: ProposalStore + Drop,
+    P: Shelf + Send + Drop,
+    R: Read + Send,
+    L: Write,
+>(
+    asker: &'x Asking<'x, H>,
+    options: &'x ServeOptions,
+    log: CosignedLog<S, T, P>,
+    found: &mut Found<Global>,
+    input: Option<RawFd>,
+    reader: &mut Counted<R>,
+    out: &mut Counted<L>,
+) -> Served<S>
+    ensures serves { Serves options.now.key (string_bytes options.now.origin) (record {
+      witnesses = map (λ w. key w) asker.now.witnesses.now;
+      need = options.now.need;
+    }) found.new (visit S.kept S.trace log.shelf result.shelf) result.outcome }
+    ensures place { S.place result.shelf ≡ S.place log.shelf }
+{
+    let (rt, alloc, ballot) = (asker.rt, asker.alloc, asker.ballot);
+    let quorum = LogQuorum::new(asker.log, asker.witnesses, options.need);
+    let out = Mutex::new(&mut *out);
+    let ended = serve_asked(
+        rt, alloc, options, ballot, asker, quorum, log, input, reader, &out,
+    );
+    *found = ended.found;
+    ended.served
+}
+
 /// As `run_serve_shelf`, but each checkpoint is shown once so many of the witnesses that the options name have cosigned
 /// it (C2SP tlog-witness, tlog-cosignature): it is kept as a proposal, and a thread for each witness asks, with proofs
 /// from a shelf of its own. Why one gave no cosignature is told on `out`, and it is asked again after a pause. Nothing
@@ -237,33 +265,33 @@ pub fn run_serve_cosigned<
 {
     let ready = match prepare(rt, alloc, options) {
         Ok(ready) => ready,
-        Err(fault) => {
-            let (shelf, outcome) = (log.shelf, Err(fault));
-            return Served { shelf, outcome };
-        }
+        Err(fault) => return given_back(log, fault),
     };
-    let quorum = match quorum_of(rt, alloc, options) {
-        Ok(quorum) => quorum,
-        Err(fault) => {
-            let (shelf, outcome) = (log.shelf, Err(fault));
-            return Served { shelf, outcome };
-        }
+    let own: Box<dyn Verifier> = match Box::new(alloc, ready.log) {
+        Ok(own) => own,
+        Err(_) => return given_back(log, RunFault::OutOfMemory),
     };
+    let mut witnesses: Vec<Box<dyn Verifier>> = Vec::new(alloc);
+    for key in ready.witnesses {
+        let Ok(witness) = Box::new(alloc, key) else {
+            return given_back(log, RunFault::OutOfMemory);
+        };
+        if witnesses.push(witness).is_err() {
+            return given_back(log, RunFault::OutOfMemory);
+        }
+    }
+    if !have_distinct_names(witnesses.as_slice()) {
+        return given_back(log, RunFault::BadKey);
+    }
     let asker = Asking {
         rt,
         alloc,
         ballot: &ready.ballot,
         origin: options.origin.as_str(),
-        log: ready.log.as_slice(),
-        witnesses: ready.witnesses.as_slice(),
+        log: &[own],
+        witnesses: witnesses.as_slice(),
         urls: ready.urls.as_slice(),
         limit: Duration::from_secs(options.server.timeout),
     };
-    let out = Mutex::new(&mut *out);
-    let ballot = &ready.ballot;
-    let ended = serve_asked(
-        rt, alloc, options, ballot, &asker, quorum, log, input, reader, &out,
-    );
-    *found = ended.found;
-    ended.served
+    serve_keyed(&asker, options, log, found, input, reader, out)
 }

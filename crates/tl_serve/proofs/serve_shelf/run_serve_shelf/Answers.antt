@@ -10,5 +10,5 @@ serve_under-requires-clause-name g c κs within = key_name c.args.options.now.ke
 
 pub returns-clause-serves : goal.returns-clause-serves
 returns-clause-serves g c =
-    serves_given c.args.options.now.key _ _ (log_key_of c.in-Ok.keys.signer) c.serve_under.new.found (visit g.S.Shelf.kept g.S.Shelf.trace c.args.shelf c.serve_under.result.shelf) c.serve_under.result.outcome
+    serves_given c.args.options.now.key _ _ (log_key_of c.in-Ok.keys.signer) (g.S.LogShelf.quorum c.args.shelf) c.serve_under.new.found (visit g.S.LogShelf.kept g.S.LogShelf.trace c.args.shelf c.serve_under.result.shelf) c.serve_under.result.outcome
     c.as_str-origin.ensures.value c.in-Ok.ensures c.serve_under.ensures.serves
