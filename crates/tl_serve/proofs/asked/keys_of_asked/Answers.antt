@@ -1,17 +1,22 @@
-use Rattle.std.proofs.Common.{rules, ◌≡◌, IfOk, IfSome, map, string_bytes, ℕ, ◌+◌, ◌-◌, ◌*◌, ◌<◌, ◌≤◌, length, ◌/◌, ◌%◌, Bool, true, false, nat_eq, nat_lt, List, [], ◌∷◌, ◌++◌, slice_index_or, slice_set, bit_and, bit_or, Fits, w8, w32, w64, Bor, MutBor}
+use Rattle.std.proofs.Common.{List, ◌∷◌, ◌++◌, [], map, sym, subst, take}
+use Rattle.std.proofs.lemmas.List.{take_all}
+use Rattle.tl_hash.specs.Bytes.{Bytes}
 use Rattle.tl_key.specs.KeyText.{IsVerifierText}
-use Rattle.tl_key.specs.NoteKey.{cosignature_kind}
+use Rattle.tl_key.specs.NoteKey.{PublicKey, cosignature_kind}
 use Rattle.tl_serve.specs.Asking.{AreKeysOf}
+use Rattle.tl_serve.proofs.AskedKeys.{one_more, text_of, texts_more}
 use Rattle.tl_serve.proofs.asked.keys_of_asked.Goals as goal
 
--- src/asked.rt:36:5
-pub loop-witness-init : goal.loop-witness-init
-loop-witness-init g c = ?
-
--- src/asked.rt:36:5
 pub loop-witness-preserved : goal.loop-witness-preserved
-loop-witness-preserved g c = ?
+loop-witness-preserved c =
+    let w = c.witness-item.result in
+    let before : List Bytes = map text_of (take c.loop-witness.witness-index c.args.asked.now) in
+    let own = subst (λ (t : Bytes). IsVerifierText cosignature_kind t c.in_ok-key.key) c.as_str.ensures.value c.in_ok-key.ensures in
+    subst (λ (texts : List Bytes). AreKeysOf texts c.push.new.self.items) (sym (texts_more c.args.asked.now c.loop-witness.witness-index w c.loop-witness-test.true c.witness-item.is))
+    (subst (λ (keys : List PublicKey). AreKeysOf (before ++ text_of w ∷ []) keys) (sym c.in_ok-push.ensures.items)
+    (one_more before c.loop-witness.keys.items (text_of w) c.in_ok-key.key c.loop-witness.invariant own))
 
--- src/asked.rt:28:1
 pub returns : goal.returns
-returns g c = ?
+returns c =
+    subst (λ (asked : List _). AreKeysOf (map text_of asked) c.loop-witness.keys.items)
+    (take_all c.loop-witness.witness-index c.args.asked.now c.loop-witness-test.false) c.loop-witness.invariant
