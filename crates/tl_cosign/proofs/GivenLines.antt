@@ -1,5 +1,5 @@
 -- The lines that were given, one witness more at a time.
-use Rattle.std.proofs.Common.{◌≡◌, ◌∙◌, ◌++◌, ◌∷◌, [], ◌+◌, ◌<◌, ℕ, List, Option, Some, None, String, Bool, true, false, ap, append-nil, arith, get_or, length, length-append, refl, sym, take, string_bytes}
+use Rattle.std.proofs.Common.{◌≡◌, ◌∙◌, ◌++◌, ◌∷◌, [], ◌+◌, ◌<◌, ℕ, List, Option, Some, None, String, true, false, ap, append-nil, arith, get_or, length, length-append, refl, sym, take, string_bytes}
 use Rattle.std.specs.Global.{Global}
 use Rattle.std.specs.List.{flat_map}
 use Rattle.std.specs.Option.{is_some}

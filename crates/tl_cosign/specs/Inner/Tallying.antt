@@ -3,7 +3,6 @@ use Rattle.std.specs.Prelude.{◌≡◌, ◌⊎◌, ◌≢◌, ◌≤◌, ◌<�
 use Rattle.std.specs.Global.{Global}
 use Rattle.std.specs.List.{filter_map, flat_map}
 use Rattle.tl_hash.specs.Bytes.{Bytes}
-use Rattle.tl_cosign.specs.declared.tally.NoLine.{NoLine}
 use Rattle.tl_cosign.specs.declared.tally.Round.{Round}
 use Rattle.tl_cosign.specs.declared.tally.Tally.{Tally}
 use Rattle.tl_cosign.specs.declared.tally.BallotEvent.{BallotEvent}
