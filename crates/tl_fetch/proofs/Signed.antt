@@ -1,5 +1,4 @@
 -- A note of a log, as it is proposed to witnesses.
-use Rattle.std.proofs.Common.{◌≡◌}
 use Rattle.tl_hash.specs.Bytes.{Bytes}
 use Rattle.tl_hash.specs.declared.head.Head.{Head}
 use Rattle.tl_cosign.specs.Proposing.{IsSignedBy}
