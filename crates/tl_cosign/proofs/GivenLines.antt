@@ -1,5 +1,5 @@
 -- The lines that were given, one witness more at a time.
-use Rattle.std.proofs.Common.{◌≡◌, ◌∙◌, ◌++◌, ◌∷◌, [], ◌+◌, ◌<◌, ℕ, List, Option, Some, None, String, Bool, true, false, ap, append-nil, arith, get_or, length, length-append, refl, sym, take, string_bytes}
+use Rattle.std.proofs.Common.{◌≡◌, ◌∙◌, ◌++◌, ◌∷◌, [], ◌+◌, ◌<◌, ℕ, List, Option, Some, None, String, true, false, ap, append-nil, arith, get_or, length, length-append, refl, sym, take, string_bytes}
 use Rattle.std.specs.Global.{Global}
 use Rattle.std.specs.List.{flat_map}
 use Rattle.std.specs.Option.{is_some}
@@ -29,7 +29,7 @@ pub counted_more : (lines : List (Option (String Global))) (i : ℕ) (line : Opt
     → is_some line ≡ true → length (given (take (i + 1) lines)) ≡ length (given (take i lines)) + 1
 counted_more lines i line within is some =
     let longer : length (given (take (i + 1) lines)) ≡ length (given (take i lines)) + length (given (line ∷ [])) =
-        ap (λ (g : List (List ℕ)). length g) (given_next lines i line within is) ∙ length-append (given (take i lines)) (given (line ∷ [])) in
+    ap (λ (g : List (List ℕ)). length g) (given_next lines i line within is) ∙ length-append (given (take i lines)) (given (line ∷ [])) in
     let one = one_given line some in
     omega (arith, longer, one)
 
@@ -38,7 +38,7 @@ pub counted_same : (lines : List (Option (String Global))) (i : ℕ) (line : Opt
     → is_some line ≡ false → length (given (take (i + 1) lines)) ≡ length (given (take i lines))
 counted_same lines i line within is none =
     let longer : length (given (take (i + 1) lines)) ≡ length (given (take i lines)) + length (given (line ∷ [])) =
-        ap (λ (g : List (List ℕ)). length g) (given_next lines i line within is) ∙ length-append (given (take i lines)) (given (line ∷ [])) in
+    ap (λ (g : List (List ℕ)). length g) (given_next lines i line within is) ∙ length-append (given (take i lines)) (given (line ∷ [])) in
     let zero = none_given line none in
     omega (arith, longer, zero)
 

@@ -1,5 +1,5 @@
 -- The proof from so many of a log's first entries.
-use Rattle.std.proofs.Common.{◌≡◌, ◌≤◌, ◌^◌, ◌++◌, ◌∙◌, ℕ, List, [], ap, arith, length, sym, take}
+use Rattle.std.proofs.Common.{◌≡◌, ◌≤◌, ◌++◌, ◌∙◌, ℕ, List, [], ap, arith, length, sym, take}
 use Rattle.std.proofs.lemmas.List.{append-nil, take_all}
 use Rattle.sha2.specs.Sha256.{sha256}
 use Rattle.tl_hash.specs.Bytes.{Bytes}

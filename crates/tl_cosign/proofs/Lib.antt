@@ -1,2 +1,4 @@
 pub mod Growths
 pub mod GivenLines
+pub mod Faults
+pub mod Others

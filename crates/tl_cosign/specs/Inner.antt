@@ -1,3 +1,5 @@
 -- Private words: what contracts of private functions and proofs need.
 pub
+    mod Answered
+pub
     mod Tallying

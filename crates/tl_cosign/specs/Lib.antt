@@ -2,4 +2,5 @@
 pub mod Growing
 pub mod Proposing
 pub mod Lines
+pub mod Refusing
 pub mod Inner

@@ -5,13 +5,17 @@ use Rattle.tl_note.specs.Key.{Key}
 use Rattle.tl_note.specs.Note.{IsSignature, Note, Signature, signature_line}
 use Rattle.tl_checkpoint.specs.Cosignature.{IsCosignature}
 
--- the line is one signature line, and by it this key cosigns the text of this note, at some time
-pub record CosignsNote (key : Key) (note line : Bytes) : Type 0 where
-  pub text : Bytes
-  pub lines : List Signature
-  pub noted : Note note text lines
+-- the line is one signature line, and by it this key cosigns the text of a checkpoint, at some time
+pub record CosignsText (key : Key) (text line : Bytes) : Type 0 where
   pub signature : Signature
   pub lawful : IsSignature signature
   pub spelled : line ≡ signature_line signature
   pub time : ℕ
   pub valid : IsCosignature text key signature time
+
+-- by it this key cosigns the text of this note
+pub record CosignsNote (key : Key) (note line : Bytes) : Type 0 where
+  pub text : Bytes
+  pub lines : List Signature
+  pub noted : Note note text lines
+  pub cosigned : CosignsText key text line

@@ -1,10 +1,12 @@
 //! Asking one witness about what a log proposes.
 
-ghost use Rattle.std.specs.Prelude.{◌≡◌, IfOk, OnOk, map, string_bytes};
+ghost use Rattle.std.specs.Prelude.{◌≡◌, ◌⊎◌, IfErr, IfOk, OnOk, map, string_bytes};
 ghost use Rattle.tl_checkpoint.specs.Cosignature.{ChecksCosignature};
 ghost use Rattle.tl_note.specs.Note.{signature_line};
-ghost use Rattle.tl_cosign.specs.Lines.{CosignsNote};
+ghost use Rattle.tl_cosign.specs.Inner.Answered.{AreOthers};
+ghost use Rattle.tl_cosign.specs.Lines.{CosignsNote, CosignsText};
 ghost use Rattle.tl_cosign.specs.Proposing.{IsSignedBy};
+ghost use Rattle.tl_cosign.specs.Refusing.{IsFairlyTold};
 
 use crate::growing::growth_from;
 use crate::proposed::{AsksWitness, Proposed};
@@ -28,6 +30,8 @@ fn lines_of<S: ResourceSource, Q: AsksWitness>(
 ) -> Result<String, Unasked>
     requires { IsSignedBy proposed.now.origin.now
         (map (λ v. key v) proposed.now.log.now) proposed.now.note.now proposed.now.head.now }
+    ensures { IfErr result
+        (IsFairlyTold (S.may_answer source.now) (S.may_lack source.now) proposed.now.head.now) }
 {
     for _ in 0..MOST_TRIES {
         let old = *known;
@@ -69,25 +73,25 @@ fn text_of(alloc: Global, line: &SigView<'_>) -> Result<String, AllocError>
     Ok(text)
 }
 
-// The first of these lines by which the witness cosigned the text of a note, as it stands in a note.
+// The first of these lines by which the witness cosigned this text, as it stands in a note.
 fn own_line(
     alloc: Global,
-    note: &str,
+    text: &str,
     lines: &str,
     witness: &Box<dyn Verifier>,
 ) -> Result<String, Unasked>
-    ensures { IfOk result (λ line. CosignsNote (key witness.now) note.now (string_bytes line)) }
+    ensures line { IfOk result
+        (λ line. CosignsText (key witness.now) text.now (string_bytes line)) }
+    ensures none { IfErr result (λ why. (why ≡ Unasked.Ask AskFault.OutOfMemory)
+        ⊎ ((why ≡ Unasked.Other) × AreOthers text.now (key witness.now) lines.now)) }
 {
-    let Ok(view) = parse_note(alloc, note) else {
-        return Err(Unasked::Ask(AskFault::OutOfMemory));
-    };
     let views = match parse_signatures(alloc, lines) {
         Ok(views) => views,
         Err(NoteFault::OutOfMemory) => return Err(Unasked::Ask(AskFault::OutOfMemory)),
         Err(_) => return Err(Unasked::Other),
     };
     for line in views.iter() {
-        if let Some(_) = time_by(alloc, view.text, line, witness)? {
+        if let Some(_) = time_by(alloc, text, line, witness)? {
             return Ok(text_of(alloc, line)?);
         }
     }
@@ -110,12 +114,17 @@ pub fn line_of<S: ResourceSource, Q: AsksWitness>(
     ensures line { IfOk result
         (λ line. CosignsNote (key witness.now) proposed.now.note.now (string_bytes line)) }
     ensures known { OnOk result (known.new ≡ proposed.now.head.now.size) }
+    ensures fair { IfErr result
+        (IsFairlyTold (S.may_answer source.now) (S.may_lack source.now) proposed.now.head.now) }
 {
     let lines = match lines_of(alloc, source, proposed, known, asker) {
         Ok(lines) => lines,
         Err(why) => return Err(why),
     };
-    let line = match own_line(alloc, proposed.note, lines.as_str(), witness) {
+    let Ok(view) = parse_note(alloc, proposed.note) else {
+        return Err(Unasked::Ask(AskFault::OutOfMemory));
+    };
+    let line = match own_line(alloc, view.text, lines.as_str(), witness) {
         Ok(line) => line,
         Err(why) => return Err(why),
     };

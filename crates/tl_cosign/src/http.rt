@@ -1,5 +1,8 @@
 //! A witness that is asked over HTTP.
 
+ghost use Rattle.std.specs.Prelude.{IfErr};
+ghost use Rattle.tl_cosign.specs.Refusing.{IsOfAsking};
+
 use crate::proposed::{AsksWitness, Proposed};
 use crate::unasked::Unasked;
 use std::alloc::{AllocError, Global};
@@ -38,7 +41,9 @@ impl<H: Net<Stream = TcpStream> + Clock> HttpWitness<'_, H> {
     }
 
     // What it answers.
-    fn answer(&self, question: &Question<'_>) -> Result<WitnessAnswer<Global>, Unasked> {
+    fn answer(&self, question: &Question<'_>) -> Result<WitnessAnswer<Global>, Unasked>
+        ensures { IfErr result IsOfAsking }
+    {
         let target = self.target()?;
         let Ok(start) = Instant::now(self.rt) else {
             return Err(Unasked::Device(DeviceFault::System));
@@ -60,7 +65,9 @@ impl<H: Net<Stream = TcpStream> + Clock> HttpWitness<'_, H> {
     }
 
     // Why it gave no answer, that was asked then.
-    fn why_none(&self, start: &Instant, fault: AskFault) -> Unasked {
+    fn why_none(&self, start: &Instant, fault: AskFault) -> Unasked
+        ensures { IsOfAsking result }
+    {
         let is_late = match start.elapsed(self.rt) {
             Ok(elapsed) => elapsed >= self.limit,
             Err(_) => false,

@@ -28,11 +28,12 @@ pub struct Proposed<'p> {
     pub head: &'p Head,
 }
 
-/// Who asks one witness. Nothing is known of what it answers: it may lie.
+/// Who asks one witness. Nothing is known of what it answers: it may lie. A fault is `Device` or `Ask`.
 pub trait AsksWitness {
-    ghost use Rattle.std.specs.Prelude.{map};
+    ghost use Rattle.std.specs.Prelude.{IfErr, map};
     ghost use Rattle.tl_cosign.specs.Growing.{IsGrowthFrom};
     ghost use Rattle.tl_cosign.specs.Proposing.{IsSignedBy};
+    ghost use Rattle.tl_cosign.specs.Refusing.{IsOfAsking};
 
     /// What it answers. It is only ever asked about a note that the log signed, with the proof from the old size to
     /// that of its head.
@@ -45,5 +46,6 @@ pub trait AsksWitness {
         requires signed { IsSignedBy proposed.now.origin.now
             (map (λ v. key v) proposed.now.log.now) question.now.note.now proposed.now.head.now }
         requires proof { IsGrowthFrom (S.may_answer source.now)
-            proposed.now.head.now question.now.old question.now.proof.now };
+            proposed.now.head.now question.now.old question.now.proof.now }
+        ensures { IfErr result IsOfAsking };
 }

@@ -1,7 +1,7 @@
 //! What witnesses gave of a round, and what is told of them: the state of a ballot, without its lock.
 
 ghost use Rattle.std.specs.Prelude.{◌≡◌, ◌⊎◌, ◌++◌, ◌∷◌, ◌<◌, ◌≤◌, ◌↔◌, [], false, None, Some, true, All, IfErr, IfOk, IfSome, IsTrue, MatchOption, OnErr, length, slice_get, string_bytes};
-ghost use Rattle.tl_cosign.specs.Inner.Tallying.{Counts, IsFor, IsOpen, Puts, Tells, given, joined};
+ghost use Rattle.tl_cosign.specs.Inner.Tallying.{Counts, IsFor, IsOpen, Puts, Tells, given, joined, number_after};
 
 use crate::unasked::Unasked;
 use std::alloc::{AllocError, Global};
@@ -72,7 +72,9 @@ impl Tally {
     }
 
     // The number of the next round.
-    fn next_number(&self) -> u64 {
+    fn next_number(&self) -> u64
+        ensures { result ≡ number_after self.now.round }
+    {
         match &self.round {
             Some(round) => round.number.wrapping_add(1),
             None => 1,
@@ -82,6 +84,7 @@ impl Tally {
     /// Opens the next round, of which no witness gave a line yet: its number.
     pub(crate) fn open(&mut self, note: Arc<String>) -> u64
         ensures open { IsOpen self.new result }
+        ensures number { result ≡ number_after self.old.round }
         ensures none { All (λ line. line ≡ None) self.new.lines.items }
         ensures count { length self.new.lines.items ≡ length self.old.lines.items }
         ensures unasked { self.new.unasked ≡ self.old.unasked }

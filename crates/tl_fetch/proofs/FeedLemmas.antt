@@ -3,7 +3,6 @@ use Rattle.std.proofs.Common.{◌≡◌, ◌⊎◌, ◌++◌, inl, inr, subst, s
 use Rattle.std.specs.Global.{Global}
 use Rattle.std.specs.List.{Any}
 use Rattle.tl_hash.specs.Bytes.{Bytes}
-use Rattle.tl_hash.specs.declared.head.Head.{Head}
 use Rattle.tl_device.specs.Device.{Passage, IsUnwritten}
 use Rattle.tl_fetch.specs.declared.fault.FetchFault.{FetchFault}
 use Rattle.tl_fetch.specs.declared.fault.FetchFault.TheVariants as fetch
@@ -18,7 +17,7 @@ use Rattle.tl_fetch.specs.FeedCommand.{IsAddressFault, RunsFeedUnder}
 use Rattle.tl_fetch.specs.Inner.FeedRuns.{FeedsOver}
 use Rattle.tl_fetch.specs.Inner.Naming.{Renames}
 use Rattle.tl_fetch.specs.Faults.{IsNoAccusation}
-use Rattle.tl_fetch.specs.Feeding.{HasFed, IsFedNote, IsUnfed, RefusesFeed, RefusesFed}
+use Rattle.tl_fetch.specs.Feeding.{HasFed, IsFedNote, IsUnfed, RefusesFeed}
 use Rattle.tl_fetch.specs.Fetching.{AreTwo, Grounds, RefusesTwo, Two, grounds_of}
 use Rattle.tl_fetch.specs.Opening.{RefusesNote}
 use Rattle.tl_fetch.specs.Printed.{PrintedSome, PrintedWhole}

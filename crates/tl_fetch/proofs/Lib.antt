@@ -1,4 +1,4 @@
-pub mod GrowthLemmas
+pub mod Signed
 pub mod FeedLemmas
 pub mod EntryLemmas
 pub mod Passages

@@ -1,7 +1,7 @@
 -- Entries that are listed are read back in one way.
-use Rattle.std.proofs.Common.{◌≡◌, ℕ, ◌<◌, ◌≤◌, ◌^◌, List, [], ◌∷◌, ◌++◌, Bool, true, false, length, take, drop, refl, sym, ap, subst, ◌∙◌, arith, All}
-use Rattle.std.specs.Prelude.{◌≢◌, ◌==◌, decimal}
-use Rattle.std.specs.List.{flat_map, list_any}
+use Rattle.std.proofs.Common.{◌≡◌, ℕ, ◌≤◌, List, [], ◌∷◌, ◌++◌, Bool, true, false, length, take, drop, refl, sym, ap, ◌∙◌, arith, All}
+use Rattle.std.specs.Prelude.{◌≢◌, ◌==◌}
+use Rattle.std.specs.List.{list_any}
 use Rattle.std.proofs.Math.Seq.{drop-append_seam, take-append_seam}
 use Rattle.std.proofs.lemmas.Bool.{both_ways, eq-eqb, or_parts}
 use Rattle.std.proofs.lemmas.Fmt.{decimal_injective}
@@ -12,7 +12,7 @@ use Rattle.tl_hash.specs.Bytes.{Bytes}
 use Rattle.tl_text.specs.Text.{HasNoControl, line, number_text}
 use Rattle.tl_text.proofs.PlainText.{number_plain}
 use Rattle.tl_tile.specs.Bundle.{AreShortEntries, IsShortEntry}
-use Rattle.tl_fetch.specs.Listed.{begins_with_backslash, length_line, listed, listed_text, needs_length}
+use Rattle.tl_fetch.specs.Listed.{begins_with_backslash, listed, listed_text, needs_length}
 
 -- ---- lines
 

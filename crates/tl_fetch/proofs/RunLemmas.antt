@@ -1,5 +1,5 @@
 -- What is printed before a fault comes, and which faults accuse a log.
-use Rattle.std.proofs.Common.{◌≡◌, ◌⊎◌, ◌∙◌, ℕ, ◌≤◌, length, string_bytes, sym, ap, subst, inl, inr, Option, Some, None, Result, Ok, Err, IfErr}
+use Rattle.std.proofs.Common.{◌≡◌, ◌⊎◌, ℕ, ◌≤◌, length, string_bytes, sym, ap, subst, inl, inr, Option, Some, None, Result, Ok, Err, IfErr}
 use Rattle.std.proofs.Math.Seq.{take-length}
 use Rattle.std.specs.Io.KnownBytes.{Appends}
 use Rattle.tl_hash.specs.Bytes.{Bytes}
@@ -10,7 +10,6 @@ use Rattle.tl_client.specs.declared.fault.ClientFault.{ClientFault}
 use Rattle.tl_client.specs.declared.fault.ClientFault.TheVariants as client
 use Rattle.tl_hash.specs.declared.head.Head.{Head}
 use Rattle.tl_fetch.specs.declared.fault.FetchFault.{FetchFault}
-use Rattle.tl_fetch.specs.declared.fault.FetchFault.TheVariants as fetch
 use Rattle.tl_fetch.specs.declared.options.FetchOptions.{FetchOptions}
 use Rattle.tl_fetch.specs.declared.options.FetchRequest.{FetchRequest}
 use Rattle.tl_fetch.specs.declared.options.FetchRequest.TheVariants as wanted

@@ -1,5 +1,5 @@
 -- Why a log's checkpoints aren't trusted, step by step.
-use Rattle.std.proofs.Common.{◌≡◌, ◌⊎◌, inl, inr, subst, Option}
+use Rattle.std.proofs.Common.{◌≡◌, inl, inr, subst, Option}
 use Rattle.tl_hash.specs.Bytes.{Bytes}
 use Rattle.tl_tile.specs.declared.resource.Resource.{Resource}
 use Rattle.tl_tile.specs.declared.resource.Resource.TheVariants.{Checkpoint}

@@ -1,14 +1,8 @@
 -- What comes of bringing a log's checkpoint before witnesses (C2SP tlog-witness, tlog-cosignature).
-use Rattle.std.specs.Prelude.{◌≡◌, ◌⊎◌, ◌++◌, ◌≤◌, ℕ, List, take}
-use Rattle.sha2.specs.Sha256.{sha256}
+use Rattle.std.specs.Prelude.{◌≡◌, ◌⊎◌, ◌++◌}
 use Rattle.tl_hash.specs.Bytes.{Bytes}
-use Rattle.tl_hash.specs.Tree.{tree_hash}
 use Rattle.tl_hash.specs.declared.head.Head.{Head}
 use Rattle.tl_device.specs.Device.{Passage, IsUnwritten}
-use Rattle.tl_proof.specs.Proofs.{consistency_proof}
-use Rattle.tl_tile.specs.declared.resource.Resource.{Resource}
-use Rattle.tl_tile.specs.declared.resource.Resource.TheVariants as resource
-use Rattle.tl_tile.specs.TileReader.{StandsAgainst}
 use Rattle.tl_command.specs.declared.fault.RunFault.TheVariants.{OutOfMemory, Write}
 use Rattle.tl_fetch.specs.declared.fault.FetchFault.{FetchFault}
 use Rattle.tl_fetch.specs.declared.fault.FetchFault.TheVariants.{Run}
@@ -17,18 +11,6 @@ use Rattle.tl_fetch.specs.Fetching.{AreTwo, Grounds, LacksTrust, RefusesTwo, Two
 use Rattle.tl_fetch.specs.Opening.{RefusesNote}
 use Rattle.tl_fetch.specs.Printed.{PrintedSome, PrintedWhole}
 use Rattle.tl_fetch.specs.Trusting.{Policy, IsGrown, IsNoteOf, alone}
-
--- ---- what a witness is asked
-
--- the log of this head, over tiles that the source may answer: each list of its size and root, no input of which
--- collides with a string that is hashed for such tiles
-abbrev pub IsLogOf : (Resource → Bytes → Type 0) → Head → List Bytes → Type 0
-IsLogOf answers head entries = StandsAgainst sha256 (λ t. answers (resource.Tile t)) head.size head.root sha256 entries
-
--- the proof is the one from so many of the log's first entries to all of them (RFC 6962, section 2.1.2)
-pub record IsGrowthFrom (answers : Resource → Bytes → Type 0) (head : Head) (old : ℕ) (proof : List Bytes) : Type 0 where
-  pub within : old ≤ head.size
-  pub made : (entries : List Bytes) → IsLogOf answers head entries → proof ≡ consistency_proof sha256 old entries
 
 -- ---- what is printed
 

@@ -1,5 +1,5 @@
 -- How the entries of a log are listed, so that the end of each is seen.
-use Rattle.std.specs.Prelude.{ℕ, List, [], ◌∷◌, ◌++◌, ◌==◌, ◌||◌, Bool, false, if◌then◌else◌, length}
+use Rattle.std.specs.Prelude.{List, [], ◌∷◌, ◌++◌, ◌==◌, ◌||◌, Bool, false, if◌then◌else◌, length}
 use Rattle.std.specs.List.{flat_map, list_any}
 use Rattle.tl_hash.specs.Bytes.{Bytes}
 use Rattle.tl_text.specs.Text.{line, number_text}

@@ -3,5 +3,4 @@
 pub(crate) mod asking;
 pub(crate) mod command;
 pub(crate) mod feeding;
-pub(crate) mod growing;
 pub(crate) mod witnesses;

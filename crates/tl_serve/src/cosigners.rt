@@ -86,9 +86,7 @@ pub(crate) trait AsksInRounds<P> {
     fn ask(&self, place: usize, shelf: P);
 }
 
-impl<H: Wait + Clock + Net<Stream = TcpStream>, P: Shelf + Drop> AsksInRounds<P>
-    for Asking<'_, H>
-{
+impl<H: Wait + Clock + Net<Stream = TcpStream>, P: Shelf + Drop> AsksInRounds<P> for Asking<'_, H> {
     fn ask(&self, place: usize, shelf: P) {
         let (Some(witness), Some(url)) = (self.witnesses.get(place), self.urls.get(place)) else {
             return;
@@ -105,9 +103,7 @@ impl<H: Wait + Clock + Net<Stream = TcpStream>, P: Shelf + Drop> AsksInRounds<P>
             keys: self.log,
         };
         let source = ShelfReader(shelf);
-        ask_in_rounds(
-            rt, alloc, ballot, place, &source, &log, &mut asker, witness,
-        );
+        ask_in_rounds(rt, alloc, ballot, place, &source, &log, &mut asker, witness);
     }
 }
 

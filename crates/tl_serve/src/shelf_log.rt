@@ -160,7 +160,9 @@ impl<S: LogShelf + Drop> LiveLog for ShelfLog<S> {
         }
         let size = self.ledger.size();
         let waiting = self.intake.waiting();
-        let outcome = self.shelf.append(self.alloc, &self.key, waiting, &mut self.ledger);
+        let outcome = self
+            .shelf
+            .append(self.alloc, &self.key, waiting, &mut self.ledger);
         let_go(&mut self.intake, size, self.ledger.size());
         match outcome {
             Ok(()) => {

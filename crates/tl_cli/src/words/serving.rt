@@ -172,10 +172,7 @@ fn asked_of(alloc: Global, text: &str) -> Result<AskedWitness, WordsFault> {
 }
 
 // The witnesses that are asked.
-fn all_asked(
-    alloc: Global,
-    options: &ArgMatches<'_>,
-) -> Result<Vec<AskedWitness>, WordsFault> {
+fn all_asked(alloc: Global, options: &ArgMatches<'_>) -> Result<Vec<AskedWitness>, WordsFault> {
     let mut asked = Vec::new(alloc);
     for text in texts_of(alloc, options, "witness")? {
         let witness = asked_of(alloc, text.as_str())?;
@@ -187,11 +184,7 @@ fn all_asked(
 }
 
 // How many of so many witnesses must have cosigned what is shown: all, unless a number is given.
-fn must_cosign(
-    alloc: Global,
-    options: &ArgMatches<'_>,
-    witnesses: u64,
-) -> Result<u64, WordsFault> {
+fn must_cosign(alloc: Global, options: &ArgMatches<'_>, witnesses: u64) -> Result<u64, WordsFault> {
     let given = options.get_one::<u64>("need");
     match given {
         Some(0) => Err(usage_error(alloc, serve(), OF_WITNESSES)),

@@ -1,9 +1,8 @@
 -- What witnesses gave of a round.
-use Rattle.std.specs.Prelude.{◌≡◌, ◌⊎◌, ◌≢◌, ◌≤◌, ◌<◌, ℕ, List, [], ◌∷◌, Option, Some, None, String, length, option_map, slice_get, string_bytes}
+use Rattle.std.specs.Prelude.{◌≡◌, ◌⊎◌, ◌≢◌, ◌≤◌, ◌<◌, ◌+◌, ◌%◌, ◌^◌, ℕ, List, [], ◌∷◌, Option, Some, None, String, length, option_map, slice_get, string_bytes}
 use Rattle.std.specs.Global.{Global}
 use Rattle.std.specs.List.{filter_map, flat_map}
 use Rattle.tl_hash.specs.Bytes.{Bytes}
-use Rattle.tl_cosign.specs.declared.tally.NoLine.{NoLine}
 use Rattle.tl_cosign.specs.declared.tally.Round.{Round}
 use Rattle.tl_cosign.specs.declared.tally.Tally.{Tally}
 use Rattle.tl_cosign.specs.declared.tally.BallotEvent.{BallotEvent}
@@ -20,6 +19,11 @@ joined lines = flat_map (λ line. line) (given lines)
 -- the round that is open has this number
 abbrev pub IsOpen : Tally → ℕ → Type 0
 IsOpen tally number = option_map (λ round. round.number) tally.round ≡ Some number
+
+-- the number of the round after this one: one more, in 64 bits
+abbrev pub number_after : Option Round → ℕ
+number_after None = 1
+number_after (Some round) = (round.number + 1) % 2 ^ 64
 
 -- the line of the witness at this place counts in the round with this number: it is the one that is open, and the
 -- witness gave none of it

@@ -40,7 +40,7 @@ fn with_lines<S: ResourceSource, Q: AsksWitnesses>(
 {
     let mut lines = String::new(alloc);
     for place in 0..policy.witnesses.len() {
-        if let Some(line) = line_by(alloc, source, policy, note, head, known, asker, place)? {
+        if let Some(line) = line_by(alloc, source, policy, note, head, known, asker, place) {
             lines.push_str(line.as_str())?;
         }
     }

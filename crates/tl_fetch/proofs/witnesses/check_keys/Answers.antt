@@ -1,4 +1,4 @@
-use Rattle.std.proofs.Common.{◌<◌, ◌++◌, ◌∷◌, [], ◌+◌, ℕ, List, Contains, ap, arith, subst, sym, length, string_bytes, vec_items, ◌∙◌}
+use Rattle.std.proofs.Common.{◌<◌, ◌++◌, ◌∷◌, [], ◌+◌, ℕ, List, Contains, ap, arith, subst, sym, string_bytes, vec_items, ◌∙◌}
 use Rattle.std.proofs.lemmas.List.{length-map}
 use Rattle.tl_hash.specs.Bytes.{Bytes}
 use Rattle.tl_fetch.proofs.KeyLemmas.{HaveOwnSoFar, own_next}

@@ -9,9 +9,9 @@ loop-line-preserved c =
     let within = rw (c.deref-line-items.ensures.value) at c.loop-line-test.true in
     elim c.if-is_some.branch [
       | then-is_some w ↦
-        let so = counted_more c.args.self.now.lines.items c.loop-line.line-index c.line-item.result (omega (arith, within)) is (sym c.is_some.ensures ∙ w.if-is_some.true) in
-        (omega (arith, so, w.count-is, c.loop-line.invariant), omega (arith, w.count-is, c.loop-line.invariant))
+          let so = counted_more c.args.self.now.lines.items c.loop-line.line-index c.line-item.result (omega (arith, within)) is (sym c.is_some.ensures ∙ w.if-is_some.true) in
+          (omega (arith, so, w.count-is, c.loop-line.invariant), omega (arith, w.count-is, c.loop-line.invariant))
       | else-is_some w ↦
-        let so = counted_same c.args.self.now.lines.items c.loop-line.line-index c.line-item.result (omega (arith, within)) is (sym c.is_some.ensures ∙ w.if-is_some.false) in
-        (omega (arith, so, w.count-is, c.loop-line.invariant), omega (arith, w.count-is, c.loop-line.invariant))
+          let so = counted_same c.args.self.now.lines.items c.loop-line.line-index c.line-item.result (omega (arith, within)) is (sym c.is_some.ensures ∙ w.if-is_some.false) in
+          (omega (arith, so, w.count-is, c.loop-line.invariant), omega (arith, w.count-is, c.loop-line.invariant))
     ]

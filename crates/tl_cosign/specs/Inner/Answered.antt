@@ -1,0 +1,17 @@
+-- What a witness answered that isn't a cosignature.
+use Rattle.std.specs.Prelude.{◌⊎◌, ℕ, List, All}
+use Rattle.tl_hash.specs.Bytes.{Bytes}
+use Rattle.tl_note.specs.Key.{Key}
+use Rattle.tl_note.specs.Note.{Signature}
+use Rattle.tl_note.specs.View.{AreLines}
+use Rattle.tl_checkpoint.specs.Cosignature.{IsCosignature}
+
+-- the line is no cosignature of this text by this key
+abbrev pub IsOther : Bytes → Key → Signature → Type 0
+IsOther text key line = (time : ℕ) → ¬ (IsCosignature text key line time)
+
+-- the bytes are signature lines, none of which is one, or they are no signature lines
+abbrev pub AreOthers : Bytes → Key → Bytes → Type 0
+AreOthers text key bytes =
+    ((lines : List Signature) × AreLines bytes lines × All (IsOther text key) lines)
+    ⊎ ((lines : List Signature) → ¬ (AreLines bytes lines))
