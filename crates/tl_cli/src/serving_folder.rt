@@ -26,16 +26,16 @@ use tl_serve::{
     CosignedLog, Host, ServeOptions, Served, run_serve_cosigned, run_serve_shelf, threads_of,
 };
 
-// What each thread that answers reads of the folder at this path.
+// So many shelves of the folder at this path, for threads that read there.
 fn shown_of<D: CrashOutcome + Copy + Drop, H: Files + Copy + Drop>(
     disk: D,
     rt: &H,
     alloc: Global,
     dir: &str,
-    threads: u32,
+    count: usize,
 ) -> Result<Vec<FolderShelf<D, H>>, RunFault> {
     let mut shown = Vec::new(alloc);
-    for _ in 0..threads {
+    for _ in 0..count {
         shown.push(open_folder(disk, *rt, alloc, dir)?)?;
     }
     Ok(shown)
@@ -109,7 +109,7 @@ fn serve_cosigned<
             return Served { shelf, outcome };
         }
     };
-    let asked = match shown_of(disk, rt, alloc, dir, options.witnesses.len() as u32) {
+    let asked = match shown_of(disk, rt, alloc, dir, options.witnesses.len()) {
         Ok(asked) => asked,
         Err(fault) => {
             let outcome = Err(fault);
@@ -203,7 +203,7 @@ pub(crate) fn serve_at<
         Err(fault) => return Err(fault),
     };
     let threads = threads_of(rt, options.server.threads);
-    let shown = match shown_of(disk, rt, alloc, dir, threads) {
+    let shown = match shown_of(disk, rt, alloc, dir, threads as usize) {
         Ok(shown) => shown,
         Err(fault) => return Err(fault),
     };
