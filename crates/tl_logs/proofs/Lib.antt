@@ -5,4 +5,3 @@ pub mod IndexLaws
 pub mod Grouping
 pub mod Placed
 pub mod FileLaws
-pub mod KnownLaws

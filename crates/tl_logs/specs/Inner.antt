@@ -5,3 +5,9 @@ pub
     mod Lines
 pub
     mod Placing
+pub
+    mod Heads
+pub
+    mod OneLine
+pub
+    mod Stream
