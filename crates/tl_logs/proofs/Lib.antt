@@ -5,3 +5,8 @@ pub mod IndexLaws
 pub mod Grouping
 pub mod Placed
 pub mod FileLaws
+pub mod HeadLaws
+pub mod StreamLaws
+pub mod HeadIndex
+pub mod OneLineLaws
+pub mod WholeLaws

@@ -6,6 +6,8 @@ pub
 pub
     mod Placing
 pub
+    mod Counting
+pub
     mod Heads
 pub
     mod OneLine

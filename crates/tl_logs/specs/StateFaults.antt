@@ -68,8 +68,12 @@ pub record GaveRefused (H : Digest) (counts : Counts) (p : Passage) (fault : Sta
   pub steady : IsSteady p
   pub refused : RefusesBytes H counts bytes fault
 
--- a read failed, or the state is refused by what was given of it; memory is asked for a log, too
+-- a read failed, or the state is refused by what was given of it
+abbrev pub RefusesReading : Digest → Counts → Passage → StateFault → Type 0
+RefusesReading H counts p Read = HasFailed p
+RefusesReading H counts p fault = GaveRefused H counts p fault
+
+-- the same; memory is asked for a log, too
 abbrev pub RefusesState : Digest → Option (List Log) → Passage → StateFault → Type 0
-RefusesState H logs p Read = HasFailed p
-RefusesState H logs p OutOfMemory = IfSome logs (λ known. 0 < length known) ⊎ GaveRefused H (of_logs logs) p OutOfMemory
-RefusesState H logs p fault = GaveRefused H (of_logs logs) p fault
+RefusesState H logs p OutOfMemory = IfSome logs (λ known. 0 < length known) ⊎ RefusesReading H (of_logs logs) p OutOfMemory
+RefusesState H logs p fault = RefusesReading H (of_logs logs) p fault

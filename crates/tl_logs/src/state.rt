@@ -1,16 +1,15 @@
 //! Reads the state of a witness as a stream: a line at a time, and of each origin its last head is kept.
 
-ghost use Rattle.std.specs.Prelude.{◌≡◌, IfOk, OnErr, option_map};
+ghost use Rattle.std.specs.Prelude.{◌≡◌, ◌<◌, IfErr, IfOk, IfSome, OnErr, length, option_map};
 ghost use Rattle.tl_device.specs.Device.{passage};
 ghost use Rattle.tl_logs.specs.ReadLogs.{logs_shown};
-ghost use Rattle.tl_logs.specs.ReadState.{CompactsState, ReadsState};
-ghost use Rattle.tl_hash.specs.Bytes.{Bytes};
-ghost use Rattle.tl_logs.specs.Inner.Stream.{counts_of};
-ghost use Rattle.tl_logs.specs.State.{of_logs};
+ghost use Rattle.tl_logs.specs.ReadState.{CompactsState, ReadsState, heads_shown};
+ghost use Rattle.tl_logs.specs.StateFaults.{RefusesReading};
+ghost use Rattle.tl_logs.specs.Inner.Counting.{counts_of};
+ghost use Rattle.tl_logs.specs.State.{KnowsHeads, of_logs};
 
-use crate::by_origin::ByOrigin;
 use crate::head::{OriginHead, whole_lines};
-use crate::known::places_of;
+use crate::known::Counting;
 use crate::log::KnownLog;
 use crate::state_fault::StateFault;
 use crate::state_reading::StateReading;
@@ -25,18 +24,51 @@ const BLOCK: usize = 65_536;
 // How many bytes are too many, 2^62.
 const MOST_BYTES: u64 = 4_611_686_018_427_387_904;
 
-// The places of the origins that count, where not all do.
-fn places_if<A: Allocator + Copy>(
+// Whose lines count.
+fn counting_of<A: Allocator + Copy>(
     alloc: A,
     logs: Option<&[KnownLog<A>]>,
-) -> Result<Option<ByOrigin<A>>, AllocError>
-    ensures counts { IfOk result (λ places. (origin : Bytes) → counts_of places origin
-        ≡ of_logs (option_map (λ l. logs_shown l.now) logs) origin) }
+) -> Result<Counting<A>, AllocError>
+    ensures counts { IfOk result (λ counting.
+        counts_of counting ≡ of_logs (option_map (λ l. logs_shown l.now) logs.entry)) }
+    ensures memory { OnErr result
+        (IfSome (option_map (λ l. logs_shown l.now) logs.entry) (λ known. 0 < length known)) }
 {
     match logs {
-        Some(logs) => Ok(Some(places_of(alloc, logs)?)),
-        None => Ok(None),
+        Some(logs) => Counting::of(alloc, logs),
+        None => Ok(Counting::all()),
     }
+}
+
+// The heads of the origins whose lines count.
+fn read_counting<T: TreeHash, A: Allocator + Copy, R: Read>(
+    alloc: A,
+    tree: T,
+    counting: &Counting<A>,
+    reader: &mut Counted<R>,
+) -> Result<Vec<OriginHead<A>, A>, StateFault>
+    ensures heads { IfOk result (λ heads. KnowsHeads T.digest_of (counts_of counting.now)
+        (passage R.remaining reader.old reader.new) (heads_shown heads.items)) }
+    ensures refused { IfErr result (RefusesReading T.digest_of (counts_of counting.now)
+        (passage R.remaining reader.old reader.new)) }
+{
+    let mut reading = StateReading::new(alloc, tree);
+    let mut block = [0u8; BLOCK];
+    let mut count: u64 = 0;
+    while count < MOST_BYTES {
+        let Some(some) = reader.read_some(&mut block) else {
+            return Err(StateFault::Read);
+        };
+        if some == 0 {
+            return reading.end();
+        }
+        match reading.take_block(counting, &block[..some]) {
+            Ok(()) => {}
+            Err(fault) => return Err(fault),
+        }
+        count += some as u64;
+    }
+    Err(StateFault::TooLarge)
 }
 
 /// The head that the saved links of each origin lead to, in the order of the first lines; of these logs, or of all. The
@@ -49,26 +81,11 @@ pub fn read_state<T: TreeHash, A: Allocator + Copy, R: Read>(
     logs: Option<&[KnownLog<A>]>,
     reader: &mut Counted<R>,
 ) -> Result<Vec<OriginHead<A>, A>, StateFault>
-    ensures { ReadsState T.digest_of (option_map (λ l. logs_shown l.now) logs)
+    ensures { ReadsState T.digest_of (option_map (λ l. logs_shown l.now) logs.entry)
         (passage R.remaining reader.old reader.new) result }
 {
-    let mut reading = StateReading::new(alloc, tree, places_if(alloc, logs)?);
-    let mut block = [0u8; BLOCK];
-    let mut count: u64 = 0;
-    while count < MOST_BYTES {
-        let Some(some) = reader.read_some(&mut block) else {
-            return Err(StateFault::Read);
-        };
-        if some == 0 {
-            return reading.end();
-        }
-        match reading.take_block(&block[..some]) {
-            Ok(()) => {}
-            Err(fault) => return Err(fault),
-        }
-        count += some as u64;
-    }
-    Err(StateFault::TooLarge)
+    let counting = counting_of(alloc, logs)?;
+    read_counting(alloc, tree, &counting, reader)
 }
 
 /// The lines of a state that says of each origin in one line, from size 0 without a proof, what this one says: all of
@@ -80,7 +97,7 @@ pub fn compact_state<T: TreeHash, A: Allocator + Copy, R: Read>(
 ) -> Result<String<A>, StateFault>
     ensures { CompactsState T.digest_of (passage R.remaining reader.old reader.new) result }
 {
-    let heads = match read_state(alloc, tree, None, reader) {
+    let heads = match read_counting(alloc, tree, &Counting::all(), reader) {
         Ok(heads) => heads,
         Err(fault) => return Err(fault),
     };

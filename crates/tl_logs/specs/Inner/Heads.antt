@@ -22,7 +22,7 @@ HasNone heads origin = (place : ℕ) → slice_get (head_origins heads) place �
 -- a head moves to where a step leads, if it follows
 abbrev pub MovesOne : Digest → Step → OriginHead → OriginHead → Bool → Type 0
 MovesOne H step old new true = Follows H old.head step × (new ≡ origin_head old.origin (head_after step))
-MovesOne H step old new false = ¬ (Follows H old.head step)
+MovesOne H step old new false = ¬ (Follows H old.head step) × (new ≡ old)
 
 -- the step leads on from the head of its origin, which it takes the place of
 abbrev pub MovesHead : Digest → Bytes → Step → List OriginHead → List OriginHead → Type 0
