@@ -1,6 +1,10 @@
 -- Lines of a file, each with its newline.
-use Rattle.std.specs.Prelude.{◌≡◌, ◌≢◌, ℕ, ◌+◌, ◌<◌, ◌≤◌, ◌⊎◌, List, [], ◌∷◌, ◌++◌, length, take, slice_index_or, vec_items, Result, Ok, Err}
+use Rattle.std.specs.Prelude.{◌≡◌, ◌≢◌, ℕ, ◌+◌, ◌^◌, ◌<◌, ◌≤◌, ◌⊎◌, List, [], ◌∷◌, ◌++◌, length, take, slice_index_or, vec_items, Result, Ok, Err}
 use Rattle.std.specs.Global.{Vec}
+use Rattle.std.specs.Io.KnownBytes.{Consumes, IsAtEnd}
+use Rattle.tl_device.specs.Device.{HasFailed, Passage}
+use Rattle.tl_device.specs.declared.counted.InputFault.{InputFault}
+use Rattle.tl_device.specs.declared.counted.InputFault.TheVariants as reading
 use Rattle.tl_folder.specs.Step.{Path, Bytes, Step}
 use Rattle.tl_folder.specs.Step as step
 use Rattle.tl_folder.specs.FileCalls.{Call, Begins, done}
@@ -16,6 +20,20 @@ pub record IsWholeFront (bytes : List ℕ) (count : ℕ) : Type 0 where
   pub within : count ≤ length bytes
   pub ended : (count ≡ 0) ⊎ ((at : ℕ) × (count ≡ at + 1) × (slice_index_or bytes at 0 ≡ 10))
   pub last : (at : ℕ) → count ≤ at → at < length bytes → slice_index_or bytes at 0 ≢ 10
+
+-- the reader was read to its end, and so many of the first bytes that it gave are whole lines
+pub record ReadFront (p : Passage) (count : ℕ) : Type 0 where
+  pub input : List ℕ
+  pub consumed : Consumes p.old p.new input
+  pub ended : IsAtEnd p.new
+  pub front : IsWholeFront input count
+
+-- the length of the whole lines that the reader gives; or a read failed, or there were too many bytes
+abbrev pub MeasuresLines : Passage → Result ℕ InputFault → Type 0
+MeasuresLines p (Ok count) = ReadFront p count
+MeasuresLines p (Err reading.Read) = HasFailed p
+MeasuresLines p (Err reading.TooLarge) = (input : List ℕ) × Consumes p.old p.new input × (2 ^ 62 ≤ length input)
+MeasuresLines p (Err reading.OutOfMemory) = ⊥
 
 -- ---- the calls on the file
 
@@ -36,3 +54,8 @@ OpensLines path before after (Err fault) = (made : List Call) × (after ≡ befo
 abbrev pub AppendsSome : {E : Type 0} → Path → Bytes → List Call → List Call → Result ℕ E → Type 0
 AppendsSome path bytes before after (Ok count) = after ≡ before ++ done (appending path (take count bytes))
 AppendsSome path bytes before after (Err fault) = (made : List Call) × (after ≡ before ++ made) × ((count : ℕ) × Begins (appending path (take count bytes)) made)
+
+-- Ok: the file was cut to so many bytes, and all calls were done. Err: a beginning of the calls was made.
+abbrev pub OpensStream : {L E : Type 0} → Path → List Call → List Call → Result (ℕ × L) E → Type 0
+OpensStream path before after (Ok (count, locked)) = after ≡ before ++ done (opening path count)
+OpensStream path before after (Err fault) = (made : List Call) × (after ≡ before ++ made) × ((count : ℕ) × Begins (opening path count) made)

@@ -1,14 +1,17 @@
 //! A file of lines that outlast a crash.
 
 ghost use Rattle.std.specs.Prelude.{◌≡◌, ◌≤◌, [], ◌∷◌, IfOk, length, vec_items};
-ghost use Rattle.tl_folder.specs.FileCalls.{done};
+ghost use Rattle.tl_folder.specs.FileCalls.{Takes, done};
 ghost use Rattle.tl_folder.specs.Lines.{IsWholeFront, IsWhole, OpensLines, AppendsSome, opening};
+ghost use Rattle.tl_folder.specs.Settling.{new_path, replacing};
 
 use crate::file_calls::FileCalls;
 use crate::files::sync_parent;
 use crate::lock::LockedFile;
+use crate::place::beside;
 use crate::record::note_bytes;
 use crate::system::{OpenedFile, SystemCalls};
+use crate::whole::replace_by;
 use http_server::Log;
 use memchr::memrchr;
 use std::alloc::Global;
@@ -38,12 +41,44 @@ impl<'f, H: Files> Model for DurableAppend<'f, H> {
     ghost view = { λ s. record { path = s.path.now; written = noted s.written; calls = s.calls.log; fault = s.fault } };
 }
 
-impl<H: Files> DurableAppend<'_, H> {
+impl<'f, H: Files> DurableAppend<'f, H> {
+    /// The file that was opened by this path and locked, by these calls.
+    pub(crate) fn new(calls: SystemCalls<&'f H>, path: &'f str, locked: LockedFile) -> Self
+        ensures { result ≡ record {
+          path = path.now;
+          written = [];
+          calls = calls.log;
+          fault = None;
+        } }
+    {
+        DurableAppend {
+            calls,
+            path,
+            locked,
+            written: Log::new(),
+            fault: None,
+        }
+    }
+
     /// Why the last write failed, if it did.
     pub fn fault(&self) -> Option<DeviceFault>
         ensures { result ≡ self.now.fault }
     {
         self.fault
+    }
+
+    /// Puts a new file with these bytes in the place of this one, once they outlast a crash, and has the name outlast
+    /// one. From then on this one is at no path: a write to it is `Moved`. The lock stays on it while it is open, and
+    /// none is on the new one. After a failure the file at the path is this one or the new one.
+    pub fn replace(&mut self, alloc: Global, bytes: &[u8]) -> Result<(), DeviceFault>
+        ensures path { self.new.path ≡ self.old.path }
+        ensures written { self.new.written ≡ self.old.written }
+        ensures calls { Takes (replacing (new_path self.old.path) self.old.path bytes.now)
+            self.old.calls self.new.calls result }
+    {
+        let beside = beside(alloc, self.path)?;
+        self.locked.check_at(self.calls.symlink_metadata(self.path))?;
+        replace_by(&mut self.calls, beside.as_str(), self.path, bytes)
     }
 }
 
@@ -104,8 +139,8 @@ pub struct LineFile<'f, H: Files> {
     pub end: DurableAppend<'f, H>,
 }
 
-// How many of the first bytes are whole lines.
-fn whole_front(bytes: &[u8]) -> usize
+/// How many of the first bytes are whole lines.
+pub(crate) fn whole_front(bytes: &[u8]) -> usize
     ensures { IsWholeFront bytes.now result }
 {
     match memrchr(b'\n', bytes) {
@@ -155,12 +190,6 @@ pub fn open_lines<'f, H: Files<File = File>>(
 {
     let mut calls = SystemCalls::new(files);
     let (lines, locked) = open_by(&mut calls, alloc, path, most)?;
-    let end = DurableAppend {
-        calls,
-        path,
-        locked,
-        written: Log::new(),
-        fault: None,
-    };
+    let end = DurableAppend::new(calls, path, locked);
     Ok(LineFile { lines, end })
 }

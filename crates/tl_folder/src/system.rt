@@ -8,6 +8,7 @@ mod many;
 use crate::call_log::{Asked, CallLog};
 use crate::file_calls::FileCalls;
 use crate::folders::folder_of;
+use crate::line_stream::whole_length;
 use crate::look::{open_folder, open_plain};
 use crate::together::{SyncKind, SyncOutcome};
 use std::alloc::{Allocator, Global};
@@ -64,6 +65,14 @@ impl OpenedFile<File> {
     pub(crate) fn read(&self, alloc: Global, most: u64) -> Result<Vec<u8>, DeviceFault> {
         match read_whole(alloc, &mut Counted::new(&self.file), most) {
             Ok(bytes) => Ok(bytes),
+            Err(fault) => Err(DeviceFault::from(fault)),
+        }
+    }
+
+    /// How many of its bytes are whole lines. `TooLarge`: it has 2^62 bytes.
+    pub(crate) fn whole_length(&self) -> Result<u64, DeviceFault> {
+        match whole_length(&mut Counted::new(&self.file)) {
+            Ok(length) => Ok(length),
             Err(fault) => Err(DeviceFault::from(fault)),
         }
     }

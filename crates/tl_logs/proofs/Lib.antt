@@ -10,3 +10,5 @@ pub mod StreamLaws
 pub mod HeadIndex
 pub mod OneLineLaws
 pub mod WholeLaws
+pub mod BlockLaws
+pub mod StateLaws

@@ -13,12 +13,14 @@ use Rattle.tl_witness.specs.ReadChain.{IsLineOf}
 use Rattle.tl_witness.proofs.LineText.{line_of_words, no_such_words}
 use Rattle.tl_logs.specs.LogsFile.{IsInOneLine}
 use Rattle.tl_logs.specs.State.{AreLawful, Counts, OriginHead, counting, end_of, whole_line}
-use Rattle.tl_logs.specs.StateFaults.{HasLongLine, IsBrokenAt, IsMalformedAt, longest_line}
+use Rattle.tl_logs.specs.StateFaults.{HasLongLine, IsBrokenAt, IsMalformedAt, RefusesBytes, longest_line}
+use Rattle.tl_logs.specs.declared.state_fault.StateFault.{StateFault}
+use Rattle.tl_logs.specs.declared.state_fault.StateFault.TheVariants as why
 use Rattle.tl_logs.specs.Inner.Heads.{AddsHead, BreaksHead, MovesHead, TakesLink}
 use Rattle.tl_logs.specs.Inner.Stream.{HasRead, KeepsLink, SoFar, link_outcome}
 use Rattle.tl_logs.specs.declared.taking.LinkFault.{LinkFault}
 use Rattle.tl_logs.specs.declared.taking.LinkFault.TheVariants.{Broken, OutOfMemory}
-use Rattle.std.specs.Prelude.{Result, Ok, Err}
+use Rattle.std.specs.Prelude.{Result, Ok, Err, ◌-◌, min}
 use Rattle.tl_logs.proofs.HeadLaws.{AreHeads, counting_more, counting_same, heads_added, heads_broken, heads_moved, heads_none}
 
 abbrev pub so_far : List OriginHead → ℕ → List ℕ → SoFar
@@ -185,3 +187,36 @@ pub keeps : (H : Digest) (counts : Counts) (origin : List ℕ) (step : Step) (ol
 keeps H counts origin step old new line begun (Ok done) known taken = inr (known, taken)
 keeps H counts origin step old new line begun (Err Broken) known taken = (refl, known, taken)
 keeps H counts origin step old new line begun (Err OutOfMemory) known taken = tt
+
+-- ---- the newline of a line, and what is behind it
+
+behind_newline : (input after : List ℕ) → input ++ 10 ∷ after ≡ input ++ 10 ∷ [] ++ after
+behind_newline input after = sym (append_assoc input (10 ∷ []) after)
+
+pub newline_malformed : (H : Digest) (counts : Counts) (old : SoFar) (input after : List ℕ) → HasRead H counts old input → ((l : ChainLine) → IsChainLine l → old.begun ≢ chain_words l)
+    → IsMalformedAt H counts (input ++ 10 ∷ [] ++ after) old.line
+newline_malformed H counts old input after read none =
+    subst (λ (t : List ℕ). IsMalformedAt H counts t old.line) (behind_newline input after) (line_malformed H counts old input after read none)
+
+-- a link isn't kept
+pub newline_refused : (H : Digest) (counts : Counts) (old mid new : SoFar) (input after origin : List ℕ) (step : Step) (fault : StateFault) → HasRead H counts old input
+    → IsLineOf old.begun origin step → mid.heads ≡ old.heads → mid.line ≡ old.line → KeepsLink H counts origin step mid new (Err fault)
+    → RefusesBytes H counts (input ++ 10 ∷ [] ++ after) fault
+newline_refused H counts old mid new input after origin step why.Read read is heads line kept = kept
+newline_refused H counts old mid new input after origin step (why.Malformed place) read is heads line kept = absurd kept
+newline_refused H counts old mid new input after origin step (why.Broken place) read is heads line (at, known, breaks) =
+    subst (λ (n : ℕ). IsBrokenAt H counts (input ++ 10 ∷ [] ++ after) n) (sym (at ∙ line))
+    (subst (λ (t : List ℕ). IsBrokenAt H counts t old.line) (behind_newline input after)
+    (line_broken H counts old input after origin step read is known (subst (BreaksHead H origin step) heads breaks)))
+newline_refused H counts old mid new input after origin step why.TooLarge read is heads line kept = absurd kept
+newline_refused H counts old mid new input after origin step why.OutOfMemory read is heads line kept =
+    omega (arith, length-append (input ++ 10 ∷ []) after, length-append input (10 ∷ []))
+
+-- a link is kept
+pub newline_taken : (H : Digest) (counts : Counts) (old mid new : SoFar) (input after origin : List ℕ) (step : Step) (line : ℕ) → HasRead H counts old input
+    → length (input ++ after) < 2 ^ 63 → IsLineOf old.begun origin step → mid.heads ≡ old.heads → new.line ≡ old.line → line ≡ min (new.line + 1) (2 ^ 64 - 1)
+    → KeepsLink H counts origin step mid new (Ok tt) → HasRead H counts (so_far new.heads line []) (input ++ 10 ∷ [])
+newline_taken H counts old mid new input after origin step line read small is heads same next kept =
+    read_line H counts old (so_far new.heads line []) input origin step read is
+    (subst (λ (hs : List OriginHead). Kept H counts origin step hs new.heads) heads kept)
+    (omega (arith, next, same, line_within H counts old input read, small, length-append input after)) refl

@@ -109,7 +109,7 @@ impl<T: TreeHash, A: Allocator + Copy> StateReading<T, A> {
             → HasRead T.digest_of counts self.old input
             → TakesBytes T.digest_of counts self.new input part.now after result }
     {
-        if part.len() > LONGEST_LINE - self.begun.len() {
+        if part.len() > LONGEST_LINE.saturating_sub(self.begun.len()) {
             return Err(StateFault::TooLarge);
         }
         self.begun.extend_from_slice(part)?;
@@ -157,12 +157,19 @@ impl<T: TreeHash, A: Allocator + Copy> StateReading<T, A> {
         ensures shorter { IfOk result (λ rest. length rest.now < length bytes.now) }
     {
         let Some(end) = first_newline(bytes) else {
-            self.begin(bytes)?;
-            return Ok(&bytes[bytes.len()..]);
+            return match self.begin(bytes) {
+                Ok(()) => Ok(&bytes[bytes.len()..]),
+                Err(fault) => Err(fault),
+            };
         };
-        self.begin(&bytes[..end])?;
-        self.end_line(counting)?;
-        Ok(&bytes[end + 1..])
+        match self.begin(&bytes[..end]) {
+            Ok(()) => {}
+            Err(fault) => return Err(fault),
+        }
+        match self.end_line(counting) {
+            Ok(()) => Ok(&bytes[end + 1..]),
+            Err(fault) => Err(fault),
+        }
     }
 
     /// Takes a block of bytes.

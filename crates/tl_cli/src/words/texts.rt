@@ -113,7 +113,8 @@ key, for the log of its name, or a log's name, a space and that text. Empty line
 passed over, and so are lines of the input of logs that aren't in the file. It is read once, at the start. The witness
 cosigns by the private key in the file of --key, as 'tlog keygen --cosigner' prints it, or, for demonstrations, by
 --name and --witness-secret. With --state those lines are read from that file, and each is written to it, and outlasts
-a crash, before the answer.
+a crash, before the answer. With --compact that file is first replaced, as a whole, by one line of each log, also of
+those that aren't in the file of the logs, from size 0 to its last size: 'compacted BYTES to BYTES' on standard error.
 Defaults: --timeout 10, --clients 1024, as many threads as the machine has processors, any number of connections, and
 the machine's clock for the time of a cosignature.
 Exit status: 0 done; 1 refused (a bad key, a bad origin, a bad name, line K of the logs malformed or with a key again,
