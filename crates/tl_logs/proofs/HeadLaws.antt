@@ -69,10 +69,10 @@ steps_there lines place origin steps there =
     let at = stands_at (λ (o : List ℕ). saved_chain o (steps_of o lines)) (origins lines) place (saved_chain origin steps) there in
     ap (λ (o : List ℕ). steps_of o lines) (sym (ap (λ (c : SavedChain). c.origin) at.2)) ∙ ap (λ (c : SavedChain). c.steps) at.2
 
-origins_shown : (H : Digest) (cs : List SavedChain) → head_origins (map (end_of H) cs) ≡ chain_origins cs
+pub origins_shown : (H : Digest) (cs : List SavedChain) → head_origins (map (end_of H) cs) ≡ chain_origins cs
 origins_shown H cs = sym (shown_twice (end_of H) (λ (o : OriginHead). o.origin) (λ (c : SavedChain). c.origin) cs (λ c. refl))
 
-origins_of_chains : (lines : List ChainLine) (os : List (List ℕ)) → chain_origins (map (λ (o : List ℕ). saved_chain o (steps_of o lines)) os) ≡ os
+pub origins_of_chains : (lines : List ChainLine) (os : List (List ℕ)) → chain_origins (map (λ (o : List ℕ). saved_chain o (steps_of o lines)) os) ≡ os
 origins_of_chains lines [] = refl
 origins_of_chains lines (o ∷ os) = ap (λ (t : List (List ℕ)). o ∷ t) (origins_of_chains lines os)
 

@@ -12,3 +12,5 @@ pub mod OneLineLaws
 pub mod WholeLaws
 pub mod BlockLaws
 pub mod StateLaws
+pub mod CompactLaws
+pub mod WholeChains

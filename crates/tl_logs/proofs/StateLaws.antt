@@ -1,5 +1,6 @@
 -- Laws of a state that a reader gives.
 use Rattle.std.proofs.Common.{◌≡◌, ◌≢◌, ◌≤◌, ◌<◌, ◌+◌, ◌^◌, ℕ, Bool, List, [], ◌∷◌, ◌++◌, Option, length, map, take, refl, sym, ap, subst, ◌∙◌, inl, inr, arith, append-nil}
+use Rattle.std.specs.Prelude.{IfErr, IfOk, Result, Ok, Err}
 use Rattle.std.specs.Io.KnownBytes.{Consumes, IsAtEnd}
 use Rattle.std.proofs.KnownBytes.{Consumes-nil, Consumes-trans}
 use Rattle.std.proofs.lemmas.List.{length-append, length-take-le}
@@ -76,6 +77,17 @@ module _ (H : Digest) (counts : Counts) (a b c : Option (List ℕ)) (f g h : Boo
   pub come_torn : (fault : StateFault) → n ≡ 0 → s.begun ≢ [] → fault ≡ Malformed s.line → RefusesReading H counts (over a c f h) fault
   come_torn fault none some is = subst (RefusesReading H counts (over a c f h)) (sym is)
       (record { bytes = come.input; consumed = nothing_more none; steady = same ∙ come.steady; refused = end_malformed H counts s come.input come.read some })
+
+  -- what comes of the end
+  pub ends_well : {X : Type 0} (r : Result X StateFault) (shown : X → List OriginHead) → n ≡ 0 → IsAtEnd c → IfOk r (λ x. (s.begun ≡ []) × (shown x ≡ s.heads))
+      → IfOk r (λ x. KnowsHeads H counts (over a c f h) (shown x))
+  ends_well (Ok x) shown none at_end is = come_end (shown x) none at_end is.0 is.1
+  ends_well (Err fault) shown none at_end is = tt
+
+  pub ends_ill : {X : Type 0} (r : Result X StateFault) → n ≡ 0 → IfErr r (λ fault. (s.begun ≢ []) × (fault ≡ Malformed s.line))
+      → IfErr r (RefusesReading H counts (over a c f h))
+  ends_ill (Ok x) none is = tt
+  ends_ill (Err fault) none is = come_torn fault none is.0 is.1
 
 -- there are too many bytes
 pub come_too_many : (H : Digest) (counts : Counts) (p : Passage) (count : ℕ) (s : SoFar) → HasCome H counts p count s → most_bytes ≤ count → RefusesReading H counts p TooLarge

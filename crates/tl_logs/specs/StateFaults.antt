@@ -1,5 +1,5 @@
 -- Why the state of a witness isn't read. H is the digest function.
-use Rattle.std.specs.Prelude.{◌≡◌, ◌≢◌, ℕ, ◌<◌, ◌≤◌, ◌^◌, ◌⊎◌, true, List, [], ◌++◌, Option, Some, None, IfSome, length}
+use Rattle.std.specs.Prelude.{◌≡◌, ◌≢◌, ℕ, ◌<◌, ◌≤◌, ◌^◌, ◌⊎◌, true, List, [], ◌++◌, Option, Some, None, IsSomeAnd, length}
 use Rattle.std.specs.Io.KnownBytes.{Consumes}
 use Rattle.tl_hash.specs.Bytes.{Bytes, Digest}
 use Rattle.tl_device.specs.Device.{HasFailed, IsSteady, Passage}
@@ -75,5 +75,5 @@ RefusesReading H counts p fault = GaveRefused H counts p fault
 
 -- the same; memory is asked for a log, too
 abbrev pub RefusesState : Digest → Option (List Log) → Passage → StateFault → Type 0
-RefusesState H logs p OutOfMemory = IfSome logs (λ known. 0 < length known) ⊎ RefusesReading H (of_logs logs) p OutOfMemory
+RefusesState H logs p OutOfMemory = IsSomeAnd logs (λ known. 0 < length known) ⊎ RefusesReading H (of_logs logs) p OutOfMemory
 RefusesState H logs p fault = RefusesReading H (of_logs logs) p fault

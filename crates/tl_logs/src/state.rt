@@ -1,6 +1,6 @@
 //! Reads the state of a witness as a stream: a line at a time, and of each origin its last head is kept.
 
-ghost use Rattle.std.specs.Prelude.{◌≡◌, ◌<◌, IfErr, IfOk, IfSome, OnErr, length, option_map};
+ghost use Rattle.std.specs.Prelude.{◌≡◌, ◌<◌, IfErr, IfOk, IsSomeAnd, OnErr, length, option_map};
 ghost use Rattle.tl_device.specs.Device.{passage};
 ghost use Rattle.tl_logs.specs.ReadLogs.{logs_shown};
 ghost use Rattle.tl_logs.specs.ReadState.{CompactsState, ReadsState, heads_shown};
@@ -32,7 +32,7 @@ fn counting_of<A: Allocator + Copy>(
     ensures counts { IfOk result (λ counting.
         counts_of counting ≡ of_logs (option_map (λ l. logs_shown l.now) logs.entry)) }
     ensures memory { OnErr result
-        (IfSome (option_map (λ l. logs_shown l.now) logs.entry) (λ known. 0 < length known)) }
+        (IsSomeAnd (option_map (λ l. logs_shown l.now) logs.entry) (λ known. 0 < length known)) }
 {
     match logs {
         Some(logs) => Counting::of(alloc, logs),
