@@ -1,0 +1,17 @@
+use Rattle.std.proofs.Common.{ap, is_ok, rules}
+use Rattle.std.proofs.lemmas.Result.{err_from_is_err_and}
+use Rattle.tl_folder.proofs.Beginnings.{is_err_at}
+use Rattle.tl_folder.proofs.StreamBeginnings.{stream_failed, stream_unnamed}
+use Rattle.tl_folder.proofs.line_stream.lock_lines.Goals as goal
+
+pub returns-in_err-locked : goal.returns-in_err-locked
+returns-in_err-locked g c =
+    let p = err_from_is_err_and c.from_residual.result c.from_residual.ensures.1 in
+    stream_failed c.args.path.now _ _ c.open.result c.from_residual.result (search rules) (is_err_at c.from_residual.result p.0 p.1) c.open.ensures
+
+pub returns-in_err-sync_parent : goal.returns-in_err-sync_parent
+returns-in_err-sync_parent g c =
+    let p = err_from_is_err_and c.from_residual-in_err-sync_parent.result c.from_residual-in_err-sync_parent.ensures.1 in
+    stream_unnamed c.args.path.now _ _ _ _ _ _ _ _ c.sync_parent.result c.from_residual-in_err-sync_parent.result
+    (is_err_at c.sync_parent.result _ c.in_err-sync_parent.was) (is_err_at c.from_residual-in_err-sync_parent.result p.0 p.1)
+    c.in_ok-locked.ensures c.cut.ensures (ap is_ok c.in_ok-cut.was) c.sync_all.ensures (ap is_ok c.in_ok-sync_all.was) c.sync_parent.ensures
