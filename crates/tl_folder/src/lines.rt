@@ -47,7 +47,7 @@ impl<'f, H: Files> DurableAppend<'f, H> {
         ensures { result ≡ record {
           path = path.now;
           written = [];
-          calls = calls.log;
+          calls = calls.entry.log;
           fault = None;
         } }
     {
