@@ -77,7 +77,8 @@ impl<'f, H: Files> DurableAppend<'f, H> {
             self.old.calls self.new.calls result }
     {
         let beside = beside(alloc, self.path)?;
-        self.locked.check_at(self.calls.symlink_metadata(self.path))?;
+        self.locked
+            .check_at(self.calls.symlink_metadata(self.path))?;
         replace_by(&mut self.calls, beside.as_str(), self.path, bytes)
     }
 }
