@@ -1,5 +1,5 @@
 -- Laws of a block of bytes that is taken line by line.
-use Rattle.std.proofs.Common.{◌≡◌, ◌≢◌, ◌<◌, ◌^◌, ◌-◌, ◌+◌, ℕ, List, [], ◌∷◌, ◌++◌, length, take, drop, refl, sym, ap, subst, ◌∙◌, arith, append_assoc, append-nil, Some}
+use Rattle.std.proofs.Common.{◌≡◌, ◌<◌, ◌^◌, ◌-◌, ◌+◌, ℕ, List, [], ◌∷◌, ◌++◌, length, take, drop, refl, sym, ap, subst, ◌∙◌, arith, append_assoc, append-nil, Some}
 use Rattle.std.specs.Prelude.{position}
 use Rattle.std.proofs.lemmas.List.{length-append}
 use Rattle.tl_hash.specs.Bytes.{Digest}
@@ -43,8 +43,15 @@ module _ (bytes : List ℕ) (end : ℕ) (found : position is_newline bytes ≡ S
 
   pub small_front : (input : List ℕ) → length (input ++ bytes) < 2 ^ 63 → length (input ++ take end bytes ++ behind bytes end) < 2 ^ 63
   small_front input small =
-      omega (arith, small, length-append input bytes, ap length cut, length-append (take end bytes) (10 ∷ behind bytes end),
-      length-append (input ++ take end bytes) (behind bytes end), length-append input (take end bytes))
+      omega (
+        arith,
+        small,
+        length-append input bytes,
+        ap length cut,
+        length-append (take end bytes) (10 ∷ behind bytes end),
+        length-append (input ++ take end bytes) (behind bytes end),
+        length-append input (take end bytes),
+      )
 
   whole : (input : List ℕ) → input ++ take end bytes ++ 10 ∷ behind bytes end ≡ input ++ bytes
   whole input = append_assoc input (take end bytes) (10 ∷ behind bytes end) ∙ ap (λ (t : List ℕ). input ++ t) (sym cut)

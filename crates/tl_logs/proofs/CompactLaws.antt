@@ -1,8 +1,8 @@
 -- Laws of a state that is compacted.
-use Rattle.std.proofs.Common.{◌≡◌, ◌≢◌, ◌≤◌, ◌<◌, ℕ, Bool, true, List, [], ◌∷◌, ◌++◌, length, map, refl, sym, ap, subst, ◌∙◌, inl, inr, arith, append_assoc, append-nil, Some, All, string_bytes, vec_items, slice_get}
-use Rattle.std.specs.Prelude.{filter, IfErr, IfOk, OnErr, Option, None, Result, Ok, Err, String}
+use Rattle.std.proofs.Common.{◌≡◌, ◌≢◌, ◌<◌, ℕ, List, [], ◌∷◌, ◌++◌, length, map, refl, sym, ap, subst, ◌∙◌, inr, arith, append_assoc, append-nil, Some, vec_items, slice_get}
+use Rattle.std.specs.Prelude.{IfErr, IfOk, Option, None, Result, Ok, Err}
 use Rattle.std.specs.declared.vec.Vec.{Vec}
-use Rattle.std.proofs.lemmas.List.{map-append, length-map}
+use Rattle.std.proofs.lemmas.List.{map-append}
 use Rattle.std.proofs.lemmas.List.Elements.{All-map}
 use Rattle.tl_hash.specs.Bytes.{Digest}
 use Rattle.tl_device.specs.Device.{Passage}
@@ -14,7 +14,7 @@ use Rattle.tl_logs.specs.LogsFile.{Log}
 use Rattle.tl_logs.specs.State as state
 use Rattle.tl_logs.specs.State.{Counts, IsCompacted, KnowsHeads, counting, end_of, in_one_step, of_logs, whole_line}
 use Rattle.tl_logs.specs.StateFaults.{RefusesReading, RefusesState}
-use Rattle.tl_logs.specs.ReadState.{CompactsState, ReadsState, heads_shown}
+use Rattle.tl_logs.specs.ReadState.{ReadsState, heads_shown}
 use Rattle.tl_logs.specs.Inner.Heads.{head_origins}
 use Rattle.tl_logs.specs.declared.head.OriginHead.{OriginHead}
 use Rattle.tl_logs.specs.declared.state_fault.StateFault.{StateFault}
@@ -37,8 +37,8 @@ one_each_from done [] so_far once = subst (λ (hs : List state.OriginHead). chai
 one_each_from done (o ∷ rest) so_far once =
     let new : (place : ℕ) → slice_get (chain_origins (chains (map whole_line done))) place ≢ Some o.origin =
     λ place there. twice_moved done rest o once
-        (comes_again o.origin (head_origins done) (head_origins rest)
-        (among_at (head_origins done) place o.origin (ap (λ (os : List (List ℕ)). slice_get os place) (sym (ap chain_origins so_far ∙ one_origins done)) ∙ there))) in
+    (comes_again o.origin (head_origins done) (head_origins rest)
+    (among_at (head_origins done) place o.origin (ap (λ (os : List (List ℕ)). slice_get os place) (sym (ap chain_origins so_far ∙ one_origins done)) ∙ there))) in
     let grown : chains (map whole_line done) ++ saved_chain o.origin ((whole_line o).step ∷ []) ∷ [] ≡ chains (map whole_line done ++ whole_line o ∷ []) =
     puts_line (map whole_line done) (whole_line o) (chains (map whole_line done) ++ saved_chain o.origin ((whole_line o).step ∷ []) ∷ []) (grouped_all (map whole_line done)) (inr (new, refl)) in
     let next : chains (map whole_line (done ++ o ∷ [])) ≡ map in_one_step (done ++ o ∷ []) =

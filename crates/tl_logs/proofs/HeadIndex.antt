@@ -1,11 +1,11 @@
 -- The index of heads, as one moves or comes.
-use Rattle.std.proofs.Common.{◌≡◌, ◌≢◌, ℕ, ◌<◌, Bool, true, false, List, [], ◌∷◌, ◌++◌, length, map, Some, None, refl, sym, ap, subst, ◌∙◌, inl, arith, slice_get, slice_index_or}
+use Rattle.std.proofs.Common.{◌≡◌, ℕ, ◌<◌, Bool, true, false, List, [], ◌∷◌, ◌++◌, length, map, Some, refl, sym, ap, subst, ◌∙◌, inl, arith, slice_get, slice_index_or}
 use Rattle.std.specs.Prelude.{slice_set}
 use Rattle.std.proofs.lemmas.List.{map-append, map-set, length-map}
 use Rattle.std.proofs.lemmas.Option.{slice_get_within}
 use Rattle.tl_hash.specs.Bytes.{Digest}
 use Rattle.tl_proof.specs.Acceptance.{Step}
-use Rattle.tl_witness.specs.Chain.{Follows, head_after}
+use Rattle.tl_witness.specs.Chain.{head_after}
 use Rattle.tl_witness.proofs.ChainIndexLaws.{set_found}
 use Rattle.tl_logs.specs.State.{OriginHead, origin_head}
 use Rattle.tl_logs.specs.Inner.ByOrigin.{Index, Indexes, PutsOrigin}

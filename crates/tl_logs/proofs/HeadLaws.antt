@@ -1,5 +1,5 @@
 -- Laws of the heads that lines lead to, as one line more comes behind them.
-use Rattle.std.proofs.Common.{◌≡◌, ◌≢◌, ◌≤◌, ◌<◌, ℕ, zero, suc, Bool, true, false, List, [], ◌∷◌, ◌++◌, length, map, refl, sym, ap, subst, ◌∙◌, cond, inl, inr, Some, All, get_or, slice_get, arith, append_assoc, append-nil}
+use Rattle.std.proofs.Common.{◌≡◌, ◌≢◌, ℕ, Bool, true, false, List, [], ◌∷◌, ◌++◌, map, refl, sym, ap, subst, ◌∙◌, cond, inl, inr, Some, All, slice_get, arith, append_assoc, append-nil}
 use Rattle.std.specs.Prelude.{◌||◌, bytes_eq, filter, slice_set}
 use Rattle.std.specs.List.{list_any}
 use Rattle.std.proofs.lemmas.Bool.{cases_Bool}
@@ -10,7 +10,6 @@ use Rattle.tl_hash.specs.Bytes.{Digest}
 use Rattle.tl_proof.specs.Acceptance.{Step}
 use Rattle.tl_witness.specs.Chain.{Follows, IsChain, TreeHead, first_head, head_after, last_head}
 use Rattle.tl_witness.specs.ChainLine.{ChainLine, IsChainLine, chains, origins, steps_of}
-use Rattle.tl_witness.specs.ChainFields.{PutsStep}
 use Rattle.tl_witness.specs.Open.{SavedChain, chain_origins, saved_chain}
 use Rattle.tl_witness.specs.Open as witness
 use Rattle.tl_witness.proofs.ChainLaws.{chain-none, chain-snoc, last_head-snoc, line_made}

@@ -1,18 +1,17 @@
 -- Laws of what was read of a state, as more bytes come.
-use Rattle.std.proofs.Common.{◌≡◌, ◌≢◌, ◌≤◌, ◌<◌, ◌+◌, ◌^◌, ℕ, zero, suc, Bool, true, false, List, [], ◌∷◌, ◌++◌, length, map, refl, sym, ap, subst, ◌∙◌, inl, inr, All, ◌⊎◌, arith, append_assoc, append-nil, get_or}
+use Rattle.std.proofs.Common.{◌≡◌, ◌≢◌, ◌≤◌, ◌<◌, ◌+◌, ◌^◌, ℕ, true, false, List, [], ◌∷◌, ◌++◌, length, refl, sym, ap, subst, ◌∙◌, inl, inr, All, ◌⊎◌, arith, append_assoc, append-nil}
 use Rattle.std.proofs.lemmas.List.{length-append}
 use Rattle.std.proofs.lemmas.List.Concat.{flat_map-cons, flat_map-append}
 use Rattle.std.proofs.lemmas.List.Elements.{All-append, All-nil, All-push}
 use Rattle.std.proofs.Math.Seq.{get_or-append_seam}
 use Rattle.tl_hash.specs.Bytes.{Digest}
 use Rattle.tl_proof.specs.Acceptance.{Step}
-use Rattle.tl_witness.specs.Chain.{Follows, first_head, last_head}
-use Rattle.tl_witness.specs.ChainLine.{ChainLine, IsChainLine, chain_line, chain_text, steps_of}
+use Rattle.tl_witness.specs.ChainLine.{ChainLine, IsChainLine, chain_line, chain_text}
 use Rattle.tl_witness.specs.ChainFields.{chain_words}
 use Rattle.tl_witness.specs.ReadChain.{IsLineOf}
 use Rattle.tl_witness.proofs.LineText.{line_of_words, no_such_words}
 use Rattle.tl_logs.specs.LogsFile.{IsInOneLine}
-use Rattle.tl_logs.specs.State.{AreLawful, Counts, OriginHead, counting, end_of, whole_line}
+use Rattle.tl_logs.specs.State.{Counts, OriginHead, counting, whole_line}
 use Rattle.tl_logs.specs.StateFaults.{HasLongLine, IsBrokenAt, IsMalformedAt, RefusesBytes, longest_line}
 use Rattle.tl_logs.specs.declared.state_fault.StateFault.{StateFault}
 use Rattle.tl_logs.specs.declared.state_fault.StateFault.TheVariants as why

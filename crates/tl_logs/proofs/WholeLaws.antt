@@ -1,10 +1,8 @@
 -- Heads that are written as lines, and made chains.
-use Rattle.std.proofs.Common.{◌≡◌, ◌≢◌, ◌<◌, ℕ, List, [], ◌∷◌, ◌++◌, length, map, take, refl, sym, ap, subst, ◌∙◌, All, get_or, arith, append-nil, inl, inr}
+use Rattle.std.proofs.Common.{◌≡◌, ◌<◌, ℕ, List, [], ◌∷◌, ◌++◌, length, map, take, refl, sym, ap, subst, ◌∙◌, All, get_or, arith, append-nil}
 use Rattle.std.proofs.lemmas.List.{get_or-map, length-map, take_all}
-use Rattle.std.proofs.lemmas.List.Elements.{All-nil}
-use Rattle.tl_hash.specs.Bytes.{Digest}
 use Rattle.tl_proof.specs.Acceptance.{Step}
-use Rattle.tl_witness.specs.ChainLine.{ChainLine, IsChainLine, chain_text}
+use Rattle.tl_witness.specs.ChainLine.{IsChainLine, chain_text}
 use Rattle.tl_witness.specs.Open.{SavedChain}
 use Rattle.tl_logs.specs.State.{OriginHead, in_one_step, whole_line, whole_step}
 use Rattle.tl_logs.proofs.ListLaws.{shown_twice}

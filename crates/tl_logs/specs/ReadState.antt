@@ -1,5 +1,5 @@
 -- What reading the state of a witness answers, and what compacting it does. H is the digest function.
-use Rattle.std.specs.Prelude.{◌≡◌, List, None, Option, Result, Ok, Err, String, map, string_bytes, vec_items}
+use Rattle.std.specs.Prelude.{List, None, Option, Result, Ok, Err, String, map, string_bytes, vec_items}
 use Rattle.std.specs.declared.vec.Vec.{Vec}
 use Rattle.tl_hash.specs.Bytes.{Digest}
 use Rattle.tl_device.specs.Device.{Passage}

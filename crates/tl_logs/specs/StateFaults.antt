@@ -1,5 +1,5 @@
 -- Why the state of a witness isn't read. H is the digest function.
-use Rattle.std.specs.Prelude.{◌≡◌, ◌≢◌, ℕ, ◌<◌, ◌≤◌, ◌^◌, ◌⊎◌, true, List, [], ◌++◌, Option, Some, None, IsSomeAnd, length}
+use Rattle.std.specs.Prelude.{◌≡◌, ◌≢◌, ℕ, ◌<◌, ◌≤◌, ◌^◌, ◌⊎◌, true, List, [], ◌++◌, Option, IsSomeAnd, length}
 use Rattle.std.specs.Io.KnownBytes.{Consumes}
 use Rattle.tl_hash.specs.Bytes.{Bytes, Digest}
 use Rattle.tl_device.specs.Device.{HasFailed, IsSteady, Passage}

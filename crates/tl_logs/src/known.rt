@@ -18,10 +18,7 @@ pub(crate) struct Counting<A: Allocator> {
 }
 
 // The places of the origins of logs. It fails only where a growth was refused.
-fn places_of<A: Allocator + Copy>(
-    alloc: A,
-    logs: &[KnownLog<A>],
-) -> Result<ByOrigin<A>, AllocError>
+fn places_of<A: Allocator + Copy>(alloc: A, logs: &[KnownLog<A>]) -> Result<ByOrigin<A>, AllocError>
     ensures places { IfOk result (λ places. (origin : Bytes)
         → is_some (index_of places origin) ≡ is_origin_of (logs_shown logs.now) origin) }
     ensures memory { OnErr result (0 < length logs.now) }

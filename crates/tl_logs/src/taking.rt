@@ -45,11 +45,7 @@ impl<X: Drop> From<AllocFailed<X>> for LinkFault {
 }
 
 // Moves a head to where a link leads, if the link is accepted from it.
-fn move_head<T: TreeHash, A: Allocator>(
-    tree: T,
-    head: &mut OriginHead<A>,
-    link: &Link<A>,
-) -> bool
+fn move_head<T: TreeHash, A: Allocator>(tree: T, head: &mut OriginHead<A>, link: &Link<A>) -> bool
     ensures { MovesOne T.digest_of (step_of link.now)
         (head_shown head.old) (head_shown head.new) result }
 {

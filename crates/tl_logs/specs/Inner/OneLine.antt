@@ -1,5 +1,5 @@
 -- What reading one line of a state answers.
-use Rattle.std.specs.Prelude.{◌≡◌, ◌≢◌, ⊤, Result, Ok, Err, String, string_bytes}
+use Rattle.std.specs.Prelude.{◌≢◌, ⊤, Result, Ok, Err, String, string_bytes}
 use Rattle.tl_hash.specs.Bytes.{Bytes}
 use Rattle.tl_proof.specs.declared.link.Link.{Link}
 use Rattle.tl_proof.specs.Acceptance.{step_of}

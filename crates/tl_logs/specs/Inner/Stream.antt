@@ -10,7 +10,7 @@ use Rattle.tl_logs.specs.Inner.Heads.{AddsHead, BreaksHead, MovesHead}
 use Rattle.tl_logs.specs.declared.taking.LinkFault.{LinkFault}
 use Rattle.tl_logs.specs.declared.taking.LinkFault.TheVariants as fault
 use Rattle.tl_logs.specs.declared.state_fault.StateFault.{StateFault}
-use Rattle.tl_logs.specs.declared.state_fault.StateFault.TheVariants.{Read, Malformed, Broken, TooLarge, OutOfMemory}
+use Rattle.tl_logs.specs.declared.state_fault.StateFault.TheVariants.{Broken, OutOfMemory}
 
 -- what was read so far: the heads that the lines that count lead to, how many lines were taken, and the bytes that came of
 -- the next one

@@ -1,5 +1,5 @@
 use Rattle.std.proofs.Common.{rules}
-use Rattle.tl_logs.proofs.OneLineLaws.{chain_read, line_read, link_read, none_malformed, refuses_line}
+use Rattle.tl_logs.proofs.OneLineLaws.{chain_read, line_read, link_read, refuses_line}
 use Rattle.tl_logs.proofs.one_line.read_link.Goals as goal
 
 pub returns-in-Err : goal.returns-in-Err

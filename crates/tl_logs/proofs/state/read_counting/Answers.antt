@@ -1,4 +1,4 @@
-use Rattle.std.proofs.Common.{rules, length}
+use Rattle.std.proofs.Common.{rules}
 use Rattle.tl_logs.specs.Inner.Counting.{counts_of}
 use Rattle.tl_logs.specs.ReadState.{heads_shown}
 use Rattle.tl_logs.proofs.StateLaws.{come_more, come_none, come_refused, come_small, ends_ill, ends_well}

@@ -1,7 +1,6 @@
-use Rattle.std.proofs.Common.{◌∙◌, arith, sym, inl, subst, true, false}
+use Rattle.std.proofs.Common.{arith, inl}
 use Rattle.tl_proof.specs.Acceptance.{step_of}
 use Rattle.tl_logs.specs.Inner.ByOrigin.{index_of}
-use Rattle.tl_logs.specs.Inner.Heads.{MovesOne}
 use Rattle.tl_logs.specs.ReadState.{head_shown}
 use Rattle.tl_logs.proofs.HeadIndex.{breaks_there, head_within, index_grows, index_stays, moves_there, same_origin}
 use Rattle.tl_logs.proofs.taking.take_link.Goals as goal

@@ -1,4 +1,4 @@
-use Rattle.std.proofs.Common.{◌++◌, ◌∷◌, [], sym, refl, take, rules}
+use Rattle.std.proofs.Common.{◌++◌, ◌∷◌, [], sym, refl, take}
 use Rattle.tl_logs.specs.Inner.Counting.{counts_of}
 use Rattle.tl_logs.proofs.BlockLaws.{behind, front_plain, refused_all, refused_end, refused_front, small_front, some_behind, some_more, took_all, took_line}
 use Rattle.tl_logs.proofs.Newlines.{no_newline, nothing_left}
