@@ -1,6 +1,4 @@
 pub mod Loops
-pub mod Onward
-pub mod PlainTurns
 pub mod Proposals
 pub mod Reading
 pub mod Runs

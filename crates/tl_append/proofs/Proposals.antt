@@ -10,7 +10,6 @@ use Rattle.tl_checkpoint.specs.Checkpoint.{checkpoint_text}
 use Rattle.tl_checkpoint.proofs.OneText.{one_checkpoint}
 use Rattle.tl_archive.specs.Shelves.{Held}
 use Rattle.tl_checkpoint.specs.OpenCheckpoint.{IsSignedCheckpoint}
-use Rattle.tl_checkpoint.specs.Quorum.{AreApart}
 use Rattle.tl_ledger.specs.Opening.{IsOfHeld, IsOfNote, IsStated, found_size}
 use Rattle.tl_client.specs.Trusted.{IsTrusted}
 use Rattle.tl_append.specs.Cosigning.{HasQuorum}
@@ -22,9 +21,9 @@ states_size note keys c signed = (record { size = c.size; root = c.root }, (c, s
 
 -- enough witnesses cosigned a note
 pub has_quorum : (note : Bytes) (keys witnesses : List Key) (need : ℕ) (c : checkpoint.Head)
-    → AreApart witnesses × IsTrusted note (record { keys = keys; witnesses = witnesses; need = need }) c
+    → IsTrusted note (record { keys = keys; witnesses = witnesses; need = need }) c
     → HasQuorum (record { witnesses = witnesses; need = need }) note
-has_quorum note keys witnesses need c (apart, trusted) = inr (apart, (keys, c, trusted))
+has_quorum note keys witnesses need c trusted = inr (keys, c, trusted)
 
 -- none is kept
 pub none_kept : (MayHave : Option Bytes → Type 0) (keys : List Key) (size : ℕ) → MayHave None → HasProposal MayHave keys size

@@ -15,9 +15,19 @@ use Rattle.tl_ledger.specs.Keeping.{IsKeeping, published}
 use Rattle.tl_ledger.specs.Spent.{IsShown, RemovesSpent}
 use Rattle.tl_command.specs.Mirror.{LogKey, checkpoint_note}
 use Rattle.tl_append.specs.Cosigning.{HasCosigned, HasQuorum, Quorum, ShowsAtMost, ShowsBatch, ShowsThen, shown}
-use Rattle.tl_append.specs.Inner.Turns.{SealsBatch, turn}
+use Rattle.tl_append.specs.Inner.Turns.{IsNoteOf, SealsBatch, turn}
 use Rattle.tl_append.proofs.Showing.{AreCosigned}
 use Rattle.tl_append.proofs.Turns.{along, checkpoint_stays, kept_as, safe_as, safe_both, safe_on}
+
+-- a note of a size and a root with some lines behind it, where these are those of the log
+pub is_note_of : (key : LogKey) (now : Ledger) (size : ℕ) (root note lines text : Bytes) → size ≡ now.edge.size
+    → ((entries : List Bytes) → IsStanding sha256 entries now → root ≡ tree_hash sha256 entries)
+    → ((entries : List Bytes) → length entries ≡ size → tree_hash sha256 entries ≡ root → note ≡ checkpoint_note key entries)
+    → text ≡ note ++ lines → IsNoteOf key now text
+is_note_of key now size root note lines text sized rooted signed lined = record {
+  lines = lines;
+  noted = λ log stands. lined ∙ ap (λ (n : Bytes). n ++ lines) (signed log (stands.at_edge.0 ∙ sym sized) (sym (rooted log stands)));
+}
 
 -- what was shown is no more than at most
 pub shown_at_most : (key : LogKey) (q : Quorum) (batch : List Bytes) (lines : Bytes) (a b : Kept) (saw sees : List Kept) (was is : Ledger)
@@ -66,17 +76,17 @@ module _ (key : LogKey) (q : Quorum) (batch : List Bytes) (a m : Kept) (saw mid 
     }
 
     -- its checkpoint was sealed with lines, or may be
-    module _ (b : Kept) (sees : List Kept) (size : ℕ) (root note lines text sealed : Bytes)
-        (sized : size ≡ now.edge.size)
-        (rooted : (entries : List Bytes) → IsStanding sha256 entries now → root ≡ tree_hash sha256 entries)
-        (signed : (entries : List Bytes) → length entries ≡ size → tree_hash sha256 entries ≡ root → note ≡ checkpoint_note key entries)
-        (lined : text ≡ note ++ lines)
+    module _ (b : Kept) (sees : List Kept) (text sealed : Bytes)
+        (own : IsNoteOf key now text)
         (cosigned : HasQuorum q text)
         (same : sealed ≡ text)
         (kept : (h : List Prefix) (log : List Bytes) → IsKeeping sha256 h log m now → IsKeeping sha256 (h ++ published log sealed ∷ []) log b now)
         (kept_safe : (h : List Prefix) (log : List Bytes) → IsKeeping sha256 h log m now → KeptSafe sha256 (h ++ published log sealed ∷ []) mid sees) where
+      abbrev lines : Bytes
+      lines = own.lines
+
       text_is : (h : List Prefix) (log : List Bytes) → IsKeeping sha256 h log m now → text ≡ checkpoint_note key log ++ lines
-      text_is h log keeps = lined ∙ ap (λ (n : Bytes). n ++ lines) (signed log (keeps.stands.at_edge.0 ∙ sym sized) (sym (rooted log keeps.stands)))
+      text_is h log keeps = own.noted log keeps.stands
 
       noted : (h : List Prefix) (log : List Bytes) → IsKeeping sha256 h log m now → h ++ published log sealed ∷ [] ≡ h ++ shown key log lines ∷ []
       noted h log keeps = ap (λ (n : Bytes). h ++ published log n ∷ []) (same ∙ text_is h log keeps)
@@ -105,10 +115,10 @@ module _ (key : LogKey) (q : Quorum) (batch : List Bytes) (a m : Kept) (saw mid 
         shows = one_shown;
         there = λ h log keeps.
             let after = put h log keeps in
-            let own : Prefix = shown key (log ++ batch) lines in
-            subst (λ (es : List Bytes). IsShown (h ++ own ∷ []) es b.held) (whole log) (
+            let new : Prefix = shown key (log ++ batch) lines in
+            subst (λ (es : List Bytes). IsShown (h ++ new ∷ []) es b.held) (whole log) (
               checkpoint_note key (log ++ batch) ++ lines,
-              Contains-append_right h (own ∷ []) own (has_head own []),
+              Contains-append_right h (new ∷ []) new (has_head new []),
               there h (log ++ batch) after ∙ ap (λ (n : Bytes). Some n) (same ∙ text_is h (log ++ batch) after),
             );
         cosigned = λ h log keeps.

@@ -7,7 +7,6 @@ use Rattle.tl_hash.specs.Bytes.{Bytes}
 use Rattle.tl_note.specs.Key.{Key}
 use Rattle.tl_tile.specs.declared.resource.Resource.TheVariants as resource
 use Rattle.tl_checkpoint.specs.Checkpoint as checkpoint
-use Rattle.tl_checkpoint.specs.Quorum.{AreApart}
 use Rattle.tl_client.specs.Trusted.{IsTrusted}
 use Rattle.tl_publisher.specs.Histories.{Prefix}
 use Rattle.tl_archive.specs.Complete.{KeptSafe}
@@ -39,12 +38,12 @@ abbrev pub shown_after : LogKey → List Bytes → List Turn → List Prefix
 shown_after key log [] = []
 shown_after key log (t ∷ more) = shown key (log ++ t.batch) t.lines ∷ shown_after key (log ++ t.batch) more
 
--- the note opens under keys of the log, and so many of the witnesses, each of another name, cosigned it
+-- the note opens under keys of the log, and so many of the witnesses cosigned it
 abbrev pub HasQuorum : Quorum → Bytes → Type 0
 HasQuorum q note =
     (q.need ≡ 0)
-    ⊎ (AreApart q.witnesses × ((keys : List Key) × (c : checkpoint.Head)
-    × IsTrusted note (record { keys = keys; witnesses = q.witnesses; need = q.need }) c))
+    ⊎ ((keys : List Key) × (c : checkpoint.Head)
+    × IsTrusted note (record { keys = keys; witnesses = q.witnesses; need = q.need }) c)
 
 -- turns were appended and shown, and then these entries put behind the log, which aren't: whatever the ledger kept
 -- before, it keeps, and all these; whatever a crash leaves at any moment in between is complete for one of the
@@ -61,7 +60,8 @@ pub record ShowsThen (key : LogKey) (q : Quorum) (turns : List Turn) (rest : Lis
 abbrev pub ShowsBatch : LogKey → Quorum → List Bytes → Course → Type 0
 ShowsBatch key q batch c = (lines : Bytes) × ShowsThen key q (record { batch = batch; lines = lines } ∷ []) [] c
 
--- the checkpoint that is there then is that of the log with the batch, by the log's key, with lines that make its quorum
+-- the checkpoint that is there then is that of the log with the batch, by the log's key, with lines that make up its
+-- quorum
 abbrev pub HasCosigned : LogKey → Quorum → List Bytes → Course → Type 0
 HasCosigned key q batch c = (history : List Prefix) (log : List Bytes) → IsKeeping sha256 history log c.before c.was
     → (lines : Bytes) × (c.after.held resource.Checkpoint ≡ Some (checkpoint_note key (log ++ batch) ++ lines))

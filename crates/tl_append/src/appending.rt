@@ -49,9 +49,8 @@ fn publish<K: LogSigner, S: Shelf, W: Write>(
 
 /// Appends the lines of the input to the log on the shelf, which is the ledger's, and publishes it after each `batch`
 /// lines, at least 1, and at the end, once at least: each time under a note of its checkpoint by the key, whose name is
-/// the log's. Its size and root are then printed, once what is spent of partial tiles was removed, unless they are kept.
-/// It keeps one batch and the ledger, whatever the log's size.
-/// `Operator`: the log would have more than 2^32 - 1 entries.
+/// the log's. Spent partial tiles are then removed, unless they are kept, and the size and the root printed. It keeps
+/// one batch and the ledger, whatever the log's size. `Operator`: the log would have more than 2^32 - 1 entries.
 pub fn append_lines<K: LogSigner, S: Shelf, R: Read, W: Write>(
     alloc: Global,
     key: &K,

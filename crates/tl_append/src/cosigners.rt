@@ -7,19 +7,13 @@ use crate::proposal::ProposalStore;
 use std::alloc::Global;
 use tl_client::open_cosigned;
 use tl_command::RunFault;
-use tl_hash::Head;
 use tl_note::Verifier;
 
 /// Who asks witnesses. Nothing is known of what they answer: they may lie.
 pub trait AsksCosigners {
-    /// Lines by which witnesses cosign this note of a checkpoint of this size and root (C2SP tlog-witness). It may wait
-    /// until there are enough. It is only ever asked about a note that the store keeps.
-    fn ask<P: ProposalStore>(
-        &mut self,
-        store: &P,
-        note: &str,
-        head: &Head,
-    ) -> Result<String, RunFault>
+    /// Lines by which witnesses cosign this note of a checkpoint (C2SP tlog-witness). It may wait until there are
+    /// enough. It is only ever asked about a note that the store keeps.
+    fn ask<P: ProposalStore>(&mut self, store: &P, note: &str) -> Result<String, RunFault>
         requires { P.has_kept store.now note.now };
 }
 

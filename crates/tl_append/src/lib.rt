@@ -6,7 +6,8 @@
 //! run_append(
 //!     &rt, alloc, &options, &mut shelf, &store, &mut found, &mut reader, &mut writer,
 //! )?; // prints `2 n5+..`
-//! let mut cosigned = CosignedShelf::new(shelf, store, asker, quorum, false);
+//! let sealer = Cosigners::new(asker, quorum); // or `AsSigned`, where nobody has to cosign
+//! let mut cosigned = SealedShelf::new(shelf, store, sealer, false);
 //! let mut log = cosigned.open(alloc, keys.verifier, false, &mut found)?;
 //! cosigned.append(alloc, &keys.signer, &batch, &mut log.ledger)?; // two witnesses cosigned it
 //! ```
@@ -14,7 +15,6 @@
 
 mod appending;
 mod batch;
-mod cosigned_shelf;
 mod cosigners;
 mod faults;
 mod keys;
@@ -24,11 +24,11 @@ mod options;
 mod printing;
 mod proposal;
 mod running;
-mod signed_shelf;
+mod sealed_shelf;
+mod sealing;
 
 pub use appending::append_lines;
 pub use batch::append_batch;
-pub use cosigned_shelf::CosignedShelf;
 pub use cosigners::{AsksCosigners, ChecksCosigned, LogQuorum};
 pub use faults::line_fault;
 pub use keys::{LogKeys, LogOpeningKey, LogSigningKey, keys_of};
@@ -37,4 +37,5 @@ pub use opening::open_ledger;
 pub use options::AppendOptions;
 pub use proposal::{NoProposals, ProposalStore};
 pub use running::run_append;
-pub use signed_shelf::SignedShelf;
+pub use sealed_shelf::SealedShelf;
+pub use sealing::{AsSigned, Cosigners, SealsNotes};

@@ -99,10 +99,10 @@ pub trait LogShelf: Drop {
         ensures keeps { keeps_partials self.new ≡ keeps_partials self.old };
 
     /// Puts a batch behind the log, which is the ledger's, and shows that under a note of its checkpoint by the key,
-    /// whose name is the log's, once its tiles and bundles outlast a crash and so many cosigned it as must. The new
-    /// size is then marked, and unless they are kept, partial tiles and bundles that are spent since are removed. At a
-    /// fault the ledger's size tells whether the batch was put. `Operator`: the log would have more than 2^32 - 1
-    /// entries, or too few cosigned it.
+    /// whose name is the log's, once its tiles and bundles outlast a crash and so many cosigned it as must. The size is
+    /// then marked, and spent partial tiles and bundles are removed, unless they are kept. At a fault the ledger's size
+    /// tells whether the batch was put. `Operator`: the log would have more than 2^32 - 1 entries, or too few cosigned
+    /// it.
     fn append<K: LogSigner>(
         &mut self,
         alloc: Global,

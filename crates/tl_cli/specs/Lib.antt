@@ -4,3 +4,4 @@ pub mod Told
 pub mod Version
 pub mod Job
 pub mod Lasting
+pub mod Inner

@@ -4,6 +4,7 @@ ghost use Rattle.std.specs.Prelude.{◌↔◌, IsTrue, string_bytes};
 ghost use Rattle.tl_serve.specs.Knowing.{MayServe, RefusesLog};
 ghost use Rattle.tl_device.specs.Device.{passage};
 ghost use Rattle.tl_command.specs.Origins.{RefusesOrigin};
+ghost use Rattle.tl_cli.specs.Inner.Compacting.{CompactsFile};
 ghost use Rattle.tl_cli.specs.Lasting.{AppendsIn, ServesIn, SparesStreams};
 
 use crate::own_folder::{OwnFolder, own_folder};
@@ -15,9 +16,11 @@ use std::io::{Read, Write};
 use std::net::{Net, TcpListener, TcpStream};
 use std::os::fd::RawFd;
 use tl_append::{AppendOptions, run_append};
-use tl_command::{MOST_INPUT, Place, RunFault};
-use tl_device::Counted;
-use tl_folder::{CrashOutcome, LineFile, open_lines};
+use tl_command::{Place, RunFault, print_text};
+use tl_device::{Counted, DeviceFault};
+use tl_folder::{CrashOutcome, DurableAppend, LineStream, stream_lines};
+use tl_hash::Sha256Tree;
+use tl_logs::compact_state;
 use tl_note::is_key_name;
 use tl_serve::{
     Host, KnownLogs, ServeOptions, WitnessFault, WitnessOptions, run_serve, run_witness,
@@ -110,7 +113,84 @@ fn may_serve(logs: &KnownLogs) -> bool
     }
 }
 
-/// Serves a witness whose lines are those of a file, where one is given, and else of the input and the output.
+// Why a state isn't opened, read or written, as the command tells it.
+fn state_fault(fault: DeviceFault) -> WitnessFault {
+    WitnessFault::Run(RunFault::of_device(Place::State, fault))
+}
+
+// Puts one line of each origin in the place of the lines of a file, which the reader gives: how many bytes they have.
+fn compact_lines<H: Files, R: Read>(
+    alloc: Global,
+    reader: &mut Counted<R>,
+    end: &mut DurableAppend<'_, H>,
+) -> Result<usize, WitnessFault>
+    ensures { CompactsFile (passage R.remaining reader.old reader.new) end.old end.new result }
+{
+    let text = match compact_state(alloc, Sha256Tree, reader) {
+        Ok(text) => text,
+        Err(fault) => return Err(WitnessFault::from(fault)),
+    };
+    match end.replace(alloc, text.as_bytes()) {
+        Ok(()) => Ok(text.len()),
+        Err(fault) => Err(state_fault(fault)),
+    }
+}
+
+// Compacts the file of lines at this path, which is locked meanwhile, and tells how many bytes became how many.
+fn compact<H: Files<File = File>, E: Write>(
+    rt: &H,
+    alloc: Global,
+    path: &str,
+    is_quiet: bool,
+    errors: &mut Counted<E>,
+) -> Result<(), WitnessFault> {
+    let LineStream {
+        lines,
+        length,
+        mut end,
+    } = match stream_lines(rt, path) {
+        Ok(stream) => stream,
+        Err(fault) => return Err(state_fault(fault)),
+    };
+    let left = compact_lines(alloc, &mut Counted::new(lines), &mut end)?;
+    if is_quiet {
+        return Ok(());
+    }
+    let line = format!(in alloc; "compacted {length} to {left}\n")?;
+    print_text(errors, line.as_bytes())?;
+    Ok(())
+}
+
+// Serves a witness whose lines are those of the file at this path.
+fn witness_at<
+    H: Host
+        + Files<File = File, Dir: Send + Sync>
+        + Net<Listener = TcpListener, Stream = TcpStream>,
+    E: Write,
+>(
+    rt: &H,
+    alloc: Global,
+    options: &WitnessOptions,
+    path: &str,
+    errors: &mut Counted<E>,
+) -> Result<(), WitnessFault> {
+    if options.compacts {
+        compact(rt, alloc, path, options.server.quiet, errors)?;
+    }
+    let LineStream { lines, end, .. } = match stream_lines(rt, path) {
+        Ok(stream) => stream,
+        Err(fault) => return Err(state_fault(fault)),
+    };
+    let (mut reader, mut writer) = (Counted::new(lines), Counted::new(end));
+    let outcome = run_witness(rt, alloc, options, &mut reader, &mut writer, errors);
+    match (outcome, writer.into_inner().fault()) {
+        (Err(WitnessFault::Run(RunFault::Write)), Some(fault)) => Err(state_fault(fault)),
+        (outcome, _) => outcome,
+    }
+}
+
+/// Serves a witness whose lines are those of a file, where one is given, and else of the input and the output. The file
+/// is compacted first where the options say so.
 pub(crate) fn witness<
     H: Host
         + Files<File = File, Dir: Send + Sync>
@@ -137,16 +217,5 @@ pub(crate) fn witness<
     if !may_serve(&options.logs) {
         return Err(WitnessFault::Run(RunFault::BadOrigin));
     }
-    let LineFile { lines, end } = match open_lines(rt, alloc, path, MOST_INPUT) {
-        Ok(file) => file,
-        Err(fault) => return Err(WitnessFault::Run(RunFault::of_device(Place::State, fault))),
-    };
-    let (mut reader, mut writer) = (Counted::new(lines.as_slice()), Counted::new(end));
-    let outcome = run_witness(rt, alloc, options, &mut reader, &mut writer, errors);
-    match (outcome, writer.into_inner().fault()) {
-        (Err(WitnessFault::Run(RunFault::Write)), Some(fault)) => {
-            Err(WitnessFault::Run(RunFault::of_device(Place::State, fault)))
-        }
-        (outcome, _) => outcome,
-    }
+    witness_at(rt, alloc, options, path, errors)
 }

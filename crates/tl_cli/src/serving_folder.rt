@@ -16,7 +16,7 @@ use std::fs::{File, Files};
 use std::io::{Read, Write};
 use std::net::{Net, TcpListener, TcpStream};
 use std::os::fd::RawFd;
-use tl_append::SignedShelf;
+use tl_append::{AsSigned, SealedShelf};
 use tl_command::RunFault;
 use tl_device::Counted;
 use tl_folder::{CrashOutcome, FolderShelf};
@@ -67,7 +67,7 @@ fn serve_signed<
     ensures place { result.shelf.place ≡ shelf.place }
 {
     let store = ReadProposal { rt, path };
-    let signed = SignedShelf::new(shelf, store, options.keeps_partials);
+    let signed = SealedShelf::new(shelf, store, AsSigned, options.keeps_partials);
     let Served { shelf, outcome } = run_serve_shelf(
         rt, alloc, options, signed, shown, found, input, reader, errors,
     );

@@ -31,6 +31,9 @@ const EITHER_KEY: &str = "either --secret or --key is given";
 // What is said of the option that takes the text of a log's verifier key.
 const LOG_KEY: &str = "The log's verifier key";
 
+// The help of the words for the keys of witnesses.
+const WITNESS_KEY: &str = "The verifier key of a witness; keys with one name are one witness's";
+
 // The seconds of a time limit that is left out.
 const TIMEOUT: u64 = 10;
 

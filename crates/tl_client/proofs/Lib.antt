@@ -1,5 +1,6 @@
 pub mod Apart
 pub mod Blamed
+pub mod ByKeys
 pub mod Forks
 pub mod FourLeaves
 pub mod Heads

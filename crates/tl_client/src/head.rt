@@ -4,17 +4,15 @@ ghost use Rattle.std.specs.Prelude.{◌≡◌, map};
 ghost use Rattle.tl_client.specs.Trusted.{OpensHead, after_checkpoint, after_note};
 ghost use Rattle.tl_client.specs.declared.head.HeadFault.TheVariants.{OutOfMemory};
 
+use crate::cosigners::cosigner_names;
 use std::alloc::{AllocError, AllocFailed, Allocator};
 use thiserror::Error;
-use tl_checkpoint::{Checkpoint, CheckpointFault, cosignatures_by, have_distinct_names, parse};
+use tl_checkpoint::{Checkpoint, CheckpointFault, parse};
 use tl_note::{NoteFault, Verifier, open_note};
 
 /// Why a checkpoint isn't trusted, in the order in which it is found.
 #[derive(Clone, Copy, Debug, PartialEq, Eq, Error)]
 pub enum HeadFault {
-    /// Two witnesses have one name.
-    #[error("two witnesses have one name")]
-    Twice,
     /// The bytes are no note, or it doesn't open under the log's keys (C2SP signed-note, "Verification").
     #[error("{0}")]
     Unopened(NoteFault),
@@ -68,8 +66,9 @@ impl From<CheckpointFault> for HeadFault {
 }
 
 /// The checkpoint of a signed note that opens under the log's keys (C2SP tlog-checkpoint), and that at least `need` of
-/// the witnesses cosigned, each of whom has another name (C2SP tlog-cosignature). A line that is of no witness, or
-/// isn't valid for this checkpoint, isn't counted, nor is a witness's second line. `OutOfMemory` is of a note alone.
+/// the witnesses cosigned (C2SP tlog-cosignature). Keys with one name are one witness's: it counts once, whichever of
+/// them it signed with. A line that is of no witness, or isn't valid for this checkpoint, isn't counted. `OutOfMemory`
+/// is of a note alone.
 pub fn open_cosigned<A: Allocator + Copy>(
     alloc: A,
     note: &str,
@@ -83,15 +82,12 @@ pub fn open_cosigned<A: Allocator + Copy>(
       need = need;
     }) result }
 {
-    if !have_distinct_names(witnesses) {
-        return Err(HeadFault::Twice);
-    }
     let opened = open_note(alloc, note, verifiers)?;
     let checkpoint = parse(alloc, opened.note.text)?;
     let lines = opened.note.signatures.as_slice();
-    let found = cosignatures_by(alloc, opened.note.text, lines, witnesses)?;
-    if (found.len() as u64) < need {
-        return Err(HeadFault::TooFew(found.len() as u64));
+    let names = cosigner_names(alloc, opened.note.text, lines, witnesses)?;
+    if (names.len() as u64) < need {
+        return Err(HeadFault::TooFew(names.len() as u64));
     }
     Ok(checkpoint)
 }

@@ -13,6 +13,7 @@
 //! ```
 #![tactic(auto)]
 
+mod cosigners;
 mod entries;
 mod fault;
 mod growth;

@@ -9,7 +9,7 @@ use std::io::Read;
 use std::net::{Net, TcpListener, TcpStream};
 use std::str;
 use std::thread::Threads;
-use tl_append::{AppendOptions, NoProposals, SignedShelf, run_append};
+use tl_append::{AppendOptions, AsSigned, NoProposals, SealedShelf, run_append};
 use tl_command::{HmacLogSigner, LogKey, RunFault, run_build};
 use tl_device::Counted;
 use tl_folder::{AnyOutcome, FolderShelf};
@@ -65,7 +65,7 @@ fn serve<
     shown.push(own)?;
     let (mut found, mut reader) = (Found::new(alloc), Counted::new(input));
     let mut log = Counted::new(Vec::new(alloc));
-    let shelf = SignedShelf::new(shelf, NoProposals, false);
+    let shelf = SealedShelf::new(shelf, NoProposals, AsSigned, false);
     let served = run_serve_shelf(
         rt,
         alloc,

@@ -2,4 +2,6 @@
 pub
     mod Answered
 pub
+    mod Pausing
+pub
     mod Tallying

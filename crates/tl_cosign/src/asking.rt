@@ -1,7 +1,7 @@
 //! Asking one witness about what a log proposes.
 
-ghost use Rattle.std.specs.Prelude.{◌≡◌, ◌⊎◌, IfErr, IfOk, OnOk, map, string_bytes};
-ghost use Rattle.tl_checkpoint.specs.Cosignature.{ChecksCosignature};
+ghost use Rattle.std.specs.Prelude.{◌≡◌, ◌⊎◌, ℕ, All, Any, IfErr, IfOk, MatchBool, OnOk, map, string_bytes};
+ghost use Rattle.tl_checkpoint.specs.Cosignature.{ChecksCosignature, IsCosignature};
 ghost use Rattle.tl_note.specs.Note.{signature_line};
 ghost use Rattle.tl_cosign.specs.Inner.Answered.{AreOthers};
 ghost use Rattle.tl_cosign.specs.Lines.{CosignsNote, CosignsText};
@@ -64,6 +64,26 @@ fn time_by(
     check_cosignature(alloc, text, line, &**witness)
 }
 
+// Whether a line is a cosignature of this text by one of these keys.
+fn is_own(
+    alloc: Global,
+    text: &str,
+    line: &SigView<'_>,
+    keys: &[Box<dyn Verifier>],
+) -> Result<bool, AllocError>
+    ensures { IfOk result (λ own. MatchBool own
+        (Any (λ v. (time : ℕ) × IsCosignature text.now (key v) line.now time) keys.now)
+        (All (λ v. (time : ℕ) → ¬ (IsCosignature text.now (key v) line.now time)) keys.now)) }
+{
+    let [first, rest @ ..] = keys else {
+        return Ok(false);
+    };
+    if let Some(_) = time_by(alloc, text, line, first)? {
+        return Ok(true);
+    }
+    is_own(alloc, text, line, rest)
+}
+
 // A line, as it stands in a note.
 fn text_of(alloc: Global, line: &SigView<'_>) -> Result<String, AllocError>
     ensures { IfOk result (λ text. string_bytes text ≡ signature_line line.now) }
@@ -73,17 +93,17 @@ fn text_of(alloc: Global, line: &SigView<'_>) -> Result<String, AllocError>
     Ok(text)
 }
 
-// The first of these lines by which the witness cosigned this text, as it stands in a note.
+// The first of these lines by which one of the keys cosigned this text, as it stands in a note.
 fn own_line(
     alloc: Global,
     text: &str,
     lines: &str,
-    witness: &Box<dyn Verifier>,
+    keys: &[Box<dyn Verifier>],
 ) -> Result<String, Unasked>
     ensures line { IfOk result
-        (λ line. CosignsText (key witness.now) text.now (string_bytes line)) }
+        (λ line. CosignsText (map (λ v. key v) keys.now) text.now (string_bytes line)) }
     ensures none { IfErr result (λ why. (why ≡ Unasked.Ask AskFault.OutOfMemory)
-        ⊎ ((why ≡ Unasked.Other) × AreOthers text.now (key witness.now) lines.now)) }
+        ⊎ ((why ≡ Unasked.Other) × AreOthers text.now (map (λ v. key v) keys.now) lines.now)) }
 {
     let views = match parse_signatures(alloc, lines) {
         Ok(views) => views,
@@ -91,28 +111,29 @@ fn own_line(
         Err(_) => return Err(Unasked::Other),
     };
     for line in views.iter() {
-        if let Some(_) = time_by(alloc, text, line, witness)? {
+        if is_own(alloc, text, line, keys)? {
             return Ok(text_of(alloc, line)?);
         }
     }
     Err(Unasked::Other)
 }
 
-/// The line by which the witness cosigns the checkpoint (C2SP tlog-cosignature), asked with the proof from the size that
-/// it is known to have, and again from each size that it tells, four times at most. `known` is then the size that it told
-/// last, or that of the checkpoint. `Other`: none of the lines that it answers is of this checkpoint and by its key.
+/// The line by which the witness with these keys cosigns the checkpoint (C2SP tlog-cosignature), asked with the proof
+/// from the size that it is known to have, and again from each size that it tells, four times at most. `known` is then
+/// the size that it told last, or that of the checkpoint. `Other`: no line that it answers is of this checkpoint and by
+/// one of its keys.
 pub fn line_of<S: ResourceSource, Q: AsksWitness>(
     alloc: Global,
     source: &S,
     proposed: &Proposed<'_>,
     known: &mut u64,
     asker: &mut Q,
-    witness: &Box<dyn Verifier>,
+    keys: &[Box<dyn Verifier>],
 ) -> Result<String, Unasked>
     requires { IsSignedBy proposed.now.origin.now
         (map (λ v. key v) proposed.now.log.now) proposed.now.note.now proposed.now.head.now }
     ensures line { IfOk result
-        (λ line. CosignsNote (key witness.now) proposed.now.note.now (string_bytes line)) }
+        (λ line. CosignsNote (map (λ v. key v) keys.now) proposed.now.note.now (string_bytes line)) }
     ensures known { OnOk result (known.new ≡ proposed.now.head.now.size) }
     ensures fair { IfErr result
         (IsFairlyTold (S.may_answer source.now) (S.may_lack source.now) proposed.now.head.now) }
@@ -124,7 +145,7 @@ pub fn line_of<S: ResourceSource, Q: AsksWitness>(
     let Ok(view) = parse_note(alloc, proposed.note) else {
         return Err(Unasked::Ask(AskFault::OutOfMemory));
     };
-    let line = match own_line(alloc, view.text, lines.as_str(), witness) {
+    let line = match own_line(alloc, view.text, lines.as_str(), keys) {
         Ok(line) => line,
         Err(why) => return Err(why),
     };

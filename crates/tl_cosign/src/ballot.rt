@@ -39,14 +39,18 @@ impl Ballot {
     }
 
     /// Waits until there is something to tell, and tells it: first, in order, which witness gave no line and why, each
-    /// once; then that so many witnesses gave a line of the round that is open. It fails only where memory for the lines
-    /// was refused. It may wait.
+    /// once; then that so many gave one of the round that is open, which is closed then, so that nobody is asked about
+    /// it any more. It fails only where memory for the lines was refused. It may wait.
     pub fn wait<R: Wait>(&self, rt: &R, need: usize) -> Result<BallotEvent, AllocError> {
-        let tally = self.tally.lock(rt);
-        let mut tally = self
-            .changed
-            .wait_while(rt, tally, |tally| tally.is_quiet(need));
-        tally.tell(self.alloc, need)
+        let event = {
+            let tally = self.tally.lock(rt);
+            let mut tally = self
+                .changed
+                .wait_while(rt, tally, |tally| tally.is_quiet(need));
+            tally.tell(self.alloc, need)
+        };
+        self.changed.notify_all();
+        event
     }
 
     /// Ends the ballot: those that ask end, also where they pause, and who waits is told so. It may wait.
@@ -58,8 +62,8 @@ impl Ballot {
         self.changed.notify_all();
     }
 
-    /// Waits for a round of which the witness at this place gave no line, with this number or a later one. None once the
-    /// ballot has ended. It may wait.
+    /// Waits for a round of which the witness at this place gave no line, with this number or a later one. None once
+    /// the ballot has ended. It may wait.
     pub(crate) fn next<R: Wait>(&self, rt: &R, place: usize, after: u64) -> Option<Round> {
         let tally = self.tally.lock(rt);
         let tally = self
@@ -87,8 +91,8 @@ impl Ballot {
         self.changed.notify_all();
     }
 
-    /// Waits so long, or until another round than that with this number is open, or the ballot has ended: whether it goes
-    /// on. It may wait.
+    /// Waits so long, or until the round with this number is closed, or the ballot has ended: whether it goes on. It
+    /// may wait.
     pub(crate) fn pause<R: Wait + Clock>(&self, rt: &R, number: u64, time: Duration) -> bool {
         let tally = self.tally.lock(rt);
         let (tally, _) = self

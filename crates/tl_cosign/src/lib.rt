@@ -10,6 +10,7 @@
 
 mod asking;
 mod ballot;
+mod failing;
 mod growing;
 mod http;
 mod law;

@@ -1,10 +1,11 @@
 //! Asking one witness in each round of a ballot.
 
-ghost use Rattle.std.specs.Prelude.{◌≡◌, ◌≤◌, ◌*◌, None, true, IfOk, IfSome, min, string_bytes};
+ghost use Rattle.std.specs.Prelude.{IfOk, IfSome, map, string_bytes};
 ghost use Rattle.tl_cosign.specs.Lines.{CosignsNote};
 
 use crate::asking::line_of;
 use crate::ballot::Ballot;
+use crate::failing::{Failure, is_told, next_failure};
 use crate::proposed::{AsksWitness, LogKeys, Proposed};
 use crate::unasked::Unasked;
 use std::alloc::Global;
@@ -15,49 +16,6 @@ use tl_checkpoint::{OpenCheckpointFault, open_checkpoint};
 use tl_client::{Head, ResourceSource};
 use tl_note::Verifier;
 
-// How many seconds pass before a witness is asked again that gave no line: at first, and at most.
-const FIRST_PAUSE: u64 = 1;
-
-const MOST_PAUSE: u64 = 60;
-
-// Why a witness gave no line, in which round, and how many seconds pass before it is asked again.
-#[derive(Clone, Copy)]
-struct Failure {
-    round: u64,
-    why: Unasked,
-    pause: u64,
-}
-
-// How many seconds pass after so many.
-fn next_pause(pause: u64) -> u64
-    ensures { result ≡ min (2 * pause) 60 }
-{
-    pause.saturating_mul(2).min(MOST_PAUSE)
-}
-
-// The failure in this round, after the last one in a row. In another round the pauses begin anew.
-fn next_failure(last: Option<Failure>, round: u64, why: Unasked) -> Failure
-    ensures round { result.round ≡ round }
-    ensures why { result.why ≡ why }
-    ensures pause { result.pause ≤ 60 }
-{
-    let pause = match last {
-        Some(last) if last.round == round => next_pause(last.pause),
-        _ => FIRST_PAUSE,
-    };
-    Failure { round, why, pause }
-}
-
-// Whether a failure is told, after the last one in a row: for another reason, or in the same round.
-fn is_told(last: Option<Failure>, failure: Failure) -> bool
-    ensures { last ≡ None → result ≡ true }
-{
-    match last {
-        Some(last) => last.round == failure.round || last.why != failure.why,
-        None => true,
-    }
-}
-
 // The line by which a witness cosigns a note, where it is of the log. None where it isn't, so that nobody is asked.
 fn line_by<S: ResourceSource, Q: AsksWitness>(
     alloc: Global,
@@ -66,10 +24,10 @@ fn line_by<S: ResourceSource, Q: AsksWitness>(
     note: &str,
     known: &mut u64,
     asker: &mut Q,
-    witness: &Box<dyn Verifier>,
+    keys: &[Box<dyn Verifier>],
 ) -> Result<Option<String>, Unasked>
     ensures { IfOk result (λ found. IfSome found
-        (λ line. CosignsNote (key witness.now) note.now (string_bytes line))) }
+        (λ line. CosignsNote (map (λ v. key v) keys.now) note.now (string_bytes line))) }
 {
     let checkpoint = match open_checkpoint(alloc, note, log.keys) {
         Ok(checkpoint) => checkpoint,
@@ -89,16 +47,16 @@ fn line_by<S: ResourceSource, Q: AsksWitness>(
         note,
         head: &head,
     };
-    match line_of(alloc, source, &proposed, known, asker, witness) {
+    match line_of(alloc, source, &proposed, known, asker, keys) {
         Ok(line) => Ok(Some(line)),
         Err(why) => Err(why),
     }
 }
 
-/// Asks the witness at this place in each round of the ballot for the line by which it cosigns the note, until the ballot
-/// ends. After a fault it is asked again: once another round opens, or 1 second later, 2, 4, up to 60, as long as that
-/// round is open. Who waits is told the fault, but of those in a row for one reason only the first, and those of a round
-/// that stays open. A note that the log didn't sign is passed over. It may wait.
+/// Asks the witness at this place, which has these keys, in each round of the ballot for the line by which it cosigns
+/// the note, until the ballot ends. After a fault it is asked again: once another round opens, or 1 second later, 2, 4, up to 60, as long
+/// as that round is open. Who waits is told the first fault of those in a row for one reason, and each of a round that
+/// stays open. A note that the log didn't sign is passed over. It may wait.
 pub fn ask_in_rounds<R: Wait + Clock, S: ResourceSource, Q: AsksWitness>(
     rt: &R,
     alloc: Global,
@@ -107,7 +65,7 @@ pub fn ask_in_rounds<R: Wait + Clock, S: ResourceSource, Q: AsksWitness>(
     source: &S,
     log: &LogKeys<'_>,
     asker: &mut Q,
-    witness: &Box<dyn Verifier>,
+    keys: &[Box<dyn Verifier>],
 ) {
     let (mut known, mut after) = (0, 0);
     let mut last: Option<Failure> = None;
@@ -116,7 +74,7 @@ pub fn ask_in_rounds<R: Wait + Clock, S: ResourceSource, Q: AsksWitness>(
             return;
         };
         let note = round.note.as_str();
-        match line_by(alloc, source, log, note, &mut known, asker, witness) {
+        match line_by(alloc, source, log, note, &mut known, asker, keys) {
             Ok(Some(line)) => {
                 ballot.put_line(rt, place, round.number, line);
                 last = None;

@@ -1,9 +1,11 @@
 //! What witnesses gave of a round, and what is told of them: the state of a ballot, without its lock.
 
-ghost use Rattle.std.specs.Prelude.{◌≡◌, ◌⊎◌, ◌++◌, ◌∷◌, ◌<◌, ◌≤◌, ◌↔◌, [], false, None, Some, true, All, IfErr, IfOk, IfSome, IsTrue, MatchOption, OnErr, length, slice_get, string_bytes};
-ghost use Rattle.tl_cosign.specs.Inner.Tallying.{Counts, IsFor, IsOpen, Puts, Tells, given, joined, number_after};
+ghost use Rattle.std.specs.Prelude.{◌≡◌, ◌++◌, ◌∷◌, ◌<◌, ◌≤◌, ◌↔◌, [], false, None, Some, true, All, IfOk, IfSome, IsTrue, MatchOption, OnErr, length, option_map, slice_get, string_bytes};
+ghost use Rattle.std.specs.Arc.{arc_value};
+ghost use Rattle.tl_cosign.specs.Inner.Tallying.{IsFor, IsOpen, Puts, Tells, given, joined, number_after};
 
 use crate::unasked::Unasked;
+use arrayvec::ArrayVec;
 use std::alloc::{AllocError, Global};
 use std::sync::Arc;
 
@@ -37,14 +39,27 @@ pub(crate) struct NoLine {
     pub(crate) why: Unasked,
 }
 
+impl Default for NoLine {
+    // What stands where nothing waits.
+    fn default() -> NoLine {
+        NoLine {
+            place: 0,
+            why: Unasked::Restless,
+        }
+    }
+}
+
 /// What witnesses gave of the round that is open, and why others gave nothing.
 #[derive(Drop)]
 pub(crate) struct Tally {
+    // The round that is open: until as many lines as were wanted have been told.
     round: Option<Round>,
-    // The line of each witness, where it gave one of this round.
+    // The number of the round that was opened last, 0 before the first.
+    opened: u64,
+    // The line of each witness, where it gave one of the round that is open.
     lines: Vec<Option<String>>,
     // What wasn't handed out yet, in order.
-    unasked: Vec<NoLine>,
+    unasked: ArrayVec<NoLine, MOST_UNASKED>,
     has_ended: bool,
 }
 
@@ -54,6 +69,7 @@ impl Tally {
         ensures count { IfOk result (λ tally. length tally.lines.items ≡ witnesses) }
         ensures none { IfOk result (λ tally. All (λ line. line ≡ None) tally.lines.items) }
         ensures round { IfOk result (λ tally. tally.round ≡ None) }
+        ensures opened { IfOk result (λ tally. tally.opened ≡ 0) }
         ensures unasked { IfOk result (λ tally. tally.unasked.items ≡ []) }
         ensures ended { IfOk result (λ tally. tally.has_ended ≡ false) }
     {
@@ -61,40 +77,50 @@ impl Tally {
         for _ in 0..witnesses {
             lines.push(None)?;
         }
-        let mut unasked = Vec::new(alloc);
-        unasked.reserve(MOST_UNASKED)?;
         Ok(Tally {
             round: None,
+            opened: 0,
             lines,
-            unasked,
+            unasked: ArrayVec::new(),
             has_ended: false,
         })
     }
 
     // The number of the next round.
     fn next_number(&self) -> u64
-        ensures { result ≡ number_after self.now.round }
+        ensures { result ≡ number_after self.now.opened }
     {
-        match &self.round {
-            Some(round) => round.number.wrapping_add(1),
-            None => 1,
+        self.opened.wrapping_add(1)
+    }
+
+    // Forgets what witnesses gave.
+    fn forget_lines(&mut self)
+        ensures none { All (λ line. line ≡ None) self.new.lines.items }
+        ensures count { length self.new.lines.items ≡ length self.old.lines.items }
+        ensures round { self.new.round ≡ self.old.round }
+        ensures opened { self.new.opened ≡ self.old.opened }
+        ensures unasked { self.new.unasked ≡ self.old.unasked }
+        ensures ended { self.new.has_ended ≡ self.old.has_ended }
+    {
+        for line in self.lines.iter_mut() {
+            *line = None;
         }
     }
 
     /// Opens the next round, of which no witness gave a line yet: its number.
     pub(crate) fn open(&mut self, note: Arc<String>) -> u64
-        ensures open { IsOpen self.new result }
-        ensures number { result ≡ number_after self.old.round }
+        ensures open { self.new.round ≡ Some (record { number = result; note = note }) }
+        ensures number { result ≡ number_after self.old.opened }
+        ensures opened { self.new.opened ≡ result }
         ensures none { All (λ line. line ≡ None) self.new.lines.items }
         ensures count { length self.new.lines.items ≡ length self.old.lines.items }
         ensures unasked { self.new.unasked ≡ self.old.unasked }
         ensures ended { self.new.has_ended ≡ self.old.has_ended }
     {
         let number = self.next_number();
-        for line in self.lines.iter_mut() {
-            *line = None;
-        }
+        self.forget_lines();
         self.round = Some(Round { number, note });
+        self.opened = number;
         number
     }
 
@@ -129,15 +155,16 @@ impl Tally {
 
     /// Takes in why a witness gave no line, unless too many of these wait.
     pub(crate) fn put_unasked(&mut self, place: usize, why: Unasked)
-        ensures put { (self.new.unasked.items ≡ self.old.unasked.items)
-            ⊎ (self.new.unasked.items
-            ≡ self.old.unasked.items ++ record { place = place; why = why } ∷ []) }
+        ensures put { length self.old.unasked.items < 64 → self.new.unasked.items
+            ≡ self.old.unasked.items ++ record { place = place; why = why } ∷ [] }
+        ensures full { 64 ≤ length self.old.unasked.items → self.new.unasked ≡ self.old.unasked }
         ensures lines { self.new.lines ≡ self.old.lines }
         ensures round { self.new.round ≡ self.old.round }
+        ensures opened { self.new.opened ≡ self.old.opened }
         ensures ended { self.new.has_ended ≡ self.old.has_ended }
     {
         if self.unasked.len() < MOST_UNASKED {
-            let _ = self.unasked.push(NoLine { place, why });
+            self.unasked.push(NoLine { place, why });
         }
     }
 
@@ -146,6 +173,7 @@ impl Tally {
         ensures ended { self.new.has_ended ≡ true }
         ensures lines { self.new.lines ≡ self.old.lines }
         ensures round { self.new.round ≡ self.old.round }
+        ensures opened { self.new.opened ≡ self.old.opened }
         ensures unasked { self.new.unasked ≡ self.old.unasked }
     {
         self.has_ended = true;
@@ -169,12 +197,17 @@ impl Tally {
     }
 
     /// Whether the round with this number is open, and more may come.
-    pub(crate) fn stays(&self, number: u64) -> bool {
+    pub(crate) fn stays(&self, number: u64) -> bool
+        ensures { IsTrue result ↔ ((self.now.has_ended ≡ false) × IsOpen self.now number) }
+    {
         !self.has_ended && self.is_open(number)
     }
 
     /// Whether the witness at this place waits for a round that isn't older than this.
-    pub(crate) fn is_idle(&self, place: usize, after: u64) -> bool {
+    pub(crate) fn is_idle(&self, place: usize, after: u64) -> bool
+        ensures { IsTrue result ↔ ((self.now.has_ended ≡ false)
+            × ((round : Round) → ¬ (IsFor self.now place after round))) }
+    {
         !self.has_ended && !self.is_for(place, after)
     }
 
@@ -182,16 +215,18 @@ impl Tally {
     /// has ended.
     pub(crate) fn round_for(&self, place: usize, after: u64) -> Option<Round>
         ensures open { IfSome result (λ round. IsOpen self.now round.number) }
+        ensures note { IfSome result (λ round.
+            option_map (λ own. arc_value own.note) self.now.round ≡ Some (arc_value round.note)) }
         ensures fresh { IfSome result (λ round. after ≤ round.number) }
         ensures none { IfSome result (λ _. slice_get self.now.lines.items place ≡ Some None) }
         ensures ended { self.now.has_ended ≡ true → result ≡ None }
     {
+        if self.has_ended || !self.is_for(place, after) {
+            return None;
+        }
         let Some(round) = &self.round else {
             return None;
         };
-        if self.has_ended || round.number < after || !self.gave_none(place) {
-            return None;
-        }
         let Ok(note) = Arc::try_clone(&round.note) else {
             return None;
         };
@@ -228,7 +263,10 @@ impl Tally {
     }
 
     /// Whether there is nothing to tell who wants so many lines.
-    pub(crate) fn is_quiet(&self, need: usize) -> bool {
+    pub(crate) fn is_quiet(&self, need: usize) -> bool
+        ensures { IsTrue result ↔ ((self.now.has_ended ≡ false) × (self.now.unasked.items ≡ [])
+            × (length (given self.now.lines.items) < need)) }
+    {
         !self.has_ended && self.unasked.is_empty() && self.count() < need
     }
 
@@ -238,6 +276,9 @@ impl Tally {
             (λ first. self.old.unasked.items ≡ first ∷ self.new.unasked.items) }
         ensures kept { result ≡ None → self.new ≡ self.old }
         ensures lines { self.new.lines ≡ self.old.lines }
+        ensures round { self.new.round ≡ self.old.round }
+        ensures opened { self.new.opened ≡ self.old.opened }
+        ensures ended { self.new.has_ended ≡ self.old.has_ended }
     {
         if self.unasked.is_empty() {
             return None;
@@ -245,7 +286,8 @@ impl Tally {
         Some(self.unasked.remove(0))
     }
 
-    /// What who wants so many lines is told. It fails only where memory for them was refused.
+    /// What who wants so many lines is told: once they are there, and the round is closed then. It fails only where
+    /// memory for them was refused.
     pub(crate) fn tell(&mut self, alloc: Global, need: usize) -> Result<BallotEvent, AllocError>
         ensures told { IfOk result (Tells need self.old self.new) }
         ensures refused { OnErr result (self.new ≡ self.old) }
@@ -256,6 +298,9 @@ impl Tally {
         if self.count() < need {
             return Ok(BallotEvent::Ended);
         }
-        Ok(BallotEvent::Enough(self.text(alloc)?))
+        let text = self.text(alloc)?;
+        self.round = None;
+        self.forget_lines();
+        Ok(BallotEvent::Enough(text))
     }
 }

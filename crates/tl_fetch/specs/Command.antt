@@ -38,8 +38,8 @@ HaveOwnKeys others (text ∷ texts) =
     (k : PublicKey) × IsVerifierText cosignature_kind text k × ¬ (Contains others k.key)
     × HaveOwnKeys (others ++ k.key ∷ []) texts
 
--- whose checkpoints are trusted: the log's, of the key that was told, where so many witnesses cosigned them, of whom no
--- two have one public key, and none has the log's
+-- whose checkpoints are trusted: the log's, of the key that was told, where so many witnesses cosigned them, no two of
+-- whose keys are one public key, and none is the log's
 pub record IsPolicyOf (options : FetchOptions) (policy : Policy) : Type 0 where
   pub key : PublicKey
   pub spelled : IsVerifierText note_kind (string_bytes options.key) key

@@ -4,7 +4,7 @@ use Rattle.tl_hash.specs.Bytes.{Bytes}
 use Rattle.tl_text.specs.Text.{number_text}
 use Rattle.tl_command.specs.Faults.{exit_status, fault_text, fault_words}
 use Rattle.tl_fetch.specs.declared.fault.FetchFault.{FetchFault}
-use Rattle.tl_fetch.specs.declared.fault.FetchFault.TheVariants.{Run, BadAddress, BadWitness, SharedKey, Twice, Unavailable, OtherLog, TooFew, BadTile, BadBundle, BadEntry, Shrunk, Forked}
+use Rattle.tl_fetch.specs.declared.fault.FetchFault.TheVariants.{Run, BadAddress, BadWitness, SharedKey, Unavailable, OtherLog, TooFew, BadTile, BadBundle, BadEntry, Shrunk, Forked}
 
 -- what it says
 abbrev pub fetch_words : FetchFault → Bytes
@@ -12,7 +12,6 @@ fetch_words (Run fault) = fault_words fault
 fetch_words BadAddress = codes "bad address"
 fetch_words (BadWitness place) = codes "bad key of witness " ++ number_text place
 fetch_words (SharedKey place) = codes "witness " ++ number_text place ++ codes " has the key of another"
-fetch_words Twice = codes "two witnesses have one name"
 fetch_words Unavailable = codes "not available"
 fetch_words OtherLog = codes "checkpoint of another log"
 fetch_words (TooFew count) = codes "cosigned by " ++ number_text count ++ codes " witnesses"

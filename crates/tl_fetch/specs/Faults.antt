@@ -29,7 +29,6 @@ bad_checkpoint = run.BadCheckpoint (place.Source resource.Checkpoint)
 
 -- a checkpoint that isn't trusted
 abbrev pub after_head : HeadFault → FetchFault
-after_head head.Twice = fetch.Twice
 after_head (head.Unopened note.Malformed) = fetch.Run bad_checkpoint
 after_head (head.Unopened fault) = fetch.Run (after_note fault)
 after_head (head.NoCheckpoint fault) = fetch.Run bad_checkpoint

@@ -19,8 +19,6 @@ pub enum FetchFault {
     BadWitness(u64),
     /// The witness at this place, counted from 0, has the public key of the log, or of a witness before it.
     SharedKey(u64),
-    /// Two witnesses have one name.
-    Twice,
     /// The source has not got a resource, of which no more is known.
     Unavailable,
     /// The checkpoint is signed, and names another log.
@@ -57,7 +55,6 @@ impl Display for FetchFault {
             FetchFault::BadAddress => f.write_str("bad address"),
             FetchFault::BadWitness(k) => write!(f, "bad key of witness {k}"),
             FetchFault::SharedKey(k) => write!(f, "witness {k} has the key of another"),
-            FetchFault::Twice => f.write_str("two witnesses have one name"),
             FetchFault::Unavailable => f.write_str("not available"),
             FetchFault::OtherLog => f.write_str("checkpoint of another log"),
             FetchFault::TooFew(n) => write!(f, "cosigned by {n} witnesses"),

@@ -44,7 +44,6 @@ pub(crate) fn head_refusal(fault: HeadFault) -> FetchFault
     ensures fair { IsNoAccusation result }
 {
     match fault {
-        HeadFault::Twice => FetchFault::Twice,
         HeadFault::Unopened(NoteFault::Malformed) => FetchFault::Run(BAD_CHECKPOINT),
         HeadFault::Unopened(fault) => FetchFault::Run(note_refusal(fault)),
         HeadFault::NoCheckpoint(_) => FetchFault::Run(BAD_CHECKPOINT),

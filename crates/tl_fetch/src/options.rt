@@ -20,7 +20,7 @@ pub struct FetchOptions {
     pub from: String,
     /// The text of the log's verifier key.
     pub key: String,
-    /// The texts of the witnesses' verifier keys.
+    /// The texts of the witnesses' verifier keys, those of one witness one after another.
     pub witnesses: Vec<String>,
     /// How many of the witnesses must have cosigned a checkpoint.
     pub need: u64,

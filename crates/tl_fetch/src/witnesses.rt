@@ -60,8 +60,8 @@ fn is_among(known: &[[u8; 32]], key: &[u8; 32]) -> bool
     false
 }
 
-/// Checks that each witness has a public key of its own, so that nobody counts twice under two names, and the log not
-/// for a witness. `SharedKey` has the place of the first that hasn't; `BadWitness` of the first text that is of no key.
+/// Checks that each key of a witness is a public key of its own, so that nobody counts twice under two names, and the log
+/// not for a witness. `SharedKey` has the place of the first that isn't; `BadWitness` of the first text that is of no key.
 pub(crate) fn check_keys(
     alloc: Global,
     options: &FetchOptions,

@@ -1,7 +1,6 @@
 -- Beginnings of the calls of steps.
 use Rattle.std.proofs.Common.{◌≡◌, inr, ℕ, zero, suc, ◌+◌, ◌<◌, Bool, true, false, List, [], ◌∷◌, ◌++◌, length, map, take, get_or, refl, sym, ap, subst, ◌∙◌, arith, append_assoc}
 use Rattle.std.specs.Prelude.{Result, Ok, Err, is_err, IsErr}
-use Rattle.std.specs.Global.{Vec}
 use Rattle.std.proofs.lemmas.List.{append-nil, map_more}
 use Rattle.std.proofs.Math.Seq.{take-length}
 use Rattle.tl_folder.specs.Step.{Path, Bytes, Step}
@@ -9,7 +8,7 @@ use Rattle.tl_folder.specs.Step as step
 use Rattle.tl_folder.specs.FileCalls.{Call, done, Begins, Fails, Does, Takes, Begun}
 use Rattle.tl_folder.specs.Posix.{folder_of}
 use Rattle.tl_folder.specs.Settling.{Move, syncing, placing, naming, settling, naming_in}
-use Rattle.tl_folder.specs.Lines.{OpensLines, AppendsSome}
+use Rattle.tl_folder.specs.Lines.{AppendsSome}
 
 pub is_err_at : {T E : Type 0} (r : Result T E) (y : E) → r ≡ Err y → IsErr r
 is_err_at r y is = ap is_err is
@@ -146,26 +145,3 @@ pub append_failed : {E : Type 0} (path : Path) (bytes : Bytes) (before after : L
 append_failed path bytes before after (Ok n) failed is = absurd (cc)
 append_failed path bytes before after (Err e) failed is =
     ((step.Append path bytes, false) ∷ [], is, (length bytes, (ap (λ (b : Bytes). step.Append path b) (sym (take-length bytes)), refl)))
-
-pub open_failed : {L T D E : Type 0} (path : Path) (before after : List Call) (one : Result T D) (r : Result (Vec ℕ × L) E)
-    → IsErr one → IsErr r → Begun (step.Create path ∷ []) before after one → OpensLines path before after r
-open_failed path before after (Ok it) r failed fails takes = absurd (cc)
-open_failed path before after one (Ok it) failed fails takes = absurd (cc)
-open_failed path before after (Err d) (Err e) failed fails takes =
-    (takes.0, takes.1, (0, begins_more (step.Create path ∷ []) (step.Cut path 0 ∷ step.Sync path ∷ naming_in (folder_of path)) takes.0 takes.2))
-
--- all was done but to have the name outlast a crash
-pub open_unnamed : {L T D E : Type 0} (path : Path) (count : ℕ) (before first second third after : List Call) (cut_ok sync_ok : Bool) (one : Result T D) (r : Result (Vec ℕ × L) E)
-    → IsErr one → IsErr r → first ≡ before ++ (step.Create path, true) ∷ [] → second ≡ first ++ (step.Cut path count, cut_ok) ∷ [] → cut_ok ≡ true
-    → third ≡ second ++ (step.Sync path, sync_ok) ∷ [] → sync_ok ≡ true → Does (naming_in (folder_of path)) third after one → OpensLines path before after r
-open_unnamed path count before first second third after cut_ok sync_ok (Ok it) r failed fails one two cut three sync does = absurd (cc)
-open_unnamed path count before first second third after cut_ok sync_ok one (Ok it) failed fails a b cut c sync does = absurd (cc)
-open_unnamed path count before first second third after cut_ok sync_ok (Err d) (Err e) failed fails one two cut three sync does =
-    let steps : List Step = step.Create path ∷ step.Cut path count ∷ step.Sync path ∷ [] in
-    let both : second ≡ before ++ ((step.Create path, true) ∷ [] ++ (step.Cut path count, true) ∷ []) =
-    two ∙ ap (λ (b : Bool). first ++ (step.Cut path count, b) ∷ []) cut ∙ ap (λ (c : List Call). c ++ (step.Cut path count, true) ∷ []) one ∙ append_assoc before ((step.Create path, true) ∷ []) ((step.Cut path count, true) ∷ []) in
-    let all : third ≡ before ++ done steps =
-    three ∙ ap (λ (b : Bool). second ++ (step.Sync path, b) ∷ []) sync ∙ ap (λ (c : List Call). c ++ (step.Sync path, true) ∷ []) both
-    ∙ append_assoc before ((step.Create path, true) ∷ (step.Cut path count, true) ∷ []) ((step.Sync path, true) ∷ []) in
-    let it = does_then {T = Unit {0}} {D = Unit {0}} steps (naming_in (folder_of path)) before third after (Err tt) all does in
-    (it.0, it.1, (count, fails_begins (steps ++ naming_in (folder_of path)) it.0 it.2))

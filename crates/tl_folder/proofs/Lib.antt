@@ -14,3 +14,5 @@ pub mod ShelfDisk
 pub mod Marks
 pub mod Partials
 pub mod Removals
+pub mod Fronts
+pub mod StreamBeginnings

@@ -1,15 +1,14 @@
 -- Lines of a file, each with its newline.
-use Rattle.std.specs.Prelude.{◌≡◌, ◌≢◌, ℕ, ◌+◌, ◌<◌, ◌≤◌, ◌⊎◌, List, [], ◌∷◌, ◌++◌, length, take, slice_index_or, vec_items, Result, Ok, Err}
-use Rattle.std.specs.Global.{Vec}
+use Rattle.std.specs.Prelude.{◌≡◌, ◌≢◌, ℕ, ◌+◌, ◌^◌, ◌<◌, ◌≤◌, ◌⊎◌, List, [], ◌∷◌, ◌++◌, length, take, slice_index_or, Result, Ok, Err}
+use Rattle.std.specs.Io.KnownBytes.{Consumes, IsAtEnd}
+use Rattle.tl_device.specs.Device.{HasFailed, Passage}
+use Rattle.tl_device.specs.declared.counted.InputFault.{InputFault}
+use Rattle.tl_device.specs.declared.counted.InputFault.TheVariants as reading
 use Rattle.tl_folder.specs.Step.{Path, Bytes, Step}
 use Rattle.tl_folder.specs.Step as step
-use Rattle.tl_folder.specs.FileCalls.{Call, Begins, done}
+use Rattle.tl_folder.specs.FileCalls.{Call, Begins, Fails, done}
 use Rattle.tl_folder.specs.Posix.{folder_of}
 use Rattle.tl_folder.specs.Settling.{naming_in}
-
--- no bytes, or the last is a newline
-abbrev pub IsWhole : List ℕ → Type 0
-IsWhole bytes = (bytes ≡ []) ⊎ ((front : List ℕ) × (bytes ≡ front ++ 10 ∷ []))
 
 -- the first so many bytes are whole lines, and no newline comes after them
 pub record IsWholeFront (bytes : List ℕ) (count : ℕ) : Type 0 where
@@ -17,22 +16,43 @@ pub record IsWholeFront (bytes : List ℕ) (count : ℕ) : Type 0 where
   pub ended : (count ≡ 0) ⊎ ((at : ℕ) × (count ≡ at + 1) × (slice_index_or bytes at 0 ≡ 10))
   pub last : (at : ℕ) → count ≤ at → at < length bytes → slice_index_or bytes at 0 ≢ 10
 
+-- the reader was read to its end, and so many of the first bytes that it gave are whole lines
+pub record ReadFront (p : Passage) (count : ℕ) : Type 0 where
+  pub input : List ℕ
+  pub consumed : Consumes p.old p.new input
+  pub ended : IsAtEnd p.new
+  pub front : IsWholeFront input count
+
+-- the length of the whole lines that the reader gives; or a read failed, or there were too many bytes
+abbrev pub MeasuresLines : Passage → Result ℕ InputFault → Type 0
+MeasuresLines p (Ok count) = ReadFront p count
+MeasuresLines p (Err reading.Read) = HasFailed p
+MeasuresLines p (Err reading.TooLarge) = (input : List ℕ) × Consumes p.old p.new input × (2 ^ 62 ≤ length input)
+MeasuresLines p (Err reading.OutOfMemory) = ⊥
+
 -- ---- the calls on the file
+
+-- cuts the file to so many bytes, and has it and its name outlast a crash
+abbrev pub cutting : Path → ℕ → List Step
+cutting path count = step.Cut path count ∷ step.Sync path ∷ naming_in (folder_of path)
 
 -- makes the file where none is, cuts it to so many bytes, and has it and its name outlast a crash
 abbrev pub opening : Path → ℕ → List Step
-opening path count = step.Create path ∷ step.Cut path count ∷ step.Sync path ∷ naming_in (folder_of path)
+opening path count = step.Create path ∷ cutting path count
 
 -- writes the bytes behind those of the file, and has them outlast a crash
 abbrev pub appending : Path → Bytes → List Step
 appending path bytes = step.Append path bytes ∷ step.Sync path ∷ []
 
--- Ok: the file was cut to the lines that it has, and all calls were done. Err: a beginning of the calls was made.
-abbrev pub OpensLines : {L E : Type 0} → Path → List Call → List Call → Result (Vec ℕ × L) E → Type 0
-OpensLines path before after (Ok (lines, locked)) = after ≡ before ++ done (opening path (length (vec_items lines)))
-OpensLines path before after (Err fault) = (made : List Call) × (after ≡ before ++ made) × ((count : ℕ) × Begins (opening path count) made)
-
 -- Ok: the first so many bytes were appended, and all calls were done. Err: a beginning of the calls was made.
 abbrev pub AppendsSome : {E : Type 0} → Path → Bytes → List Call → List Call → Result ℕ E → Type 0
 AppendsSome path bytes before after (Ok count) = after ≡ before ++ done (appending path (take count bytes))
 AppendsSome path bytes before after (Err fault) = (made : List Call) × (after ≡ before ++ made) × ((count : ℕ) × Begins (appending path (take count bytes)) made)
+
+-- Ok: the reader came to its end, the file was cut to the whole lines that it gave, and all calls were done. Err: none was
+-- made; or one of them failed, and those before it were done.
+abbrev pub CutsLines : {E : Type 0} → Path → Passage → List Call → List Call → Result ℕ E → Type 0
+CutsLines path p before after (Ok count) = ReadFront p count × (after ≡ before ++ done (cutting path count))
+CutsLines path p before after (Err fault) =
+    (after ≡ before)
+    ⊎ ((count : ℕ) × ReadFront p count × ((made : List Call) × (after ≡ before ++ made) × Fails (cutting path count) made))

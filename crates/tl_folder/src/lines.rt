@@ -1,18 +1,20 @@
 //! A file of lines that outlast a crash.
 
-ghost use Rattle.std.specs.Prelude.{◌≡◌, ◌≤◌, [], ◌∷◌, IfOk, length, vec_items};
-ghost use Rattle.tl_folder.specs.FileCalls.{done};
-ghost use Rattle.tl_folder.specs.Lines.{IsWholeFront, IsWhole, OpensLines, AppendsSome, opening};
+ghost use Rattle.std.specs.Prelude.{◌≡◌, ◌≤◌, [], ◌∷◌, IfOk, length};
+ghost use Rattle.tl_folder.specs.FileCalls.{Takes};
+ghost use Rattle.tl_folder.specs.Lines.{IsWholeFront, AppendsSome};
+ghost use Rattle.tl_folder.specs.Settling.{new_path, replacing};
 
 use crate::file_calls::FileCalls;
-use crate::files::sync_parent;
 use crate::lock::LockedFile;
+use crate::place::beside;
 use crate::record::note_bytes;
 use crate::system::{OpenedFile, SystemCalls};
+use crate::whole::replace_by;
 use http_server::Log;
 use memchr::memrchr;
 use std::alloc::Global;
-use std::fs::{File, Files, OpenOptions};
+use std::fs::{File, Files};
 use std::io;
 use std::io::{ErrorKind, Write};
 use std::marker::Model;
@@ -38,12 +40,45 @@ impl<'f, H: Files> Model for DurableAppend<'f, H> {
     ghost view = { λ s. record { path = s.path.now; written = noted s.written; calls = s.calls.log; fault = s.fault } };
 }
 
-impl<H: Files> DurableAppend<'_, H> {
+impl<'f, H: Files> DurableAppend<'f, H> {
+    /// The file that was opened by this path and locked, by these calls.
+    pub(crate) fn new(calls: SystemCalls<&'f H>, path: &'f str, locked: LockedFile) -> Self
+        ensures { result ≡ record {
+          path = path.now;
+          written = [];
+          calls = calls.entry.log;
+          fault = None;
+        } }
+    {
+        DurableAppend {
+            calls,
+            path,
+            locked,
+            written: Log::new(),
+            fault: None,
+        }
+    }
+
     /// Why the last write failed, if it did.
     pub fn fault(&self) -> Option<DeviceFault>
         ensures { result ≡ self.now.fault }
     {
         self.fault
+    }
+
+    /// Puts a new file with these bytes in the place of this one, once they outlast a crash, and has the name outlast
+    /// one. From then on this one is at no path: a write to it is `Moved`. The lock stays on it while it is open, and
+    /// none is on the new one. After a failure the file at the path is this one or the new one.
+    pub fn replace(&mut self, alloc: Global, bytes: &[u8]) -> Result<(), DeviceFault>
+        ensures path { self.new.path ≡ self.old.path }
+        ensures written { self.new.written ≡ self.old.written }
+        ensures calls { Takes (replacing (new_path self.old.path) self.old.path bytes.now)
+            self.old.calls self.new.calls result }
+    {
+        let beside = beside(alloc, self.path)?;
+        self.locked
+            .check_at(self.calls.symlink_metadata(self.path))?;
+        replace_by(&mut self.calls, beside.as_str(), self.path, bytes)
     }
 }
 
@@ -95,72 +130,12 @@ impl<'f, H: Files<File = File>> Write for DurableAppend<'f, H> {
     }
 }
 
-/// A file of lines: what it had, and the file to append to.
-#[derive(Drop)]
-pub struct LineFile<'f, H: Files> {
-    /// The lines that it had, each with its newline.
-    pub lines: Vec<u8>,
-    /// The same file, after them.
-    pub end: DurableAppend<'f, H>,
-}
-
-// How many of the first bytes are whole lines.
-fn whole_front(bytes: &[u8]) -> usize
+/// How many of the first bytes are whole lines.
+pub(crate) fn whole_front(bytes: &[u8]) -> usize
     ensures { IsWholeFront bytes.now result }
 {
     match memrchr(b'\n', bytes) {
         Some(at) => at + 1,
         None => 0,
     }
-}
-
-// Opens and locks the file, cuts off a last line without a newline, and has the rest and the name outlast a crash.
-fn open_by<C: FileCalls<File = OpenedFile<File>>>(
-    calls: &mut C,
-    alloc: Global,
-    path: &str,
-    most: u64,
-) -> Result<(Vec<u8>, LockedFile), DeviceFault>
-    ensures whole { IfOk result (λ it. IsWhole (vec_items it.0)) }
-    ensures calls { OpensLines path.now (C.calls calls.old) (C.calls calls.new) result }
-{
-    let mut how = OpenOptions::new();
-    how.read(true).append(true).create(true);
-    let locked = LockedFile::open(calls, &how, path)?;
-    let mut lines = locked.file.read(alloc, most)?;
-    let whole = whole_front(lines.as_slice());
-    calls.cut(&locked.file, path, whole as u64)?;
-    lines.truncate(whole);
-    calls.sync_all(&locked.file, path)?;
-    sync_parent(calls, path)?;
-    Ok((lines, locked))
-}
-
-/// The file of lines at this path, which is made where there is none, and locked. A last line without a newline, as a
-/// crash leaves it, is cut off. `Busy`: another process has it. `NotPlain`: something else than a plain file is there,
-/// as a link. `Moved`: another file came to the path meanwhile. `TooLarge`: it has more than `most` bytes.
-pub fn open_lines<'f, H: Files<File = File>>(
-    files: &'f H,
-    alloc: Global,
-    path: &'f str,
-    most: u64,
-) -> Result<LineFile<'f, H>, DeviceFault>
-    ensures whole { IfOk result (λ file. IsWhole (vec_items file.lines)) }
-    ensures end { IfOk result (λ file. file.end ≡ record {
-      path = path.now;
-      written = [];
-      calls = done (opening path.now (length (vec_items file.lines)));
-      fault = None;
-    }) }
-{
-    let mut calls = SystemCalls::new(files);
-    let (lines, locked) = open_by(&mut calls, alloc, path, most)?;
-    let end = DurableAppend {
-        calls,
-        path,
-        locked,
-        written: Log::new(),
-        fault: None,
-    };
-    Ok(LineFile { lines, end })
 }

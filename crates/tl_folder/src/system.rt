@@ -59,14 +59,6 @@ impl OpenedFile<File> {
             Err(TryLockError::Error(error)) => Err(DeviceFault::from(error)),
         }
     }
-
-    /// All its bytes. `TooLarge`: it has more than `most`.
-    pub(crate) fn read(&self, alloc: Global, most: u64) -> Result<Vec<u8>, DeviceFault> {
-        match read_whole(alloc, &mut Counted::new(&self.file), most) {
-            Ok(bytes) => Ok(bytes),
-            Err(fault) => Err(DeviceFault::from(fault)),
-        }
-    }
 }
 
 // Writes a new file, in place of a plain one that may be there.

@@ -45,7 +45,7 @@ impl<'s, H: Files> Model for AtomicFile<'s, H> {
 
 /// Writes bytes beside the place of a file and then puts them there, once they outlast a crash, and then has the name
 /// outlast one. `NotPlain`: in one of the two places is something else than a plain file, and nothing was written.
-fn replace_by<C: FileCalls>(
+pub(crate) fn replace_by<C: FileCalls>(
     calls: &mut C,
     beside: &str,
     path: &str,

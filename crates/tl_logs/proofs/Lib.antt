@@ -5,4 +5,12 @@ pub mod IndexLaws
 pub mod Grouping
 pub mod Placed
 pub mod FileLaws
-pub mod KnownLaws
+pub mod HeadLaws
+pub mod StreamLaws
+pub mod HeadIndex
+pub mod OneLineLaws
+pub mod WholeLaws
+pub mod BlockLaws
+pub mod StateLaws
+pub mod CompactLaws
+pub mod WholeChains

@@ -9,7 +9,7 @@ use Rattle.std.proofs.lemmas.List.Quantifiers.{position-Some}
 use Rattle.std.proofs.lemmas.List.Sums.{fails_before_first}
 use Rattle.tl_logs.specs.LogsFile.{IsInOneLine}
 
-abbrev is_newline : ℕ → Bool
+abbrev pub is_newline : ℕ → Bool
 is_newline byte = byte == 10
 
 -- the bytes are cut at their first newline

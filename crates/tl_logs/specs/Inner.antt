@@ -5,3 +5,11 @@ pub
     mod Lines
 pub
     mod Placing
+pub
+    mod Counting
+pub
+    mod Heads
+pub
+    mod OneLine
+pub
+    mod Stream

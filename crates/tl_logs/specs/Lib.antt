@@ -1,4 +1,7 @@
 pub mod FaultWords
 pub mod LogsFile
 pub mod ReadLogs
+pub mod State
+pub mod StateFaults
+pub mod ReadState
 pub mod Inner

@@ -1,6 +1,6 @@
 //! Finds the place of an origin in a list, in time that grows with the logarithm of the list's length.
 
-ghost use Rattle.std.specs.Prelude.{◌≡◌, None, OnOk};
+ghost use Rattle.std.specs.Prelude.{◌≡◌, None, OnErr, OnOk};
 ghost use Rattle.tl_hash.specs.Bytes.{Bytes};
 ghost use Rattle.tl_logs.specs.Inner.ByOrigin.{PutsOrigin, index_of};
 
@@ -30,9 +30,13 @@ impl<A: Allocator + Copy> ByOrigin<A> {
         self.places.get(origin).copied()
     }
 
-    /// Gives an origin this place, and no longer another. It fails only where a growth was refused.
+    /// Gives an origin this place, and no longer another. It fails only where a growth was refused, and then changes
+    /// nothing.
     pub(crate) fn add(&mut self, alloc: A, origin: &str, place: usize) -> Result<(), AllocError>
-        ensures { OnOk result (PutsOrigin origin.now place (index_of self.old) (index_of self.new)) }
+        ensures added { OnOk result
+            (PutsOrigin origin.now place (index_of self.old) (index_of self.new)) }
+        ensures kept { OnErr result
+            ((other : Bytes) → index_of self.new other ≡ index_of self.old other) }
     {
         self.places.insert(String::from_str(alloc, origin)?, place)?;
         Ok(())

@@ -1,18 +1,27 @@
-//! What is of logs that are known.
+//! Which origins count.
 
-ghost use Rattle.std.specs.Prelude.{◌≡◌, IfOk, filter, is_some, string_bytes};
+ghost use Rattle.std.specs.Prelude.{◌≡◌, ◌<◌, IfOk, None, OnErr, Some, is_some, length};
 ghost use Rattle.tl_hash.specs.Bytes.{Bytes};
 ghost use Rattle.tl_logs.specs.ReadLogs.{is_origin_of, logs_shown};
 ghost use Rattle.tl_logs.specs.Inner.ByOrigin.{index_of};
+ghost use Rattle.tl_logs.specs.Inner.Counting.{counts_of};
+ghost use Rattle.tl_logs.specs.State.{of_logs};
 
 use crate::by_origin::ByOrigin;
 use crate::log::KnownLog;
 use std::alloc::{AllocError, Allocator};
 
-// The places of the origins of logs.
+/// Which origins count: all, or those that have places.
+#[derive(Drop)]
+pub(crate) struct Counting<A: Allocator> {
+    places: Option<ByOrigin<A>>,
+}
+
+// The places of the origins of logs. It fails only where a growth was refused.
 fn places_of<A: Allocator + Copy>(alloc: A, logs: &[KnownLog<A>]) -> Result<ByOrigin<A>, AllocError>
-    ensures { IfOk result (λ places. (origin : Bytes)
+    ensures places { IfOk result (λ places. (origin : Bytes)
         → is_some (index_of places origin) ≡ is_origin_of (logs_shown logs.now) origin) }
+    ensures memory { OnErr result (0 < length logs.now) }
 {
     let mut places = ByOrigin::new(alloc);
     for i in 0..logs.len() {
@@ -21,22 +30,33 @@ fn places_of<A: Allocator + Copy>(alloc: A, logs: &[KnownLog<A>]) -> Result<ByOr
     Ok(places)
 }
 
-/// What is of one of these logs, by its origin, in order; the others are dropped. It fails only where a growth was
-/// refused. The time grows with the logarithm of the number of logs.
-pub fn keep_known<T: Drop, A: Allocator + Copy>(
-    alloc: A,
-    logs: &[KnownLog<A>],
-    named: Vec<(String<A>, T), A>,
-) -> Result<Vec<(String<A>, T), A>, AllocError>
-    ensures { IfOk result (λ kept. kept.items
-        ≡ filter (λ n. is_origin_of (logs_shown logs.now) (string_bytes n.0)) named.items) }
-{
-    let places = places_of(alloc, logs)?;
-    let mut kept = Vec::new(alloc);
-    for (origin, it) in named {
-        if places.find(origin.as_str()).is_some() {
-            kept.push((origin, it))?;
+impl<A: Allocator + Copy> Counting<A> {
+    /// All origins count. It takes no memory.
+    pub(crate) fn all() -> Self
+        ensures { counts_of result ≡ of_logs None }
+    {
+        Counting { places: None }
+    }
+
+    /// The origins of these logs count. It fails only where a growth was refused.
+    pub(crate) fn of(alloc: A, logs: &[KnownLog<A>]) -> Result<Self, AllocError>
+        ensures counts { IfOk result
+            (λ counting. counts_of counting ≡ of_logs (Some (logs_shown logs.now))) }
+        ensures memory { OnErr result (0 < length logs.now) }
+    {
+        let places = places_of(alloc, logs)?;
+        Ok(Counting {
+            places: Some(places),
+        })
+    }
+
+    /// Whether what is saved of an origin counts.
+    pub(crate) fn counts(&self, origin: &str) -> bool
+        ensures { result ≡ counts_of self.now origin.now }
+    {
+        match &self.places {
+            Some(places) => places.find(origin).is_some(),
+            None => true,
         }
     }
-    Ok(kept)
 }

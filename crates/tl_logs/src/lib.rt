@@ -9,13 +9,23 @@
 
 mod by_origin;
 mod fault;
+mod head;
 mod known;
+mod law;
 mod line;
 mod log;
+mod one_line;
 mod placing;
 mod reading;
+mod state;
+mod state_fault;
+mod state_reading;
+mod taking;
 
 pub use fault::LogsFault;
-pub use known::keep_known;
+pub use head::{OriginHead, whole_chains};
+pub use law::{whole_steps_are_chains, whole_steps_lead_there};
 pub use log::KnownLog;
 pub use reading::read_logs;
+pub use state::{compact_state, read_state};
+pub use state_fault::StateFault;

@@ -12,8 +12,8 @@ use crate::log::KnownLog;
 use crate::placing::take_line;
 use std::alloc::Allocator;
 
-// The place of the first newline.
-fn first_newline(bytes: &[u8]) -> Option<usize>
+/// The place of the first newline.
+pub(crate) fn first_newline(bytes: &[u8]) -> Option<usize>
     ensures { result ≡ position (λ byte. byte == 10) bytes.now }
 {
     bytes.iter().position(|byte| *byte == b'\n')

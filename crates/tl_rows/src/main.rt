@@ -13,6 +13,7 @@ mod equals;
 mod keys;
 mod notes;
 mod proofs;
+mod requests;
 mod signatures;
 mod sources;
 mod stores;
@@ -61,6 +62,7 @@ fn answer(alloc: Global, call: &str, text: &str, out: &mut String) -> Told {
         "key" => keys::answer(alloc, words, text, out),
         "note" => notes::answer(alloc, words, text, out),
         "proof" => proofs::answer(alloc, words, text, out),
+        "request" => requests::answer(alloc, words, text, out),
         "source" => sources::answer(alloc, words, out),
         "store" => stores::answer(alloc, words, out),
         "tile" => tiles::answer(alloc, words, text, out),

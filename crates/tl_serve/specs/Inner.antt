@@ -16,4 +16,6 @@ pub
 pub
     mod Shelved
 pub
+    mod Stating
+pub
     mod Telling

@@ -4,7 +4,9 @@ use Rattle.std.specs.Prelude.{◌≡◌, ⊤, Result, Ok, Err, string_bytes}
 use Rattle.tl_note.specs.Key.{IsKeyName}
 use Rattle.tl_device.specs.Device.{Passage, IsUnread}
 use Rattle.tl_command.specs.declared.fault.RunFault.{RunFault}
-use Rattle.tl_command.specs.declared.fault.RunFault.TheVariants.{BadOrigin}
+use Rattle.tl_command.specs.declared.fault.RunFault.TheVariants.{BadOrigin, Chain, OutOfMemory, Read, TooLarge}
+use Rattle.tl_logs.specs.declared.state_fault.StateFault.{StateFault}
+use Rattle.tl_logs.specs.declared.state_fault.StateFault.TheVariants as state
 use Rattle.tl_serve.specs.declared.options.KnownLogs.{KnownLogs}
 use Rattle.tl_serve.specs.declared.options.KnownLogs.TheVariants.{One, Listed}
 use Rattle.tl_serve.specs.declared.witness_fault.WitnessFault.{WitnessFault}
@@ -14,6 +16,14 @@ use Rattle.tl_serve.specs.declared.witness_fault.WitnessFault.TheVariants.{Run}
 abbrev pub by_witness : Result (Unit {0}) RunFault → Result (Unit {0}) WitnessFault
 by_witness (Ok done) = Ok done
 by_witness (Err fault) = Err (Run fault)
+
+-- why a state isn't read, as other commands tell it: the line that is to blame is told
+abbrev pub by_state : StateFault → RunFault
+by_state state.Read = Read
+by_state (state.Malformed line) = Chain line
+by_state (state.Broken line) = Chain line
+by_state state.TooLarge = TooLarge
+by_state state.OutOfMemory = OutOfMemory
 
 -- one log is served where its name is a key's; those that a file names are looked at once it was read
 abbrev pub MayServe : KnownLogs → Type 0

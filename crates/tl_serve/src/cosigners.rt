@@ -5,6 +5,7 @@ use crate::shared_writer::SharedWriter;
 use std::alloc::Global;
 use std::io::Write;
 use std::net::{Net, TcpStream};
+use std::slice;
 use std::sync::Wait;
 use std::thread::{JoinHandle, Scope};
 use std::time::{Clock, Duration};
@@ -13,7 +14,6 @@ use tl_archive::Shelf;
 use tl_command::{RunFault, print_text};
 use tl_cosign::{Ballot, BallotEvent, HttpWitness, LogKeys, ShelfReader, Unasked, ask_in_rounds};
 use tl_device::Counted;
-use tl_hash::Head;
 use tl_note::Verifier;
 use tl_source::Url;
 
@@ -50,12 +50,7 @@ impl<H: Wait, L: Write> Proposer<'_, '_, H, L> {
 }
 
 impl<H: Wait, L: Write> AsksCosigners for Proposer<'_, '_, H, L> {
-    fn ask<P: ProposalStore>(
-        &mut self,
-        _store: &P,
-        note: &str,
-        _head: &Head,
-    ) -> Result<String, RunFault> {
+    fn ask<P: ProposalStore>(&mut self, _store: &P, note: &str) -> Result<String, RunFault> {
         self.ballot.propose(self.rt, note)?;
         for _ in 0..u64::MAX {
             match self.ballot.wait(self.rt, self.need)? {
@@ -103,7 +98,8 @@ impl<H: Wait + Clock + Net<Stream = TcpStream>, P: Shelf + Drop> AsksInRounds<P>
             keys: self.log,
         };
         let source = ShelfReader(shelf);
-        ask_in_rounds(rt, alloc, ballot, place, &source, &log, &mut asker, witness);
+        let keys = slice::from_ref(witness);
+        ask_in_rounds(rt, alloc, ballot, place, &source, &log, &mut asker, keys);
     }
 }
 

@@ -3,21 +3,20 @@
 use crate::cosigner::{Own, SharedSigner};
 use crate::host::Host;
 use crate::options::WitnessOptions;
-use crate::witness::{chains_of, own_key, refusal, serve_all};
+use crate::witness::{own_key, read_chains, refusal, serve_all};
 use crate::witness_fault::{WitnessFault, after_run};
-use std::alloc::{AllocError, Global};
+use std::alloc::Global;
 use std::fs::{Files, metadata};
 use std::io::{Read, Write};
 use std::net::{Net, TcpListener, TcpStream};
-use std::str;
 use std::sync::Arc;
-use tl_command::{MOST_INPUT, RunFault, read_input};
+use tl_command::{MOST_INPUT, RunFault};
 use tl_device::{Counted, DeviceFault, read_plain};
 use tl_hash::Sha256Tree;
-use tl_logs::{KnownLog, LogsFault, keep_known, read_logs};
+use tl_logs::{KnownLog, LogsFault, read_logs};
 use tl_note::{Signer, Verifier};
 use tl_proof::Link;
-use tl_witness::{Book, BookFault, SharedWitness, Trust};
+use tl_witness::{Book, SharedWitness, Trust};
 
 // The logs that the file at this path names.
 fn known_logs<H: Files>(
@@ -37,55 +36,7 @@ fn known_logs<H: Files>(
     }
 }
 
-// The origins of chains, in order.
-fn origins_of(
-    alloc: Global,
-    chains: &[(String, Vec<Link<Global>>)],
-) -> Result<Vec<String>, AllocError> {
-    let mut origins = Vec::new(alloc);
-    origins.reserve(chains.len())?;
-    for chain in chains {
-        origins.push(String::from_str(alloc, chain.0.as_str())?)?;
-    }
-    Ok(origins)
-}
-
-// Whether a line of saved links is of this origin, which has no space in it: it ends the line, behind a space.
-fn is_of(line: &[u8], origin: &str) -> bool {
-    let Some(before) = line.strip_suffix(origin.as_bytes()) else {
-        return false;
-    };
-    before.ends_with(b" ")
-}
-
-// The place of the line of an origin's link at this place, among all lines.
-fn line_of(input: &[u8], origin: &str, link: usize) -> u64 {
-    let mut others = link;
-    let mut place: u64 = 0;
-    for line in input.split(|byte| *byte == b'\n') {
-        if is_of(line, origin) {
-            if others == 0 {
-                return place;
-            }
-            others -= 1;
-        }
-        place = place.saturating_add(1);
-    }
-    place
-}
-
-// Why a book was not opened, with the place of the line that is to blame.
-fn refusal_in(fault: BookFault, input: &[u8], origins: &[String]) -> RunFault {
-    match fault {
-        BookFault::BadChain { chain, link } => match origins.get(chain) {
-            Some(origin) => RunFault::Chain(line_of(input, origin.as_str(), link)),
-            None => RunFault::Chain(0),
-        },
-        _ => refusal(fault),
-    }
-}
-
-// Serves a witness that trusts these, and has cosigned these chains, which are of the input and of these origins.
+// Serves a witness that trusts these, and has cosigned these chains.
 fn serve_trusted<
     H: Host + Net<Listener = TcpListener, Stream = TcpStream>,
     O: Write + Send,
@@ -96,17 +47,13 @@ fn serve_trusted<
     options: &WitnessOptions,
     trusts: Vec<Trust<Global>>,
     chains: Vec<(String, Vec<Link<Global>>)>,
-    input: Vec<u8>,
-    origins: Vec<String>,
     writer: &mut Counted<O>,
     log: &mut Counted<L>,
 ) -> Result<(), RunFault> {
     let book = match Book::open(alloc, alloc, Sha256Tree, trusts, chains) {
         Ok(book) => book,
-        Err(fault) => return Err(refusal_in(fault, input.as_slice(), origins.as_slice())),
+        Err(fault) => return Err(refusal(fault)),
     };
-    drop(input);
-    drop(origins);
     let Ok(witness) = SharedWitness::new(book) else {
         return Err(RunFault::OutOfMemory);
     };
@@ -129,10 +76,7 @@ fn serve_listed<
     writer: &mut Counted<O>,
     log: &mut Counted<L>,
 ) -> Result<(), RunFault> {
-    let input = read_input(alloc, reader, MOST_INPUT)?;
-    let chains = chains_of(alloc, input.as_slice())?;
-    let chains = keep_known(alloc, logs.as_slice(), chains)?;
-    let origins = origins_of(alloc, chains.as_slice())?;
+    let chains = read_chains(alloc, Some(logs.as_slice()), reader)?;
     let mut trusts = Vec::new(alloc);
     trusts.reserve(logs.len())?;
     for KnownLog { origin, keys } in logs {
@@ -148,9 +92,7 @@ fn serve_listed<
             cosigner,
         })?;
     }
-    serve_trusted(
-        rt, alloc, options, trusts, chains, input, origins, writer, log,
-    )
+    serve_trusted(rt, alloc, options, trusts, chains, writer, log)
 }
 
 /// Serves a witness of the logs that the file at this path names.

@@ -103,6 +103,8 @@ pub struct WitnessOptions {
     pub time: Option<u64>,
     /// The file of what it cosigned; without it, standard input and output.
     pub state: Option<String>,
+    /// Whether that file is compacted first: of each origin its last link alone is kept.
+    pub compacts: bool,
     /// Where and how long it listens.
     pub server: ListenOptions,
 }

@@ -22,7 +22,8 @@ use std::thread;
 use std::thread::Scope;
 use std::time::Duration;
 use tl_append::{
-    ChecksCosigned, CosignedShelf, LogKeys, LogOpeningKey, LogQuorum, ProposalStore, keys_of,
+    ChecksCosigned, Cosigners, LogKeys, LogOpeningKey, LogQuorum, ProposalStore, SealedShelf,
+    keys_of,
 };
 use tl_archive::Shelf;
 use tl_checkpoint::have_distinct_names;
@@ -149,7 +150,7 @@ fn serve_in<
         out: Counted::new(SharedWriter { rt, out }),
     };
     let keeps = options.keeps_partials;
-    let cosigned = CosignedShelf::new(shelf, store, proposer, quorum, keeps);
+    let cosigned = SealedShelf::new(shelf, store, Cosigners::new(proposer, quorum), keeps);
     let mut told = Counted::new(SharedWriter { rt, out });
     let Served { shelf, outcome } = run_serve_shelf(
         rt, alloc, options, cosigned, shown, &mut found, input, reader, &mut told,

@@ -1,7 +1,12 @@
 //! The command `witness`: a witness of one log, or of many, over HTTP.
 
+ghost use Rattle.std.specs.Prelude.{IfErr, IfOk, option_map};
+ghost use Rattle.sha2.specs.Sha256.{sha256};
 ghost use Rattle.tl_device.specs.Device.{passage};
+ghost use Rattle.tl_witness.specs.ReadChain.{chains_shown};
+ghost use Rattle.tl_logs.specs.ReadLogs.{logs_shown};
 ghost use Rattle.tl_command.specs.Origins.{RefusesOrigin};
+ghost use Rattle.tl_serve.specs.Inner.Stating.{HaveState, LackState};
 ghost use Rattle.tl_serve.specs.Knowing.{RefusesLog};
 
 use crate::answering::answer;
@@ -15,7 +20,7 @@ use crate::pages::{Pages, outcome_of};
 use crate::queue::LineQueue;
 use crate::saver::LineSaver;
 use crate::serve::threads_of;
-use crate::witness_fault::{WitnessFault, after_run};
+use crate::witness_fault::{WitnessFault, after_run, state_refusal};
 use mio::Poll;
 use std::alloc::Global;
 use std::fs::Files;
@@ -25,35 +30,34 @@ use std::sync::Wait;
 use std::thread;
 use std::thread::Scope;
 use std::time::{Clock, SystemTime, UNIX_EPOCH};
-use tl_command::{MOST_INPUT, RunFault, read_file, read_input, read_log_key, read_private_key};
+use tl_command::{RunFault, read_file, read_log_key, read_private_key};
 use tl_device::Counted;
 use tl_hash::Sha256Tree;
 use tl_heart::Event;
 use tl_key::{Cosignature, DemoKey, Note, VerifierKey, demo_key};
+use tl_logs::{KnownLog, read_state, whole_chains};
 use tl_note::{NoteFault, Signer, Verifier, is_key_name};
 use tl_proof::Link;
 use tl_server::{Outcome, ServeFault, Teller, Witness, serve_witness};
-use tl_witness::{Book, BookFault, ChainFault, SharedWitness, Trust, read_chain};
+use tl_witness::{Book, BookFault, SharedWitness, Trust};
 
-/// The chains that an earlier run printed.
-pub(crate) fn chains_of(
+/// The chains of the state that the reader gives, of each of these logs, or of all, in one link.
+pub(crate) fn read_chains<R: Read>(
     alloc: Global,
-    input: &[u8],
-) -> Result<Vec<(String, Vec<Link<Global>>)>, RunFault> {
-    match read_chain(alloc, input) {
-        Ok(chains) => Ok(chains),
-        Err(ChainFault::Malformed(line)) => Err(RunFault::Chain(line as u64)),
-        Err(ChainFault::OutOfMemory) => Err(RunFault::OutOfMemory),
-    }
-}
-
-// The chains that an earlier run printed.
-fn read_chains<R: Read>(
-    alloc: Global,
+    logs: Option<&[KnownLog<Global>]>,
     reader: &mut Counted<R>,
-) -> Result<Vec<(String, Vec<Link<Global>>)>, RunFault> {
-    let input = read_input(alloc, reader, MOST_INPUT)?;
-    chains_of(alloc, input.as_slice())
+) -> Result<Vec<(String, Vec<Link<Global>>)>, RunFault>
+    ensures read { IfOk result
+        (λ chains. HaveState sha256 (option_map (λ l. logs_shown l.now) logs.entry)
+        (passage R.remaining reader.old reader.new) (chains_shown chains.items)) }
+    ensures refused { IfErr result
+        (LackState sha256 (option_map (λ l. logs_shown l.now) logs.entry)
+        (passage R.remaining reader.old reader.new)) }
+{
+    match read_state(alloc, Sha256Tree, logs, reader) {
+        Ok(heads) => Ok(whole_chains(alloc, heads)?),
+        Err(fault) => Err(state_refusal(fault)),
+    }
 }
 
 /// Why a book was not opened.
@@ -320,7 +324,7 @@ fn run_one<
     if !is_key_name(origin) {
         return Err(RunFault::BadOrigin);
     }
-    let chains = read_chains(alloc, reader)?;
+    let chains = read_chains(alloc, None, reader)?;
     let verifier: Box<dyn Verifier> = match known_key(alloc, origin, key)? {
         Known::Demonstration(key) => Box::new(alloc, key)?,
         Known::Public(key) => Box::new(alloc, key)?,

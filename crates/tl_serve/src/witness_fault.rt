@@ -1,12 +1,12 @@
 //! Why a witness ends without success.
 
 ghost use Rattle.std.specs.Prelude.{◌≡◌};
-ghost use Rattle.tl_serve.specs.Knowing.{by_witness};
+ghost use Rattle.tl_serve.specs.Knowing.{by_state, by_witness};
 
 use std::alloc::{AllocError, AllocFailed};
 use tl_command::RunFault;
 use tl_device::DeviceFault;
-use tl_logs::LogsFault;
+use tl_logs::{LogsFault, StateFault};
 
 /// Why a witness ends without success.
 #[derive(Clone, Copy, Debug, PartialEq, Eq)]
@@ -48,6 +48,29 @@ impl From<RunFault> for WitnessFault {
 
     fn from(fault: RunFault) -> WitnessFault {
         WitnessFault::Run(fault)
+    }
+}
+
+/// Why a state isn't read, as other commands tell it.
+pub(crate) fn state_refusal(fault: StateFault) -> RunFault
+    ensures { result ≡ by_state fault }
+{
+    match fault {
+        StateFault::Read => RunFault::Read,
+        StateFault::Malformed(line) | StateFault::Broken(line) => RunFault::Chain(line),
+        StateFault::TooLarge => RunFault::TooLarge,
+        StateFault::OutOfMemory => RunFault::OutOfMemory,
+    }
+}
+
+impl From<StateFault> for WitnessFault {
+    ghost use Rattle.tl_serve.specs.Knowing.{by_state};
+    ghost use Rattle.tl_serve.specs.declared.witness_fault.WitnessFault.TheVariants.{Run};
+
+    ghost from_gives = { λ why fault. fault ≡ Run (by_state why) };
+
+    fn from(fault: StateFault) -> WitnessFault {
+        WitnessFault::Run(state_refusal(fault))
     }
 }
 

@@ -1,12 +1,13 @@
 -- One batch that is appended.
-use Rattle.std.specs.Prelude.{List, [], ◌∷◌, ◌++◌}
+use Rattle.std.specs.Prelude.{◌≡◌, List, [], ◌∷◌, ◌++◌}
 use Rattle.sha2.specs.Sha256.{sha256}
 use Rattle.tl_hash.specs.Bytes.{Bytes}
 use Rattle.tl_device.specs.Device.{Passage}
 use Rattle.tl_publisher.specs.Histories.{Prefix}
+use Rattle.tl_ledger.specs.Standing.{Ledger, IsStanding}
 use Rattle.tl_ledger.specs.Keeping.{IsKeeping}
 use Rattle.tl_ledger.specs.Spent.{IsShown}
-use Rattle.tl_command.specs.Mirror.{LogKey}
+use Rattle.tl_command.specs.Mirror.{LogKey, checkpoint_note}
 use Rattle.tl_append.specs.Appending.{Appends, Course, PrintsHeads, joined, published_after}
 use Rattle.tl_append.specs.Cosigning.{HasCosigned, Quorum, ShowsThen, Turn, entries_of, shown_after}
 
@@ -24,6 +25,11 @@ pub record Publishes (key : LogKey) (batch : List Bytes) (c : Course) (o : Passa
 -- a batch with lines of witnesses
 abbrev pub turn : List Bytes → Bytes → Turn
 turn batch lines = record { batch = batch; lines = lines }
+
+-- the note of the checkpoint of the log at which the ledger stands, by the log's key, with some lines behind it
+pub record IsNoteOf (key : LogKey) (ledger : Ledger) (text : Bytes) : Type 0 where
+  pub lines : Bytes
+  pub noted : (log : List Bytes) → IsStanding sha256 log ledger → text ≡ checkpoint_note key log ++ lines
 
 -- a batch was shown with some lines, and the checkpoint that is there is that of the log with it
 pub record SealsBatch (key : LogKey) (q : Quorum) (batch : List Bytes) (c : Course) : Type 0 where

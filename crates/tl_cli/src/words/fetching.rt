@@ -2,7 +2,7 @@
 
 use super::given::{text_if_given, text_of, texts_of, usage_error};
 use super::table::{Kind, Word, Words};
-use super::{LOG_KEY, TIMEOUT, WordsFault, texts};
+use super::{LOG_KEY, TIMEOUT, WITNESS_KEY, WordsFault, texts};
 use crate::job::Job;
 use clap::ArgMatches;
 use std::alloc::Global;
@@ -12,7 +12,7 @@ use tl_fetch::{FetchOptions, FetchRequest};
 const ONE_WANTED: &str = "one of --head, --index, --all and --prove is given";
 
 // What is said where more cosignatures are needed than there are witnesses.
-const FEWER: &str = "--need is at most the number of --witness";
+const FEWER: &str = "--need is at most the number of witnesses";
 
 const FETCH: Words = Words {
     name: "fetch",
@@ -22,7 +22,7 @@ const FETCH: Words = Words {
         "from" "FROM" Kind::RequiredText
             => "The folder of the log, or its address, http://HOST[:PORT][/PATH]";
         "key" "VKEY" Kind::RequiredText => LOG_KEY;
-        "witness" "VKEY" Kind::Texts => "The verifier key of a witness";
+        "witness" "VKEY" Kind::Texts => WITNESS_KEY;
         "need" "N" Kind::Number(0, u64::MAX) => "How many of the witnesses must have cosigned";
         "state" "FILE" Kind::Path => "The file with the checkpoint that was trusted last";
         "cache" "DIR" Kind::Path => "The folder where tiles are kept that were checked";
@@ -58,7 +58,33 @@ fn wanted_if_one(options: &ArgMatches<'_>) -> Option<FetchRequest> {
     }
 }
 
-// How many of the witnesses must have cosigned: all, unless a number is given.
+/// The name that the text of a verifier key begins with.
+pub(super) fn name_of(text: &str) -> &str {
+    match text.find('+') {
+        Some(end) => &text[..end],
+        None => text,
+    }
+}
+
+// Whether none of the texts before this place is of a key with the name of the one there.
+fn is_new(texts: &[String], place: usize) -> bool {
+    let (before, behind) = texts.split_at(place.min(texts.len()));
+    let Some(text) = behind.first() else {
+        return false;
+    };
+    let name = name_of(text.as_str());
+    !before
+        .iter()
+        .any(|earlier| name_of(earlier.as_str()) == name)
+}
+
+/// How many witnesses have these keys: those with one name are one's.
+pub(super) fn count_names(texts: &[String]) -> u64 {
+    let places = 0..texts.len();
+    places.filter(|place| is_new(texts, *place)).count() as u64
+}
+
+/// How many of the witnesses must have cosigned: all, unless a number is given.
 pub(super) fn need_of(
     alloc: Global,
     row: &Words,
@@ -78,7 +104,7 @@ pub(super) fn fetch_job(alloc: Global, options: &ArgMatches<'_>) -> Result<Job, 
         return Err(usage_error(alloc, fetch(), ONE_WANTED));
     };
     let witnesses = texts_of(alloc, options, "witness")?;
-    let need = need_of(alloc, fetch(), options, witnesses.len() as u64)?;
+    let need = need_of(alloc, fetch(), options, count_names(witnesses.as_slice()))?;
     Ok(Job::Fetch(FetchOptions {
         from: text_of(alloc, options, "from")?,
         key: text_of(alloc, options, "key")?,

@@ -55,6 +55,9 @@ const ONE_OR_MANY: &str = "either --origin, with one key of the log, or --logs i
 // What is said where not one key of the witness is given.
 const ONE_WITNESS_KEY: &str = "either --name and --witness-secret or --key is given";
 
+// What is said where a state is to be compacted, and none is given.
+const OF_A_STATE: &str = "--compact is given with --state alone";
+
 // The words that the servers share.
 const SERVER: &[Word] = words![
     "listen" "ADDRESS" Kind::RequiredText => "The address to listen at";
@@ -115,6 +118,7 @@ const WITNESS: Words = Words {
                 => "The seconds since 1970 to cosign with, in place of the machine's clock";
             "state" "FILE" Kind::Path
                 => "The file of what it cosigned, in place of standard input and output";
+            "compact" "" Kind::Flag => "Keep the last line of each log in that file alone, first";
         ],
         SERVER,
     ],
@@ -259,13 +263,19 @@ fn cosigner_key(alloc: Global, options: &ArgMatches<'_>) -> Result<WitnessSigner
     }
 }
 
-// The job of `witness`.
+// The job of `witness`: a state that is compacted is given.
 pub(super) fn witness_job(alloc: Global, options: &ArgMatches<'_>) -> Result<Job, WordsFault> {
+    let state = text_if_given(alloc, options, "state")?;
+    let compacts = options.get_flag("compact");
+    if compacts && state.is_none() {
+        return Err(usage_error(alloc, witness(), OF_A_STATE));
+    }
     Ok(Job::Witness(WitnessOptions {
         logs: known_logs(alloc, options)?,
         key: cosigner_key(alloc, options)?,
         time: options.get_one::<u64>("time"),
-        state: text_if_given(alloc, options, "state")?,
+        state,
+        compacts,
         server: listen_options(alloc, options)?,
     }))
 }

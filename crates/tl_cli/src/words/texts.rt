@@ -117,7 +117,8 @@ key, for the log of its name, or a log's name, a space and that text. Empty line
 passed over, and so are lines of the input of logs that aren't in the file. It is read once, at the start. The witness
 cosigns by the private key in the file of --key, as 'tlog keygen --cosigner' prints it, or, for demonstrations, by
 --name and --witness-secret. With --state those lines are read from that file, and each is written to it, and outlasts
-a crash, before the answer.
+a crash, before the answer. With --compact that file is first replaced, as a whole, by one line of each log, also of
+those that aren't in the file of the logs, from size 0 to its last size: 'compacted BYTES to BYTES' on standard error.
 Defaults: --timeout 10, --clients 1024, as many threads as the machine has processors, any number of connections, and
 the machine's clock for the time of a cosignature.
 Exit status: 0 done; 1 refused (a bad key, a bad origin, a bad name, line K of the logs malformed or with a key again,
@@ -133,6 +134,7 @@ Output: with --head three lines, the log's name, its size and its root; with --i
 every entry from the state's size on, one a line, each checked before it is printed (one that has a newline or begins
 with a backslash after a line with a backslash and its length in bytes); with --prove the text that 'tlog check' reads.
 Where the log shrank or forked, both checkpoints: the state's and the new one.
+Keys with one name are one witness's, which counts once, whichever of them it signed with.
 Defaults: --need all witnesses that are given, --timeout 10, --threads 8. With --cache tiles that passed are kept in that
 folder, and checked again when they are read. --threads: with --all over HTTP so many requests are in flight at once,
 from 1 to 64; the output is the same.
@@ -145,7 +147,8 @@ pub(super) const FEED: &str =
     "Reads the log's checkpoint from a folder or over HTTP, as 'tlog fetch' does: it opens under the log's key (C2SP
 signed-note, tlog-checkpoint), and extends the one in the file of --state by a consistency proof over tiles that are
 checked. It is kept in that file. Then each witness is asked to cosign it (tlog-witness, tlog-cosignature), with the
-proof from the size that it has, at its --to: the first --to is the address of the first --witness, and so on.
+proof from the size that it has, at its --to: the first --to is the address of the first witness, and so on. Keys with
+one name, one --witness after another, are one witness's, which is asked and counts once.
 Output: the checkpoint with the lines of all witnesses that cosigned this very one, if they are --need. Where the log
 shrank or forked, both checkpoints: the state's and the new one. Why a witness gave no cosignature is told on standard
 error, a line 'tlog: witness K: ..' each, counted from 0.

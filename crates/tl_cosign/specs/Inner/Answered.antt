@@ -6,12 +6,12 @@ use Rattle.tl_note.specs.Note.{Signature}
 use Rattle.tl_note.specs.View.{AreLines}
 use Rattle.tl_checkpoint.specs.Cosignature.{IsCosignature}
 
--- the line is no cosignature of this text by this key
-abbrev pub IsOther : Bytes → Key → Signature → Type 0
-IsOther text key line = (time : ℕ) → ¬ (IsCosignature text key line time)
+-- the line is no cosignature of this text by any of these keys
+abbrev pub IsOther : Bytes → List Key → Signature → Type 0
+IsOther text keys line = All (λ key. (time : ℕ) → ¬ (IsCosignature text key line time)) keys
 
 -- the bytes are signature lines, none of which is one, or they are no signature lines
-abbrev pub AreOthers : Bytes → Key → Bytes → Type 0
-AreOthers text key bytes =
-    ((lines : List Signature) × AreLines bytes lines × All (IsOther text key) lines)
+abbrev pub AreOthers : Bytes → List Key → Bytes → Type 0
+AreOthers text keys bytes =
+    ((lines : List Signature) × AreLines bytes lines × All (IsOther text keys) lines)
     ⊎ ((lines : List Signature) → ¬ (AreLines bytes lines))

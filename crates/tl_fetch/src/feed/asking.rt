@@ -8,20 +8,22 @@ use std::alloc::Global;
 use tl_client::{Head, ResourceSource};
 use tl_cosign::{AsksWitness, Proposed, Unasked, line_of};
 use tl_device::DeviceFault;
+use tl_note::Verifier;
 
-/// Who asks the witnesses of a policy, and is told why one gave no cosignature.
+/// Who asks the witnesses of a policy, and is told why one gave no cosignature. Their places are counted from 0, and keys
+/// of one name, one after another, are of one place.
 pub trait AsksWitnesses {
     /// Who asks one witness. What it may be asked, `AsksWitness` says.
     type Asker: AsksWitness + Drop;
 
-    /// Who asks the witness at this place among those of the policy. None: it can't be asked.
+    /// Who asks the witness at this place. None: it can't be asked.
     fn asker(&self, place: usize) -> Option<Self::Asker>;
 
     /// Tells why the witness at this place gave no cosignature.
     fn tell(&mut self, place: usize, why: Unasked);
 }
 
-// The line by which the witness at this place cosigns a note.
+// The line by which the witness at this place, which has these keys, cosigns a note.
 fn line_at<S: ResourceSource, Q: AsksWitnesses>(
     alloc: Global,
     source: &S,
@@ -29,6 +31,7 @@ fn line_at<S: ResourceSource, Q: AsksWitnesses>(
     note: &str,
     head: &Head,
     known: u64,
+    keys: &[Box<dyn Verifier>],
     witnesses: &Q,
     place: usize,
 ) -> Result<String, Unasked>
@@ -36,9 +39,6 @@ fn line_at<S: ResourceSource, Q: AsksWitnesses>(
         (policy_of policy.now.origin.now (map (λ v. key v) policy.now.log.now)
         (map (λ w. key w) policy.now.witnesses.now) policy.now.need)) note.now head.now }
 {
-    let Some(witness) = policy.witnesses.get(place) else {
-        return Err(Unasked::Device(DeviceFault::NoHost));
-    };
     let Some(mut asker) = witnesses.asker(place) else {
         return Err(Unasked::Device(DeviceFault::NoHost));
     };
@@ -49,10 +49,10 @@ fn line_at<S: ResourceSource, Q: AsksWitnesses>(
         head,
     };
     let mut known = known;
-    line_of(alloc, source, &proposed, &mut known, &mut asker, witness)
+    line_of(alloc, source, &proposed, &mut known, &mut asker, keys)
 }
 
-/// The line by which the witness at this place cosigns a note, where it does; else why is told.
+/// The line by which the witness at this place, which has these keys, cosigns a note, where it does; else why is told.
 pub(crate) fn line_by<S: ResourceSource, Q: AsksWitnesses>(
     alloc: Global,
     source: &S,
@@ -60,6 +60,7 @@ pub(crate) fn line_by<S: ResourceSource, Q: AsksWitnesses>(
     note: &str,
     head: &Head,
     known: u64,
+    keys: &[Box<dyn Verifier>],
     witnesses: &mut Q,
     place: usize,
 ) -> Option<String>
@@ -67,7 +68,9 @@ pub(crate) fn line_by<S: ResourceSource, Q: AsksWitnesses>(
         (policy_of policy.now.origin.now (map (λ v. key v) policy.now.log.now)
         (map (λ w. key w) policy.now.witnesses.now) policy.now.need)) note.now head.now }
 {
-    match line_at(alloc, source, policy, note, head, known, witnesses, place) {
+    match line_at(
+        alloc, source, policy, note, head, known, keys, witnesses, place,
+    ) {
         Ok(line) => Some(line),
         Err(why) => {
             witnesses.tell(place, why);

@@ -38,7 +38,7 @@ pub struct FeedOptions {
     /// Where the log is, its key, the witnesses' keys, how many of them must cosign, the file of the state, and how
     /// many seconds one answer may take, as `fetch` has them. No cache is used, and nothing else is wanted.
     pub log: FetchOptions,
-    /// The addresses of the witnesses, in the order of their keys.
+    /// The addresses of the witnesses, in the order of their keys: keys with one name, one after another, are one's.
     pub to: Vec<String>,
 }
 

@@ -1,6 +1,6 @@
 //! Bringing a log's checkpoint before witnesses, from any source, whoever asks and whoever keeps the state.
 
-ghost use Rattle.std.specs.Prelude.{◌++◌, ◌≡◌, ◌⊎◌, ◌↔◌, IfErr, IfOk, IsTrue, OnErr, OnOk, map, option_map, string_bytes};
+ghost use Rattle.std.specs.Prelude.{◌++◌, ◌≡◌, ◌⊎◌, ◌↔◌, ◌<◌, ◌≤◌, length, IfErr, IfOk, IsTrue, OnErr, OnOk, map, option_map, string_bytes};
 ghost use Rattle.tl_hash.specs.Bytes.{Bytes};
 ghost use Rattle.tl_device.specs.Device.{passage};
 ghost use Rattle.tl_fetch.specs.Faults.{IsNoAccusation};
@@ -22,6 +22,28 @@ use std::io::Write;
 use tl_client::{Head, ResourceSource};
 use tl_command::{RunFault, print_text};
 use tl_device::Counted;
+use tl_note::Verifier;
+
+// Whether two keys are of one witness: they have one name.
+fn are_one(one: &Box<dyn Verifier>, other: &Box<dyn Verifier>) -> bool
+    ensures { IsTrue result ↔ ((key one.now).name ≡ (key other.now).name) }
+{
+    one.name() == other.name()
+}
+
+// Where the keys of the witness end whose first key stands at this place.
+fn end_of(witnesses: &[Box<dyn Verifier>], start: usize) -> usize
+    requires { start < length witnesses.now }
+    ensures more { start < result }
+    ensures within { result ≤ length witnesses.now }
+{
+    for end in start + 1..witnesses.len() {
+        if !are_one(&witnesses[start], &witnesses[end]) {
+            return end;
+        }
+    }
+    witnesses.len()
+}
 
 // The note, and behind it the lines of all witnesses that cosign it.
 fn with_lines<S: ResourceSource, Q: AsksWitnesses>(
@@ -39,10 +61,14 @@ fn with_lines<S: ResourceSource, Q: AsksWitnesses>(
     ensures { IfOk result (λ text. (lines : Bytes) × (string_bytes text ≡ note.now ++ lines)) }
 {
     let mut lines = String::new(alloc);
-    for place in 0..policy.witnesses.len() {
-        if let Some(line) = line_by(alloc, source, policy, note, head, known, asker, place) {
+    let (mut start, mut place) = (0, 0);
+    while start < policy.witnesses.len() {
+        let end = end_of(policy.witnesses, start);
+        let keys = &policy.witnesses[start..end];
+        if let Some(line) = line_by(alloc, source, policy, note, head, known, keys, asker, place) {
             lines.push_str(line.as_str())?;
         }
+        (start, place) = (end, place + 1);
     }
     let mut text = String::from_str(alloc, note)?;
     text.push_str(lines.as_str())?;
@@ -127,7 +153,10 @@ fn keep_and_feed<S: ResourceSource, K: TrustStore, Q: AsksWitnesses, W: Write>(
 {
     state.keep(log, step.last, step.note)?;
     let (note, head, known) = (step.note, step.new, step.old.size);
-    let text = cosigned(alloc, source, policy, note, head, known, asker)?;
+    let text = match cosigned(alloc, source, policy, note, head, known, asker) {
+        Ok(text) => text,
+        Err(fault) => return Err(fault),
+    };
     print_text(writer, text.as_bytes())?;
     Ok(())
 }

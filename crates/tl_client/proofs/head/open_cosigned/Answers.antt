@@ -1,4 +1,5 @@
-use Rattle.std.proofs.Common.{refl, arith}
+use Rattle.std.proofs.Common.{Bor, List, ℕ, arith}
+use Rattle.std.proofs.lemmas.List.{length-map}
 use Rattle.std.proofs.lemmas.Result.{err_from_is_err_and}
 use Rattle.tl_checkpoint.specs.Checkpoint.{head_of}
 use Rattle.tl_client.proofs.Heads.{note_fault, text_fault, cosigned_is}
@@ -7,38 +8,34 @@ use Rattle.tl_client.proofs.head.open_cosigned.Goals as goal
 pub returns-in_err-opened : goal.returns-in_err-opened
 returns-in_err-opened g c =
     let p = err_from_is_err_and c.from_residual.result c.from_residual.ensures.1 in
-    rw (p.1, p.2) (note_fault _ c.args.note.now _ c.in_err-opened.field-0.0 (c.if-not-have_distinct_names.ensures.0 refl) c.in_err-opened.ensures)
+    rw (p.1, p.2) (note_fault _ c.args.note.now _ c.in_err-opened.field-0.0 c.in_err-opened.ensures)
 
 pub returns-in_err-checkpoint : goal.returns-in_err-checkpoint
 returns-in_err-checkpoint g c =
     let p = err_from_is_err_and c.from_residual-in_err-checkpoint.result c.from_residual-in_err-checkpoint.ensures.1 in
     rw (p.1, p.2)
-    (text_fault _ c.args.note.now _ c.in_ok-opened.opened.note.text.now c.in_ok-opened.opened.note.signatures.items c.in_err-checkpoint.field-0.0 (c.if-not-have_distinct_names.ensures.0 refl)
+    (text_fault _ c.args.note.now _ c.in_ok-opened.opened.note.text.now c.in_ok-opened.opened.note.signatures.items c.in_err-checkpoint.field-0.0
     c.in_ok-opened.ensures.note c.in_ok-opened.ensures.opens c.in_err-checkpoint.ensures)
 
-pub returns-in_err-found : goal.returns-in_err-found
-returns-in_err-found g c =
-    let p = err_from_is_err_and c.from_residual-in_err-found.result c.from_residual-in_err-found.ensures.1 in
-    rw (p.1, p.2) (c.if-not-have_distinct_names.ensures.0 refl, (c.in_ok-opened.opened.note.text.now, c.in_ok-opened.opened.note.signatures.items, c.in_ok-opened.ensures.note))
+pub returns-in_err-names : goal.returns-in_err-names
+returns-in_err-names g c =
+    let p = err_from_is_err_and c.from_residual-in_err-names.result c.from_residual-in_err-names.ensures.1 in
+    rw (p.1, p.2) (c.in_ok-opened.opened.note.text.now, c.in_ok-opened.opened.note.signatures.items, c.in_ok-opened.ensures.note)
 
 pub returns-then-len-need : goal.returns-then-len-need
 returns-then-len-need g c = (
-  c.if-not-have_distinct_names.ensures.0 refl,
-  (
-    head_of c.in_ok-checkpoint.checkpoint,
-    cosigned_is c.args.note.now _ c.in_ok-opened.opened.note.text.now c.in_ok-opened.opened.note.signatures.items _ c.in_ok-found.found.items c.len-then-len-need.result
-        c.in_ok-opened.ensures.note c.in_ok-opened.ensures.opens c.in_ok-checkpoint.ensures.0 c.in_ok-checkpoint.ensures.1 (rw (c.as_slice-lines.ensures.value) at c.in_ok-found.ensures) (omega (arith, c.in_ok-found.found.ok, c.len-then-len-need.ensures)),
-    omega (arith, c.if-len-need.true, c.len.ensures, c.len-then-len-need.ensures),
-  ),
+  head_of c.in_ok-checkpoint.checkpoint,
+  cosigned_is c.args.note.now _ c.in_ok-opened.opened.note.text.now c.in_ok-opened.opened.note.signatures.items _ _ c.len-then-len-need.result
+      c.in_ok-opened.ensures.note c.in_ok-opened.ensures.opens c.in_ok-checkpoint.ensures.0 c.in_ok-checkpoint.ensures.1 (rw (c.as_slice-lines.ensures.value) at c.in_ok-names.ensures)
+      (omega (arith, length-map c.in_ok-names.names.items (λ (n : Bor (List ℕ)). n.now), c.in_ok-names.names.ok, c.len-then-len-need.ensures)),
+  omega (arith, c.if-len-need.true, c.len.ensures, c.len-then-len-need.ensures),
 )
 
 pub returns : goal.returns
 returns g c = (
-  c.if-not-have_distinct_names.ensures.0 refl,
-  (
-    c.len.result,
-    cosigned_is c.args.note.now _ c.in_ok-opened.opened.note.text.now c.in_ok-opened.opened.note.signatures.items _ c.in_ok-found.found.items c.len.result
-        c.in_ok-opened.ensures.note c.in_ok-opened.ensures.opens c.in_ok-checkpoint.ensures.0 c.in_ok-checkpoint.ensures.1 (rw (c.as_slice-lines.ensures.value) at c.in_ok-found.ensures) (omega (arith, c.in_ok-found.found.ok, c.len.ensures)),
-    omega (arith, c.if-len-need.false),
-  ),
+  c.len.result,
+  cosigned_is c.args.note.now _ c.in_ok-opened.opened.note.text.now c.in_ok-opened.opened.note.signatures.items _ _ c.len.result
+      c.in_ok-opened.ensures.note c.in_ok-opened.ensures.opens c.in_ok-checkpoint.ensures.0 c.in_ok-checkpoint.ensures.1 (rw (c.as_slice-lines.ensures.value) at c.in_ok-names.ensures)
+      (omega (arith, length-map c.in_ok-names.names.items (λ (n : Bor (List ℕ)). n.now), c.in_ok-names.names.ok, c.len.ensures)),
+  omega (arith, c.if-len-need.false),
 )

@@ -46,5 +46,5 @@ returns-in_ok-push-in-None-clause-indexed g c =
     let put : PutsKey (given_by c.args.line) (logs_shown c.args.logs.now.items) (logs_shown c.push.new.self.items) = rw c.in_ok-push-in-None.ensures.items
     (placed_new (λ l. log (string_bytes l.origin) (vec_items l.keys)) c.args.logs.now.items (given_by c.args.line) c.in_ok-known-in-None.known none c.in_ok-known-in-None.ensures) in
     let last : c.len.result ≡ length (logs_shown c.args.logs.now.items) = omega (arith, c.len.ensures, c.args.logs.now.ok.0, length-map c.args.logs.now.items (λ l. log (string_bytes l.origin) (vec_items l.keys))) in
-    let puts = subst (λ (o : List ℕ). PutsOrigin o c.len.result (index_of c.args.index.now) (index_of c.add.new.self)) c.as_str-in-None.ensures.value c.in_ok-add-in-None.ensures in
+    let puts = subst (λ (o : List ℕ). PutsOrigin o c.len.result (index_of c.args.index.now) (index_of c.add.new.self)) c.as_str-in-None.ensures.value c.in_ok-add-in-None.ensures.added in
     indexed_new (index_of c.args.index.now) (index_of c.add.new.self) (given_by c.args.line) (logs_shown c.args.logs.now.items) _ c.len.result c.requires unknown last puts put

@@ -1,0 +1,110 @@
+//! A file of lines that is read as it comes, whatever its length.
+
+ghost use Rattle.std.specs.Prelude.{◌≡◌, [], None, IfOk, true};
+ghost use Rattle.tl_device.specs.Device.{passage};
+ghost use Rattle.tl_folder.specs.FileCalls.{done};
+ghost use Rattle.tl_folder.specs.Lines.{CutsLines, MeasuresLines, opening};
+
+use crate::file_calls::FileCalls;
+use crate::files::sync_parent;
+use crate::lines::{DurableAppend, whole_front};
+use crate::lock::LockedFile;
+use crate::look::open_plain;
+use crate::system::{OpenedFile, SystemCalls};
+use std::fs::{File, Files, OpenFile, OpenOptions};
+use std::io::Read;
+use tl_device::{Counted, DeviceFault, InputFault};
+
+// How many bytes are too many, 2^62.
+const MOST_BYTES: u64 = 4_611_686_018_427_387_904;
+
+/// How many of the first bytes that the reader gives, to its end, are whole lines. It fails where a read fails, and
+/// where there are 2^62 bytes.
+pub(crate) fn whole_length<R: Read>(reader: &mut Counted<R>) -> Result<u64, InputFault>
+    ensures { MeasuresLines (passage R.remaining reader.old reader.new) result }
+{
+    let mut block = [0u8; 65536];
+    let mut whole: u64 = 0;
+    let mut count: u64 = 0;
+    while count < MOST_BYTES {
+        let Some(some) = reader.read_some(&mut block) else {
+            return Err(InputFault::Read);
+        };
+        if some == 0 {
+            return Ok(whole);
+        }
+        let front = whole_front(&block[..some]);
+        if front > 0 {
+            whole = count + front as u64;
+        }
+        count += some as u64;
+    }
+    Err(InputFault::TooLarge)
+}
+
+/// A file of lines: what it has, and the file to append to.
+#[derive(Drop)]
+pub struct LineStream<'f, H: Files> {
+    /// The lines that it has, each with its newline, from the first on. They are to be read before more are appended.
+    pub lines: File,
+    /// How many bytes they have.
+    pub length: u64,
+    /// The same file, after them.
+    pub end: DurableAppend<'f, H>,
+}
+
+// Cuts off a last line without a newline from the file that is locked, whose bytes the reader gives, and has the rest and
+// the name outlast a crash. It tells how many bytes are left.
+fn cut_lines<C: FileCalls<File = OpenedFile<File>>, R: Read>(
+    calls: &mut C,
+    path: &str,
+    locked: &LockedFile,
+    reader: &mut Counted<R>,
+) -> Result<u64, DeviceFault>
+    ensures { CutsLines path.now (passage R.remaining reader.old reader.new)
+        (C.calls calls.old) (C.calls calls.new) result }
+{
+    let length = whole_length(reader)?;
+    calls.cut(&locked.file, path, length)?;
+    calls.sync_all(&locked.file, path)?;
+    sync_parent(calls, path)?;
+    Ok(length)
+}
+
+// Opens the file that is locked once more, from its first byte on.
+fn open_again<H: Files<File = File>>(
+    files: &H,
+    path: &str,
+    locked: &LockedFile,
+) -> Result<File, DeviceFault> {
+    let Some(file) = open_plain(files, path, files.symlink_metadata(path))? else {
+        return Err(DeviceFault::Moved);
+    };
+    locked.check_at(file.metadata())?;
+    Ok(file)
+}
+
+/// The file of lines at this path, which is made where there is none, and locked. A last line without a newline, as a
+/// crash leaves it, is cut off. `Busy`: another process has it. `NotPlain`: something else than a plain file is there,
+/// as a link. `Moved`: another file came to the path meanwhile. `TooLarge`: it has 2^62 bytes.
+pub fn stream_lines<'f, H: Files<File = File>>(
+    files: &'f H,
+    path: &'f str,
+) -> Result<LineStream<'f, H>, DeviceFault>
+    ensures end { IfOk result (λ stream. stream.end ≡ record {
+      path = path.now;
+      written = [];
+      calls = done (opening path.now stream.length);
+      fault = None;
+    }) }
+{
+    let mut how = OpenOptions::new();
+    how.append(true).create(true);
+    let mut calls = SystemCalls::new(files);
+    let locked = LockedFile::open(&mut calls, &how, path)?;
+    let measured = open_again(files, path, &locked)?;
+    let length = cut_lines(&mut calls, path, &locked, &mut Counted::new(measured))?;
+    let lines = open_again(files, path, &locked)?;
+    let end = DurableAppend::new(calls, path, locked);
+    Ok(LineStream { lines, length, end })
+}

@@ -1,0 +1,108 @@
+//! Reads the state of a witness as a stream: a line at a time, and of each origin its last head is kept.
+
+ghost use Rattle.std.specs.Prelude.{◌≡◌, ◌<◌, IfErr, IfOk, IsSomeAnd, OnErr, length, option_map};
+ghost use Rattle.tl_device.specs.Device.{passage};
+ghost use Rattle.tl_logs.specs.ReadLogs.{logs_shown};
+ghost use Rattle.tl_logs.specs.ReadState.{CompactsState, ReadsState, heads_shown};
+ghost use Rattle.tl_logs.specs.StateFaults.{RefusesReading};
+ghost use Rattle.tl_logs.specs.Inner.Counting.{counts_of};
+ghost use Rattle.tl_logs.specs.State.{KnowsHeads, of_logs};
+
+use crate::head::{OriginHead, whole_lines};
+use crate::known::Counting;
+use crate::log::KnownLog;
+use crate::state_fault::StateFault;
+use crate::state_reading::StateReading;
+use std::alloc::{AllocError, Allocator};
+use std::io::Read;
+use tl_device::Counted;
+use tl_hash::TreeHash;
+
+// How many bytes are read at once.
+const BLOCK: usize = 65_536;
+
+// How many bytes are too many, 2^62.
+const MOST_BYTES: u64 = 4_611_686_018_427_387_904;
+
+// Whose lines count.
+fn counting_of<A: Allocator + Copy>(
+    alloc: A,
+    logs: Option<&[KnownLog<A>]>,
+) -> Result<Counting<A>, AllocError>
+    ensures counts { IfOk result (λ counting.
+        counts_of counting ≡ of_logs (option_map (λ l. logs_shown l.now) logs.entry)) }
+    ensures memory { OnErr result
+        (IsSomeAnd (option_map (λ l. logs_shown l.now) logs.entry) (λ known. 0 < length known)) }
+{
+    match logs {
+        Some(logs) => Counting::of(alloc, logs),
+        None => Ok(Counting::all()),
+    }
+}
+
+// The heads of the origins whose lines count.
+fn read_counting<T: TreeHash, A: Allocator + Copy, R: Read>(
+    alloc: A,
+    tree: T,
+    counting: &Counting<A>,
+    reader: &mut Counted<R>,
+) -> Result<Vec<OriginHead<A>, A>, StateFault>
+    ensures heads { IfOk result (λ heads. KnowsHeads T.digest_of (counts_of counting.now)
+        (passage R.remaining reader.old reader.new) (heads_shown heads.items)) }
+    ensures refused { IfErr result (RefusesReading T.digest_of (counts_of counting.now)
+        (passage R.remaining reader.old reader.new)) }
+{
+    let mut reading = StateReading::new(alloc, tree);
+    let mut block = [0u8; BLOCK];
+    let mut count: u64 = 0;
+    while count < MOST_BYTES {
+        let Some(some) = reader.read_some(&mut block) else {
+            return Err(StateFault::Read);
+        };
+        if some == 0 {
+            return reading.end();
+        }
+        match reading.take_block(counting, &block[..some]) {
+            Ok(()) => {}
+            Err(fault) => return Err(fault),
+        }
+        count += some as u64;
+    }
+    Err(StateFault::TooLarge)
+}
+
+/// The head that the saved links of each origin lead to, in the order of the first lines; of these logs, or of all. The
+/// lines are read as they come, to the end, and each that counts is checked against the one before of its origin: the
+/// first that is wrong is told. The last one too ends with its newline. It takes the memory of one line and of the
+/// heads. The time grows with the bytes, and with the logarithm of the number of origins.
+pub fn read_state<T: TreeHash, A: Allocator + Copy, R: Read>(
+    alloc: A,
+    tree: T,
+    logs: Option<&[KnownLog<A>]>,
+    reader: &mut Counted<R>,
+) -> Result<Vec<OriginHead<A>, A>, StateFault>
+    ensures { ReadsState T.digest_of (option_map (λ l. logs_shown l.now) logs.entry)
+        (passage R.remaining reader.old reader.new) result }
+{
+    let counting = counting_of(alloc, logs)?;
+    read_counting(alloc, tree, &counting, reader)
+}
+
+/// The lines of a state that says of each origin in one line, from size 0 without a proof, what this one says: all of
+/// its origins, in the order of their first lines. Each line is checked as where all origins count.
+pub fn compact_state<T: TreeHash, A: Allocator + Copy, R: Read>(
+    alloc: A,
+    tree: T,
+    reader: &mut Counted<R>,
+) -> Result<String<A>, StateFault>
+    ensures { CompactsState T.digest_of (passage R.remaining reader.old reader.new) result }
+{
+    let heads = match read_counting(alloc, tree, &Counting::all(), reader) {
+        Ok(heads) => heads,
+        Err(fault) => return Err(fault),
+    };
+    match whole_lines(alloc, heads.as_slice()) {
+        Ok(lines) => Ok(lines),
+        Err(_) => Err(StateFault::OutOfMemory),
+    }
+}

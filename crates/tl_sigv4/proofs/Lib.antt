@@ -1,0 +1,3 @@
+mod Names
+mod Texts
+mod Times

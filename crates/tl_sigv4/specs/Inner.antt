@@ -1,0 +1,3 @@
+-- Private words: the digits of a date of HTTP.
+pub
+    mod Digits

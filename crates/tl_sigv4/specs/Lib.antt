@@ -1,0 +1,5 @@
+pub mod Canonical
+pub mod Inner
+pub mod Requests
+pub mod Signing
+pub mod Time
