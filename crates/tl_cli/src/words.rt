@@ -31,6 +31,9 @@ const EITHER_KEY: &str = "either --secret or --key is given";
 // What is said of the option that takes the text of a log's verifier key.
 const LOG_KEY: &str = "The log's verifier key";
 
+// The same where a log may have two.
+const LOG_KEYS: &str = "The log's verifier key, or one of two, with one name";
+
 // The help of the words for the keys of witnesses.
 const WITNESS_KEY: &str = "The verifier key of a witness; keys with one name are one witness's";
 

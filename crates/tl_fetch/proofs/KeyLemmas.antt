@@ -1,28 +1,39 @@
--- Public keys of witnesses, each its own.
-use Rattle.std.proofs.Common.{◌≡◌, ◌<◌, ◌+◌, ◌⊎◌, ◌++◌, ◌∷◌, [], List, ℕ, zero, suc, sym, subst, inl, inr, arith, drop, length, string_bytes}
+-- Public keys of witnesses, each its own, and those of the log.
+use Rattle.std.proofs.Common.{◌≡◌, ◌<◌, ◌+◌, ◌⊎◌, ◌++◌, ◌∷◌, [], List, ℕ, zero, suc, refl, sym, subst, inl, inr, arith, drop, length, string_bytes}
 use Rattle.std.specs.Prelude.{Contains}
+use Rattle.std.specs.List.{Any}
 use Rattle.std.proofs.lemmas.List.{drop_more}
 use Rattle.std.proofs.lemmas.List.Elements.{Contains-append_cases}
 use Rattle.tl_hash.specs.Bytes.{Bytes}
 use Rattle.tl_key.specs.KeyText.{IsVerifierText}
 use Rattle.tl_key.specs.NoteKey.{PublicKey, cosignature_kind, note_kind}
 use Rattle.tl_fetch.specs.declared.options.FetchOptions.{FetchOptions}
-use Rattle.tl_fetch.specs.Command.{HaveOwnKeys, IsEarlierKey, witness_text, witness_texts}
+use Rattle.tl_fetch.specs.Command.{HaveLogKeys, HaveOwnKeys, IsEarlierKey, IsTextOf, log_texts, public_keys, witness_text, witness_texts}
 
 -- the texts before a place have keys of their own, of which these are all, with the log's
-pub record HaveOwnSoFar (options : FetchOptions) (log : Bytes) (known : List Bytes) (place : ℕ) : Type 0 where
-  pub own : HaveOwnKeys known (drop place (witness_texts options)) → HaveOwnKeys (log ∷ []) (witness_texts options)
+pub record HaveOwnSoFar (options : FetchOptions) (log known : List Bytes) (place : ℕ) : Type 0 where
+  pub own : HaveOwnKeys known (drop place (witness_texts options)) → HaveOwnKeys log (witness_texts options)
   pub earlier : (x : Bytes) → Contains known x → IsEarlierKey options place x
 
-only : (log x : Bytes) → Contains (log ∷ []) x → log ≡ x
-only log x (zero, within, is) = is
-only log x (suc k, within, is) = absurd (omega (arith, within))
+-- what holds of one of these holds of one of more
+behind : {X : Type 0} (P : X → Type 0) (x : X) (xs : List X) → Any P xs → Any P (x ∷ xs)
+behind P x xs (k, y, within, is, so) = (suc k, y, omega (arith, within), is, so)
 
-pub own_first : (options : FetchOptions) (log : Bytes) (k : PublicKey) → IsVerifierText note_kind (string_bytes options.key) k → k.key ≡ log
-    → HaveOwnSoFar options log (log ∷ []) 0
-own_first options log k spelled is = record {
+-- a public key of one of these keys is that of a text
+of_text : (name : Bytes) (texts : List Bytes) (keys : List PublicKey) (x : Bytes) → HaveLogKeys name texts keys
+    → Contains (public_keys keys) x → Any (IsTextOf note_kind x) texts
+of_text name [] [] x have (k, within, is) = absurd (omega (arith, within))
+of_text name [] (k ∷ keys) x have among = absurd have
+of_text name (text ∷ texts) [] x have among = absurd have
+of_text name (text ∷ texts) (k ∷ keys) x have (zero, within, is) = (0, text, omega arith, refl, (k, have.0, is))
+of_text name (text ∷ texts) (k ∷ keys) x have (suc at, within, is) =
+    behind (IsTextOf note_kind x) text texts (of_text name texts keys x have.3 (at, omega (arith, within), is))
+
+pub own_first : (options : FetchOptions) (log : List Bytes) (name : Bytes) (keys : List PublicKey)
+    → HaveLogKeys name (log_texts options) keys → log ≡ public_keys keys → HaveOwnSoFar options log log 0
+own_first options log name keys have same = record {
   own = λ rest. rest;
-  earlier = λ x among. inl (k, spelled, subst (λ (y : Bytes). k.key ≡ y) (only log x among) is);
+  earlier = λ x among. inl (of_text name (log_texts options) keys x have (subst (λ (ks : List Bytes). Contains ks x) same among));
 }
 
 -- what came before this place came before the next
@@ -30,7 +41,11 @@ later : (options : FetchOptions) (place : ℕ) (x : Bytes) → IsEarlierKey opti
 later options place x (inl logs) = inl logs
 later options place x (inr (earlier, before, of)) = inr (earlier, omega (arith, before), of)
 
-pub own_next : (options : FetchOptions) (log : Bytes) (known : List Bytes) (place : ℕ) (k : PublicKey) → place < length (witness_texts options)
+only : (key x : Bytes) → Contains (key ∷ []) x → key ≡ x
+only key x (zero, within, is) = is
+only key x (suc k, within, is) = absurd (omega (arith, within))
+
+pub own_next : (options : FetchOptions) (log known : List Bytes) (place : ℕ) (k : PublicKey) → place < length (witness_texts options)
     → IsVerifierText cosignature_kind (witness_text options place) k → (Contains known k.key → ⊥)
     → HaveOwnSoFar options log known place → HaveOwnSoFar options log (known ++ k.key ∷ []) (place + 1)
 own_next options log known place k within spelled new so = record {

@@ -1,5 +1,6 @@
 -- The command `fetch` (C2SP signed-note, "Verifier keys").
-use Rattle.std.specs.Prelude.{◌≡◌, ◌⊎◌, ℕ, ◌<◌, ◌≤◌, [], ◌∷◌, ◌++◌, List, Option, Some, None, Result, Ok, Err, Contains, codes, length, map, string_bytes, vec_items, slice_index_or}
+use Rattle.std.specs.Prelude.{◌≡◌, ◌≢◌, ◌⊎◌, ℕ, ◌<◌, ◌≤◌, [], ◌∷◌, ◌++◌, List, Option, Some, None, Result, Ok, Err, String, Contains, IsSomeAnd, codes, length, map, string_bytes, vec_items, slice_index_or}
+use Rattle.std.specs.List.{Any}
 use Rattle.tl_hash.specs.Bytes.{Bytes}
 use Rattle.tl_key.specs.KeyText.{IsVerifierText}
 use Rattle.tl_key.specs.NoteKey.{PublicKey, note_kind, cosignature_kind, verifier_key}
@@ -17,12 +18,32 @@ use Rattle.tl_command.specs.declared.place.Place.TheVariants.{State, Source}
 use Rattle.tl_command.specs.declared.fault.RunFault.{RunFault}
 use Rattle.tl_command.specs.declared.fault.RunFault.TheVariants.{BadCheckpoint, BadKey, Device, OutOfMemory}
 use Rattle.tl_fetch.specs.declared.fault.FetchFault.{FetchFault}
-use Rattle.tl_fetch.specs.declared.fault.FetchFault.TheVariants.{Run, BadAddress, BadWitness, SharedKey, Unavailable}
+use Rattle.tl_fetch.specs.declared.fault.FetchFault.TheVariants.{Run, BadAddress, OtherKey, BadWitness, SharedKey, Unavailable}
 use Rattle.tl_fetch.specs.declared.options.FetchOptions.{FetchOptions}
 use Rattle.tl_fetch.specs.Trusting.{Policy}
 use Rattle.tl_fetch.specs.Fetching.{Grounds, HasFetched, RefusesFetch, grounds_of}
 
 -- ---- whose checkpoints are trusted
+
+-- the public keys of keys
+abbrev pub public_keys : List PublicKey → List Bytes
+public_keys keys = map (λ k. k.key) keys
+
+-- the texts that are told as those of the log's keys, one or two
+abbrev pub other_texts : {A : Type 0} → Option (String A) → List Bytes
+other_texts None = []
+other_texts (Some text) = string_bytes text ∷ []
+
+abbrev pub log_texts : FetchOptions → List Bytes
+log_texts options = string_bytes options.key ∷ other_texts options.other_key
+
+-- each text is of one of these keys, in order, which have this name and no public key twice
+abbrev pub HaveLogKeys : Bytes → List Bytes → List PublicKey → Type 0
+HaveLogKeys name [] [] = Unit {0}
+HaveLogKeys name [] (k ∷ keys) = ⊥
+HaveLogKeys name (text ∷ texts) [] = ⊥
+HaveLogKeys name (text ∷ texts) (k ∷ keys) =
+    IsVerifierText note_kind text k × (k.name ≡ name) × ¬ (Contains (public_keys keys) k.key) × HaveLogKeys name texts keys
 
 -- the texts that are told as those of the witnesses' keys, and the one at a place
 abbrev pub witness_texts : FetchOptions → List Bytes
@@ -38,15 +59,14 @@ HaveOwnKeys others (text ∷ texts) =
     (k : PublicKey) × IsVerifierText cosignature_kind text k × ¬ (Contains others k.key)
     × HaveOwnKeys (others ++ k.key ∷ []) texts
 
--- whose checkpoints are trusted: the log's, of the key that was told, where so many witnesses cosigned them, no two of
--- whose keys are one public key, and none is the log's
+-- whose checkpoints are trusted: the log's, by one of the keys that were told, where so many witnesses cosigned them, no
+-- two of whose keys are one public key, and none is the log's
 pub record IsPolicyOf (options : FetchOptions) (policy : Policy) : Type 0 where
-  pub key : PublicKey
-  pub spelled : IsVerifierText note_kind (string_bytes options.key) key
-  pub origin : policy.origin ≡ key.name
-  pub keys : policy.trust.keys ≡ verifier_key key ∷ []
+  pub keys : List PublicKey
+  pub spelled : HaveLogKeys policy.origin (log_texts options) keys
+  pub trusted : policy.trust.keys ≡ map verifier_key keys
   pub need : policy.trust.need ≡ options.need
-  pub own : HaveOwnKeys (key.key ∷ []) (witness_texts options)
+  pub own : HaveOwnKeys (public_keys keys) (witness_texts options)
 
 -- ---- what a run stands on
 
@@ -117,22 +137,34 @@ abbrev pub RunsUnder : Policy → FetchOptions → Passage → Result (Unit {0})
 RunsUnder policy options o (Ok done) = HasFetched (may_have options.state) (λ note. Unit {0}) policy options.wanted o
 RunsUnder policy options o (Err fault) = RefusesRun policy options fault o
 
--- reading the log's key fails: the text is of no key, or memory ran out
+-- reading the log's keys fails: a text is of no key, or memory ran out
 abbrev pub IsLogKeyFault : FetchOptions → RunFault → Type 0
-IsLogKeyFault options BadKey = IsNoVerifierText note_kind (string_bytes options.key)
+IsLogKeyFault options BadKey = Any (λ text. IsNoVerifierText note_kind text) (log_texts options)
 IsLogKeyFault options OutOfMemory = Unit {0}
 IsLogKeyFault options fault = ⊥
 
--- a public key is the log's, or that of the text of a witness before this one
+-- the second text is of a key of another name than the first one's, or of the same public key
+pub record IsOtherKey (options : FetchOptions) : Type 0 where
+  pub key : PublicKey
+  pub other : PublicKey
+  pub spelled : IsVerifierText note_kind (string_bytes options.key) key
+  pub other_spelled : IsSomeAnd options.other_key (λ text. IsVerifierText note_kind (string_bytes text) other)
+  pub differs : (other.name ≢ key.name) ⊎ (other.key ≡ key.key)
+
+-- a text is of this public key
+abbrev pub IsTextOf : ℕ → Bytes → Bytes → Type 0
+IsTextOf kind key text = (k : PublicKey) × IsVerifierText kind text k × (k.key ≡ key)
+
+-- a public key is one of the log's, or that of the text of a witness before this one
 abbrev pub IsEarlierKey : FetchOptions → ℕ → Bytes → Type 0
 IsEarlierKey options place key =
-    ((k : PublicKey) × IsVerifierText note_kind (string_bytes options.key) k × (k.key ≡ key))
-    ⊎ ((earlier : ℕ) × (earlier < place)
-    × ((k : PublicKey) × IsVerifierText cosignature_kind (witness_text options earlier) k × (k.key ≡ key)))
+    Any (IsTextOf note_kind key) (log_texts options)
+    ⊎ ((earlier : ℕ) × (earlier < place) × IsTextOf cosignature_kind key (witness_text options earlier))
 
 -- a fault that comes before there is a policy: a text is of no key, or of one that was told before, or memory ran out
 abbrev pub IsKeyFault : FetchOptions → FetchFault → Type 0
 IsKeyFault options (Run fault) = IsLogKeyFault options fault
+IsKeyFault options OtherKey = IsOtherKey options
 IsKeyFault options (BadWitness place) =
     IsNoVerifierText cosignature_kind (witness_text options place)
 IsKeyFault options (SharedKey place) =

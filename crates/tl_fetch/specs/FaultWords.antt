@@ -4,12 +4,13 @@ use Rattle.tl_hash.specs.Bytes.{Bytes}
 use Rattle.tl_text.specs.Text.{number_text}
 use Rattle.tl_command.specs.Faults.{exit_status, fault_text, fault_words}
 use Rattle.tl_fetch.specs.declared.fault.FetchFault.{FetchFault}
-use Rattle.tl_fetch.specs.declared.fault.FetchFault.TheVariants.{Run, BadAddress, BadWitness, SharedKey, Unavailable, OtherLog, TooFew, BadTile, BadBundle, BadEntry, Shrunk, Forked}
+use Rattle.tl_fetch.specs.declared.fault.FetchFault.TheVariants.{Run, BadAddress, OtherKey, BadWitness, SharedKey, Unavailable, OtherLog, TooFew, BadTile, BadBundle, BadEntry, Shrunk, Forked}
 
 -- what it says
 abbrev pub fetch_words : FetchFault → Bytes
 fetch_words (Run fault) = fault_words fault
 fetch_words BadAddress = codes "bad address"
+fetch_words OtherKey = codes "second key isn't another key of the log"
 fetch_words (BadWitness place) = codes "bad key of witness " ++ number_text place
 fetch_words (SharedKey place) = codes "witness " ++ number_text place ++ codes " has the key of another"
 fetch_words Unavailable = codes "not available"

@@ -9,3 +9,5 @@ pub
     mod FeedRuns
 pub
     mod Ahead
+pub
+    mod LogKeys

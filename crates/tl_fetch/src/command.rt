@@ -2,9 +2,8 @@
 
 ghost use Rattle.std.specs.Prelude.{◌≡◌, ◌∷◌, [], string_bytes, IfErr, IfOk, map};
 ghost use Rattle.tl_device.specs.Device.{passage};
-ghost use Rattle.tl_key.specs.KeyText.{IsVerifierText};
-ghost use Rattle.tl_key.specs.NoteKey.{PublicKey, note_kind, verifier_key};
-ghost use Rattle.tl_fetch.specs.Command.{HasScheme, HaveOwnKeys, IsOriginOf, IsToldAs, RunsFetch, RunsUnder, cached_answers, cached_lacks, witness_texts};
+ghost use Rattle.tl_fetch.specs.Command.{HasScheme, HaveLogKeys, IsOriginOf, IsToldAs, RunsFetch, RunsUnder, cached_answers, cached_lacks, log_texts};
+ghost use Rattle.tl_fetch.specs.Inner.LogKeys.{ToldKeys, ToldTwo};
 ghost use Rattle.tl_fetch.specs.Inner.Naming.{Renames, RunsOver};
 ghost use Rattle.tl_fetch.specs.Trusting.{policy_of};
 ghost use Rattle.tl_source.specs.Sources.{origin_of};
@@ -12,6 +11,7 @@ ghost use Rattle.tl_source.specs.Url.{IsNoUrl};
 
 use crate::caching::Caching;
 use crate::fault::FetchFault;
+use crate::log_keys::{first_key, second_key};
 use crate::observer::Observer;
 use crate::options::FetchOptions;
 use crate::policy::Policy;
@@ -27,9 +27,10 @@ use std::net::{Net, TcpListener, TcpStream};
 use std::thread::Threads;
 use std::time::{Clock, Duration};
 use tl_client::ResourceSource;
-use tl_command::{Place, RunFault, read_log_key};
+use tl_command::{Place, RunFault};
 use tl_device::Counted;
 use tl_folder::{AtomicFile, TileCache};
+use tl_key::NoteVerifier;
 use tl_note::Verifier;
 use tl_source::{
     AnySource, AsksHost, CachedSource, FolderSource, FullSource, HostClient, HttpSource, Lack,
@@ -203,30 +204,100 @@ fn fetch_as_asked<'s, H: Files<File = File> + HostClient, W: Write, E: Write>(
     with_lack(outcome, source.lack())
 }
 
-// The same, where the policy is the one that the options tell.
+// The same, where the log has this name and its keys are those of the texts that the options tell.
 fn fetch_as_told<'s, H: Files<File = File> + HostClient, W: Write, E: Write>(
     rt: &'s H,
     alloc: Global,
-    policy: &Policy<'_>,
+    origin: &str,
+    log: &[Box<dyn Verifier>],
     options: &'s FetchOptions,
     writer: &mut Counted<W>,
     errors: &'s mut Counted<E>,
     is_terminal: bool,
 ) -> Result<(), FetchFault>
-    requires { (k : PublicKey) × IsVerifierText note_kind (string_bytes options.now.key) k
-        × (policy.now.origin.now ≡ k.name) × (map (λ v. key v) policy.now.log.now
-        ≡ verifier_key k ∷ []) × (policy.now.need ≡ options.now.need)
-        × HaveOwnKeys (k.key ∷ []) (witness_texts options.now) }
+    requires { ToldKeys options.now origin.now (map (λ v. key v) log.now) }
     ensures { RunsFetch options.now (passage W.contents writer.old writer.new) result }
 {
-    match fetch_as_asked(rt, alloc, policy, options, writer, errors, is_terminal) {
+    let mut witnesses: Vec<Box<dyn Verifier>> = Vec::new(alloc);
+    for place in 0..options.witnesses.len() {
+        let key = witness_key(alloc, options, place)?;
+        witnesses.push(Box::new(alloc, key)?)?;
+    }
+    let policy = Policy {
+        origin,
+        log,
+        witnesses: witnesses.as_slice(),
+        need: options.need,
+    };
+    match fetch_as_asked(rt, alloc, &policy, options, writer, errors, is_terminal) {
         Ok(()) => Ok(()),
         Err(fault) => Err(fault),
     }
 }
 
-/// `fetch`: reads the keys of the log and of the witnesses (C2SP signed-note, "Verifier keys"), and fetches what is
-/// wanted from the folder or over HTTP as `fetch_under` does, of the log with the name of its key, with as many
+// The same by a log's one key.
+fn fetch_by_one<'s, H: Files<File = File> + HostClient, W: Write, E: Write>(
+    rt: &'s H,
+    alloc: Global,
+    key: NoteVerifier<Global>,
+    options: &'s FetchOptions,
+    writer: &mut Counted<W>,
+    errors: &'s mut Counted<E>,
+    is_terminal: bool,
+) -> Result<(), FetchFault>
+    requires { HaveLogKeys key.name (log_texts options.now) (key ∷ []) }
+    ensures { RunsFetch options.now (passage W.contents writer.old writer.new) result }
+{
+    check_keys(alloc, options, &[*key.public_key()])?;
+    let origin = String::from_str(alloc, key.name())?;
+    let log: Box<dyn Verifier> = Box::new(alloc, key)?;
+    let name = origin.as_str();
+    fetch_as_told(rt, alloc, name, &[log], options, writer, errors, is_terminal)
+}
+
+// The same by one of a log's two keys, of which the first is boxed.
+fn fetch_beside<'s, H: Files<File = File> + HostClient, W: Write, E: Write>(
+    rt: &'s H,
+    alloc: Global,
+    origin: &str,
+    first: Box<dyn Verifier>,
+    other: NoteVerifier<Global>,
+    options: &'s FetchOptions,
+    writer: &mut Counted<W>,
+    errors: &'s mut Counted<E>,
+    is_terminal: bool,
+) -> Result<(), FetchFault>
+    requires { ToldTwo options.now origin.now (key first) other }
+    ensures { RunsFetch options.now (passage W.contents writer.old writer.new) result }
+{
+    let second: Box<dyn Verifier> = Box::new(alloc, other)?;
+    let log = [first, second];
+    fetch_as_told(rt, alloc, origin, &log, options, writer, errors, is_terminal)
+}
+
+// The same by one of a log's two keys.
+fn fetch_by_two<'s, H: Files<File = File> + HostClient, W: Write, E: Write>(
+    rt: &'s H,
+    alloc: Global,
+    key: NoteVerifier<Global>,
+    other: NoteVerifier<Global>,
+    options: &'s FetchOptions,
+    writer: &mut Counted<W>,
+    errors: &'s mut Counted<E>,
+    is_terminal: bool,
+) -> Result<(), FetchFault>
+    requires { HaveLogKeys key.name (log_texts options.now) (key ∷ other ∷ []) }
+    ensures { RunsFetch options.now (passage W.contents writer.old writer.new) result }
+{
+    check_keys(alloc, options, &[*key.public_key(), *other.public_key()])?;
+    let origin = String::from_str(alloc, key.name())?;
+    let first: Box<dyn Verifier> = Box::new(alloc, key)?;
+    let name = origin.as_str();
+    fetch_beside(rt, alloc, name, first, other, options, writer, errors, is_terminal)
+}
+
+/// `fetch`: reads the keys of the log, one or two, and of the witnesses (C2SP signed-note, "Verifier keys"), and fetches
+/// what is wanted from the folder or over HTTP as `fetch_under` does, of the log with the name of its keys, with as many
 /// requests in flight as the options tell. Where `errors` goes to a terminal, it is told how far the checks are.
 pub fn run_fetch<
     's,
@@ -247,20 +318,10 @@ pub fn run_fetch<
 ) -> Result<(), FetchFault>
     ensures { RunsFetch options.now (passage W.contents writer.old writer.new) result }
 {
-    let key = read_log_key(alloc, options.key.as_str())?;
-    check_keys(alloc, options, key.public_key())?;
-    let origin = String::from_str(alloc, key.name())?;
-    let log: Box<dyn Verifier> = Box::new(alloc, key)?;
-    let mut witnesses: Vec<Box<dyn Verifier>> = Vec::new(alloc);
-    for place in 0..options.witnesses.len() {
-        let key = witness_key(alloc, options, place)?;
-        witnesses.push(Box::new(alloc, key)?)?;
-    }
-    let policy = Policy {
-        origin: origin.as_str(),
-        log: &[log],
-        witnesses: witnesses.as_slice(),
-        need: options.need,
+    let key = first_key(alloc, options)?;
+    let Some(text) = &options.other_key else {
+        return fetch_by_one(rt, alloc, key, options, writer, errors, is_terminal);
     };
-    fetch_as_told(rt, alloc, &policy, options, writer, errors, is_terminal)
+    let other = second_key(alloc, options, text, &key)?;
+    fetch_by_two(rt, alloc, key, other, options, writer, errors, is_terminal)
 }

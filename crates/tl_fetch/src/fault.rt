@@ -15,6 +15,8 @@ pub enum FetchFault {
     Run(RunFault),
     /// The address is none over HTTP.
     BadAddress,
+    /// The second key of the log has another name than the first, or is the same public key.
+    OtherKey,
     /// The text at this place, counted from 0, is the key of no witness.
     BadWitness(u64),
     /// The witness at this place, counted from 0, has the public key of the log, or of a witness before it.
@@ -53,6 +55,7 @@ impl Display for FetchFault {
         match self {
             FetchFault::Run(fault) => fault.fmt(f),
             FetchFault::BadAddress => f.write_str("bad address"),
+            FetchFault::OtherKey => f.write_str("second key isn't another key of the log"),
             FetchFault::BadWitness(k) => write!(f, "bad key of witness {k}"),
             FetchFault::SharedKey(k) => write!(f, "witness {k} has the key of another"),
             FetchFault::Unavailable => f.write_str("not available"),

@@ -17,6 +17,7 @@ mod feed;
 mod kept;
 mod law;
 mod listing;
+mod log_keys;
 mod observer;
 mod opening;
 mod options;

@@ -20,6 +20,8 @@ pub struct FetchOptions {
     pub from: String,
     /// The text of the log's verifier key.
     pub key: String,
+    /// The text of another verifier key of the log, as it has two while it goes from one to the next.
+    pub other_key: Option<String>,
     /// The texts of the witnesses' verifier keys, those of one witness one after another.
     pub witnesses: Vec<String>,
     /// How many of the witnesses must have cosigned a checkpoint.

@@ -1,9 +1,10 @@
 //! The keys of the witnesses that the options name.
 
-ghost use Rattle.std.specs.Prelude.{◌≡◌, ◌<◌, ◌↔◌, ◌∷◌, [], Contains, IfErr, IfOk, IsTrue, MatchBool, MatchOption, OnOk, length, string_bytes, vec_items};
-ghost use Rattle.tl_fetch.specs.Command.{HaveOwnKeys, IsKeyFault, witness_text, witness_texts};
+ghost use Rattle.std.specs.Prelude.{◌≡◌, ◌<◌, ◌↔◌, List, Contains, IfErr, IfOk, IsTrue, MatchBool, MatchOption, OnOk, length, string_bytes, vec_items};
+ghost use Rattle.tl_fetch.specs.Command.{HaveLogKeys, HaveOwnKeys, IsKeyFault, log_texts, public_keys, witness_text, witness_texts};
 ghost use Rattle.tl_key.specs.KeyText.{IsVerifierText};
-ghost use Rattle.tl_key.specs.NoteKey.{PublicKey, cosignature_kind, note_kind};
+ghost use Rattle.tl_hash.specs.Bytes.{Bytes};
+ghost use Rattle.tl_key.specs.NoteKey.{PublicKey, cosignature_kind};
 ghost use Rattle.tl_key.specs.Reading.{IsNoVerifierText};
 
 use crate::fault::FetchFault;
@@ -41,8 +42,8 @@ pub(crate) fn witness_key(
     }
 }
 
-// Whether two public keys are one.
-fn is_same(one: &[u8; 32], other: &[u8; 32]) -> bool
+/// Whether two public keys are one.
+pub(crate) fn is_same(one: &[u8; 32], other: &[u8; 32]) -> bool
     ensures { IsTrue result ↔ (one.now ≡ other.now) }
 {
     one == other
@@ -60,20 +61,20 @@ fn is_among(known: &[[u8; 32]], key: &[u8; 32]) -> bool
     false
 }
 
-/// Checks that each key of a witness is a public key of its own, so that nobody counts twice under two names, and the log
-/// not for a witness. `SharedKey` has the place of the first that isn't; `BadWitness` of the first text that is of no key.
+/// Checks that each key of a witness is a public key of its own, so that nobody counts twice under two names, and none of
+/// those of the log counts for a witness. `SharedKey` has the place of the first that isn't; `BadWitness` of the first text that is of no key.
 pub(crate) fn check_keys(
     alloc: Global,
     options: &FetchOptions,
-    log: &[u8; 32],
+    log: &[[u8; 32]],
 ) -> Result<(), FetchFault>
-    requires { (k : PublicKey) × IsVerifierText note_kind (string_bytes options.now.key) k
-        × (k.key ≡ log.now) }
-    ensures own { OnOk result (HaveOwnKeys (log.now ∷ []) (witness_texts options.now)) }
+    requires { (name : Bytes) × (keys : List PublicKey)
+        × HaveLogKeys name (log_texts options.now) keys × (log.now ≡ public_keys keys) }
+    ensures own { OnOk result (HaveOwnKeys log.now (witness_texts options.now)) }
     ensures refused { IfErr result (IsKeyFault options.now) }
 {
     let mut known = Vec::new(alloc);
-    known.push(*log)?;
+    known.extend_from_slice(log)?;
     for place in 0..options.witnesses.len() {
         let key = witness_key(alloc, options, place)?;
         if is_among(known.as_slice(), key.public_key()) {

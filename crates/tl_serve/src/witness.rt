@@ -6,7 +6,7 @@ ghost use Rattle.tl_device.specs.Device.{passage};
 ghost use Rattle.tl_witness.specs.ReadChain.{chains_shown};
 ghost use Rattle.tl_logs.specs.ReadLogs.{logs_shown};
 ghost use Rattle.tl_command.specs.Origins.{RefusesOrigin};
-ghost use Rattle.tl_serve.specs.Inner.Stating.{HaveState, LackState};
+ghost use Rattle.tl_serve.specs.Inner.Stating.{HaveState, LackState, ReadsLines};
 ghost use Rattle.tl_serve.specs.Knowing.{RefusesLog};
 
 use crate::answering::answer;
@@ -30,7 +30,7 @@ use std::sync::Wait;
 use std::thread;
 use std::thread::Scope;
 use std::time::{Clock, SystemTime, UNIX_EPOCH};
-use tl_command::{RunFault, read_file, read_log_key, read_private_key};
+use tl_command::{MOST_INPUT, RunFault, read_file, read_input, read_log_key, read_private_key};
 use tl_device::Counted;
 use tl_hash::Sha256Tree;
 use tl_heart::Event;
@@ -39,7 +39,7 @@ use tl_logs::{KnownLog, read_state, whole_chains};
 use tl_note::{NoteFault, Signer, Verifier, is_key_name};
 use tl_proof::Link;
 use tl_server::{Outcome, ServeFault, Teller, Witness, serve_witness};
-use tl_witness::{Book, BookFault, SharedWitness, Trust};
+use tl_witness::{Book, BookFault, ChainFault, SharedWitness, Trust, read_chain};
 
 /// The chains of the state that the reader gives, of each of these logs, or of all, in one link.
 pub(crate) fn read_chains<R: Read>(
@@ -57,6 +57,21 @@ pub(crate) fn read_chains<R: Read>(
     match read_state(alloc, Sha256Tree, logs, reader) {
         Ok(heads) => Ok(whole_chains(alloc, heads)?),
         Err(fault) => Err(state_refusal(fault)),
+    }
+}
+
+// The chains of the lines that standard input is.
+fn printed_chains<R: Read>(
+    alloc: Global,
+    reader: &mut Counted<R>,
+) -> Result<Vec<(String, Vec<Link<Global>>)>, RunFault>
+    ensures { ReadsLines (passage R.remaining reader.old reader.new) result }
+{
+    let input = read_input(alloc, reader, MOST_INPUT)?;
+    match read_chain(alloc, input.as_slice()) {
+        Ok(chains) => Ok(chains),
+        Err(ChainFault::Malformed(line)) => Err(RunFault::Chain(line as u64)),
+        Err(ChainFault::OutOfMemory) => Err(RunFault::OutOfMemory),
     }
 }
 
@@ -324,7 +339,10 @@ fn run_one<
     if !is_key_name(origin) {
         return Err(RunFault::BadOrigin);
     }
-    let chains = read_chains(alloc, None, reader)?;
+    let chains = match &options.state {
+        Some(_) => read_chains(alloc, None, reader)?,
+        None => printed_chains(alloc, reader)?,
+    };
     let verifier: Box<dyn Verifier> = match known_key(alloc, origin, key)? {
         Known::Demonstration(key) => Box::new(alloc, key)?,
         Known::Public(key) => Box::new(alloc, key)?,

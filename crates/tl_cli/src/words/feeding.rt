@@ -1,9 +1,9 @@
 //! The words of the command `feed`.
 
-use super::fetching::{count_names, name_of, need_of};
+use super::fetching::{LogKeyTexts, count_names, log_keys, name_of, need_of};
 use super::given::{text_if_given, text_of, texts_of, usage_error};
 use super::table::{Kind, Word, Words};
-use super::{LOG_KEY, TIMEOUT, WITNESS_KEY, WordsFault, texts};
+use super::{LOG_KEYS, TIMEOUT, WITNESS_KEY, WordsFault, texts};
 use crate::job::Job;
 use clap::ArgMatches;
 use std::alloc::Global;
@@ -20,7 +20,7 @@ const FEED: Words = Words {
     words: &[words![
         "from" "FROM" Kind::RequiredText
             => "The folder of the log, or its address, http://HOST[:PORT][/PATH]";
-        "key" "VKEY" Kind::RequiredText => LOG_KEY;
+        "key" "VKEY" Kind::RequiredTexts => LOG_KEYS;
         "to" "URL" Kind::Texts => "The address of a witness, http://HOST[:PORT][/PATH]";
         "witness" "VKEY" Kind::Texts => WITNESS_KEY;
         "need" "N" Kind::Number(0, u64::MAX) => "How many of the witnesses must cosign";
@@ -54,10 +54,12 @@ pub(super) fn feed_job(alloc: Global, options: &ArgMatches<'_>) -> Result<Job, W
     if to.is_empty() || to.len() != count_runs(witnesses.as_slice()) {
         return Err(usage_error(alloc, feed(), PAIRS));
     }
+    let LogKeyTexts { key, other_key } = log_keys(alloc, feed(), options)?;
     let need = need_of(alloc, feed(), options, count_names(witnesses.as_slice()))?;
     let log = FetchOptions {
         from: text_of(alloc, options, "from")?,
-        key: text_of(alloc, options, "key")?,
+        key,
+        other_key,
         witnesses,
         need,
         state: text_if_given(alloc, options, "state")?,

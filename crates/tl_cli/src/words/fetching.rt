@@ -1,8 +1,8 @@
 //! The words of the command `fetch`.
 
-use super::given::{text_if_given, text_of, texts_of, usage_error};
+use super::given::{no_word, text_if_given, text_of, texts_of, usage_error};
 use super::table::{Kind, Word, Words};
-use super::{LOG_KEY, TIMEOUT, WITNESS_KEY, WordsFault, texts};
+use super::{LOG_KEYS, TIMEOUT, WITNESS_KEY, WordsFault, texts};
 use crate::job::Job;
 use clap::ArgMatches;
 use std::alloc::Global;
@@ -21,7 +21,7 @@ const FETCH: Words = Words {
     words: &[words![
         "from" "FROM" Kind::RequiredText
             => "The folder of the log, or its address, http://HOST[:PORT][/PATH]";
-        "key" "VKEY" Kind::RequiredText => LOG_KEY;
+        "key" "VKEY" Kind::RequiredTexts => LOG_KEYS;
         "witness" "VKEY" Kind::Texts => WITNESS_KEY;
         "need" "N" Kind::Number(0, u64::MAX) => "How many of the witnesses must have cosigned";
         "state" "FILE" Kind::Path => "The file with the checkpoint that was trusted last";
@@ -55,6 +55,31 @@ fn wanted_if_one(options: &ArgMatches<'_>) -> Option<FetchRequest> {
         (false, None, true, None) => Some(FetchRequest::All),
         (false, None, false, Some(index)) => Some(FetchRequest::Proof(index)),
         _ => None,
+    }
+}
+
+// What is said where a log is told to have more keys.
+const TWO_KEYS: &str = "--key is given once or twice";
+
+/// The texts of a log's keys.
+#[derive(Drop)]
+pub(super) struct LogKeyTexts {
+    pub(super) key: String,
+    /// That of another one, if there are two.
+    pub(super) other_key: Option<String>,
+}
+
+/// The texts of the log's keys, one or two.
+pub(super) fn log_keys(
+    alloc: Global,
+    row: &Words,
+    options: &ArgMatches<'_>,
+) -> Result<LogKeyTexts, WordsFault> {
+    let mut keys = texts_of(alloc, options, "key")?.into_iter();
+    match (keys.next(), keys.next(), keys.next()) {
+        (Some(key), other_key, None) => Ok(LogKeyTexts { key, other_key }),
+        (None, _, _) => Err(no_word(alloc)),
+        _ => Err(usage_error(alloc, row, TWO_KEYS)),
     }
 }
 
@@ -103,11 +128,13 @@ pub(super) fn fetch_job(alloc: Global, options: &ArgMatches<'_>) -> Result<Job, 
     let Some(wanted) = wanted_if_one(options) else {
         return Err(usage_error(alloc, fetch(), ONE_WANTED));
     };
+    let LogKeyTexts { key, other_key } = log_keys(alloc, fetch(), options)?;
     let witnesses = texts_of(alloc, options, "witness")?;
     let need = need_of(alloc, fetch(), options, count_names(witnesses.as_slice()))?;
     Ok(Job::Fetch(FetchOptions {
         from: text_of(alloc, options, "from")?,
-        key: text_of(alloc, options, "key")?,
+        key,
+        other_key,
         witnesses,
         need,
         state: text_if_given(alloc, options, "state")?,

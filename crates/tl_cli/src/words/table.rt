@@ -15,6 +15,8 @@ pub(super) enum Kind {
     RequiredText,
     /// A text; the word may be given more than once.
     Texts,
+    /// A text; the word has to be given, and may be more than once.
+    RequiredTexts,
     /// The path of a file or a folder, a text that isn't empty.
     Path,
     /// Such a path; the word has to be given.
@@ -67,6 +69,7 @@ fn argument<'a>(alloc: Global, word: &Word) -> Arg<'a> {
         Kind::Flag | Kind::Text => arg,
         Kind::RequiredText => arg.required(true),
         Kind::Texts => arg.action(ArgAction::Append),
+        Kind::RequiredTexts => arg.action(ArgAction::Append).required(true),
         Kind::Path => of_path(arg),
         Kind::RequiredPath => of_path(arg).required(true),
         Kind::Number(least, most) => between(arg, least, most),

@@ -1,19 +1,19 @@
 //! The command `feed`.
 
-ghost use Rattle.std.specs.Prelude.{◌≡◌, ◌∷◌, [], map, string_bytes};
+ghost use Rattle.std.specs.Prelude.{◌∷◌, [], map};
 ghost use Rattle.tl_device.specs.Device.{passage};
-ghost use Rattle.tl_fetch.specs.Command.{HaveOwnKeys, witness_texts};
+ghost use Rattle.tl_fetch.specs.Command.{HaveLogKeys, log_texts};
 ghost use Rattle.tl_fetch.specs.FeedCommand.{RunsFeed, RunsFeedUnder};
 ghost use Rattle.tl_fetch.specs.Inner.FeedRuns.{FeedsOver};
+ghost use Rattle.tl_fetch.specs.Inner.LogKeys.{ToldKeys, ToldTwo};
 ghost use Rattle.tl_fetch.specs.Trusting.{policy_of};
-ghost use Rattle.tl_key.specs.KeyText.{IsVerifierText};
-ghost use Rattle.tl_key.specs.NoteKey.{PublicKey, note_kind, verifier_key};
 
 use crate::command::{source_of, with_lack};
 use crate::fault::FetchFault;
 use crate::feed::asking::AsksWitnesses;
 use crate::feed::feeding::feed_under;
 use crate::feed::witnesses::{HttpWitnesses, addresses};
+use crate::log_keys::{first_key, second_key};
 use crate::observer::Nobody;
 use crate::options::FetchOptions;
 use crate::policy::Policy;
@@ -26,9 +26,9 @@ use std::io::Write;
 use std::net::{Net, TcpStream};
 use std::time::{Clock, Duration};
 use tl_client::ResourceSource;
-use tl_command::read_log_key;
 use tl_device::Counted;
 use tl_folder::AtomicFile;
+use tl_key::NoteVerifier;
 use tl_note::Verifier;
 use tl_source::{FullSource, NamesLack};
 
@@ -125,28 +125,93 @@ fn feed_as_asked<'s, H: Files<File = File> + Net<Stream = TcpStream> + Clock, W:
     with_lack(outcome, source.lack())
 }
 
-// The same, where the policy is the one that the options tell.
+// The same, where the log has this name and its keys are those of the texts that the options tell.
 fn feed_as_told<'s, H: Files<File = File> + Net<Stream = TcpStream> + Clock, W: Write, E: Write>(
     rt: &'s H,
     alloc: Global,
-    policy: &Policy<'_>,
+    origin: &str,
+    log: &[Box<dyn Verifier>],
     options: &'s FeedOptions,
     writer: &mut Counted<W>,
     errors: &'s mut Counted<E>,
 ) -> Result<(), FetchFault>
-    requires { (k : PublicKey) × IsVerifierText note_kind (string_bytes options.now.log.key) k
-        × (policy.now.origin.now ≡ k.name) × (map (λ v. key v) policy.now.log.now
-        ≡ verifier_key k ∷ []) × (policy.now.need ≡ options.now.log.need)
-        × HaveOwnKeys (k.key ∷ []) (witness_texts options.now.log) }
+    requires { ToldKeys options.now.log origin.now (map (λ v. key v) log.now) }
     ensures { RunsFeed options.now (passage W.contents writer.old writer.new) result }
 {
-    match feed_as_asked(rt, alloc, policy, options, writer, errors) {
+    let mut witnesses: Vec<Box<dyn Verifier>> = Vec::new(alloc);
+    for place in 0..options.log.witnesses.len() {
+        let key = witness_key(alloc, &options.log, place)?;
+        witnesses.push(Box::new(alloc, key)?)?;
+    }
+    let policy = Policy {
+        origin,
+        log,
+        witnesses: witnesses.as_slice(),
+        need: options.log.need,
+    };
+    match feed_as_asked(rt, alloc, &policy, options, writer, errors) {
         Ok(()) => Ok(()),
         Err(fault) => Err(fault),
     }
 }
 
-/// `feed`: reads the keys of the log and of the witnesses (C2SP signed-note, "Verifier keys"), and brings the
+// The same by a log's one key.
+fn feed_by_one<'s, H: Files<File = File> + Net<Stream = TcpStream> + Clock, W: Write, E: Write>(
+    rt: &'s H,
+    alloc: Global,
+    key: NoteVerifier<Global>,
+    options: &'s FeedOptions,
+    writer: &mut Counted<W>,
+    errors: &'s mut Counted<E>,
+) -> Result<(), FetchFault>
+    requires { HaveLogKeys key.name (log_texts options.now.log) (key ∷ []) }
+    ensures { RunsFeed options.now (passage W.contents writer.old writer.new) result }
+{
+    check_keys(alloc, &options.log, &[*key.public_key()])?;
+    let origin = String::from_str(alloc, key.name())?;
+    let log: Box<dyn Verifier> = Box::new(alloc, key)?;
+    feed_as_told(rt, alloc, origin.as_str(), &[log], options, writer, errors)
+}
+
+// The same by one of a log's two keys, of which the first is boxed.
+fn feed_beside<'s, H: Files<File = File> + Net<Stream = TcpStream> + Clock, W: Write, E: Write>(
+    rt: &'s H,
+    alloc: Global,
+    origin: &str,
+    first: Box<dyn Verifier>,
+    other: NoteVerifier<Global>,
+    options: &'s FeedOptions,
+    writer: &mut Counted<W>,
+    errors: &'s mut Counted<E>,
+) -> Result<(), FetchFault>
+    requires { ToldTwo options.now.log origin.now (key first) other }
+    ensures { RunsFeed options.now (passage W.contents writer.old writer.new) result }
+{
+    let second: Box<dyn Verifier> = Box::new(alloc, other)?;
+    let log = [first, second];
+    feed_as_told(rt, alloc, origin, &log, options, writer, errors)
+}
+
+// The same by one of a log's two keys.
+fn feed_by_two<'s, H: Files<File = File> + Net<Stream = TcpStream> + Clock, W: Write, E: Write>(
+    rt: &'s H,
+    alloc: Global,
+    key: NoteVerifier<Global>,
+    other: NoteVerifier<Global>,
+    options: &'s FeedOptions,
+    writer: &mut Counted<W>,
+    errors: &'s mut Counted<E>,
+) -> Result<(), FetchFault>
+    requires { HaveLogKeys key.name (log_texts options.now.log) (key ∷ other ∷ []) }
+    ensures { RunsFeed options.now (passage W.contents writer.old writer.new) result }
+{
+    check_keys(alloc, &options.log, &[*key.public_key(), *other.public_key()])?;
+    let origin = String::from_str(alloc, key.name())?;
+    let first: Box<dyn Verifier> = Box::new(alloc, key)?;
+    feed_beside(rt, alloc, origin.as_str(), first, other, options, writer, errors)
+}
+
+/// `feed`: reads the keys of the log, one or two, and of the witnesses (C2SP signed-note, "Verifier keys"), and brings the
 /// checkpoint of the log, which is read from a folder or over HTTP, before each witness, as `feed_under` does. Why a
 /// witness gave no cosignature is told on `errors`, a line each.
 pub fn run_feed<'s, H: Files<File = File> + Net<Stream = TcpStream> + Clock, W: Write, E: Write>(
@@ -158,20 +223,10 @@ pub fn run_feed<'s, H: Files<File = File> + Net<Stream = TcpStream> + Clock, W: 
 ) -> Result<(), FetchFault>
     ensures { RunsFeed options.now (passage W.contents writer.old writer.new) result }
 {
-    let key = read_log_key(alloc, options.log.key.as_str())?;
-    check_keys(alloc, &options.log, key.public_key())?;
-    let origin = String::from_str(alloc, key.name())?;
-    let log: Box<dyn Verifier> = Box::new(alloc, key)?;
-    let mut witnesses: Vec<Box<dyn Verifier>> = Vec::new(alloc);
-    for place in 0..options.log.witnesses.len() {
-        let key = witness_key(alloc, &options.log, place)?;
-        witnesses.push(Box::new(alloc, key)?)?;
-    }
-    let policy = Policy {
-        origin: origin.as_str(),
-        log: &[log],
-        witnesses: witnesses.as_slice(),
-        need: options.log.need,
+    let key = first_key(alloc, &options.log)?;
+    let Some(text) = &options.log.other_key else {
+        return feed_by_one(rt, alloc, key, options, writer, errors);
     };
-    feed_as_told(rt, alloc, &policy, options, writer, errors)
+    let other = second_key(alloc, &options.log, text, &key)?;
+    feed_by_two(rt, alloc, key, other, options, writer, errors)
 }
