@@ -252,7 +252,16 @@ fn fetch_by_one<'s, H: Files<File = File> + HostClient, W: Write, E: Write>(
     let origin = String::from_str(alloc, key.name())?;
     let log: Box<dyn Verifier> = Box::new(alloc, key)?;
     let name = origin.as_str();
-    fetch_as_told(rt, alloc, name, &[log], options, writer, errors, is_terminal)
+    fetch_as_told(
+        rt,
+        alloc,
+        name,
+        &[log],
+        options,
+        writer,
+        errors,
+        is_terminal,
+    )
 }
 
 // The same by one of a log's two keys, of which the first is boxed.
@@ -272,7 +281,16 @@ fn fetch_beside<'s, H: Files<File = File> + HostClient, W: Write, E: Write>(
 {
     let second: Box<dyn Verifier> = Box::new(alloc, other)?;
     let log = [first, second];
-    fetch_as_told(rt, alloc, origin, &log, options, writer, errors, is_terminal)
+    fetch_as_told(
+        rt,
+        alloc,
+        origin,
+        &log,
+        options,
+        writer,
+        errors,
+        is_terminal,
+    )
 }
 
 // The same by one of a log's two keys.
@@ -293,7 +311,17 @@ fn fetch_by_two<'s, H: Files<File = File> + HostClient, W: Write, E: Write>(
     let origin = String::from_str(alloc, key.name())?;
     let first: Box<dyn Verifier> = Box::new(alloc, key)?;
     let name = origin.as_str();
-    fetch_beside(rt, alloc, name, first, other, options, writer, errors, is_terminal)
+    fetch_beside(
+        rt,
+        alloc,
+        name,
+        first,
+        other,
+        options,
+        writer,
+        errors,
+        is_terminal,
+    )
 }
 
 /// `fetch`: reads the keys of the log, one or two, and of the witnesses (C2SP signed-note, "Verifier keys"), and fetches

@@ -205,10 +205,23 @@ fn feed_by_two<'s, H: Files<File = File> + Net<Stream = TcpStream> + Clock, W: W
     requires { HaveLogKeys key.name (log_texts options.now.log) (key ∷ other ∷ []) }
     ensures { RunsFeed options.now (passage W.contents writer.old writer.new) result }
 {
-    check_keys(alloc, &options.log, &[*key.public_key(), *other.public_key()])?;
+    check_keys(
+        alloc,
+        &options.log,
+        &[*key.public_key(), *other.public_key()],
+    )?;
     let origin = String::from_str(alloc, key.name())?;
     let first: Box<dyn Verifier> = Box::new(alloc, key)?;
-    feed_beside(rt, alloc, origin.as_str(), first, other, options, writer, errors)
+    feed_beside(
+        rt,
+        alloc,
+        origin.as_str(),
+        first,
+        other,
+        options,
+        writer,
+        errors,
+    )
 }
 
 /// `feed`: reads the keys of the log, one or two, and of the witnesses (C2SP signed-note, "Verifier keys"), and brings the
