@@ -2,6 +2,7 @@ pub mod Signed
 pub mod FeedLemmas
 pub mod EntryLemmas
 pub mod Passages
+pub mod LogKeyLemmas
 pub mod ListedLemmas
 pub mod ListingLemmas
 pub mod RunLemmas

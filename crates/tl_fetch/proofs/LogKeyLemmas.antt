@@ -1,5 +1,5 @@
 -- The keys of the log that are told, one or two.
-use Rattle.std.proofs.Common.{◌≡◌, ◌⊎◌, ◌∷◌, [], None, Option, Some, String, refl, sym, subst, arith, zero, suc, string_bytes}
+use Rattle.std.proofs.Common.{◌≡◌, ◌∙◌, ◌⊎◌, ◌∷◌, [], ap, None, Option, Some, String, refl, sym, subst, arith, zero, suc, string_bytes}
 use Rattle.std.specs.Prelude.{◌≢◌, Contains, IsSomeAnd}
 use Rattle.std.specs.List.{Any}
 use Rattle.std.specs.Global.{Global}
@@ -51,3 +51,6 @@ no_other options text k o other spelled other_spelled differs = record {
   other_spelled = subst (λ (t : Option (String Global)). IsSomeAnd t (λ b. IsVerifierText note_kind (string_bytes b) o)) (sym other) other_spelled;
   differs = differs;
 }
+
+pub both_same : (a b c d : Bytes) → a ≡ b → c ≡ d → a ∷ c ∷ [] ≡ b ∷ d ∷ []
+both_same a b c d e f = ap (λ (x : Bytes). x ∷ c ∷ []) e ∙ ap (λ (y : Bytes). b ∷ y ∷ []) f

@@ -2,8 +2,8 @@
 
 ghost use Rattle.std.specs.Prelude.{◌≡◌, ◌∷◌, [], string_bytes, IfErr, IfOk, map};
 ghost use Rattle.tl_device.specs.Device.{passage};
-ghost use Rattle.tl_fetch.specs.Command.{HasScheme, HaveLogKeys, IsOriginOf, IsToldAs, RunsFetch, RunsUnder, cached_answers, cached_lacks, log_texts};
-ghost use Rattle.tl_fetch.specs.Inner.LogKeys.{ToldKeys, ToldTwo};
+ghost use Rattle.tl_fetch.specs.Command.{HasScheme, IsOriginOf, IsToldAs, RunsFetch, RunsUnder, cached_answers, cached_lacks};
+ghost use Rattle.tl_fetch.specs.Inner.LogKeys.{AreTold, ToldBy};
 ghost use Rattle.tl_fetch.specs.Inner.Naming.{Renames, RunsOver};
 ghost use Rattle.tl_fetch.specs.Trusting.{policy_of};
 ghost use Rattle.tl_source.specs.Sources.{origin_of};
@@ -204,32 +204,21 @@ fn fetch_as_asked<'s, H: Files<File = File> + HostClient, W: Write, E: Write>(
     with_lack(outcome, source.lack())
 }
 
-// The same, where the log has this name and its keys are those of the texts that the options tell.
+// The same, where the policy is the one that the options tell.
 fn fetch_as_told<'s, H: Files<File = File> + HostClient, W: Write, E: Write>(
     rt: &'s H,
     alloc: Global,
-    origin: &str,
-    log: &[Box<dyn Verifier>],
+    policy: &Policy<'_>,
     options: &'s FetchOptions,
     writer: &mut Counted<W>,
     errors: &'s mut Counted<E>,
     is_terminal: bool,
 ) -> Result<(), FetchFault>
-    requires { ToldKeys options.now origin.now (map (λ v. key v) log.now) }
+    requires told { ToldBy options.now policy.now.origin.now (map (λ v. key v) policy.now.log.now) }
+    requires need { policy.now.need ≡ options.now.need }
     ensures { RunsFetch options.now (passage W.contents writer.old writer.new) result }
 {
-    let mut witnesses: Vec<Box<dyn Verifier>> = Vec::new(alloc);
-    for place in 0..options.witnesses.len() {
-        let key = witness_key(alloc, options, place)?;
-        witnesses.push(Box::new(alloc, key)?)?;
-    }
-    let policy = Policy {
-        origin,
-        log,
-        witnesses: witnesses.as_slice(),
-        need: options.need,
-    };
-    match fetch_as_asked(rt, alloc, &policy, options, writer, errors, is_terminal) {
+    match fetch_as_asked(rt, alloc, policy, options, writer, errors, is_terminal) {
         Ok(()) => Ok(()),
         Err(fault) => Err(fault),
     }
@@ -245,55 +234,26 @@ fn fetch_by_one<'s, H: Files<File = File> + HostClient, W: Write, E: Write>(
     errors: &'s mut Counted<E>,
     is_terminal: bool,
 ) -> Result<(), FetchFault>
-    requires { HaveLogKeys key.name (log_texts options.now) (key ∷ []) }
+    requires { AreTold options.now key.name (key ∷ []) }
     ensures { RunsFetch options.now (passage W.contents writer.old writer.new) result }
 {
-    check_keys(alloc, options, &[*key.public_key()])?;
+    let mut witnesses: Vec<Box<dyn Verifier>> = Vec::new(alloc);
+    for place in 0..options.witnesses.len() {
+        let key = witness_key(alloc, options, place)?;
+        witnesses.push(Box::new(alloc, key)?)?;
+    }
     let origin = String::from_str(alloc, key.name())?;
     let log: Box<dyn Verifier> = Box::new(alloc, key)?;
-    let name = origin.as_str();
-    fetch_as_told(
-        rt,
-        alloc,
-        name,
-        &[log],
-        options,
-        writer,
-        errors,
-        is_terminal,
-    )
+    let policy = Policy {
+        origin: origin.as_str(),
+        log: &[log],
+        witnesses: witnesses.as_slice(),
+        need: options.need,
+    };
+    fetch_as_told(rt, alloc, &policy, options, writer, errors, is_terminal)
 }
 
-// The same by one of a log's two keys, of which the first is boxed.
-fn fetch_beside<'s, H: Files<File = File> + HostClient, W: Write, E: Write>(
-    rt: &'s H,
-    alloc: Global,
-    origin: &str,
-    first: Box<dyn Verifier>,
-    other: NoteVerifier<Global>,
-    options: &'s FetchOptions,
-    writer: &mut Counted<W>,
-    errors: &'s mut Counted<E>,
-    is_terminal: bool,
-) -> Result<(), FetchFault>
-    requires { ToldTwo options.now origin.now (key first) other }
-    ensures { RunsFetch options.now (passage W.contents writer.old writer.new) result }
-{
-    let second: Box<dyn Verifier> = Box::new(alloc, other)?;
-    let log = [first, second];
-    fetch_as_told(
-        rt,
-        alloc,
-        origin,
-        &log,
-        options,
-        writer,
-        errors,
-        is_terminal,
-    )
-}
-
-// The same by one of a log's two keys.
+// The same by either of a log's two keys.
 fn fetch_by_two<'s, H: Files<File = File> + HostClient, W: Write, E: Write>(
     rt: &'s H,
     alloc: Global,
@@ -304,24 +264,24 @@ fn fetch_by_two<'s, H: Files<File = File> + HostClient, W: Write, E: Write>(
     errors: &'s mut Counted<E>,
     is_terminal: bool,
 ) -> Result<(), FetchFault>
-    requires { HaveLogKeys key.name (log_texts options.now) (key ∷ other ∷ []) }
+    requires { AreTold options.now key.name (key ∷ other ∷ []) }
     ensures { RunsFetch options.now (passage W.contents writer.old writer.new) result }
 {
-    check_keys(alloc, options, &[*key.public_key(), *other.public_key()])?;
+    let mut witnesses: Vec<Box<dyn Verifier>> = Vec::new(alloc);
+    for place in 0..options.witnesses.len() {
+        let key = witness_key(alloc, options, place)?;
+        witnesses.push(Box::new(alloc, key)?)?;
+    }
     let origin = String::from_str(alloc, key.name())?;
     let first: Box<dyn Verifier> = Box::new(alloc, key)?;
-    let name = origin.as_str();
-    fetch_beside(
-        rt,
-        alloc,
-        name,
-        first,
-        other,
-        options,
-        writer,
-        errors,
-        is_terminal,
-    )
+    let second: Box<dyn Verifier> = Box::new(alloc, other)?;
+    let policy = Policy {
+        origin: origin.as_str(),
+        log: &[first, second],
+        witnesses: witnesses.as_slice(),
+        need: options.need,
+    };
+    fetch_as_told(rt, alloc, &policy, options, writer, errors, is_terminal)
 }
 
 /// `fetch`: reads the keys of the log, one or two, and of the witnesses (C2SP signed-note, "Verifier keys"), and fetches
@@ -348,8 +308,10 @@ pub fn run_fetch<
 {
     let key = first_key(alloc, options)?;
     let Some(text) = &options.other_key else {
+        check_keys(alloc, options, &[*key.public_key()])?;
         return fetch_by_one(rt, alloc, key, options, writer, errors, is_terminal);
     };
     let other = second_key(alloc, options, text, &key)?;
+    check_keys(alloc, options, &[*key.public_key(), *other.public_key()])?;
     fetch_by_two(rt, alloc, key, other, options, writer, errors, is_terminal)
 }

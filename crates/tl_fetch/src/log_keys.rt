@@ -8,12 +8,14 @@ ghost use Rattle.tl_key.specs.NoteKey.{note_kind};
 
 use crate::fault::FetchFault;
 use crate::options::FetchOptions;
-use crate::witnesses::is_same;
+use crate::witnesses::{is_same, read_text};
 use std::alloc::Global;
-use tl_command::read_log_key;
-use tl_key::NoteVerifier;
+use tl_command::RunFault;
+use tl_key::{Note, NoteVerifier};
+use tl_note::Verifier;
 
 /// The key of the log that the first text is of.
+#[tactic(auto, using(crate::proofs::LogKeyLemmas::no_first))]
 pub(crate) fn first_key(
     alloc: Global,
     options: &FetchOptions,
@@ -21,7 +23,10 @@ pub(crate) fn first_key(
     ensures read { IfOk result (λ k. IsVerifierText note_kind (string_bytes options.now.key) k) }
     ensures refused { IfErr result (IsKeyFault options.now) }
 {
-    Ok(read_log_key(alloc, options.key.as_str())?)
+    match read_text::<Note>(alloc, options.key.as_str())? {
+        Some(key) => Ok(key),
+        None => Err(FetchFault::Run(RunFault::BadKey)),
+    }
 }
 
 // Whether a key has the name of another and a public key of its own.
@@ -35,6 +40,7 @@ fn is_another(key: &NoteVerifier<Global>, other: &NoteVerifier<Global>) -> bool
 }
 
 /// The key of the log that the second text is of, another one than the first.
+#[tactic(auto, using(crate::proofs::LogKeyLemmas::no_second, crate::proofs::LogKeyLemmas::no_other, crate::proofs::LogKeyLemmas::two_told))]
 pub(crate) fn second_key(
     alloc: Global,
     options: &FetchOptions,
@@ -47,7 +53,9 @@ pub(crate) fn second_key(
         (λ k. HaveLogKeys key.now.name (log_texts options.now) (key.now ∷ k ∷ [])) }
     ensures refused { IfErr result (IsKeyFault options.now) }
 {
-    let other = read_log_key(alloc, text.as_str())?;
+    let Some(other) = read_text::<Note>(alloc, text.as_str())? else {
+        return Err(FetchFault::Run(RunFault::BadKey));
+    };
     if !is_another(key, &other) {
         return Err(FetchFault::OtherKey);
     }

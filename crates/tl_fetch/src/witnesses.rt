@@ -10,13 +10,16 @@ ghost use Rattle.tl_key.specs.Reading.{IsNoVerifierText};
 use crate::fault::FetchFault;
 use crate::options::FetchOptions;
 use std::alloc::{AllocError, Global};
-use tl_key::{CosignerVerifier, KeyFault, read_verifier_key};
+use tl_key::{Cosignature, CosignerVerifier, KeyFault, KeyKind, VerifierKey, read_verifier_key};
 
-// The verifier's key of a witness that a text is of, if it is of one.
-fn read_witness(alloc: Global, text: &str) -> Result<Option<CosignerVerifier<Global>>, AllocError>
+/// The verifier's key of this type that a text is of, if it is of one.
+pub(crate) fn read_text<K: KeyKind>(
+    alloc: Global,
+    text: &str,
+) -> Result<Option<VerifierKey<K, Global>>, AllocError>
     ensures { IfOk result (λ found. MatchOption found
-        (IsNoVerifierText cosignature_kind text.now)
-        (λ k. IsVerifierText cosignature_kind text.now k)) }
+        (IsNoVerifierText K.KIND text.now)
+        (λ k. IsVerifierText K.KIND text.now k)) }
 {
     match read_verifier_key(alloc, text) {
         Ok(key) => Ok(Some(key)),
@@ -36,7 +39,7 @@ pub(crate) fn witness_key(
         (λ k. IsVerifierText cosignature_kind (witness_text options.now place) k) }
     ensures refused { IfErr result (IsKeyFault options.now) }
 {
-    match read_witness(alloc, options.witnesses[place].as_str())? {
+    match read_text::<Cosignature>(alloc, options.witnesses[place].as_str())? {
         Some(key) => Ok(key),
         None => Err(FetchFault::BadWitness(place as u64)),
     }

@@ -1,5 +1,5 @@
 -- The keys of one log, as they are read and boxed.
-use Rattle.std.specs.Prelude.{◌≡◌, ◌≢◌, ◌⊎◌, List, [], ◌∷◌, map}
+use Rattle.std.specs.Prelude.{◌≡◌, ◌≢◌, ◌⊎◌, List, map}
 use Rattle.tl_hash.specs.Bytes.{Bytes}
 use Rattle.tl_key.specs.NoteKey.{PublicKey, verifier_key}
 use Rattle.tl_note.specs.Key.{Key}
@@ -15,16 +15,11 @@ pub record AreTwo (key other : PublicKey) : Type 0 where
 abbrev pub AreNotTwo : PublicKey → PublicKey → Type 0
 AreNotTwo key other = (other.name ≢ key.name) ⊎ (other.key ≡ key.key)
 
--- verifiers are of the keys that were told, of the log of this name, and no witness has one of their public keys
-pub record ToldKeys (options : FetchOptions) (origin : Bytes) (verifiers : List Key) : Type 0 where
-  pub keys : List PublicKey
-  pub spelled : HaveLogKeys origin (log_texts options) keys
-  pub same : verifiers ≡ map verifier_key keys
+-- the keys that were told, of a log of this name, and no witness has one of their public keys
+pub record AreTold (options : FetchOptions) (name : Bytes) (keys : List PublicKey) : Type 0 where
+  pub spelled : HaveLogKeys name (log_texts options) keys
   pub own : HaveOwnKeys (public_keys keys) (witness_texts options)
 
--- the same of two, of which a verifier has the first
-pub record ToldTwo (options : FetchOptions) (origin : Bytes) (verifier : Key) (other : PublicKey) : Type 0 where
-  pub first : PublicKey
-  pub spelled : HaveLogKeys origin (log_texts options) (first ∷ other ∷ [])
-  pub same : verifier ≡ verifier_key first
-  pub own : HaveOwnKeys (public_keys (first ∷ other ∷ [])) (witness_texts options)
+-- verifiers are of these
+abbrev pub ToldBy : FetchOptions → Bytes → List Key → Type 0
+ToldBy options name verifiers = (keys : List PublicKey) × AreTold options name keys × (verifiers ≡ map verifier_key keys)

@@ -1,11 +1,10 @@
 //! The command `feed`.
 
-ghost use Rattle.std.specs.Prelude.{◌∷◌, [], map};
+ghost use Rattle.std.specs.Prelude.{◌≡◌, ◌∷◌, [], map};
 ghost use Rattle.tl_device.specs.Device.{passage};
-ghost use Rattle.tl_fetch.specs.Command.{HaveLogKeys, log_texts};
 ghost use Rattle.tl_fetch.specs.FeedCommand.{RunsFeed, RunsFeedUnder};
 ghost use Rattle.tl_fetch.specs.Inner.FeedRuns.{FeedsOver};
-ghost use Rattle.tl_fetch.specs.Inner.LogKeys.{ToldKeys, ToldTwo};
+ghost use Rattle.tl_fetch.specs.Inner.LogKeys.{AreTold, ToldBy};
 ghost use Rattle.tl_fetch.specs.Trusting.{policy_of};
 
 use crate::command::{source_of, with_lack};
@@ -125,31 +124,20 @@ fn feed_as_asked<'s, H: Files<File = File> + Net<Stream = TcpStream> + Clock, W:
     with_lack(outcome, source.lack())
 }
 
-// The same, where the log has this name and its keys are those of the texts that the options tell.
+// The same, where the policy is the one that the options tell.
 fn feed_as_told<'s, H: Files<File = File> + Net<Stream = TcpStream> + Clock, W: Write, E: Write>(
     rt: &'s H,
     alloc: Global,
-    origin: &str,
-    log: &[Box<dyn Verifier>],
+    policy: &Policy<'_>,
     options: &'s FeedOptions,
     writer: &mut Counted<W>,
     errors: &'s mut Counted<E>,
 ) -> Result<(), FetchFault>
-    requires { ToldKeys options.now.log origin.now (map (λ v. key v) log.now) }
+    requires told { ToldBy options.now.log policy.now.origin.now (map (λ v. key v) policy.now.log.now) }
+    requires need { policy.now.need ≡ options.now.log.need }
     ensures { RunsFeed options.now (passage W.contents writer.old writer.new) result }
 {
-    let mut witnesses: Vec<Box<dyn Verifier>> = Vec::new(alloc);
-    for place in 0..options.log.witnesses.len() {
-        let key = witness_key(alloc, &options.log, place)?;
-        witnesses.push(Box::new(alloc, key)?)?;
-    }
-    let policy = Policy {
-        origin,
-        log,
-        witnesses: witnesses.as_slice(),
-        need: options.log.need,
-    };
-    match feed_as_asked(rt, alloc, &policy, options, writer, errors) {
+    match feed_as_asked(rt, alloc, policy, options, writer, errors) {
         Ok(()) => Ok(()),
         Err(fault) => Err(fault),
     }
@@ -164,35 +152,26 @@ fn feed_by_one<'s, H: Files<File = File> + Net<Stream = TcpStream> + Clock, W: W
     writer: &mut Counted<W>,
     errors: &'s mut Counted<E>,
 ) -> Result<(), FetchFault>
-    requires { HaveLogKeys key.name (log_texts options.now.log) (key ∷ []) }
+    requires { AreTold options.now.log key.name (key ∷ []) }
     ensures { RunsFeed options.now (passage W.contents writer.old writer.new) result }
 {
-    check_keys(alloc, &options.log, &[*key.public_key()])?;
+    let mut witnesses: Vec<Box<dyn Verifier>> = Vec::new(alloc);
+    for place in 0..options.log.witnesses.len() {
+        let key = witness_key(alloc, &options.log, place)?;
+        witnesses.push(Box::new(alloc, key)?)?;
+    }
     let origin = String::from_str(alloc, key.name())?;
     let log: Box<dyn Verifier> = Box::new(alloc, key)?;
-    feed_as_told(rt, alloc, origin.as_str(), &[log], options, writer, errors)
+    let policy = Policy {
+        origin: origin.as_str(),
+        log: &[log],
+        witnesses: witnesses.as_slice(),
+        need: options.log.need,
+    };
+    feed_as_told(rt, alloc, &policy, options, writer, errors)
 }
 
-// The same by one of a log's two keys, of which the first is boxed.
-fn feed_beside<'s, H: Files<File = File> + Net<Stream = TcpStream> + Clock, W: Write, E: Write>(
-    rt: &'s H,
-    alloc: Global,
-    origin: &str,
-    first: Box<dyn Verifier>,
-    other: NoteVerifier<Global>,
-    options: &'s FeedOptions,
-    writer: &mut Counted<W>,
-    errors: &'s mut Counted<E>,
-) -> Result<(), FetchFault>
-    requires { ToldTwo options.now.log origin.now (key first) other }
-    ensures { RunsFeed options.now (passage W.contents writer.old writer.new) result }
-{
-    let second: Box<dyn Verifier> = Box::new(alloc, other)?;
-    let log = [first, second];
-    feed_as_told(rt, alloc, origin, &log, options, writer, errors)
-}
-
-// The same by one of a log's two keys.
+// The same by either of a log's two keys.
 fn feed_by_two<'s, H: Files<File = File> + Net<Stream = TcpStream> + Clock, W: Write, E: Write>(
     rt: &'s H,
     alloc: Global,
@@ -202,26 +181,24 @@ fn feed_by_two<'s, H: Files<File = File> + Net<Stream = TcpStream> + Clock, W: W
     writer: &mut Counted<W>,
     errors: &'s mut Counted<E>,
 ) -> Result<(), FetchFault>
-    requires { HaveLogKeys key.name (log_texts options.now.log) (key ∷ other ∷ []) }
+    requires { AreTold options.now.log key.name (key ∷ other ∷ []) }
     ensures { RunsFeed options.now (passage W.contents writer.old writer.new) result }
 {
-    check_keys(
-        alloc,
-        &options.log,
-        &[*key.public_key(), *other.public_key()],
-    )?;
+    let mut witnesses: Vec<Box<dyn Verifier>> = Vec::new(alloc);
+    for place in 0..options.log.witnesses.len() {
+        let key = witness_key(alloc, &options.log, place)?;
+        witnesses.push(Box::new(alloc, key)?)?;
+    }
     let origin = String::from_str(alloc, key.name())?;
     let first: Box<dyn Verifier> = Box::new(alloc, key)?;
-    feed_beside(
-        rt,
-        alloc,
-        origin.as_str(),
-        first,
-        other,
-        options,
-        writer,
-        errors,
-    )
+    let second: Box<dyn Verifier> = Box::new(alloc, other)?;
+    let policy = Policy {
+        origin: origin.as_str(),
+        log: &[first, second],
+        witnesses: witnesses.as_slice(),
+        need: options.log.need,
+    };
+    feed_as_told(rt, alloc, &policy, options, writer, errors)
 }
 
 /// `feed`: reads the keys of the log, one or two, and of the witnesses (C2SP signed-note, "Verifier keys"), and brings the
@@ -238,8 +215,14 @@ pub fn run_feed<'s, H: Files<File = File> + Net<Stream = TcpStream> + Clock, W: 
 {
     let key = first_key(alloc, &options.log)?;
     let Some(text) = &options.log.other_key else {
+        check_keys(alloc, &options.log, &[*key.public_key()])?;
         return feed_by_one(rt, alloc, key, options, writer, errors);
     };
     let other = second_key(alloc, &options.log, text, &key)?;
+    check_keys(
+        alloc,
+        &options.log,
+        &[*key.public_key(), *other.public_key()],
+    )?;
     feed_by_two(rt, alloc, key, other, options, writer, errors)
 }

@@ -2,7 +2,7 @@
 use Rattle.std.specs.Prelude.{◌≡◌, ℕ, ◌⊎◌, List, Option, Result, Ok, Err, String, map, vec_items}
 use Rattle.std.specs.declared.vec.Vec.{Vec}
 use Rattle.tl_hash.specs.Bytes.{Bytes, Digest}
-use Rattle.tl_device.specs.Device.{Passage}
+use Rattle.tl_device.specs.Device.{Passage, ReadWhole}
 use Rattle.tl_proof.specs.declared.link.Link.{Link}
 use Rattle.tl_witness.specs.ChainLine.{IsMalformedAt}
 use Rattle.tl_witness.specs.Open.{SavedChain}
@@ -13,7 +13,7 @@ use Rattle.tl_logs.specs.StateFaults.{RefusesState}
 use Rattle.tl_logs.specs.declared.state_fault.StateFault.{StateFault}
 use Rattle.tl_command.specs.declared.fault.RunFault.{RunFault}
 use Rattle.tl_command.specs.declared.fault.RunFault.TheVariants.{Chain, OutOfMemory}
-use Rattle.tl_command.specs.Run.{ReadWhole, ReadingFails, most_input}
+use Rattle.tl_command.specs.Run.{ReadingFails, most_input}
 use Rattle.tl_serve.specs.Knowing.{by_state}
 
 -- the chains say of each origin in one step what the state says that was read, of the origins of these logs or of all
