@@ -1,0 +1,5 @@
+pub mod Commits
+pub mod Grown
+pub mod Sound
+pub mod Shown
+pub mod Laws
