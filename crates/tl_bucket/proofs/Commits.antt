@@ -1,5 +1,5 @@
 -- Logs after some commits of one store.
-use Rattle.std.proofs.Common.{◌≡◌, ℕ, zero, suc, ◌+◌, ◌≤◌, inl, inr, ◌⊎◌, List, [], ◌∷◌, ◌++◌, length, Some, refl, sym, ap, ◌∙◌, subst, append-nil, append_assoc, arith}
+use Rattle.std.proofs.Common.{◌≡◌, ℕ, zero, suc, ◌+◌, ◌-◌, ◌<◌, ◌≤◌, inl, inr, ◌⊎◌, List, [], ◌∷◌, ◌++◌, length, Some, refl, sym, ap, ◌∙◌, subst, append-nil, append_assoc, arith}
 use Rattle.std.specs.Prelude.{Contains}
 use Rattle.std.proofs.lemmas.Bool.{cases_eq}
 use Rattle.std.proofs.lemmas.List.{length-append}
@@ -83,3 +83,12 @@ same_bytes H store a b r is was has had = elim (consistent store a b is was) as 
   | inl front ↦ sym (begun_bytes H a b r front has)
   | inr back ↦ begun_bytes H b a r back had
 ]
+
+-- the commits up to the last are there
+pub is_there : (store : Store) (n m : ℕ) (entries : List Bytes) → Committed store n entries → 0 < m → m ≤ n → (own : List Bytes) × (store.commits m ≡ Some own)
+is_there store zero m entries is some le = absurd (omega (arith, some, le))
+is_there store (suc n) m entries (front, batch, before, at, joined) some le =
+    elim (cases_eq m (suc n)) as (λ _. (own : List Bytes) × (store.commits m ≡ Some own)) [
+      | inl same ↦ (batch, ap store.commits same ∙ at)
+      | inr other ↦ is_there store n m front before some (omega (arith, le, other))
+    ]

@@ -2,4 +2,3 @@ pub mod Commits
 pub mod Grown
 pub mod Sound
 pub mod Shown
-pub mod Laws
