@@ -9,7 +9,7 @@ use Rattle.tl_publisher.specs.Histories.{Prefix}
 use Rattle.tl_archive.specs.Complete.{text_of, HasAll}
 use Rattle.tl_archive.proofs.Needs.{needed_within}
 use Rattle.tl_bucket.specs.Bucket.{Store, Committed, IsCommitted, Request, put_commit, put_resource, put_checkpoint, put_new, is_met}
-use Rattle.tl_bucket.specs.Operators.{Setting, World, IsNeeded, IsPublishable, MayReplace, MaySend, Event, sends, does, once_done, after, LeadsBy}
+use Rattle.tl_bucket.specs.Operators.{Setting, World, IsNeeded, IsWhole, MayReplace, MaySend, Event, sends, does, once_done, after, LeadsBy}
 
 -- each commit stays as it is
 abbrev pub CommitsStay : Store → Store → Type 0
@@ -49,8 +49,8 @@ needed_stays H w later r bytes grows is = record {
   bytes_of = is.bytes_of
 }
 
-pub publishable_stays : (setting : Setting) (w later : World) (q : Prefix) → Grows w later → IsPublishable setting w.store q → IsPublishable setting later.store q
-publishable_stays setting w later q grows is = record {
+pub whole_stays : (setting : Setting) (w later : World) (q : Prefix) → Grows w later → IsWhole setting w.store q → IsWhole setting later.store q
+whole_stays setting w later q grows is = record {
   committed = is_committed_stays w.store later.store grows.commits q.entries is.committed;
   all = λ r needed. grows.held r (text_of setting.digest r q.entries) (needed_within (length q.entries) r needed).1 (is.all r needed);
   note = is.note
@@ -64,7 +64,7 @@ pub may_send_later : (setting : Setting) (w later : World) → Grows w later →
 may_send_later setting w later grows (put_commit n batch) may = (may.0, may.1, committed_stays w.store later.store grows.commits _ may.1 may.2)
 may_send_later setting w later grows (put_resource r bytes) may = needed_stays setting.digest w later r bytes grows may
 may_send_later setting w later grows (put_checkpoint wanted q) may =
-    (publishable_stays setting w later q grows may.0, replaces_later w.shown later.shown grows.shown (length q.entries) wanted may.1)
+    (whole_stays setting w later q grows may.0, replaces_later w.shown later.shown grows.shown (length q.entries) wanted may.1)
 
 -- ---- what is under a commit stays, whatever happens
 

@@ -2,3 +2,4 @@ pub mod Commits
 pub mod Grown
 pub mod Sound
 pub mod Shown
+pub mod Going

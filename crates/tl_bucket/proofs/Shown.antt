@@ -9,10 +9,11 @@ use Rattle.tl_hash.specs.Bytes.{Bytes}
 use Rattle.tl_hash.proofs.Bytes.{cases_bytes}
 use Rattle.tl_tile.specs.declared.resource.Resource.TheVariants as resource
 use Rattle.tl_publisher.specs.Histories.{Prefix, Begins, last_of, note_if}
+use Rattle.tl_archive.specs.Complete.{IsComplete}
 use Rattle.tl_archive.proofs.Lists.{none_has, one_has, has_head, has_tail, cons_cases}
 use Rattle.tl_bucket.specs.Bucket.{Store, IsCommitted, Request, put_commit, put_resource, put_checkpoint, is_met}
-use Rattle.tl_bucket.specs.Operators.{Setting, World, beginning, IsPublishable, MayReplace, MaySend, Event, sends, does, MayHappen, once_done, after, LeadsBy, Leads}
-use Rattle.tl_bucket.specs.Histories.{NeverShrinks, HaveOneTag, TellSize}
+use Rattle.tl_bucket.specs.Operators.{Setting, World, beginning, IsWhole, MayReplace, MaySend, Event, sends, does, MayHappen, once_done, after, LeadsBy, Leads}
+use Rattle.tl_bucket.specs.Histories.{NeverShrinks, HaveOneTag, NotesTellSize}
 use Rattle.tl_bucket.proofs.Commits.{some_same, by_size}
 use Rattle.tl_bucket.proofs.Sound.{IsSound, sound_at_first, on_event}
 
@@ -26,12 +27,12 @@ IsOrdered tag history = (NeverShrinks history × TopsAll history) ⊎ HaveOneTag
 
 -- ---- lists with one more at the end
 
-last_pushed : (history : List Prefix) (q : Prefix) → last_of (history ++ q ∷ []) ≡ Some q
+pub last_pushed : (history : List Prefix) (q : Prefix) → last_of (history ++ q ∷ []) ≡ Some q
 last_pushed [] q = refl
 last_pushed (p ∷ []) q = refl
 last_pushed (p ∷ r ∷ history) q = last_pushed (r ∷ history) q
 
-last_has : (history : List Prefix) (p : Prefix) → last_of history ≡ Some p → Contains history p
+pub last_has : (history : List Prefix) (p : Prefix) → last_of history ≡ Some p → Contains history p
 last_has [] p is = absurd (cc)
 last_has (q ∷ []) p is = subst (Contains (q ∷ [])) (some_same q p is) (has_head q [])
 last_has (q ∷ r ∷ history) p is = has_tail q (r ∷ history) p (last_has (r ∷ history) p is)
@@ -63,8 +64,8 @@ tags_more tag history q have = record {
 }
 
 -- one that is of a committed log, and has no fewer entries than any before
-push_ordered : (setting : Setting) (store : Store) (history : List Prefix) (q : Prefix) → ((p : Prefix) → Contains history p → IsPublishable setting store p)
-    → IsPublishable setting store q → NeverShrinks history → ((p : Prefix) → Contains history p → length p.entries ≤ length q.entries)
+push_ordered : (setting : Setting) (store : Store) (history : List Prefix) (q : Prefix) → ((p : Prefix) → Contains history p → IsWhole setting store p)
+    → IsWhole setting store q → NeverShrinks history → ((p : Prefix) → Contains history p → length p.entries ≤ length q.entries)
     → NeverShrinks (history ++ q ∷ []) × TopsAll (history ++ q ∷ [])
 push_ordered setting store history q each own grows less =
     (all_pairs_push (λ (p r : Prefix). Begins p.entries r.entries) history q grows (λ k d within. begins (get_or history k d) (Contains-get_or history k d within)), tops)
@@ -85,8 +86,8 @@ push_ordered setting store history q each own grows less =
 
 -- ---- a checkpoint in the place of another
 
-replaced : (setting : Setting) (store : Store) (history : List Prefix) (q : Prefix) (wanted note : Bytes) → TellSize setting
-    → ((p : Prefix) → Contains history p → IsPublishable setting store p) → IsPublishable setting store q
+replaced : (setting : Setting) (store : Store) (history : List Prefix) (q : Prefix) (wanted note : Bytes) → NotesTellSize setting
+    → ((p : Prefix) → Contains history p → IsWhole setting store p) → IsWhole setting store q
     → MayReplace history (length q.entries) (Some wanted) → Some note ≡ note_if (last_of history)
     → bytes_eq (setting.tag wanted) (setting.tag note) ≡ true → NeverShrinks history → TopsAll history → IsOrdered setting.tag (history ++ q ∷ [])
 replaced setting store history q wanted note tell each own may there met grows tops =
@@ -122,8 +123,8 @@ first_ordered setting q = inl (λ i j d less within. absurd (omega (arith, less,
     let same : length p.entries ≡ length r.entries = ap (λ (x : Prefix). length x.entries) (sym a ∙ b) in
     omega (arith, same))
 
-shown_on : (setting : Setting) (store : Store) (history : List Prefix) (q : Prefix) (wanted there : Option Bytes) → TellSize setting
-    → ((p : Prefix) → Contains history p → IsPublishable setting store p) → IsPublishable setting store q
+shown_on : (setting : Setting) (store : Store) (history : List Prefix) (q : Prefix) (wanted there : Option Bytes) → NotesTellSize setting
+    → ((p : Prefix) → Contains history p → IsWhole setting store p) → IsWhole setting store q
     → MayReplace history (length q.entries) wanted → there ≡ note_if (last_of history)
     → is_met setting.tag wanted there ≡ true → NeverShrinks history × TopsAll history → IsOrdered setting.tag (history ++ q ∷ [])
 shown_on setting store history q None None tell each own may last met ordered =
@@ -133,7 +134,7 @@ shown_on setting store history q (Some wanted) None tell each own may last met o
 shown_on setting store history q (Some wanted) (Some note) tell each own may last met ordered =
     replaced setting store history q wanted note tell each own may last met ordered.0 ordered.1
 
-ordered_on : (setting : Setting) (w : World) (wanted : Option Bytes) (q : Prefix) (met : Bool) → TellSize setting → IsSound setting w → MaySend setting w (put_checkpoint wanted q)
+ordered_on : (setting : Setting) (w : World) (wanted : Option Bytes) (q : Prefix) (met : Bool) → NotesTellSize setting → IsSound setting w → MaySend setting w (put_checkpoint wanted q)
     → is_met setting.tag wanted (w.store.held resource.Checkpoint) ≡ met → IsOrdered setting.tag w.shown
     → IsOrdered setting.tag (if met then record w { shown = w.shown ++ q ∷ [] } else w).shown
 ordered_on setting w wanted q false tell sound may met ordered = ordered
@@ -146,7 +147,7 @@ only_shown : (test : Bool) (a b c : World) → a.shown ≡ b.shown → (if test 
 only_shown true a b c same = same
 only_shown false a b c same = refl
 
-ordered_once_done : (setting : Setting) (w : World) (request : Request) → TellSize setting → IsSound setting w → MaySend setting w request → IsOrdered setting.tag w.shown
+ordered_once_done : (setting : Setting) (w : World) (request : Request) → NotesTellSize setting → IsSound setting w → MaySend setting w request → IsOrdered setting.tag w.shown
     → IsOrdered setting.tag (once_done setting.tag w request).shown
 ordered_once_done setting w (put_commit n batch) tell sound may ordered = ordered
 ordered_once_done setting w (put_resource r bytes) tell sound may ordered = ordered
@@ -155,17 +156,17 @@ ordered_once_done setting w (put_checkpoint wanted q) tell sound may ordered =
     subst (IsOrdered setting.tag) (only_shown met (record w { shown = w.shown ++ q ∷ [] }) _ w refl)
     (ordered_on setting w wanted q met tell sound may refl ordered)
 
-ordered_after : (setting : Setting) (w : World) (e : Event) → TellSize setting → IsSound setting w → MayHappen setting w e → IsOrdered setting.tag w.shown
+ordered_after : (setting : Setting) (w : World) (e : Event) → NotesTellSize setting → IsSound setting w → MayHappen setting w e → IsOrdered setting.tag w.shown
     → IsOrdered setting.tag (after setting.tag w e).shown
 ordered_after setting w (sends request) tell sound may ordered = ordered
 ordered_after setting w (does request) tell sound has ordered = ordered_once_done setting w request tell sound (sound.sent request has) ordered
 
-ordered_all : (setting : Setting) (es : List Event) (w end : World) → TellSize setting → IsSound setting w → LeadsBy setting es w end → IsOrdered setting.tag w.shown → IsOrdered setting.tag end.shown
+ordered_all : (setting : Setting) (es : List Event) (w end : World) → NotesTellSize setting → IsSound setting w → LeadsBy setting es w end → IsOrdered setting.tag w.shown → IsOrdered setting.tag end.shown
 ordered_all setting [] w end tell sound same ordered = subst (λ (v : World). IsOrdered setting.tag v.shown) same ordered
 ordered_all setting (e ∷ es) w end tell sound leads ordered =
     ordered_all setting es (after setting.tag w e) end tell (on_event setting w e sound leads.0).1 leads.1 (ordered_after setting w e tell sound leads.0 ordered)
 
-pub never_rolled_back : (setting : Setting) → TellSize setting → (w : World) → Leads setting beginning w → NeverShrinks w.shown ⊎ HaveOneTag setting.tag w.shown
+pub never_rolled_back : (setting : Setting) → NotesTellSize setting → (w : World) → Leads setting beginning w → NeverShrinks w.shown ⊎ HaveOneTag setting.tag w.shown
 never_rolled_back setting tell w leads =
     elim (ordered_all setting leads.0 beginning w tell (sound_at_first setting) leads.1 at_first) as (λ _. NeverShrinks w.shown ⊎ HaveOneTag setting.tag w.shown) [
       | inl ordered ↦ inl ordered.0
@@ -174,3 +175,13 @@ never_rolled_back setting tell w leads =
   where
     at_first : IsOrdered setting.tag []
     at_first = inl (λ i j d less within. absurd (omega (arith, within)), λ p last q has. absurd (none_has q has))
+
+-- what is there is complete for the last publication
+pub is_complete : (setting : Setting) (w : World) → IsSound setting w → IsComplete setting.digest w.shown w.store.held
+is_complete setting w sound = by_last (last_of w.shown) refl
+  where
+    by_last : (last : Option Prefix) → last_of w.shown ≡ last → IsComplete setting.digest w.shown w.store.held
+    by_last None none = inl (sound.last ∙ ap note_if none)
+    by_last (Some q) is =
+        let has = last_has w.shown q is in
+        inr (q, has, record { note = sound.last ∙ ap note_if is; all = (sound.shown q has).all })

@@ -14,9 +14,9 @@ use Rattle.tl_archive.specs.Complete.{text_of}
 use Rattle.tl_archive.proofs.Lists.{none_has}
 use Rattle.tl_archive.proofs.Needs.{needed_within}
 use Rattle.tl_bucket.specs.Bucket.{Store, Committed, IsCommitted, Request, put_commit, put_resource, put_checkpoint, put_new, with_commit, with_resource, is_met}
-use Rattle.tl_bucket.specs.Operators.{Setting, World, beginning, IsNeeded, IsPublishable, MayReplace, MaySend, Event, sends, does, MayHappen, once_done, after, LeadsBy, Leads}
+use Rattle.tl_bucket.specs.Operators.{Setting, World, beginning, IsNeeded, IsWhole, MayReplace, MaySend, Event, sends, does, MayHappen, once_done, after, LeadsBy, Leads}
 use Rattle.tl_bucket.proofs.Commits.{some_same, same_bytes}
-use Rattle.tl_bucket.proofs.Grown.{CommitsStay, Grows, grows_not, grows_on, needed_stays, publishable_stays, may_send_later, commits_after}
+use Rattle.tl_bucket.proofs.Grown.{CommitsStay, Grows, grows_not, grows_on, needed_stays, whole_stays, may_send_later, commits_after}
 
 -- each commit had the ones before it, each tile and bundle is one that a committed log needs, all that was sent may be
 -- sent, all that was shown is there whole, and the checkpoint is that of the last
@@ -24,7 +24,7 @@ pub record IsSound (setting : Setting) (w : World) : Type 0 where
   pub commits : (n : ℕ) (batch : List Bytes) → w.store.commits n ≡ Some batch → MaySend setting w (put_commit n batch)
   pub held : (r : Resource) (bytes : Bytes) → r ≢ resource.Checkpoint → w.store.held r ≡ Some bytes → IsNeeded setting.digest w.store r bytes
   pub sent : (request : Request) → Contains w.sent request → MaySend setting w request
-  pub shown : (q : Prefix) → Contains w.shown q → IsPublishable setting w.store q
+  pub shown : (q : Prefix) → Contains w.shown q → IsWhole setting w.store q
   pub last : w.store.held resource.Checkpoint ≡ note_if (last_of w.shown)
 
 pub sound_at_first : (setting : Setting) → IsSound setting beginning
@@ -47,7 +47,7 @@ on_sent setting w request sound may = (grows, record {
   commits = λ n batch is. may_send_later setting w later grows (put_commit n batch) (sound.commits n batch is);
   held = λ r bytes other is. needed_stays setting.digest w later r bytes grows (sound.held r bytes other is);
   sent = λ one has. may_send_later setting w later grows one (sent one has);
-  shown = λ q has. publishable_stays setting w later q grows (sound.shown q has);
+  shown = λ q has. whole_stays setting w later q grows (sound.shown q has);
   last = sound.last
 })
   where
@@ -84,7 +84,7 @@ on_commit setting w n batch sound may = (grows, record {
   commits = λ m own is. may_send_later setting w later grows (put_commit m own) (commits m own is);
   held = λ r bytes other is. needed_stays setting.digest w later r bytes grows (sound.held r bytes other is);
   sent = λ one has. may_send_later setting w later grows one (sound.sent one has);
-  shown = λ q has. publishable_stays setting w later q grows (sound.shown q has);
+  shown = λ q has. whole_stays setting w later q grows (sound.shown q has);
   last = sound.last
 })
   where
@@ -114,7 +114,7 @@ on_resource setting w r bytes sound may = (grows, record {
   commits = λ n batch is. may_send_later setting w later grows (put_commit n batch) (sound.commits n batch is);
   held = λ s own other is. needed_stays setting.digest w later s own grows (held s own other is);
   sent = λ one has. may_send_later setting w later grows one (sound.sent one has);
-  shown = λ q has. publishable_stays setting w later q grows (sound.shown q has);
+  shown = λ q has. whole_stays setting w later q grows (sound.shown q has);
   last = put_or_old resource.Checkpoint r bytes (w.store.held resource.Checkpoint) (λ o. o ≡ note_if (last_of w.shown))
       (λ same. absurd (plain (sym same))) sound.last
 })
@@ -149,12 +149,12 @@ last_note (p ∷ r ∷ history) q = last_note (r ∷ history) q
 abbrev pub with_shown : World → Prefix → World
 with_shown w q = record w { store = with_resource resource.Checkpoint q.note w.store; shown = w.shown ++ q ∷ [] }
 
-on_shown : (setting : Setting) (w : World) (q : Prefix) → IsSound setting w → IsPublishable setting w.store q → GoesOn setting w (with_shown w q)
+on_shown : (setting : Setting) (w : World) (q : Prefix) → IsSound setting w → IsWhole setting w.store q → GoesOn setting w (with_shown w q)
 on_shown setting w q sound may = (grows, record {
   commits = λ n batch is. may_send_later setting w later grows (put_commit n batch) (sound.commits n batch is);
   held = λ s own other is. needed_stays setting.digest w later s own grows (sound.held s own other (back s other ∙ is));
   sent = λ one has. may_send_later setting w later grows one (sound.sent one has);
-  shown = λ p has. publishable_stays setting w later p grows (shown p has);
+  shown = λ p has. whole_stays setting w later p grows (shown p has);
   last = sym (last_note w.shown q)
 })
   where
@@ -168,13 +168,13 @@ on_shown setting w q sound may = (grows, record {
       held = λ s own other is. sym (back s other) ∙ is;
       shown = λ p has. Contains-append_left w.shown (q ∷ []) p has
     }
-    shown : (p : Prefix) → Contains later.shown p → IsPublishable setting w.store p
-    shown p has = elim (Contains-push_cases w.shown q p has) as (λ _. IsPublishable setting w.store p) [
+    shown : (p : Prefix) → Contains later.shown p → IsWhole setting w.store p
+    shown p has = elim (Contains-push_cases w.shown q p has) as (λ _. IsWhole setting w.store p) [
       | inl old ↦ sound.shown p old
-      | inr own ↦ subst (IsPublishable setting w.store) own may
+      | inr own ↦ subst (IsWhole setting w.store) own may
     ]
 
-on_checkpoint : (setting : Setting) (w : World) (met : Bool) (q : Prefix) → IsSound setting w → IsPublishable setting w.store q → GoesOn setting w (if met then with_shown w q else w)
+on_checkpoint : (setting : Setting) (w : World) (met : Bool) (q : Prefix) → IsSound setting w → IsWhole setting w.store q → GoesOn setting w (if met then with_shown w q else w)
 on_checkpoint setting w true q sound may = on_shown setting w q sound may
 on_checkpoint setting w false q sound may = (grows_not w, sound)
 

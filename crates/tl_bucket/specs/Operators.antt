@@ -34,26 +34,26 @@ pub record IsNeeded (digest : Digest) (store : Store) (r : Resource) (bytes : By
   pub needed : Contains (needed_resources (length entries)) r
   pub bytes_of : bytes ≡ text_of digest r entries
 
--- the publication is of a committed log, all that this needs is there, and the note is a checkpoint of it
-pub record IsPublishable (setting : Setting) (store : Store) (q : Prefix) : Type 0 where
+-- the publication is of a committed log, all that this needs is there, and its note is a checkpoint of it
+pub record IsWhole (setting : Setting) (store : Store) (q : Prefix) : Type 0 where
   pub committed : IsCommitted store q.entries
   pub all : HasAll setting.digest q.entries store.held
   pub note : IsTrue (setting.is_note q.entries q.note)
 
--- a log of so many entries may take the place of no checkpoint, or of one that was shown for no more entries
+-- a log of so many entries may be shown where none is shown yet, or in the place of one that was shown of no more
 abbrev pub MayReplace : List Prefix → ℕ → Option Bytes → Type 0
 MayReplace shown size None = ⊤
 MayReplace shown size (Some note) =
     (p : Prefix) × Contains shown p × (p.note ≡ note) × (length p.entries ≤ size)
 
--- an operator may send it: a commit where the ones before it are there, a resource that a committed log needs, and the
--- checkpoint of a log that is there whole. What is said here of the store stays true once it is (`MaySend` stays), so it
--- may have been read at any time before, and each operator may have read something else
+-- an operator may send it: a commit where those before it are there, a resource with the bytes that a committed log
+-- needs, and the checkpoint of a log that is there whole. Each of these stays true (`leave_to_send_stays`), so an operator
+-- may go by what it read at any time before
 abbrev pub MaySend : Setting → World → Request → Type 0
 MaySend setting w (put_commit n batch) = (0 < n) × (front : List Bytes) × Committed w.store (n - 1) front
 MaySend setting w (put_resource r bytes) = IsNeeded setting.digest w.store r bytes
 MaySend setting w (put_checkpoint wanted q) =
-    IsPublishable setting w.store q × MayReplace w.shown (length q.entries) wanted
+    IsWhole setting w.store q × MayReplace w.shown (length q.entries) wanted
 
 -- ---- what comes of it
 
@@ -62,8 +62,8 @@ pub data Event : Type 0 where
   sends : Request → Event
   does : Request → Event
 
--- it may happen: the store does what was sent, at any time later, any number of times, or never. So requests and answers
--- may be lost, late or repeated; and an operator that forgot all and starts again is another operator
+-- it may happen: the store does what was sent, at any time later, any number of times, or never. So a request or its
+-- answer may be lost, come late, or be repeated; and an operator that crashed and forgot all starts as any other
 abbrev pub MayHappen : Setting → World → Event → Type 0
 MayHappen setting w (sends request) = MaySend setting w request
 MayHappen setting w (does request) = Contains w.sent request
