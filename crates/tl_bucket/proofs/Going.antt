@@ -1,5 +1,5 @@
 -- A log can always go on.
-use Rattle.std.proofs.Common.{◌≡◌, ◌≢◌, ℕ, zero, suc, ◌+◌, ◌-◌, ◌<◌, ◌≤◌, Bool, true, false, cond, inl, inr, ◌⊎◌, List, [], ◌∷◌, ◌++◌, length, Option, Some, None, refl, sym, ap, ◌∙◌, subst, if◌then◌else◌, true≢false, arith}
+use Rattle.std.proofs.Common.{◌≡◌, ◌≢◌, ℕ, zero, suc, ◌+◌, ◌-◌, ◌<◌, ◌≤◌, ◌==◌, Bool, true, false, cond, inl, inr, ◌⊎◌, List, [], ◌∷◌, ◌++◌, length, Option, Some, None, refl, sym, ap, ◌∙◌, subst, if◌then◌else◌, true≢false, arith}
 use Rattle.std.specs.Prelude.{Contains, IsTrue, ⊤, bytes_eq}
 use Rattle.std.proofs.lemmas.Bool.{cases_eq, eq-eqb}
 use Rattle.std.proofs.lemmas.Slice.Eq.{bytes_eq-Decides}
@@ -34,7 +34,7 @@ abbrev pub at_once : Setting → World → Request → World
 at_once setting w request = after setting.tag (after setting.tag w (sends request)) (does request)
 
 leads_at_once : (setting : Setting) (w : World) (request : Request) → MaySend setting w request → Leads setting w (at_once setting w request)
-leads_at_once setting w request may = (sends request ∷ does request ∷ [], may, Contains-push w.sent request, refl)
+leads_at_once setting w request may = (sends request ∷ does request ∷ [], (may, (Contains-push w.sent request, refl)))
 
 -- ---- the next commit
 
@@ -67,11 +67,12 @@ pub record IsFilled (setting : Setting) (entries : List Bytes) (rs : List Resour
   pub commits : later.store.commits ≡ w.store.commits
   pub shown : later.shown ≡ w.shown
 
-pub can_fill : (setting : Setting) (n : ℕ) (entries : List Bytes) (rs : List Resource) → ((r : Resource) → Contains rs r → Contains (needed_resources (length entries)) r)
-    → (w : World) → IsSound setting w → Committed w.store n entries → (later : World) × IsFilled setting entries rs w later
-can_fill setting n entries [] needs w sound is =
-    (w, record { leads = ([], refl); there = λ r has. absurd (none_has r has); commits = refl; shown = refl })
-can_fill setting n entries (r ∷ rs) needs w sound is = (rest.0, record {
+-- the first of them, and then the others from there
+fill_one : (setting : Setting) (n : ℕ) (entries : List Bytes) (r : Resource) (rs : List Resource) → Contains (needed_resources (length entries)) r
+    → (w : World) → IsSound setting w → Committed w.store n entries
+    → ((mid : World) → IsSound setting mid → Committed mid.store n entries → (later : World) × IsFilled setting entries rs mid later)
+    → (later : World) × IsFilled setting entries (r ∷ rs) w later
+fill_one setting n entries r rs needed w sound is go = (rest.0, record {
   leads = leads_on setting w mid rest.0 leads rest.1.leads;
   there = there;
   commits = rest.1.commits;
@@ -82,8 +83,6 @@ can_fill setting n entries (r ∷ rs) needs w sound is = (rest.0, record {
     text = text_of setting.digest r entries
     request : Request
     request = put_resource r text
-    needed : Contains (needed_resources (length entries)) r
-    needed = needs r (has_head r rs)
     mid : World
     mid = at_once setting w request
     leads : Leads setting w mid
@@ -91,7 +90,7 @@ can_fill setting n entries (r ∷ rs) needs w sound is = (rest.0, record {
     on : Grows w mid × IsSound setting mid
     on = on_events setting leads.0 w mid sound leads.1
     rest : (later : World) × IsFilled setting entries rs mid later
-    rest = can_fill setting n entries rs (λ s has. needs s (has_tail r rs s has)) mid on.1 (committed_stays w.store mid.store on.0.commits n entries is)
+    rest = go mid on.1 (committed_stays w.store mid.store on.0.commits n entries is)
     own : mid.store.held r ≡ Some text
     own = cond_true (same_resource r r) (Some text) (w.store.held r) (same_self r)
     stays : Grows mid rest.0
@@ -103,6 +102,13 @@ can_fill setting n entries (r ∷ rs) needs w sound is = (rest.0, record {
           (stays.held r text (needed_within (length entries) r needed).1 own)
       | inr more ↦ rest.1.there s more
     ]
+
+pub can_fill : (setting : Setting) (n : ℕ) (entries : List Bytes) (rs : List Resource) → ((r : Resource) → Contains rs r → Contains (needed_resources (length entries)) r)
+    → (w : World) → IsSound setting w → Committed w.store n entries → (later : World) × IsFilled setting entries rs w later
+can_fill setting n entries [] needs w sound is =
+    (w, record { leads = ([], refl); there = λ r has. absurd (none_has r has); commits = refl; shown = refl })
+can_fill setting n entries (r ∷ rs) needs w sound is =
+    fill_one setting n entries r rs (needs r (has_head r rs)) w sound is (can_fill setting n entries rs (λ s has. needs s (has_tail r rs s has)))
 
 -- ---- the checkpoint
 
