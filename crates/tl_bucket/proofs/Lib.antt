@@ -3,3 +3,4 @@ pub mod Grown
 pub mod Sound
 pub mod Shown
 pub mod Going
+mod Race
