@@ -1,6 +1,6 @@
 -- A log can always go on.
-use Rattle.std.proofs.Common.{◌≡◌, ◌≢◌, ℕ, zero, suc, ◌+◌, ◌-◌, ◌<◌, ◌≤◌, ◌==◌, Bool, true, false, cond, inl, inr, ◌⊎◌, List, [], ◌∷◌, ◌++◌, length, Option, Some, None, refl, sym, ap, ◌∙◌, subst, if◌then◌else◌, true≢false, arith}
-use Rattle.std.specs.Prelude.{Contains, IsTrue, ⊤, bytes_eq}
+use Rattle.std.proofs.Common.{◌≡◌, ℕ, suc, ◌≤◌, ◌==◌, Bool, true, cond, inl, inr, List, [], ◌∷◌, ◌++◌, length, Option, Some, None, refl, sym, ap, ◌∙◌, subst, if◌then◌else◌, arith}
+use Rattle.std.specs.Prelude.{Contains, IsTrue}
 use Rattle.std.proofs.lemmas.Bool.{cases_eq, eq-eqb}
 use Rattle.std.proofs.lemmas.Slice.Eq.{bytes_eq-Decides}
 use Rattle.std.proofs.lemmas.List.{length-append}
@@ -9,14 +9,14 @@ use Rattle.tl_hash.specs.Bytes.{Bytes}
 use Rattle.tl_tile.specs.declared.resource.Resource.{Resource}
 use Rattle.tl_tile.specs.declared.resource.Resource.TheVariants as resource
 use Rattle.tl_tile.specs.Needed.{needed_resources}
-use Rattle.tl_publisher.specs.Histories.{Prefix, Begins, last_of, note_if}
+use Rattle.tl_publisher.specs.Histories.{Prefix, last_of, note_if}
 use Rattle.tl_publisher.specs.Boards.{same_resource}
 use Rattle.tl_publisher.proofs.Needs.{same_self}
 use Rattle.tl_archive.specs.Complete.{text_of}
 use Rattle.tl_archive.proofs.Lists.{none_has, has_head, has_tail, cons_cases}
 use Rattle.tl_archive.proofs.Needs.{needed_within}
-use Rattle.tl_bucket.specs.Bucket.{Store, Committed, IsCommitted, Request, put_commit, put_resource, put_checkpoint, put_new, with_resource, is_met}
-use Rattle.tl_bucket.specs.Operators.{Setting, World, beginning, IsNeeded, IsWhole, MayReplace, MaySend, Event, sends, does, MayHappen, once_done, after, LeadsBy, Leads}
+use Rattle.tl_bucket.specs.Bucket.{Committed, IsCommitted, Request, put_commit, put_resource, put_checkpoint, put_new, with_resource, is_met}
+use Rattle.tl_bucket.specs.Operators.{Setting, World, IsWhole, MayReplace, MaySend, Event, sends, does, after, LeadsBy, Leads}
 use Rattle.tl_bucket.proofs.Commits.{log_extends, is_there, total}
 use Rattle.tl_bucket.proofs.Grown.{Grows, committed_stays, commits_led}
 use Rattle.tl_bucket.proofs.Sound.{IsSound, on_events}
@@ -47,14 +47,19 @@ can_commit setting w n entries batch is none = (later, leads, (entries, batch, b
   where
     request : Request
     request = put_commit (suc n) batch
+
     may : MaySend setting w request
     may = (omega arith, entries, subst (λ (k : ℕ). Committed w.store k entries) (omega arith) is)
+
     later : World
     later = at_once setting w request
+
     leads : Leads setting w later
     leads = leads_at_once setting w request may
+
     before : Committed later.store n entries
     before = committed_stays w.store later.store (commits_led setting leads.0 w later leads.1) n entries is
+
     put : later.store.commits (suc n) ≡ Some batch
     put = cond_true (suc n == suc n) (put_new batch (w.store.commits (suc n))) (w.store.commits (suc n)) (eq-eqb (suc n) (suc n) refl) ∙ ap (put_new batch) none
 
@@ -72,29 +77,40 @@ fill_one : (setting : Setting) (n : ℕ) (entries : List Bytes) (r : Resource) (
     → (w : World) → IsSound setting w → Committed w.store n entries
     → ((mid : World) → IsSound setting mid → Committed mid.store n entries → (later : World) × IsFilled setting entries rs mid later)
     → (later : World) × IsFilled setting entries (r ∷ rs) w later
-fill_one setting n entries r rs needed w sound is go = (rest.0, record {
-  leads = leads_on setting w mid rest.0 leads rest.1.leads;
-  there = there;
-  commits = rest.1.commits;
-  shown = rest.1.shown
-})
+fill_one setting n entries r rs needed w sound is go = (
+  rest.0,
+  record {
+    leads = leads_on setting w mid rest.0 leads rest.1.leads;
+    there = there;
+    commits = rest.1.commits;
+    shown = rest.1.shown;
+  },
+)
   where
     text : Bytes
     text = text_of setting.digest r entries
+
     request : Request
     request = put_resource r text
+
     mid : World
     mid = at_once setting w request
+
     leads : Leads setting w mid
     leads = leads_at_once setting w request (record { entries = entries; committed = (n, is); needed = needed; bytes_of = refl })
+
     on : Grows w mid × IsSound setting mid
     on = on_events setting leads.0 w mid sound leads.1
+
     rest : (later : World) × IsFilled setting entries rs mid later
     rest = go mid on.1 (committed_stays w.store mid.store on.0.commits n entries is)
+
     own : mid.store.held r ≡ Some text
     own = cond_true (same_resource r r) (Some text) (w.store.held r) (same_self r)
+
     stays : Grows mid rest.0
     stays = (on_events setting rest.1.leads.0 mid rest.0 on.1 rest.1.leads.1).0
+
     there : (s : Resource) → Contains (r ∷ rs) s → rest.0.store.held s ≡ Some (text_of setting.digest s entries)
     there s has = elim (cons_cases r rs s has) as (λ _. rest.0.store.held s ≡ Some (text_of setting.digest s entries)) [
       | inl same ↦
@@ -131,6 +147,7 @@ few_commits w n entries own is none (m, was) = elim (total m n) as (λ _. length
         let sum = length-append own begins.0 in
         let long = ap length begins.1 in
         omega (arith, sum, long)
+
     apart : (batch : List Bytes) → None ≡ Some batch → ⊥
     apart batch e = cc
 
@@ -148,17 +165,22 @@ can_replace setting w n q sound is none whole = (at_once setting w request, lead
   where
     wanted : Option Bytes
     wanted = note_if (last_of w.shown)
+
     request : Request
     request = put_checkpoint wanted q
+
     may : MaySend setting w request
     may = (whole, may_replace w.shown (length q.entries) (λ p has. few_commits w n q.entries p.entries is none (sound.shown p has).committed) (last_of w.shown) refl)
+
     met : is_met setting.tag wanted (w.store.held resource.Checkpoint) ≡ true
     met = ap (is_met setting.tag wanted) sound.last ∙ met_itself setting.tag wanted
+
     ends : last_of (at_once setting w request).shown ≡ Some q
     ends = ap (λ (b : Bool). last_of (chosen b).shown) met ∙ last_pushed w.shown q
       where
         sent : World
         sent = after setting.tag w (sends request)
+
         chosen : Bool → World
         chosen b = if b then record sent { store = with_resource resource.Checkpoint q.note w.store; shown = w.shown ++ q ∷ [] } else sent
 
@@ -168,14 +190,19 @@ can_show setting w sound n q is none note = (end.0, leads_on setting w mid end.0
   where
     filled : (later : World) × IsFilled setting q.entries (needed_resources (length q.entries)) w later
     filled = can_fill setting n q.entries (needed_resources (length q.entries)) (λ r has. has) w sound is
+
     mid : World
     mid = filled.0
+
     same : w.store.commits ≡ mid.store.commits
     same = sym filled.1.commits
+
     on : Grows w mid × IsSound setting mid
     on = on_events setting filled.1.leads.0 w mid sound filled.1.leads.1
+
     own : Committed mid.store n q.entries
     own = committed_stays w.store mid.store on.0.commits n q.entries is
+
     end : (later : World) × Leads setting mid later × (last_of later.shown ≡ Some q)
     end = can_replace setting mid n q on.1 own (ap (λ (f : ℕ → Option (List Bytes)). f (suc n)) filled.1.commits ∙ none)
         (record { committed = (n, own); all = filled.1.there; note = note })

@@ -1,12 +1,11 @@
 -- What stays once it is there, and what may be sent because of it.
-use Rattle.std.proofs.Common.{◌≡◌, ◌≢◌, ℕ, zero, suc, Bool, true, false, inl, inr, List, [], ◌∷◌, ◌++◌, Option, Some, None, refl, sym, ap, ◌∙◌, subst, ◌==◌, if◌then◌else◌, true≢false}
+use Rattle.std.proofs.Common.{◌≡◌, ◌≢◌, ℕ, zero, suc, Bool, true, false, List, [], ◌∷◌, Option, Some, None, sym, ap, ◌∙◌, ◌==◌, if◌then◌else◌}
 use Rattle.std.specs.Prelude.{Contains, length}
 use Rattle.tl_hash.specs.Bytes.{Bytes, Digest}
 use Rattle.tl_tile.specs.declared.resource.Resource.{Resource}
 use Rattle.tl_tile.specs.declared.resource.Resource.TheVariants as resource
-use Rattle.tl_tile.specs.Needed.{needed_resources}
 use Rattle.tl_publisher.specs.Histories.{Prefix}
-use Rattle.tl_archive.specs.Complete.{text_of, HasAll}
+use Rattle.tl_archive.specs.Complete.{text_of}
 use Rattle.tl_archive.proofs.Needs.{needed_within}
 use Rattle.tl_bucket.specs.Bucket.{Store, Committed, IsCommitted, Request, put_commit, put_resource, put_checkpoint, put_new, is_met}
 use Rattle.tl_bucket.specs.Operators.{Setting, World, IsNeeded, IsWhole, MayReplace, MaySend, Event, sends, does, once_done, after, LeadsBy}
@@ -28,7 +27,7 @@ pub grows_on : (a b c : World) → Grows a b → Grows b c → Grows a c
 grows_on a b c one other = record {
   commits = λ n batch is. other.commits n batch (one.commits n batch is);
   held = λ r bytes plain is. other.held r bytes plain (one.held r bytes plain is);
-  shown = λ q has. other.shown q (one.shown q has)
+  shown = λ q has. other.shown q (one.shown q has);
 }
 
 -- ---- what a committed log is, it stays
@@ -46,14 +45,14 @@ needed_stays H w later r bytes grows is = record {
   entries = is.entries;
   committed = is_committed_stays w.store later.store grows.commits is.entries is.committed;
   needed = is.needed;
-  bytes_of = is.bytes_of
+  bytes_of = is.bytes_of;
 }
 
 pub whole_stays : (setting : Setting) (w later : World) (q : Prefix) → Grows w later → IsWhole setting w.store q → IsWhole setting later.store q
 whole_stays setting w later q grows is = record {
   committed = is_committed_stays w.store later.store grows.commits q.entries is.committed;
   all = λ r needed. grows.held r (text_of setting.digest r q.entries) (needed_within (length q.entries) r needed).1 (is.all r needed);
-  note = is.note
+  note = is.note;
 }
 
 replaces_later : (shown more : List Prefix) → ((q : Prefix) → Contains shown q → Contains more q) → (size : ℕ) (wanted : Option Bytes) → MayReplace shown size wanted → MayReplace more size wanted

@@ -1,9 +1,9 @@
 -- A race: two operators commit first, one of them loses, and what the other committed is shown.
-use Rattle.std.proofs.Common.{◌≡◌, zero, suc, List, [], ◌∷◌, ◌++◌, length, Some, None, refl, arith}
+use Rattle.std.proofs.Common.{◌≡◌, List, [], ◌∷◌, Some, None, refl, arith}
 use Rattle.std.specs.Prelude.{Contains, IsTrue}
 use Rattle.tl_hash.specs.Bytes.{Bytes}
-use Rattle.tl_publisher.specs.Histories.{Prefix, last_of}
-use Rattle.tl_bucket.specs.Bucket.{Committed, Request, put_commit}
+use Rattle.tl_publisher.specs.Histories.{last_of}
+use Rattle.tl_bucket.specs.Bucket.{Committed, put_commit}
 use Rattle.tl_bucket.specs.Operators.{Setting, World, beginning, Event, sends, does, Leads}
 use Rattle.tl_bucket.proofs.Sound.{sound_led}
 use Rattle.tl_bucket.proofs.Going.{can_show}
@@ -21,12 +21,15 @@ record IsRaced (setting : Setting) (a b : List Bytes) (w : World) : Type 0 where
 
 raced : (setting : Setting) (a b : List Bytes) → (w : World) × IsRaced setting a b w
 unfolding race
-raced setting a b = (_, record {
-  leads = (race a b, ((omega arith, [], refl), ((omega arith, [], refl), ((1, omega arith, refl), ((0, omega arith, refl), ((1, omega arith, refl), refl))))));
-  lost = (0, omega arith, refl);
-  won = ([], b, refl, refl, refl);
-  last = refl
-})
+raced setting a b = (
+  _,
+  record {
+    leads = (race a b, ((omega arith, [], refl), ((omega arith, [], refl), ((1, omega arith, refl), ((0, omega arith, refl), ((1, omega arith, refl), refl))))));
+    lost = (0, omega arith, refl);
+    won = ([], b, refl, refl, refl);
+    last = refl;
+  },
+)
 
 -- and what the other committed is shown
 shown_after : (setting : Setting) (a b : List Bytes) (note : Bytes) → IsTrue (setting.is_note b note)

@@ -1,17 +1,16 @@
 -- What is shown never shrinks, or two notes have one tag.
-use Rattle.std.proofs.Common.{◌≡◌, ◌≢◌, ℕ, zero, suc, ◌+◌, ◌<◌, ◌≤◌, Bool, true, false, cond, inl, inr, ◌⊎◌, List, [], ◌∷◌, ◌++◌, length, get_or, Option, Some, None, refl, sym, ap, ◌∙◌, subst, if◌then◌else◌, true≢false, arith}
-use Rattle.std.specs.Prelude.{Contains, All, AllPairs, IsTrue, bytes_eq, slice_index_or}
-use Rattle.std.proofs.lemmas.Bool.{cases_Bool}
+use Rattle.std.proofs.Common.{◌≡◌, ◌≤◌, Bool, true, false, inl, inr, ◌⊎◌, List, [], ◌∷◌, ◌++◌, length, get_or, Option, Some, None, refl, sym, ap, ◌∙◌, subst, if◌then◌else◌, true≢false, arith}
+use Rattle.std.specs.Prelude.{Contains, IsTrue, bytes_eq}
 use Rattle.std.proofs.lemmas.Slice.Eq.{bytes_eq-Decides}
-use Rattle.std.proofs.lemmas.List.Elements.{Contains-append_left, Contains-push, Contains-push_cases, Contains-get_or}
+use Rattle.std.proofs.lemmas.List.Elements.{Contains-append_left, Contains-push_cases, Contains-get_or}
 use Rattle.std.proofs.lemmas.List.Quantifiers.{all_pairs_push}
 use Rattle.tl_hash.specs.Bytes.{Bytes}
 use Rattle.tl_hash.proofs.Bytes.{cases_bytes}
 use Rattle.tl_tile.specs.declared.resource.Resource.TheVariants as resource
 use Rattle.tl_publisher.specs.Histories.{Prefix, Begins, last_of, note_if}
 use Rattle.tl_archive.specs.Complete.{IsComplete}
-use Rattle.tl_archive.proofs.Lists.{none_has, one_has, has_head, has_tail, cons_cases}
-use Rattle.tl_bucket.specs.Bucket.{Store, IsCommitted, Request, put_commit, put_resource, put_checkpoint, is_met}
+use Rattle.tl_archive.proofs.Lists.{none_has, one_has, has_head, has_tail}
+use Rattle.tl_bucket.specs.Bucket.{Store, Request, put_commit, put_resource, put_checkpoint, is_met}
 use Rattle.tl_bucket.specs.Operators.{Setting, World, beginning, IsWhole, MayReplace, MaySend, Event, sends, does, MayHappen, once_done, after, LeadsBy, Leads}
 use Rattle.tl_bucket.specs.Histories.{NeverShrinks, HaveOneTag, NotesTellSize}
 use Rattle.tl_bucket.proofs.Commits.{some_same, by_size}
@@ -60,7 +59,7 @@ tags_more tag history q have = record {
   of_one = Contains-append_left history (q ∷ []) have.one have.of_one;
   of_other = Contains-append_left history (q ∷ []) have.other have.of_other;
   apart = have.apart;
-  met = have.met
+  met = have.met;
 }
 
 -- one that is of a committed log, and has no fewer entries than any before
@@ -72,11 +71,13 @@ push_ordered setting store history q each own grows less =
   where
     begins : (p : Prefix) → Contains history p → Begins p.entries q.entries
     begins p has = by_size store p.entries q.entries (each p has).committed own.committed (less p has)
+
     fits : (p : Prefix) → Contains (history ++ q ∷ []) p → length p.entries ≤ length q.entries
     fits p has = elim (Contains-push_cases history q p has) as (λ _. length p.entries ≤ length q.entries) [
       | inl old ↦ less p old
       | inr new ↦ let same : length q.entries ≡ length p.entries = ap (λ (x : Prefix). length x.entries) new in omega (arith, same)
     ]
+
     tops : TopsAll (history ++ q ∷ [])
     tops p last r has =
         let same : q ≡ p = some_same q p (sym (last_pushed history q) ∙ last) in
@@ -94,17 +95,18 @@ replaced setting store history q wanted note tell each own may there met grows t
     elim (cases_bytes wanted note) as (λ _. IsOrdered setting.tag (history ++ q ∷ [])) [
       | inl same ↦ inl (push_ordered setting store history q each own grows (less same))
       | inr apart ↦ inr (tags_more setting.tag history q (record {
-          one = may.0;
-          other = last.0;
-          of_one = may.1;
-          of_other = last_has history last.0 last.1;
-          apart = λ e. apart (sym may.2 ∙ e ∙ last.2);
-          met = ap setting.tag may.2 ∙ (bytes_eq-Decides (setting.tag wanted) (setting.tag note)).0 met ∙ ap setting.tag (sym last.2)
-        }))
+        one = may.0;
+        other = last.0;
+        of_one = may.1;
+        of_other = last_has history last.0 last.1;
+        apart = λ e. apart (sym may.2 ∙ e ∙ last.2);
+        met = ap setting.tag may.2 ∙ (bytes_eq-Decides (setting.tag wanted) (setting.tag note)).0 met ∙ ap setting.tag (sym last.2);
+      }))
     ]
   where
     last : (p : Prefix) × (last_of history ≡ Some p) × (p.note ≡ note)
     last = some_shown history note there
+
     -- the last has as many entries as the one that was meant, which has one note with it
     less : wanted ≡ note → (p : Prefix) → Contains history p → length p.entries ≤ length q.entries
     less same p has =
@@ -117,11 +119,14 @@ replaced setting store history q wanted note tell each own may there met grows t
         omega (arith, size, top, fit)
 
 first_ordered : (setting : Setting) (q : Prefix) → IsOrdered setting.tag (q ∷ [])
-first_ordered setting q = inl (λ i j d less within. absurd (omega (arith, less, within)), λ p last r has.
-    let a : q ≡ p = some_same q p last in
-    let b : q ≡ r = one_has q r has in
-    let same : length p.entries ≡ length r.entries = ap (λ (x : Prefix). length x.entries) (sym a ∙ b) in
-    omega (arith, same))
+first_ordered setting q = inl (
+  λ i j d less within. absurd (omega (arith, less, within)),
+  λ p last r has.
+      let a : q ≡ p = some_same q p last in
+      let b : q ≡ r = one_has q r has in
+      let same : length p.entries ≡ length r.entries = ap (λ (x : Prefix). length x.entries) (sym a ∙ b) in
+      omega (arith, same),
+)
 
 shown_on : (setting : Setting) (store : Store) (history : List Prefix) (q : Prefix) (wanted there : Option Bytes) → NotesTellSize setting
     → ((p : Prefix) → Contains history p → IsWhole setting store p) → IsWhole setting store q

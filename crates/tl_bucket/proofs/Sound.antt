@@ -1,9 +1,9 @@
 -- What holds of every world that the beginning leads to.
-use Rattle.std.proofs.Common.{◌≡◌, ◌≢◌, ℕ, zero, suc, ◌+◌, ◌-◌, ◌<◌, ◌≤◌, Bool, true, false, cond, inl, inr, ◌⊎◌, List, [], ◌∷◌, ◌++◌, length, Option, Some, None, refl, sym, ap, ◌∙◌, subst, ◌==◌, if◌then◌else◌, true≢false, arith}
+use Rattle.std.proofs.Common.{◌≡◌, ◌≢◌, ℕ, Bool, true, false, cond, inl, inr, ◌⊎◌, List, [], ◌∷◌, ◌++◌, length, Option, Some, None, refl, sym, ap, ◌∙◌, subst, ◌==◌, if◌then◌else◌}
 use Rattle.std.specs.Prelude.{Contains}
 use Rattle.std.proofs.lemmas.Bool.{cases_Bool, eqb-true}
 use Rattle.std.proofs.lemmas.List.Elements.{Contains-append_left, Contains-push_cases}
-use Rattle.tl_hash.specs.Bytes.{Bytes, Digest}
+use Rattle.tl_hash.specs.Bytes.{Bytes}
 use Rattle.tl_tile.specs.declared.resource.Resource.{Resource}
 use Rattle.tl_tile.specs.declared.resource.Resource.TheVariants as resource
 use Rattle.tl_tile.specs.Needed.{needed_resources}
@@ -13,10 +13,10 @@ use Rattle.tl_publisher.proofs.Needs.{same_is}
 use Rattle.tl_archive.specs.Complete.{text_of}
 use Rattle.tl_archive.proofs.Lists.{none_has}
 use Rattle.tl_archive.proofs.Needs.{needed_within}
-use Rattle.tl_bucket.specs.Bucket.{Store, Committed, IsCommitted, Request, put_commit, put_resource, put_checkpoint, put_new, with_commit, with_resource, is_met}
-use Rattle.tl_bucket.specs.Operators.{Setting, World, beginning, IsNeeded, IsWhole, MayReplace, MaySend, Event, sends, does, MayHappen, once_done, after, LeadsBy, Leads}
+use Rattle.tl_bucket.specs.Bucket.{Request, put_commit, put_resource, put_checkpoint, put_new, with_resource, is_met}
+use Rattle.tl_bucket.specs.Operators.{Setting, World, beginning, IsNeeded, IsWhole, MaySend, Event, sends, does, MayHappen, once_done, after, LeadsBy, Leads}
 use Rattle.tl_bucket.proofs.Commits.{some_same, same_bytes}
-use Rattle.tl_bucket.proofs.Grown.{CommitsStay, Grows, grows_not, grows_on, needed_stays, whole_stays, may_send_later, commits_after}
+use Rattle.tl_bucket.proofs.Grown.{Grows, grows_not, grows_on, needed_stays, whole_stays, may_send_later, commits_after}
 
 -- each commit had the ones before it, each tile and bundle is one that a committed log needs, all that was sent may be
 -- sent, all that was shown is there whole, and the checkpoint is that of the last
@@ -33,7 +33,7 @@ sound_at_first setting = record {
   held = λ r bytes other is. absurd (cc);
   sent = λ request has. absurd (none_has request has);
   shown = λ q has. absurd (none_has q has);
-  last = refl
+  last = refl;
 }
 
 -- a world that goes on from a sound one
@@ -43,18 +43,23 @@ GoesOn setting w later = Grows w later × IsSound setting later
 -- ---- an operator sends a request
 
 on_sent : (setting : Setting) (w : World) (request : Request) → IsSound setting w → MaySend setting w request → GoesOn setting w (after setting.tag w (sends request))
-on_sent setting w request sound may = (grows, record {
-  commits = λ n batch is. may_send_later setting w later grows (put_commit n batch) (sound.commits n batch is);
-  held = λ r bytes other is. needed_stays setting.digest w later r bytes grows (sound.held r bytes other is);
-  sent = λ one has. may_send_later setting w later grows one (sent one has);
-  shown = λ q has. whole_stays setting w later q grows (sound.shown q has);
-  last = sound.last
-})
+on_sent setting w request sound may = (
+  grows,
+  record {
+    commits = λ n batch is. may_send_later setting w later grows (put_commit n batch) (sound.commits n batch is);
+    held = λ r bytes other is. needed_stays setting.digest w later r bytes grows (sound.held r bytes other is);
+    sent = λ one has. may_send_later setting w later grows one (sent one has);
+    shown = λ q has. whole_stays setting w later q grows (sound.shown q has);
+    last = sound.last;
+  },
+)
   where
     later : World
     later = after setting.tag w (sends request)
+
     grows : Grows w later
     grows = record { commits = λ n batch is. is; held = λ r bytes other is. is; shown = λ q has. has }
+
     sent : (one : Request) → Contains later.sent one → MaySend setting w one
     sent one has = elim (Contains-push_cases w.sent request one has) as (λ _. MaySend setting w one) [
       | inl old ↦ sound.sent one old
@@ -80,22 +85,27 @@ new_under n m new x old is = elim (cases_Bool (m == n)) as (λ _. ((m ≡ n) × 
 ]
 
 on_commit : (setting : Setting) (w : World) (n : ℕ) (batch : List Bytes) → IsSound setting w → MaySend setting w (put_commit n batch) → GoesOn setting w (once_done setting.tag w (put_commit n batch))
-on_commit setting w n batch sound may = (grows, record {
-  commits = λ m own is. may_send_later setting w later grows (put_commit m own) (commits m own is);
-  held = λ r bytes other is. needed_stays setting.digest w later r bytes grows (sound.held r bytes other is);
-  sent = λ one has. may_send_later setting w later grows one (sound.sent one has);
-  shown = λ q has. whole_stays setting w later q grows (sound.shown q has);
-  last = sound.last
-})
+on_commit setting w n batch sound may = (
+  grows,
+  record {
+    commits = λ m own is. may_send_later setting w later grows (put_commit m own) (commits m own is);
+    held = λ r bytes other is. needed_stays setting.digest w later r bytes grows (sound.held r bytes other is);
+    sent = λ one has. may_send_later setting w later grows one (sound.sent one has);
+    shown = λ q has. whole_stays setting w later q grows (sound.shown q has);
+    last = sound.last;
+  },
+)
   where
     later : World
     later = once_done setting.tag w (put_commit n batch)
+
     grows : Grows w later
     grows = record {
       commits = commits_after setting.tag w (does (put_commit n batch));
       held = λ r bytes other is. is;
-      shown = λ q has. has
+      shown = λ q has. has;
     }
+
     commits : (m : ℕ) (own : List Bytes) → later.store.commits m ≡ Some own → MaySend setting w (put_commit m own)
     commits m own is = elim (new_under n m batch own (w.store.commits m) is) as (λ _. MaySend setting w (put_commit m own)) [
       | inl new ↦ subst (λ (k : ℕ). MaySend setting w (put_commit k own)) (sym new.0) may
@@ -110,31 +120,38 @@ put_or_old s r new old P own other = elim (cases_Bool (same_resource s r)) as (�
 ]
 
 on_resource : (setting : Setting) (w : World) (r : Resource) (bytes : Bytes) → IsSound setting w → IsNeeded setting.digest w.store r bytes → GoesOn setting w (once_done setting.tag w (put_resource r bytes))
-on_resource setting w r bytes sound may = (grows, record {
-  commits = λ n batch is. may_send_later setting w later grows (put_commit n batch) (sound.commits n batch is);
-  held = λ s own other is. needed_stays setting.digest w later s own grows (held s own other is);
-  sent = λ one has. may_send_later setting w later grows one (sound.sent one has);
-  shown = λ q has. whole_stays setting w later q grows (sound.shown q has);
-  last = put_or_old resource.Checkpoint r bytes (w.store.held resource.Checkpoint) (λ o. o ≡ note_if (last_of w.shown))
-      (λ same. absurd (plain (sym same))) sound.last
-})
+on_resource setting w r bytes sound may = (
+  grows,
+  record {
+    commits = λ n batch is. may_send_later setting w later grows (put_commit n batch) (sound.commits n batch is);
+    held = λ s own other is. needed_stays setting.digest w later s own grows (held s own other is);
+    sent = λ one has. may_send_later setting w later grows one (sound.sent one has);
+    shown = λ q has. whole_stays setting w later q grows (sound.shown q has);
+    last = put_or_old resource.Checkpoint r bytes (w.store.held resource.Checkpoint) (λ o. o ≡ note_if (last_of w.shown))
+        (λ same. absurd (plain (sym same))) sound.last;
+  },
+)
   where
     later : World
     later = once_done setting.tag w (put_resource r bytes)
+
     plain : r ≢ resource.Checkpoint
     plain = (needed_within (length may.entries) r may.needed).1
+
     -- what is needed under the resource is what was put
     agrees : (s : Resource) (own : Bytes) → s ≡ r → IsNeeded setting.digest w.store s own → Some bytes ≡ Some own
     agrees s own same is =
         let has : Contains (needed_resources (length is.entries)) r = subst (Contains (needed_resources (length is.entries))) same is.needed in
         let at : text_of setting.digest s is.entries ≡ text_of setting.digest r is.entries = ap (λ (x : Resource). text_of setting.digest x is.entries) same in
         ap (λ (x : Bytes). Some x) (may.bytes_of ∙ same_bytes setting.digest w.store may.entries is.entries r may.committed is.committed may.needed has ∙ sym at ∙ sym is.bytes_of)
+
     grows : Grows w later
     grows = record {
       commits = λ n batch is. is;
       held = λ s own other is. put_or_old s r bytes (w.store.held s) (λ o. o ≡ Some own) (λ same. agrees s own same (sound.held s own other is)) is;
-      shown = λ q has. has
+      shown = λ q has. has;
     }
+
     held : (s : Resource) (own : Bytes) → s ≢ resource.Checkpoint → later.store.held s ≡ Some own → IsNeeded setting.digest w.store s own
     held s own other = put_or_old s r bytes (w.store.held s) (λ o. o ≡ Some own → IsNeeded setting.digest w.store s own)
         (λ same is. subst (λ (x : Resource). IsNeeded setting.digest w.store x own) (sym same) (subst (IsNeeded setting.digest w.store r) (some_same bytes own is) may))
@@ -150,24 +167,30 @@ abbrev pub with_shown : World → Prefix → World
 with_shown w q = record w { store = with_resource resource.Checkpoint q.note w.store; shown = w.shown ++ q ∷ [] }
 
 on_shown : (setting : Setting) (w : World) (q : Prefix) → IsSound setting w → IsWhole setting w.store q → GoesOn setting w (with_shown w q)
-on_shown setting w q sound may = (grows, record {
-  commits = λ n batch is. may_send_later setting w later grows (put_commit n batch) (sound.commits n batch is);
-  held = λ s own other is. needed_stays setting.digest w later s own grows (sound.held s own other (back s other ∙ is));
-  sent = λ one has. may_send_later setting w later grows one (sound.sent one has);
-  shown = λ p has. whole_stays setting w later p grows (shown p has);
-  last = sym (last_note w.shown q)
-})
+on_shown setting w q sound may = (
+  grows,
+  record {
+    commits = λ n batch is. may_send_later setting w later grows (put_commit n batch) (sound.commits n batch is);
+    held = λ s own other is. needed_stays setting.digest w later s own grows (sound.held s own other (back s other ∙ is));
+    sent = λ one has. may_send_later setting w later grows one (sound.sent one has);
+    shown = λ p has. whole_stays setting w later p grows (shown p has);
+    last = sym (last_note w.shown q);
+  },
+)
   where
     later : World
     later = with_shown w q
+
     back : (s : Resource) → s ≢ resource.Checkpoint → w.store.held s ≡ later.store.held s
     back s other = put_or_old s resource.Checkpoint q.note (w.store.held s) (λ o. w.store.held s ≡ o) (λ same. absurd (other same)) refl
+
     grows : Grows w later
     grows = record {
       commits = λ n batch is. is;
       held = λ s own other is. sym (back s other) ∙ is;
-      shown = λ p has. Contains-append_left w.shown (q ∷ []) p has
+      shown = λ p has. Contains-append_left w.shown (q ∷ []) p has;
     }
+
     shown : (p : Prefix) → Contains later.shown p → IsWhole setting w.store p
     shown p has = elim (Contains-push_cases w.shown q p has) as (λ _. IsWhole setting w.store p) [
       | inl old ↦ sound.shown p old

@@ -34,15 +34,15 @@ pub fn checkpoints_tell_size()
         → NotesTellSize setting }
 {}
 
-/// The checkpoint that is there is that of the last publication, and what is there is complete for it; and each
-/// publication that was ever shown is there whole.
+/// The checkpoint that is there is that of the last publication, and all is there that it needs. Each publication that
+/// was ever shown is whole then and at any later time: who read its checkpoint finds the rest, however late.
 pub fn shown_log_is_complete()
     ensures last { (setting : Setting) (w : World) → Leads setting beginning w
         → w.store.held resource.Checkpoint ≡ note_if (last_of w.shown) }
     ensures complete { (setting : Setting) (w : World) → Leads setting beginning w
         → IsComplete setting.digest w.shown w.store.held }
-    ensures each { (setting : Setting) (w : World) → Leads setting beginning w
-        → All (IsWhole setting w.store) w.shown }
+    ensures each { (setting : Setting) (w later : World) → Leads setting beginning w
+        → Leads setting w later → All (IsWhole setting later.store) w.shown }
 {}
 
 /// A tile or bundle that is there keeps its bytes, whoever puts it again, and however late.
@@ -88,7 +88,7 @@ pub fn log_can_go_on()
         → (n : ℕ) (entries batch : List Bytes) → Committed w.store n entries
         → w.store.commits (suc n) ≡ None
         → (later : World) × Leads setting w later
-            × Committed later.store (suc n) (entries ++ batch) }
+        × Committed later.store (suc n) (entries ++ batch) }
     ensures show { (setting : Setting) (w : World) → Leads setting beginning w
         → (n : ℕ) (q : Prefix) → Committed w.store n q.entries
         → w.store.commits (suc n) ≡ None → IsTrue (setting.is_note q.entries q.note)

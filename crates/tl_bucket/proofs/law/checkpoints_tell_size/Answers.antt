@@ -1,4 +1,4 @@
-use Rattle.std.proofs.Common.{◌≡◌, ap, length}
+use Rattle.std.proofs.Common.{◌≡◌, ap}
 use Rattle.tl_note.proofs.OneNote.{one_text}
 use Rattle.tl_checkpoint.specs.Checkpoint.{Head}
 use Rattle.tl_checkpoint.proofs.OneText.{one_checkpoint}
