@@ -15,8 +15,8 @@ use Rattle.tl_publisher.proofs.Needs.{same_self}
 use Rattle.tl_archive.specs.Complete.{text_of}
 use Rattle.tl_archive.proofs.Lists.{none_has, has_head, has_tail, cons_cases}
 use Rattle.tl_archive.proofs.Needs.{needed_within}
-use Rattle.tl_bucket.specs.Bucket.{Committed, IsCommitted, Request, put_commit, put_resource, put_checkpoint, put_new, with_resource, is_met}
-use Rattle.tl_bucket.specs.Operators.{Setting, World, IsWhole, MayReplace, MaySend, Event, sends, does, after, LeadsBy, Leads}
+use Rattle.tl_bucket.specs.Bucket.{Store, Committed, IsCommitted, Request, put_commit, put_resource, put_checkpoint, put_new, with_resource, is_met}
+use Rattle.tl_bucket.specs.Operators.{Setting, World, TellsSize, IsWhole, MayReplace, MaySend, Event, sends, does, after, LeadsBy, Leads}
 use Rattle.tl_bucket.proofs.Commits.{log_extends, is_there, total}
 use Rattle.tl_bucket.proofs.Grown.{Grows, committed_stays, commits_led}
 use Rattle.tl_bucket.proofs.Sound.{IsSound, on_events}
@@ -155,9 +155,10 @@ met_itself : (tag : Bytes → Bytes) (there : Option Bytes) → is_met tag there
 met_itself tag None = refl
 met_itself tag (Some note) = (bytes_eq-Decides (tag note) (tag note)).1 refl
 
-may_replace : (history : List Prefix) (size : ℕ) → ((p : Prefix) → Contains history p → length p.entries ≤ size) → (last : Option Prefix) → last_of history ≡ last → MayReplace history size (note_if last)
-may_replace history size few None is = tt
-may_replace history size few (Some p) is = let has = last_has history p is in (p, has, refl, few p has)
+may_replace : (setting : Setting) (store : Store) (history : List Prefix) (size : ℕ) → ((p : Prefix) → Contains history p → IsWhole setting store p)
+    → ((p : Prefix) → Contains history p → length p.entries ≤ size) → (last : Option Prefix) → last_of history ≡ last → MayReplace history size (note_if last)
+may_replace setting store history size each few None is = tt
+may_replace setting store history size each few (Some p) is = let has = last_has history p is in (p, has, refl, length p.entries, (each p has).note, few p has)
 
 can_replace : (setting : Setting) (w : World) (n : ℕ) (q : Prefix) → IsSound setting w → Committed w.store n q.entries → w.store.commits (suc n) ≡ None → IsWhole setting w.store q
     → (later : World) × Leads setting w later × (last_of later.shown ≡ Some q)
@@ -170,7 +171,7 @@ can_replace setting w n q sound is none whole = (at_once setting w request, lead
     request = put_checkpoint wanted q
 
     may : MaySend setting w request
-    may = (whole, may_replace w.shown (length q.entries) (λ p has. few_commits w n q.entries p.entries is none (sound.shown p has).committed) (last_of w.shown) refl)
+    may = (whole, may_replace setting w.store w.shown (length q.entries) sound.shown (λ p has. few_commits w n q.entries p.entries is none (sound.shown p has).committed) (last_of w.shown) refl)
 
     met : is_met setting.tag wanted (w.store.held resource.Checkpoint) ≡ true
     met = ap (is_met setting.tag wanted) sound.last ∙ met_itself setting.tag wanted
@@ -184,7 +185,7 @@ can_replace setting w n q sound is none whole = (at_once setting w request, lead
         chosen : Bool → World
         chosen b = if b then record sent { store = with_resource resource.Checkpoint q.note w.store; shown = w.shown ++ q ∷ [] } else sent
 
-pub can_show : (setting : Setting) (w : World) → IsSound setting w → (n : ℕ) (q : Prefix) → Committed w.store n q.entries → w.store.commits (suc n) ≡ None → IsTrue (setting.is_note q.entries q.note)
+pub can_show : (setting : Setting) (w : World) → IsSound setting w → (n : ℕ) (q : Prefix) → Committed w.store n q.entries → w.store.commits (suc n) ≡ None → TellsSize q.note (length q.entries)
     → (later : World) × Leads setting w later × (last_of later.shown ≡ Some q)
 can_show setting w sound n q is none note = (end.0, leads_on setting w mid end.0 filled.1.leads end.1, end.2)
   where

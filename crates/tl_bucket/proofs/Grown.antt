@@ -40,8 +40,8 @@ committed_stays a b stay (suc n) entries (front, batch, before, at, joined) =
 pub is_committed_stays : (a b : Store) → CommitsStay a b → (entries : List Bytes) → IsCommitted a entries → IsCommitted b entries
 is_committed_stays a b stay entries (n, is) = (n, committed_stays a b stay n entries is)
 
-pub needed_stays : (H : Digest) (w later : World) (r : Resource) (bytes : Bytes) → Grows w later → IsNeeded H w.store r bytes → IsNeeded H later.store r bytes
-needed_stays H w later r bytes grows is = record {
+pub needed_stays : (setting : Setting) (w later : World) (r : Resource) (bytes : Bytes) → Grows w later → IsNeeded setting w.store r bytes → IsNeeded setting later.store r bytes
+needed_stays setting w later r bytes grows is = record {
   entries = is.entries;
   committed = is_committed_stays w.store later.store grows.commits is.entries is.committed;
   needed = is.needed;
@@ -57,11 +57,11 @@ whole_stays setting w later q grows is = record {
 
 replaces_later : (shown more : List Prefix) → ((q : Prefix) → Contains shown q → Contains more q) → (size : ℕ) (wanted : Option Bytes) → MayReplace shown size wanted → MayReplace more size wanted
 replaces_later shown more stay size None may = may
-replaces_later shown more stay size (Some note) may = (may.0, stay may.0 may.1, may.2, may.3)
+replaces_later shown more stay size (Some note) may = (may.0, stay may.0 may.1, may.2, may.3, may.4, may.5)
 
 pub may_send_later : (setting : Setting) (w later : World) → Grows w later → (request : Request) → MaySend setting w request → MaySend setting later request
 may_send_later setting w later grows (put_commit n batch) may = (may.0, may.1, committed_stays w.store later.store grows.commits _ may.1 may.2)
-may_send_later setting w later grows (put_resource r bytes) may = needed_stays setting.digest w later r bytes grows may
+may_send_later setting w later grows (put_resource r bytes) may = needed_stays setting w later r bytes grows may
 may_send_later setting w later grows (put_checkpoint wanted q) may =
     (whole_stays setting w later q grows may.0, replaces_later w.shown later.shown grows.shown (length q.entries) wanted may.1)
 

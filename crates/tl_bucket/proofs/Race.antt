@@ -1,10 +1,10 @@
 -- A race: two operators commit first, one of them loses, and what the other committed is shown.
-use Rattle.std.proofs.Common.{◌≡◌, List, [], ◌∷◌, Some, None, refl, arith}
+use Rattle.std.proofs.Common.{◌≡◌, List, [], ◌∷◌, length, Some, None, refl, arith}
 use Rattle.std.specs.Prelude.{Contains, IsTrue}
 use Rattle.tl_hash.specs.Bytes.{Bytes}
 use Rattle.tl_publisher.specs.Histories.{last_of}
 use Rattle.tl_bucket.specs.Bucket.{Committed, put_commit}
-use Rattle.tl_bucket.specs.Operators.{Setting, World, beginning, Event, sends, does, Leads}
+use Rattle.tl_bucket.specs.Operators.{Setting, World, TellsSize, beginning, Event, sends, does, Leads}
 use Rattle.tl_bucket.proofs.Sound.{sound_led}
 use Rattle.tl_bucket.proofs.Going.{can_show}
 
@@ -32,7 +32,7 @@ raced setting a b = (
 )
 
 -- and what the other committed is shown
-shown_after : (setting : Setting) (a b : List Bytes) (note : Bytes) → IsTrue (setting.is_note b note)
+shown_after : (setting : Setting) (a b : List Bytes) (note : Bytes) → TellsSize note (length b)
     → (w : World) × Leads setting (raced setting a b).0 w × (last_of w.shown ≡ Some (record { entries = b; note = note }))
 shown_after setting a b note is =
     let r = raced setting a b in

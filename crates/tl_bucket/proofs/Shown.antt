@@ -1,6 +1,10 @@
 -- What is shown never shrinks, or two notes have one tag.
-use Rattle.std.proofs.Common.{◌≡◌, ◌≤◌, Bool, true, false, inl, inr, ◌⊎◌, List, [], ◌∷◌, ◌++◌, length, get_or, Option, Some, None, refl, sym, ap, ◌∙◌, subst, if◌then◌else◌, true≢false, arith}
-use Rattle.std.specs.Prelude.{Contains, IsTrue, bytes_eq}
+use Rattle.std.proofs.Common.{◌≡◌, ℕ, ◌≤◌, Bool, true, false, inl, inr, ◌⊎◌, List, [], ◌∷◌, ◌++◌, length, get_or, Option, Some, None, refl, sym, ap, ◌∙◌, append_assoc, subst, if◌then◌else◌, true≢false, arith}
+use Rattle.std.proofs.lemmas.Fmt.{decimal_injective}
+use Rattle.tl_text.specs.Text.{line, number_text}
+use Rattle.tl_text.proofs.Lines.{one_line}
+use Rattle.tl_text.proofs.PlainText.{number_plain}
+use Rattle.std.specs.Prelude.{Contains, bytes_eq}
 use Rattle.std.proofs.lemmas.Slice.Eq.{bytes_eq-Decides}
 use Rattle.std.proofs.lemmas.List.Elements.{Contains-append_left, Contains-push_cases, Contains-get_or}
 use Rattle.std.proofs.lemmas.List.Quantifiers.{all_pairs_push}
@@ -11,8 +15,8 @@ use Rattle.tl_publisher.specs.Histories.{Prefix, Begins, last_of, note_if}
 use Rattle.tl_archive.specs.Complete.{IsComplete}
 use Rattle.tl_archive.proofs.Lists.{none_has, one_has, has_head, has_tail}
 use Rattle.tl_bucket.specs.Bucket.{Store, Request, put_commit, put_resource, put_checkpoint, is_met}
-use Rattle.tl_bucket.specs.Operators.{Setting, World, beginning, IsWhole, MayReplace, MaySend, Event, sends, does, MayHappen, once_done, after, LeadsBy, Leads}
-use Rattle.tl_bucket.specs.Histories.{NeverShrinks, HaveOneTag, NotesTellSize}
+use Rattle.tl_bucket.specs.Operators.{Setting, World, beginning, IsWhole, TellsSize, MayReplace, MaySend, Event, sends, does, MayHappen, once_done, after, LeadsBy, Leads}
+use Rattle.tl_bucket.specs.Histories.{NeverShrinks, HaveOneTag}
 use Rattle.tl_bucket.proofs.Commits.{some_same, by_size}
 use Rattle.tl_bucket.proofs.Sound.{IsSound, sound_at_first, on_event}
 
@@ -87,11 +91,24 @@ push_ordered setting store history q each own grows less =
 
 -- ---- a checkpoint in the place of another
 
-replaced : (setting : Setting) (store : Store) (history : List Prefix) (q : Prefix) (wanted note : Bytes) → NotesTellSize setting
+-- a note tells one size
+one_size : (note : Bytes) (m n : ℕ) → TellsSize note m → TellsSize note n → m ≡ n
+one_size note m n is was =
+    let small = is.bounded in
+    let few = was.bounded in
+    let x : Bytes = line (number_text m) ++ is.rest in
+    let y : Bytes = line (number_text n) ++ was.rest in
+    let opened : line is.origin ++ x ≡ line was.origin ++ y =
+        sym (append_assoc (line is.origin) (line (number_text m)) is.rest) ∙ sym is.spelled ∙ was.spelled ∙ append_assoc (line was.origin) (line (number_text n)) was.rest in
+    let first = one_line is.origin was.origin x y is.plain was.plain opened in
+    let second = one_line (number_text m) (number_text n) is.rest was.rest (number_plain m (omega (arith, small))) (number_plain n (omega (arith, few))) first.1 in
+    decimal_injective m n (omega (arith, small)) (omega (arith, few)) second.0
+
+replaced : (setting : Setting) (store : Store) (history : List Prefix) (q : Prefix) (wanted note : Bytes)
     → ((p : Prefix) → Contains history p → IsWhole setting store p) → IsWhole setting store q
     → MayReplace history (length q.entries) (Some wanted) → Some note ≡ note_if (last_of history)
     → bytes_eq (setting.tag wanted) (setting.tag note) ≡ true → NeverShrinks history → TopsAll history → IsOrdered setting.tag (history ++ q ∷ [])
-replaced setting store history q wanted note tell each own may there met grows tops =
+replaced setting store history q wanted note each own may there met grows tops =
     elim (cases_bytes wanted note) as (λ _. IsOrdered setting.tag (history ++ q ∷ [])) [
       | inl same ↦ inl (push_ordered setting store history q each own grows (less same))
       | inr apart ↦ inr (tags_more setting.tag history q (record {
@@ -110,12 +127,11 @@ replaced setting store history q wanted note tell each own may there met grows t
     -- the last has as many entries as the one that was meant, which has one note with it
     less : wanted ≡ note → (p : Prefix) → Contains history p → length p.entries ≤ length q.entries
     less same p has =
-        let one : may.0.note ≡ last.0.note = may.2 ∙ same ∙ sym last.2 in
         let of_last = (each last.0 (last_has history last.0 last.1)).note in
-        let of_meant : IsTrue (setting.is_note may.0.entries last.0.note) = subst (λ (n : Bytes). IsTrue (setting.is_note may.0.entries n)) one (each may.0 may.1).note in
-        let size : length last.0.entries ≡ length may.0.entries = tell last.0.entries may.0.entries last.0.note of_last of_meant in
+        let of_meant : TellsSize last.0.note may.3 = subst (λ (n : Bytes). TellsSize n may.3) (same ∙ sym last.2) may.4 in
+        let size : length last.0.entries ≡ may.3 = one_size last.0.note (length last.0.entries) may.3 of_last of_meant in
         let top = tops last.0 last.1 p has in
-        let fit = may.3 in
+        let fit = may.5 in
         omega (arith, size, top, fit)
 
 first_ordered : (setting : Setting) (q : Prefix) → IsOrdered setting.tag (q ∷ [])
@@ -128,52 +144,52 @@ first_ordered setting q = inl (
       omega (arith, same),
 )
 
-shown_on : (setting : Setting) (store : Store) (history : List Prefix) (q : Prefix) (wanted there : Option Bytes) → NotesTellSize setting
+shown_on : (setting : Setting) (store : Store) (history : List Prefix) (q : Prefix) (wanted there : Option Bytes)
     → ((p : Prefix) → Contains history p → IsWhole setting store p) → IsWhole setting store q
     → MayReplace history (length q.entries) wanted → there ≡ note_if (last_of history)
     → is_met setting.tag wanted there ≡ true → NeverShrinks history × TopsAll history → IsOrdered setting.tag (history ++ q ∷ [])
-shown_on setting store history q None None tell each own may last met ordered =
+shown_on setting store history q None None each own may last met ordered =
     subst (λ (h : List Prefix). IsOrdered setting.tag (h ++ q ∷ [])) (sym (none_shown history last)) (first_ordered setting q)
-shown_on setting store history q None (Some note) tell each own may last met ordered = absurd (true≢false (sym met))
-shown_on setting store history q (Some wanted) None tell each own may last met ordered = absurd (true≢false (sym met))
-shown_on setting store history q (Some wanted) (Some note) tell each own may last met ordered =
-    replaced setting store history q wanted note tell each own may last met ordered.0 ordered.1
+shown_on setting store history q None (Some note) each own may last met ordered = absurd (true≢false (sym met))
+shown_on setting store history q (Some wanted) None each own may last met ordered = absurd (true≢false (sym met))
+shown_on setting store history q (Some wanted) (Some note) each own may last met ordered =
+    replaced setting store history q wanted note each own may last met ordered.0 ordered.1
 
-ordered_on : (setting : Setting) (w : World) (wanted : Option Bytes) (q : Prefix) (met : Bool) → NotesTellSize setting → IsSound setting w → MaySend setting w (put_checkpoint wanted q)
+ordered_on : (setting : Setting) (w : World) (wanted : Option Bytes) (q : Prefix) (met : Bool) → IsSound setting w → MaySend setting w (put_checkpoint wanted q)
     → is_met setting.tag wanted (w.store.held resource.Checkpoint) ≡ met → IsOrdered setting.tag w.shown
     → IsOrdered setting.tag (if met then record w { shown = w.shown ++ q ∷ [] } else w).shown
-ordered_on setting w wanted q false tell sound may met ordered = ordered
-ordered_on setting w wanted q true tell sound may met (inr tags) = inr (tags_more setting.tag w.shown q tags)
-ordered_on setting w wanted q true tell sound may met (inl ordered) =
-    shown_on setting w.store w.shown q wanted (w.store.held resource.Checkpoint) tell sound.shown may.0 may.1 sound.last met ordered
+ordered_on setting w wanted q false sound may met ordered = ordered
+ordered_on setting w wanted q true sound may met (inr tags) = inr (tags_more setting.tag w.shown q tags)
+ordered_on setting w wanted q true sound may met (inl ordered) =
+    shown_on setting w.store w.shown q wanted (w.store.held resource.Checkpoint) sound.shown may.0 may.1 sound.last met ordered
 
 -- what is shown doesn't depend on the store's other part
 only_shown : (test : Bool) (a b c : World) → a.shown ≡ b.shown → (if test then a else c).shown ≡ (if test then b else c).shown
 only_shown true a b c same = same
 only_shown false a b c same = refl
 
-ordered_once_done : (setting : Setting) (w : World) (request : Request) → NotesTellSize setting → IsSound setting w → MaySend setting w request → IsOrdered setting.tag w.shown
+ordered_once_done : (setting : Setting) (w : World) (request : Request) → IsSound setting w → MaySend setting w request → IsOrdered setting.tag w.shown
     → IsOrdered setting.tag (once_done setting.tag w request).shown
-ordered_once_done setting w (put_commit n batch) tell sound may ordered = ordered
-ordered_once_done setting w (put_resource r bytes) tell sound may ordered = ordered
-ordered_once_done setting w (put_checkpoint wanted q) tell sound may ordered =
+ordered_once_done setting w (put_commit n batch) sound may ordered = ordered
+ordered_once_done setting w (put_resource r bytes) sound may ordered = ordered
+ordered_once_done setting w (put_checkpoint wanted q) sound may ordered =
     let met = is_met setting.tag wanted (w.store.held resource.Checkpoint) in
     subst (IsOrdered setting.tag) (only_shown met (record w { shown = w.shown ++ q ∷ [] }) _ w refl)
-    (ordered_on setting w wanted q met tell sound may refl ordered)
+    (ordered_on setting w wanted q met sound may refl ordered)
 
-ordered_after : (setting : Setting) (w : World) (e : Event) → NotesTellSize setting → IsSound setting w → MayHappen setting w e → IsOrdered setting.tag w.shown
+ordered_after : (setting : Setting) (w : World) (e : Event) → IsSound setting w → MayHappen setting w e → IsOrdered setting.tag w.shown
     → IsOrdered setting.tag (after setting.tag w e).shown
-ordered_after setting w (sends request) tell sound may ordered = ordered
-ordered_after setting w (does request) tell sound has ordered = ordered_once_done setting w request tell sound (sound.sent request has) ordered
+ordered_after setting w (sends request) sound may ordered = ordered
+ordered_after setting w (does request) sound has ordered = ordered_once_done setting w request sound (sound.sent request has) ordered
 
-ordered_all : (setting : Setting) (es : List Event) (w end : World) → NotesTellSize setting → IsSound setting w → LeadsBy setting es w end → IsOrdered setting.tag w.shown → IsOrdered setting.tag end.shown
-ordered_all setting [] w end tell sound same ordered = subst (λ (v : World). IsOrdered setting.tag v.shown) same ordered
-ordered_all setting (e ∷ es) w end tell sound leads ordered =
-    ordered_all setting es (after setting.tag w e) end tell (on_event setting w e sound leads.0).1 leads.1 (ordered_after setting w e tell sound leads.0 ordered)
+ordered_all : (setting : Setting) (es : List Event) (w end : World) → IsSound setting w → LeadsBy setting es w end → IsOrdered setting.tag w.shown → IsOrdered setting.tag end.shown
+ordered_all setting [] w end sound same ordered = subst (λ (v : World). IsOrdered setting.tag v.shown) same ordered
+ordered_all setting (e ∷ es) w end sound leads ordered =
+    ordered_all setting es (after setting.tag w e) end (on_event setting w e sound leads.0).1 leads.1 (ordered_after setting w e sound leads.0 ordered)
 
-pub never_rolled_back : (setting : Setting) → NotesTellSize setting → (w : World) → Leads setting beginning w → NeverShrinks w.shown ⊎ HaveOneTag setting.tag w.shown
-never_rolled_back setting tell w leads =
-    elim (ordered_all setting leads.0 beginning w tell (sound_at_first setting) leads.1 at_first) as (λ _. NeverShrinks w.shown ⊎ HaveOneTag setting.tag w.shown) [
+pub never_rolled_back : (setting : Setting) → (w : World) → Leads setting beginning w → NeverShrinks w.shown ⊎ HaveOneTag setting.tag w.shown
+never_rolled_back setting w leads =
+    elim (ordered_all setting leads.0 beginning w (sound_at_first setting) leads.1 at_first) as (λ _. NeverShrinks w.shown ⊎ HaveOneTag setting.tag w.shown) [
       | inl ordered ↦ inl ordered.0
       | inr tags ↦ inr tags
     ]

@@ -18,13 +18,18 @@ use Rattle.tl_bucket.specs.Operators.{Setting, World, beginning, IsNeeded, IsWho
 use Rattle.tl_bucket.proofs.Commits.{some_same, same_bytes}
 use Rattle.tl_bucket.proofs.Grown.{Grows, grows_not, grows_on, needed_stays, whole_stays, may_send_later, commits_after}
 
+-- it is of a checkpoint that was sent
+abbrev pub WasSent : World → Prefix → Type 0
+WasSent w q = (wanted : Option Bytes) × Contains w.sent (put_checkpoint wanted q)
+
 -- each commit had the ones before it, each tile and bundle is one that a committed log needs, all that was sent may be
 -- sent, all that was shown is there whole, and the checkpoint is that of the last
 pub record IsSound (setting : Setting) (w : World) : Type 0 where
   pub commits : (n : ℕ) (batch : List Bytes) → w.store.commits n ≡ Some batch → MaySend setting w (put_commit n batch)
-  pub held : (r : Resource) (bytes : Bytes) → r ≢ resource.Checkpoint → w.store.held r ≡ Some bytes → IsNeeded setting.digest w.store r bytes
+  pub held : (r : Resource) (bytes : Bytes) → r ≢ resource.Checkpoint → w.store.held r ≡ Some bytes → IsNeeded setting w.store r bytes
   pub sent : (request : Request) → Contains w.sent request → MaySend setting w request
   pub shown : (q : Prefix) → Contains w.shown q → IsWhole setting w.store q
+  pub was_sent : (q : Prefix) → Contains w.shown q → WasSent w q
   pub last : w.store.held resource.Checkpoint ≡ note_if (last_of w.shown)
 
 pub sound_at_first : (setting : Setting) → IsSound setting beginning
@@ -33,6 +38,7 @@ sound_at_first setting = record {
   held = λ r bytes other is. absurd (cc);
   sent = λ request has. absurd (none_has request has);
   shown = λ q has. absurd (none_has q has);
+  was_sent = λ q has. absurd (none_has q has);
   last = refl;
 }
 
@@ -47,9 +53,10 @@ on_sent setting w request sound may = (
   grows,
   record {
     commits = λ n batch is. may_send_later setting w later grows (put_commit n batch) (sound.commits n batch is);
-    held = λ r bytes other is. needed_stays setting.digest w later r bytes grows (sound.held r bytes other is);
+    held = λ r bytes other is. needed_stays setting w later r bytes grows (sound.held r bytes other is);
     sent = λ one has. may_send_later setting w later grows one (sent one has);
     shown = λ q has. whole_stays setting w later q grows (sound.shown q has);
+    was_sent = λ q has. let was = sound.was_sent q has in (was.0, Contains-append_left w.sent (request ∷ []) _ was.1);
     last = sound.last;
   },
 )
@@ -89,9 +96,10 @@ on_commit setting w n batch sound may = (
   grows,
   record {
     commits = λ m own is. may_send_later setting w later grows (put_commit m own) (commits m own is);
-    held = λ r bytes other is. needed_stays setting.digest w later r bytes grows (sound.held r bytes other is);
+    held = λ r bytes other is. needed_stays setting w later r bytes grows (sound.held r bytes other is);
     sent = λ one has. may_send_later setting w later grows one (sound.sent one has);
     shown = λ q has. whole_stays setting w later q grows (sound.shown q has);
+    was_sent = sound.was_sent;
     last = sound.last;
   },
 )
@@ -119,14 +127,15 @@ put_or_old s r new old P own other = elim (cases_Bool (same_resource s r)) as (�
   | inr apart ↦ subst P (sym (ap (λ (b : Bool). cond b (Some new) old) apart)) other
 ]
 
-on_resource : (setting : Setting) (w : World) (r : Resource) (bytes : Bytes) → IsSound setting w → IsNeeded setting.digest w.store r bytes → GoesOn setting w (once_done setting.tag w (put_resource r bytes))
+on_resource : (setting : Setting) (w : World) (r : Resource) (bytes : Bytes) → IsSound setting w → IsNeeded setting w.store r bytes → GoesOn setting w (once_done setting.tag w (put_resource r bytes))
 on_resource setting w r bytes sound may = (
   grows,
   record {
     commits = λ n batch is. may_send_later setting w later grows (put_commit n batch) (sound.commits n batch is);
-    held = λ s own other is. needed_stays setting.digest w later s own grows (held s own other is);
+    held = λ s own other is. needed_stays setting w later s own grows (held s own other is);
     sent = λ one has. may_send_later setting w later grows one (sound.sent one has);
     shown = λ q has. whole_stays setting w later q grows (sound.shown q has);
+    was_sent = sound.was_sent;
     last = put_or_old resource.Checkpoint r bytes (w.store.held resource.Checkpoint) (λ o. o ≡ note_if (last_of w.shown))
         (λ same. absurd (plain (sym same))) sound.last;
   },
@@ -139,7 +148,7 @@ on_resource setting w r bytes sound may = (
     plain = (needed_within (length may.entries) r may.needed).1
 
     -- what is needed under the resource is what was put
-    agrees : (s : Resource) (own : Bytes) → s ≡ r → IsNeeded setting.digest w.store s own → Some bytes ≡ Some own
+    agrees : (s : Resource) (own : Bytes) → s ≡ r → IsNeeded setting w.store s own → Some bytes ≡ Some own
     agrees s own same is =
         let has : Contains (needed_resources (length is.entries)) r = subst (Contains (needed_resources (length is.entries))) same is.needed in
         let at : text_of setting.digest s is.entries ≡ text_of setting.digest r is.entries = ap (λ (x : Resource). text_of setting.digest x is.entries) same in
@@ -152,9 +161,9 @@ on_resource setting w r bytes sound may = (
       shown = λ q has. has;
     }
 
-    held : (s : Resource) (own : Bytes) → s ≢ resource.Checkpoint → later.store.held s ≡ Some own → IsNeeded setting.digest w.store s own
-    held s own other = put_or_old s r bytes (w.store.held s) (λ o. o ≡ Some own → IsNeeded setting.digest w.store s own)
-        (λ same is. subst (λ (x : Resource). IsNeeded setting.digest w.store x own) (sym same) (subst (IsNeeded setting.digest w.store r) (some_same bytes own is) may))
+    held : (s : Resource) (own : Bytes) → s ≢ resource.Checkpoint → later.store.held s ≡ Some own → IsNeeded setting w.store s own
+    held s own other = put_or_old s r bytes (w.store.held s) (λ o. o ≡ Some own → IsNeeded setting w.store s own)
+        (λ same is. subst (λ (x : Resource). IsNeeded setting w.store x own) (sym same) (subst (IsNeeded setting w.store r) (some_same bytes own is) may))
         (sound.held s own other)
 
 -- the note of the last of them, once one was added
@@ -166,14 +175,15 @@ last_note (p ∷ r ∷ history) q = last_note (r ∷ history) q
 abbrev pub with_shown : World → Prefix → World
 with_shown w q = record w { store = with_resource resource.Checkpoint q.note w.store; shown = w.shown ++ q ∷ [] }
 
-on_shown : (setting : Setting) (w : World) (q : Prefix) → IsSound setting w → IsWhole setting w.store q → GoesOn setting w (with_shown w q)
-on_shown setting w q sound may = (
+on_shown : (setting : Setting) (w : World) (q : Prefix) → IsSound setting w → IsWhole setting w.store q → WasSent w q → GoesOn setting w (with_shown w q)
+on_shown setting w q sound may was = (
   grows,
   record {
     commits = λ n batch is. may_send_later setting w later grows (put_commit n batch) (sound.commits n batch is);
-    held = λ s own other is. needed_stays setting.digest w later s own grows (sound.held s own other (back s other ∙ is));
+    held = λ s own other is. needed_stays setting w later s own grows (sound.held s own other (back s other ∙ is));
     sent = λ one has. may_send_later setting w later grows one (sound.sent one has);
     shown = λ p has. whole_stays setting w later p grows (shown p has);
+    was_sent = was_sent;
     last = sym (last_note w.shown q);
   },
 )
@@ -191,24 +201,31 @@ on_shown setting w q sound may = (
       shown = λ p has. Contains-append_left w.shown (q ∷ []) p has;
     }
 
+    was_sent : (p : Prefix) → Contains later.shown p → WasSent w p
+    was_sent p has = elim (Contains-push_cases w.shown q p has) as (λ _. WasSent w p) [
+      | inl old ↦ sound.was_sent p old
+      | inr own ↦ subst (WasSent w) own was
+    ]
+
     shown : (p : Prefix) → Contains later.shown p → IsWhole setting w.store p
     shown p has = elim (Contains-push_cases w.shown q p has) as (λ _. IsWhole setting w.store p) [
       | inl old ↦ sound.shown p old
       | inr own ↦ subst (IsWhole setting w.store) own may
     ]
 
-on_checkpoint : (setting : Setting) (w : World) (met : Bool) (q : Prefix) → IsSound setting w → IsWhole setting w.store q → GoesOn setting w (if met then with_shown w q else w)
-on_checkpoint setting w true q sound may = on_shown setting w q sound may
-on_checkpoint setting w false q sound may = (grows_not w, sound)
+on_checkpoint : (setting : Setting) (w : World) (met : Bool) (q : Prefix) → IsSound setting w → IsWhole setting w.store q → WasSent w q → GoesOn setting w (if met then with_shown w q else w)
+on_checkpoint setting w true q sound may was = on_shown setting w q sound may was
+on_checkpoint setting w false q sound may was = (grows_not w, sound)
 
-on_done : (setting : Setting) (w : World) (request : Request) → IsSound setting w → MaySend setting w request → GoesOn setting w (once_done setting.tag w request)
-on_done setting w (put_commit n batch) sound may = on_commit setting w n batch sound may
-on_done setting w (put_resource r bytes) sound may = on_resource setting w r bytes sound may
-on_done setting w (put_checkpoint wanted q) sound may = on_checkpoint setting w (is_met setting.tag wanted (w.store.held resource.Checkpoint)) q sound may.0
+on_done : (setting : Setting) (w : World) (request : Request) → IsSound setting w → Contains w.sent request → GoesOn setting w (once_done setting.tag w request)
+on_done setting w (put_commit n batch) sound has = on_commit setting w n batch sound (sound.sent (put_commit n batch) has)
+on_done setting w (put_resource r bytes) sound has = on_resource setting w r bytes sound (sound.sent (put_resource r bytes) has)
+on_done setting w (put_checkpoint wanted q) sound has =
+    on_checkpoint setting w (is_met setting.tag wanted (w.store.held resource.Checkpoint)) q sound (sound.sent (put_checkpoint wanted q) has).0 (wanted, has)
 
 pub on_event : (setting : Setting) (w : World) (e : Event) → IsSound setting w → MayHappen setting w e → GoesOn setting w (after setting.tag w e)
 on_event setting w (sends request) sound may = on_sent setting w request sound may
-on_event setting w (does request) sound has = on_done setting w request sound (sound.sent request has)
+on_event setting w (does request) sound has = on_done setting w request sound has
 
 pub on_events : (setting : Setting) (es : List Event) (w end : World) → IsSound setting w → LeadsBy setting es w end → GoesOn setting w end
 on_events setting [] w end sound same = subst (GoesOn setting w) same (grows_not w, sound)

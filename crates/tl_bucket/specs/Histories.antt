@@ -1,11 +1,10 @@
 -- What the publications of a log are to be to each other (RFC 6962, "Merkle Consistency Proofs").
-use Rattle.std.specs.Prelude.{◌≡◌, ◌≢◌, ◌⊎◌, IsTrue, List, length, AllPairs, Contains}
+use Rattle.std.specs.Prelude.{◌≡◌, ◌≢◌, ◌⊎◌, List, AllPairs, Contains}
 use Rattle.tl_hash.specs.Bytes.{Bytes}
 use Rattle.tl_note.specs.Note.{Signature, Note}
 use Rattle.tl_checkpoint.specs.Checkpoint.{IsHead}
 use Rattle.tl_publisher.specs.Histories.{Prefix, Begins}
 use Rattle.tl_publisher.specs.Signed.{head_of_log, text_of_log}
-use Rattle.tl_bucket.specs.Operators.{Setting}
 
 -- the one list begins the other
 abbrev pub AreConsistent : List Bytes → List Bytes → Type 0
@@ -24,19 +23,9 @@ pub record HaveOneTag (tag : Bytes → Bytes) (history : List Prefix) : Type 0 w
   pub apart : one.note ≢ other.note
   pub met : tag one.note ≡ tag other.note
 
--- no note is taken for a checkpoint of two lists of different length
-abbrev pub NotesTellSize : Setting → Type 0
-NotesTellSize setting = (a b : List Bytes) (note : Bytes) → IsTrue (setting.is_note a note)
-    → IsTrue (setting.is_note b note) → length a ≡ length b
-
--- the bytes are a note of the checkpoint that a log with this origin has of these entries, whoever signed it (C2SP
+-- the bytes are a note of the checkpoint that the log with this origin has of these entries, whoever signed it (C2SP
 -- tlog-checkpoint)
 pub record IsCheckpointOf (origin : Bytes) (entries : List Bytes) (note : Bytes) : Type 0 where
   pub lines : List Signature
   pub stated : IsHead (head_of_log origin entries)
   pub noted : Note note (text_of_log origin entries) lines
-
--- only such notes are taken for checkpoints
-abbrev pub TakesCheckpoints : Bytes → Setting → Type 0
-TakesCheckpoints origin setting = (entries : List Bytes) (note : Bytes) → IsTrue (setting.is_note entries note)
-    → IsCheckpointOf origin entries note

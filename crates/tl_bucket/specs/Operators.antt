@@ -1,6 +1,7 @@
 -- What the operators of one log may send to their bucket, and all that may come of it.
-use Rattle.std.specs.Prelude.{◌≡◌, ℕ, ◌-◌, ◌<◌, ◌≤◌, Bool, IsTrue, ⊤, List, [], ◌∷◌, ◌++◌, length, Option, Some, None, Contains, if◌then◌else◌}
+use Rattle.std.specs.Prelude.{◌≡◌, ℕ, ◌-◌, ◌<◌, ◌≤◌, ⊤, List, [], ◌∷◌, ◌++◌, length, Option, Some, None, Contains, if◌then◌else◌}
 use Rattle.tl_hash.specs.Bytes.{Bytes, Digest}
+use Rattle.tl_text.specs.Text.{line, number_text, HasNoControl, IsSize}
 use Rattle.tl_tile.specs.declared.resource.Resource.{Resource}
 use Rattle.tl_tile.specs.declared.resource.Resource.TheVariants as resource
 use Rattle.tl_tile.specs.Needed.{needed_resources}
@@ -8,12 +9,10 @@ use Rattle.tl_publisher.specs.Histories.{Prefix}
 use Rattle.tl_archive.specs.Complete.{text_of, HasAll}
 use Rattle.tl_bucket.specs.Bucket.{Store, no_objects, Committed, IsCommitted, Request, put_commit, put_resource, put_checkpoint, with_commit, with_resource, is_met}
 
--- the digest function; the store's entity tag of a content, of which nothing is known; and whether a note is a checkpoint
--- of these entries that may be shown, by whatever keys and cosignatures
+-- the digest function, and the entity tag that the store gives a content, of which nothing is known
 pub record Setting : Type 0 where
   pub digest : Digest
   pub tag : Bytes → Bytes
-  pub is_note : List Bytes → Bytes → Bool
 
 -- the store, all that any operator sent to it, and each publication whose checkpoint was there, in order
 pub record World : Type 0 where
@@ -28,30 +27,38 @@ beginning = record { store = no_objects; sent = []; shown = [] }
 -- ---- what may be sent
 
 -- a committed log needs these bytes under the resource
-pub record IsNeeded (digest : Digest) (store : Store) (r : Resource) (bytes : Bytes) : Type 0 where
+pub record IsNeeded (setting : Setting) (store : Store) (r : Resource) (bytes : Bytes) : Type 0 where
   pub entries : List Bytes
   pub committed : IsCommitted store entries
   pub needed : Contains (needed_resources (length entries)) r
-  pub bytes_of : bytes ≡ text_of digest r entries
+  pub bytes_of : bytes ≡ text_of setting.digest r entries
 
--- the publication is of a committed log, all that this needs is there, and its note is a checkpoint of it
+-- the note tells this size: in its second line, in decimal (C2SP tlog-checkpoint)
+pub record TellsSize (note : Bytes) (size : ℕ) : Type 0 where
+  pub origin : Bytes
+  pub rest : Bytes
+  pub plain : HasNoControl origin
+  pub bounded : IsSize size
+  pub spelled : note ≡ line origin ++ line (number_text size) ++ rest
+
+-- the publication is of a committed log, all that this needs is there, and its note tells the size of it
 pub record IsWhole (setting : Setting) (store : Store) (q : Prefix) : Type 0 where
   pub committed : IsCommitted store q.entries
   pub all : HasAll setting.digest q.entries store.held
-  pub note : IsTrue (setting.is_note q.entries q.note)
+  pub note : TellsSize q.note (length q.entries)
 
--- a log of so many entries may be shown where none is shown yet, or in the place of one that was shown of no more
+-- the checkpoint of so many entries may be the first, or take the place of one that was shown and tells no more
 abbrev pub MayReplace : List Prefix → ℕ → Option Bytes → Type 0
 MayReplace shown size None = ⊤
 MayReplace shown size (Some note) =
-    (p : Prefix) × Contains shown p × (p.note ≡ note) × (length p.entries ≤ size)
+    (p : Prefix) × Contains shown p × (p.note ≡ note) × (told : ℕ) × TellsSize note told × (told ≤ size)
 
 -- an operator may send it: a commit where those before it are there, a resource with the bytes that a committed log
 -- needs, and the checkpoint of a log that is there whole. Each of these stays true (`leave_to_send_stays`), so an operator
 -- may go by what it read at any time before
 abbrev pub MaySend : Setting → World → Request → Type 0
 MaySend setting w (put_commit n batch) = (0 < n) × (front : List Bytes) × Committed w.store (n - 1) front
-MaySend setting w (put_resource r bytes) = IsNeeded setting.digest w.store r bytes
+MaySend setting w (put_resource r bytes) = IsNeeded setting w.store r bytes
 MaySend setting w (put_checkpoint wanted q) =
     IsWhole setting w.store q × MayReplace w.shown (length q.entries) wanted
 

@@ -1,14 +1,14 @@
 //! What holds of a bucket, whatever its operators send and whatever becomes of it.
 
-ghost use Rattle.std.specs.Prelude.{◌≡◌, ◌≢◌, ◌⊎◌, ℕ, suc, ◌<◌, ◌≤◌, IsTrue, List, ◌++◌, length, All, Some, None, Option, Contains};
+ghost use Rattle.std.specs.Prelude.{◌≡◌, ◌≢◌, ◌⊎◌, ℕ, suc, ◌<◌, ◌≤◌, List, ◌++◌, length, All, Some, None, Option, Contains};
 ghost use Rattle.tl_hash.specs.Bytes.{Bytes};
 ghost use Rattle.tl_tile.specs.declared.resource.Resource.{Resource};
 ghost use Rattle.tl_tile.specs.declared.resource.Resource.TheVariants as resource;
 ghost use Rattle.tl_publisher.specs.Histories.{Prefix, Begins, last_of, note_if};
 ghost use Rattle.tl_archive.specs.Complete.{IsComplete};
 ghost use Rattle.tl_bucket.specs.Bucket.{Committed, Request, put_checkpoint};
-ghost use Rattle.tl_bucket.specs.Operators.{beginning, IsWhole, Leads, MaySend, Setting, World};
-ghost use Rattle.tl_bucket.specs.Histories.{AreConsistent, HaveOneTag, NeverShrinks, NotesTellSize, TakesCheckpoints};
+ghost use Rattle.tl_bucket.specs.Operators.{beginning, IsWhole, Leads, MaySend, Setting, TellsSize, World};
+ghost use Rattle.tl_bucket.specs.Histories.{AreConsistent, HaveOneTag, NeverShrinks, IsCheckpointOf};
 
 /// Of any two checkpoints that operators ever sent, and so of any two that were ever shown, the one's entries begin the
 /// other's, whatever the entity tags: no operator signs a fork.
@@ -24,19 +24,23 @@ pub fn operators_never_fork()
 /// What is shown is never rolled back: the entries of each publication begin those of each later one; or two different
 /// notes that were shown have one entity tag.
 pub fn shown_log_never_rolls_back()
-    ensures { (setting : Setting) → NotesTellSize setting → (w : World) → Leads setting beginning w
+    ensures { (setting : Setting) (w : World) → Leads setting beginning w
         → NeverShrinks w.shown ⊎ HaveOneTag setting.tag w.shown }
 {}
 
-/// Notes of a log's checkpoints tell its size: so it is where only they are taken for checkpoints.
+/// Each note of a log's checkpoint tells its size, whoever signed it: it may be sent.
 pub fn checkpoints_tell_size()
-    ensures { (setting : Setting) (origin : Bytes) → TakesCheckpoints origin setting
-        → NotesTellSize setting }
+    ensures { (origin : Bytes) (entries : List Bytes) (note : Bytes)
+        → IsCheckpointOf origin entries note → TellsSize note (length entries) }
 {}
 
-/// The checkpoint that is there is that of the last publication, and all is there that it needs. Each publication that
-/// was ever shown is whole then and at any later time: who read its checkpoint finds the rest, however late.
+/// What was shown an operator sent. The checkpoint that is there is that of the last publication, and all is there that
+/// it needs. Each publication that was ever shown is whole then and at any later time: who read its checkpoint finds the
+/// rest, however late.
 pub fn shown_log_is_complete()
+    ensures sent { (setting : Setting) (w : World) → Leads setting beginning w
+        → (q : Prefix) → Contains w.shown q
+        → (wanted : Option Bytes) × Contains w.sent (put_checkpoint wanted q) }
     ensures last { (setting : Setting) (w : World) → Leads setting beginning w
         → w.store.held resource.Checkpoint ≡ note_if (last_of w.shown) }
     ensures complete { (setting : Setting) (w : World) → Leads setting beginning w
@@ -91,6 +95,6 @@ pub fn log_can_go_on()
         × Committed later.store (suc n) (entries ++ batch) }
     ensures show { (setting : Setting) (w : World) → Leads setting beginning w
         → (n : ℕ) (q : Prefix) → Committed w.store n q.entries
-        → w.store.commits (suc n) ≡ None → IsTrue (setting.is_note q.entries q.note)
+        → w.store.commits (suc n) ≡ None → TellsSize q.note (length q.entries)
         → (later : World) × Leads setting w later × (last_of later.shown ≡ Some q) }
 {}

@@ -4,6 +4,9 @@ use Rattle.tl_bucket.proofs.Grown.{whole_stays}
 use Rattle.tl_bucket.proofs.Sound.{sound_led, grows_led}
 use Rattle.tl_bucket.proofs.law.shown_log_is_complete.Goals as goal
 
+pub returns-clause-sent : goal.returns-clause-sent
+returns-clause-sent c = λ setting w leads q has. (sound_led setting w leads).was_sent q has
+
 pub returns-clause-last : goal.returns-clause-last
 returns-clause-last c = λ setting w leads. (sound_led setting w leads).last
 
