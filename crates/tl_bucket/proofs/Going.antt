@@ -1,6 +1,6 @@
 -- A log can always go on.
 use Rattle.std.proofs.Common.{◌≡◌, ℕ, suc, ◌≤◌, ◌==◌, Bool, true, cond, inl, inr, List, [], ◌∷◌, ◌++◌, length, Option, Some, None, refl, sym, ap, ◌∙◌, subst, if◌then◌else◌, arith}
-use Rattle.std.specs.Prelude.{Contains, IsTrue}
+use Rattle.std.specs.Prelude.{Contains}
 use Rattle.std.proofs.lemmas.Bool.{cases_eq, eq-eqb}
 use Rattle.std.proofs.lemmas.Slice.Eq.{bytes_eq-Decides}
 use Rattle.std.proofs.lemmas.List.{length-append}
@@ -158,7 +158,7 @@ met_itself tag (Some note) = (bytes_eq-Decides (tag note) (tag note)).1 refl
 may_replace : (setting : Setting) (store : Store) (history : List Prefix) (size : ℕ) → ((p : Prefix) → Contains history p → IsWhole setting store p)
     → ((p : Prefix) → Contains history p → length p.entries ≤ size) → (last : Option Prefix) → last_of history ≡ last → MayReplace history size (note_if last)
 may_replace setting store history size each few None is = tt
-may_replace setting store history size each few (Some p) is = let has = last_has history p is in (p, has, refl, length p.entries, (each p has).note, few p has)
+may_replace setting store history size each few (Some p) is = let has = last_has history p is in ((p, has, refl), (length p.entries, (each p has).note, few p has))
 
 can_replace : (setting : Setting) (w : World) (n : ℕ) (q : Prefix) → IsSound setting w → Committed w.store n q.entries → w.store.commits (suc n) ≡ None → IsWhole setting w.store q
     → (later : World) × Leads setting w later × (last_of later.shown ≡ Some q)

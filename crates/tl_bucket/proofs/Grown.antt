@@ -1,7 +1,7 @@
 -- What stays once it is there, and what may be sent because of it.
 use Rattle.std.proofs.Common.{◌≡◌, ◌≢◌, ℕ, zero, suc, Bool, true, false, List, [], ◌∷◌, Option, Some, None, sym, ap, ◌∙◌, ◌==◌, if◌then◌else◌}
 use Rattle.std.specs.Prelude.{Contains, length}
-use Rattle.tl_hash.specs.Bytes.{Bytes, Digest}
+use Rattle.tl_hash.specs.Bytes.{Bytes}
 use Rattle.tl_tile.specs.declared.resource.Resource.{Resource}
 use Rattle.tl_tile.specs.declared.resource.Resource.TheVariants as resource
 use Rattle.tl_publisher.specs.Histories.{Prefix}
@@ -57,7 +57,7 @@ whole_stays setting w later q grows is = record {
 
 replaces_later : (shown more : List Prefix) → ((q : Prefix) → Contains shown q → Contains more q) → (size : ℕ) (wanted : Option Bytes) → MayReplace shown size wanted → MayReplace more size wanted
 replaces_later shown more stay size None may = may
-replaces_later shown more stay size (Some note) may = (may.0, stay may.0 may.1, may.2, may.3, may.4, may.5)
+replaces_later shown more stay size (Some note) may = ((may.0.0, stay may.0.0 may.0.1, may.0.2), may.1)
 
 pub may_send_later : (setting : Setting) (w later : World) → Grows w later → (request : Request) → MaySend setting w request → MaySend setting later request
 may_send_later setting w later grows (put_commit n batch) may = (may.0, may.1, committed_stays w.store later.store grows.commits _ may.1 may.2)

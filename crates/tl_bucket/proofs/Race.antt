@@ -1,6 +1,6 @@
 -- A race: two operators commit first, one of them loses, and what the other committed is shown.
 use Rattle.std.proofs.Common.{◌≡◌, List, [], ◌∷◌, length, Some, None, refl, arith}
-use Rattle.std.specs.Prelude.{Contains, IsTrue}
+use Rattle.std.specs.Prelude.{Contains}
 use Rattle.tl_hash.specs.Bytes.{Bytes}
 use Rattle.tl_publisher.specs.Histories.{last_of}
 use Rattle.tl_bucket.specs.Bucket.{Committed, put_commit}

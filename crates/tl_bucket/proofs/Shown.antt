@@ -99,7 +99,7 @@ one_size note m n is was =
     let x : Bytes = line (number_text m) ++ is.rest in
     let y : Bytes = line (number_text n) ++ was.rest in
     let opened : line is.origin ++ x ≡ line was.origin ++ y =
-        sym (append_assoc (line is.origin) (line (number_text m)) is.rest) ∙ sym is.spelled ∙ was.spelled ∙ append_assoc (line was.origin) (line (number_text n)) was.rest in
+    sym (append_assoc (line is.origin) (line (number_text m)) is.rest) ∙ sym is.spelled ∙ was.spelled ∙ append_assoc (line was.origin) (line (number_text n)) was.rest in
     let first = one_line is.origin was.origin x y is.plain was.plain opened in
     let second = one_line (number_text m) (number_text n) is.rest was.rest (number_plain m (omega (arith, small))) (number_plain n (omega (arith, few))) first.1 in
     decimal_injective m n (omega (arith, small)) (omega (arith, few)) second.0
@@ -112,12 +112,12 @@ replaced setting store history q wanted note each own may there met grows tops =
     elim (cases_bytes wanted note) as (λ _. IsOrdered setting.tag (history ++ q ∷ [])) [
       | inl same ↦ inl (push_ordered setting store history q each own grows (less same))
       | inr apart ↦ inr (tags_more setting.tag history q (record {
-        one = may.0;
+        one = may.0.0;
         other = last.0;
-        of_one = may.1;
+        of_one = may.0.1;
         of_other = last_has history last.0 last.1;
-        apart = λ e. apart (sym may.2 ∙ e ∙ last.2);
-        met = ap setting.tag may.2 ∙ (bytes_eq-Decides (setting.tag wanted) (setting.tag note)).0 met ∙ ap setting.tag (sym last.2);
+        apart = λ e. apart (sym may.0.2 ∙ e ∙ last.2);
+        met = ap setting.tag may.0.2 ∙ (bytes_eq-Decides (setting.tag wanted) (setting.tag note)).0 met ∙ ap setting.tag (sym last.2);
       }))
     ]
   where
@@ -128,10 +128,10 @@ replaced setting store history q wanted note each own may there met grows tops =
     less : wanted ≡ note → (p : Prefix) → Contains history p → length p.entries ≤ length q.entries
     less same p has =
         let of_last = (each last.0 (last_has history last.0 last.1)).note in
-        let of_meant : TellsSize last.0.note may.3 = subst (λ (n : Bytes). TellsSize n may.3) (same ∙ sym last.2) may.4 in
-        let size : length last.0.entries ≡ may.3 = one_size last.0.note (length last.0.entries) may.3 of_last of_meant in
+        let of_meant : TellsSize last.0.note may.1.0 = subst (λ (n : Bytes). TellsSize n may.1.0) (same ∙ sym last.2) may.1.1 in
+        let size : length last.0.entries ≡ may.1.0 = one_size last.0.note (length last.0.entries) may.1.0 of_last of_meant in
         let top = tops last.0 last.1 p has in
-        let fit = may.5 in
+        let fit = may.1.2 in
         omega (arith, size, top, fit)
 
 first_ordered : (setting : Setting) (q : Prefix) → IsOrdered setting.tag (q ∷ [])

@@ -9,7 +9,7 @@ use Rattle.tl_publisher.specs.Histories.{Prefix}
 use Rattle.tl_archive.specs.Complete.{text_of, HasAll}
 use Rattle.tl_bucket.specs.Bucket.{Store, no_objects, Committed, IsCommitted, Request, put_commit, put_resource, put_checkpoint, with_commit, with_resource, is_met}
 
--- the digest function, and the entity tag that the store gives a content, of which nothing is known
+-- the digest function; and the entity tag that the store gives a content (RFC 9110, "ETag"), of which nothing is known
 pub record Setting : Type 0 where
   pub digest : Digest
   pub tag : Bytes → Bytes
@@ -33,7 +33,7 @@ pub record IsNeeded (setting : Setting) (store : Store) (r : Resource) (bytes : 
   pub needed : Contains (needed_resources (length entries)) r
   pub bytes_of : bytes ≡ text_of setting.digest r entries
 
--- the note tells this size: in its second line, in decimal (C2SP tlog-checkpoint)
+-- the second line of the note is this size in decimal (C2SP tlog-checkpoint)
 pub record TellsSize (note : Bytes) (size : ℕ) : Type 0 where
   pub origin : Bytes
   pub rest : Bytes
@@ -41,21 +41,24 @@ pub record TellsSize (note : Bytes) (size : ℕ) : Type 0 where
   pub bounded : IsSize size
   pub spelled : note ≡ line origin ++ line (number_text size) ++ rest
 
--- the publication is of a committed log, all that this needs is there, and its note tells the size of it
+-- the publication is of a committed log, all that this log needs is there, and the note tells its size
 pub record IsWhole (setting : Setting) (store : Store) (q : Prefix) : Type 0 where
   pub committed : IsCommitted store q.entries
   pub all : HasAll setting.digest q.entries store.held
   pub note : TellsSize q.note (length q.entries)
 
--- the checkpoint of so many entries may be the first, or take the place of one that was shown and tells no more
+-- the note is that of a publication that was shown
+abbrev pub WasShown : List Prefix → Bytes → Type 0
+WasShown shown note = (p : Prefix) × Contains shown p × (p.note ≡ note)
+
+-- a checkpoint of so many entries may be the first, or take the place of one that was shown and tells no more
 abbrev pub MayReplace : List Prefix → ℕ → Option Bytes → Type 0
 MayReplace shown size None = ⊤
-MayReplace shown size (Some note) =
-    (p : Prefix) × Contains shown p × (p.note ≡ note) × (told : ℕ) × TellsSize note told × (told ≤ size)
+MayReplace shown size (Some note) = WasShown shown note × ((told : ℕ) × TellsSize note told × (told ≤ size))
 
 -- an operator may send it: a commit where those before it are there, a resource with the bytes that a committed log
--- needs, and the checkpoint of a log that is there whole. Each of these stays true (`leave_to_send_stays`), so an operator
--- may go by what it read at any time before
+-- needs, and the checkpoint of a log that is there whole. Each of these stays true (`leave_to_send_stays`), so an
+-- operator may go by what it read at any time before
 abbrev pub MaySend : Setting → World → Request → Type 0
 MaySend setting w (put_commit n batch) = (0 < n) × (front : List Bytes) × Committed w.store (n - 1) front
 MaySend setting w (put_resource r bytes) = IsNeeded setting w.store r bytes
