@@ -6,7 +6,7 @@ ghost use Rattle.tl_tile.specs.declared.resource.Resource.{Resource};
 ghost use Rattle.tl_tile.specs.declared.resource.Resource.TheVariants as resource;
 ghost use Rattle.tl_publisher.specs.Histories.{Prefix, Begins, last_of, note_if};
 ghost use Rattle.tl_archive.specs.Complete.{IsComplete};
-ghost use Rattle.tl_bucket.specs.Bucket.{Committed, Request, put_checkpoint};
+ghost use Rattle.tl_bucket.specs.Bucket.{Committed, IsCommitted, Request, put_checkpoint};
 ghost use Rattle.tl_bucket.specs.Operators.{beginning, IsWhole, Leads, MaySend, Setting, TellsSize, World};
 ghost use Rattle.tl_bucket.specs.Histories.{AreConsistent, HaveOneTag, NeverShrinks, IsCheckpointOf};
 
@@ -34,9 +34,9 @@ pub fn checkpoints_tell_size()
         → IsCheckpointOf origin entries note → TellsSize note (length entries) }
 {}
 
-/// What was shown an operator sent. The checkpoint that is there is that of the last publication, and all is there that
-/// it needs. Each publication that was ever shown is whole then and at any later time: who read its checkpoint finds the
-/// rest, however late.
+/// What was shown some operator sent. The checkpoint that is there is that of the last publication, and all is there
+/// that it needs. Each publication that was ever shown is whole then and at any later time: who read its checkpoint
+/// finds the rest, however late.
 pub fn shown_log_is_complete()
     ensures sent { (setting : Setting) (w : World) → Leads setting beginning w
         → (q : Prefix) → Contains w.shown q
@@ -71,11 +71,14 @@ pub fn commits_have_no_gap()
 {}
 
 /// The log after some commits begins the log after as many or more of them at any later time: what is committed has its
-/// place for good.
+/// place for good. And of any two committed logs, then and later, one begins the other.
 pub fn committed_logs_extend()
-    ensures { (setting : Setting) (w later : World) → Leads setting w later
+    ensures front { (setting : Setting) (w later : World) → Leads setting w later
         → (m n : ℕ) (a b : List Bytes) → m ≤ n → Committed w.store m a
         → Committed later.store n b → Begins a b }
+    ensures either { (setting : Setting) (w later : World) → Leads setting w later
+        → (a b : List Bytes) → IsCommitted w.store a → IsCommitted later.store b
+        → AreConsistent a b }
 {}
 
 /// What may be sent may be sent later: what an operator goes by stays true, however late its request is.
