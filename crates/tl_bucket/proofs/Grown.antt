@@ -75,7 +75,7 @@ put_stays : (test : Bool) (new x : List Bytes) (old : Option (List Bytes)) → o
 put_stays true new x old is = kept_new new x old is
 put_stays false new x old is = is
 
-either_store : (P : Store → Type 0) (test : Bool) (a b : World) → P a.store → P b.store → P (if test then a else b).store
+pub either_store : (P : Store → Type 0) (test : Bool) (a b : World) → P a.store → P b.store → P (if test then a else b).store
 either_store P true a b is other = is
 either_store P false a b is other = other
 

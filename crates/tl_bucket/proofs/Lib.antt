@@ -2,5 +2,6 @@ pub mod Commits
 pub mod Grown
 pub mod Sound
 pub mod Shown
+pub mod Last
 pub mod Going
 mod Race

@@ -63,11 +63,15 @@ pub fn commits_stay()
         → later.store.commits n ≡ Some batch }
 {}
 
-/// Before a commit that is there all are there: so the last one is found by doubling a number and then halving.
+/// Before a commit that is there all are there, and behind the last there is none: so it is found by doubling a number
+/// and then halving.
 pub fn commits_have_no_gap()
-    ensures { (setting : Setting) (w : World) → Leads setting beginning w
+    ensures before { (setting : Setting) (w : World) → Leads setting beginning w
         → (m n : ℕ) (batch : List Bytes) → 0 < m → m ≤ n → w.store.commits n ≡ Some batch
         → (own : List Bytes) × (w.store.commits m ≡ Some own) }
+    ensures last { (setting : Setting) (w : World) → Leads setting beginning w
+        → (n : ℕ) × (entries : List Bytes) × Committed w.store n entries
+        × ((m : ℕ) → n < m → w.store.commits m ≡ None) }
 {}
 
 /// The log after some commits begins the log after as many or more of them at any later time: what is committed has its
