@@ -73,7 +73,7 @@ by_size store a b is was le = elim (consistent store a b is was) as (λ _. Begin
 ]
 
 -- what begins another has the same bytes under a resource that it needs
-begun_bytes : (H : Digest) (a b : List Bytes) (r : Resource) → Begins a b → Contains (needed_resources (length a)) r → text_of H r b ≡ text_of H r a
+pub begun_bytes : (H : Digest) (a b : List Bytes) (r : Resource) → Begins a b → Contains (needed_resources (length a)) r → text_of H r b ≡ text_of H r a
 begun_bytes H a b r begins has = ap (text_of H r) (sym begins.1) ∙ needed_bytes_stay H a begins.0 r has
 
 -- two logs of one store that need a resource have the same bytes under it

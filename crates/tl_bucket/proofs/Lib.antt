@@ -3,5 +3,6 @@ pub mod Grown
 pub mod Sound
 pub mod Shown
 pub mod Last
+pub mod Right
 pub mod Going
 mod Race

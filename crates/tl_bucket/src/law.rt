@@ -5,7 +5,8 @@ ghost use Rattle.tl_hash.specs.Bytes.{Bytes};
 ghost use Rattle.tl_tile.specs.declared.resource.Resource.{Resource};
 ghost use Rattle.tl_tile.specs.declared.resource.Resource.TheVariants as resource;
 ghost use Rattle.tl_publisher.specs.Histories.{Prefix, Begins, last_of, note_if};
-ghost use Rattle.tl_archive.specs.Complete.{IsComplete};
+ghost use Rattle.tl_tile.specs.Needed.{needed_resources, needed_resources_since};
+ghost use Rattle.tl_archive.specs.Complete.{text_of, HasAll, IsComplete};
 ghost use Rattle.tl_bucket.specs.Bucket.{Committed, IsCommitted, Request, put_checkpoint};
 ghost use Rattle.tl_bucket.specs.Operators.{beginning, IsWhole, Leads, MaySend, Setting, TellsSize, World};
 ghost use Rattle.tl_bucket.specs.Histories.{AreConsistent, HaveOneTag, NeverShrinks, IsCheckpointOf};
@@ -54,6 +55,25 @@ pub fn stored_bytes_stay()
     ensures { (setting : Setting) (w later : World) → Leads setting beginning w
         → Leads setting w later → (r : Resource) (bytes : Bytes) → r ≢ resource.Checkpoint
         → w.store.held r ≡ Some bytes → later.store.held r ≡ Some bytes }
+{}
+
+/// What is there and what a committed log needs has the bytes of that log: an operator need only see that it is there.
+pub fn stored_bytes_are_right()
+    ensures { (setting : Setting) (w : World) → Leads setting beginning w
+        → (entries : List Bytes) (r : Resource) (bytes : Bytes) → IsCommitted w.store entries
+        → Contains (needed_resources (length entries)) r → w.store.held r ≡ Some bytes
+        → bytes ≡ text_of setting.digest r entries }
+{}
+
+/// A committed log is there whole once all is there that it needs and some log that was shown didn't: an operator puts
+/// what is new alone.
+pub fn new_resources_suffice()
+    ensures { (setting : Setting) (w : World) → Leads setting beginning w
+        → (p : Prefix) (entries : List Bytes) → Contains w.shown p → IsCommitted w.store entries
+        → length p.entries ≤ length entries
+        → ((r : Resource) → Contains (needed_resources_since (length p.entries) (length entries)) r
+        → w.store.held r ≢ None)
+        → HasAll setting.digest entries w.store.held }
 {}
 
 /// A commit that is there stays as it is.

@@ -7,6 +7,6 @@ mod law;
 
 pub use law::{
     checkpoints_tell_size, commits_have_no_gap, commits_stay, committed_logs_extend,
-    leave_to_send_stays, log_can_go_on, operators_never_fork, shown_log_is_complete,
-    shown_log_never_rolls_back, stored_bytes_stay,
+    leave_to_send_stays, log_can_go_on, new_resources_suffice, operators_never_fork,
+    shown_log_is_complete, shown_log_never_rolls_back, stored_bytes_are_right, stored_bytes_stay,
 };
