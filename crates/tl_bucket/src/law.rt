@@ -57,7 +57,7 @@ pub fn stored_bytes_stay()
         → w.store.held r ≡ Some bytes → later.store.held r ≡ Some bytes }
 {}
 
-/// What is there and what a committed log needs has the bytes of that log: an operator need only see that it is there.
+/// What a committed log needs has that log's bytes where it is there: an operator need only see that it is.
 pub fn stored_bytes_are_right()
     ensures { (setting : Setting) (w : World) → Leads setting beginning w
         → (entries : List Bytes) (r : Resource) (bytes : Bytes) → IsCommitted w.store entries
