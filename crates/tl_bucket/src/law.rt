@@ -1,0 +1,127 @@
+//! What holds of a bucket, whatever its operators send and whatever becomes of it.
+
+ghost use Rattle.std.specs.Prelude.{◌≡◌, ◌≢◌, ◌⊎◌, ℕ, suc, ◌<◌, ◌≤◌, List, ◌++◌, length, All, Some, None, Option, Contains};
+ghost use Rattle.tl_hash.specs.Bytes.{Bytes};
+ghost use Rattle.tl_tile.specs.declared.resource.Resource.{Resource};
+ghost use Rattle.tl_tile.specs.declared.resource.Resource.TheVariants as resource;
+ghost use Rattle.tl_publisher.specs.Histories.{Prefix, Begins, last_of, note_if};
+ghost use Rattle.tl_tile.specs.Needed.{needed_resources, needed_resources_since};
+ghost use Rattle.tl_archive.specs.Complete.{text_of, HasAll, IsComplete};
+ghost use Rattle.tl_bucket.specs.Bucket.{Committed, IsCommitted, Request, put_checkpoint};
+ghost use Rattle.tl_bucket.specs.Operators.{beginning, IsWhole, Leads, MaySend, Setting, TellsSize, World};
+ghost use Rattle.tl_bucket.specs.Histories.{AreConsistent, HaveOneTag, NeverShrinks, IsCheckpointOf};
+
+/// Of any two checkpoints that operators ever sent, and so of any two that were ever shown, the one's entries begin the
+/// other's, whatever the entity tags: no operator signs a fork.
+pub fn operators_never_fork()
+    ensures sent { (setting : Setting) (w : World) → Leads setting beginning w
+        → (wanted other : Option Bytes) (p q : Prefix) → Contains w.sent (put_checkpoint wanted p)
+        → Contains w.sent (put_checkpoint other q) → AreConsistent p.entries q.entries }
+    ensures shown { (setting : Setting) (w : World) → Leads setting beginning w
+        → (p q : Prefix) → Contains w.shown p → Contains w.shown q
+        → AreConsistent p.entries q.entries }
+{}
+
+/// What is shown is never rolled back: the entries of each publication begin those of each later one; or two different
+/// notes that were shown have one entity tag.
+pub fn shown_log_never_rolls_back()
+    ensures { (setting : Setting) (w : World) → Leads setting beginning w
+        → NeverShrinks w.shown ⊎ HaveOneTag setting.tag w.shown }
+{}
+
+/// Each note of a log's checkpoint tells its size, whoever signed it: it may be sent.
+pub fn checkpoints_tell_size()
+    ensures { (origin : Bytes) (entries : List Bytes) (note : Bytes)
+        → IsCheckpointOf origin entries note → TellsSize note (length entries) }
+{}
+
+/// What was shown some operator sent. The checkpoint that is there is that of the last publication, and all is there
+/// that it needs. Each publication that was ever shown is whole then and at any later time: who read its checkpoint
+/// finds the rest, however late.
+pub fn shown_log_is_complete()
+    ensures sent { (setting : Setting) (w : World) → Leads setting beginning w
+        → (q : Prefix) → Contains w.shown q
+        → (wanted : Option Bytes) × Contains w.sent (put_checkpoint wanted q) }
+    ensures last { (setting : Setting) (w : World) → Leads setting beginning w
+        → w.store.held resource.Checkpoint ≡ note_if (last_of w.shown) }
+    ensures complete { (setting : Setting) (w : World) → Leads setting beginning w
+        → IsComplete setting.digest w.shown w.store.held }
+    ensures each { (setting : Setting) (w later : World) → Leads setting beginning w
+        → Leads setting w later → All (IsWhole setting later.store) w.shown }
+{}
+
+/// A tile or bundle that is there keeps its bytes, whoever puts it again, and however late.
+pub fn stored_bytes_stay()
+    ensures { (setting : Setting) (w later : World) → Leads setting beginning w
+        → Leads setting w later → (r : Resource) (bytes : Bytes) → r ≢ resource.Checkpoint
+        → w.store.held r ≡ Some bytes → later.store.held r ≡ Some bytes }
+{}
+
+/// What a committed log needs has that log's bytes where it is there: an operator need only see that it is.
+pub fn stored_bytes_are_right()
+    ensures { (setting : Setting) (w : World) → Leads setting beginning w
+        → (entries : List Bytes) (r : Resource) (bytes : Bytes) → IsCommitted w.store entries
+        → Contains (needed_resources (length entries)) r → w.store.held r ≡ Some bytes
+        → bytes ≡ text_of setting.digest r entries }
+{}
+
+/// A committed log is there whole once all is there that it needs and some log that was shown didn't: an operator puts
+/// what is new alone.
+pub fn new_resources_suffice()
+    ensures { (setting : Setting) (w : World) → Leads setting beginning w
+        → (p : Prefix) (entries : List Bytes) → Contains w.shown p → IsCommitted w.store entries
+        → length p.entries ≤ length entries
+        → ((r : Resource) → Contains (needed_resources_since (length p.entries) (length entries)) r
+        → w.store.held r ≢ None)
+        → HasAll setting.digest entries w.store.held }
+{}
+
+/// A commit that is there stays as it is.
+pub fn commits_stay()
+    ensures { (setting : Setting) (w later : World) → Leads setting w later
+        → (n : ℕ) (batch : List Bytes) → w.store.commits n ≡ Some batch
+        → later.store.commits n ≡ Some batch }
+{}
+
+/// Before a commit that is there all are there, and behind the last there is none: so it is found by doubling a number
+/// and then halving.
+pub fn commits_have_no_gap()
+    ensures before { (setting : Setting) (w : World) → Leads setting beginning w
+        → (m n : ℕ) (batch : List Bytes) → 0 < m → m ≤ n → w.store.commits n ≡ Some batch
+        → (own : List Bytes) × (w.store.commits m ≡ Some own) }
+    ensures last { (setting : Setting) (w : World) → Leads setting beginning w
+        → (n : ℕ) × (entries : List Bytes) × Committed w.store n entries
+        × ((m : ℕ) → n < m → w.store.commits m ≡ None) }
+{}
+
+/// The log after some commits begins the log after as many or more of them at any later time: what is committed has its
+/// place for good. And of any two committed logs, then and later, one begins the other.
+pub fn committed_logs_extend()
+    ensures front { (setting : Setting) (w later : World) → Leads setting w later
+        → (m n : ℕ) (a b : List Bytes) → m ≤ n → Committed w.store m a
+        → Committed later.store n b → Begins a b }
+    ensures either { (setting : Setting) (w later : World) → Leads setting w later
+        → (a b : List Bytes) → IsCommitted w.store a → IsCommitted later.store b
+        → AreConsistent a b }
+{}
+
+/// What may be sent may be sent later: what an operator goes by stays true, however late its request is.
+pub fn leave_to_send_stays()
+    ensures { (setting : Setting) (w later : World) → Leads setting beginning w
+        → Leads setting w later → (request : Request) → MaySend setting w request
+        → MaySend setting later request }
+{}
+
+/// Whatever came before, whoever crashed and wherever, the log can go on: any entries can be committed behind the last
+/// commit, and all that is committed can be shown, if there is a note of it.
+pub fn log_can_go_on()
+    ensures commit { (setting : Setting) (w : World) → Leads setting beginning w
+        → (n : ℕ) (entries batch : List Bytes) → Committed w.store n entries
+        → w.store.commits (suc n) ≡ None
+        → (later : World) × Leads setting w later
+        × Committed later.store (suc n) (entries ++ batch) }
+    ensures show { (setting : Setting) (w : World) → Leads setting beginning w
+        → (n : ℕ) (q : Prefix) → Committed w.store n q.entries
+        → w.store.commits (suc n) ≡ None → TellsSize q.note (length q.entries)
+        → (later : World) × Leads setting w later × (last_of later.shown ≡ Some q) }
+{}

@@ -1,0 +1,12 @@
+//! A log in a bucket: several operators of one log, and one store of objects whose puts may have conditions (RFC 9110,
+//! "If-Match" and "If-None-Match"). They agree by commits: who appends entries puts them under the next `commit/N`
+//! first, where nothing may be; then what the log needs is put; and then its checkpoint, in the place of an older one.
+#![tactic(auto)]
+
+mod law;
+
+pub use law::{
+    checkpoints_tell_size, commits_have_no_gap, commits_stay, committed_logs_extend,
+    leave_to_send_stays, log_can_go_on, new_resources_suffice, operators_never_fork,
+    shown_log_is_complete, shown_log_never_rolls_back, stored_bytes_are_right, stored_bytes_stay,
+};
