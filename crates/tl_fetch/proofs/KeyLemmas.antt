@@ -1,5 +1,5 @@
 -- Public keys of witnesses, each its own, and those of the log.
-use Rattle.std.proofs.Common.{◌≡◌, ◌<◌, ◌+◌, ◌⊎◌, ◌++◌, ◌∷◌, [], List, ℕ, zero, suc, refl, sym, subst, inl, inr, arith, drop, length, string_bytes}
+use Rattle.std.proofs.Common.{◌≡◌, ◌<◌, ◌+◌, ◌⊎◌, ◌++◌, ◌∷◌, [], List, ℕ, zero, suc, refl, sym, subst, inl, inr, arith, drop, length}
 use Rattle.std.specs.Prelude.{Contains}
 use Rattle.std.specs.List.{Any}
 use Rattle.std.proofs.lemmas.List.{drop_more}
