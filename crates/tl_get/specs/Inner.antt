@@ -13,3 +13,5 @@ pub
     mod ChunkReads
 pub
     mod Values
+pub
+    mod Closing

@@ -1,10 +1,10 @@
 //! Reading the body of a response.
 
-ghost use Rattle.std.specs.Prelude.{◌≤◌, ◌++◌, length};
+ghost use Rattle.std.specs.Prelude.{◌≤◌, ◌++◌, IfOk, length};
 ghost use Rattle.tl_device.specs.Device.{passage};
 ghost use Rattle.tl_get.specs.Get.{Receives};
 ghost use Rattle.tl_get.specs.Response.{BodyDecides, outcome};
-ghost use Rattle.tl_get.specs.Inner.Bodies.{ReadsUpTo, TellsEnd};
+ghost use Rattle.tl_get.specs.Inner.Bodies.{FillsSized, FullBody, ReadsUpTo, TellsEnd};
 ghost use Rattle.tl_get.specs.declared.framing.Framing.TheVariants.{Sized, UntilEnd};
 
 use crate::chunks::read_chunks;
@@ -77,8 +77,10 @@ fn read_sized<A: Allocator + Copy, I: Read>(
     begun: &[u8],
     len: usize,
 ) -> Result<Vec<u8, A>, GetFault>
-    ensures { Receives (λ rest r. BodyDecides len (Sized len) (begun.now ++ rest) r)
+    ensures decides { Receives (λ rest r. BodyDecides len (Sized len) (begun.now ++ rest) r)
         (passage I.remaining reader.old reader.new) (outcome result) }
+    ensures full { IfOk result (λ body.
+        FullBody (passage I.remaining reader.old reader.new) begun.now len body.items) }
 {
     match read_up_to(alloc, reader, begun, len) {
         Body::Failed => Err(GetFault::Read),
@@ -123,8 +125,10 @@ pub(crate) fn read_body<A: Allocator + Copy, I: Read>(
     limit: usize,
 ) -> Result<Vec<u8, A>, GetFault>
     requires { length begun.now ≤ 16384 }
-    ensures { Receives (λ rest r. BodyDecides limit framing (begun.now ++ rest) r)
+    ensures decides { Receives (λ rest r. BodyDecides limit framing (begun.now ++ rest) r)
         (passage I.remaining reader.old reader.new) (outcome result) }
+    ensures full { IfOk result (λ body.
+        FillsSized framing (passage I.remaining reader.old reader.new) begun.now body.items) }
 {
     match framing {
         Framing::UntilEnd => read_rest(alloc, reader, begun, limit),

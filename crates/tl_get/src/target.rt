@@ -3,8 +3,8 @@
 ghost use Rattle.std.specs.Prelude.{◌↔◌, IsTrue};
 ghost use Rattle.tl_get.specs.Request.{IsVisible, IsAskable};
 
-// Whether a text is visible ASCII characters, at least one.
-fn is_visible(text: &[u8]) -> bool
+/// Whether a text is visible ASCII characters, at least one.
+pub(crate) fn is_visible(text: &[u8]) -> bool
     ensures { IsTrue result ↔ IsVisible text.now }
 {
     if text.is_empty() {

@@ -1,10 +1,12 @@
 -- The steps of reading a body.
-use Rattle.std.specs.Prelude.{◌≡◌, ℕ, ◌<◌, [], ◌++◌, ◌∷◌, true, false, Bool, Option, Some, None, length, drop, vec_items}
+use Rattle.std.specs.Prelude.{◌≡◌, ℕ, ◌<◌, [], ◌++◌, ◌∷◌, true, false, Bool, Option, Some, None, ⊤, length, drop, vec_items}
 use Rattle.tl_device.specs.Device.{Passage, HasFailed}
 use Rattle.tl_hash.specs.Bytes.{Bytes}
 use Rattle.tl_device.specs.Reading.{Gave}
 use Rattle.tl_get.specs.declared.body.Body.{Body}
 use Rattle.tl_get.specs.declared.body.Body.TheVariants.{Failed, NoMemory, Ended, Full}
+use Rattle.tl_get.specs.declared.framing.Framing.{Framing}
+use Rattle.tl_get.specs.declared.framing.Framing.TheVariants.{Sized, UntilEnd, Chunked}
 
 -- what was read goes on from the beginning of a body and no further
 pub record GrownBody (i : Passage) (begun body : Bytes) : Type 0 where
@@ -45,3 +47,9 @@ abbrev pub TellsEnd : Passage → Option Bool → Type 0
 TellsEnd i None = HasFailed i
 TellsEnd i (Some true) = Gave i [] true
 TellsEnd i (Some false) = (b : ℕ) × Gave i (b ∷ []) false
+
+-- a body with a length was read, and no byte behind it that didn't come with the head
+abbrev pub FillsSized : Framing → Passage → Bytes → Bytes → Type 0
+FillsSized (Sized n) i begun body = FullBody i begun n body
+FillsSized UntilEnd i begun body = ⊤
+FillsSized Chunked i begun body = ⊤

@@ -18,8 +18,8 @@ returns-in_err-field g c =
 pub returns-in_err-body : goal.returns-in_err-body
 returns-in_err-body g c =
     let p = err_from_is_err_and c.from_residual-in_err-body.result c.from_residual-in_err-body.ensures.1 in
-    rw (p.1, p.2) (no_body c.args.statuses.now c.args.name.now c.args.limit _ _ _ _ _ _ c.read_taken.new.buf c.read_taken.new.headers c.in_ok-taken.taken _ c.in_ok-taken.ensures c.in_err-body.ensures)
+    rw (p.1, p.2) (no_body c.args.statuses.now c.args.name.now c.args.limit _ _ _ _ _ _ c.read_taken.new.buf c.read_taken.new.headers c.in_ok-taken.taken _ c.in_ok-taken.ensures c.in_err-body.ensures.decides)
 
 pub returns : goal.returns
 returns g c =
-    whole_reply c.args.statuses.now c.args.name.now c.args.limit _ _ _ _ _ _ c.read_taken.new.buf c.read_taken.new.headers c.in_ok-taken.taken _ _ c.in_ok-taken.ensures c.in_ok-field.ensures c.in_ok-body.ensures
+    whole_reply c.args.statuses.now c.args.name.now c.args.limit _ _ _ _ _ _ c.read_taken.new.buf c.read_taken.new.headers c.in_ok-taken.taken _ _ c.in_ok-taken.ensures c.in_ok-field.ensures c.in_ok-body.ensures.decides

@@ -1,0 +1,79 @@
+//! One request in the caller's form and its response, over a connection that may be kept.
+
+ghost use Rattle.std.specs.Prelude.{IfOk};
+ghost use Rattle.tl_device.specs.Device.{passage};
+ghost use Rattle.tl_get.specs.Get.{Receives};
+ghost use Rattle.tl_get.specs.Message.{sent};
+ghost use Rattle.tl_get.specs.Exchange.{Answers, Exchanges, LeavesOpen, answered, sought};
+
+use crate::body::read_body;
+use crate::fault::GetFault;
+use crate::fields::copy_value;
+use crate::head::{MOST_FIELDS, MOST_HEAD};
+use crate::message::{Message, Response};
+use crate::persistence::{body_framing, persists};
+use crate::sendable::is_sendable;
+use crate::taken::read_taken;
+use crate::written::{head_of, send};
+use httparse::spans::EMPTY_HEADER_SPAN;
+use std::alloc::Allocator;
+use std::io::{Read, Write};
+use tl_device::Counted;
+
+// Reads a response that is wanted.
+fn read_answer<A: Allocator + Copy, I: Read>(
+    alloc: A,
+    reader: &mut Counted<I>,
+    message: &Message<'_>,
+    limit: usize,
+) -> Result<Response<A>, GetFault>
+    ensures table { Receives (Answers (sought message.now limit))
+        (passage I.remaining reader.old reader.new) (answered result) }
+    ensures open { IfOk result (λ response.
+        LeavesOpen (passage I.remaining reader.old reader.new) response.body.items response.stays_open) }
+{
+    let mut buf = [0u8; MOST_HEAD];
+    let mut headers = [EMPTY_HEADER_SPAN; MOST_FIELDS];
+    let taken = read_taken(reader, &mut buf, &mut headers, message.statuses)?;
+    let spans = taken.spans;
+    let bytes = &buf[taken.start..taken.len];
+    let name = message.field.as_bytes();
+    let field = copy_value(alloc, bytes, &headers[..spans.headers], name)?;
+    let begun = &bytes[spans.len..];
+    let framing = body_framing(spans.code, taken.framing);
+    let goes_on = persists(bytes, &headers, spans, framing);
+    let body = read_body(alloc, reader, begun, framing, limit)?;
+    let stays_open = goes_on && begun.len() <= body.len();
+    Ok(Response {
+        status: spans.code,
+        field,
+        body,
+        stays_open,
+    })
+}
+
+/// Sends a request in the caller's form over HTTP/1.1, and gives a response with a wanted status, whose body, of at
+/// most `limit` bytes, is read as that of `post` is; 204 and 304 have none (RFC 9112, section 6.3). `stays_open` tells
+/// where the connection can carry another request (section 9.3). `GetFault` says in its order when there is no
+/// response: `BadTarget` where the request can't be sent, `OutOfMemory` also where memory for its head is refused. The
+/// connection is of no use after a fault; what the server did isn't known then.
+pub fn exchange<A: Allocator + Copy, I: Read, O: Write>(
+    alloc: A,
+    reader: &mut Counted<I>,
+    writer: &mut Counted<O>,
+    message: &Message<'_>,
+    limit: usize,
+) -> Result<Response<A>, GetFault>
+    ensures table { Exchanges (sent message.now) (sought message.now limit)
+        (passage I.remaining reader.old reader.new) (passage O.contents writer.old writer.new)
+        (answered result) }
+    ensures open { IfOk result (λ response.
+        LeavesOpen (passage I.remaining reader.old reader.new) response.body.items response.stays_open) }
+{
+    if !is_sendable(message) {
+        return Err(GetFault::BadTarget);
+    }
+    let head = head_of(alloc, message)?;
+    send(writer, head.as_slice(), message.body)?;
+    read_answer(alloc, reader, message, limit)
+}
