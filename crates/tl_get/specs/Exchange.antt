@@ -62,7 +62,7 @@ pub record LeavesOpen (i : Passage) (body : Bytes) (stays_open : Bool) : Type 0 
   pub begins : Begins text begun
   pub framing : Framing
   pub framed : HasFraming (fields_of begun.head.fields) framing
-  pub open : IsTrue stays_open
+  pub kept : IsTrue stays_open
       ↔ (Persists begun.head.minor (status_code begun.head) (fields_of begun.head.fields)
         (body_framing (status_code begun.head) framing)
       × (begun.rest ≡ body))
