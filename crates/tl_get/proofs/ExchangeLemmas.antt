@@ -87,7 +87,7 @@ head_decides R Wanted bytes headers spans head at Taken r decides =
     (subst (λ (l : List (List ℕ × List ℕ)). HeadDecides Wanted spans.version spans.code l Taken r) at.fields decides))
 
 -- whatever follows what was read, the whole begins with the head
-whole_begins : (i : Passage) (buf : List ℕ) (headers : List HeaderSpan) (start len : ℕ) (spans : ResponseSpans) (is : IsHeaded i buf headers start len spans) (more input : List ℕ)
+pub whole_begins : (i : Passage) (buf : List ℕ) (headers : List HeaderSpan) (start len : ℕ) (spans : ResponseSpans) (is : IsHeaded i buf headers start len spans) (more input : List ℕ)
     → input ≡ take len buf ++ more → Begins input (record { head = is.of.0; rest = drop spans.len (slice_range buf start len) ++ more })
 whole_begins i buf headers start len spans is more input same =
     let head : ResponseHead = is.of.0 in
@@ -164,15 +164,15 @@ taken_alone R Wanted Taken i buf headers start len spans framing r is taken deci
 })
 
 -- a head was read, and then a body, of which the beginning came with the head
-pub body_after : (R : Type 0) (Wanted : ℕ → Type 0) (Taken : Begun → Framing → Result R GetFault → Type 0)
-    (a b c : Option (List ℕ)) (f g h : Bool) (buf : List ℕ) (headers : List HeaderSpan) (start len : ℕ) (spans : ResponseSpans) (limit : ℕ) (framing : Framing) (body : Outcome) (r : Result R GetFault)
+pub body_after : (R : Type 0) (Wanted : ℕ → Type 0) (Taken : Begun → Framing → Result R GetFault → Type 0) (Decides : List ℕ → Outcome → Type 0)
+    (a b c : Option (List ℕ)) (f g h : Bool) (buf : List ℕ) (headers : List HeaderSpan) (start len : ℕ) (spans : ResponseSpans) (framing : Framing) (body : Outcome) (r : Result R GetFault)
     (is : IsHeaded (over a b f g) buf headers start len spans) → IsTaken Wanted spans.version spans.code (fields_at (slice_range buf start len) headers spans) framing
     → (body ≡ Err Read → r ≡ Err Read)
-    → ((rest : List ℕ) → BodyDecides limit framing rest body → Taken (record { head = is.of.0; rest = rest }) framing r)
-    → Receives (λ rest r. BodyDecides limit framing (take (length (slice_range buf start len) - spans.len) (drop spans.len (slice_range buf start len)) ++ rest) r) (over b c g h) body
+    → ((rest : List ℕ) → Decides rest body → Taken (record { head = is.of.0; rest = rest }) framing r)
+    → Receives (λ rest r. Decides (take (length (slice_range buf start len) - spans.len) (drop spans.len (slice_range buf start len)) ++ rest) r) (over b c g h) body
     → Receives (λ input r. ResponseDecides Wanted (λ b framing. Taken b framing r) input r) (over a c f h) r
-body_after R Wanted Taken a b c f g h buf headers start len spans limit framing body r is taken unread on (inl failed) = inl (unread failed.0, failed.1)
-body_after R Wanted Taken a b c f g h buf headers start len spans limit framing body r is taken unread on (inr came) = inr (record {
+body_after R Wanted Taken Decides a b c f g h buf headers start len spans framing body r is taken unread on (inl failed) = inl (unread failed.0, failed.1)
+body_after R Wanted Taken Decides a b c f g h buf headers start len spans framing body r is taken unread on (inr came) = inr (record {
   bytes = take len buf ++ came.bytes;
   ended = came.ended;
   gave = record {
@@ -186,8 +186,7 @@ body_after R Wanted Taken a b c f g h buf headers start len spans limit framing 
       let rest : List ℕ = drop spans.len part ++ more in
       let joined : input ≡ take len buf ++ more = may.joined ∙ append_assoc (take len buf) came.bytes may.more in
       let decides = came.so more (record { more = may.more; joined = refl; none = may.none }) in
-      let of_body : BodyDecides limit framing rest body =
-      subst (λ (l : List ℕ). BodyDecides limit framing (l ++ more) body) (take_rest part spans.len) decides in
+      let of_body : Decides rest body = subst (λ (l : List ℕ). Decides (l ++ more) body) (take_rest part spans.len) decides in
       head_taken R Wanted Taken (over a b f g) buf headers start len spans framing r is taken more input joined (on rest of_body);
 })
 

@@ -15,3 +15,5 @@ pub mod ReplyLemmas
 pub mod ResponseLaws
 pub mod Fits
 pub mod Wanted
+pub mod ClosingLemmas
+pub mod AnswerLemmas

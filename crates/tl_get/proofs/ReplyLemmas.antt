@@ -17,7 +17,7 @@ use Rattle.tl_get.specs.declared.taken.Taken.{Taken}
 use Rattle.tl_get.proofs.ExchangeLemmas.{body_after, fields_at, taken_alone}
 
 -- the value that was looked for among the spans is that of the head's field
-field_at : (part : List ℕ) (headers : List HeaderSpan) (spans : ResponseSpans) (head : ResponseHead) (name : List ℕ) → IsResponseAt part headers spans head
+pub field_at : (part : List ℕ) (headers : List HeaderSpan) (spans : ResponseSpans) (head : ResponseHead) (name : List ℕ) → IsResponseAt part headers spans head
     → only_one (values_of name (fields_at part headers spans)) ≡ field_value name head
 field_at part headers spans head name at = ap (λ (l : List (List ℕ × List ℕ)). only_one (values_of name l)) at.fields
 
@@ -33,11 +33,11 @@ no_field statuses name limit i buf headers taken took refused =
     (λ rest. inl (refl, (refused.0, sym same ∙ refused.1, refused.2)))
 
 -- an outcome that is a fault, of a response
-abbrev reply_fault : GetFault → Replied
+abbrev pub reply_fault : GetFault → Replied
 reply_fault fault = Err fault
 
 -- the same fault
-one_read : (fault : GetFault) → faulty fault ≡ Err Read → reply_fault fault ≡ Err Read
+pub one_read : (fault : GetFault) → faulty fault ≡ Err Read → reply_fault fault ≡ Err Read
 one_read fault same = let e : fault ≡ Read = cc in ap reply_fault e
 
 -- the body has a fault
@@ -47,15 +47,15 @@ pub no_body : (statuses name : List ℕ) (limit : ℕ) (a b c : Option (List ℕ
     (over b c g h) (Err fault)
     → Receives (Replies statuses name limit) (over a c f h) (Err fault)
 no_body statuses name limit a b c f g h buf headers taken fault took received =
-    body_after Given (Contains statuses) (λ b framing r. ReplyDecides name limit b framing r) a b c f g h buf headers taken.start taken.len taken.spans limit taken.framing
+    body_after Given (Contains statuses) (λ b framing r. ReplyDecides name limit b framing r) (BodyDecides limit taken.framing) a b c f g h buf headers taken.start taken.len taken.spans taken.framing
     (faulty fault) (reply_fault fault) took.headed took.is (one_read fault) (λ rest decides. inr (faulty fault, decides, refl)) received
 
 -- an outcome that is a body
-abbrev body_of : List ℕ → Outcome
+abbrev pub body_of : List ℕ → Outcome
 body_of body = Ok body
 
 -- a response
-abbrev given : ℕ → Option (List ℕ) → List ℕ → Replied
+abbrev pub given : ℕ → Option (List ℕ) → List ℕ → Replied
 given status field body = Ok (record { status = status; field = field; body = body })
 
 -- the head, the value and the body came
@@ -73,5 +73,5 @@ whole_reply statuses name limit a b c f g h buf headers taken field body took co
     let value : field ≡ field_value name head = copied ∙ field_at part headers taken.spans head name at in
     let same : given taken.spans.code field body ≡ with_head name head (body_of body) =
     ap (λ (s : ℕ). given s field body) code ∙ ap (λ (v : Option (List ℕ)). given (status_code head) v body) value in
-    body_after Given (Contains statuses) (λ b framing r. ReplyDecides name limit b framing r) a b c f g h buf headers taken.start taken.len taken.spans limit taken.framing
+    body_after Given (Contains statuses) (λ b framing r. ReplyDecides name limit b framing r) (BodyDecides limit taken.framing) a b c f g h buf headers taken.start taken.len taken.spans taken.framing
     (body_of body) (given taken.spans.code field body) took.headed took.is (λ same. absurd (cc)) (λ rest decides. inr (body_of body, decides, same)) received

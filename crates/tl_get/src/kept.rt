@@ -1,6 +1,6 @@
 //! One request in the caller's form and its response, over a connection that may be kept.
 
-ghost use Rattle.std.specs.Prelude.{IfOk};
+ghost use Rattle.std.specs.Prelude.{◌↔◌, ◌≤◌, IfOk, IsTrue, length};
 ghost use Rattle.tl_device.specs.Device.{passage};
 ghost use Rattle.tl_get.specs.Get.{Receives};
 ghost use Rattle.tl_get.specs.Message.{sent};
@@ -19,6 +19,13 @@ use httparse::spans::EMPTY_HEADER_SPAN;
 use std::alloc::Allocator;
 use std::io::{Read, Write};
 use tl_device::Counted;
+
+// Whether a connection that may go on has given no byte behind a body of which these bytes came with its head.
+fn is_left_open(goes_on: bool, begun: &[u8], body: &[u8]) -> bool
+    ensures open { IsTrue result ↔ (IsTrue goes_on × (length begun.now ≤ length body.now)) }
+{
+    goes_on && begun.len() <= body.len()
+}
 
 // Reads a response that is wanted.
 fn read_answer<A: Allocator + Copy, I: Read>(
@@ -43,7 +50,7 @@ fn read_answer<A: Allocator + Copy, I: Read>(
     let framing = body_framing(spans.code, taken.framing);
     let goes_on = persists(bytes, &headers, spans, framing);
     let body = read_body(alloc, reader, begun, framing, limit)?;
-    let stays_open = goes_on && begun.len() <= body.len();
+    let stays_open = is_left_open(goes_on, begun, body.as_slice());
     Ok(Response {
         status: spans.code,
         field,

@@ -60,7 +60,13 @@ fn names_close_at(value: &[u8], start: usize) -> bool
         return false;
     }
     let (word, after) = rest.split_at(CLOSE.len());
-    word.eq_ignore_ascii_case(CLOSE) && is_item_start(before) && is_item_end(after)
+    if !word.eq_ignore_ascii_case(CLOSE) {
+        return false;
+    }
+    if !is_item_start(before) {
+        return false;
+    }
+    is_item_end(after)
 }
 
 // Whether a value names that option.

@@ -43,6 +43,7 @@ fn push_fields<A: Allocator>(
 }
 
 /// The head of a request. It fails only where memory is refused.
+#[tactic(auto, unfolding(crate::specs::Message::sent_head))]
 pub(crate) fn head_of<A: Allocator>(
     alloc: A,
     message: &Message<'_>,

@@ -11,5 +11,5 @@ pub returns-in-Ok : goal.returns-in-Ok
 returns-in-Ok g c =
     let taken = c.in-Ok.taken in
     found_receives c.args.limit _ _
-    (body_after (List ℕ) (Contains (200 ∷ [])) (λ b framing r. BodyDecides c.args.limit framing b.rest r) _ _ _ _ _ _ c.read_taken.new.buf c.read_taken.new.headers taken.start taken.len taken.spans c.args.limit taken.framing _ _
+    (body_after (List ℕ) (Contains (200 ∷ [])) (λ b framing r. BodyDecides c.args.limit framing b.rest r) (BodyDecides c.args.limit taken.framing) _ _ _ _ _ _ c.read_taken.new.buf c.read_taken.new.headers taken.start taken.len taken.spans taken.framing _ _
     c.in-Ok.ensures.headed c.in-Ok.ensures.is (λ same. same) (λ rest decides. decides) c.read_body.ensures.decides)
