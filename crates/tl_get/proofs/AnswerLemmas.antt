@@ -127,9 +127,9 @@ open_after a b c f g h buf headers taken Wanted bytes body ended stays_open took
       framing = taken.framing;
       framed = subst (λ (l : List (List ℕ × List ℕ)). HasFraming l taken.framing) at.fields took.is.framed;
       kept = (
-        λ open. (
-          subst (λ (T : Type 0). T) same (kept.0 open).0,
-          ap (λ (l : List ℕ). l ++ bytes) (sym short) ∙ (kept.0 open).1,
+        λ stays. (
+          subst (λ (T : Type 0). T) same (kept.0 stays).0,
+          ap (λ (l : List ℕ). l ++ bytes) (sym short) ∙ (kept.0 stays).1,
         ),
         λ so. kept.1 (
           subst (λ (T : Type 0). T) (sym same) so.0,
@@ -137,3 +137,54 @@ open_after a b c f g h buf headers taken Wanted bytes body ended stays_open took
         ),
       );
     }
+
+-- what was read of a body with a length
+open_sized : (a b c : Option (List ℕ)) (f g h : Bool) (buf : List ℕ) (headers : List HeaderSpan) (taken : Taken) (Wanted : ℕ → Type 0) (body : List ℕ) (n : ℕ) (goes_on stays_open : Bool)
+    (took : TookHead Wanted (over a b f g) buf headers taken) → FullBody (over b c g h) (begun_of buf taken) n body
+    → (IsTrue goes_on ↔ Persists taken.spans.version taken.spans.code (fields_at (slice_range buf taken.start taken.len) headers taken.spans) (body_framing taken.spans.code taken.framing))
+    → (IsTrue stays_open ↔ (IsTrue goes_on × (length (begun_of buf taken) ≤ length body)))
+    → LeavesOpen (over a c f h) body stays_open
+open_sized a b c f g h buf headers taken Wanted body n goes_on stays_open took full persists left =
+    open_after a b c f g h buf headers taken Wanted full.bytes body false stays_open took full.gave (
+      λ stays. (persists.0 (left.0 stays).0, ends_with (begun_of buf taken) full.bytes body n full.joined full.whole (left.0 stays).1),
+      λ so. left.1 (persists.1 so.0, begins_within (begun_of buf taken) full.bytes body so.1),
+    )
+
+-- what was read of another body: the connection doesn't go on
+open_unsized : (a b c : Option (List ℕ)) (f g h : Bool) (buf : List ℕ) (headers : List HeaderSpan) (taken : Taken) (Wanted : ℕ → Type 0) (body : List ℕ) (goes_on stays_open : Bool)
+    (P : List ℕ → Outcome → Type 0) (took : TookHead Wanted (over a b f g) buf headers taken) → Receives P (over b c g h) (Ok body)
+    → ((n : ℕ) → body_framing taken.spans.code taken.framing ≢ Sized n)
+    → (IsTrue goes_on ↔ Persists taken.spans.version taken.spans.code (fields_at (slice_range buf taken.start taken.len) headers taken.spans) (body_framing taken.spans.code taken.framing))
+    → (IsTrue stays_open ↔ (IsTrue goes_on × (length (begun_of buf taken) ≤ length body)))
+    → LeavesOpen (over a c f h) body stays_open
+open_unsized a b c f g h buf headers taken Wanted body goes_on stays_open P took (inl failed) other persists left = let e = failed.0 in absurd (cc)
+open_unsized a b c f g h buf headers taken Wanted body goes_on stays_open P took (inr came) other persists left =
+    open_after a b c f g h buf headers taken Wanted came.bytes body came.ended stays_open took came.gave (
+      λ stays. let sized = (persists.0 (left.0 stays).0).sized in absurd (other sized.0 sized.1),
+      λ so. let sized = so.0.sized in absurd (other sized.0 sized.1),
+    )
+
+open_framed : (framing : Framing) (a b c : Option (List ℕ)) (f g h : Bool) (buf : List ℕ) (headers : List HeaderSpan) (taken : Taken) (Wanted : ℕ → Type 0) (body : List ℕ) (goes_on stays_open : Bool)
+    (P : List ℕ → Outcome → Type 0) → body_framing taken.spans.code taken.framing ≡ framing → (took : TookHead Wanted (over a b f g) buf headers taken) → Receives P (over b c g h) (Ok body)
+    → FillsSized framing (over b c g h) (begun_of buf taken) body
+    → (IsTrue goes_on ↔ Persists taken.spans.version taken.spans.code (fields_at (slice_range buf taken.start taken.len) headers taken.spans) (body_framing taken.spans.code taken.framing))
+    → (IsTrue stays_open ↔ (IsTrue goes_on × (length (begun_of buf taken) ≤ length body)))
+    → LeavesOpen (over a c f h) body stays_open
+open_framed (Sized n) a b c f g h buf headers taken Wanted body goes_on stays_open P is took received full persists left =
+    open_sized a b c f g h buf headers taken Wanted body n goes_on stays_open took full persists left
+open_framed UntilEnd a b c f g h buf headers taken Wanted body goes_on stays_open P is took received full persists left =
+    open_unsized a b c f g h buf headers taken Wanted body goes_on stays_open P took received (λ n sized. absurd (cc)) persists left
+open_framed Chunked a b c f g h buf headers taken Wanted body goes_on stays_open P is took received full persists left =
+    open_unsized a b c f g h buf headers taken Wanted body goes_on stays_open P took received (λ n sized. absurd (cc)) persists left
+
+-- the connection stays open where it goes on and nothing came behind the body
+pub answer_open : (a b c : Option (List ℕ)) (f g h : Bool) (buf : List ℕ) (headers : List HeaderSpan) (taken : Taken) (Wanted : ℕ → Type 0) (body : List ℕ) (goes_on stays_open : Bool)
+    (limit : ℕ) (took : TookHead Wanted (over a b f g) buf headers taken) 
+    → Receives (λ rest r. BodyDecides limit (body_framing taken.spans.code taken.framing) (begun_of buf taken ++ rest) r) (over b c g h) (Ok body)
+    → FillsSized (body_framing taken.spans.code taken.framing) (over b c g h) (begun_of buf taken) body
+    → (IsTrue goes_on ↔ Persists taken.spans.version taken.spans.code (fields_at (slice_range buf taken.start taken.len) headers taken.spans) (body_framing taken.spans.code taken.framing))
+    → (IsTrue stays_open ↔ (IsTrue goes_on × (length (begun_of buf taken) ≤ length body)))
+    → LeavesOpen (over a c f h) body stays_open
+answer_open a b c f g h buf headers taken Wanted body goes_on stays_open limit took received full persists left =
+    open_framed (body_framing taken.spans.code taken.framing) a b c f g h buf headers taken Wanted body goes_on stays_open
+    (λ rest r. BodyDecides limit (body_framing taken.spans.code taken.framing) (begun_of buf taken ++ rest) r) refl took received full persists left

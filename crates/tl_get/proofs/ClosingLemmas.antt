@@ -1,6 +1,6 @@
 -- Where an option stands in the value of a field.
-use Rattle.std.proofs.Common.{◌≡◌, ◌+◌, ◌<◌, ◌≤◌, ℕ, List, ◌++◌, IsTrue, ap, append_assoc, arith, codes, drop, inl, inr, length, length-append, length-map, refl, reverse, subst, sym, take, ◌∙◌, ◌⊎◌}
-use Rattle.std.proofs.lemmas.List.{length-drop, length-take-le, take-append-drop}
+use Rattle.std.proofs.Common.{◌≡◌, ◌+◌, ◌<◌, ◌≤◌, ℕ, List, ◌++◌, IsTrue, ap, append_assoc, arith, codes, drop, inl, inr, length, length-append, refl, reverse, subst, sym, take, ◌∙◌, ◌⊎◌}
+use Rattle.std.proofs.lemmas.List.{length-map, length-take-le, take-append-drop}
 use Rattle.std.proofs.Math.Nat.{eq-or-lt_of_le}
 use Rattle.std.proofs.Math.Seq.{drop-append_seam, take-append_seam}
 use Rattle.std.specs.Char.{to_ascii_lowercase}
@@ -17,8 +17,9 @@ stands_at value before rest word after start within front back cut left close fi
     before = before;
     word = word;
     after = after;
-    joined = sym (ap (λ (l : List ℕ). before ++ l) (ap (λ (l : List ℕ). l ++ after) cut ∙ (ap (λ (l : List ℕ). take 5 rest ++ l) left ∙ take-append-drop 5 rest))
-        ∙ (ap (λ (l : List ℕ). l ++ rest) front ∙ (ap (λ (l : List ℕ). take start value ++ l) back ∙ take-append-drop start value)));
+    joined = sym (append_assoc before word after
+        ∙ (ap (λ (l : List ℕ). before ++ l) (ap (λ (l : List ℕ). l ++ after) cut ∙ (ap (λ (l : List ℕ). take 5 rest ++ l) left ∙ take-append-drop 5 rest))
+        ∙ (ap (λ (l : List ℕ). l ++ rest) front ∙ (ap (λ (l : List ℕ). take start value ++ l) back ∙ take-append-drop start value))));
     close = close;
     first = first;
     last = last;
@@ -28,7 +29,7 @@ stands_at value before rest word after start within front back cut left close fi
 
 -- the word has five letters
 five : (word : List ℕ) → IsSameWord word (codes "close") → length word ≡ 5
-five word same = sym (length-map to_ascii_lowercase word) ∙ ap (λ (l : List ℕ). length l) same
+five word same = sym (length-map word to_ascii_lowercase) ∙ ap (λ (l : List ℕ). length l) same
 
 -- the parts that stand at a place are those that are cut there
 pub record Parts (value before word after : List ℕ) (start : ℕ) : Type 0 where
@@ -52,13 +53,13 @@ parts value before word after joined long =
 
 pub parts_at : (value : List ℕ) (start : ℕ) (at : NamesCloseAt value start) → Parts value at.0.before at.0.word at.0.after start
 parts_at value start (is, place) =
-    subst (λ (k : ℕ). Parts value is.before is.word is.after k) place (parts value is.before is.word is.after is.joined (five is.word is.close))
+    subst (λ (k : ℕ). Parts value is.before is.word is.after k) place (parts value is.before is.word is.after (is.joined ∙ append_assoc is.before is.word is.after) (five is.word is.close))
 
 -- at no place up to this one
 pub none_further : (value : List ℕ) (start : ℕ) → ((k : ℕ) → k < start → ¬ (NamesCloseAt value k)) → ¬ (NamesCloseAt value start)
     → (k : ℕ) → k < start + 1 → ¬ (NamesCloseAt value k)
 none_further value start before here k within = λ at.
-    elim (eq-or-lt_of_le {k} {start} (omega (arith, within))) as (λ _. ⊥) [
+    elim (eq-or-lt_of_le {n = k} {m = start} (omega (arith, within))) as (λ _. ⊥) [
       | inl same ↦ here (subst (λ (n : ℕ). NamesCloseAt value n) same at)
       | inr less ↦ before k less at
     ]

@@ -8,7 +8,9 @@ loop-start-preserved c =
     (λ at. let is = c.names_close_at.ensures.close.1 at in let no = c.if-names_close_at.false in absurd (cc))
 
 pub returns : goal.returns
-returns c = (
-  λ is. absurd (cc),
-  λ is. absurd (at_some c.args.value.now c.loop-start.start (omega (arith, c.loop-start-test.false)) c.loop-start.invariant is),
-)
+returns c = record {
+  close = (
+    λ is. absurd (cc),
+    λ is. absurd (at_some c.args.value.now c.loop-start.start (omega (arith, c.loop-start-test.false)) c.loop-start.invariant is),
+  );
+}
