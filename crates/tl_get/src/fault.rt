@@ -7,12 +7,13 @@ use std::alloc::AllocError;
 use thiserror::Error;
 use tl_device::WriteFault;
 
-/// Why a request by GET or POST gives no body, in the order in which the refusals are checked. Those of a body come as
-/// it is read, and the first that is met is told.
+/// Why a request gives no response, in the order in which the refusals are checked. Those of a body come as it is read,
+/// and the first that is met is told.
 #[derive(Clone, Copy, Debug, PartialEq, Eq, Error)]
 pub enum GetFault {
-    /// Host and target can't be asked for. Nothing was written or read.
-    #[error("the host or the target can't be asked for")]
+    /// Host and target can't be asked for, or a request in the caller's form can't be sent. Nothing was written or
+    /// read.
+    #[error("the request can't be sent")]
     BadTarget,
     /// A write failed, or took no byte. Some of the request's first bytes were written, and nothing was read.
     #[error("write failed")]
@@ -48,7 +49,8 @@ pub enum GetFault {
     /// follows a chunk's data.
     #[error("a chunk of the body isn't well formed")]
     BadChunk,
-    /// A growth was refused, or memory for the value of the field that `post` wants.
+    /// A growth was refused, or memory for the value of the wanted field, or for the head of a request in the caller's
+    /// form, of which nothing was written then.
     #[error("out of memory")]
     OutOfMemory,
 }

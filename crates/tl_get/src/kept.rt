@@ -61,9 +61,9 @@ fn read_answer<A: Allocator + Copy, I: Read>(
 
 /// Sends a request in the caller's form over HTTP/1.1, and gives a response with a wanted status, whose body, of at
 /// most `limit` bytes, is read as that of `post` is; 204 and 304 have none (RFC 9112, section 6.3). `stays_open` tells
-/// where the connection can carry another request (section 9.3). `GetFault` says in its order when there is no
-/// response: `BadTarget` where the request can't be sent, `OutOfMemory` also where memory for its head is refused. The
-/// connection is of no use after a fault; what the server did isn't known then.
+/// whether the connection can carry another request (section 9.3). `GetFault` says in its order when there is no
+/// response. Interim responses are passed over, no redirect followed, no coding taken. After a fault the connection is
+/// of no use; what the server did isn't known.
 pub fn exchange<A: Allocator + Copy, I: Read, O: Write>(
     alloc: A,
     reader: &mut Counted<I>,
