@@ -9,11 +9,11 @@ ghost use Rattle.tl_put.specs.Objects.{place_of};
 
 use crate::fault::ObjectFault;
 use crate::object::{Bucket, GetAnswer, GetReply};
-use crate::sending::{send_signed, target_of};
+use crate::sending::{field, send_signed, target_of};
 use std::alloc::Allocator;
 use std::io::{Read, Write};
 use tl_device::Counted;
-use tl_sigv4::{Field, Moment, Request, payload_digest};
+use tl_sigv4::{Moment, Request, payload_digest};
 
 // What a status answers to a get.
 fn answer_of(status: u16) -> GetAnswer
@@ -30,12 +30,12 @@ fn answer_of(status: u16) -> GetAnswer
 /// moment (Amazon S3 API Reference, GetObject; RFC 9110, section 9.3.1), and gives the server's answer, with a body of
 /// at most `limit` bytes. What is written is the signed request and nothing else, or its first bytes before
 /// `Get(Write)`.
-pub fn get_object<A: Allocator + Copy, I: Read, O: Write>(
+pub fn get_object<'r, A: Allocator + Copy, I: Read, O: Write>(
     alloc: A,
     reader: &mut Counted<I>,
     writer: &mut Counted<O>,
-    bucket: &Bucket<'_>,
-    moment: &Moment,
+    bucket: &Bucket<'r>,
+    moment: &'r Moment,
     path: &str,
     limit: usize,
 ) -> Result<GetReply<A>, ObjectFault>
@@ -48,18 +48,9 @@ pub fn get_object<A: Allocator + Copy, I: Read, O: Write>(
     let payload = payload_digest(alloc, b"")?;
     let path = target_of(alloc, bucket.prefix, path)?;
     let fields = [
-        Field {
-            name: "host",
-            value: bucket.host,
-        },
-        Field {
-            name: "x-amz-content-sha256",
-            value: payload.as_str(),
-        },
-        Field {
-            name: "x-amz-date",
-            value: moment.time(),
-        },
+        field("host", bucket.host),
+        field("x-amz-content-sha256", payload.as_str()),
+        field("x-amz-date", moment.time()),
     ];
     let request = Request {
         method: "GET",

@@ -10,7 +10,7 @@ ghost use Rattle.tl_sigv4.specs.Requests.{field_of};
 
 use crate::fault::ObjectFault;
 use crate::object::{Bucket, Condition, Object, PutAnswer, PutReply};
-use crate::sending::{send_signed, target_of};
+use crate::sending::{field, send_signed, target_of};
 use std::alloc::Allocator;
 use std::io::{Read, Write};
 use tl_device::Counted;
@@ -29,40 +29,19 @@ fn fields_of<'t, A: Allocator>(
     time: &'t str,
 ) -> Result<Vec<Field<'t>, A>, ObjectFault>
     ensures fields { IfOk result (λ fields. map field_of fields.items
-        ≡ put_fields (place_of bucket.now) (content_of object.now) condition payload.now time.now) }
+        ≡ put_fields (place_of bucket.now) (content_of object.now) condition.entry payload.now time.now) }
 {
     let mut fields = Vec::new(alloc);
-    fields.push(Field {
-        name: "cache-control",
-        value: object.cache_control,
-    })?;
-    fields.push(Field {
-        name: "content-type",
-        value: object.content_type,
-    })?;
-    fields.push(Field {
-        name: "host",
-        value: bucket.host,
-    })?;
+    fields.push(field("cache-control", object.cache_control))?;
+    fields.push(field("content-type", object.content_type))?;
+    fields.push(field("host", bucket.host))?;
     match condition {
         Condition::Always => {}
-        Condition::Absent => fields.push(Field {
-            name: "if-none-match",
-            value: "*",
-        })?,
-        Condition::Matches(etag) => fields.push(Field {
-            name: "if-match",
-            value: etag,
-        })?,
+        Condition::Absent => fields.push(field("if-none-match", "*"))?,
+        Condition::Matches(etag) => fields.push(field("if-match", etag))?,
     }
-    fields.push(Field {
-        name: "x-amz-content-sha256",
-        value: payload,
-    })?;
-    fields.push(Field {
-        name: "x-amz-date",
-        value: time,
-    })?;
+    fields.push(field("x-amz-content-sha256", payload))?;
+    fields.push(field("x-amz-date", time))?;
     Ok(fields)
 }
 
@@ -83,16 +62,16 @@ fn answer_of(status: u16) -> PutAnswer
 /// What is written is the signed request and nothing else, or its first bytes before `Get(Write)`. After a fault other
 /// than `OutOfMemory`, `BadField` and `Get(BadTarget)`, and after a status from 500 on, it isn't known whether the
 /// object was put: read it, and compare.
-pub fn put_object<A: Allocator + Copy, I: Read, O: Write>(
+pub fn put_object<'r, A: Allocator + Copy, I: Read, O: Write>(
     alloc: A,
     reader: &mut Counted<I>,
     writer: &mut Counted<O>,
-    bucket: &Bucket<'_>,
-    moment: &Moment,
-    object: &Object<'_>,
-    condition: Condition<'_>,
+    bucket: &Bucket<'r>,
+    moment: &'r Moment,
+    object: &Object<'r>,
+    condition: Condition<'r>,
 ) -> Result<PutReply<A>, ObjectFault>
-    ensures table { PutsObject (place_of bucket.now) moment.now (content_of object.now) condition
+    ensures table { PutsObject (place_of bucket.now) moment.now (content_of object.now) condition.entry
         (passage I.remaining reader.old reader.new) (passage O.contents writer.old writer.new)
         (put_told result) }
     ensures open { IfOk result (λ reply.

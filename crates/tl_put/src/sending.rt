@@ -1,6 +1,6 @@
 //! A request with its signature.
 
-ghost use Rattle.std.specs.Prelude.{◌≡◌, ◌++◌, [], ◌∷◌, IfOk, map, string_bytes};
+ghost use Rattle.std.specs.Prelude.{◌≡◌, ◌++◌, [], ◌∷◌, IfOk, codes, map, string_bytes};
 ghost use Rattle.tl_device.specs.Device.{passage};
 ghost use Rattle.tl_get.specs.Exchange.{LeavesOpen};
 ghost use Rattle.tl_get.specs.Message.{field_of};
@@ -33,14 +33,21 @@ pub(crate) fn target_of<A: Allocator>(
     Ok(target)
 }
 
-// The fields as they are sent, with one more behind them.
+/// A field with this name and value.
+pub(crate) fn field<'t>(name: &'t str, value: &'t str) -> Field<'t>
+    ensures field { signed.field_of result ≡ (name.now, value.now) }
+{
+    Field { name, value }
+}
+
+// The fields as they are sent, with their signature behind them.
 fn lines_of<'t, A: Allocator>(
     alloc: A,
     fields: &[Field<'t>],
-    last: FieldLine<'t>,
+    signature: &'t str,
 ) -> Result<Vec<FieldLine<'t>, A>, ObjectFault>
     ensures lines { IfOk result (λ lines. map field_of lines.items
-        ≡ map signed.field_of fields.now ++ field_of last ∷ []) }
+        ≡ map signed.field_of fields.now ++ (codes "authorization", signature.now) ∷ []) }
 {
     let mut lines = Vec::new(alloc);
     for field in fields {
@@ -49,7 +56,10 @@ fn lines_of<'t, A: Allocator>(
             value: field.value,
         })?;
     }
-    lines.push(last)?;
+    lines.push(FieldLine {
+        name: "authorization",
+        value: signature,
+    })?;
     Ok(lines)
 }
 
@@ -75,11 +85,7 @@ pub(crate) fn send_signed<A: Allocator + Copy, I: Read, O: Write>(
         return Err(ObjectFault::BadField);
     }
     let value = authorization(alloc, request, credential, moment)?;
-    let last = FieldLine {
-        name: "authorization",
-        value: value.as_str(),
-    };
-    let lines = lines_of(alloc, request.fields, last)?;
+    let lines = lines_of(alloc, request.fields, value.as_str())?;
     let message = Message {
         method: request.method,
         target: request.path,
