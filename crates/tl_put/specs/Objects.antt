@@ -52,9 +52,9 @@ abbrev pub amazon_fields : Bytes → Bytes → List Pair
 amazon_fields digest time = (codes "x-amz-content-sha256", digest) ∷ (codes "x-amz-date", time) ∷ []
 
 -- the fields of a put, with this digest of the body, at the time with this text
-abbrev pub put_fields : Place → Content → Condition → Bytes → Bytes → List Pair
-put_fields p o condition digest time =
-    (codes "cache-control", o.cache_control) ∷ (codes "content-type", o.content_type) ∷ (codes "host", p.host)
+abbrev pub put_fields : Bytes → Bytes → Bytes → Condition → Bytes → Bytes → List Pair
+put_fields host cache_control content_type condition digest time =
+    (codes "cache-control", cache_control) ∷ (codes "content-type", content_type) ∷ (codes "host", host)
     ∷ condition_fields condition ++ amazon_fields digest time
 
 -- the request that puts an object
@@ -64,9 +64,13 @@ put_request p t o condition =
       method = codes "PUT";
       path = p.prefix ++ o.path;
       query = [];
-      fields = put_fields p o condition (payload o.body) (time_text t);
+      fields = put_fields p.host o.cache_control o.content_type condition (payload o.body) (time_text t);
       payload = payload o.body;
     }
+
+-- the fields of a get
+abbrev pub get_fields : Bytes → Bytes → Bytes → List Pair
+get_fields host digest time = (codes "host", host) ∷ amazon_fields digest time
 
 -- the request that gets an object with this path
 abbrev pub get_request : Place → Civil → Bytes → Signed
@@ -75,6 +79,6 @@ get_request p t path =
       method = codes "GET";
       path = p.prefix ++ path;
       query = [];
-      fields = (codes "host", p.host) ∷ amazon_fields (payload []) (time_text t);
+      fields = get_fields p.host (payload []) (time_text t);
       payload = payload [];
     }

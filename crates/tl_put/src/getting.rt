@@ -1,11 +1,13 @@
 //! Getting an object.
 
-ghost use Rattle.std.specs.Prelude.{◌≡◌, IfOk};
+ghost use Rattle.std.specs.Prelude.{◌≡◌, IfErr, IfOk, map};
 ghost use Rattle.tl_device.specs.Device.{passage};
 ghost use Rattle.tl_get.specs.Exchange.{LeavesOpen};
 ghost use Rattle.tl_put.specs.Answers as spec;
 ghost use Rattle.tl_put.specs.Answers.{GetsObject, get_told};
-ghost use Rattle.tl_put.specs.Objects.{place_of};
+ghost use Rattle.tl_put.specs.Objects.{get_fields, place_of};
+ghost use Rattle.tl_put.specs.declared.fault.ObjectFault.TheVariants.{OutOfMemory};
+ghost use Rattle.tl_sigv4.specs.Requests.{field_of};
 
 use crate::fault::ObjectFault;
 use crate::object::{Bucket, GetAnswer, GetReply};
@@ -13,7 +15,25 @@ use crate::sending::{field, send_signed, target_of};
 use std::alloc::Allocator;
 use std::io::{Read, Write};
 use tl_device::Counted;
-use tl_sigv4::{Moment, Request, payload_digest};
+use tl_sigv4::{Field, Moment, Request, payload_digest};
+
+// The fields of a get, with this digest of no bytes, in the order of their names.
+fn fields_of<'t, A: Allocator>(
+    alloc: A,
+    host: &'t str,
+    payload: &'t str,
+    time: &'t str,
+) -> Result<Vec<Field<'t>, A>, ObjectFault>
+    ensures fields { IfOk result (λ fields. map field_of fields.items
+        ≡ get_fields host.now payload.now time.now) }
+    ensures refused { IfErr result (λ fault. fault ≡ OutOfMemory) }
+{
+    let mut fields = Vec::new(alloc);
+    fields.push(field("host", host))?;
+    fields.push(field("x-amz-content-sha256", payload))?;
+    fields.push(field("x-amz-date", time))?;
+    Ok(fields)
+}
 
 // What a status answers to a get.
 fn answer_of(status: u16) -> GetAnswer
@@ -30,12 +50,12 @@ fn answer_of(status: u16) -> GetAnswer
 /// moment (Amazon S3 API Reference, GetObject; RFC 9110, section 9.3.1), and gives the server's answer, with a body of
 /// at most `limit` bytes. What is written is the signed request and nothing else, or its first bytes before
 /// `Get(Write)`.
-pub fn get_object<'r, A: Allocator + Copy, I: Read, O: Write>(
+pub fn get_object<A: Allocator + Copy, I: Read, O: Write>(
     alloc: A,
     reader: &mut Counted<I>,
     writer: &mut Counted<O>,
-    bucket: &Bucket<'r>,
-    moment: &'r Moment,
+    bucket: &Bucket<'_>,
+    moment: &Moment,
     path: &str,
     limit: usize,
 ) -> Result<GetReply<A>, ObjectFault>
@@ -46,17 +66,13 @@ pub fn get_object<'r, A: Allocator + Copy, I: Read, O: Write>(
         LeavesOpen (passage I.remaining reader.old reader.new) reply.body.items reply.stays_open) }
 {
     let payload = payload_digest(alloc, b"")?;
+    let fields = fields_of(alloc, bucket.host, payload.as_str(), moment.time())?;
     let path = target_of(alloc, bucket.prefix, path)?;
-    let fields = [
-        field("host", bucket.host),
-        field("x-amz-content-sha256", payload.as_str()),
-        field("x-amz-date", moment.time()),
-    ];
     let request = Request {
         method: "GET",
         path: path.as_str(),
         query: "",
-        fields: &fields,
+        fields: fields.as_slice(),
         payload: payload.as_str(),
     };
     let credential = &bucket.credential;

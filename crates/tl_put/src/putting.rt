@@ -1,11 +1,12 @@
 //! Putting an object.
 
-ghost use Rattle.std.specs.Prelude.{◌≡◌, ◌++◌, IfOk, map, string_bytes};
+ghost use Rattle.std.specs.Prelude.{◌≡◌, IfErr, IfOk, map};
 ghost use Rattle.tl_device.specs.Device.{passage};
 ghost use Rattle.tl_get.specs.Exchange.{LeavesOpen};
 ghost use Rattle.tl_put.specs.Answers as spec;
 ghost use Rattle.tl_put.specs.Answers.{PutsObject, put_told};
 ghost use Rattle.tl_put.specs.Objects.{content_of, place_of, put_fields};
+ghost use Rattle.tl_put.specs.declared.fault.ObjectFault.TheVariants.{OutOfMemory};
 ghost use Rattle.tl_sigv4.specs.Requests.{field_of};
 
 use crate::fault::ObjectFault;
@@ -22,19 +23,21 @@ const MOST_ANSWER: usize = 65_536;
 // The fields of a put, with this digest of the body, in the order of their names.
 fn fields_of<'t, A: Allocator>(
     alloc: A,
-    bucket: &Bucket<'t>,
-    object: &Object<'t>,
+    host: &'t str,
+    cache_control: &'t str,
+    content_type: &'t str,
     condition: Condition<'t>,
     payload: &'t str,
     time: &'t str,
 ) -> Result<Vec<Field<'t>, A>, ObjectFault>
     ensures fields { IfOk result (λ fields. map field_of fields.items
-        ≡ put_fields (place_of bucket.now) (content_of object.now) condition.entry payload.now time.now) }
+        ≡ put_fields host.now cache_control.now content_type.now condition.entry payload.now time.now) }
+    ensures refused { IfErr result (λ fault. fault ≡ OutOfMemory) }
 {
     let mut fields = Vec::new(alloc);
-    fields.push(field("cache-control", object.cache_control))?;
-    fields.push(field("content-type", object.content_type))?;
-    fields.push(field("host", bucket.host))?;
+    fields.push(field("cache-control", cache_control))?;
+    fields.push(field("content-type", content_type))?;
+    fields.push(field("host", host))?;
     match condition {
         Condition::Always => {}
         Condition::Absent => fields.push(field("if-none-match", "*"))?,
@@ -62,14 +65,14 @@ fn answer_of(status: u16) -> PutAnswer
 /// What is written is the signed request and nothing else, or its first bytes before `Get(Write)`. After a fault other
 /// than `OutOfMemory`, `BadField` and `Get(BadTarget)`, and after a status from 500 on, it isn't known whether the
 /// object was put: read it, and compare.
-pub fn put_object<'r, A: Allocator + Copy, I: Read, O: Write>(
+pub fn put_object<A: Allocator + Copy, I: Read, O: Write>(
     alloc: A,
     reader: &mut Counted<I>,
     writer: &mut Counted<O>,
-    bucket: &Bucket<'r>,
-    moment: &'r Moment,
-    object: &Object<'r>,
-    condition: Condition<'r>,
+    bucket: &Bucket<'_>,
+    moment: &Moment,
+    object: &Object<'_>,
+    condition: Condition<'_>,
 ) -> Result<PutReply<A>, ObjectFault>
     ensures table { PutsObject (place_of bucket.now) moment.now (content_of object.now) condition.entry
         (passage I.remaining reader.old reader.new) (passage O.contents writer.old writer.new)
@@ -78,8 +81,15 @@ pub fn put_object<'r, A: Allocator + Copy, I: Read, O: Write>(
         LeavesOpen (passage I.remaining reader.old reader.new) reply.body.items reply.stays_open) }
 {
     let payload = payload_digest(alloc, object.body)?;
-    let time = moment.time();
-    let fields = fields_of(alloc, bucket, object, condition, payload.as_str(), time)?;
+    let fields = fields_of(
+        alloc,
+        bucket.host,
+        object.cache_control,
+        object.content_type,
+        condition,
+        payload.as_str(),
+        moment.time(),
+    )?;
     let path = target_of(alloc, bucket.prefix, object.path)?;
     let request = Request {
         method: "PUT",

@@ -1,12 +1,13 @@
 //! A request with its signature.
 
-ghost use Rattle.std.specs.Prelude.{◌≡◌, ◌++◌, [], ◌∷◌, IfOk, codes, map, string_bytes};
+ghost use Rattle.std.specs.Prelude.{◌≡◌, ◌++◌, [], ◌∷◌, IfErr, IfOk, codes, map, string_bytes};
 ghost use Rattle.tl_device.specs.Device.{passage};
 ghost use Rattle.tl_get.specs.Exchange.{LeavesOpen};
 ghost use Rattle.tl_get.specs.Message.{field_of};
 ghost use Rattle.tl_put.specs.Answers.{answers_sought};
 ghost use Rattle.tl_put.specs.Requests.{Asks};
 ghost use Rattle.tl_put.specs.Inner.Sendings.{given};
+ghost use Rattle.tl_put.specs.declared.fault.ObjectFault.TheVariants.{OutOfMemory};
 ghost use Rattle.tl_sigv4.specs.Requests as signed;
 ghost use Rattle.tl_sigv4.specs.Requests.{credential_of, request_of};
 
@@ -48,6 +49,7 @@ fn lines_of<'t, A: Allocator>(
 ) -> Result<Vec<FieldLine<'t>, A>, ObjectFault>
     ensures lines { IfOk result (λ lines. map field_of lines.items
         ≡ map signed.field_of fields.now ++ (codes "authorization", signature.now) ∷ []) }
+    ensures refused { IfErr result (λ fault. fault ≡ OutOfMemory) }
 {
     let mut lines = Vec::new(alloc);
     for field in fields {
