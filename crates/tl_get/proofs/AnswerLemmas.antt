@@ -1,12 +1,9 @@
 -- From the steps of reading an answer over a connection that may be kept to the whole.
-use Rattle.std.proofs.Common.{◌≡◌, ◌≢◌, ◌-◌, ◌<◌, ◌≤◌, ℕ, List, [], ◌++◌, Contains, Option, Some, Ok, Err, Bool, IsTrue, false, length, length-append, slice_range, take, drop, ap, append-nil, append_assoc, arith, refl, subst, sym, ◌∙◌, inl, inr}
+use Rattle.std.proofs.Common.{◌≡◌, ◌≢◌, ◌-◌, ◌<◌, ◌≤◌, ℕ, List, ◌++◌, Contains, Option, Some, Ok, Err, Bool, IsTrue, false, length, length-append, slice_range, take, drop, ap, append-nil, arith, refl, subst, sym, ◌∙◌, inl, inr}
 use Rattle.std.specs.Prelude.{◌↔◌}
-use Rattle.std.proofs.KnownBytes.{Consumes-trans}
 use Rattle.std.proofs.lemmas.List.{drop_all, take_rest}
 use Rattle.httparse.specs.declared.spans.HeaderSpan.{HeaderSpan}
-use Rattle.httparse.specs.declared.spans.ResponseSpans.{ResponseSpans}
 use Rattle.httparse.specs.Grammar.{ResponseHead, status_code}
-use Rattle.httparse.specs.Spans.{IsResponseAt}
 use Rattle.tl_device.specs.Device.{Passage}
 use Rattle.tl_device.specs.Reading.{Gave}
 use Rattle.tl_device.proofs.SendingLemmas.{over}
@@ -18,9 +15,9 @@ use Rattle.tl_get.specs.Persistence.{Persists, body_framing}
 use Rattle.tl_get.specs.Post.{Given, Replied, ReplyDecides, field_value, only_one, with_head}
 use Rattle.tl_get.specs.Response.{Begins, Begun, BodyDecides, Outcome}
 use Rattle.tl_get.specs.Inner.Bodies.{FillsSized, FullBody}
-use Rattle.tl_get.specs.Inner.Heads.{IsHeaded, TookHead, faulty}
+use Rattle.tl_get.specs.Inner.Heads.{TookHead, faulty}
 use Rattle.tl_get.specs.declared.fault.GetFault.{GetFault}
-use Rattle.tl_get.specs.declared.fault.GetFault.TheVariants.{OutOfMemory, Read}
+use Rattle.tl_get.specs.declared.fault.GetFault.TheVariants.{OutOfMemory}
 use Rattle.tl_get.specs.declared.framing.Framing.{Framing}
 use Rattle.tl_get.specs.declared.framing.Framing.TheVariants.{Sized, UntilEnd, Chunked}
 use Rattle.tl_get.specs.declared.taken.Taken.{Taken}
@@ -107,8 +104,8 @@ begins_within begun bytes body same = let long = ap (λ (l : List ℕ). length l
 open_after : (a b c : Option (List ℕ)) (f g h : Bool) (buf : List ℕ) (headers : List HeaderSpan) (taken : Taken) (Wanted : ℕ → Type 0) (bytes body : List ℕ) (ended stays_open : Bool)
     (took : TookHead Wanted (over a b f g) buf headers taken) → Gave (over b c g h) bytes ended
     → (IsTrue stays_open
-      ↔ (Persists taken.spans.version taken.spans.code (fields_at (slice_range buf taken.start taken.len) headers taken.spans) (body_framing taken.spans.code taken.framing)
-        × (begun_of buf taken ++ bytes ≡ body)))
+    ↔ (Persists taken.spans.version taken.spans.code (fields_at (slice_range buf taken.start taken.len) headers taken.spans) (body_framing taken.spans.code taken.framing)
+    × (begun_of buf taken ++ bytes ≡ body)))
     → LeavesOpen (over a c f h) body stays_open
 open_after a b c f g h buf headers taken Wanted bytes body ended stays_open took gave kept =
     let part : List ℕ = slice_range buf taken.start taken.len in
@@ -179,7 +176,7 @@ open_framed Chunked a b c f g h buf headers taken Wanted body goes_on stays_open
 
 -- the connection stays open where it goes on and nothing came behind the body
 pub answer_open : (a b c : Option (List ℕ)) (f g h : Bool) (buf : List ℕ) (headers : List HeaderSpan) (taken : Taken) (Wanted : ℕ → Type 0) (body : List ℕ) (goes_on stays_open : Bool)
-    (limit : ℕ) (took : TookHead Wanted (over a b f g) buf headers taken) 
+    (limit : ℕ) (took : TookHead Wanted (over a b f g) buf headers taken)
     → Receives (λ rest r. BodyDecides limit (body_framing taken.spans.code taken.framing) (begun_of buf taken ++ rest) r) (over b c g h) (Ok body)
     → FillsSized (body_framing taken.spans.code taken.framing) (over b c g h) (begun_of buf taken) body
     → (IsTrue goes_on ↔ Persists taken.spans.version taken.spans.code (fields_at (slice_range buf taken.start taken.len) headers taken.spans) (body_framing taken.spans.code taken.framing))

@@ -1,5 +1,5 @@
 -- One request over a reader and a writer of a connection that may be kept (RFC 9112, section 9.3).
-use Rattle.std.specs.Prelude.{◌≡◌, ◌⊎◌, ◌↔◌, ℕ, Bool, List, Option, Result, Ok, Err, Contains, IsTrue, vec_items}
+use Rattle.std.specs.Prelude.{◌≡◌, ◌⊎◌, ◌↔◌, ℕ, Bool, List, Result, Ok, Err, Contains, IsTrue, vec_items}
 use Rattle.httparse.specs.Grammar.{status_code}
 use Rattle.tl_device.specs.Device.{Passage, IsUnread, IsUnwritten, WroteWhole, WrotePart}
 use Rattle.tl_device.specs.Reading.{Gave}
@@ -64,5 +64,5 @@ pub record LeavesOpen (i : Passage) (body : Bytes) (stays_open : Bool) : Type 0 
   pub framed : HasFraming (fields_of begun.head.fields) framing
   pub kept : IsTrue stays_open
       ↔ (Persists begun.head.minor (status_code begun.head) (fields_of begun.head.fields)
-        (body_framing (status_code begun.head) framing)
+      (body_framing (status_code begun.head) framing)
       × (begun.rest ≡ body))

@@ -76,7 +76,9 @@ pub fn get_object<A: Allocator + Copy, I: Read, O: Write>(
         payload: payload.as_str(),
     };
     let credential = &bucket.credential;
-    let response = send_signed(alloc, reader, writer, &request, credential, moment, b"", limit)?;
+    let response = send_signed(
+        alloc, reader, writer, &request, credential, moment, b"", limit,
+    )?;
     Ok(GetReply {
         answer: answer_of(response.status),
         etag: response.field,

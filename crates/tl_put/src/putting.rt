@@ -100,7 +100,9 @@ pub fn put_object<A: Allocator + Copy, I: Read, O: Write>(
     };
     let credential = &bucket.credential;
     let (body, most) = (object.body, MOST_ANSWER);
-    let response = send_signed(alloc, reader, writer, &request, credential, moment, body, most)?;
+    let response = send_signed(
+        alloc, reader, writer, &request, credential, moment, body, most,
+    )?;
     Ok(PutReply {
         answer: answer_of(response.status),
         etag: response.field,

@@ -1,15 +1,12 @@
-use Rattle.std.proofs.Common.{◌≡◌, ◌∙◌, ◌++◌, [], Err, List, Ok, ap, codes, map}
-use Rattle.std.specs.Prelude.{Result}
+use Rattle.std.proofs.Common.{◌∙◌, ◌++◌, [], Err, List, Ok, ap, codes, map}
 use Rattle.std.proofs.lemmas.Result.{err_from_is_err_and}
-use Rattle.tl_get.specs.Post.{Given, value_bytes}
+use Rattle.tl_get.specs.Post.{value_bytes}
 use Rattle.tl_put.specs.Answers.{Told, answers_sought, get_answer, tell}
 use Rattle.tl_put.specs.Objects.{get_fields, get_request, payload, place_of}
-use Rattle.tl_put.specs.declared.fault.ObjectFault.{ObjectFault}
 use Rattle.tl_put.specs.declared.object.GetAnswer.{GetAnswer}
 use Rattle.tl_put.proofs.AskLemmas.{asks_as, same_get_fields, same_request}
 use Rattle.tl_put.proofs.getting.get_object.Goals as goal
 use Rattle.tl_sigv4.specs.declared.request.Field.{Field}
-use Rattle.tl_sigv4.specs.Canonical.{Signed}
 use Rattle.tl_sigv4.specs.Requests.{field_of}
 use Rattle.tl_sigv4.specs.Time.{time_text}
 
