@@ -15,6 +15,7 @@ use crate::sending::{field, send_signed, target_of};
 use std::alloc::Allocator;
 use std::io::{Read, Write};
 use tl_device::Counted;
+use tl_get::Response;
 use tl_sigv4::{Field, Moment, Request, payload_digest};
 
 // The most bytes of an answer's body.
@@ -57,6 +58,21 @@ fn answer_of(status: u16) -> PutAnswer
         412 => PutAnswer::Refused,
         409 => PutAnswer::Conflict,
         other => PutAnswer::Other(other),
+    }
+}
+
+// What a response answers to a put.
+fn reply_of<A: Allocator>(response: Response<A>) -> PutReply<A>
+    ensures answer { result.answer ≡ spec.put_answer response.status }
+    ensures etag { result.etag ≡ response.field }
+    ensures body { result.body ≡ response.body }
+    ensures open { result.stays_open ≡ response.stays_open }
+{
+    PutReply {
+        answer: answer_of(response.status),
+        etag: response.field,
+        body: response.body,
+        stays_open: response.stays_open,
     }
 }
 
@@ -103,10 +119,5 @@ pub fn put_object<A: Allocator + Copy, I: Read, O: Write>(
     let response = send_signed(
         alloc, reader, writer, &request, credential, moment, body, most,
     )?;
-    Ok(PutReply {
-        answer: answer_of(response.status),
-        etag: response.field,
-        body: response.body,
-        stays_open: response.stays_open,
-    })
+    Ok(reply_of(response))
 }

@@ -6,7 +6,7 @@ ghost use Rattle.tl_get.specs.Exchange.{LeavesOpen};
 ghost use Rattle.tl_get.specs.Message.{field_of};
 ghost use Rattle.tl_put.specs.Answers.{answers_sought};
 ghost use Rattle.tl_put.specs.Requests.{Asks};
-ghost use Rattle.tl_put.specs.Inner.Sendings.{given};
+ghost use Rattle.tl_put.specs.Inner.Sendings.{response_told};
 ghost use Rattle.tl_put.specs.declared.fault.ObjectFault.TheVariants.{OutOfMemory};
 ghost use Rattle.tl_sigv4.specs.Requests as signed;
 ghost use Rattle.tl_sigv4.specs.Requests.{credential_of, request_of};
@@ -79,7 +79,7 @@ pub(crate) fn send_signed<A: Allocator + Copy, I: Read, O: Write>(
 ) -> Result<Response<A>, ObjectFault>
     ensures table { Asks (λ g. g) (request_of request.now) (credential_of credential.now) moment.now
         body.now (answers_sought limit) (passage I.remaining reader.old reader.new)
-        (passage O.contents writer.old writer.new) (given result) }
+        (passage O.contents writer.old writer.new) (response_told result) }
     ensures open { IfOk result (λ response.
         LeavesOpen (passage I.remaining reader.old reader.new) response.body.items response.stays_open) }
 {

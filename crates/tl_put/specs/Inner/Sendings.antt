@@ -5,7 +5,7 @@ use Rattle.tl_get.specs.declared.message.Response.{Response}
 use Rattle.tl_put.specs.declared.fault.ObjectFault.{ObjectFault}
 
 -- a response, without where its bytes lie in memory
-abbrev pub given : {A : Type 0} → Result (Response A) ObjectFault → Result Given ObjectFault
-given (Ok response) =
+abbrev pub response_told : {A : Type 0} → Result (Response A) ObjectFault → Result Given ObjectFault
+response_told (Ok response) =
     Ok (record { status = response.status; field = value_bytes response.field; body = vec_items response.body })
-given (Err fault) = Err fault
+response_told (Err fault) = Err fault

@@ -35,6 +35,6 @@ returns-clause-table g c =
     let same = same_request (codes "PUT") [] c.as_str-2.result.now (place.prefix ++ content.path) (map field_of c.as_slice.result.now)
     (put_fields place.host content.cache_control content.content_type c.args.condition (payload content.body) (time_text c.args.moment.now)) c.as_str-3.result.now (payload content.body)
     (c.as_str-2.ensures.value ∙ c.in_ok-path.ensures.target) fields (c.as_str-3.ensures.value ∙ digest) in
-    rw (c.answer_of.ensures.answer)
+    rw (c.reply_of.ensures.answer, c.reply_of.ensures.etag, c.reply_of.ensures.body)
     (asks_as (Told PutAnswer) (tell put_answer) _ (put_request place c.args.moment.now content c.args.condition) place.credential c.args.moment.now content.body (answers_sought 65536) _ _
     (Ok (record { status = c.in_ok-response.response.status; field = value_bytes c.in_ok-response.response.field; body = c.in_ok-response.response.body.items })) same c.in_ok-response.ensures.table)
