@@ -1,12 +1,9 @@
 -- From the steps of reading an answer over a connection that may be kept to the whole.
-use Rattle.std.proofs.Common.{◌≡◌, ◌≢◌, ◌-◌, ◌<◌, ◌≤◌, ℕ, List, [], ◌++◌, Contains, Option, Some, Ok, Err, Bool, IsTrue, false, length, length-append, slice_range, take, drop, ap, append-nil, append_assoc, arith, refl, subst, sym, ◌∙◌, inl, inr}
+use Rattle.std.proofs.Common.{◌≡◌, ◌≢◌, ◌-◌, ◌<◌, ◌≤◌, ℕ, List, ◌++◌, Contains, Option, Some, Ok, Err, Bool, IsTrue, false, length, length-append, slice_range, take, drop, ap, append-nil, arith, refl, subst, sym, ◌∙◌, inl, inr}
 use Rattle.std.specs.Prelude.{◌↔◌}
-use Rattle.std.proofs.KnownBytes.{Consumes-trans}
 use Rattle.std.proofs.lemmas.List.{drop_all, take_rest}
 use Rattle.httparse.specs.declared.spans.HeaderSpan.{HeaderSpan}
-use Rattle.httparse.specs.declared.spans.ResponseSpans.{ResponseSpans}
 use Rattle.httparse.specs.Grammar.{ResponseHead, status_code}
-use Rattle.httparse.specs.Spans.{IsResponseAt}
 use Rattle.tl_device.specs.Device.{Passage}
 use Rattle.tl_device.specs.Reading.{Gave}
 use Rattle.tl_device.proofs.SendingLemmas.{over}
@@ -18,9 +15,9 @@ use Rattle.tl_get.specs.Persistence.{Persists, body_framing}
 use Rattle.tl_get.specs.Post.{Given, Replied, ReplyDecides, field_value, only_one, with_head}
 use Rattle.tl_get.specs.Response.{Begins, Begun, BodyDecides, Outcome}
 use Rattle.tl_get.specs.Inner.Bodies.{FillsSized, FullBody}
-use Rattle.tl_get.specs.Inner.Heads.{IsHeaded, TookHead, faulty}
+use Rattle.tl_get.specs.Inner.Heads.{TookHead, faulty}
 use Rattle.tl_get.specs.declared.fault.GetFault.{GetFault}
-use Rattle.tl_get.specs.declared.fault.GetFault.TheVariants.{OutOfMemory, Read}
+use Rattle.tl_get.specs.declared.fault.GetFault.TheVariants.{OutOfMemory}
 use Rattle.tl_get.specs.declared.framing.Framing.{Framing}
 use Rattle.tl_get.specs.declared.framing.Framing.TheVariants.{Sized, UntilEnd, Chunked}
 use Rattle.tl_get.specs.declared.taken.Taken.{Taken}

@@ -1,5 +1,5 @@
 -- Where an option stands in the value of a field.
-use Rattle.std.proofs.Common.{◌≡◌, ◌+◌, ◌<◌, ◌≤◌, ℕ, List, ◌++◌, IsTrue, ap, append_assoc, arith, codes, drop, inl, inr, length, length-append, refl, reverse, subst, sym, take, ◌∙◌, ◌⊎◌}
+use Rattle.std.proofs.Common.{◌≡◌, ◌+◌, ◌<◌, ◌≤◌, ℕ, List, ◌++◌, IsTrue, ap, append_assoc, arith, codes, drop, inl, inr, length, length-append, refl, reverse, subst, sym, take, ◌∙◌}
 use Rattle.std.proofs.lemmas.List.{length-map, length-take-le, take-append-drop}
 use Rattle.std.proofs.Math.Nat.{eq-or-lt_of_le}
 use Rattle.std.proofs.Math.Seq.{drop-append_seam, take-append_seam}

@@ -1,5 +1,5 @@
 -- One request over a reader and a writer of a connection that may be kept (RFC 9112, section 9.3).
-use Rattle.std.specs.Prelude.{◌≡◌, ◌⊎◌, ◌↔◌, ℕ, Bool, List, Option, Result, Ok, Err, Contains, IsTrue, vec_items}
+use Rattle.std.specs.Prelude.{◌≡◌, ◌⊎◌, ◌↔◌, ℕ, Bool, List, Result, Ok, Err, Contains, IsTrue, vec_items}
 use Rattle.httparse.specs.Grammar.{status_code}
 use Rattle.tl_device.specs.Device.{Passage, IsUnread, IsUnwritten, WroteWhole, WrotePart}
 use Rattle.tl_device.specs.Reading.{Gave}

@@ -1,5 +1,5 @@
 -- Connections that go on after a response (RFC 9112, sections 6.3, 9.3 and 9.6; RFC 9110, sections 7.6.1 and 15.2.2).
-use Rattle.std.specs.Prelude.{◌≡◌, ◌≢◌, ◌⊎◌, ℕ, ◌==◌, ◌||◌, ◌++◌, Bool, true, List, [], ◌∷◌, IsTrue, codes, reverse, if◌then◌else◌}
+use Rattle.std.specs.Prelude.{◌≡◌, ◌≢◌, ℕ, ◌==◌, ◌||◌, ◌++◌, Bool, true, List, [], ◌∷◌, IsTrue, codes, reverse, if◌then◌else◌}
 use Rattle.std.specs.List.{AllByRecursion}
 use Rattle.httparse.specs.Ascii.{comma}
 use Rattle.httparse.specs.Grammar.{is_ows}

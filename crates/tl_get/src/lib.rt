@@ -1,4 +1,4 @@
-//! One request over HTTP/1.1, by GET or by POST, over any reader and writer.
+//! One request over HTTP/1.1, by GET, by POST or in the caller's form, over any reader and writer.
 //!
 //! ```
 //! let mut reader = Counted::new(&stream);
@@ -16,6 +16,12 @@
 //!     Err(GetFault::Status(_)) => {}    // another status
 //!     Err(_) => {}                      // no response that is taken
 //! }
+//!
+//! let fields = [FieldLine { name: "host", value: "example.com" }];
+//! let (target, field, statuses) = ("/a", "ETag", &statuses);
+//! let message = Message { method: "PUT", target, fields: &fields, body: b"text", statuses, field };
+//! let response = exchange(alloc, &mut reader, &mut writer, &message, 65_536)?;
+//! if response.stays_open {}             // the same reader and writer can carry another request
 //! ```
 #![tactic(auto)]
 

@@ -1,9 +1,6 @@
-use Rattle.std.proofs.Common.{◌≡◌, ◌++◌, List, ℕ, Contains, Err, Ok, length, subst}
+use Rattle.std.proofs.Common.{Contains}
 use Rattle.std.proofs.lemmas.Result.{err_from_is_err_and}
-use Rattle.tl_device.specs.Device.{passage}
 use Rattle.tl_get.specs.Exchange.{sought}
-use Rattle.tl_get.specs.Get.{Receives}
-use Rattle.tl_get.specs.Response.{BodyDecides, Outcome}
 use Rattle.tl_get.proofs.AnswerLemmas.{answer_alone, answer_no_body, answer_no_field, answer_open, answer_whole}
 use Rattle.tl_get.proofs.kept.read_answer.Goals as goal
 

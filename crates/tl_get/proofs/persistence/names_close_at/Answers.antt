@@ -1,4 +1,4 @@
-use Rattle.std.proofs.Common.{◌≡◌, List, ℕ, IsTrue, ◌∙◌, ap, codes, drop, reverse, subst, sym, take, true}
+use Rattle.std.proofs.Common.{List, ℕ, IsTrue, ◌∙◌, ap, codes, drop, reverse, subst, sym, take}
 use Rattle.tl_get.specs.Fields.{IsSameWord}
 use Rattle.tl_get.specs.Persistence.{is_item_end}
 use Rattle.tl_get.proofs.ClosingLemmas.{parts_at, stands_at}
