@@ -12,6 +12,7 @@ mod edges;
 mod equals;
 mod keys;
 mod notes;
+mod objects;
 mod proofs;
 mod requests;
 mod signatures;
@@ -61,6 +62,7 @@ fn answer(alloc: Global, call: &str, text: &str, out: &mut String) -> Told {
         "equal" => equals::answer(alloc, words, out),
         "key" => keys::answer(alloc, words, text, out),
         "note" => notes::answer(alloc, words, text, out),
+        "object" => objects::answer(alloc, words, text, out),
         "proof" => proofs::answer(alloc, words, text, out),
         "request" => requests::answer(alloc, words, text, out),
         "source" => sources::answer(alloc, words, out),
