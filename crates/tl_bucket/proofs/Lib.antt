@@ -6,3 +6,4 @@ pub mod Last
 pub mod Right
 pub mod Going
 mod Race
+pub mod Shares

@@ -2,3 +2,11 @@
 pub mod Bucket
 pub mod Operators
 pub mod Histories
+pub mod Commits
+pub mod Answered
+pub mod Shelved
+pub mod Buckets
+pub mod Opened
+pub mod Finishing
+pub mod FaultWords
+pub mod Inner

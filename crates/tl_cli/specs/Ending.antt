@@ -1,5 +1,5 @@
 -- How a run of a command ends.
-use Rattle.std.specs.Prelude.{◌⊎◌, ℕ, Result, Ok, Err}
+use Rattle.std.specs.Prelude.{◌⊎◌, ℕ, Option, Some, None, Result, Ok, Err}
 use Rattle.tl_hash.specs.Bytes.{Bytes}
 use Rattle.tl_device.specs.Device.{Passage, IsUnwritten, WroteWhole, WrotePart}
 use Rattle.tl_command.specs.Faults.{device_status, exit_status}
@@ -8,8 +8,10 @@ use Rattle.tl_fetch.specs.FaultWords.{fetch_status}
 use Rattle.tl_fetch.specs.declared.fault.FetchFault.{FetchFault}
 use Rattle.tl_serve.specs.declared.witness_fault.WitnessFault.{WitnessFault}
 use Rattle.tl_serve.specs.declared.witness_fault.WitnessFault.TheVariants as why
+use Rattle.tl_bucket.specs.declared.fault.BucketFault.{BucketFault}
+use Rattle.tl_bucket.specs.declared.fault.BucketFault.TheVariants as bucket
 use Rattle.tl_cli.specs.declared.fault.CommandFault.{CommandFault}
-use Rattle.tl_cli.specs.declared.fault.CommandFault.TheVariants.{Run, Fetch, Witness}
+use Rattle.tl_cli.specs.declared.fault.CommandFault.TheVariants.{Run, Fetch, Witness, Bucket, Credentials}
 
 -- how a command ended that is neither `fetch` nor `witness`, how `fetch` ended, and how `witness` did
 abbrev pub by_run : Result (Unit {0}) RunFault → Result (Unit {0}) CommandFault
@@ -30,11 +32,19 @@ witness_status (why.Run fault) = exit_status fault
 witness_status (why.LogsFile fault) = device_status fault
 witness_status (why.Logs fault) = 1
 
+-- the exit status of a fault of a bucket
+abbrev pub bucket_status : BucketFault → ℕ
+bucket_status (bucket.Device why) = device_status why
+bucket_status fault = 1
+
 -- the exit status of a fault
 abbrev pub command_status : CommandFault → ℕ
 command_status (Run fault) = exit_status fault
 command_status (Fetch fault) = fetch_status fault
 command_status (Witness fault) = witness_status fault
+command_status (Bucket fault) = bucket_status fault
+command_status (Credentials None) = 1
+command_status (Credentials (Some why)) = device_status why
 
 -- the exit status: 0 where all was done, and else that of the fault
 abbrev pub status_of : Result (Unit {0}) CommandFault → ℕ

@@ -10,7 +10,7 @@ use Rattle.tl_command.specs.ProofCommands.{InclusionComes, ConsistencyComes, Che
 use Rattle.tl_command.specs.AuditCommand.{AuditComes}
 use Rattle.tl_command.specs.declared.fault.RunFault.{RunFault}
 use Rattle.tl_cli.specs.declared.job.Job.{Job}
-use Rattle.tl_cli.specs.declared.job.Job.TheVariants.{Head, Build, BuildSigned, Append, Inclusion, Consistency, Check, CheckUnder, Keygen, Open, Audit, Serve, Witness, Fetch, Feed, Version}
+use Rattle.tl_cli.specs.declared.job.Job.TheVariants.{Head, Build, BuildSigned, Append, AppendTo, Inclusion, Consistency, Check, CheckUnder, Keygen, Open, Audit, Serve, ServeFrom, Witness, Fetch, Feed, Version}
 use Rattle.tl_command.specs.Mirror.{demo_log_key}
 use Rattle.tl_command.specs.Build.{RunsBuild}
 use Rattle.tl_command.specs.Signed.{RunsSigned}
@@ -28,6 +28,7 @@ use Rattle.tl_cli.specs.declared.fault.CommandFault.{CommandFault}
 use Rattle.tl_serve.specs.Knowing.{RefusesLog}
 use Rattle.tl_serve.specs.declared.witness_fault.WitnessFault.{WitnessFault}
 use Rattle.tl_cli.specs.Ending.{by_fetch, by_run, by_witness, status_of}
+use Rattle.tl_cli.specs.InBucket.{AppendsTo, ServesFrom}
 use Rattle.tl_cli.specs.Lasting.{Folder, AppendsIn, ServesIn, SparesStreams}
 use Rattle.tl_cli.specs.Told.{Tells}
 use Rattle.tl_cli.specs.Version.{PrintsVersion}
@@ -78,6 +79,7 @@ RunsJob held reached (BuildSigned options) folder i o e result =
 RunsJob held reached (Append options) folder i o e result =
     IsRun (λ ran. RefusesOrigin (string_bytes options.origin) i ran × AppendsIn held reached options i o folder ran) result
     × IsUnwritten e
+RunsJob held reached (AppendTo options) folder i o e result = AppendsTo held reached options i o result × IsUnwritten e
 RunsJob held reached (Inclusion options) folder i o e result = IsRun (Runs (InclusionComes options.index) i o) result × IsUnwritten e
 RunsJob held reached (Consistency options) folder i o e result = IsRun (Runs (ConsistencyComes options.old) i o) result × IsUnwritten e
 RunsJob held reached Check folder i o e result = IsRun (Runs CheckComes i o) result × IsUnwritten e
@@ -90,6 +92,7 @@ RunsJob held reached Audit folder i o e result = IsRun (Runs (AuditComes sha256)
 RunsJob held reached (Serve options) folder i o e result =
     IsRun (λ ran. RefusesOrigin (string_bytes options.origin) i ran × ServesIn held reached options i folder ran) result
     × IsUnwritten o
+RunsJob held reached (ServeFrom options) folder i o e result = ServesFrom held reached options i result × IsUnwritten o
 RunsJob held reached (Witness options) folder i o e result =
     IsWitness (RefusesLog options.logs i) result × SparesStreams options i o
 RunsJob held reached (Fetch options) folder i o e result = IsFetched (RunsFetch options o) result × IsUnread i

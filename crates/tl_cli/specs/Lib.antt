@@ -4,4 +4,5 @@ pub mod Told
 pub mod Version
 pub mod Job
 pub mod Lasting
+pub mod InBucket
 pub mod Inner

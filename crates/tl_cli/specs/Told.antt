@@ -23,8 +23,10 @@ use Rattle.tl_serve.specs.declared.options.KnownLogs.TheVariants.{One, Listed}
 use Rattle.tl_serve.specs.declared.witness_fault.WitnessFault.{WitnessFault}
 use Rattle.tl_serve.specs.declared.witness_fault.WitnessFault.TheVariants as why
 use Rattle.tl_logs.specs.FaultWords.{logs_words}
+use Rattle.tl_bucket.specs.FaultWords.{bucket_words}
+use Rattle.tl_device.specs.declared.fault.DeviceFault.{DeviceFault}
 use Rattle.tl_cli.specs.declared.job.Job.{Job}
-use Rattle.tl_cli.specs.declared.job.Job.TheVariants.{BuildSigned, Append, CheckUnder, Serve, Witness, Fetch, Feed}
+use Rattle.tl_cli.specs.declared.job.Job.TheVariants.{BuildSigned, Append, AppendTo, CheckUnder, Serve, ServeFrom, Witness, Fetch, Feed}
 use Rattle.tl_cli.specs.declared.fault.CommandFault.{CommandFault}
 use Rattle.tl_cli.specs.declared.fault.CommandFault.TheVariants as fault
 
@@ -44,7 +46,9 @@ abbrev pub file_of : Job → Option Bytes
 file_of (BuildSigned options) = Some (string_bytes options.key)
 file_of (CheckUnder options) = Some (string_bytes options.checkpoint)
 file_of (Append options) = key_file options.key
+file_of (AppendTo options) = key_file options.append.key
 file_of (Serve options) = key_file options.key
+file_of (ServeFrom options) = key_file options.serve.key
 file_of (Witness options) = witness_file options.key
 file_of job = None
 
@@ -55,10 +59,12 @@ state_of (Fetch options) = option_map string_bytes options.state
 state_of (Feed options) = option_map string_bytes options.log.state
 state_of job = None
 
--- the folder of a log
+-- the folder of a log, or the address of its bucket
 abbrev pub log_of : Job → Option Bytes
 log_of (Append options) = Some (string_bytes options.dir)
+log_of (AppendTo options) = Some (string_bytes options.bucket.address)
 log_of (Serve options) = option_map string_bytes options.dir
+log_of (ServeFrom options) = Some (string_bytes options.bucket.address)
 log_of job = None
 
 -- the folder or the address that is fetched from
@@ -75,6 +81,12 @@ listed_file (Listed path) = Some (string_bytes path)
 abbrev pub logs_file : Job → Option Bytes
 logs_file (Witness options) = listed_file options.logs
 logs_file job = None
+
+-- the file of the key that signs requests to a bucket
+abbrev pub credentials_of : Job → Option Bytes
+credentials_of (AppendTo options) = option_map string_bytes options.bucket.credentials
+credentials_of (ServeFrom options) = option_map string_bytes options.bucket.credentials
+credentials_of job = None
 
 -- what they name for a place, and the resource under it that the place is, if it is one
 abbrev pub base_of : Job → Place → Option Bytes
@@ -126,12 +138,20 @@ IsLineOfWitness job (why.Run other) text = IsLineOfRun job other text
 IsLineOfWitness job (why.LogsFile other) text = text ≡ logs_line (logs_file job) (device_words other)
 IsLineOfWitness job (why.Logs other) text = text ≡ logs_line (logs_file job) (logs_words other)
 
+-- the line of a fault over the key that signs requests to a bucket, and why its file isn't read, if it isn't
+abbrev pub credentials_line : Option Bytes → Option DeviceFault → Bytes
+credentials_line None why = line (codes "tlog: no credentials")
+credentials_line (Some path) None = line (codes "tlog: " ++ path ++ codes ": " ++ codes "bad credentials")
+credentials_line (Some path) (Some why) = line (codes "tlog: " ++ path ++ codes ": " ++ device_words why)
+
 -- the line of a fault of a job, if it has one
 abbrev pub IsLineOf : Job → CommandFault → Bytes → Type 0
 IsLineOf job (fault.Run other) text = IsLineOfRun job other text
 IsLineOf job (fault.Fetch (fetch.Run other)) text = IsLineOfRun job other text
 IsLineOf job (fault.Fetch other) text = text ≡ line_or_none (fetch_text other)
 IsLineOf job (fault.Witness other) text = IsLineOfWitness job other text
+IsLineOf job (fault.Bucket why) text = IsLineAt (log_of job) (place.Log None) (bucket_words why) text
+IsLineOf job (fault.Credentials why) text = text ≡ credentials_line (credentials_of job) why
 
 -- a text was written to standard error, or a part of it where that failed
 abbrev pub Wrote : Bytes → Passage → Type 0

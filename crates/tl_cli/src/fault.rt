@@ -1,9 +1,14 @@
 //! The faults of all commands.
 
 ghost use Rattle.std.specs.Prelude.{◌≡◌};
+ghost use Rattle.tl_cli.specs.declared.fault.CommandFault.TheVariants.{Run};
+ghost use Rattle.tl_command.specs.declared.fault.RunFault.TheVariants.{OutOfMemory};
 ghost use Rattle.tl_cli.specs.Ending.{by_fetch, by_run, by_witness, command_status, witness_status};
 
+use std::alloc::{AllocError, AllocFailed};
+use tl_bucket::BucketFault;
 use tl_command::{Place, RunFault, exit_of};
+use tl_device::DeviceFault;
 use tl_fetch::{FetchFault, fetch_exit_of};
 use tl_serve::WitnessFault;
 
@@ -16,6 +21,10 @@ pub enum CommandFault {
     Fetch(FetchFault),
     /// A fault of `witness`.
     Witness(WitnessFault),
+    /// A fault of a bucket.
+    Bucket(BucketFault),
+    /// The key that signs requests to a bucket isn't there: why its file isn't read, if it isn't.
+    Credentials(Option<DeviceFault>),
 }
 
 // The exit status of a fault of `witness`.
@@ -37,6 +46,26 @@ pub(crate) fn command_exit_of(fault: &CommandFault) -> u8
         CommandFault::Run(fault) => exit_of(fault),
         CommandFault::Fetch(fault) => fetch_exit_of(fault),
         CommandFault::Witness(fault) => witness_exit_of(fault),
+        CommandFault::Bucket(BucketFault::Device(why)) | CommandFault::Credentials(Some(why)) => {
+            exit_of(&RunFault::Device(Place::File, *why))
+        }
+        CommandFault::Bucket(_) | CommandFault::Credentials(None) => 1,
+    }
+}
+
+impl From<AllocError> for CommandFault {
+    ghost from_gives = { λ _ fault. fault ≡ Run OutOfMemory };
+
+    fn from(_error: AllocError) -> CommandFault {
+        CommandFault::Run(RunFault::OutOfMemory)
+    }
+}
+
+impl<X: Drop> From<AllocFailed<X>> for CommandFault {
+    ghost from_gives = { λ _ fault. fault ≡ Run OutOfMemory };
+
+    fn from(_error: AllocFailed<X>) -> CommandFault {
+        CommandFault::Run(RunFault::OutOfMemory)
     }
 }
 

@@ -1,5 +1,6 @@
 //! The commands of the program with their options.
 
+use crate::in_bucket::{AppendToOptions, ServeFromOptions};
 use tl_append::AppendOptions;
 use tl_command::{BuildOptions, CheckOptions, HeadOptions, KeygenOptions, SignedOptions};
 use tl_fetch::{FeedOptions, FetchOptions};
@@ -34,6 +35,8 @@ pub enum Job {
     BuildSigned(SignedOptions),
     /// Append the lines of standard input to the log in a folder.
     Append(AppendOptions),
+    /// Append them to the log in a bucket.
+    AppendTo(AppendToOptions),
     /// Print the inclusion proof of a line of standard input.
     Inclusion(InclusionOptions),
     /// Print the consistency proof from the first lines of standard input to all of them.
@@ -53,6 +56,8 @@ pub enum Job {
     Audit,
     /// Serve the log of the lines of standard input.
     Serve(ServeOptions),
+    /// Serve the log in a bucket, to which they are appended.
+    ServeFrom(ServeFromOptions),
     /// Serve a witness of one log, or of those that a file names.
     Witness(WitnessOptions),
     /// Fetch from a log that isn't trusted.

@@ -9,8 +9,10 @@
 #![tactic(auto)]
 
 mod fault;
+mod in_bucket;
 mod job;
 mod lasting;
+mod own_bucket;
 mod own_folder;
 mod proposal_file;
 mod running;
@@ -21,7 +23,9 @@ mod version;
 mod words;
 
 pub use fault::CommandFault;
+pub use in_bucket::{AppendToOptions, ServeFromOptions};
 pub use job::{ConsistencyOptions, InclusionOptions, Job};
+pub use own_bucket::BucketOptions;
 pub use own_folder::OwnFolder;
 pub use running::{end_early, end_run, run_job, run_words};
 pub use streams::Streams;

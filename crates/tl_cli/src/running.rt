@@ -12,6 +12,7 @@ ghost use Rattle.tl_cli.specs.Ending.{Told, status_of};
 ghost use Rattle.tl_cli.specs.Told.{Tells};
 
 use crate::fault::{CommandFault, after_fetch, after_run, after_witness, command_exit_of};
+use crate::in_bucket::{append_to, serve_from};
 use crate::job::{ConsistencyOptions, InclusionOptions, Job};
 use crate::lasting::{append, serve, witness};
 use crate::own_folder::OwnFolder;
@@ -20,6 +21,7 @@ use crate::telling::tell;
 use crate::version::print_version;
 use crate::words::{WordsFault, read_words};
 use std::alloc::{Allocator, Global};
+use std::env::Env;
 use std::fs::{File, Files};
 use std::io::{Read, Write};
 use std::net::{Net, TcpListener, TcpStream};
@@ -204,7 +206,8 @@ pub fn run_job<
     H: Host
         + Files<File = File, Dir: Send + Sync>
         + Net<Listener = TcpListener, Stream = TcpStream>
-        + RandomSource,
+        + RandomSource
+        + Env,
     R: Read + Send,
     W: Write + Send,
     E: Write,
@@ -229,6 +232,7 @@ pub fn run_job<
         Job::Build(options) => after_run(build(rt, alloc, options, reader, writer)),
         Job::BuildSigned(options) => after_run(build_signed(rt, alloc, options, reader, writer)),
         Job::Append(options) => after_run(append(disk, rt, alloc, options, folder, reader, writer)),
+        Job::AppendTo(options) => append_to(disk, rt, alloc, options, reader, writer),
         Job::Inclusion(options) => after_run(inclusion(rt, alloc, *options, reader, writer)),
         Job::Consistency(options) => after_run(consistency(rt, alloc, *options, reader, writer)),
         Job::Check => after_run(run_check(alloc, reader, writer)),
@@ -239,6 +243,7 @@ pub fn run_job<
         Job::Serve(options) => {
             after_run(serve(disk, rt, alloc, options, input, folder, reader, errors))
         }
+        Job::ServeFrom(options) => serve_from(disk, rt, alloc, options, input, reader, errors),
         Job::Witness(options) => {
             after_witness(witness(rt, alloc, options, reader, writer, errors))
         }
@@ -258,7 +263,8 @@ pub fn run_words<
     H: Host
         + Files<File = File, Dir: Send + Sync>
         + Net<Listener = TcpListener, Stream = TcpStream>
-        + RandomSource,
+        + RandomSource
+        + Env,
     R: Read + Send,
     W: Write + Send,
     E: Write,

@@ -1,16 +1,19 @@
 //! The line of a fault on standard error, with the file, the folder or the address that the options name.
 
-ghost use Rattle.std.specs.Prelude.{◌≡◌, ◌++◌, IfOk, codes, option_map, string_bytes};
+ghost use Rattle.std.specs.Prelude.{◌≡◌, ◌++◌, IfOk, None, codes, option_map, string_bytes};
 ghost use Rattle.tl_text.specs.Text.{line};
 ghost use Rattle.tl_device.specs.Device.{passage};
-ghost use Rattle.tl_cli.specs.Told.{IsLineAt, IsLineOf, IsLineOfRun, IsLineOfWitness, IsWhere, TellsFault, Wrote, base_of, file_of, key_file, line_or_none, listed_file, log_of, logs_file, logs_line, resource_of, source_of, state_of, witness_file};
+ghost use Rattle.tl_bucket.specs.FaultWords.{bucket_words};
+ghost use Rattle.tl_command.specs.declared.place.Place.TheVariants.{Log};
+ghost use Rattle.tl_cli.specs.Told.{IsLineAt, IsLineOf, IsLineOfRun, IsLineOfWitness, IsWhere, TellsFault, Wrote, base_of, credentials_line, credentials_of, file_of, key_file, line_or_none, listed_file, log_of, logs_file, logs_line, resource_of, source_of, state_of, witness_file};
 
 use crate::fault::CommandFault;
 use crate::job::Job;
 use std::alloc::{AllocError, Allocator};
 use std::io::Write;
+use tl_bucket::BucketFault;
 use tl_command::{LogKey, Place, RunFault, fault_line};
-use tl_device::{Counted, write_whole};
+use tl_device::{Counted, DeviceFault, write_whole};
 use tl_fetch::{FetchFault, fetch_fault_line};
 use tl_serve::{KnownLogs, WitnessFault, WitnessSignerKey};
 use tl_source::place_of;
@@ -44,7 +47,9 @@ fn file_of(job: &Job) -> Option<&str>
         Job::BuildSigned(options) => Some(options.key.as_str()),
         Job::CheckUnder(options) => Some(options.checkpoint.as_str()),
         Job::Append(options) => key_file(&options.key),
+        Job::AppendTo(options) => key_file(&options.append.key),
         Job::Serve(options) => key_file(&options.key),
+        Job::ServeFrom(options) => key_file(&options.serve.key),
         Job::Witness(options) => witness_file(&options.key),
         _ => None,
     }
@@ -82,13 +87,26 @@ fn logs_file(job: &Job) -> Option<&str>
     }
 }
 
-// The folder of a log that the options name.
+// The folder of a log that the options name, or the address of its bucket.
 fn log_of(job: &Job) -> Option<&str>
     ensures { option_map (λ s. s.now) result ≡ log_of job.now }
 {
     match job {
         Job::Append(options) => Some(options.dir.as_str()),
+        Job::AppendTo(options) => Some(options.bucket.address.as_str()),
         Job::Serve(options) => options.dir.as_deref(),
+        Job::ServeFrom(options) => Some(options.bucket.address.as_str()),
+        _ => None,
+    }
+}
+
+// The file of the key that signs requests to a bucket.
+fn credentials_of(job: &Job) -> Option<&str>
+    ensures { option_map (λ s. s.now) result ≡ credentials_of job.now }
+{
+    match job {
+        Job::AppendTo(options) => options.bucket.credentials.as_deref(),
+        Job::ServeFrom(options) => options.bucket.credentials.as_deref(),
         _ => None,
     }
 }
@@ -240,6 +258,38 @@ fn witness_line<A: Allocator + Copy>(
     }
 }
 
+// The line of a fault of a bucket.
+fn bucket_line<A: Allocator + Copy>(
+    alloc: A,
+    job: &Job,
+    why: &BucketFault,
+) -> Result<String<A>, AllocError>
+    ensures { IfOk result (λ text. IsLineAt (log_of job.now) (Log None)
+        (bucket_words why.now) (string_bytes text)) }
+{
+    let words = format!(in alloc; "{why}")?;
+    place_line(alloc, job, Place::Log(None), words.as_str())
+}
+
+// The line of a fault over the key that signs requests to a bucket.
+fn credentials_line<A: Allocator + Copy>(
+    alloc: A,
+    job: &Job,
+    why: &Option<DeviceFault>,
+) -> Result<String<A>, AllocError>
+    ensures { IfOk result (λ text. string_bytes text
+        ≡ credentials_line (credentials_of job.now) why.now) }
+{
+    let Some(path) = credentials_of(job) else {
+        return String::from_str(alloc, "tlog: no credentials\n");
+    };
+    let Some(why) = why else {
+        return line_at(alloc, path, "bad credentials");
+    };
+    let words = format!(in alloc; "{why}")?;
+    line_at(alloc, path, words.as_str())
+}
+
 // What is told of a fault of a job: its line, if it has one.
 fn line_of<A: Allocator + Copy>(
     alloc: A,
@@ -253,6 +303,8 @@ fn line_of<A: Allocator + Copy>(
         CommandFault::Fetch(FetchFault::Run(fault)) => run_line(alloc, job, fault),
         CommandFault::Fetch(fault) => whole_line(alloc, fetch_fault_line(alloc, fault)?),
         CommandFault::Witness(fault) => witness_line(alloc, job, fault),
+        CommandFault::Bucket(why) => bucket_line(alloc, job, why),
+        CommandFault::Credentials(why) => credentials_line(alloc, job, why),
     }
 }
 

@@ -14,6 +14,7 @@ macro_rules! words {
     };
 }
 
+mod bucket;
 mod building;
 mod feeding;
 mod fetching;

@@ -6,6 +6,7 @@
 #![tactic(auto)]
 
 use std::alloc::{AllocError, Global};
+use std::env::Env;
 use std::fs::{File, Files};
 use std::net::{Net, TcpListener, TcpStream};
 use std::random::RandomSource;
@@ -51,7 +52,8 @@ fn run_line<
     H: Host
         + Files<File = File, Dir: Send + Sync>
         + Net<Listener = TcpListener, Stream = TcpStream>
-        + RandomSource,
+        + RandomSource
+        + Env,
 >(rt: &H, alloc: Global, run: &Run) -> Result<Ended, AllocError> {
     let words = words_of(alloc, run.line)?;
     let mut reader = Counted::new(run.input.as_slice());

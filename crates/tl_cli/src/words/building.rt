@@ -1,9 +1,12 @@
 //! The words of the commands that build a log, as a mirror and in a folder.
 
+use super::bucket::{BUCKET, bucket_if_given};
 use super::given::{log_key_if_one, text_if_given, text_of, usage_error};
 use super::table::{Kind, Word, Words};
 use super::{EITHER_KEY, WordsFault, texts};
+use crate::in_bucket::AppendToOptions;
 use crate::job::Job;
+use crate::own_bucket::BucketOptions;
 use clap::ArgMatches;
 use std::alloc::Global;
 use tl_append::AppendOptions;
@@ -14,6 +17,16 @@ const ONE_OUTPUT: &str = "--get and --dir are not given together";
 
 // What is said where threads are asked for and a folder is given.
 const NO_THREADS: &str = "--threads and --dir are not given together";
+
+// What is said where not one place of a log is given.
+const EITHER_PLACE: &str = "either --dir or --bucket is given";
+
+// What is said where options of a folder are given with a bucket.
+const OF_A_FOLDER: &str =
+    "--get, --threads, --older and --keep-partials are not given with --bucket";
+
+// After how many entries a log in a bucket is published, where that isn't told.
+const BATCH: u64 = 65_536;
 
 /// The words of a log and its key.
 pub(super) const LOG: &[Word] = words![
@@ -33,6 +46,7 @@ const BUILD: Words = Words {
             "dir" "DIR" Kind::Path => "Write the mirror into this folder";
             "threads" "N" Kind::Short => "How many threads hash at once";
         ],
+        BUCKET,
     ],
 };
 
@@ -43,22 +57,69 @@ pub(super) fn build() -> &'static Words {
 
 const APPEND: Words = Words {
     name: "append",
-    about: "Appends the lines of standard input to the log in a folder",
+    about: "Appends the lines of standard input to the log in a folder or a bucket",
     after_help: texts::APPEND,
     words: &[
         LOG,
         words![
-            "dir" "DIR" Kind::RequiredPath => "The folder of the log";
+            "dir" "DIR" Kind::Path => "The folder of the log";
             "batch" "N" Kind::Number(1, 0xFFFF_FFFF) => "Publish after each N entries, too";
             "older" "" Kind::Flag => "Go on from a checkpoint that is older than one that was there";
             "keep-partials" "" Kind::Flag => "Leave partial tiles that full ones have replaced";
         ],
+        BUCKET,
     ],
 };
 
 /// The words of `append`.
 pub(super) fn append() -> &'static Words {
     &APPEND
+}
+
+// The job that appends to a log in a bucket. There partial tiles stay.
+fn append_to(
+    alloc: Global,
+    bucket: BucketOptions,
+    origin: String,
+    key: LogKey,
+    batch: Option<u64>,
+    is_new: bool,
+) -> Result<Job, WordsFault> {
+    let dir = String::from_str(alloc, bucket.address.as_str())?;
+    let append = AppendOptions {
+        dir,
+        origin,
+        key,
+        batch: Some(batch.unwrap_or(BATCH)),
+        is_new,
+        allows_older: false,
+        keeps_partials: true,
+    };
+    Ok(Job::AppendTo(AppendToOptions { bucket, append }))
+}
+
+// The job of `build` into a bucket.
+fn build_to(
+    alloc: Global,
+    options: &ArgMatches<'_>,
+    bucket: BucketOptions,
+    key: LogKey,
+) -> Result<Job, WordsFault> {
+    let threads = options.get_one::<u16>("threads");
+    if threads.is_some() || options.get_str("get").is_some() {
+        return Err(usage_error(alloc, build(), OF_A_FOLDER));
+    }
+    if options.get_str("dir").is_some() {
+        return Err(usage_error(alloc, build(), EITHER_PLACE));
+    }
+    append_to(
+        alloc,
+        bucket,
+        text_of(alloc, options, "origin")?,
+        key,
+        None,
+        true,
+    )
 }
 
 // The job of `build`: of the secret and the file of a key one is given, and not both a resource and a folder.
@@ -70,6 +131,9 @@ pub(super) fn build_job(alloc: Global, options: &ArgMatches<'_>) -> Result<Job, 
     let Some(key) = log_key_if_one(alloc, options)? else {
         return Err(usage_error(alloc, build(), EITHER_KEY));
     };
+    if let Some(bucket) = bucket_if_given(alloc, build(), options)? {
+        return build_to(alloc, options, bucket, key);
+    }
     if threads.is_some() && dir.is_some() {
         return Err(usage_error(alloc, build(), NO_THREADS));
     }
@@ -101,18 +165,30 @@ pub(super) fn build_job(alloc: Global, options: &ArgMatches<'_>) -> Result<Job, 
     }
 }
 
-// The job of `append`.
+// The job of `append`, to a folder or to a bucket.
 pub(super) fn append_job(alloc: Global, options: &ArgMatches<'_>) -> Result<Job, WordsFault> {
     let Some(key) = log_key_if_one(alloc, options)? else {
         return Err(usage_error(alloc, append(), EITHER_KEY));
     };
-    Ok(Job::Append(AppendOptions {
-        dir: text_of(alloc, options, "dir")?,
-        origin: text_of(alloc, options, "origin")?,
-        key,
-        batch: options.get_one::<u64>("batch"),
-        is_new: false,
-        allows_older: options.get_flag("older"),
-        keeps_partials: options.get_flag("keep-partials"),
-    }))
+    let origin = text_of(alloc, options, "origin")?;
+    let batch = options.get_one::<u64>("batch");
+    let allows_older = options.get_flag("older");
+    let keeps_partials = options.get_flag("keep-partials");
+    let dir = text_if_given(alloc, options, "dir")?;
+    match (dir, bucket_if_given(alloc, append(), options)?) {
+        (Some(dir), None) => Ok(Job::Append(AppendOptions {
+            dir,
+            origin,
+            key,
+            batch,
+            is_new: false,
+            allows_older,
+            keeps_partials,
+        })),
+        (None, Some(_)) if allows_older || keeps_partials => {
+            Err(usage_error(alloc, append(), OF_A_FOLDER))
+        }
+        (None, Some(bucket)) => append_to(alloc, bucket, origin, key, batch, false),
+        _ => Err(usage_error(alloc, append(), EITHER_PLACE)),
+    }
 }

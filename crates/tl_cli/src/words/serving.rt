@@ -1,13 +1,16 @@
 //! The words of the commands that serve.
 
+use super::bucket::{BUCKET, bucket_if_given};
 use super::building::LOG;
 use super::fetching::need_of;
 use super::given::{log_key_if_one, text_if_given, text_of, texts_of, usage_error};
 use super::table::{Kind, Word, Words};
 use super::{EITHER_KEY, LOG_KEY, TIMEOUT, WordsFault, texts};
+use crate::in_bucket::ServeFromOptions;
 use crate::job::Job;
+use crate::own_bucket::BucketOptions;
 use clap::ArgMatches;
-use std::alloc::Global;
+use std::alloc::{AllocError, Global};
 use tl_serve::{
     AskedWitness, KnownLogs, ListenOptions, LogVerifierKey, ServeOptions, WitnessOptions,
     WitnessSignerKey,
@@ -27,6 +30,9 @@ const ONE_BASE: &str = "--note and --dir are not given together";
 
 // What is said where options of a log in a folder are given, and no folder.
 const OF_A_FOLDER: &str = "--older, --keep-partials and --witness are given with --dir alone";
+
+// What is said where a bucket is given beside a note or a folder.
+const ONE_PLACE: &str = "--note, --dir and --bucket are not given together";
 
 // What is said where a witness is given without its key or its address.
 const NO_PAIR: &str = "--witness is VKEY=http://HOST[:PORT][/PATH]";
@@ -92,6 +98,7 @@ const SERVE: Words = Words {
             "need" "N" Kind::Number(0, u64::MAX)
                 => "How many of the witnesses must have cosigned what is shown";
         ],
+        BUCKET,
         SERVER,
     ],
 };
@@ -197,6 +204,26 @@ fn must_cosign(alloc: Global, options: &ArgMatches<'_>, witnesses: u64) -> Resul
     }
 }
 
+// Where a log outlasts its server: in its folder, or in its bucket.
+fn place_of(
+    alloc: Global,
+    dir: Option<String>,
+    bucket: &Option<BucketOptions>,
+) -> Result<Option<String>, AllocError> {
+    match bucket {
+        Some(bucket) => Ok(Some(String::from_str(alloc, bucket.address.as_str())?)),
+        None => Ok(dir),
+    }
+}
+
+// The job that serves a log in a bucket, where one is given.
+fn served(bucket: Option<BucketOptions>, serve: ServeOptions) -> Job {
+    match bucket {
+        Some(bucket) => Job::ServeFrom(ServeFromOptions { bucket, serve }),
+        None => Job::Serve(serve),
+    }
+}
+
 // The job of `serve`: not both a note and a folder are given, and what is of a folder with one alone.
 pub(super) fn serve_job(alloc: Global, options: &ArgMatches<'_>) -> Result<Job, WordsFault> {
     let Some(key) = log_key_if_one(alloc, options)? else {
@@ -209,10 +236,14 @@ pub(super) fn serve_job(alloc: Global, options: &ArgMatches<'_>) -> Result<Job, 
     }
     let (older, kept) = (options.get_flag("older"), options.get_flag("keep-partials"));
     let witnesses = all_asked(alloc, options)?;
+    let bucket = bucket_if_given(alloc, serve(), options)?;
+    if bucket.is_some() && (note.is_some() || dir.is_some()) {
+        return Err(usage_error(alloc, serve(), ONE_PLACE));
+    }
     if dir.is_none() && (older || kept || !witnesses.is_empty()) {
         return Err(usage_error(alloc, serve(), OF_A_FOLDER));
     }
-    Ok(Job::Serve(ServeOptions {
+    let options = ServeOptions {
         origin: text_of(alloc, options, "origin")?,
         key,
         server: listen_options(alloc, options)?,
@@ -220,7 +251,7 @@ pub(super) fn serve_job(alloc: Global, options: &ArgMatches<'_>) -> Result<Job, 
         capacity: options.get_one::<u64>("capacity").unwrap_or(CAPACITY),
         batch: options.get_one::<u64>("batch").unwrap_or(BATCH),
         note,
-        dir,
+        dir: place_of(alloc, dir, &bucket)?,
         follow: options.get_flag("follow"),
         takes_posts: options.get_flag("add"),
         interval: interval_of(alloc, options)?,
@@ -229,7 +260,8 @@ pub(super) fn serve_job(alloc: Global, options: &ArgMatches<'_>) -> Result<Job, 
         keeps_partials: kept,
         need: must_cosign(alloc, options, witnesses.len() as u64)?,
         witnesses,
-    }))
+    };
+    Ok(served(bucket, options))
 }
 
 // The logs that a witness knows: one by its name, and of the secret and the text of its key one; or those of a file.

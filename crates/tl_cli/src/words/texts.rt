@@ -16,7 +16,7 @@ or a call for help; 3 a read or a write failed. A refusal is one line 'tlog: ..'
 pub(super) const BUILD: &str = "Input: the entries of the log, one a line, as for 'tlog head'.
 Output: a line 'PATH LENGTH' for each resource of the log (C2SP tlog-tiles): its tiles of hashes, its entry bundles and
 its checkpoint. With --get the bytes of the resource with that path. With --dir all of them are written into a folder in
-which there is no log yet, as by 'tlog append', and the output is 'SIZE ROOT'. The checkpoint is a signed note: with
+which there is no log yet, as by 'tlog append', and the output is 'SIZE ROOT'; with --bucket into a bucket likewise. The checkpoint is a signed note: with
 --key by the private key in that file, as 'tlog keygen' prints it, whose name is the origin; with --secret by a key for
 demonstrations alone, HMAC with SHA-256 under the secret. One of the two is given. --threads: how many threads hash at
 once for the checkpoint; without it, as many as the machine has. The output is the same.

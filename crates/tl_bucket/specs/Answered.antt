@@ -1,0 +1,46 @@
+-- What a store answered to an operator, over some connection and at some time (Amazon S3 API Reference, PutObject and
+-- GetObject).
+use Rattle.std.specs.Prelude.{◌≡◌, ◌⊎◌, ℕ, [], ◌∷◌, ◌++◌, Option, Some, None, Result, Ok, codes}
+use Rattle.tl_device.specs.Device.{Passage}
+use Rattle.tl_hash.specs.Bytes.{Bytes}
+use Rattle.tl_put.specs.Answers.{Told, PutsObject, GetsObject}
+use Rattle.tl_put.specs.Objects.{Content, Place}
+use Rattle.tl_put.specs.declared.fault.ObjectFault.{ObjectFault}
+use Rattle.tl_put.specs.declared.object.Condition.{Condition}
+use Rattle.tl_put.specs.declared.object.GetAnswer.{GetAnswer}
+use Rattle.tl_put.specs.declared.object.GetAnswer.TheVariants as get
+use Rattle.tl_put.specs.declared.object.PutAnswer.{PutAnswer}
+use Rattle.tl_put.specs.declared.object.PutAnswer.TheVariants as put
+use Rattle.tl_sigv4.specs.Time.{Civil}
+
+-- a signed put of the object under the condition came to this
+abbrev pub AnswersPut : Place → Content → Condition → Result (Told PutAnswer) ObjectFault → Type 0
+AnswersPut p content condition told =
+    (t : Civil) × (i : Passage) × (o : Passage) × PutsObject p t content condition i o told
+
+-- a signed get of the object with this path, of at most so many bytes, came to this
+abbrev pub AnswersGet : Place → Bytes → ℕ → Result (Told GetAnswer) ObjectFault → Type 0
+AnswersGet p path limit told = (t : Civil) × (i : Passage) × (o : Passage) × GetsObject p t path limit i o told
+
+-- a put of the object under the condition was written whole, signed, and answered with this
+pub record WasPut (p : Place) (content : Content) (condition : Condition) (answer : PutAnswer) : Type 0 where
+  pub etag : Option Bytes
+  pub body : Bytes
+  pub put : AnswersPut p content condition (Ok (record { answer = answer; etag = etag; body = body }))
+
+-- the object with this path was read, with this content
+pub record WasRead (p : Place) (path body : Bytes) : Type 0 where
+  pub limit : ℕ
+  pub etag : Option Bytes
+  pub got : AnswersGet p path limit (Ok (record { answer = get.Found; etag = etag; body = body }))
+
+-- it was asked for, and there was none
+pub record WasMissing (p : Place) (path : Bytes) : Type 0 where
+  pub limit : ℕ
+  pub etag : Option Bytes
+  pub body : Bytes
+  pub got : AnswersGet p path limit (Ok (record { answer = get.Missing; etag = etag; body = body }))
+
+-- the object was there with this content: a put of it under the condition was answered as done, or it was read
+abbrev pub WasThere : Place → Content → Condition → Type 0
+WasThere p content condition = WasPut p content condition put.Done ⊎ WasRead p content.path content.body

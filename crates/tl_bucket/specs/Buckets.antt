@@ -1,0 +1,69 @@
+-- A bucket as a shelf: what its calls made of what it had.
+use Rattle.std.specs.Prelude.{◌≡◌, ◌⊎◌, ℕ, ◌-◌, ◌*◌, List, [], ◌∷◌, ◌++◌, Option, Some, None}
+use Rattle.tl_archive.specs.Shelves.{Held, Item, Kept}
+use Rattle.tl_folder.specs.Events.{Event}
+use Rattle.tl_folder.specs.Folders.{Reached, after_calls, after_each, at_first}
+use Rattle.tl_hash.specs.Bytes.{Bytes}
+use Rattle.tl_put.specs.Objects.{Place}
+use Rattle.tl_put.specs.declared.object.Condition.{Condition}
+use Rattle.tl_put.specs.declared.object.Condition.TheVariants as condition
+use Rattle.tl_tile.specs.declared.resource.Resource.{Resource}
+use Rattle.tl_tile.specs.declared.resource.Resource.TheVariants as resource
+use Rattle.tl_bucket.specs.Answered.{WasThere}
+use Rattle.tl_bucket.specs.Commits.{IsBehind}
+use Rattle.tl_bucket.specs.Shelved.{WasCommitted, WereThere, content_at}
+
+-- the objects of a log: the bucket in which they are; the tiles and bundles that wait, and the note that does; the
+-- entries that are to be committed for them: under which number, behind how many others, each with its length in front;
+-- and the entity tag of the checkpoint that is there, if one is
+pub record Objects : Type 0 where
+  pub at : Place
+  pub waiting : List Item
+  pub note : Option Bytes
+  pub number : ℕ
+  pub start : ℕ
+  pub entries : Bytes
+  pub etag : Option Bytes
+
+-- a bucket as a shelf: its objects; the address by which it was opened; what came of its calls so far, how many of them
+-- failed, and how many entries it marked as published, last
+pub record Bucketed : Type 0 where
+  pub objects : Objects
+  pub place : Bytes
+  pub events : List Event
+  pub failures : ℕ
+  pub published : Option ℕ
+
+-- what a bucket keeps, by what it had at first and its calls
+abbrev pub bucket_kept : Held → Reached → Bucketed → Kept
+bucket_kept held reached b = after_calls reached 0 b.events (at_first held)
+
+-- the same after each call so far
+abbrev pub bucket_trace : Held → Reached → Bucketed → List Kept
+bucket_trace held reached b = after_each reached 0 b.events (at_first held)
+
+-- when a checkpoint is to be put: where the one that is there has this entity tag, or where none is there
+abbrev pub IsReplacing : Option Bytes → Condition → Type 0
+IsReplacing None c = c ≡ condition.Absent
+IsReplacing (Some etag) c = (value : _) × (c ≡ condition.Matches value) × (value.now ≡ etag)
+
+-- a checkpoint was put, where one is to be
+abbrev pub NoteWasThere : Place → Option Bytes → Option Bytes → Type 0
+NoteWasThere p etag None = Unit {0}
+NoteWasThere p etag (Some note) = (c : Condition) × IsReplacing etag c × WasThere p (content_at (resource.Checkpoint, note)) c
+
+-- all that waited was put: the entries that the bundles add are committed, if there are any, the tiles and bundles were
+-- there, and the checkpoint was put in the place of the one that was known
+pub record SettlesObjects (b : Objects) : Type 0 where
+  pub committed : (b.entries ≡ []) ⊎ WasCommitted b.at b.number b.start b.entries
+  pub tiles : WereThere b.at b.waiting
+  pub checkpoint : NoteWasThere b.at b.etag b.note
+
+-- bytes of a resource wait beside what did
+abbrev pub KeepsBytes : Resource → Bytes → Objects → Objects → Type 0
+KeepsBytes resource.Checkpoint bytes before after = (after.note ≡ Some bytes) × (after.waiting ≡ before.waiting)
+KeepsBytes (resource.Tile t) bytes before after =
+    (after.waiting ≡ before.waiting ++ (resource.Tile t, bytes) ∷ []) × (after.entries ≡ before.entries)
+KeepsBytes (resource.Entries index width) bytes before after =
+    (after.waiting ≡ before.waiting ++ (resource.Entries index width, bytes) ∷ [])
+    × ((own : Bytes) × IsBehind bytes (before.start - index * 256) own × (after.entries ≡ before.entries ++ own))

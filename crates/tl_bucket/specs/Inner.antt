@@ -1,0 +1,9 @@
+-- Private words: what contracts of private functions and proofs need.
+pub
+    mod Outcomes
+pub
+    mod Puts
+pub
+    mod Claims
+pub
+    mod Searches

@@ -1,0 +1,154 @@
+//! What an operator claims by commits, before anybody sees it.
+
+ghost use Rattle.std.specs.Prelude.{◌≡◌, ◌⊎◌, ◌-◌, ◌*◌, ◌++◌, [], IfOk, OnErr, OnOk, string_bytes, vec_items};
+ghost use Rattle.tl_hash.specs.Bytes.{Bytes};
+ghost use Rattle.tl_bucket.specs.Commits.{IsBehind, commit_front};
+ghost use Rattle.tl_bucket.specs.Shelved.{WasCommitted, commit_at, commit_path};
+ghost use Rattle.tl_put.specs.Objects.{content_of};
+ghost use Rattle.tl_put.specs.declared.object.Condition.TheVariants.{Absent};
+
+use crate::asking::PutOutcome;
+use crate::client::{Client, Connection};
+use crate::commit::{behind, commit_front};
+use crate::fault::BucketFault;
+use crate::staged::LASTING;
+use itoa::Buffer;
+use std::alloc::{AllocError, Global};
+use std::marker::Model;
+use std::net::{Net, TcpStream};
+use std::time::Clock;
+use tl_device::DeviceFault;
+use tl_put::{Condition, Object};
+
+/// The path of the commit with this number.
+pub(crate) fn commit_path(alloc: Global, number: u64) -> Result<String, AllocError>
+    ensures { IfOk result (λ path. string_bytes path ≡ commit_path number) }
+{
+    let mut path = String::from_str(alloc, "/commit/")?;
+    path.push_str(Buffer::new().format(number))?;
+    Ok(path)
+}
+
+/// How far commits go, and the entries that the next one is to append.
+#[derive(Drop)]
+pub(crate) struct Claims {
+    // The number of the next commit, and how many entries come before it.
+    number: u64,
+    start: u64,
+    // The bytes of its entries, each with its length in front, and how many come before those behind it.
+    entries: Vec<u8>,
+    end: u64,
+    // What tells whose commits they are.
+    token: String,
+    // The same of the next one, where another operator made it.
+    other: Option<String>,
+}
+
+impl Model for Claims {
+    ghost use Rattle.tl_bucket.specs.Inner.Claims as seen;
+
+    ghost Value = { seen.Claims };
+
+    ghost view = { λ c. record { number = c.number; start = c.start; entries = vec_items c.entries } };
+}
+
+impl Claims {
+    /// Nothing is to be appended. The next commit has this number, so many entries come before it, and the token tells
+    /// whose it is.
+    pub(crate) fn new(alloc: Global, number: u64, start: u64, token: String) -> Claims
+        ensures { result ≡ record { number = number; start = start; entries = [] } }
+    {
+        Claims {
+            number,
+            start,
+            entries: Vec::new(alloc),
+            end: start,
+            token,
+            other: None,
+        }
+    }
+
+    /// The number of the next commit.
+    pub(crate) fn number(&self) -> u64
+        ensures { result ≡ self.now.number }
+    {
+        self.number
+    }
+
+    /// The next commit has this number, and so many entries come before it. It is there, from another operator, with
+    /// this token.
+    pub(crate) fn finish(&mut self, number: u64, start: u64, token: String)
+        ensures { self.new ≡ record { number = number; start = start; entries = [] } }
+    {
+        self.entries.clear();
+        self.number = number;
+        self.start = start;
+        self.end = start;
+        self.other = Some(token);
+    }
+
+    /// Adds the entries that a bundle with this index has behind all that is committed.
+    pub(crate) fn add(&mut self, index: u64, width: u32, bundle: &[u8]) -> Result<(), BucketFault>
+        ensures added { OnOk result ((own : Bytes)
+            × IsBehind bundle.now (self.old.start - index * 256) own
+            × (self.new.entries ≡ self.old.entries ++ own)) }
+        ensures unchanged { OnErr result (self.new.entries ≡ self.old.entries) }
+        ensures number { self.new.number ≡ self.old.number }
+        ensures start { self.new.start ≡ self.old.start }
+    {
+        let front = index.saturating_mul(256);
+        let Some(own) = behind(bundle, self.start.saturating_sub(front)) else {
+            return Err(BucketFault::BadCommit(self.number));
+        };
+        self.entries.extend_from_slice(own)?;
+        self.end = self.end.max(front.saturating_add(u64::from(width)));
+        Ok(())
+    }
+
+    // The bytes of the commit that appends the entries.
+    fn commit_bytes(&self, alloc: Global) -> Result<Vec<u8>, AllocError>
+        ensures { IfOk result (λ bytes. (token : Bytes)
+            × (bytes.items ≡ commit_front self.now.start token ++ self.now.entries)) }
+    {
+        let token = match &self.other {
+            Some(token) => token.as_str(),
+            None => self.token.as_str(),
+        };
+        let mut bytes = commit_front(alloc, self.start, token)?;
+        bytes.extend_from_slice(self.entries.as_slice())?;
+        Ok(bytes)
+    }
+
+    /// Commits the entries, if there are any: under the next number, where nothing may be. `Outrun`: another operator's
+    /// commit is there.
+    pub(crate) fn claim<H: Net<Stream = TcpStream> + Clock>(
+        &mut self,
+        client: &Client<'_, H>,
+        connection: &mut Connection,
+    ) -> Result<(), BucketFault>
+        ensures claimed { OnOk result ((self.old.entries ≡ [])
+            ⊎ WasCommitted client.now self.old.number self.old.start self.old.entries) }
+        ensures none { OnOk result (self.new.entries ≡ []) }
+    {
+        if self.entries.is_empty() {
+            return Ok(());
+        }
+        let path = commit_path(client.alloc, self.number)?;
+        let bytes = self.commit_bytes(client.alloc)?;
+        let object = Object {
+            path: path.as_str(),
+            content_type: "application/octet-stream",
+            cache_control: LASTING,
+            body: bytes.as_slice(),
+        };
+        match connection.put(client, &object, Condition::Absent)? {
+            PutOutcome::Done(_) => {}
+            PutOutcome::Refused => return Err(BucketFault::Outrun),
+        }
+        self.entries.clear();
+        self.number = self.number.saturating_add(1);
+        self.start = self.end;
+        self.other = None;
+        Ok(())
+    }
+}

@@ -1,0 +1,208 @@
+//! How an operator reaches its bucket.
+
+ghost use Rattle.std.specs.Prelude.{◌≡◌, IfOk, Ok, OnOk};
+ghost use Rattle.tl_bucket.specs.Answered.{AnswersGet, AnswersPut};
+ghost use Rattle.tl_put.specs.Answers.{get_told, put_told};
+ghost use Rattle.tl_put.specs.Objects.{content_of, place_of};
+
+use crate::fault::BucketFault;
+use std::alloc::Global;
+use std::marker::Model;
+use std::net::{Net, TcpStream};
+use std::time::{Clock, Duration, Instant, SystemTime, UNIX_EPOCH};
+use tl_device::{Counted, DeviceFault, Timed};
+use tl_put::{Bucket, Condition, GetReply, Object, PutReply, get_object, put_object};
+use tl_sigv4::{Credential, Moment};
+use tl_source::{Url, connect};
+
+// The most time that one request takes.
+const REQUEST_TIME: Duration = Duration::from_secs(10);
+
+/// A bucket, and what connects to its store: requests are signed by this credential. Contracts see the bucket.
+#[derive(Drop)]
+pub struct Client<'b, H> {
+    pub(crate) rt: &'b H,
+    pub(crate) alloc: Global,
+    url: Url<'b>,
+    bucket: Bucket<'b>,
+}
+
+impl<'b, H> Model for Client<'b, H> {
+    ghost use Rattle.tl_put.specs.Objects.{Place, place_of};
+
+    ghost Value = { Place };
+
+    ghost view = { λ c. place_of c.bucket };
+}
+
+impl<'b, H> Client<'b, H> {
+    ghost use Rattle.tl_sigv4.specs.Requests.{credential_of};
+
+    /// The bucket at this address: what follows the host and the port stands before each object's path. Nothing is
+    /// asked for yet.
+    pub fn new(rt: &'b H, alloc: Global, url: Url<'b>, credential: Credential<'b>) -> Client<'b, H>
+        ensures host { result.host ≡ url.authority.now }
+        ensures prefix { result.prefix ≡ url.prefix.now }
+        ensures credential { result.credential ≡ credential_of credential }
+    {
+        let bucket = Bucket {
+            host: url.authority,
+            prefix: url.prefix,
+            credential,
+        };
+        Client {
+            rt,
+            alloc,
+            url,
+            bucket,
+        }
+    }
+}
+
+// The second that the machine's clock has.
+fn moment_now<H: Clock>(rt: &H) -> Result<Moment, DeviceFault> {
+    let Ok(since) = SystemTime::now(rt)?.duration_since(UNIX_EPOCH) else {
+        return Err(DeviceFault::System);
+    };
+    match Moment::from_unix_seconds(since.as_secs()) {
+        Some(moment) => Ok(moment),
+        None => Err(DeviceFault::System),
+    }
+}
+
+// Whether the time of a request that began then is over.
+fn is_late<H: Clock>(rt: &H, start: &Instant) -> bool {
+    match start.elapsed(rt) {
+        Ok(elapsed) => elapsed >= REQUEST_TIME,
+        Err(_) => false,
+    }
+}
+
+impl<H: Clock> Client<'_, H> {
+    // The answer to a put over this connection.
+    fn put_over(
+        &self,
+        stream: &TcpStream,
+        start: Instant,
+        object: &Object<'_>,
+        condition: Condition<'_>,
+    ) -> Result<PutReply<Global>, BucketFault>
+        ensures { IfOk result (λ reply. AnswersPut self.now (content_of object.now) condition.entry
+            (put_told (Ok reply))) }
+    {
+        let moment = moment_now(self.rt)?;
+        let mut reader = Counted::new(Timed::new(self.rt, stream, start, REQUEST_TIME));
+        let mut writer = Counted::new(Timed::new(self.rt, stream, start, REQUEST_TIME));
+        let (alloc, bucket) = (self.alloc, &self.bucket);
+        match put_object(
+            alloc,
+            &mut reader,
+            &mut writer,
+            bucket,
+            &moment,
+            object,
+            condition,
+        ) {
+            Ok(reply) => Ok(reply),
+            Err(fault) => Err(BucketFault::of_request(fault, is_late(self.rt, &start))),
+        }
+    }
+
+    // The answer to a get over this connection.
+    fn get_over(
+        &self,
+        stream: &TcpStream,
+        start: Instant,
+        path: &str,
+        limit: usize,
+    ) -> Result<GetReply<Global>, BucketFault>
+        ensures { IfOk result (λ reply. AnswersGet self.now path.now limit (get_told (Ok reply))) }
+    {
+        let moment = moment_now(self.rt)?;
+        let mut reader = Counted::new(Timed::new(self.rt, stream, start, REQUEST_TIME));
+        let mut writer = Counted::new(Timed::new(self.rt, stream, start, REQUEST_TIME));
+        let (alloc, bucket) = (self.alloc, &self.bucket);
+        match get_object(
+            alloc,
+            &mut reader,
+            &mut writer,
+            bucket,
+            &moment,
+            path,
+            limit,
+        ) {
+            Ok(reply) => Ok(reply),
+            Err(fault) => Err(BucketFault::of_request(fault, is_late(self.rt, &start))),
+        }
+    }
+}
+
+/// A connection that is kept between requests, where the last answer left it open.
+#[derive(Drop)]
+pub(crate) struct Connection {
+    stream: Option<TcpStream>,
+}
+
+impl Connection {
+    /// None yet.
+    pub(crate) fn new() -> Connection {
+        Connection { stream: None }
+    }
+
+    // The connection that was kept, or a new one.
+    fn take<H: Net<Stream = TcpStream> + Clock>(
+        &mut self,
+        client: &Client<'_, H>,
+        start: &Instant,
+    ) -> Result<TcpStream, DeviceFault> {
+        if let Some(stream) = self.stream.take() {
+            return Ok(stream);
+        }
+        let stream = connect(client.rt, &client.url, start, REQUEST_TIME)?;
+        stream.set_nodelay(true)?;
+        Ok(stream)
+    }
+
+    /// The answer to one put of an object.
+    pub(crate) fn put_once<H: Net<Stream = TcpStream> + Clock>(
+        &mut self,
+        client: &Client<'_, H>,
+        object: &Object<'_>,
+        condition: Condition<'_>,
+    ) -> Result<PutReply<Global>, BucketFault>
+        ensures { IfOk result (λ reply. AnswersPut client.now (content_of object.now)
+            condition.entry (put_told (Ok reply))) }
+    {
+        let start = now(client.rt)?;
+        let stream = self.take(client, &start)?;
+        let reply = client.put_over(&stream, start, object, condition)?;
+        if reply.stays_open {
+            self.stream = Some(stream);
+        }
+        Ok(reply)
+    }
+
+    /// The answer to one get of an object.
+    pub(crate) fn get_once<H: Net<Stream = TcpStream> + Clock>(
+        &mut self,
+        client: &Client<'_, H>,
+        path: &str,
+        limit: usize,
+    ) -> Result<GetReply<Global>, BucketFault>
+        ensures { IfOk result
+            (λ reply. AnswersGet client.now path.now limit (get_told (Ok reply))) }
+    {
+        let start = now(client.rt)?;
+        let stream = self.take(client, &start)?;
+        let reply = client.get_over(&stream, start, path, limit)?;
+        if reply.stays_open {
+            self.stream = Some(stream);
+        }
+        Ok(reply)
+    }
+}
+
+/// The moment that it is, by a clock that never goes back.
+pub(crate) fn now<H: Clock>(rt: &H) -> Result<Instant, DeviceFault> {
+    Ok(Instant::now(rt)?)
+}

@@ -1,0 +1,121 @@
+//! Why a bucket failed.
+
+ghost use Rattle.std.specs.Prelude.{◌≡◌};
+ghost use Rattle.tl_bucket.specs.declared.fault.BucketFault.TheVariants as faults;
+ghost use Rattle.tl_device.specs.declared.fault.DeviceFault.TheVariants.{OutOfMemory};
+
+use std::alloc::{AllocError, AllocFailed};
+use std::error::Error;
+use std::fmt::{self, Display, Formatter};
+use tl_device::DeviceFault;
+use tl_get::GetFault;
+use tl_put::ObjectFault;
+
+/// Why a bucket failed.
+#[derive(Clone, Copy, Debug, PartialEq, Eq)]
+pub enum BucketFault {
+    /// The store can't be reached, refused, or answered what is none of an object.
+    Device(DeviceFault),
+    /// The store refuses the time of a request: the clock is off.
+    ClockIsOff,
+    /// The store does a put whose condition doesn't hold, or doesn't take conditions.
+    NoConditions,
+    /// What was to be put is there from another operator.
+    Outrun,
+    /// A commit that is there has other bytes than one has, or doesn't go on where the log is.
+    BadCommit(u64),
+}
+
+impl BucketFault {
+    /// Why a request failed, after its time or before.
+    pub(crate) fn of_request(fault: ObjectFault, is_late: bool) -> BucketFault {
+        BucketFault::Device(match fault {
+            ObjectFault::OutOfMemory | ObjectFault::Get(GetFault::OutOfMemory) =>
+                DeviceFault::OutOfMemory,
+            ObjectFault::BadField | ObjectFault::Get(GetFault::BadTarget) => DeviceFault::System,
+            ObjectFault::Get(GetFault::Read | GetFault::Write) if is_late => DeviceFault::TimedOut,
+            ObjectFault::Get(GetFault::Read | GetFault::Write) => DeviceFault::Broken,
+            ObjectFault::Get(GetFault::NoHead | GetFault::Version) => DeviceFault::NotHttp,
+            ObjectFault::Get(GetFault::Status(507)) => DeviceFault::Full,
+            ObjectFault::Get(GetFault::Status(status)) => DeviceFault::Status(status),
+            ObjectFault::Get(GetFault::Encoded) => DeviceFault::Encoded,
+            ObjectFault::Get(GetFault::BadLength) => DeviceFault::BadLength,
+            ObjectFault::Get(GetFault::BadChunk) => DeviceFault::BadChunk,
+            ObjectFault::Get(GetFault::TooLarge) => DeviceFault::TooLarge,
+            ObjectFault::Get(GetFault::Short) => DeviceFault::CutShort,
+        })
+    }
+
+    /// Whether the same request may fare better later.
+    pub(crate) fn is_passing(&self) -> bool {
+        match self {
+            BucketFault::Device(DeviceFault::Status(status)) => {
+                *status >= 500 || *status == 408 || *status == 409 || *status == 429
+            }
+            BucketFault::Device(fault) => match fault {
+                DeviceFault::NoConnection
+                | DeviceFault::Unreachable
+                | DeviceFault::TimedOut
+                | DeviceFault::Broken
+                | DeviceFault::NotHttp
+                | DeviceFault::CutShort => true,
+                _ => false,
+            },
+            _ => false,
+        }
+    }
+
+    /// The same, as a shelf fails.
+    pub fn of_shelf(self) -> DeviceFault {
+        match self {
+            BucketFault::Device(fault) => fault,
+            BucketFault::ClockIsOff => DeviceFault::Denied,
+            BucketFault::NoConditions => DeviceFault::System,
+            BucketFault::Outrun => DeviceFault::Busy,
+            BucketFault::BadCommit(_) => DeviceFault::Damaged,
+        }
+    }
+}
+
+impl From<DeviceFault> for BucketFault {
+    ghost from_gives = { λ fault told. told ≡ faults.Device fault };
+
+    fn from(fault: DeviceFault) -> BucketFault {
+        BucketFault::Device(fault)
+    }
+}
+
+impl From<AllocError> for BucketFault {
+    ghost from_gives = { λ _ fault. fault ≡ faults.Device OutOfMemory };
+
+    fn from(_error: AllocError) -> BucketFault {
+        BucketFault::Device(DeviceFault::OutOfMemory)
+    }
+}
+
+impl<X: Drop> From<AllocFailed<X>> for BucketFault {
+    ghost from_gives = { λ _ fault. fault ≡ faults.Device OutOfMemory };
+
+    fn from(_error: AllocFailed<X>) -> BucketFault {
+        BucketFault::Device(DeviceFault::OutOfMemory)
+    }
+}
+
+impl Display for BucketFault {
+    ghost use Rattle.std.specs.Prelude.{Some};
+    ghost use Rattle.tl_bucket.specs.FaultWords.{bucket_words};
+
+    ghost output = { λ fault. Some (bucket_words fault) };
+
+    fn fmt<W: fmt::Write>(&self, f: &mut Formatter<W>) -> fmt::Result {
+        match self {
+            BucketFault::Device(fault) => write!(f, "{fault}"),
+            BucketFault::ClockIsOff => f.write_str("the clock is more than 15 minutes off"),
+            BucketFault::NoConditions => f.write_str("the store takes no conditional puts"),
+            BucketFault::Outrun => f.write_str("another operator has appended"),
+            BucketFault::BadCommit(number) => write!(f, "commit {number} is damaged"),
+        }
+    }
+}
+
+impl Error for BucketFault {}

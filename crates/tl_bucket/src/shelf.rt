@@ -1,0 +1,225 @@
+//! A shelf in a bucket. What is staged waits in memory; the shelf settles by a commit, the tiles and bundles side by
+//! side, and the checkpoint.
+
+ghost use Rattle.std.specs.Prelude.{◌≡◌, [], ◌∷◌, ◌++◌, IfOk, OnOk, OnErr, Some, None};
+ghost use Rattle.tl_bucket.specs.Buckets.{SettlesObjects, bucket_kept, bucket_trace};
+
+use crate::claims::Claims;
+use crate::client::Client;
+use crate::fault::BucketFault;
+use crate::noting::read_object;
+use crate::objects::Objects;
+use crate::record::{Record, note_of};
+use http_server::Log;
+use std::alloc::{AllocError, Allocator};
+use std::marker::Model;
+use tl_archive::{Shelf, ShelfFault};
+use tl_device::DeviceFault;
+use tl_folder::{CallOutcome, CrashOutcome};
+use tl_source::HostClient;
+use tl_tile::Resource;
+
+/// A bucket with a log in the layout of C2SP tlog-tiles: the path of each resource is that of its object. Where a
+/// settling fails, each later call fails with its fault: what of it is there isn't known then, and another start finds
+/// out. Nothing is ever removed.
+#[derive(Drop)]
+pub struct BucketShelf<'b, D, H> {
+    disk: D,
+    pub(crate) objects: Objects<'b, H>,
+    calls: Record,
+    failures: u64,
+    place: Log<(), u8>,
+    published: Option<u64>,
+}
+
+impl<'b, D, H> Model for BucketShelf<'b, D, H> {
+    ghost use Rattle.tl_folder.specs.Events.{noted};
+    ghost use Rattle.tl_bucket.specs.Buckets as seen;
+
+    ghost Value = { seen.Bucketed };
+
+    ghost view = { λ s. record {
+      objects = s.objects;
+      place = noted s.place;
+      events = s.calls;
+      failures = s.failures;
+      published = s.published;
+    } };
+}
+
+// That the bucket failed over a resource, or over all of it.
+fn fault_over(resource: Option<Resource>, fault: BucketFault) -> ShelfFault
+    ensures { result.resource ≡ resource }
+{
+    ShelfFault {
+        resource,
+        why: fault.of_shelf(),
+    }
+}
+
+impl<'b, D: CrashOutcome + Drop, H: HostClient> BucketShelf<'b, D, H> {
+    /// The bucket that the client reaches, by this address, with a log as far as the claims go, whose checkpoint has
+    /// this entity tag, if there is one.
+    pub(crate) fn new(
+        disk: D,
+        client: Client<'b, H>,
+        address: &str,
+        claims: Claims,
+        etag: Option<String>,
+    ) -> Result<BucketShelf<'b, D, H>, AllocError>
+        ensures at { IfOk result (λ shelf. shelf.objects.at ≡ client) }
+        ensures waiting { IfOk result (λ shelf. shelf.objects.waiting ≡ []) }
+        ensures number { IfOk result (λ shelf. shelf.objects.number ≡ claims.number) }
+        ensures place { IfOk result (λ shelf. shelf.place ≡ address.now) }
+        ensures events { IfOk result (λ shelf. shelf.events ≡ []) }
+        ensures unmarked { IfOk result (λ shelf. shelf.published ≡ None) }
+    {
+        let objects = Objects::new(client, claims, etag)?;
+        Ok(BucketShelf {
+            disk,
+            objects,
+            calls: Record::new(),
+            failures: 0,
+            place: note_of(address.as_bytes()),
+            published: None,
+        })
+    }
+
+    /// Why a settling failed, if one did.
+    pub fn fault(&self) -> Option<BucketFault> {
+        self.objects.fault
+    }
+
+    /// Has each later call that writes fail.
+    pub(crate) fn fail(&mut self, fault: BucketFault)
+        ensures events { self.new.events ≡ self.old.events }
+        ensures place { self.new.place ≡ self.old.place }
+    {
+        self.objects.fault = Some(fault);
+    }
+}
+
+impl<D: CrashOutcome, H: HostClient> Shelf for BucketShelf<'_, D, H> {
+    ghost use Rattle.std.specs.Prelude.{false};
+    ghost use Rattle.tl_archive.specs.Partials.{IsFull};
+    ghost use Rattle.tl_archive.specs.Shelves.{Stages, Unstages, Settles, Removes, LacksPartials, Fails};
+    ghost use Rattle.tl_tile.specs.Path.{IsResource};
+    ghost use Rattle.tl_bucket.specs.Buckets.{KeepsBytes};
+
+    ghost kept = { λ s. bucket_kept D.held D.reached s };
+
+    ghost trace = { λ s. bucket_trace D.held D.reached s };
+
+    ghost faults = { λ s. s.failures };
+
+    ghost place = { λ s. s.place };
+
+    ghost published = { λ s. s.published };
+
+    ghost may_fail = { λ s r fault. fault.resource ≡ Some r };
+
+    ghost is_honest = { false };
+
+    fn stage(&mut self, resource: &Resource, bytes: &[u8]) -> Result<(), ShelfFault>
+        requires { IsResource resource.now }
+        ensures staged { OnOk result (Stages (bucket_kept D.held D.reached self.old)
+            (bucket_kept D.held D.reached self.new) resource.now bytes.now) }
+        ensures unstaged { OnErr result
+            (bucket_kept D.held D.reached self.new ≡ bucket_kept D.held D.reached self.old) }
+        ensures unfailed { OnOk result (self.new.failures ≡ self.old.failures) }
+        ensures failed { OnErr result (Fails self.old.failures self.new.failures) }
+        ensures trace { bucket_trace D.held D.reached self.new
+            ≡ bucket_trace D.held D.reached self.old ++ bucket_kept D.held D.reached self.new ∷ [] }
+        ensures keeps { OnOk result (KeepsBytes resource.now bytes.now
+            self.old.objects self.new.objects) }
+        ensures place { self.new.place ≡ self.old.place }
+        ensures mark { self.new.published ≡ self.old.published }
+    {
+        match self.objects.keep(resource, bytes) {
+            Ok(()) => {
+                self.calls.note(CallOutcome::Staged(*resource), bytes);
+                Ok(())
+            }
+            Err(fault) => {
+                self.calls.note(CallOutcome::Failed, &[]);
+                self.failures = self.failures.saturating_add(1);
+                Err(fault_over(Some(*resource), fault))
+            }
+        }
+    }
+
+    fn settle(&mut self) -> Result<(), ShelfFault>
+        ensures unstaged { Unstages (bucket_kept D.held D.reached self.old)
+            (bucket_kept D.held D.reached self.new) }
+        ensures settled { OnOk result (Settles (bucket_kept D.held D.reached self.old)
+            (bucket_kept D.held D.reached self.new)) }
+        ensures unfailed { OnOk result (self.new.failures ≡ self.old.failures) }
+        ensures failed { OnErr result (Fails self.old.failures self.new.failures) }
+        ensures trace { bucket_trace D.held D.reached self.new
+            ≡ bucket_trace D.held D.reached self.old ++ bucket_kept D.held D.reached self.new ∷ [] }
+        ensures there { OnOk result (SettlesObjects self.old.objects) }
+        ensures place { self.new.place ≡ self.old.place }
+        ensures mark { self.new.published ≡ self.old.published }
+    {
+        match self.objects.settle() {
+            Ok(()) => {
+                self.calls.note(CallOutcome::Settled, &[]);
+                Ok(())
+            }
+            Err(fault) => {
+                self.calls.note(CallOutcome::Cut, &[]);
+                self.failures = self.failures.saturating_add(1);
+                Err(fault_over(None, fault))
+            }
+        }
+    }
+
+    // A bucket keeps all: readers may come late, and no operator knows what another one still reads.
+    fn remove_partials(&mut self, full: &Resource) -> Result<(), ShelfFault>
+        requires { IsFull full.now }
+        ensures removed { Removes full.now (bucket_kept D.held D.reached self.old)
+            (bucket_kept D.held D.reached self.new) }
+        ensures none { OnOk result
+            (LacksPartials full.now (bucket_kept D.held D.reached self.new).held) }
+        ensures unfailed { OnOk result (self.new.failures ≡ self.old.failures) }
+        ensures failed { OnErr result (Fails self.old.failures self.new.failures) }
+        ensures trace { bucket_trace D.held D.reached self.new
+            ≡ bucket_trace D.held D.reached self.old ++ bucket_kept D.held D.reached self.new ∷ [] }
+        ensures place { self.new.place ≡ self.old.place }
+        ensures mark { self.new.published ≡ self.old.published }
+    {
+        self.calls.note(CallOutcome::Failed, &[]);
+        self.failures = self.failures.saturating_add(1);
+        Err(fault_over(Some(*full), BucketFault::Device(DeviceFault::Denied)))
+    }
+
+    // Nothing is put: commits tell how far the log goes.
+    fn mark_published(&mut self, size: u64) -> Result<(), ShelfFault>
+        ensures kept { bucket_kept D.held D.reached self.new ≡ bucket_kept D.held D.reached self.old }
+        ensures marked { OnOk result (self.new.published ≡ Some size) }
+        ensures unfailed { OnOk result (self.new.failures ≡ self.old.failures) }
+        ensures failed { OnErr result (Fails self.old.failures self.new.failures) }
+        ensures trace { bucket_trace D.held D.reached self.new
+            ≡ bucket_trace D.held D.reached self.old ++ bucket_kept D.held D.reached self.new ∷ [] }
+        ensures place { self.new.place ≡ self.old.place }
+    {
+        self.calls.note(CallOutcome::Marked, &[]);
+        self.published = Some(size);
+        Ok(())
+    }
+
+    fn read_mark(&self) -> Result<Option<u64>, ShelfFault> {
+        Ok(self.published)
+    }
+
+    fn read<A: Allocator>(
+        &self,
+        alloc: A,
+        resource: &Resource,
+    ) -> Result<Option<Vec<u8, A>>, ShelfFault> {
+        match read_object(alloc, &self.objects.client, resource) {
+            Ok(found) => Ok(found),
+            Err(fault) => Err(fault_over(Some(*resource), fault)),
+        }
+    }
+}

@@ -1,0 +1,178 @@
+//! Commands on a log in a bucket.
+
+ghost use Rattle.std.specs.Prelude.{◌≡◌, string_bytes};
+ghost use Rattle.tl_device.specs.Device.{passage};
+ghost use Rattle.tl_cli.specs.InBucket.{AppendsTo, ServesFrom};
+
+use crate::fault::CommandFault;
+use crate::own_bucket::{
+    AccessKey, BucketOptions, access_key, after_bucket, client_of, open_bucket,
+};
+use std::alloc::Global;
+use std::env::Env;
+use std::fs::{File, Files};
+use std::io::{Read, Write};
+use std::net::{Net, TcpListener, TcpStream};
+use std::os::fd::RawFd;
+use std::random::RandomSource;
+use tl_append::{AppendOptions, AsSigned, NoProposals, SealedShelf, run_append};
+use tl_bucket::{BucketShelf, finish_log};
+use tl_command::RunFault;
+use tl_device::Counted;
+use tl_folder::CrashOutcome;
+use tl_ledger::Found;
+use tl_note::is_key_name;
+use tl_serve::{Host, ServeOptions, Served, run_serve_shelf, threads_of};
+use tl_source::HostClient;
+
+/// The options of `append`, and of `build`, into a bucket.
+#[derive(Drop)]
+pub struct AppendToOptions {
+    /// The bucket.
+    pub bucket: BucketOptions,
+    /// What is appended, as to a folder.
+    pub append: AppendOptions,
+}
+
+/// The options of `serve` of a log in a bucket.
+#[derive(Drop)]
+pub struct ServeFromOptions {
+    /// The bucket.
+    pub bucket: BucketOptions,
+    /// How it is served, as from a folder.
+    pub serve: ServeOptions,
+}
+
+// Finishes what was begun in a bucket, and appends the lines of the input.
+fn finish_and_append<D: CrashOutcome + Drop, H: HostClient + Files<File = File>, R: Read, W: Write>(
+    rt: &H,
+    alloc: Global,
+    options: &AppendOptions,
+    shelf: &mut BucketShelf<'_, D, H>,
+    reader: &mut Counted<R>,
+    writer: &mut Counted<W>,
+) -> Result<(), RunFault> {
+    match finish_log(rt, alloc, options.origin.as_str(), &options.key, shelf) {
+        Ok(()) => {}
+        Err(fault) => return Err(fault),
+    }
+    let mut found = Found::new(alloc);
+    run_append(
+        rt,
+        alloc,
+        options,
+        shelf,
+        &NoProposals,
+        &mut found,
+        reader,
+        writer,
+    )
+}
+
+/// Appends the lines of the input to the log in a bucket. What other operators began is finished first. The bucket's
+/// own faults are told; `Outrun`: another operator has appended meanwhile.
+pub(crate) fn append_to<
+    D: CrashOutcome + Drop,
+    H: HostClient + Files<File = File> + RandomSource + Env,
+    R: Read,
+    W: Write,
+>(
+    disk: D,
+    rt: &H,
+    alloc: Global,
+    options: &AppendToOptions,
+    reader: &mut Counted<R>,
+    writer: &mut Counted<W>,
+) -> Result<(), CommandFault>
+    ensures { AppendsTo D.held D.reached options.now (passage R.remaining reader.old reader.new)
+        (passage W.contents writer.old writer.new) result }
+{
+    let (bucket, append) = (&options.bucket, &options.append);
+    if !is_key_name(append.origin.as_str()) {
+        return Err(CommandFault::Run(RunFault::BadOrigin));
+    }
+    let key = access_key(rt, alloc, bucket)?;
+    let mut shelf = open_bucket(disk, rt, alloc, bucket, &key)?;
+    let outcome = finish_and_append(rt, alloc, append, &mut shelf, reader, writer);
+    after_bucket(&shelf, outcome)
+}
+
+// So many shelves of the bucket, for threads that read there.
+fn shown_of<'b, D: CrashOutcome + Copy + Drop, H: HostClient>(
+    disk: D,
+    rt: &'b H,
+    alloc: Global,
+    options: &'b BucketOptions,
+    key: &'b AccessKey,
+    count: usize,
+) -> Result<Vec<BucketShelf<'b, D, H>>, CommandFault> {
+    let mut shown = Vec::new(alloc);
+    for _ in 0..count {
+        let client = client_of(rt, alloc, options, key)?;
+        shown.push(BucketShelf::reader(disk, client, options.address.as_str())?)?;
+    }
+    Ok(shown)
+}
+
+// Finishes what was begun in a bucket, and serves the log that is there.
+fn finish_and_serve<
+    D: CrashOutcome + Copy + Send + Drop,
+    H: Host
+        + Files<File = File, Dir: Send + Sync>
+        + Net<Listener = TcpListener, Stream = TcpStream>,
+    R: Read + Send,
+    E: Write,
+>(
+    rt: &H,
+    alloc: Global,
+    options: &ServeOptions,
+    shelf: BucketShelf<'_, D, H>,
+    shown: Vec<BucketShelf<'_, D, H>>,
+    input: Option<RawFd>,
+    reader: &mut Counted<R>,
+    errors: &mut Counted<E>,
+) -> Result<(), CommandFault> {
+    let mut shelf = shelf;
+    let origin = options.origin.as_str();
+    if let Err(fault) = finish_log(rt, alloc, origin, &options.key, &mut shelf) {
+        return after_bucket(&shelf, Err(fault));
+    }
+    let sealed = SealedShelf::new(shelf, NoProposals, AsSigned, true);
+    let mut found = Found::new(alloc);
+    let Served { shelf, outcome } = run_serve_shelf(
+        rt, alloc, options, sealed, shown, &mut found, input, reader, errors,
+    );
+    after_bucket(&shelf.into_shelf(), outcome)
+}
+
+/// Serves the log in a bucket, as one in a folder is served. What other operators began is finished first.
+pub(crate) fn serve_from<
+    D: CrashOutcome + Copy + Send + Drop,
+    H: Host
+        + Files<File = File, Dir: Send + Sync>
+        + Net<Listener = TcpListener, Stream = TcpStream>
+        + RandomSource
+        + Env,
+    R: Read + Send,
+    E: Write,
+>(
+    disk: D,
+    rt: &H,
+    alloc: Global,
+    options: &ServeFromOptions,
+    input: Option<RawFd>,
+    reader: &mut Counted<R>,
+    errors: &mut Counted<E>,
+) -> Result<(), CommandFault>
+    ensures { ServesFrom D.held D.reached options.now (passage R.remaining reader.old reader.new) result }
+{
+    let (bucket, serve) = (&options.bucket, &options.serve);
+    if !is_key_name(serve.origin.as_str()) {
+        return Err(CommandFault::Run(RunFault::BadOrigin));
+    }
+    let key = access_key(rt, alloc, bucket)?;
+    let shelf = open_bucket(disk, rt, alloc, bucket, &key)?;
+    let threads = threads_of(rt, serve.server.threads);
+    let shown = shown_of(disk, rt, alloc, bucket, &key, threads as usize)?;
+    finish_and_serve(rt, alloc, serve, shelf, shown, input, reader, errors)
+}

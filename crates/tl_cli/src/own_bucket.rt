@@ -1,0 +1,176 @@
+//! The bucket of a log that a command works on.
+
+ghost use Rattle.std.specs.Prelude.{◌≡◌, [], None, IfOk, string_bytes};
+ghost use Rattle.tl_cli.specs.InBucket.{EndsInBucket};
+
+use crate::fault::CommandFault;
+use std::alloc::{AllocError, Global};
+use std::env::{self, Env, VarError};
+use std::fs::Files;
+use std::random::RandomSource;
+use tl_bucket::{BucketFault, BucketShelf, Client};
+use tl_command::{RunFault, read_file};
+use tl_device::DeviceFault;
+use tl_folder::CrashOutcome;
+use tl_sigv4::Credential;
+use tl_source::{HostClient, Url};
+use tl_text::{is_one_line, split_line};
+
+/// The bucket of a log, as options name it.
+#[derive(Drop)]
+pub struct BucketOptions {
+    /// Its address, `http://HOST[:PORT]/BUCKET[/PREFIX]`.
+    pub address: String,
+    /// The region of its store.
+    pub region: String,
+    /// The file with the key that signs requests; without it the environment has it.
+    pub credentials: Option<String>,
+}
+
+/// A key that signs requests: its public name and its secret.
+#[derive(Drop)]
+pub(crate) struct AccessKey {
+    id: String,
+    secret: String,
+}
+
+// The key that a text of two lines has: its name, and its secret.
+fn parse_key(alloc: Global, text: &str) -> Result<Option<AccessKey>, AllocError> {
+    let Some((id, rest)) = split_line(text) else {
+        return Ok(None);
+    };
+    let secret = match split_line(rest) {
+        Some((secret, "")) => secret,
+        Some(_) => return Ok(None),
+        None => rest,
+    };
+    if !is_one_line(id) || !is_one_line(secret) {
+        return Ok(None);
+    }
+    Ok(Some(AccessKey {
+        id: String::from_str(alloc, id)?,
+        secret: String::from_str(alloc, secret)?,
+    }))
+}
+
+// The key that a file has.
+fn key_in<H: Files>(rt: &H, alloc: Global, path: &str) -> Result<AccessKey, CommandFault> {
+    let bytes = match read_file(rt, alloc, path) {
+        Ok(bytes) => bytes,
+        Err(RunFault::Device(_, why)) => return Err(CommandFault::Credentials(Some(why))),
+        Err(fault) => return Err(CommandFault::Run(fault)),
+    };
+    let Ok(text) = str::from_utf8(bytes.as_slice()) else {
+        return Err(CommandFault::Credentials(None));
+    };
+    match parse_key(alloc, text) {
+        Ok(Some(key)) => Ok(key),
+        Ok(None) => Err(CommandFault::Credentials(None)),
+        Err(_) => Err(CommandFault::Run(RunFault::OutOfMemory)),
+    }
+}
+
+// What the environment has under this name.
+fn variable<H: Env>(rt: &H, alloc: Global, name: &str) -> Result<String, CommandFault> {
+    match env::var(&(rt, alloc), name) {
+        Ok(text) => Ok(text),
+        Err(VarError::OutOfMemory) => Err(CommandFault::Run(RunFault::OutOfMemory)),
+        Err(_) => Err(CommandFault::Credentials(None)),
+    }
+}
+
+/// The key that signs requests to a bucket: that of the file which the options name, or of the environment's
+/// AWS_ACCESS_KEY_ID and AWS_SECRET_ACCESS_KEY.
+pub(crate) fn access_key<H: Files + Env>(
+    rt: &H,
+    alloc: Global,
+    options: &BucketOptions,
+) -> Result<AccessKey, CommandFault> {
+    if let Some(path) = &options.credentials {
+        return key_in(rt, alloc, path);
+    }
+    Ok(AccessKey {
+        id: variable(rt, alloc, "AWS_ACCESS_KEY_ID")?,
+        secret: variable(rt, alloc, "AWS_SECRET_ACCESS_KEY")?,
+    })
+}
+
+// A hexadecimal digit.
+fn digit(value: u8) -> char {
+    let value = value % 16;
+    if value < 10 {
+        (b'0' + value) as char
+    } else {
+        (b'a' + (value - 10)) as char
+    }
+}
+
+// A text that no other run has: 32 random hexadecimal digits.
+fn new_token<H: RandomSource>(rt: &H, alloc: Global) -> Result<String, CommandFault> {
+    let mut bytes = [0; 16];
+    if rt.fill_bytes(&mut bytes).is_err() {
+        return Err(CommandFault::Run(RunFault::Read));
+    }
+    let mut token = String::new(alloc);
+    for byte in &bytes {
+        token.push(digit(*byte / 16))?;
+        token.push(digit(*byte))?;
+    }
+    Ok(token)
+}
+
+/// What reaches the bucket that the options name, with this key.
+pub(crate) fn client_of<'b, H>(
+    rt: &'b H,
+    alloc: Global,
+    options: &'b BucketOptions,
+    key: &'b AccessKey,
+) -> Result<Client<'b, H>, CommandFault> {
+    let Some(url) = Url::parse(options.address.as_str()) else {
+        return Err(CommandFault::Bucket(BucketFault::Device(DeviceFault::NoHost)));
+    };
+    let credential = Credential {
+        id: key.id.as_str(),
+        secret: key.secret.as_str(),
+        region: options.region.as_str(),
+        service: "s3",
+    };
+    Ok(Client::new(rt, alloc, url, credential))
+}
+
+/// The bucket of a log as a shelf.
+pub(crate) fn open_bucket<'b, D: CrashOutcome + Drop, H: HostClient + RandomSource>(
+    disk: D,
+    rt: &'b H,
+    alloc: Global,
+    options: &'b BucketOptions,
+    key: &'b AccessKey,
+) -> Result<BucketShelf<'b, D, H>, CommandFault>
+    ensures place { IfOk result
+        (λ shelf. shelf.place ≡ string_bytes options.now.address) }
+    ensures events { IfOk result (λ shelf. shelf.events ≡ []) }
+    ensures unmarked { IfOk result (λ shelf. shelf.published ≡ None) }
+{
+    let token = new_token(rt, alloc)?;
+    let client = client_of(rt, alloc, options, key)?;
+    match BucketShelf::open(disk, client, options.address.as_str(), token) {
+        Ok(shelf) => Ok(shelf),
+        Err(fault) => Err(CommandFault::Bucket(fault)),
+    }
+}
+
+/// How a command ended that worked on a bucket: where the bucket failed in a way of its own, that is told.
+pub(crate) fn after_bucket<D, H>(
+    shelf: &BucketShelf<'_, D, H>,
+    outcome: Result<(), RunFault>,
+) -> Result<(), CommandFault>
+    ensures { EndsInBucket outcome result }
+{
+    let Err(fault) = outcome else {
+        return Ok(());
+    };
+    match shelf.fault() {
+        None | Some(BucketFault::Device(_)) => Err(CommandFault::Run(fault)),
+        Some(why) => Err(CommandFault::Bucket(why)),
+    }
+}
