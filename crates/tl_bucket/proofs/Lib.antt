@@ -1,4 +1,8 @@
 pub mod Commits
+pub mod Answers
+pub mod Claimed
+pub mod CommitTexts
+pub mod CommitEntries
 pub mod Grown
 pub mod Sound
 pub mod Shown
@@ -6,4 +10,3 @@ pub mod Last
 pub mod Right
 pub mod Going
 mod Race
-pub mod Shares

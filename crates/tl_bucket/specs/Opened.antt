@@ -27,6 +27,5 @@ WasReadAs p n c = (bytes : Bytes) × WasRead p (commit_path n) bytes × IsCommit
 
 -- the store refused a put where something is (If-None-Match: *), and one where something else is (If-Match)
 pub record RefusesPuts (p : Place) : Type 0 where
-  pub content : Content
-  pub where_one_is : WasPut p content condition.Absent Refused
-  pub where_another_is : (etag : _) × WasPut p content (condition.Matches etag) Refused
+  pub where_one_is : (content : Content) × WasPut p content condition.Absent Refused
+  pub where_another_is : (content : Content) × (etag : _) × WasPut p content (condition.Matches etag) Refused

@@ -2,7 +2,7 @@
 
 ghost use Rattle.std.specs.Prelude.{◌≡◌, IfOk, IfSome, MatchOption, Some, Ok, option_map, vec_items};
 ghost use Rattle.tl_bucket.specs.Answered.{WasMissing, WasRead, WasThere};
-ghost use Rattle.tl_bucket.specs.Inner.Outcomes.{Concludes, Finds};
+ghost use Rattle.tl_bucket.specs.Inner.Outcomes.{Concludes, Finds, Tells};
 ghost use Rattle.tl_put.specs.Objects.{content_of};
 
 use crate::client::{Client, Connection, now};
@@ -15,13 +15,13 @@ use std::time::{Clock, Duration, Instant};
 use tl_device::DeviceFault;
 use tl_put::{Condition, GetAnswer, GetReply, Object, PutAnswer, PutReply};
 
-// How long a request that fails is sent again.
-const PATIENCE: Duration = Duration::from_secs(60);
+// For how many seconds a request that fails is sent again.
+const PATIENCE: u64 = 60;
 
-// How long is waited before it is, at first and at most.
-const FIRST_PAUSE: Duration = Duration::from_millis(50);
+// How many milliseconds are waited before it is, at first and at most.
+const FIRST_PAUSE: u64 = 50;
 
-const LONGEST_PAUSE: Duration = Duration::from_secs(2);
+const LONGEST_PAUSE: u64 = 2000;
 
 /// The most bytes of an object that is read: a commit of 65,536 of the longest entries has fewer.
 pub(crate) const MOST_BYTES: usize = 1 << 33;
@@ -44,11 +44,11 @@ pub(crate) struct Found {
     pub(crate) etag: Option<Vec<u8>>,
 }
 
-// How long is still waited for a store.
+// How long a store is waited for: since when, and how many milliseconds next.
 #[derive(Drop)]
 struct Patience {
     start: Instant,
-    pause: Duration,
+    pause: u64,
 }
 
 impl Patience {
@@ -65,10 +65,10 @@ impl Patience {
         let Ok(elapsed) = self.start.elapsed(rt) else {
             return Err(fault);
         };
-        if !fault.is_passing() || elapsed >= PATIENCE {
+        if !fault.is_passing() || elapsed.as_secs() >= PATIENCE {
             return Err(fault);
         }
-        thread::sleep(rt, self.pause);
+        thread::sleep(rt, Duration::from_millis(self.pause));
         self.pause = self.pause.saturating_mul(2).min(LONGEST_PAUSE);
         Ok(())
     }
@@ -89,7 +89,9 @@ fn refusal(status: u16, words: &[u8]) -> BucketFault {
 }
 
 // What an answer to a put comes to by itself.
-fn outcome_of(reply: PutReply<Global>) -> Result<PutOutcome, BucketFault> {
+fn outcome_of(reply: PutReply<Global>) -> Result<PutOutcome, BucketFault>
+    ensures { IfOk result (Tells reply.answer) }
+{
     match reply.answer {
         PutAnswer::Done => Ok(PutOutcome::Done(reply.etag)),
         PutAnswer::Refused => Ok(PutOutcome::Refused),

@@ -1,13 +1,14 @@
 //! What an operator claims by commits, before anybody sees it.
 
-ghost use Rattle.std.specs.Prelude.{◌≡◌, ◌⊎◌, ◌-◌, ◌*◌, ◌++◌, [], IfOk, OnErr, OnOk, string_bytes, vec_items};
+ghost use Rattle.std.specs.Prelude.{◌≡◌, ◌⊎◌, ℕ, ◌-◌, ◌*◌, ◌++◌, [], IfOk, OnErr, OnOk, string_bytes};
 ghost use Rattle.tl_hash.specs.Bytes.{Bytes};
 ghost use Rattle.tl_bucket.specs.Commits.{IsBehind, commit_front};
+ghost use Rattle.tl_bucket.specs.Inner.Outcomes.{Concludes, Finds};
 ghost use Rattle.tl_bucket.specs.Shelved.{WasCommitted, commit_at, commit_path};
 ghost use Rattle.tl_put.specs.Objects.{content_of};
 ghost use Rattle.tl_put.specs.declared.object.Condition.TheVariants.{Absent};
 
-use crate::asking::PutOutcome;
+use crate::asking::{Found, MOST_BYTES, PutOutcome};
 use crate::client::{Client, Connection};
 use crate::commit::{behind, commit_front};
 use crate::fault::BucketFault;
@@ -20,13 +21,52 @@ use std::time::Clock;
 use tl_device::DeviceFault;
 use tl_put::{Condition, Object};
 
-/// The path of the commit with this number.
-pub(crate) fn commit_path(alloc: Global, number: u64) -> Result<String, AllocError>
+// The path of the commit with this number.
+fn commit_path(alloc: Global, number: u64) -> Result<String, AllocError>
     ensures { IfOk result (λ path. string_bytes path ≡ commit_path number) }
 {
     let mut path = String::from_str(alloc, "/commit/")?;
     path.push_str(Buffer::new().format(number))?;
     Ok(path)
+}
+
+/// The commit with this number, if there is one.
+pub(crate) fn find_commit<H: Net<Stream = TcpStream> + Clock>(
+    client: &Client<'_, H>,
+    connection: &mut Connection,
+    number: u64,
+) -> Result<Option<Found>, BucketFault>
+    ensures { IfOk result (Finds client.now (commit_path number)) }
+{
+    let path = commit_path(client.alloc, number)?;
+    connection.find(client, path.as_str(), MOST_BYTES)
+}
+
+// The object of a commit, with the path under which it is.
+fn object_of<'o>(path: &'o str, body: &'o [u8]) -> Object<'o>
+    ensures { (number : ℕ) → path.now ≡ commit_path number
+        → content_of result ≡ commit_at number body.now }
+{
+    Object {
+        path,
+        content_type: "application/octet-stream",
+        cache_control: LASTING,
+        body,
+    }
+}
+
+// Puts a commit with these bytes under this number, where nothing may be.
+fn put_commit<H: Net<Stream = TcpStream> + Clock>(
+    client: &Client<'_, H>,
+    connection: &mut Connection,
+    number: u64,
+    bytes: &[u8],
+) -> Result<PutOutcome, BucketFault>
+    ensures { IfOk result (Concludes client.now (commit_at number bytes.now) Absent) }
+{
+    let path = commit_path(client.alloc, number)?;
+    let object = object_of(path.as_str(), bytes);
+    connection.put(client, &object, Condition::Absent)
 }
 
 /// How far commits go, and the entries that the next one is to append.
@@ -39,12 +79,13 @@ pub(crate) struct Claims {
     entries: Vec<u8>,
     end: u64,
     // What tells whose commits they are.
-    token: String,
+    token: Vec<u8>,
     // The same of the next one, where another operator made it.
-    other: Option<String>,
+    other: Option<Vec<u8>>,
 }
 
 impl Model for Claims {
+    ghost use Rattle.std.specs.Prelude.{vec_items};
     ghost use Rattle.tl_bucket.specs.Inner.Claims as seen;
 
     ghost Value = { seen.Claims };
@@ -55,7 +96,7 @@ impl Model for Claims {
 impl Claims {
     /// Nothing is to be appended. The next commit has this number, so many entries come before it, and the token tells
     /// whose it is.
-    pub(crate) fn new(alloc: Global, number: u64, start: u64, token: String) -> Claims
+    pub(crate) fn new(alloc: Global, number: u64, start: u64, token: Vec<u8>) -> Claims
         ensures { result ≡ record { number = number; start = start; entries = [] } }
     {
         Claims {
@@ -77,7 +118,7 @@ impl Claims {
 
     /// The next commit has this number, and so many entries come before it. It is there, from another operator, with
     /// this token.
-    pub(crate) fn finish(&mut self, number: u64, start: u64, token: String)
+    pub(crate) fn finish(&mut self, number: u64, start: u64, token: Vec<u8>)
         ensures { self.new ≡ record { number = number; start = start; entries = [] } }
     {
         self.entries.clear();
@@ -111,8 +152,8 @@ impl Claims {
             × (bytes.items ≡ commit_front self.now.start token ++ self.now.entries)) }
     {
         let token = match &self.other {
-            Some(token) => token.as_str(),
-            None => self.token.as_str(),
+            Some(token) => token.as_slice(),
+            None => self.token.as_slice(),
         };
         let mut bytes = commit_front(alloc, self.start, token)?;
         bytes.extend_from_slice(self.entries.as_slice())?;
@@ -133,15 +174,8 @@ impl Claims {
         if self.entries.is_empty() {
             return Ok(());
         }
-        let path = commit_path(client.alloc, self.number)?;
         let bytes = self.commit_bytes(client.alloc)?;
-        let object = Object {
-            path: path.as_str(),
-            content_type: "application/octet-stream",
-            cache_control: LASTING,
-            body: bytes.as_slice(),
-        };
-        match connection.put(client, &object, Condition::Absent)? {
+        match put_commit(client, connection, self.number, bytes.as_slice())? {
             PutOutcome::Done(_) => {}
             PutOutcome::Refused => return Err(BucketFault::Outrun),
         }

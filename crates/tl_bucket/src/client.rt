@@ -16,7 +16,9 @@ use tl_sigv4::{Credential, Moment};
 use tl_source::{Url, connect};
 
 // The most time that one request takes.
-const REQUEST_TIME: Duration = Duration::from_secs(10);
+fn request_time() -> Duration {
+    Duration::from_secs(10)
+}
 
 /// A bucket, and what connects to its store: requests are signed by this credential. Contracts see the bucket.
 #[derive(Drop)]
@@ -41,9 +43,9 @@ impl<'b, H> Client<'b, H> {
     /// The bucket at this address: what follows the host and the port stands before each object's path. Nothing is
     /// asked for yet.
     pub fn new(rt: &'b H, alloc: Global, url: Url<'b>, credential: Credential<'b>) -> Client<'b, H>
-        ensures host { result.host ≡ url.authority.now }
-        ensures prefix { result.prefix ≡ url.prefix.now }
-        ensures credential { result.credential ≡ credential_of credential }
+        ensures host { result.host ≡ url.entry.authority.now }
+        ensures prefix { result.prefix ≡ url.entry.prefix.now }
+        ensures credential { result.credential ≡ credential_of credential.entry }
     {
         let bucket = Bucket {
             host: url.authority,
@@ -73,7 +75,7 @@ fn moment_now<H: Clock>(rt: &H) -> Result<Moment, DeviceFault> {
 // Whether the time of a request that began then is over.
 fn is_late<H: Clock>(rt: &H, start: &Instant) -> bool {
     match start.elapsed(rt) {
-        Ok(elapsed) => elapsed >= REQUEST_TIME,
+        Ok(elapsed) => elapsed >= request_time(),
         Err(_) => false,
     }
 }
@@ -91,8 +93,8 @@ impl<H: Clock> Client<'_, H> {
             (put_told (Ok reply))) }
     {
         let moment = moment_now(self.rt)?;
-        let mut reader = Counted::new(Timed::new(self.rt, stream, start, REQUEST_TIME));
-        let mut writer = Counted::new(Timed::new(self.rt, stream, start, REQUEST_TIME));
+        let mut reader = Counted::new(Timed::new(self.rt, stream, start, request_time()));
+        let mut writer = Counted::new(Timed::new(self.rt, stream, start, request_time()));
         let (alloc, bucket) = (self.alloc, &self.bucket);
         match put_object(
             alloc,
@@ -119,8 +121,8 @@ impl<H: Clock> Client<'_, H> {
         ensures { IfOk result (λ reply. AnswersGet self.now path.now limit (get_told (Ok reply))) }
     {
         let moment = moment_now(self.rt)?;
-        let mut reader = Counted::new(Timed::new(self.rt, stream, start, REQUEST_TIME));
-        let mut writer = Counted::new(Timed::new(self.rt, stream, start, REQUEST_TIME));
+        let mut reader = Counted::new(Timed::new(self.rt, stream, start, request_time()));
+        let mut writer = Counted::new(Timed::new(self.rt, stream, start, request_time()));
         let (alloc, bucket) = (self.alloc, &self.bucket);
         match get_object(
             alloc,
@@ -158,7 +160,7 @@ impl Connection {
         if let Some(stream) = self.stream.take() {
             return Ok(stream);
         }
-        let stream = connect(client.rt, &client.url, start, REQUEST_TIME)?;
+        let stream = connect(client.rt, &client.url, start, request_time())?;
         stream.set_nodelay(true)?;
         Ok(stream)
     }

@@ -14,13 +14,14 @@ use crate::opening::read_numbered;
 use crate::shelf::BucketShelf;
 use std::alloc::Global;
 use std::fs::Files;
+use std::net::{Net, TcpStream};
+use std::time::Clock;
 use tl_append::{LogKeys, NoProposals, append_batch, keys_of, open_ledger};
 use tl_command::{LogKey, LogSigner, Place, RunFault};
 use tl_folder::CrashOutcome;
 use tl_ledger::{Found, Ledger};
-use tl_source::HostClient;
 
-impl<D: CrashOutcome + Drop, H: HostClient> BucketShelf<'_, D, H> {
+impl<D: CrashOutcome + Drop, H: Net<Stream = TcpStream> + Clock> BucketShelf<'_, D, H> {
     // That the bucket failed, which it does from then on.
     fn failed(&mut self, fault: BucketFault) -> RunFault
         ensures events { self.new.events ≡ self.old.events }
@@ -47,18 +48,23 @@ impl<D: CrashOutcome + Drop, H: HostClient> BucketShelf<'_, D, H> {
         Ok(number)
     }
 
-    // The commit with this number, whose entries are to be put next behind so many.
-    fn take_commit(&mut self, number: u64, size: u64) -> Result<Commit<Global>, BucketFault>
-        ensures short { IfOk result (λ c. AreShortEntries (map vec_items c.entries.items)) }
+    // The entries of the commit with this number, which are to be put next behind so many.
+    fn take_entries(&mut self, number: u64, size: u64) -> Result<Vec<Vec<u8>>, BucketFault>
+        ensures short { IfOk result (λ entries. AreShortEntries (map vec_items entries.items)) }
         ensures events { self.new.events ≡ self.old.events }
         ensures place { self.new.place ≡ self.old.place }
     {
         let commit = read_numbered(&self.objects.client, &mut Connection::new(), number)?;
-        if commit.start != size {
+        let Commit {
+            start,
+            token,
+            entries,
+        } = commit;
+        if start != size {
             return Err(BucketFault::BadCommit(number));
         }
-        self.objects.claims.finish(number, size, commit.token);
-        Ok(commit)
+        self.objects.claims.finish(number, size, token);
+        Ok(entries)
     }
 
     // Puts and shows what the commit with this number appends.
@@ -74,11 +80,11 @@ impl<D: CrashOutcome + Drop, H: HostClient> BucketShelf<'_, D, H> {
             (bucket_trace D.held D.reached) self.old self.new ledger.old ledger.new) result }
         ensures place { self.new.place ≡ self.old.place }
     {
-        let commit = match self.take_commit(number, ledger.size()) {
-            Ok(commit) => commit,
+        let entries = match self.take_entries(number, ledger.size()) {
+            Ok(entries) => entries,
             Err(fault) => return Err(self.failed(fault)),
         };
-        match append_batch(alloc, key, commit.entries.as_slice(), true, self, ledger) {
+        match append_batch(alloc, key, entries.as_slice(), true, self, ledger) {
             Ok(()) => Ok(()),
             Err(fault) => Err(fault),
         }
@@ -114,7 +120,7 @@ impl<D: CrashOutcome + Drop, H: HostClient> BucketShelf<'_, D, H> {
 
 /// Finishes the commits of the log of this name in a bucket, under the key that is given, which its checkpoint has to
 /// open: what they append is put and shown.
-pub fn finish_log<F: Files, D: CrashOutcome + Drop, H: HostClient>(
+pub fn finish_log<F: Files, D: CrashOutcome + Drop, H: Net<Stream = TcpStream> + Clock>(
     rt: &F,
     alloc: Global,
     origin: &str,

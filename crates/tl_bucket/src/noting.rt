@@ -51,7 +51,7 @@ pub(crate) fn find_tag<H: Net<Stream = TcpStream> + Clock>(
 
 // When a checkpoint is to be put.
 fn replacing(etag: Option<&str>) -> Condition<'_>
-    ensures { IsReplacing (option_map (λ t. t.now) etag) result.entry }
+    ensures { IsReplacing (option_map (λ t. t.now) etag.entry) result }
 {
     match etag {
         Some(etag) => Condition::Matches(etag),
@@ -67,7 +67,7 @@ pub(crate) fn put_note<H: Net<Stream = TcpStream> + Clock>(
     note: &[u8],
     etag: Option<&str>,
 ) -> Result<String, BucketFault>
-    ensures { OnOk result ((c : _) × IsReplacing (option_map (λ t. t.now) etag) c
+    ensures { OnOk result ((c : _) × IsReplacing (option_map (λ t. t.now) etag.entry) c
         × WasThere client.now (content_at (resource.Checkpoint, note.now)) c) }
 {
     let object = object_of(&Resource::Checkpoint, CHECKPOINT, note);

@@ -6,12 +6,11 @@ ghost use Rattle.tl_bucket.specs.Buckets.{KeepsBytes, SettlesObjects};
 use crate::claims::Claims;
 use crate::client::{Client, Connection};
 use crate::fault::BucketFault;
-use crate::lanes::{Lane, new_lanes, put_all};
 use crate::noting::put_note;
-use crate::staged::Staged;
-use std::alloc::{AllocError, Global};
+use crate::staged::{Staged, put_each};
 use std::marker::Model;
-use tl_source::HostClient;
+use std::net::{Net, TcpStream};
+use std::time::Clock;
 use tl_tile::Resource;
 
 /// The objects of a log in a bucket, and those that wait to be put. Where a settling fails, each later call fails with
@@ -22,7 +21,6 @@ pub(crate) struct Objects<'b, H> {
     pub(crate) claims: Claims,
     pub(crate) fault: Option<BucketFault>,
     connection: Connection,
-    lanes: Vec<Lane>,
     staged: Vec<Staged>,
     note: Option<Vec<u8>>,
     etag: Option<String>,
@@ -46,29 +44,23 @@ impl<'b, H> Model for Objects<'b, H> {
     } };
 }
 
-impl<'b, H: HostClient> Objects<'b, H> {
+impl<'b, H: Net<Stream = TcpStream> + Clock> Objects<'b, H> {
     /// Nothing waits. The log goes as far as the claims do, and its checkpoint has this entity tag, if there is one.
-    pub(crate) fn new(
-        client: Client<'b, H>,
-        claims: Claims,
-        etag: Option<String>,
-    ) -> Result<Objects<'b, H>, AllocError>
-        ensures at { IfOk result (λ objects. objects.at ≡ client) }
-        ensures waiting { IfOk result (λ objects. objects.waiting ≡ []) }
-        ensures number { IfOk result (λ objects. objects.number ≡ claims.number) }
+    pub(crate) fn new(client: Client<'b, H>, claims: Claims, etag: Option<String>) -> Objects<'b, H>
+        ensures at { result.at ≡ client.entry }
+        ensures waiting { result.waiting ≡ [] }
+        ensures number { result.number ≡ claims.entry.number }
     {
         let alloc = client.alloc;
-        let lanes = new_lanes(alloc)?;
-        Ok(Objects {
+        Objects {
             client,
             claims,
             fault: None,
             connection: Connection::new(),
-            lanes,
             staged: Vec::new(alloc),
             note: None,
             etag,
-        })
+        }
     }
 
     /// Keeps the bytes of a resource until all are put.
@@ -99,11 +91,7 @@ impl<'b, H: HostClient> Objects<'b, H> {
             return Err(fault);
         }
         self.claims.claim(&self.client, &mut self.connection)?;
-        put_all(
-            &self.client,
-            self.lanes.as_mut_slice(),
-            self.staged.as_slice(),
-        )?;
+        put_each(&self.client, &mut self.connection, self.staged.as_slice())?;
         self.staged.clear();
         let Some(note) = self.note.take() else {
             return Ok(());

@@ -1,24 +1,26 @@
 //! A bucket that is opened: whether its store keeps conditions, and how far its log goes.
 
-ghost use Rattle.std.specs.Prelude.{◌≡◌, ℕ, ◌+◌, IfOk, OnOk, MatchBool, map, string_bytes, vec_items};
+ghost use Rattle.std.specs.Prelude.{◌≡◌, ℕ, ◌+◌, IfOk, OnOk, MatchBool, map, vec_items};
 ghost use Rattle.tl_bucket.specs.Opened.{IsLastFound, RefusesPuts, WasReadAs};
+ghost use Rattle.tl_bucket.specs.Answered.{WasPut};
 ghost use Rattle.tl_bucket.specs.Opened.{HasCommit, LacksCommit};
+ghost use Rattle.tl_put.specs.Objects.{Content};
+ghost use Rattle.tl_put.specs.declared.object.PutAnswer.TheVariants.{Refused};
 ghost use Rattle.tl_bucket.specs.Inner.Searches.{AreBounds};
 
-use crate::asking::{MOST_BYTES, PutOutcome};
-use crate::claims::{Claims, commit_path};
+use crate::asking::PutOutcome;
+use crate::claims::{Claims, find_commit};
 use crate::client::{Client, Connection};
 use crate::commit::{Commit, CommitFault, read_commit};
 use crate::fault::BucketFault;
 use crate::noting::find_tag;
 use crate::shelf::BucketShelf;
-use std::alloc::{AllocError, Global};
+use std::alloc::Global;
 use std::net::{Net, TcpStream};
 use std::time::Clock;
 use tl_device::DeviceFault;
 use tl_folder::CrashOutcome;
 use tl_put::{Condition, Object};
-use tl_source::HostClient;
 
 // What is put to see whether a store keeps conditions.
 const PROBE: Object<'static> = Object {
@@ -36,6 +38,21 @@ const OTHER: Object<'static> = Object {
     body: b"nor here\n",
 };
 
+// Checks that a put under this condition, which doesn't hold, is refused.
+fn check_refused<H: Net<Stream = TcpStream> + Clock>(
+    client: &Client<'_, H>,
+    connection: &mut Connection,
+    condition: Condition<'_>,
+) -> Result<(), BucketFault>
+    ensures { OnOk result ((content : Content)
+        × WasPut client.now content condition.entry Refused) }
+{
+    match connection.put(client, &OTHER, condition)? {
+        PutOutcome::Refused => Ok(()),
+        PutOutcome::Done(_) => Err(BucketFault::NoConditions),
+    }
+}
+
 // Checks that the store refuses a put whose condition doesn't hold (RFC 9110, sections 13.1.1 and 13.1.2).
 fn check_conditions<H: Net<Stream = TcpStream> + Clock>(
     client: &Client<'_, H>,
@@ -44,13 +61,8 @@ fn check_conditions<H: Net<Stream = TcpStream> + Clock>(
     ensures { OnOk result (RefusesPuts client.now) }
 {
     connection.put(client, &PROBE, Condition::Absent)?;
-    for condition in [Condition::Absent, Condition::Matches("0")] {
-        match connection.put(client, &OTHER, condition)? {
-            PutOutcome::Refused => {}
-            PutOutcome::Done(_) => return Err(BucketFault::NoConditions),
-        }
-    }
-    Ok(())
+    check_refused(client, connection, Condition::Absent)?;
+    check_refused(client, connection, Condition::Matches("0"))
 }
 
 // Whether the commit with this number is there.
@@ -62,8 +74,7 @@ fn has_commit<H: Net<Stream = TcpStream> + Clock>(
     ensures { IfOk result (λ has.
         MatchBool has (HasCommit client.now number) (LacksCommit client.now number)) }
 {
-    let path = commit_path(client.alloc, number)?;
-    match connection.find(client, path.as_str(), MOST_BYTES)? {
+    match find_commit(client, connection, number)? {
         Some(_) => Ok(true),
         None => Ok(false),
     }
@@ -76,15 +87,33 @@ fn find_bounds<H: Net<Stream = TcpStream> + Clock>(
 ) -> Result<(u64, u64), BucketFault>
     ensures { IfOk result (λ bounds. AreBounds client.now bounds.0 bounds.1) }
 {
-    let mut low = 0;
-    for shift in 0..63u32 {
-        let high = 1 << shift;
+    let (mut low, mut high) = (0, 1);
+    for _ in 0..63u32 {
         if !has_commit(client, connection, high)? {
             return Ok((low, high));
         }
         low = high;
+        high = high.saturating_mul(2);
     }
     Err(BucketFault::Device(DeviceFault::TooLarge))
+}
+
+// Nearer bounds of the last commit, by one in the middle.
+fn halve<H: Net<Stream = TcpStream> + Clock>(
+    client: &Client<'_, H>,
+    connection: &mut Connection,
+    low: u64,
+    high: u64,
+) -> Result<(u64, u64), BucketFault>
+    requires { AreBounds client.now low high }
+    ensures { IfOk result (λ bounds. AreBounds client.now bounds.0 bounds.1) }
+{
+    let middle = low.saturating_add(high.saturating_sub(low) / 2);
+    if has_commit(client, connection, middle)? {
+        Ok((middle, high))
+    } else {
+        Ok((low, middle))
+    }
 }
 
 // The number of the last commit, 0 where there is none: found by doubling a number, and then halving.
@@ -96,15 +125,10 @@ fn last_commit<H: Net<Stream = TcpStream> + Clock>(
 {
     let (mut low, mut high) = find_bounds(client, connection)?;
     for _ in 0..64u32 {
-        if high - low <= 1 {
+        if high.saturating_sub(low) == 1 {
             return Ok(low);
         }
-        let middle = low + (high - low) / 2;
-        if has_commit(client, connection, middle)? {
-            low = middle;
-        } else {
-            high = middle;
-        }
+        (low, high) = halve(client, connection, low, high)?;
     }
     Err(BucketFault::Device(DeviceFault::TooLarge))
 }
@@ -117,12 +141,11 @@ pub(crate) fn read_numbered<H: Net<Stream = TcpStream> + Clock>(
 ) -> Result<Commit<Global>, BucketFault>
     ensures { IfOk result (λ c. WasReadAs client.now number (record {
       start = c.start;
-      token = string_bytes c.token;
+      token = c.token.items;
       entries = map vec_items c.entries.items;
     })) }
 {
-    let path = commit_path(client.alloc, number)?;
-    let Some(found) = connection.find(client, path.as_str(), MOST_BYTES)? else {
+    let Some(found) = find_commit(client, connection, number)? else {
         return Err(BucketFault::BadCommit(number));
     };
     match read_commit(client.alloc, found.body.as_slice()) {
@@ -145,7 +168,7 @@ fn committed_size<H: Net<Stream = TcpStream> + Clock>(
     Ok(commit.start.saturating_add(commit.entries.len() as u64))
 }
 
-impl<'b, D: CrashOutcome + Drop, H: HostClient> BucketShelf<'b, D, H> {
+impl<'b, D: CrashOutcome + Drop, H: Net<Stream = TcpStream> + Clock> BucketShelf<'b, D, H> {
     ghost use Rattle.std.specs.Prelude.{[], None};
 
     /// The bucket that the client reaches, by this address. The token is a line that tells the operator's commits from
@@ -157,34 +180,34 @@ impl<'b, D: CrashOutcome + Drop, H: HostClient> BucketShelf<'b, D, H> {
         address: &str,
         token: String,
     ) -> Result<BucketShelf<'b, D, H>, BucketFault>
-        ensures at { IfOk result (λ shelf. shelf.objects.at ≡ client) }
+        ensures at { IfOk result (λ shelf. shelf.objects.at ≡ client.entry) }
         ensures place { IfOk result (λ shelf. shelf.place ≡ address.now) }
         ensures events { IfOk result (λ shelf. shelf.events ≡ []) }
         ensures unmarked { IfOk result (λ shelf. shelf.published ≡ None) }
         ensures waiting { IfOk result (λ shelf. shelf.objects.waiting ≡ []) }
         ensures last { IfOk result (λ shelf. (last : ℕ) × (shelf.objects.number ≡ last + 1)
-            × IsLastFound client last) }
+            × IsLastFound client.entry last) }
     {
         let mut connection = Connection::new();
         check_conditions(&client, &mut connection)?;
         let last = last_commit(&client, &mut connection)?;
         let size = committed_size(&client, &mut connection, last)?;
         let etag = find_tag(&client, &mut connection)?;
-        let claims = Claims::new(client.alloc, last.saturating_add(1), size, token);
-        Ok(BucketShelf::new(disk, client, address, claims, etag)?)
+        let claims = Claims::new(
+            client.alloc,
+            last.saturating_add(1),
+            size,
+            token.into_bytes(),
+        );
+        Ok(BucketShelf::new(disk, client, address, claims, etag))
     }
 
     /// The bucket that the client reaches, by this address, to be read alone: what is staged would be refused by any
     /// store that has a commit. Nothing is asked for yet.
-    pub fn reader(
-        disk: D,
-        client: Client<'b, H>,
-        address: &str,
-    ) -> Result<BucketShelf<'b, D, H>, AllocError>
-        ensures at { IfOk result (λ shelf. shelf.objects.at ≡ client) }
+    pub fn reader(disk: D, client: Client<'b, H>, address: &str) -> BucketShelf<'b, D, H>
+        ensures at { result.objects.at ≡ client.entry }
     {
-        let token = String::new(client.alloc);
-        let claims = Claims::new(client.alloc, 1, 0, token);
+        let claims = Claims::new(client.alloc, 1, 0, Vec::new(client.alloc));
         BucketShelf::new(disk, client, address, claims, None)
     }
 }

@@ -22,14 +22,21 @@ impl Model for Record {
     ghost view = { λ r. map seen.event_of r.log.items };
 }
 
+// Notes bytes, for clauses alone.
+fn note_bytes(note: &mut Log<(), u8>, bytes: &[u8])
+    ensures { noted note.new ≡ noted note.old ++ bytes.now }
+{
+    for byte in bytes {
+        *note = note.and(&(), byte);
+    }
+}
+
 /// A note of bytes, for clauses alone.
 pub(crate) fn note_of(bytes: &[u8]) -> Log<(), u8>
     ensures { noted result ≡ bytes.now }
 {
     let mut note = Log::new();
-    for byte in bytes {
-        note = note.and(&(), byte);
-    }
+    note_bytes(&mut note, bytes);
     note
 }
 

@@ -1,7 +1,7 @@
 //! A shelf in a bucket. What is staged waits in memory; the shelf settles by a commit, the tiles and bundles side by
 //! side, and the checkpoint.
 
-ghost use Rattle.std.specs.Prelude.{◌≡◌, [], ◌∷◌, ◌++◌, IfOk, OnOk, OnErr, Some, None};
+ghost use Rattle.std.specs.Prelude.{◌≡◌, [], ◌∷◌, ◌++◌, OnOk, OnErr, Some, None};
 ghost use Rattle.tl_bucket.specs.Buckets.{SettlesObjects, bucket_kept, bucket_trace};
 
 use crate::claims::Claims;
@@ -11,12 +11,13 @@ use crate::noting::read_object;
 use crate::objects::Objects;
 use crate::record::{Record, note_of};
 use http_server::Log;
-use std::alloc::{AllocError, Allocator};
+use std::alloc::Allocator;
 use std::marker::Model;
+use std::net::{Net, TcpStream};
+use std::time::Clock;
 use tl_archive::{Shelf, ShelfFault};
 use tl_device::DeviceFault;
 use tl_folder::{CallOutcome, CrashOutcome};
-use tl_source::HostClient;
 use tl_tile::Resource;
 
 /// A bucket with a log in the layout of C2SP tlog-tiles: the path of each resource is that of its object. Where a
@@ -57,7 +58,7 @@ fn fault_over(resource: Option<Resource>, fault: BucketFault) -> ShelfFault
     }
 }
 
-impl<'b, D: CrashOutcome + Drop, H: HostClient> BucketShelf<'b, D, H> {
+impl<'b, D: CrashOutcome + Drop, H: Net<Stream = TcpStream> + Clock> BucketShelf<'b, D, H> {
     /// The bucket that the client reaches, by this address, with a log as far as the claims go, whose checkpoint has
     /// this entity tag, if there is one.
     pub(crate) fn new(
@@ -66,23 +67,22 @@ impl<'b, D: CrashOutcome + Drop, H: HostClient> BucketShelf<'b, D, H> {
         address: &str,
         claims: Claims,
         etag: Option<String>,
-    ) -> Result<BucketShelf<'b, D, H>, AllocError>
-        ensures at { IfOk result (λ shelf. shelf.objects.at ≡ client) }
-        ensures waiting { IfOk result (λ shelf. shelf.objects.waiting ≡ []) }
-        ensures number { IfOk result (λ shelf. shelf.objects.number ≡ claims.number) }
-        ensures place { IfOk result (λ shelf. shelf.place ≡ address.now) }
-        ensures events { IfOk result (λ shelf. shelf.events ≡ []) }
-        ensures unmarked { IfOk result (λ shelf. shelf.published ≡ None) }
+    ) -> BucketShelf<'b, D, H>
+        ensures at { result.objects.at ≡ client.entry }
+        ensures waiting { result.objects.waiting ≡ [] }
+        ensures number { result.objects.number ≡ claims.entry.number }
+        ensures place { result.place ≡ address.now }
+        ensures events { result.events ≡ [] }
+        ensures unmarked { result.published ≡ None }
     {
-        let objects = Objects::new(client, claims, etag)?;
-        Ok(BucketShelf {
+        BucketShelf {
             disk,
-            objects,
+            objects: Objects::new(client, claims, etag),
             calls: Record::new(),
             failures: 0,
             place: note_of(address.as_bytes()),
             published: None,
-        })
+        }
     }
 
     /// Why a settling failed, if one did.
@@ -99,7 +99,7 @@ impl<'b, D: CrashOutcome + Drop, H: HostClient> BucketShelf<'b, D, H> {
     }
 }
 
-impl<D: CrashOutcome, H: HostClient> Shelf for BucketShelf<'_, D, H> {
+impl<D: CrashOutcome, H: Net<Stream = TcpStream> + Clock> Shelf for BucketShelf<'_, D, H> {
     ghost use Rattle.std.specs.Prelude.{false};
     ghost use Rattle.tl_archive.specs.Partials.{IsFull};
     ghost use Rattle.tl_archive.specs.Shelves.{Stages, Unstages, Settles, Removes, LacksPartials, Fails};

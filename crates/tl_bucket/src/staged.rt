@@ -1,6 +1,6 @@
 //! Resources that wait to be put.
 
-ghost use Rattle.std.specs.Prelude.{◌≡◌, ◌++◌, All, IfOk, OnOk};
+ghost use Rattle.std.specs.Prelude.{◌≡◌, [], All, IfOk, OnOk};
 ghost use Rattle.tl_bucket.specs.Answered.{WasThere};
 ghost use Rattle.tl_bucket.specs.Inner.Puts.{IsThere, item_of};
 ghost use Rattle.tl_bucket.specs.Shelved.{caching_of, content_at, media_of};

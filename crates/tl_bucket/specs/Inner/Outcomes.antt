@@ -1,8 +1,9 @@
 -- What came of requests.
-use Rattle.std.specs.Prelude.{Option, Some, None, vec_items}
+use Rattle.std.specs.Prelude.{◌≡◌, Option, Some, None, vec_items}
 use Rattle.tl_hash.specs.Bytes.{Bytes}
 use Rattle.tl_put.specs.Objects.{Content, Place}
 use Rattle.tl_put.specs.declared.object.Condition.{Condition}
+use Rattle.tl_put.specs.declared.object.PutAnswer.{PutAnswer}
 use Rattle.tl_put.specs.declared.object.PutAnswer.TheVariants as put
 use Rattle.tl_bucket.specs.Answered.{WasMissing, WasPut, WasRead, WasThere}
 use Rattle.tl_bucket.specs.declared.asking.Found.{Found}
@@ -18,3 +19,8 @@ Concludes p content condition outcome.Refused = WasPut p content condition put.R
 abbrev pub Finds : Place → Bytes → Option Found → Type 0
 Finds p path (Some found) = WasRead p path (vec_items found.body)
 Finds p path None = WasMissing p path
+
+-- what an answer to a put comes to by itself
+abbrev pub Tells : PutAnswer → PutOutcome → Type 0
+Tells answer (outcome.Done tag) = answer ≡ put.Done
+Tells answer outcome.Refused = answer ≡ put.Refused

@@ -1,5 +1,5 @@
 -- Resources that wait to be put.
-use Rattle.std.specs.Prelude.{◌≡◌, ℕ, ◌*◌, List, All, map, take, drop, vec_items}
+use Rattle.std.specs.Prelude.{vec_items}
 use Rattle.tl_archive.specs.Shelves.{Item}
 use Rattle.tl_put.specs.Objects.{Place}
 use Rattle.tl_put.specs.declared.object.Condition.TheVariants.{Always}
@@ -14,11 +14,3 @@ item_of s = (s.resource, vec_items s.bytes)
 -- it was there as the object of its resource
 abbrev pub IsThere : Place → Staged → Type 0
 IsThere p s = WasThere p (content_at (item_of s)) Always
-
--- each of them was
-abbrev pub AreThere : Place → List Staged → Type 0
-AreThere p all = All (IsThere p) all
-
--- the share with this number, where all are cut into shares of this size
-abbrev pub share : ℕ → ℕ → List Staged → List Staged
-share size number all = take size (drop (number * size) all)
