@@ -1,4 +1,6 @@
 pub mod Commits
+pub mod CommitTexts
+pub mod CommitEntries
 pub mod Grown
 pub mod Sound
 pub mod Shown

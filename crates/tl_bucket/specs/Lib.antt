@@ -2,3 +2,4 @@
 pub mod Bucket
 pub mod Operators
 pub mod Histories
+pub mod Commits

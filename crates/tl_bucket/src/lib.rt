@@ -3,6 +3,7 @@
 //! first, where nothing may be; then what the log needs is put; and then its checkpoint, in the place of an older one.
 #![tactic(auto)]
 
+mod commit;
 mod law;
 
 pub use law::{

@@ -1,0 +1,197 @@
+//! The bytes of commits.
+
+ghost use Rattle.std.specs.Prelude.{◌≡◌, ◌≢◌, ◌<◌, ◌++◌, ℕ, List, IfErr, IfOk, MatchOption, MatchResult, map, vec_items, nat_lt, position};
+ghost use Rattle.tl_hash.specs.Bytes.{Bytes};
+ghost use Rattle.tl_text.specs.Text.{line, number_text, HasNoControl, IsSize};
+ghost use Rattle.tl_text.specs.Pieces.{IsNoLine, IsNoSize};
+ghost use Rattle.tl_tile.specs.Bundle.{bundle_text, bundled_entry, AreShortEntries, IsShortEntry};
+ghost use Rattle.tl_bucket.specs.Commits as spec;
+ghost use Rattle.tl_bucket.specs.Commits.{IsBehind, IsCommit};
+ghost use Rattle.tl_bucket.specs.declared.commit.CommitFault.TheVariants.{Malformed, OutOfMemory};
+
+use itoa::Buffer;
+use std::alloc::{AllocError, AllocFailed, Allocator};
+use std::str;
+use tl_text::{parse_size, push_line};
+
+/// A commit that was read.
+#[derive(Drop)]
+pub(crate) struct Commit<A: Allocator> {
+    /// How many entries come before it.
+    pub(crate) start: u64,
+    /// The entries that it appends.
+    pub(crate) entries: Vec<Vec<u8, A>, A>,
+}
+
+/// Why a commit wasn't read.
+#[derive(Clone, Copy, Debug, PartialEq, Eq)]
+pub(crate) enum CommitFault {
+    /// The bytes are no commit's.
+    Malformed,
+    /// Memory was refused.
+    OutOfMemory,
+}
+
+impl From<AllocError> for CommitFault {
+    ghost from_gives = { λ _ fault. fault ≡ OutOfMemory };
+
+    fn from(_error: AllocError) -> CommitFault {
+        CommitFault::OutOfMemory
+    }
+}
+
+impl<X: Drop> From<AllocFailed<X>> for CommitFault {
+    ghost from_gives = { λ _ fault. fault ≡ OutOfMemory };
+
+    fn from(_error: AllocFailed<X>) -> CommitFault {
+        CommitFault::OutOfMemory
+    }
+}
+
+/// What stands before the entries of a commit behind so many others, with this token.
+pub(crate) fn commit_front<A: Allocator>(
+    alloc: A,
+    start: u64,
+    token: &str,
+) -> Result<Vec<u8, A>, AllocError>
+    ensures { IfOk result (λ front. front.items ≡ spec.commit_front start token.now) }
+{
+    let mut front = String::new(alloc);
+    push_line(&mut front, "tlog commit")?;
+    push_line(&mut front, Buffer::new().format(start))?;
+    push_line(&mut front, token)?;
+    push_line(&mut front, "")?;
+    Ok(front.into_bytes())
+}
+
+// The place of the first control character.
+fn first_control(bytes: &[u8]) -> Option<usize>
+    ensures { result ≡ position (λ byte. nat_lt byte 32) bytes.now }
+{
+    bytes.iter().position(|byte| *byte < 0x20)
+}
+
+// The first line of bytes, without its newline, and what follows it. A line ends with a newline and has no other byte
+// below 0x20.
+fn cut_line(bytes: &[u8]) -> Option<(&[u8], &[u8])>
+    ensures { MatchOption result (IsNoLine bytes.now)
+        (λ r. HasNoControl r.0.now × (bytes.now ≡ line r.0.now ++ r.1.now)) }
+{
+    let Some(end) = first_control(bytes) else {
+        return None;
+    };
+    if bytes[end] != b'\n' {
+        return None;
+    }
+    Some((&bytes[..end], &bytes[end + 1..]))
+}
+
+// The number below 2^63 that bytes are, in decimal without sign or leading zeros.
+fn read_size(bytes: &[u8]) -> Option<u64>
+    ensures { MatchOption result (IsNoSize bytes.now)
+        (λ size. IsSize size × (bytes.now ≡ number_text size)) }
+{
+    match str::from_utf8(bytes) {
+        Ok(text) => parse_size(text),
+        Err(_) => None,
+    }
+}
+
+// How many entries come before a commit, and what follows its front.
+fn split_front(bytes: &[u8]) -> Option<(u64, &[u8])>
+    ensures { MatchOption result
+        ((start : ℕ) (token rest : Bytes) → IsSize start → HasNoControl token
+            → bytes.now ≢ spec.commit_front start token ++ rest)
+        (λ r. IsSize r.0 × (token : Bytes) × HasNoControl token
+            × (bytes.now ≡ spec.commit_front r.0 token ++ r.1.now)) }
+{
+    let Some(rest) = bytes.strip_prefix(b"tlog commit\n") else {
+        return None;
+    };
+    let Some((number, rest)) = cut_line(rest) else {
+        return None;
+    };
+    let Some(start) = read_size(number) else {
+        return None;
+    };
+    let Some((_, rest)) = cut_line(rest) else {
+        return None;
+    };
+    let Some(rest) = rest.strip_prefix(b"\n") else {
+        return None;
+    };
+    Some((start, rest))
+}
+
+// The first entry, and the bytes after it.
+fn first_entry(bytes: &[u8]) -> Option<(&[u8], &[u8])>
+    ensures { MatchOption result
+        ((entry rest : Bytes) → IsShortEntry entry → bytes.now ≢ bundled_entry entry ++ rest)
+        (λ r. IsShortEntry r.0.now × (bytes.now ≡ bundled_entry r.0.now ++ r.1.now)) }
+{
+    let [high, low, rest @ ..] = bytes else {
+        return None;
+    };
+    let len = u16::from_be_bytes([*high, *low]) as usize;
+    if rest.len() < len {
+        return None;
+    }
+    Some(rest.split_at(len))
+}
+
+// The entries that bytes are, each with its length in front.
+fn read_entries<A: Allocator + Copy>(
+    alloc: A,
+    bytes: &[u8],
+) -> Result<Vec<Vec<u8, A>, A>, CommitFault>
+    ensures read { IfOk result (λ entries. AreShortEntries (map vec_items entries.items)
+        × (bytes.now ≡ bundle_text (map vec_items entries.items))) }
+    ensures none { IfErr result (λ fault. fault ≡ Malformed
+        → (entries : List Bytes) → AreShortEntries entries → bytes.now ≢ bundle_text entries) }
+{
+    let mut entries = Vec::new(alloc);
+    let mut rest = bytes;
+    while !rest.is_empty() {
+        let Some((entry, after)) = first_entry(rest) else {
+            return Err(CommitFault::Malformed);
+        };
+        let entry = Vec::from_slice(alloc, entry)?;
+        entries.push(entry)?;
+        rest = after;
+    }
+    Ok(entries)
+}
+
+/// The commit that has these bytes. `Malformed`: none has.
+pub(crate) fn read_commit<A: Allocator + Copy>(
+    alloc: A,
+    bytes: &[u8],
+) -> Result<Commit<A>, CommitFault>
+    ensures read { IfOk result (λ c. (token : Bytes) × IsCommit bytes.now
+        (record { start = c.start; token = token; entries = map vec_items c.entries.items })) }
+    ensures none { IfErr result (λ fault. fault ≡ Malformed
+        → (c : spec.Commit) → ¬ (IsCommit bytes.now c)) }
+{
+    let Some((start, rest)) = split_front(bytes) else {
+        return Err(CommitFault::Malformed);
+    };
+    match read_entries(alloc, rest) {
+        Ok(entries) => Ok(Commit { start, entries }),
+        Err(fault) => Err(fault),
+    }
+}
+
+/// What comes behind so many entries, each with its length in front; `None` where there are fewer.
+pub(crate) fn behind(bytes: &[u8], count: u64) -> Option<&[u8]>
+    ensures { MatchOption result ((rest : Bytes) → ¬ (IsBehind bytes.now count rest))
+        (λ rest. IsBehind bytes.now count rest.now) }
+{
+    let mut rest = bytes;
+    for _ in 0..count {
+        let Some((_, after)) = first_entry(rest) else {
+            return None;
+        };
+        rest = after;
+    }
+    Some(rest)
+}
