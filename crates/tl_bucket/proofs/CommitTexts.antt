@@ -97,6 +97,12 @@ lines start token rest = simp append_assoc
 pub behind_title : (bytes r : Bytes) (start : ℕ) (token rest : Bytes) → bytes ≡ title ++ r → bytes ≡ commit_front start token ++ rest → r ≡ line (number_text start) ++ (line token ++ (10 ∷ rest))
 behind_title bytes r start token rest is e = append_cancel_left title r (line (number_text start) ++ (line token ++ (10 ∷ rest))) (sym is ∙ e ∙ lines start token rest)
 
+-- a number was cut off behind it
+pub behind_number : (bytes r words s : Bytes) (start : ℕ) (token rest : Bytes) → bytes ≡ title ++ r → r ≡ line words ++ s → HasNoControl words → IsSize start → bytes ≡ commit_front start token ++ rest
+    → (words ≡ number_text start) × (s ≡ line token ++ (10 ∷ rest))
+behind_number bytes r words s start token rest is cut plain small e =
+    one_line words (number_text start) s (line token ++ (10 ∷ rest)) plain (number_plain start (omega arith)) (sym cut ∙ behind_title bytes r start token rest is e)
+
 -- lines that were cut off one by one
 pub joined : (bytes r words s token t rest : Bytes) (start : ℕ) → bytes ≡ title ++ r → r ≡ line words ++ s → words ≡ number_text start → s ≡ line token ++ t → t ≡ 10 ∷ rest → bytes ≡ commit_front start token ++ rest
 joined bytes r words s token t rest start first second number third last =

@@ -1,6 +1,6 @@
 //! The bytes of commits.
 
-ghost use Rattle.std.specs.Prelude.{◌≡◌, ◌≢◌, ◌<◌, ◌++◌, ℕ, List, IfErr, IfOk, MatchOption, MatchResult, map, vec_items, nat_lt, position};
+ghost use Rattle.std.specs.Prelude.{◌≡◌, ◌≢◌, ◌++◌, ℕ, List, IfErr, IfOk, MatchBool, MatchOption, map, vec_items, nat_lt, position};
 ghost use Rattle.tl_hash.specs.Bytes.{Bytes};
 ghost use Rattle.tl_text.specs.Text.{line, number_text, HasNoControl, IsSize};
 ghost use Rattle.tl_text.specs.Pieces.{IsNoLine, IsNoSize};
@@ -139,21 +139,37 @@ fn first_entry(bytes: &[u8]) -> Option<(&[u8], &[u8])>
     Some(rest.split_at(len))
 }
 
+// Whether bytes are those of entries, each with its length in front. It takes no memory.
+fn are_entries(bytes: &[u8]) -> bool
+    ensures { MatchBool result
+        ((entries : List Bytes) × AreShortEntries entries × (bytes.now ≡ bundle_text entries))
+        ((entries : List Bytes) → AreShortEntries entries → bytes.now ≢ bundle_text entries) }
+{
+    let mut rest = bytes;
+    while !rest.is_empty() {
+        let Some((_, after)) = first_entry(rest) else {
+            return false;
+        };
+        rest = after;
+    }
+    true
+}
+
 // The entries that bytes are, each with its length in front.
-fn read_entries<A: Allocator + Copy>(
+fn split_entries<A: Allocator + Copy>(
     alloc: A,
     bytes: &[u8],
-) -> Result<Vec<Vec<u8, A>, A>, CommitFault>
-    ensures read { IfOk result (λ entries. AreShortEntries (map vec_items entries.items)
+) -> Result<Vec<Vec<u8, A>, A>, AllocError>
+    requires { (entries : List Bytes) × AreShortEntries entries
+        × (bytes.now ≡ bundle_text entries) }
+    ensures { IfOk result (λ entries. AreShortEntries (map vec_items entries.items)
         × (bytes.now ≡ bundle_text (map vec_items entries.items))) }
-    ensures none { IfErr result (λ fault. fault ≡ Malformed
-        → (entries : List Bytes) → AreShortEntries entries → bytes.now ≢ bundle_text entries) }
 {
     let mut entries = Vec::new(alloc);
     let mut rest = bytes;
     while !rest.is_empty() {
         let Some((entry, after)) = first_entry(rest) else {
-            return Err(CommitFault::Malformed);
+            unreachable!();
         };
         let entry = Vec::from_slice(alloc, entry)?;
         entries.push(entry)?;
@@ -162,7 +178,7 @@ fn read_entries<A: Allocator + Copy>(
     Ok(entries)
 }
 
-/// The commit that has these bytes. `Malformed`: none has.
+/// The commit that has these bytes. `Malformed`: none has. Memory is asked for only where one has.
 pub(crate) fn read_commit<A: Allocator + Copy>(
     alloc: A,
     bytes: &[u8],
@@ -171,14 +187,17 @@ pub(crate) fn read_commit<A: Allocator + Copy>(
         (record { start = c.start; token = token; entries = map vec_items c.entries.items })) }
     ensures none { IfErr result (λ fault. fault ≡ Malformed
         → (c : spec.Commit) → ¬ (IsCommit bytes.now c)) }
+    ensures memory { IfErr result (λ fault. fault ≡ OutOfMemory
+        → (c : spec.Commit) × IsCommit bytes.now c) }
 {
     let Some((start, rest)) = split_front(bytes) else {
         return Err(CommitFault::Malformed);
     };
-    match read_entries(alloc, rest) {
-        Ok(entries) => Ok(Commit { start, entries }),
-        Err(fault) => Err(fault),
+    if !are_entries(rest) {
+        return Err(CommitFault::Malformed);
     }
+    let entries = split_entries(alloc, rest)?;
+    Ok(Commit { start, entries })
 }
 
 /// What comes behind so many entries, each with its length in front; `None` where there are fewer.

@@ -3,13 +3,13 @@ use Rattle.std.specs.Prelude.{◌≢◌}
 use Rattle.std.proofs.lemmas.Bool.{eqb-false}
 use Rattle.tl_tile.proofs.BundleLemmas.{has_read_one}
 use Rattle.tl_bucket.proofs.CommitEntries.{no_entries}
-use Rattle.tl_bucket.proofs.commit.read_entries.Goals as goal
+use Rattle.tl_bucket.proofs.commit.split_entries.Goals as goal
 
-pub returns-in_default-clause-none : goal.returns-in_default-clause-none
-returns-in_default-clause-none g c = λ _ all short spelled.
+pub unreachable-requires : goal.unreachable-requires
+unreachable-requires g c =
     let so_far = c.loop-rest.invariant in
     let some : length c.loop-rest.rest.now ≢ 0 = eqb-false (length c.loop-rest.rest.now) 0 (sym c.loop-rest-test.ensures) in
-    no_entries so_far.0 c.args.bytes.now c.loop-rest.rest.now (map vec_items c.loop-rest.entries.items) all so_far.1 (omega (arith, some)) c.in_default.ensures short spelled
+    no_entries so_far.0 c.args.bytes.now c.loop-rest.rest.now (map vec_items c.loop-rest.entries.items) c.requires.0 so_far.1 (omega (arith, some)) c.in_default.ensures c.requires.1 c.requires.2
 
 pub loop-rest-preserved : goal.loop-rest-preserved
 loop-rest-preserved g c =
