@@ -101,9 +101,9 @@ fn read_size(bytes: &[u8]) -> Option<u64>
 fn split_front(bytes: &[u8]) -> Option<(u64, &[u8])>
     ensures { MatchOption result
         ((start : ℕ) (token rest : Bytes) → IsSize start → HasNoControl token
-            → bytes.now ≢ spec.commit_front start token ++ rest)
+        → bytes.now ≢ spec.commit_front start token ++ rest)
         (λ r. IsSize r.0 × (token : Bytes) × HasNoControl token
-            × (bytes.now ≡ spec.commit_front r.0 token ++ r.1.now)) }
+        × (bytes.now ≡ spec.commit_front r.0 token ++ r.1.now)) }
 {
     let Some(rest) = bytes.strip_prefix(b"tlog commit\n") else {
         return None;

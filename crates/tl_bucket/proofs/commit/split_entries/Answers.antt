@@ -13,6 +13,8 @@ unreachable-requires g c =
 
 pub loop-rest-preserved : goal.loop-rest-preserved
 loop-rest-preserved g c =
-    let so_far = c.loop-rest.invariant in
-    (so_far.0 + 1, has_read_one c.args.bytes.now so_far.0 c.loop-rest.entries.items c.push.new.self.items c.in_ok-entry.entry c.loop-rest.rest.now c.in-Some.entry.now c.in-Some.after.now
-      so_far.1 c.in-Some.ensures.0 c.in-Some.ensures.1 c.in_ok-entry.ensures.items c.in_ok-push.ensures.items)
+    let so_far = c.loop-rest.invariant in (
+      so_far.0 + 1,
+      has_read_one c.args.bytes.now so_far.0 c.loop-rest.entries.items c.push.new.self.items c.in_ok-entry.entry c.loop-rest.rest.now c.in-Some.entry.now c.in-Some.after.now
+          so_far.1 c.in-Some.ensures.0 c.in-Some.ensures.1 c.in_ok-entry.ensures.items c.in_ok-push.ensures.items,
+    )
