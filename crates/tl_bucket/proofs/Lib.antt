@@ -1,6 +1,7 @@
 pub mod Commits
 pub mod CommitTexts
 pub mod CommitEntries
+pub mod CommitLaws
 pub mod Grown
 pub mod Sound
 pub mod Shown

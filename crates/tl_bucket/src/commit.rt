@@ -214,3 +214,11 @@ pub(crate) fn behind(bytes: &[u8], count: u64) -> Option<&[u8]>
     }
     Some(rest)
 }
+
+/// Bytes are those of one commit at most, and one rest comes behind so many entries.
+pub(crate) fn commits_have_one_reading()
+    ensures commit { (bytes : Bytes) (c d : spec.Commit)
+        → IsCommit bytes c → IsCommit bytes d → c ≡ d }
+    ensures rest { (bytes : Bytes) (count : ℕ) (x y : Bytes)
+        → IsBehind bytes count x → IsBehind bytes count y → x ≡ y }
+{}
