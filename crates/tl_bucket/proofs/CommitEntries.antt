@@ -1,11 +1,12 @@
 -- Entries one after another, each with its length in front.
-use Rattle.std.proofs.Common.{◌≡◌, ℕ, suc, ◌+◌, ◌-◌, ◌<◌, ◌≤◌, inl, inr, List, [], ◌∷◌, ◌++◌, length, take, drop, refl, sym, ap, ◌∙◌, subst, append_assoc, append-nil, arith}
+use Rattle.std.proofs.Common.{◌≡◌, ℕ, ◌<◌, inl, inr, List, [], ◌∷◌, ◌++◌, length, take, drop, refl, sym, ap, ◌∙◌, append_assoc, append-nil, arith}
 use Rattle.std.specs.Prelude.{◌≢◌}
 use Rattle.std.proofs.lemmas.Bool.{cases_lt}
 use Rattle.std.proofs.lemmas.List.{length-append, length-take-le, length-drop, take-append-drop}
 use Rattle.std.proofs.lemmas.List.Concat.{flat_map-cons}
 use Rattle.std.proofs.lemmas.Grind.{flat_map-append}
 use Rattle.std.proofs.lemmas.List.Elements.{All-take, All-drop, All-head}
+use Rattle.std.specs.Int.{w16, to_be_bytes}
 use Rattle.tl_hash.specs.Bytes.{Bytes}
 use Rattle.tl_tile.specs.Bundle.{bundled_entry, bundle_text, IsShortEntry, AreShortEntries}
 use Rattle.tl_tile.proofs.BundleLemmas.{HasRead, one_bundle}
@@ -50,3 +51,27 @@ more_left count bytes rest read all so_far short spelled some = elim (cases_lt c
 pub no_entries : (count : ℕ) (bytes rest : Bytes) (read all : List Bytes) → HasRead bytes count read rest → 0 < length rest → HasNoEntry rest → AreShortEntries all → bytes ≢ bundle_text all
 no_entries count bytes rest read all so_far some none short spelled =
     next_entry count bytes rest [] read all so_far short (spelled ∙ sym (append-nil (bundle_text all))) (more_left count bytes rest read all so_far short spelled some) none
+
+-- ---- one reading
+
+none_in_nothing : HasNoEntry []
+none_in_nothing e rest short is = absurd (omega (arith, ap length is, length-append (bundled_entry e) rest, length-append (to_be_bytes w16 (length e)) e))
+
+-- no entries have the bytes of more of them
+no_more : (es fs : List Bytes) → AreShortEntries es → AreShortEntries fs → bundle_text es ≡ bundle_text fs → length es < length fs → ⊥
+no_more es fs short_e short_f same less =
+    let read : HasRead (bundle_text es) (length es) es [] = record { joined = sym (append-nil (bundle_text es)); short = short_e; len = refl } in
+    next_entry (length es) (bundle_text es) [] [] es fs read short_f (same ∙ sym (append-nil (bundle_text fs))) less none_in_nothing
+
+pub one_list : (es fs : List Bytes) → AreShortEntries es → AreShortEntries fs → bundle_text es ≡ bundle_text fs → es ≡ fs
+one_list es fs short_e short_f same = elim (cases_lt (length es) (length fs)) [
+  | inl less ↦ absurd (no_more es fs short_e short_f same less)
+  | inr over ↦ elim (cases_lt (length fs) (length es)) [
+    | inl less ↦ absurd (no_more fs es short_f short_e (sym same) less)
+    | inr back ↦ (one_bundle es fs [] [] short_e short_f (omega arith) (ap (λ (t : Bytes). t ++ []) same)).0
+  ]
+]
+
+pub one_rest : (bytes : Bytes) (count : ℕ) (x y : Bytes) → IsBehind bytes count x → IsBehind bytes count y → x ≡ y
+one_rest bytes count x y left right =
+    (one_bundle left.entries right.entries x y left.short right.short (left.counted ∙ sym right.counted) (sym left.spelled ∙ right.spelled)).1

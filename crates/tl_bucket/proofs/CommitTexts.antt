@@ -1,5 +1,5 @@
 -- The front of a commit, line by line.
-use Rattle.std.proofs.Common.{◌≡◌, ℕ, suc, ◌+◌, ◌-◌, ◌<◌, ◌≤◌, Bool, List, [], ◌∷◌, ◌++◌, length, get_or, take, drop, true, false, refl, sym, ap, ◌∙◌, cond, append_assoc, arith, Bor, Some, None}
+use Rattle.std.proofs.Common.{◌≡◌, ℕ, suc, ◌+◌, ◌-◌, ◌<◌, ◌≤◌, Bool, [], ◌∷◌, ◌++◌, length, get_or, take, drop, true, false, sym, ap, ◌∙◌, cond, append_assoc, arith, Bor, Some, None}
 use Rattle.std.specs.Prelude.{◌≢◌, nat_lt, position, IsUtf8, MatchOption, Option}
 use Rattle.std.specs.List.{position_or_len}
 use Rattle.std.specs.Cmp.Lexicographic.{pointwise}

@@ -3,6 +3,7 @@ pub mod Answers
 pub mod Claimed
 pub mod CommitTexts
 pub mod CommitEntries
+pub mod CommitLaws
 pub mod Grown
 pub mod Sound
 pub mod Shown

@@ -10,7 +10,7 @@ ghost use Rattle.tl_bucket.specs.Commits.{IsBehind, IsCommit};
 ghost use Rattle.tl_bucket.specs.declared.commit.CommitFault.TheVariants.{Malformed, OutOfMemory};
 
 use itoa::Buffer;
-use std::alloc::{AllocError, AllocFailed, Allocator};
+use std::alloc::{AllocError, Allocator};
 use std::str;
 use tl_text::{parse_size, push_line};
 
@@ -42,15 +42,8 @@ impl From<AllocError> for CommitFault {
     }
 }
 
-impl<X: Drop> From<AllocFailed<X>> for CommitFault {
-    ghost from_gives = { λ _ fault. fault ≡ OutOfMemory };
-
-    fn from(_error: AllocFailed<X>) -> CommitFault {
-        CommitFault::OutOfMemory
-    }
-}
-
-/// What stands before the entries of a commit behind so many others, with this token.
+/// What stands before the entries of a commit behind so many others, with this token. A token that isn't one line makes
+/// it no commit's. It fails only where a growth was refused.
 pub(crate) fn commit_front<A: Allocator>(
     alloc: A,
     start: u64,
@@ -181,7 +174,8 @@ fn split_entries<A: Allocator + Copy>(
     Ok(entries)
 }
 
-/// The commit that has these bytes. `Malformed`: none has. Memory is asked for only where one has.
+/// The commit that has these bytes. It is `Malformed` exactly where none has, before memory is asked for, and
+/// `OutOfMemory` where memory is refused.
 pub(crate) fn read_commit<A: Allocator + Copy>(
     alloc: A,
     bytes: &[u8],
@@ -211,7 +205,7 @@ pub(crate) fn read_commit<A: Allocator + Copy>(
     })
 }
 
-/// What comes behind so many entries, each with its length in front; `None` where there are fewer.
+/// What comes behind so many entries, each with its length in front; `None` where there are fewer. It takes no memory.
 pub(crate) fn behind(bytes: &[u8], count: u64) -> Option<&[u8]>
     ensures { MatchOption result ((rest : Bytes) → ¬ (IsBehind bytes.now count rest))
         (λ rest. IsBehind bytes.now count rest.now) }

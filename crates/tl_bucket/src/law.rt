@@ -7,6 +7,7 @@ ghost use Rattle.tl_tile.specs.declared.resource.Resource.TheVariants as resourc
 ghost use Rattle.tl_publisher.specs.Histories.{Prefix, Begins, last_of, note_if};
 ghost use Rattle.tl_tile.specs.Needed.{needed_resources, needed_resources_since};
 ghost use Rattle.tl_archive.specs.Complete.{text_of, HasAll, IsComplete};
+ghost use Rattle.tl_bucket.specs.Commits.{Commit, IsBehind, IsCommit};
 ghost use Rattle.tl_bucket.specs.Bucket.{Committed, IsCommitted, Request, put_checkpoint};
 ghost use Rattle.tl_bucket.specs.Operators.{beginning, IsWhole, Leads, MaySend, Setting, TellsSize, World};
 ghost use Rattle.tl_bucket.specs.Histories.{AreConsistent, HaveOneTag, NeverShrinks, IsCheckpointOf};
@@ -124,4 +125,12 @@ pub fn log_can_go_on()
         → (n : ℕ) (q : Prefix) → Committed w.store n q.entries
         → w.store.commits (suc n) ≡ None → TellsSize q.note (length q.entries)
         → (later : World) × Leads setting w later × (last_of later.shown ≡ Some q) }
+{}
+
+/// Bytes are those of one commit at most, and one rest comes behind so many entries.
+pub fn commits_have_one_reading()
+    ensures commit { (bytes : Bytes) (c d : Commit)
+        → IsCommit bytes c → IsCommit bytes d → c ≡ d }
+    ensures rest { (bytes : Bytes) (count : ℕ) (x y : Bytes)
+        → IsBehind bytes count x → IsBehind bytes count y → x ≡ y }
 {}

@@ -28,8 +28,9 @@ pub use client::Client;
 pub use fault::BucketFault;
 pub use finishing::finish_log;
 pub use law::{
-    checkpoints_tell_size, commits_have_no_gap, commits_stay, committed_logs_extend,
-    leave_to_send_stays, log_can_go_on, new_resources_suffice, operators_never_fork,
-    shown_log_is_complete, shown_log_never_rolls_back, stored_bytes_are_right, stored_bytes_stay,
+    checkpoints_tell_size, commits_have_no_gap, commits_have_one_reading, commits_stay,
+    committed_logs_extend, leave_to_send_stays, log_can_go_on, new_resources_suffice,
+    operators_never_fork, shown_log_is_complete, shown_log_never_rolls_back,
+    stored_bytes_are_right, stored_bytes_stay,
 };
 pub use shelf::BucketShelf;
