@@ -8,7 +8,10 @@ use Rattle.tl_folder.specs.Events.{Event}
 use Rattle.tl_folder.specs.Folders.{Reached, after_calls, after_each, at_first}
 use Rattle.tl_hash.specs.Bytes.{Bytes}
 use Rattle.tl_ledger.specs.Standing.{Ledger}
+use Rattle.std.specs.Prelude.{Result, Ok, Err}
+use Rattle.tl_command.specs.declared.fault.RunFault.{RunFault}
 use Rattle.tl_bucket.specs.Buckets.{Bucketed, bucket_kept, bucket_trace}
+use Rattle.tl_bucket.specs.Finishing.{Finishes}
 
 -- batches were appended and published
 abbrev pub HasAppended : LogKey → Course → Type 0
@@ -51,3 +54,14 @@ module _ (key : LogKey) (held : Held) (reached : Reached) where
       appends_then_on key first.0 next.0 (bucket_kept held reached a) (bucket_kept held reached m) (bucket_kept held reached b)
           (bucket_trace held reached a) (bucket_trace held reached m) (bucket_trace held reached b) was now is first.1 next.1 next.2,
     )
+
+    -- the last check
+    pub ended : (c : Bucketed) (r : Result (Unit {0}) RunFault) → c.events ≡ m.events → Finishes key (between a c was now) r
+    ended c (Ok done) same =
+        let none = none_yet m c now same in
+        (first.0 ++ none.0, appends_on key first.0 none.0 (bucket_kept held reached a) (bucket_kept held reached m) (bucket_kept held reached c)
+            (bucket_trace held reached a) (bucket_trace held reached m) (bucket_trace held reached c) was now now first.1 none.1)
+    ended c (Err fault) same =
+        let none = none_put m c now same in
+        (first.0 ++ none.0, none.1, appends_then_on key first.0 none.0 (bucket_kept held reached a) (bucket_kept held reached m) (bucket_kept held reached c)
+            (bucket_trace held reached a) (bucket_trace held reached m) (bucket_trace held reached c) was now now first.1 none.1 none.2)

@@ -116,6 +116,13 @@ impl Claims {
         self.number
     }
 
+    /// How many entries come before the next commit.
+    pub(crate) fn start(&self) -> u64
+        ensures { result ≡ self.now.start }
+    {
+        self.start
+    }
+
     /// The next commit has this number, and so many entries come before it. It is there, from another operator, with
     /// this token.
     pub(crate) fn finish(&mut self, number: u64, start: u64, token: Vec<u8>)

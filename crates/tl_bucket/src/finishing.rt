@@ -1,6 +1,6 @@
 //! Commits that were begun by who came before, and are finished by who starts.
 
-ghost use Rattle.std.specs.Prelude.{◌≡◌, IfOk, map, vec_items};
+ghost use Rattle.std.specs.Prelude.{◌≡◌, IfOk, OnOk, map, vec_items};
 ghost use Rattle.tl_append.specs.Appending.{AppendsAtMost, Appends, course};
 ghost use Rattle.tl_bucket.specs.Buckets.{bucket_kept, bucket_trace};
 ghost use Rattle.tl_bucket.specs.Finishing.{Finishes};
@@ -20,6 +20,7 @@ use tl_append::{LogKeys, NoProposals, append_batch, keys_of, open_ledger};
 use tl_command::{LogKey, LogSigner, Place, RunFault};
 use tl_folder::CrashOutcome;
 use tl_ledger::{Found, Ledger};
+use tl_note::is_key_name;
 
 impl<D: CrashOutcome + Drop, H: Net<Stream = TcpStream> + Clock> BucketShelf<'_, D, H> {
     // That the bucket failed, which it does from then on.
@@ -114,12 +115,29 @@ impl<D: CrashOutcome + Drop, H: Net<Stream = TcpStream> + Clock> BucketShelf<'_,
                 Err(fault) => return Err(fault),
             }
         }
-        Ok(())
+        self.check_size(ledger.size())
+    }
+
+    // Checks that the log which is shown has what the commits append. `Outrun`: it has more, since another operator
+    // went on meanwhile. `BadCommit`: there are no commits, or they append more.
+    fn check_size(&mut self, size: u64) -> Result<(), RunFault>
+        ensures events { self.new.events ≡ self.old.events }
+        ensures place { self.new.place ≡ self.old.place }
+        ensures same { OnOk result (size ≡ self.old.objects.start) }
+    {
+        let (number, start) = (self.objects.claims.number(), self.objects.claims.start());
+        if size == start {
+            return Ok(());
+        }
+        if size > start && number > 1 {
+            return Err(self.failed(BucketFault::Outrun));
+        }
+        Err(self.failed(BucketFault::BadCommit(number)))
     }
 }
 
 /// Finishes the commits of the log of this name in a bucket, under the key that is given, which its checkpoint has to
-/// open: what they append is put and shown.
+/// open: what they append is put and shown. `BadOrigin`: no key has this name.
 pub fn finish_log<F: Files, D: CrashOutcome + Drop, H: Net<Stream = TcpStream> + Clock>(
     rt: &F,
     alloc: Global,
@@ -127,9 +145,11 @@ pub fn finish_log<F: Files, D: CrashOutcome + Drop, H: Net<Stream = TcpStream> +
     key: &LogKey,
     shelf: &mut BucketShelf<'_, D, H>,
 ) -> Result<(), RunFault>
-    requires origin { IsKeyName origin.now }
     ensures place { shelf.new.place ≡ shelf.old.place }
 {
+    if !is_key_name(origin) {
+        return Err(RunFault::BadOrigin);
+    }
     let LogKeys { signer, verifier } = match keys_of(rt, alloc, origin, key) {
         Ok(keys) => keys,
         Err(fault) => return Err(fault),

@@ -63,8 +63,8 @@ impl<'b, H: Net<Stream = TcpStream> + Clock> Objects<'b, H> {
         }
     }
 
-    /// Keeps the bytes of a resource until all are put.
-    pub(crate) fn keep(&mut self, resource: &Resource, bytes: &[u8]) -> Result<(), BucketFault>
+    // Keeps the bytes of a resource until all are put.
+    fn try_keep(&mut self, resource: &Resource, bytes: &[u8]) -> Result<(), BucketFault>
         ensures { OnOk result (KeepsBytes resource.now bytes.now self.old self.new) }
     {
         if let Some(fault) = self.fault {
@@ -81,6 +81,20 @@ impl<'b, H: Net<Stream = TcpStream> + Clock> Objects<'b, H> {
         }
         self.staged.push(staged)?;
         Ok(())
+    }
+
+    /// Keeps the bytes of a resource until all are put. Where that fails, none is put: what waits may be tiles of
+    /// entries that are in no bundle yet, and so in no commit.
+    pub(crate) fn keep(&mut self, resource: &Resource, bytes: &[u8]) -> Result<(), BucketFault>
+        ensures kept { OnOk result (KeepsBytes resource.now bytes.now self.old self.new) }
+    {
+        match self.try_keep(resource, bytes) {
+            Ok(()) => Ok(()),
+            Err(fault) => {
+                self.fault = Some(fault);
+                Err(fault)
+            }
+        }
     }
 
     // Puts all that waits.

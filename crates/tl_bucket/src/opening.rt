@@ -30,24 +30,21 @@ const PROBE: Object<'static> = Object {
     body: b"no tlog was here\n",
 };
 
-// The same with another content.
-const OTHER: Object<'static> = Object {
-    path: "/probe",
-    content_type: "text/plain; charset=utf-8",
-    cache_control: "no-store",
-    body: b"nor here\n",
-};
-
-// Checks that a put under this condition, which doesn't hold, is refused.
+// Checks that a put of another content, which no run had before, is refused under this condition, which doesn't hold.
 fn check_refused<H: Net<Stream = TcpStream> + Clock>(
     client: &Client<'_, H>,
     connection: &mut Connection,
+    content: &[u8],
     condition: Condition<'_>,
 ) -> Result<(), BucketFault>
     ensures { OnOk result ((content : Content)
         × WasPut client.now content condition.entry Refused) }
 {
-    match connection.put(client, &OTHER, condition)? {
+    let object = Object {
+        body: content,
+        ..PROBE
+    };
+    match connection.put(client, &object, condition)? {
         PutOutcome::Refused => Ok(()),
         PutOutcome::Done(_) => Err(BucketFault::NoConditions),
     }
@@ -57,12 +54,13 @@ fn check_refused<H: Net<Stream = TcpStream> + Clock>(
 fn check_conditions<H: Net<Stream = TcpStream> + Clock>(
     client: &Client<'_, H>,
     connection: &mut Connection,
+    token: &[u8],
 ) -> Result<(), BucketFault>
     ensures { OnOk result (RefusesPuts client.now) }
 {
     connection.put(client, &PROBE, Condition::Absent)?;
-    check_refused(client, connection, Condition::Absent)?;
-    check_refused(client, connection, Condition::Matches("0"))
+    check_refused(client, connection, token, Condition::Absent)?;
+    check_refused(client, connection, token, Condition::Matches("0"))
 }
 
 // Whether the commit with this number is there.
@@ -189,7 +187,7 @@ impl<'b, D: CrashOutcome + Drop, H: Net<Stream = TcpStream> + Clock> BucketShelf
             × IsLastFound client.entry last) }
     {
         let mut connection = Connection::new();
-        check_conditions(&client, &mut connection)?;
+        check_conditions(&client, &mut connection, token.as_bytes())?;
         let last = last_commit(&client, &mut connection)?;
         let size = committed_size(&client, &mut connection, last)?;
         let etag = find_tag(&client, &mut connection)?;

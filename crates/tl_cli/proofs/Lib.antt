@@ -1,3 +1,4 @@
 pub mod FileRuns
 pub mod Tellings
 pub mod Folders
+pub mod Buckets

@@ -2,7 +2,7 @@
 
 ghost use Rattle.std.specs.Prelude.{◌≡◌, string_bytes};
 ghost use Rattle.tl_device.specs.Device.{passage};
-ghost use Rattle.tl_cli.specs.InBucket.{AppendsTo, ServesFrom};
+ghost use Rattle.tl_cli.specs.InBucket.{AppendsThere, AppendsTo, ServesFrom, ServesThere};
 
 use crate::fault::CommandFault;
 use crate::own_bucket::{
@@ -15,6 +15,7 @@ use std::io::{Read, Write};
 use std::net::{Net, TcpListener, TcpStream};
 use std::os::fd::RawFd;
 use std::random::RandomSource;
+use std::time::Clock;
 use tl_append::{AppendOptions, AsSigned, NoProposals, SealedShelf, run_append};
 use tl_bucket::{BucketShelf, finish_log};
 use tl_command::RunFault;
@@ -23,7 +24,6 @@ use tl_folder::CrashOutcome;
 use tl_ledger::Found;
 use tl_note::is_key_name;
 use tl_serve::{Host, ServeOptions, Served, run_serve_shelf, threads_of};
-use tl_source::HostClient;
 
 /// The options of `append`, and of `build`, into a bucket.
 #[derive(Drop)]
@@ -44,36 +44,47 @@ pub struct ServeFromOptions {
 }
 
 // Finishes what was begun in a bucket, and appends the lines of the input.
-fn finish_and_append<D: CrashOutcome + Drop, H: HostClient + Files<File = File>, R: Read, W: Write>(
+fn finish_and_append<
+    D: CrashOutcome + Drop,
+    H: Net<Stream = TcpStream> + Clock + Files<File = File>,
+    R: Read,
+    W: Write,
+>(
     rt: &H,
     alloc: Global,
     options: &AppendOptions,
-    shelf: &mut BucketShelf<'_, D, H>,
+    shelf: BucketShelf<'_, D, H>,
     reader: &mut Counted<R>,
     writer: &mut Counted<W>,
-) -> Result<(), RunFault> {
-    match finish_log(rt, alloc, options.origin.as_str(), &options.key, shelf) {
-        Ok(()) => {}
-        Err(fault) => return Err(fault),
+) -> Result<(), CommandFault>
+    ensures { AppendsThere D.held D.reached shelf.entry.place options.now
+        (passage R.remaining reader.old reader.new) (passage W.contents writer.old writer.new)
+        result }
+{
+    let mut shelf = shelf;
+    let (origin, key) = (options.origin.as_str(), &options.key);
+    if let Err(fault) = finish_log(rt, alloc, origin, key, &mut shelf) {
+        return after_bucket(&shelf, Err(fault));
     }
     let mut found = Found::new(alloc);
-    run_append(
+    let outcome = run_append(
         rt,
         alloc,
         options,
-        shelf,
+        &mut shelf,
         &NoProposals,
         &mut found,
         reader,
         writer,
-    )
+    );
+    after_bucket(&shelf, outcome)
 }
 
 /// Appends the lines of the input to the log in a bucket. What other operators began is finished first. The bucket's
 /// own faults are told; `Outrun`: another operator has appended meanwhile.
 pub(crate) fn append_to<
     D: CrashOutcome + Drop,
-    H: HostClient + Files<File = File> + RandomSource + Env,
+    H: Net<Stream = TcpStream> + Clock + Files<File = File> + RandomSource + Env,
     R: Read,
     W: Write,
 >(
@@ -92,13 +103,12 @@ pub(crate) fn append_to<
         return Err(CommandFault::Run(RunFault::BadOrigin));
     }
     let key = access_key(rt, alloc, bucket)?;
-    let mut shelf = open_bucket(disk, rt, alloc, bucket, &key)?;
-    let outcome = finish_and_append(rt, alloc, append, &mut shelf, reader, writer);
-    after_bucket(&shelf, outcome)
+    let shelf = open_bucket(disk, rt, alloc, bucket, &key)?;
+    finish_and_append(rt, alloc, append, shelf, reader, writer)
 }
 
 // So many shelves of the bucket, for threads that read there.
-fn shown_of<'b, D: CrashOutcome + Copy + Drop, H: HostClient>(
+fn shown_of<'b, D: CrashOutcome + Copy + Drop, H: Net<Stream = TcpStream> + Clock>(
     disk: D,
     rt: &'b H,
     alloc: Global,
@@ -109,7 +119,7 @@ fn shown_of<'b, D: CrashOutcome + Copy + Drop, H: HostClient>(
     let mut shown = Vec::new(alloc);
     for _ in 0..count {
         let client = client_of(rt, alloc, options, key)?;
-        shown.push(BucketShelf::reader(disk, client, options.address.as_str())?)?;
+        shown.push(BucketShelf::reader(disk, client, options.address.as_str()))?;
     }
     Ok(shown)
 }
@@ -131,10 +141,13 @@ fn finish_and_serve<
     input: Option<RawFd>,
     reader: &mut Counted<R>,
     errors: &mut Counted<E>,
-) -> Result<(), CommandFault> {
+) -> Result<(), CommandFault>
+    ensures { ServesThere D.held D.reached shelf.entry.place options.now
+        (passage R.remaining reader.old reader.new) result }
+{
     let mut shelf = shelf;
-    let origin = options.origin.as_str();
-    if let Err(fault) = finish_log(rt, alloc, origin, &options.key, &mut shelf) {
+    let (origin, key) = (options.origin.as_str(), &options.key);
+    if let Err(fault) = finish_log(rt, alloc, origin, key, &mut shelf) {
         return after_bucket(&shelf, Err(fault));
     }
     let sealed = SealedShelf::new(shelf, NoProposals, AsSigned, true);

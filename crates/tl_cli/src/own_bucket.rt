@@ -7,13 +7,15 @@ use crate::fault::CommandFault;
 use std::alloc::{AllocError, Global};
 use std::env::{self, Env, VarError};
 use std::fs::Files;
+use std::net::{Net, TcpStream};
 use std::random::RandomSource;
+use std::time::Clock;
 use tl_bucket::{BucketFault, BucketShelf, Client};
 use tl_command::{RunFault, read_file};
 use tl_device::DeviceFault;
 use tl_folder::CrashOutcome;
 use tl_sigv4::Credential;
-use tl_source::{HostClient, Url};
+use tl_source::Url;
 use tl_text::{is_one_line, split_line};
 
 /// The bucket of a log, as options name it.
@@ -126,7 +128,8 @@ pub(crate) fn client_of<'b, H>(
     options: &'b BucketOptions,
     key: &'b AccessKey,
 ) -> Result<Client<'b, H>, CommandFault> {
-    let Some(url) = Url::parse(options.address.as_str()) else {
+    let address = options.address.as_str();
+    let Some(url) = Url::parse(address.strip_suffix('/').unwrap_or(address)) else {
         return Err(CommandFault::Bucket(BucketFault::Device(DeviceFault::NoHost)));
     };
     let credential = Credential {
@@ -139,7 +142,11 @@ pub(crate) fn client_of<'b, H>(
 }
 
 /// The bucket of a log as a shelf.
-pub(crate) fn open_bucket<'b, D: CrashOutcome + Drop, H: HostClient + RandomSource>(
+pub(crate) fn open_bucket<
+    'b,
+    D: CrashOutcome + Drop,
+    H: Net<Stream = TcpStream> + Clock + RandomSource,
+>(
     disk: D,
     rt: &'b H,
     alloc: Global,
@@ -160,7 +167,7 @@ pub(crate) fn open_bucket<'b, D: CrashOutcome + Drop, H: HostClient + RandomSour
 }
 
 /// How a command ended that worked on a bucket: where the bucket failed in a way of its own, that is told.
-pub(crate) fn after_bucket<D, H>(
+pub(crate) fn after_bucket<D: CrashOutcome + Drop, H: Net<Stream = TcpStream> + Clock>(
     shelf: &BucketShelf<'_, D, H>,
     outcome: Result<(), RunFault>,
 ) -> Result<(), CommandFault>

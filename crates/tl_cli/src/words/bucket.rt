@@ -21,10 +21,10 @@ pub(super) const BUCKET: &[Word] = words![
     "credentials" "FILE" Kind::Path => "The file with the key that signs requests to the store";
 ];
 
-// Whether this is the address of a bucket, or of what is under a prefix there.
+// Whether this is the address of a bucket, or of what is under a prefix there. A slash may come behind it.
 fn is_address(text: &str) -> bool {
     match Url::parse(text) {
-        Some(url) => !url.prefix.ends_with('/'),
+        Some(url) => !url.prefix.ends_with("//"),
         None => false,
     }
 }

@@ -1,5 +1,5 @@
 use Rattle.std.proofs.Common.{refl, ◌∙◌}
-use Rattle.tl_bucket.proofs.Finishes.{none_put, none_yet, one_more, part_more}
+use Rattle.tl_bucket.proofs.Finishes.{ended, none_put, none_yet, one_more, part_more}
 use Rattle.tl_bucket.proofs.shelf.BucketShelf.finish.Goals as goal
 
 pub returns-in-Err-clause-finishes : goal.returns-in-Err-clause-finishes
@@ -23,3 +23,8 @@ loop-number-preserved g c = record {
       c.loop-number.invariant.so_far c.in-Ok-finish_one.ensures.finishes;
   place = c.finish_one.ensures.place ∙ c.loop-number.invariant.place;
 }
+
+pub returns-clause-finishes : goal.returns-clause-finishes
+returns-clause-finishes g c =
+    ended (g.K.LogSigner.log_key c.args.key.now) g.D.CrashOutcome.held g.D.CrashOutcome.reached c.args.self.now c.loop-number.self c.loop-number.self c.args.ledger.now c.loop-number.ledger c.loop-number.ledger
+    c.loop-number.invariant.so_far c.check_size.new.self c.check_size.result c.check_size.ensures.events

@@ -1,0 +1,17 @@
+use Rattle.std.proofs.Common.{inl, inr, rules, ◌∙◌}
+use Rattle.tl_cli.proofs.Buckets.{refused}
+use Rattle.tl_cli.proofs.in_bucket.finish_and_append.Goals as goal
+
+pub returns-in-Err : goal.returns-in-Err
+returns-in-Err g c = inl (refused c.in-Err.fault c.after_bucket.result c.after_bucket.ensures, search rules)
+
+pub returns : goal.returns
+returns g c = inr (record {
+  before = c.finish_log.new.shelf;
+  after = c.run_append-outcome.new.shelf;
+  place = c.run_append-outcome.ensures.place ∙ c.finish_log.ensures;
+  found = c.run_append-outcome.new.found;
+  outcome = c.run_append-outcome.result;
+  goes_on = c.run_append-outcome.ensures.goes_on;
+  ends = c.after_bucket-2.ensures;
+})

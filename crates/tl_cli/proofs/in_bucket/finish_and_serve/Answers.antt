@@ -1,0 +1,9 @@
+use Rattle.std.proofs.Common.{inl, inr, rules, ◌∙◌}
+use Rattle.tl_cli.proofs.Buckets.{refused}
+use Rattle.tl_cli.proofs.in_bucket.finish_and_serve.Goals as goal
+
+pub returns-in-Err : goal.returns-in-Err
+returns-in-Err g c = inl (refused c.in-Err.fault c.after_bucket.result c.after_bucket.ensures, search rules)
+
+pub returns : goal.returns
+returns g c = ?
