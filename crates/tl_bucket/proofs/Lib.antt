@@ -1,6 +1,8 @@
 pub mod Commits
 pub mod Answers
 pub mod Claimed
+pub mod Settled
+pub mod Finishes
 pub mod CommitTexts
 pub mod CommitEntries
 pub mod CommitLaws

@@ -49,7 +49,7 @@ impl<'b, H: Net<Stream = TcpStream> + Clock> Objects<'b, H> {
     pub(crate) fn new(client: Client<'b, H>, claims: Claims, etag: Option<String>) -> Objects<'b, H>
         ensures at { result.at ≡ client.entry }
         ensures waiting { result.waiting ≡ [] }
-        ensures number { result.number ≡ claims.entry.number }
+        ensures number { result.number ≡ claims.number }
     {
         let alloc = client.alloc;
         Objects {

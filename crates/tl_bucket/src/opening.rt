@@ -193,12 +193,10 @@ impl<'b, D: CrashOutcome + Drop, H: Net<Stream = TcpStream> + Clock> BucketShelf
         let last = last_commit(&client, &mut connection)?;
         let size = committed_size(&client, &mut connection, last)?;
         let etag = find_tag(&client, &mut connection)?;
-        let claims = Claims::new(
-            client.alloc,
-            last.saturating_add(1),
-            size,
-            token.into_bytes(),
-        );
+        let Some(next) = last.checked_add(1) else {
+            return Err(BucketFault::Device(DeviceFault::TooLarge));
+        };
+        let claims = Claims::new(client.alloc, next, size, token.into_bytes());
         Ok(BucketShelf::new(disk, client, address, claims, etag))
     }
 

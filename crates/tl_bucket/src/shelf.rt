@@ -70,7 +70,7 @@ impl<'b, D: CrashOutcome + Drop, H: Net<Stream = TcpStream> + Clock> BucketShelf
     ) -> BucketShelf<'b, D, H>
         ensures at { result.objects.at ≡ client.entry }
         ensures waiting { result.objects.waiting ≡ [] }
-        ensures number { result.objects.number ≡ claims.entry.number }
+        ensures number { result.objects.number ≡ claims.number }
         ensures place { result.place ≡ address.now }
         ensures events { result.events ≡ [] }
         ensures unmarked { result.published ≡ None }

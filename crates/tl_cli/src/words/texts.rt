@@ -16,10 +16,11 @@ or a call for help; 3 a read or a write failed. A refusal is one line 'tlog: ..'
 pub(super) const BUILD: &str = "Input: the entries of the log, one a line, as for 'tlog head'.
 Output: a line 'PATH LENGTH' for each resource of the log (C2SP tlog-tiles): its tiles of hashes, its entry bundles and
 its checkpoint. With --get the bytes of the resource with that path. With --dir all of them are written into a folder in
-which there is no log yet, as by 'tlog append', and the output is 'SIZE ROOT'; with --bucket into a bucket likewise. The checkpoint is a signed note: with
---key by the private key in that file, as 'tlog keygen' prints it, whose name is the origin; with --secret by a key for
-demonstrations alone, HMAC with SHA-256 under the secret. One of the two is given. --threads: how many threads hash at
-once for the checkpoint; without it, as many as the machine has. The output is the same.
+which there is no log yet, as by 'tlog append', with --bucket into a bucket, and the output is 'SIZE ROOT'. The
+checkpoint is a signed note: with --key by the private key in that file, as 'tlog keygen' prints it, whose name is the
+origin; with --secret by a key for demonstrations alone, HMAC with SHA-256 under the secret. One of the two is given.
+--threads: how many threads hash at once for the checkpoint; without it, as many as the machine has. The output is the
+same.
 Exit status: 0 done; 1 refused (a bad key, a bad origin, no such path, not there, input too large, an entry too long,
 out of memory); 2 wrong arguments or a call for help; 3 a read or a write failed. A refusal is one line 'tlog: ..' on
 standard error.";
@@ -34,6 +35,11 @@ that it needs. Run again, it goes on from there; where the folder says that more
 checkpoint has, only with --older, which says that nobody has seen what came after. A partial tile or bundle is removed
 once the full one and the one behind it are there, unless --keep-partials is given. One process at a time works on a
 folder.
+With --bucket the log is in a bucket of a store of the S3 kind, under that address and prefix, by requests that are
+signed for --region with the key in the file of --credentials, its name and its secret on a line each, or else in the
+environment, AWS_ACCESS_KEY_ID and AWS_SECRET_ACCESS_KEY. It is published after each 65,536 entries where --batch is
+left out, and nothing is removed. Several may append to one bucket: entries are committed first, and who comes second
+ends ('another operator has appended') and can be started again. What another one began is finished first.
 Output: 'SIZE ROOT' for each publication, once it outlasts a crash. The checkpoint is signed as by 'tlog build'.
 Exit status: 0 done; 1 refused (a bad key, a bad origin, a bad checkpoint, an older one, a bundle not there, an entry
 too long, in use, the operator refused, signing failed, out of memory); 2 wrong arguments or a call for help; 3 a read
@@ -92,7 +98,8 @@ line more each publication, 'published SIZE ROOT', the end, 'closed SIZE', and b
 in the log, 'lines not published: N'. Checkpoints are signed as those of 'tlog build'. With --note the first lines are
 the entries of that signed checkpoint, and the log goes on from it. With --dir the log is in that folder, as that of
 'tlog append', and goes on from what is there (with --older and --keep-partials as there): requests are answered with
-the folder's files, and a publication is shown once it outlasts a crash.
+the folder's files, and a publication is shown once it outlasts a crash. With --bucket the log is in a bucket, as that
+of 'tlog append', and requests are answered with what is there.
 With --add an entry, of at most 65,535 bytes, is posted to /add, and answered with its index in decimal, once it is
 published and was seen to stand there. One of the last N of --remember that is posted again has its first index. What
 comes waits for more until it has waited --interval milliseconds, or a batch is there.
@@ -104,8 +111,8 @@ Defaults: --lanes 1, --capacity 256, --batch 256, --timeout 10, --clients 1024, 
 --remember 65536, as many threads as the machine has processors, and any number of connections.
 Exit status: 0 done; 1 refused (a bad key, a bad origin, input too large, an entry too long, fewer lines than the note's
 size, a bad checkpoint, an older one, a bundle not there, in use, a bundle damaged, the operator refused,
-signing failed, out of memory); 2 wrong arguments or a call for help; 3 a read, a write, the address or an accept failed. A
-refusal is one line 'tlog: ..' on standard error.";
+signing failed, out of memory); 2 wrong arguments or a call for help; 3 a read, a write, the address or an accept
+failed. A refusal is one line 'tlog: ..' on standard error.";
 
 pub(super) const WITNESS: &str =
     "Input: what an earlier run printed, a line for each checkpoint that it cosigned.
@@ -122,34 +129,36 @@ those that aren't in the file of the logs, from size 0 to its last size: 'compac
 Defaults: --timeout 10, --clients 1024, as many threads as the machine has processors, any number of connections, and
 the machine's clock for the time of a cosignature.
 Exit status: 0 done; 1 refused (a bad key, a bad origin, a bad name, line K of the logs malformed or with a key again,
-line K of the input refused, each counted from 0, in use, out of memory); 2 wrong arguments or a call for help; 3 a read, a write, the address or an accept failed. A refusal is one line
-'tlog: ..' on standard error.";
+line K of the input refused, each counted from 0, in use, out of memory); 2 wrong arguments or a call for help; 3 a
+read, a write, the address or an accept failed. A refusal is one line 'tlog: ..' on standard error.";
 
 pub(super) const FETCH: &str =
     "Fetches the log's checkpoint, tiles and entry bundles (C2SP tlog-tiles) from a folder or over HTTP, and trusts none
 of them: the checkpoint opens under a key of the log (C2SP signed-note, tlog-checkpoint), so many of the witnesses
-cosigned it (tlog-cosignature), it extends the one in the file of --state by a consistency proof, and tiles and entries are those
-of its root (RFC 6962). A checkpoint that passes is kept in that file, with --all once the entries are printed.
+cosigned it (tlog-cosignature), it extends the one in the file of --state by a consistency proof, and tiles and entries
+are those of its root (RFC 6962). A checkpoint that passes is kept in that file, with --all once the entries are
+printed.
 Output: with --head three lines, the log's name, its size and its root; with --index the entry and a newline; with --all
 every entry from the state's size on, one a line, each checked before it is printed (one that has a newline or begins
 with a backslash after a line with a backslash and its length in bytes); with --prove the text that 'tlog check' reads.
 Where the log shrank or forked, both checkpoints: the state's and the new one.
 --key is given twice where the log goes from one key to another: two keys with one name. Keys of witnesses with one name
 are one witness's, which counts once, whichever of them it signed with.
-Defaults: --need all witnesses that are given, --timeout 10, --threads 8. With --cache tiles that passed are kept in that
-folder, and checked again when they are read. --threads: with --all over HTTP so many requests are in flight at once,
-from 1 to 64; the output is the same.
+Defaults: --need all witnesses that are given, --timeout 10, --threads 8. With --cache tiles that passed are kept in
+that folder, and checked again when they are read. --threads: with --all over HTTP so many requests are in flight at
+once, from 1 to 64; the output is the same.
 Exit status: 0 done; 1 refused (a bad key, a second key that isn't another one of the log, a witness with the key of
 another or of the log, a bad address, no checkpoint that opens, checkpoint of another log, cosigned by N witnesses, no
-entry at the index, a tile, a bundle or an entry wrong, bad state, out of memory); 2 wrong arguments or a call for help; 3 not available, or a read or a write failed; 4 log shrank, log forked. A refusal is one line
-'tlog: ..' on standard error.";
+entry at the index, a tile, a bundle or an entry wrong, bad state, out of memory); 2 wrong arguments or a call for
+help; 3 not available, or a read or a write failed; 4 log shrank, log forked. A refusal is one line 'tlog: ..' on
+standard error.";
 
 pub(super) const FEED: &str =
     "Reads the log's checkpoint from a folder or over HTTP, as 'tlog fetch' does: it opens under a key of the log (C2SP
-signed-note, tlog-checkpoint), of which there may be two, and extends the one in the file of --state by a consistency proof over tiles that are
-checked. It is kept in that file. Then each witness is asked to cosign it (tlog-witness, tlog-cosignature), with the
-proof from the size that it has, at its --to: the first --to is the address of the first witness, and so on. Keys with
-one name, one --witness after another, are one witness's, which is asked and counts once.
+signed-note, tlog-checkpoint), of which there may be two, and extends the one in the file of --state by a consistency
+proof over tiles that are checked. It is kept in that file. Then each witness is asked to cosign it (tlog-witness,
+tlog-cosignature), with the proof from the size that it has, at its --to: the first --to is the address of the first
+witness, and so on. Keys with one name, one --witness after another, are one witness's, which is asked and counts once.
 Output: the checkpoint with the lines of all witnesses that cosigned this very one, if they are --need. Where the log
 shrank or forked, both checkpoints: the state's and the new one. Why a witness gave no cosignature is told on standard
 error, a line 'tlog: witness K: ..' each, counted from 0.
