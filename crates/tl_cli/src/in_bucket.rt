@@ -1,7 +1,11 @@
 //! Commands on a log in a bucket.
 
 ghost use Rattle.std.specs.Prelude.{◌≡◌, string_bytes};
+ghost use Rattle.tl_append.specs.Running.{visit};
+ghost use Rattle.tl_bucket.specs.Buckets.{bucket_kept, bucket_trace};
+ghost use Rattle.tl_cli.specs.Lasting.{nobody};
 ghost use Rattle.tl_device.specs.Device.{passage};
+ghost use Rattle.tl_serve.specs.Serving.{Serves};
 ghost use Rattle.tl_cli.specs.InBucket.{AppendsThere, AppendsTo, ServesFrom, ServesThere};
 
 use crate::fault::CommandFault;
@@ -124,8 +128,9 @@ fn shown_of<'b, D: CrashOutcome + Copy + Drop, H: Net<Stream = TcpStream> + Cloc
     Ok(shown)
 }
 
-// Finishes what was begun in a bucket, and serves the log that is there.
-fn finish_and_serve<
+// Serves the log in a bucket.
+fn serve_sealed<
+    'b,
     D: CrashOutcome + Copy + Send + Drop,
     H: Host
         + Files<File = File, Dir: Send + Sync>
@@ -136,8 +141,41 @@ fn finish_and_serve<
     rt: &H,
     alloc: Global,
     options: &ServeOptions,
-    shelf: BucketShelf<'_, D, H>,
-    shown: Vec<BucketShelf<'_, D, H>>,
+    shelf: BucketShelf<'b, D, H>,
+    shown: Vec<BucketShelf<'b, D, H>>,
+    found: &mut Found<Global>,
+    input: Option<RawFd>,
+    reader: &mut Counted<R>,
+    errors: &mut Counted<E>,
+) -> Served<BucketShelf<'b, D, H>>
+    ensures serves { Serves options.now.key (string_bytes options.now.origin) nobody found.new
+        (visit (bucket_kept D.held D.reached) (bucket_trace D.held D.reached) shelf.entry
+        result.shelf) result.outcome }
+    ensures place { result.shelf.place ≡ shelf.entry.place }
+{
+    let sealed = SealedShelf::new(shelf, NoProposals, AsSigned, true);
+    let Served { shelf, outcome } = run_serve_shelf(
+        rt, alloc, options, sealed, shown, found, input, reader, errors,
+    );
+    let shelf = shelf.into_shelf();
+    Served { shelf, outcome }
+}
+
+// Finishes what was begun in a bucket, and serves the log that is there.
+fn finish_and_serve<
+    'b,
+    D: CrashOutcome + Copy + Send + Drop,
+    H: Host
+        + Files<File = File, Dir: Send + Sync>
+        + Net<Listener = TcpListener, Stream = TcpStream>,
+    R: Read + Send,
+    E: Write,
+>(
+    rt: &H,
+    alloc: Global,
+    options: &ServeOptions,
+    shelf: BucketShelf<'b, D, H>,
+    shown: Vec<BucketShelf<'b, D, H>>,
     input: Option<RawFd>,
     reader: &mut Counted<R>,
     errors: &mut Counted<E>,
@@ -150,12 +188,11 @@ fn finish_and_serve<
     if let Err(fault) = finish_log(rt, alloc, origin, key, &mut shelf) {
         return after_bucket(&shelf, Err(fault));
     }
-    let sealed = SealedShelf::new(shelf, NoProposals, AsSigned, true);
     let mut found = Found::new(alloc);
-    let Served { shelf, outcome } = run_serve_shelf(
-        rt, alloc, options, sealed, shown, &mut found, input, reader, errors,
+    let Served { shelf, outcome } = serve_sealed(
+        rt, alloc, options, shelf, shown, &mut found, input, reader, errors,
     );
-    after_bucket(&shelf.into_shelf(), outcome)
+    after_bucket(&shelf, outcome)
 }
 
 /// Serves the log in a bucket, as one in a folder is served. What other operators began is finished first.

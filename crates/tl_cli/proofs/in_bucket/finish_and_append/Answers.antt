@@ -9,7 +9,7 @@ pub returns : goal.returns
 returns g c = inr (record {
   before = c.finish_log.new.shelf;
   after = c.run_append-outcome.new.shelf;
-  place = c.run_append-outcome.ensures.place ∙ c.finish_log.ensures;
+  place = c.run_append-outcome.ensures.place ∙ c.finish_log.ensures.place;
   found = c.run_append-outcome.new.found;
   outcome = c.run_append-outcome.result;
   goes_on = c.run_append-outcome.ensures.goes_on;

@@ -6,4 +6,12 @@ pub returns-in-Err : goal.returns-in-Err
 returns-in-Err g c = inl (refused c.in-Err.fault c.after_bucket.result c.after_bucket.ensures, search rules)
 
 pub returns : goal.returns
-returns g c = ?
+returns g c = inr (record {
+  before = c.finish_log.new.shelf;
+  after = c.serve_sealed-shelf.result.shelf;
+  place = c.serve_sealed-shelf.ensures.place ∙ c.finish_log.ensures.place;
+  found = c.serve_sealed-shelf.new.found;
+  outcome = c.serve_sealed-shelf.result.outcome;
+  serves = c.serve_sealed-shelf.ensures.serves;
+  ends = c.after_bucket-2.ensures;
+})
