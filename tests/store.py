@@ -139,7 +139,7 @@ class Store:
         self.buckets, self.region, self.turn = set(buckets), region, threading.Lock()
         self.objects, self.past, self.asked, self.rules = {}, [], [], []
         self.heeds, self.shift, self.room, self.full, self.weather = {'if-match', 'if-none-match'}, 0, None, 403, None
-        self.listener, self.links, self.port, self.count = None, set(), 0, 0
+        self.listener, self.links, self.port, self.count, self.busy, self.most = None, set(), 0, 0, 0, 0
 
     def start(self):
         self.listener = socket.create_server(('127.0.0.1', self.port), backlog=128)
@@ -216,13 +216,25 @@ class Store:
     def talk(self, link, number):
         try:
             with link, link.makefile('rb') as source:
-                while (request := read_request(source)) and self.serve(link, number, request):
+                while (request := read_request(source)) and self.counted(link, number, request):
                     pass
         except OSError:
             pass
         finally:
             with self.turn:
                 self.links.discard(link)
+
+    def counted(self, link, number, request):
+        """Answers a request, and counts how many puts are under way at once."""
+        is_put = request.method == 'PUT'
+        with self.turn:
+            self.busy += is_put
+            self.most = max(self.most, self.busy)
+        try:
+            return self.serve(link, number, request)
+        finally:
+            with self.turn:
+                self.busy -= is_put
 
     def rule_of(self, request, key):
         with self.turn:
@@ -296,6 +308,8 @@ class Store:
             return 405, 'MethodNotAllowed', {}, b''
         if 'content-length' not in request.fields:
             return 411, 'MissingContentLength', {}, b''
+        if self.room is not None and self.room < len(request.body):
+            return self.full, 'QuotaExceeded', {}, b''
         there = self.objects.get(key)
         for name in sorted(self.heeds & set(request.fields)):
             wanted = request.fields[name]
@@ -307,8 +321,6 @@ class Store:
             if not met:
                 return 412, 'PreconditionFailed', {}, b''
         if self.room is not None:
-            if self.room < len(request.body):
-                return self.full, 'QuotaExceeded', {}, b''
             self.room -= len(request.body)
         self.place(key, request.body, request.fields)
         return 200, '', {'etag': f'"{etag(request.body)}"'}, b''
