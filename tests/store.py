@@ -187,13 +187,10 @@ class Store:
             return {key[len(start):]: put.body for key, put in self.objects.items() if key.startswith(start)}
 
     def ledger(self, prefix, bucket='logs'):
-        """All that was put, by key: the bytes of each put that was done, in order."""
-        start, found = f'{bucket}/{prefix}/', {}
+        """All that was put, in order: key and bytes of each put that was done."""
+        start = f'{bucket}/{prefix}/'
         with self.turn:
-            for put in self.past:
-                if put.key.startswith(start):
-                    found.setdefault(put.key[len(start):], []).append(put.body)
-        return found
+            return [(put.key[len(start):], put.body) for put in self.past if put.key.startswith(start)]
 
     # One connection
 
