@@ -1,6 +1,6 @@
-"""Several operators of one log in a bucket at once, for `tests/bucket`: runs of the program that append lines, follow their
-input or take posts, and are killed or stopped for a while at random moments; readers beside them; and what is to hold of all
-that was told and seen.
+"""Several operators of one log in a bucket at once, for `tests/bucket`: runs of the program that append lines, follow
+their input or take posts, and are killed or stopped for a while at random moments; readers beside them; and what is to
+hold of all that was told and seen.
 """
 import collections
 import contextlib
@@ -53,7 +53,7 @@ class Race:
     def __init__(self, tlog, place, key, seed):
         self.tlog, self.place, self.key, self.seed, self.turn = tlog, place, key, seed, threading.Lock()
         self.given, self.told, self.said, self.wrong, self.seen = set(), [], [], [], []
-        self.counts, self.end = collections.Counter(), 0
+        self.counts, self.end, self.read = collections.Counter(), 0, b''
 
     def run(self, operators, seconds):
         self.end = time.monotonic() + seconds
@@ -212,7 +212,7 @@ class Race:
 
     def read_on(self):
         """Reads the log on from its own state by `tlog fetch`."""
-        self.read, words = b'', ('--from', self.place.url, '--key', self.key.verifier, '--state', f'{self.place.name}.seen', '--all')
+        words = '--from', self.place.url, '--key', self.key.verifier, '--state', f'{self.place.name}.seen', '--all'
         while time.monotonic() < self.end:
             if self.seen:
                 status, out, told = self.tlog.run('fetch', *words)
@@ -241,13 +241,14 @@ class Race:
         rows.equal(f'{name}: how the runs ended', self.wrong[:5], [])
         sizes = [int(note.split(b'\n')[1]) for note in self.seen]
         rows.equal(f'{name}: what was seen grows', sizes, sorted(set(sizes)))
-        rows.equal(f'{name}: what was seen is of the log',
-                   [size for size, note in zip(sizes, self.seen) if size >= len(tops) or note != self.note(size, tops[size])], [])
+        strange = [size for size, note in zip(sizes, self.seen)
+                   if size >= len(tops) or note != self.note(size, tops[size])]
+        rows.equal(f'{name}: what was seen is of the log', strange, [])
         rows.equal(f'{name}: what was read on', lines_of(found)[:len(self.read)], self.read)
-        rows.equal(f'{name}: entries that were told and stand elsewhere', [
-            (index, entry) for index, entry in self.told if index >= len(found) or found[index] != entry][:5], [])
-        rows.equal(f'{name}: entries that are there twice', [entry for entry, times in collections.Counter(found).items()
-                                                             if times > 1][:5], [])
+        misplaced = [(index, entry) for index, entry in self.told if index >= len(found) or found[index] != entry]
+        rows.equal(f'{name}: entries that were told and stand elsewhere', misplaced[:5], [])
+        twice = [entry for entry, times in collections.Counter(found).items() if times > 1]
+        rows.equal(f'{name}: entries that are there twice', twice[:5], [])
         rows.equal(f'{name}: entries that nobody gave', sorted(set(found) - self.given)[:5], [])
         rows.holds(f'{name}: there was something to see', self.counts['published'] > 4 and self.counts['lost'] and
                    len(sizes) > 4 and self.counts['fetched'] > 1, self.counts)

@@ -1,9 +1,9 @@
 #!/usr/bin/env -S python3 -B
-"""A store of objects of the S3 kind, written after the standards (AWS, "Signature Calculations for the Authorization Header:
-Transferring Payload in a Single Chunk"; Amazon S3 API Reference, PutObject, GetObject and "Error responses"; RFC 9110), with
-nothing of the program's own. It checks each signature and does puts by their conditions, keeps all that ever was under each
-key, and misbehaves where it is told to. Anybody may read. Beside it a client, whose requests are signed. Run by itself it
-serves the bucket `logs`, and prints what the client needs:
+"""A store of objects of the S3 kind, written after the standards (AWS, "Signature Calculations for the Authorization
+Header: Transferring Payload in a Single Chunk"; Amazon S3 API Reference, PutObject, GetObject and "Error responses";
+RFC 9110), with nothing of the program's own. It checks each signature and does puts by their conditions, keeps all that
+ever was under each key, and misbehaves where it is told to. Anybody may read. Beside it a client, whose requests are
+signed. Run by itself it serves the bucket `logs`, and prints what a client needs:
   tests/store.py [PORT]
 """
 import calendar
@@ -24,7 +24,7 @@ import urllib.parse
 REGION = 'us-east-1'
 SKEW = 900
 LARGEST = 64 << 20
-PHRASES = {200: 'OK', 400: 'Bad Request', 403: 'Forbidden', 404: 'Not Found', 405: 'Method Not Allowed', 409: 'Conflict',
+PHRASES = {200: 'OK', 400: 'Bad Request', 403: 'Forbidden', 404: 'Not Found', 405: 'Method Not Allowed',
            411: 'Length Required', 412: 'Precondition Failed', 500: 'Internal Server Error', 501: 'Not Implemented',
            503: 'Service Unavailable', 507: 'Insufficient Storage'}
 
@@ -75,7 +75,8 @@ class Client:
             mark = signature(self.key[1], self.region, moment, method, path, query, given, digest)
             scope = f'{self.key[0]}/{moment[:8]}/{self.region}/s3/aws4_request'
             names = ';'.join(sorted(name for name, _ in given))
-            given.append(('authorization', f'AWS4-HMAC-SHA256 Credential={scope},SignedHeaders={names},Signature={mark}'))
+            words = f'Credential={scope},SignedHeaders={names},Signature={mark}'
+            given.append(('authorization', f'AWS4-HMAC-SHA256 {words}'))
         target = encoded(path) + (f'?{query}' if query else '')
         for is_last in (method != 'GET', True):
             try:
@@ -344,8 +345,8 @@ class Store:
         if names != sorted(set(names)) or not due <= set(names) <= set(fields):
             return 403, 'AccessDenied'
         path = urllib.parse.unquote_to_bytes(request.target.partition('?')[0])
-        mark = signature(self.key[1], self.region, moment, request.method, path, query, [(name, fields[name]) for name in names],
-                         digest)
+        pairs = [(name, fields[name]) for name in names]
+        mark = signature(self.key[1], self.region, moment, request.method, path, query, pairs, digest)
         if not hmac.compare_digest(mark, words[5]):
             return 403, 'SignatureDoesNotMatch'
         if abs(calendar.timegm(time.strptime(moment, '%Y%m%dT%H%M%SZ')) - time.time() - self.shift) > SKEW:
@@ -370,8 +371,9 @@ def answer(method, status, code, fields, body, key):
         body = (f'<?xml version="1.0" encoding="UTF-8"?>\n<Error><Code>{code}</Code><Message>{code}</Message>'
                 f'<Resource>/{key}</Resource><RequestId>1</RequestId></Error>').encode()
         fields = {**fields, 'content-type': 'application/xml'}
-    lines = [f'HTTP/1.1 {status} {PHRASES.get(status, "Status")}', f'Date: {time.strftime("%a, %d %b %Y %H:%M:%S GMT", time.gmtime())}']
-    lines += [f'{name}: {value}' for name, value in fields.items()] + [f'Content-Length: {len(body)}', 'Connection: keep-alive']
+    date = time.strftime('%a, %d %b %Y %H:%M:%S GMT', time.gmtime())
+    lines = [f'HTTP/1.1 {status} {PHRASES.get(status, "Status")}', f'Date: {date}', f'Content-Length: {len(body)}']
+    lines += [f'{name}: {value}' for name, value in fields.items()]
     return '\r\n'.join([*lines, '', '']).encode() + (b'' if method == 'HEAD' else body)
 
 
