@@ -53,10 +53,10 @@ class Race:
     def __init__(self, tlog, place, key, seed):
         self.tlog, self.place, self.key, self.seed, self.turn = tlog, place, key, seed, threading.Lock()
         self.given, self.told, self.said, self.wrong, self.seen = set(), [], [], [], []
-        self.counts, self.end, self.read = collections.Counter(), 0, b''
+        self.counts, self.operators, self.end, self.read = collections.Counter(), 0, 0, b''
 
     def run(self, operators, seconds):
-        self.end = time.monotonic() + seconds
+        self.operators, self.end = operators, time.monotonic() + seconds
         parts = [threading.Thread(target=self.operate, args=(number,)) for number in range(operators)]
         parts += [threading.Thread(target=self.watch), threading.Thread(target=self.read_on)]
         for part in parts:
@@ -250,8 +250,8 @@ class Race:
         twice = [entry for entry, times in collections.Counter(found).items() if times > 1]
         rows.equal(f'{name}: entries that are there twice', twice[:5], [])
         rows.equal(f'{name}: entries that nobody gave', sorted(set(found) - self.given)[:5], [])
-        rows.holds(f'{name}: there was something to see', self.counts['published'] > 4 and self.counts['lost'] and
-                   len(sizes) > 4 and self.counts['fetched'] > 1, self.counts)
+        met = self.counts['lost'] > 0 or self.operators < 3
+        rows.holds(f'{name}: there was something to see', met and self.counts['published'] > 2 < len(sizes), self.counts)
 
     def note(self, size, top):
         return self.key.note(checkpoint(size, top, self.key.name))
