@@ -250,8 +250,8 @@ class Race:
         twice = [entry for entry, times in collections.Counter(found).items() if times > 1]
         rows.equal(f'{name}: entries that are there twice', twice[:5], [])
         rows.equal(f'{name}: entries that nobody gave', sorted(set(found) - self.given)[:5], [])
-        met = self.counts['lost'] > 0 or self.operators < 3
-        rows.holds(f'{name}: there was something to see', met and self.counts['published'] > 2 < len(sizes), self.counts)
+        is_much = self.counts['published'] > 2 < len(sizes) and (self.counts['lost'] > 0 or self.operators < 3)
+        rows.holds(f'{name}: there was something to see', is_much, self.counts)
 
     def note(self, size, top):
         return self.key.note(checkpoint(size, top, self.key.name))

@@ -23,7 +23,7 @@ import urllib.parse
 
 REGION = 'us-east-1'
 SKEW = 900
-LARGEST = 64 << 20
+LARGEST = 1 << 30
 PHRASES = {200: 'OK', 400: 'Bad Request', 403: 'Forbidden', 404: 'Not Found', 405: 'Method Not Allowed',
            411: 'Length Required', 412: 'Precondition Failed', 500: 'Internal Server Error', 501: 'Not Implemented',
            503: 'Service Unavailable', 507: 'Insufficient Storage'}
