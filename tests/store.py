@@ -2,7 +2,7 @@
 """A store of objects of the S3 kind, written after the standards (AWS, "Signature Calculations for the Authorization
 Header: Transferring Payload in a Single Chunk"; Amazon S3 API Reference, PutObject, GetObject and "Error responses";
 RFC 9110), with nothing of the program's own. It checks each signature and does puts by their conditions, keeps all that
-ever was under each key, and misbehaves where it is told to. Anybody may read. Beside it a client, whose requests are
+ever was under each key, and misbehaves where it is told to. Anybody may read logs. Beside it a client, whose requests are
 signed. Run by itself it serves the bucket `logs`, and prints what a client needs:
   tests/store.py [PORT]
 """
@@ -298,8 +298,9 @@ class Store:
         if key.split('/')[0] not in self.buckets:
             return 404, 'NoSuchBucket', {}, b''
         if request.method in ('GET', 'HEAD'):
-            if key not in self.objects:
-                return *((404, 'NoSuchKey') if 'authorization' in request.fields else (403, 'AccessDenied')), {}, b''
+            is_own = 'authorization' in request.fields
+            if key not in self.objects or not is_own and not re.search('/(checkpoint$|tile/)', key):
+                return *((404, 'NoSuchKey') if is_own else (403, 'AccessDenied')), {}, b''
             found = self.objects[key]
             return 200, '', {**found.fields, 'etag': f'"{etag(found.body)}"'}, found.body
         if request.method != 'PUT' or query or '/' not in key:
