@@ -2,8 +2,8 @@
 """A store of objects of the S3 kind, written after the standards (AWS, "Signature Calculations for the Authorization
 Header: Transferring Payload in a Single Chunk"; Amazon S3 API Reference, PutObject, GetObject and "Error responses";
 RFC 9110), with nothing of the program's own. It checks each signature and does puts by their conditions, keeps all that
-ever was under each key, and misbehaves where it is told to. Anybody may read logs. Beside it a client, whose requests are
-signed. Run by itself it serves the bucket `logs`, and prints what a client needs:
+ever was under each key, and misbehaves where it is told to. Anybody may read logs. Beside it a client, whose requests
+are signed. Run by itself it serves the bucket `logs`, and prints what a client needs:
   tests/store.py [PORT]
 """
 import calendar
