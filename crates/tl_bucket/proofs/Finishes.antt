@@ -58,10 +58,15 @@ module _ (key : LogKey) (held : Held) (reached : Reached) where
     -- the last check
     pub ended : (c : Bucketed) (r : Result (Unit {0}) RunFault) → c.events ≡ m.events → Finishes key (between a c was now) r
     ended c (Ok done) same =
-        let none = none_yet m c now same in
-        (first.0 ++ none.0, appends_on key first.0 none.0 (bucket_kept held reached a) (bucket_kept held reached m) (bucket_kept held reached c)
-            (bucket_trace held reached a) (bucket_trace held reached m) (bucket_trace held reached c) was now now first.1 none.1)
+        let none = none_yet m c now same in (
+          first.0 ++ none.0,
+          appends_on key first.0 none.0 (bucket_kept held reached a) (bucket_kept held reached m) (bucket_kept held reached c)
+              (bucket_trace held reached a) (bucket_trace held reached m) (bucket_trace held reached c) was now now first.1 none.1,
+        )
     ended c (Err fault) same =
-        let none = none_put m c now same in
-        (first.0 ++ none.0, none.1, appends_then_on key first.0 none.0 (bucket_kept held reached a) (bucket_kept held reached m) (bucket_kept held reached c)
-            (bucket_trace held reached a) (bucket_trace held reached m) (bucket_trace held reached c) was now now first.1 none.1 none.2)
+        let none = none_put m c now same in (
+          first.0 ++ none.0,
+          none.1,
+          appends_then_on key first.0 none.0 (bucket_kept held reached a) (bucket_kept held reached m) (bucket_kept held reached c)
+              (bucket_trace held reached a) (bucket_trace held reached m) (bucket_trace held reached c) was now now first.1 none.1 none.2,
+        )
