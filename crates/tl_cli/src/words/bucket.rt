@@ -38,16 +38,21 @@ pub(super) fn bucket_if_given(
     let address = text_if_given(alloc, options, "bucket")?;
     let region = text_if_given(alloc, options, "region")?;
     let credentials = text_if_given(alloc, options, "credentials")?;
-    match (address, region, credentials) {
-        (None, None, None) => Ok(None),
-        (Some(address), Some(_), _) if !is_address(address.as_str()) => {
-            Err(usage_error(alloc, row, NO_ADDRESS))
+    let Some(address) = address else {
+        if region.is_some() || credentials.is_some() {
+            return Err(usage_error(alloc, row, OF_A_BUCKET));
         }
-        (Some(address), Some(region), credentials) => Ok(Some(BucketOptions {
-            address,
-            region,
-            credentials,
-        })),
-        _ => Err(usage_error(alloc, row, OF_A_BUCKET)),
+        return Ok(None);
+    };
+    let Some(region) = region else {
+        return Err(usage_error(alloc, row, OF_A_BUCKET));
+    };
+    if !is_address(address.as_str()) {
+        return Err(usage_error(alloc, row, NO_ADDRESS));
     }
+    Ok(Some(BucketOptions {
+        address,
+        region,
+        credentials,
+    }))
 }

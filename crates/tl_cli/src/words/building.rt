@@ -175,20 +175,25 @@ pub(super) fn append_job(alloc: Global, options: &ArgMatches<'_>) -> Result<Job,
     let allows_older = options.get_flag("older");
     let keeps_partials = options.get_flag("keep-partials");
     let dir = text_if_given(alloc, options, "dir")?;
-    match (dir, bucket_if_given(alloc, append(), options)?) {
-        (Some(dir), None) => Ok(Job::Append(AppendOptions {
-            dir,
-            origin,
-            key,
-            batch,
-            is_new: false,
-            allows_older,
-            keeps_partials,
-        })),
-        (None, Some(_)) if allows_older || keeps_partials => {
-            Err(usage_error(alloc, append(), OF_A_FOLDER))
+    if let Some(bucket) = bucket_if_given(alloc, append(), options)? {
+        if dir.is_some() {
+            return Err(usage_error(alloc, append(), EITHER_PLACE));
         }
-        (None, Some(bucket)) => append_to(alloc, bucket, origin, key, batch, false),
-        _ => Err(usage_error(alloc, append(), EITHER_PLACE)),
+        if allows_older || keeps_partials {
+            return Err(usage_error(alloc, append(), OF_A_FOLDER));
+        }
+        return append_to(alloc, bucket, origin, key, batch, false);
     }
+    let Some(dir) = dir else {
+        return Err(usage_error(alloc, append(), EITHER_PLACE));
+    };
+    Ok(Job::Append(AppendOptions {
+        dir,
+        origin,
+        key,
+        batch,
+        is_new: false,
+        allows_older,
+        keeps_partials,
+    }))
 }
