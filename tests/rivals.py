@@ -180,6 +180,7 @@ class Race:
             for hand in hands:
                 hand.join()
         process = self.begin('serve', '--add', '--interval', '20', '--listen', '127.0.0.1:0')
+        process.stdin.close()
         self.serve(process, dice, work)
 
     def posts(self, some, address):
