@@ -1,5 +1,5 @@
 -- What answers to requests tell.
-use Rattle.std.proofs.Common.{◌≡◌, ℕ, Global, inl, inr, refl, sym, subst, vec_items, Option, Some, None}
+use Rattle.std.proofs.Common.{◌≡◌, ℕ, Global, inl, inr, sym, subst, string_bytes, vec_items, Option, Some, String}
 use Rattle.std.specs.Prelude.{Ok, Err, Result, IfOk}
 use Rattle.tl_device.specs.Device.{Passage}
 use Rattle.tl_get.specs.Post.{value_bytes}
@@ -15,7 +15,7 @@ use Rattle.tl_put.specs.declared.object.PutAnswer.TheVariants as put
 use Rattle.tl_put.specs.declared.object.PutReply.{PutReply}
 use Rattle.tl_put.specs.declared.fault.ObjectFault.{ObjectFault}
 use Rattle.tl_sigv4.specs.Time.{Civil}
-use Rattle.tl_bucket.specs.Answered.{AnswersGet, AnswersPut, WasMissing, WasPut, WasRead}
+use Rattle.tl_bucket.specs.Answered.{AnswersGet, AnswersPut, IsBare, WasMissing, WasPut, WasPutWith, WasRead, WasReadWith, WasThere, WasThereWith}
 use Rattle.tl_bucket.specs.Inner.Outcomes.{Concludes, Tells}
 use Rattle.tl_bucket.specs.declared.asking.PutOutcome.{PutOutcome}
 use Rattle.tl_bucket.specs.declared.asking.PutOutcome.TheVariants as outcome
@@ -24,24 +24,42 @@ use Rattle.tl_bucket.specs.declared.fault.BucketFault.{BucketFault}
 -- an answer to a put
 was_put : (p : Place) (content : Content) (condition : Condition) (reply : PutReply Global) (answer : PutAnswer) → AnswersPut p content condition (put_told (Ok reply)) → reply.answer ≡ answer → WasPut p content condition answer
 was_put p content condition reply answer answered is =
-    subst (WasPut p content condition) is (record { etag = value_bytes reply.etag; body = vec_items reply.body; put = answered })
+    let told : PutAnswer → Type 0 = λ a. AnswersPut p content condition (Ok (record { answer = a; etag = value_bytes reply.etag; body = vec_items reply.body })) in
+    record { etag = value_bytes reply.etag; body = vec_items reply.body; put = subst told is answered }
 
 pub concluded : (p : Place) (content : Content) (condition : Condition) (reply : PutReply Global) (r : Result PutOutcome BucketFault) → AnswersPut p content condition (put_told (Ok reply))
-    → IfOk r (Tells reply.answer) → IfOk r (Concludes p content condition)
-concluded p content condition reply (Ok (outcome.Done tag)) answered is = inl (was_put p content condition reply put.Done answered is)
+    → IfOk r (Tells reply.answer (value_bytes reply.etag)) → IfOk r (Concludes p content condition)
+concluded p content condition reply (Ok (outcome.Done tag)) answered is =
+    let told : PutAnswer → Type 0 = λ a. AnswersPut p content condition (Ok (record { answer = a; etag = value_bytes reply.etag; body = vec_items reply.body })) in
+    inl (subst (WasPutWith p content condition) (sym is.1) (record { body = vec_items reply.body; put = subst told is.0 answered }))
 concluded p content condition reply (Ok outcome.Refused) answered is = was_put p content condition reply put.Refused answered is
 concluded p content condition reply (Err fault) answered is = tt
 
+-- what was read with a tag was read, and what was there with one was there
+pub read : (p : Place) (path body : Bytes) (etag : Option Bytes) → WasReadWith p path body etag → WasRead p path body
+read p path body etag with_it = record { limit = with_it.limit; etag = etag; got = with_it.got }
+
+pub there : (p : Place) (content : Content) (condition : Condition) (etag : Option Bytes) → WasThereWith p content condition etag → WasThere p content condition
+there p content condition etag (inl put) = inl (record { etag = etag; body = put.body; put = put.put })
+there p content condition etag (inr got) = inr (read p content.path content.body etag got)
+
+-- the tag of what was read, where that is this
+pub tag_of : (p : Place) (path body note : Bytes) (etag : Option Bytes) (r : Result (String Global) BucketFault) → WasReadWith p path body etag → body ≡ note
+    → IfOk r (λ tag. (text : Bytes) × (etag ≡ Some text) × IsBare text (string_bytes tag)) → IfOk r (λ tag. (text : Bytes) × WasReadWith p path note (Some text) × IsBare text (string_bytes tag))
+tag_of p path body note etag (Ok tag) found same is =
+    (is.0, subst (λ (bytes : Bytes). WasReadWith p path bytes (Some is.0)) same (subst (WasReadWith p path body) is.1 found), is.2)
+tag_of p path body note etag (Err fault) found same is = tt
+
 -- an answer to a get
-pub was_read : (p : Place) (path : Bytes) (limit : ℕ) (reply : GetReply Global) → AnswersGet p path limit (get_told (Ok reply)) → reply.answer ≡ get.Found → WasRead p path (vec_items reply.body)
+pub was_read : (p : Place) (path : Bytes) (limit : ℕ) (reply : GetReply Global) → AnswersGet p path limit (get_told (Ok reply)) → reply.answer ≡ get.Found → WasReadWith p path (vec_items reply.body) (value_bytes reply.etag)
 was_read p path limit reply answered is =
-    let there : GetAnswer → Type 0 = λ a. AnswersGet p path limit (Ok (record { answer = a; etag = value_bytes reply.etag; body = vec_items reply.body })) in
-    record { limit = limit; etag = value_bytes reply.etag; got = subst there is answered }
+    let told : GetAnswer → Type 0 = λ a. AnswersGet p path limit (Ok (record { answer = a; etag = value_bytes reply.etag; body = vec_items reply.body })) in
+    record { limit = limit; got = subst told is answered }
 
 pub was_missing : (p : Place) (path : Bytes) (limit : ℕ) (reply : GetReply Global) → AnswersGet p path limit (get_told (Ok reply)) → reply.answer ≡ get.Missing → WasMissing p path
 was_missing p path limit reply answered is =
-    let there : GetAnswer → Type 0 = λ a. AnswersGet p path limit (Ok (record { answer = a; etag = value_bytes reply.etag; body = vec_items reply.body })) in
-    record { limit = limit; etag = value_bytes reply.etag; body = vec_items reply.body; got = subst there is answered }
+    let told : GetAnswer → Type 0 = λ a. AnswersGet p path limit (Ok (record { answer = a; etag = value_bytes reply.etag; body = vec_items reply.body })) in
+    record { limit = limit; etag = value_bytes reply.etag; body = vec_items reply.body; got = subst told is answered }
 
 -- ---- over a connection
 

@@ -1,6 +1,6 @@
 -- What a store answered to an operator, over some connection and at some time (Amazon S3 API Reference, PutObject and
 -- GetObject).
-use Rattle.std.specs.Prelude.{◌≡◌, ◌⊎◌, ℕ, [], ◌∷◌, ◌++◌, Option, Some, None, Result, Ok, codes}
+use Rattle.std.specs.Prelude.{◌≡◌, ◌⊎◌, ℕ, [], ◌∷◌, ◌++◌, Option, Result, Ok}
 use Rattle.tl_device.specs.Device.{Passage}
 use Rattle.tl_hash.specs.Bytes.{Bytes}
 use Rattle.tl_put.specs.Answers.{Told, PutsObject, GetsObject}
@@ -44,3 +44,20 @@ pub record WasMissing (p : Place) (path : Bytes) : Type 0 where
 -- the object was there with this content: a put of it under the condition was answered as done, or it was read
 abbrev pub WasThere : Place → Content → Condition → Type 0
 WasThere p content condition = WasPut p content condition put.Done ⊎ WasRead p content.path content.body
+
+-- a put was answered as done, or the object was read, and the answer gave it this entity tag (RFC 9110, section 8.8.3)
+pub record WasPutWith (p : Place) (content : Content) (condition : Condition) (etag : Option Bytes) : Type 0 where
+  pub body : Bytes
+  pub put : AnswersPut p content condition (Ok (record { answer = put.Done; etag = etag; body = body }))
+
+pub record WasReadWith (p : Place) (path body : Bytes) (etag : Option Bytes) : Type 0 where
+  pub limit : ℕ
+  pub got : AnswersGet p path limit (Ok (record { answer = get.Found; etag = etag; body = body }))
+
+-- the object was there with this content and this entity tag
+abbrev pub WasThereWith : Place → Content → Condition → Option Bytes → Type 0
+WasThereWith p content condition etag = WasPutWith p content condition etag ⊎ WasReadWith p content.path content.body etag
+
+-- an entity tag as it is given to If-Match: without its quotes, if it has some
+abbrev pub IsBare : Bytes → Bytes → Type 0
+IsBare etag tag = (etag ≡ tag) ⊎ (etag ≡ 34 ∷ tag ++ 34 ∷ [])

@@ -1,5 +1,5 @@
 -- A bucket as a shelf: what its calls made of what it had.
-use Rattle.std.specs.Prelude.{◌≡◌, ◌⊎◌, ℕ, ◌-◌, ◌*◌, List, [], ◌∷◌, ◌++◌, Option, Some, None}
+use Rattle.std.specs.Prelude.{◌≡◌, ℕ, List, [], ◌∷◌, ◌++◌, Option, Some, None}
 use Rattle.tl_archive.specs.Shelves.{Held, Item, Kept}
 use Rattle.tl_folder.specs.Events.{Event}
 use Rattle.tl_folder.specs.Folders.{Reached, after_calls, after_each, at_first}
@@ -9,21 +9,22 @@ use Rattle.tl_put.specs.declared.object.Condition.{Condition}
 use Rattle.tl_put.specs.declared.object.Condition.TheVariants as condition
 use Rattle.tl_tile.specs.declared.resource.Resource.{Resource}
 use Rattle.tl_tile.specs.declared.resource.Resource.TheVariants as resource
-use Rattle.tl_bucket.specs.Answered.{WasThere}
-use Rattle.tl_bucket.specs.Commits.{IsBehind}
-use Rattle.tl_bucket.specs.Shelved.{WasCommitted, WereThere, content_at}
+use Rattle.tl_bucket.specs.Answered.{IsBare, WasThereWith}
+use Rattle.tl_bucket.specs.Claims.{Adds, Claims, CommitsEntries}
+use Rattle.tl_bucket.specs.Shelved.{WereThere, content_at}
 
--- the objects of a log: the bucket in which they are; the tiles and bundles that wait, and the note that does; the
--- entries that are to be committed for them: under which number, behind how many others, each with its length in front;
--- and the entity tag of the checkpoint that is there, if one is
+-- the objects of a log: the bucket in which they are; the tiles and bundles that wait, and the note that does; what is
+-- claimed for them; and the entity tag of the checkpoint that is there, if one is
 pub record Objects : Type 0 where
   pub at : Place
   pub waiting : List Item
   pub note : Option Bytes
-  pub number : ℕ
-  pub start : ℕ
-  pub entries : Bytes
+  pub claims : Claims
   pub etag : Option Bytes
+
+-- nothing waits yet
+abbrev pub no_objects : Place → Claims → Option Bytes → Objects
+no_objects at claims etag = record { at = at; waiting = []; note = None; claims = claims; etag = etag }
 
 -- a bucket as a shelf: its objects; the address by which it was opened; what came of its calls so far, how many of them
 -- failed, and how many entries it marked as published, last
@@ -47,23 +48,26 @@ abbrev pub IsReplacing : Option Bytes → Condition → Type 0
 IsReplacing None c = c ≡ condition.Absent
 IsReplacing (Some etag) c = (value : _) × (c ≡ condition.Matches value) × (value.now ≡ etag)
 
--- a checkpoint was put, where one is to be
-abbrev pub NoteWasThere : Place → Option Bytes → Option Bytes → Type 0
-NoteWasThere p etag None = Unit {0}
-NoteWasThere p etag (Some note) = (c : Condition) × IsReplacing etag c × WasThere p (content_at (resource.Checkpoint, note)) c
+-- a checkpoint was put, where one is to be, and this is the entity tag of the one that is there then
+abbrev pub NoteWasThere : Place → Option Bytes → Option Bytes → Option Bytes → Type 0
+NoteWasThere p before None after = after ≡ before
+NoteWasThere p before (Some note) after = (c : Condition) × IsReplacing before c
+    × ((etag : Bytes) × WasThereWith p (content_at (resource.Checkpoint, note)) c (Some etag) × ((tag : Bytes) × IsBare etag tag × (after ≡ Some tag)))
 
 -- all that waited was put: the entries that the bundles add are committed, if there are any, the tiles and bundles were
--- there, and the checkpoint was put in the place of the one that was known
-pub record SettlesObjects (b : Objects) : Type 0 where
-  pub committed : (b.entries ≡ []) ⊎ WasCommitted b.at b.number b.start b.entries
-  pub tiles : WereThere b.at b.waiting
-  pub checkpoint : NoteWasThere b.at b.etag b.note
+-- there, and the checkpoint was put in the place of the one that was known. Nothing waits any more
+pub record SettlesObjects (before after : Objects) : Type 0 where
+  pub committed : CommitsEntries before.at before.claims after.claims
+  pub tiles : WereThere before.at before.waiting
+  pub checkpoint : NoteWasThere before.at before.etag before.note after.etag
+  pub at : after.at ≡ before.at
+  pub waiting : after.waiting ≡ []
+  pub note : after.note ≡ None
 
--- bytes of a resource wait beside what did
+-- bytes of a resource wait beside what did, and what a bundle adds is claimed
 abbrev pub KeepsBytes : Resource → Bytes → Objects → Objects → Type 0
-KeepsBytes resource.Checkpoint bytes before after = (after.note ≡ Some bytes) × (after.waiting ≡ before.waiting)
+KeepsBytes resource.Checkpoint bytes before after = after ≡ record before { note = Some bytes }
 KeepsBytes (resource.Tile t) bytes before after =
-    (after.waiting ≡ before.waiting ++ (resource.Tile t, bytes) ∷ []) × (after.entries ≡ before.entries)
-KeepsBytes (resource.Entries index width) bytes before after =
-    (after.waiting ≡ before.waiting ++ (resource.Entries index width, bytes) ∷ [])
-    × ((own : Bytes) × IsBehind bytes (before.start - index * 256) own × (after.entries ≡ before.entries ++ own))
+    after ≡ record before { waiting = before.waiting ++ (resource.Tile t, bytes) ∷ [] }
+KeepsBytes (resource.Entries index width) bytes before after = (claims : Claims) × Adds index width bytes before.claims claims
+    × (after ≡ record before { waiting = before.waiting ++ (resource.Entries index width, bytes) ∷ []; claims = claims })

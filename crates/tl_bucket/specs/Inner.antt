@@ -4,6 +4,4 @@ pub
 pub
     mod Puts
 pub
-    mod Claims
-pub
     mod Searches

@@ -3,6 +3,7 @@ pub mod Bucket
 pub mod Operators
 pub mod Histories
 pub mod Commits
+pub mod Claims
 pub mod Answered
 pub mod Shelved
 pub mod Buckets

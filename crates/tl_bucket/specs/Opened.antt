@@ -1,11 +1,13 @@
 -- How far the log in a bucket goes, as an operator finds out at its start.
-use Rattle.std.specs.Prelude.{◌≡◌, ◌⊎◌, ℕ, ◌+◌, codes}
+use Rattle.std.specs.Prelude.{◌≡◌, ◌⊎◌, ℕ, ◌+◌, [], Option, Some, None, length}
 use Rattle.tl_hash.specs.Bytes.{Bytes}
 use Rattle.tl_put.specs.Objects.{Content, Place}
-use Rattle.tl_put.specs.declared.object.Condition.{Condition}
 use Rattle.tl_put.specs.declared.object.Condition.TheVariants as condition
 use Rattle.tl_put.specs.declared.object.PutAnswer.TheVariants.{Refused}
-use Rattle.tl_bucket.specs.Answered.{WasMissing, WasPut, WasRead}
+use Rattle.tl_folder.specs.Places.{place_of}
+use Rattle.tl_tile.specs.declared.resource.Resource.TheVariants as resource
+use Rattle.tl_bucket.specs.Answered.{IsBare, WasMissing, WasPut, WasRead, WasReadWith}
+use Rattle.tl_bucket.specs.Claims.{Claims, no_claims}
 use Rattle.tl_bucket.specs.Commits.{Commit, IsCommit}
 use Rattle.tl_bucket.specs.Shelved.{commit_path}
 
@@ -29,3 +31,21 @@ WasReadAs p n c = (bytes : Bytes) × WasRead p (commit_path n) bytes × IsCommit
 pub record RefusesPuts (p : Place) : Type 0 where
   pub where_one_is : (content : Content) × WasPut p content condition.Absent Refused
   pub where_another_is : (content : Content) × (etag : _) × WasPut p content (condition.Matches etag) Refused
+
+-- all commits up to the one with this number append so many entries, as the last of them says
+abbrev pub EndsAt : Place → ℕ → ℕ → Type 0
+EndsAt p n size = ((n ≡ 0) × (size ≡ 0)) ⊎ ((c : Commit) × WasReadAs p n c × (size ≡ c.start + length c.entries))
+
+-- the next commit, with this token, comes behind the last one that was found
+pub record IsAtEnd (p : Place) (token : Bytes) (claims : Claims) : Type 0 where
+  pub last : ℕ
+  pub size : ℕ
+  pub found : IsLastFound p last
+  pub ends : EndsAt p last size
+  pub next : claims ≡ no_claims (last + 1) size token None
+
+-- the checkpoint that was found has this entity tag, as it is given to If-Match; or there was none
+abbrev pub KnowsTag : Place → Option Bytes → Type 0
+KnowsTag p None = WasMissing p (place_of [] resource.Checkpoint)
+KnowsTag p (Some tag) =
+    (note etag : Bytes) × WasReadWith p (place_of [] resource.Checkpoint) note (Some etag) × IsBare etag tag

@@ -4,12 +4,11 @@ use Rattle.tl_archive.specs.Shelves.{Item}
 use Rattle.tl_folder.specs.Places.{place_of}
 use Rattle.tl_hash.specs.Bytes.{Bytes}
 use Rattle.tl_put.specs.Objects.{Content, Place}
-use Rattle.tl_put.specs.declared.object.Condition.TheVariants.{Absent, Always}
+use Rattle.tl_put.specs.declared.object.Condition.TheVariants.{Always}
 use Rattle.tl_text.specs.Text.{number_text}
 use Rattle.tl_tile.specs.declared.resource.Resource.{Resource}
 use Rattle.tl_tile.specs.declared.resource.Resource.TheVariants as resource
 use Rattle.tl_bucket.specs.Answered.{WasThere}
-use Rattle.tl_bucket.specs.Commits.{commit_front}
 
 -- the media type of a resource
 abbrev pub media_of : Resource → Bytes
@@ -54,12 +53,6 @@ commit_at n bytes =
       body = bytes;
     }
 
--- the commit with this number, behind so many entries, that appends the entries with these bytes was there: nothing was
--- under its number before, and whose it is the token tells
-abbrev pub WasCommitted : Place → ℕ → ℕ → Bytes → Type 0
-WasCommitted p n start entries =
-    (token : Bytes) × WasThere p (commit_at n (commit_front start token ++ entries)) Absent
-
--- each of the items was there as the object of its resource
+-- each of the items was there as the object of its resource, by some answer
 abbrev pub WereThere : Place → List Item → Type 0
-WereThere p items = (item : Item) → Contains items item → WasThere p (content_at item) Always
+WereThere p items = (item : Item) → Contains items item → ∥ WasThere p (content_at item) Always ∥₁

@@ -1,8 +1,9 @@
 //! Requests that are sent again until it is known what came of them.
 
-ghost use Rattle.std.specs.Prelude.{◌≡◌, IfOk, IfSome, MatchOption, Some, Ok, option_map, vec_items};
-ghost use Rattle.tl_bucket.specs.Answered.{WasMissing, WasRead, WasThere};
+ghost use Rattle.std.specs.Prelude.{◌≡◌, IfOk, IfSome};
+ghost use Rattle.tl_bucket.specs.Answered.{WasReadWith};
 ghost use Rattle.tl_bucket.specs.Inner.Outcomes.{Concludes, Finds, Tells};
+ghost use Rattle.tl_get.specs.Post.{value_bytes};
 ghost use Rattle.tl_put.specs.Objects.{content_of};
 
 use crate::client::{Client, Connection, now};
@@ -90,7 +91,7 @@ fn refusal(status: u16, words: &[u8]) -> BucketFault {
 
 // What an answer to a put comes to by itself.
 fn outcome_of(reply: PutReply<Global>) -> Result<PutOutcome, BucketFault>
-    ensures { IfOk result (Tells reply.answer) }
+    ensures { IfOk result (Tells reply.answer (value_bytes reply.etag)) }
 {
     match reply.answer {
         PutAnswer::Done => Ok(PutOutcome::Done(reply.etag)),
@@ -133,8 +134,8 @@ impl Connection {
         client: &Client<'_, H>,
         object: &Object<'_>,
     ) -> Result<Option<Option<Vec<u8>>>, BucketFault>
-        ensures { IfOk result (λ found. IfSome found
-            (λ tag. WasRead client.now object.now.path.now object.now.body.now)) }
+        ensures { IfOk result (λ found. IfSome found (λ etag. WasReadWith client.now
+            object.now.path.now object.now.body.now (value_bytes etag))) }
     {
         match self.find(client, object.path, MOST_BYTES)? {
             Some(found) if found.body.as_slice() == object.body => Ok(Some(found.etag)),

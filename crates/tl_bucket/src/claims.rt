@@ -1,10 +1,10 @@
 //! What an operator claims by commits, before anybody sees it.
 
-ghost use Rattle.std.specs.Prelude.{◌≡◌, ◌⊎◌, ℕ, ◌-◌, ◌*◌, ◌++◌, [], IfOk, OnErr, OnOk, string_bytes};
-ghost use Rattle.tl_hash.specs.Bytes.{Bytes};
-ghost use Rattle.tl_bucket.specs.Commits.{IsBehind, commit_front};
+ghost use Rattle.std.specs.Prelude.{◌≡◌, ℕ, ◌+◌, ◌++◌, [], IfOk, OnErr, OnOk, None, string_bytes, vec_items};
+ghost use Rattle.tl_bucket.specs.Claims.{Adds, CommitsEntries, no_claims, no_claims_of_other, token_of};
+ghost use Rattle.tl_bucket.specs.Commits.{commit_front};
 ghost use Rattle.tl_bucket.specs.Inner.Outcomes.{Concludes, Finds};
-ghost use Rattle.tl_bucket.specs.Shelved.{WasCommitted, commit_at, commit_path};
+ghost use Rattle.tl_bucket.specs.Shelved.{commit_at, commit_path};
 ghost use Rattle.tl_put.specs.Objects.{content_of};
 ghost use Rattle.tl_put.specs.declared.object.Condition.TheVariants.{Absent};
 
@@ -85,19 +85,26 @@ pub(crate) struct Claims {
 }
 
 impl Model for Claims {
-    ghost use Rattle.std.specs.Prelude.{vec_items};
-    ghost use Rattle.tl_bucket.specs.Inner.Claims as seen;
+    ghost use Rattle.std.specs.Prelude.{option_map, vec_items};
+    ghost use Rattle.tl_bucket.specs.Claims as seen;
 
     ghost Value = { seen.Claims };
 
-    ghost view = { λ c. record { number = c.number; start = c.start; entries = vec_items c.entries } };
+    ghost view = { λ c. record {
+      number = c.number;
+      start = c.start;
+      entries = vec_items c.entries;
+      end = c.end;
+      token = vec_items c.token;
+      other = option_map vec_items c.other;
+    } };
 }
 
 impl Claims {
     /// Nothing is to be appended. The next commit has this number, so many entries come before it, and the token tells
     /// whose it is.
     pub(crate) fn new(alloc: Global, number: u64, start: u64, token: Vec<u8>) -> Claims
-        ensures { result ≡ record { number = number; start = start; entries = [] } }
+        ensures { result ≡ no_claims number start token.items None }
     {
         Claims {
             number,
@@ -126,7 +133,7 @@ impl Claims {
     /// The next commit has this number, and so many entries come before it. It is there, from another operator, with
     /// this token.
     pub(crate) fn finish(&mut self, number: u64, start: u64, token: Vec<u8>)
-        ensures { self.new ≡ record { number = number; start = start; entries = [] } }
+        ensures { self.new ≡ no_claims_of_other number start self.old.token token.items }
     {
         self.entries.clear();
         self.number = number;
@@ -135,36 +142,53 @@ impl Claims {
         self.other = Some(token);
     }
 
-    /// Adds the entries that a bundle with this index has behind all that is committed.
+    /// Adds the entries that a bundle with this index and width has behind all that is committed.
     pub(crate) fn add(&mut self, index: u64, width: u32, bundle: &[u8]) -> Result<(), BucketFault>
-        ensures added { OnOk result ((own : Bytes)
-            × IsBehind bundle.now (self.old.start - index * 256) own
-            × (self.new.entries ≡ self.old.entries ++ own)) }
-        ensures unchanged { OnErr result (self.new.entries ≡ self.old.entries) }
-        ensures number { self.new.number ≡ self.old.number }
-        ensures start { self.new.start ≡ self.old.start }
+        ensures added { OnOk result (Adds index width bundle.now self.old self.new) }
+        ensures unchanged { OnErr result (self.new ≡ self.old) }
     {
-        let front = index.saturating_mul(256);
+        let Some(front) = index.checked_mul(256) else {
+            return Err(BucketFault::Device(DeviceFault::TooLarge));
+        };
+        let Some(end) = front.checked_add(u64::from(width)) else {
+            return Err(BucketFault::Device(DeviceFault::TooLarge));
+        };
         let Some(own) = behind(bundle, self.start.saturating_sub(front)) else {
             return Err(BucketFault::BadCommit(self.number));
         };
         self.entries.extend_from_slice(own)?;
-        self.end = self.end.max(front.saturating_add(u64::from(width)));
+        self.end = self.end.max(end);
         Ok(())
+    }
+
+    // What tells whose the next commit is.
+    fn next_token(&self) -> &[u8]
+        ensures { result.now ≡ token_of self.now.other self.now.token }
+    {
+        match &self.other {
+            Some(token) => token.as_slice(),
+            None => self.token.as_slice(),
+        }
     }
 
     // The bytes of the commit that appends the entries.
     fn commit_bytes(&self, alloc: Global) -> Result<Vec<u8>, AllocError>
-        ensures { IfOk result (λ bytes. (token : Bytes)
-            × (bytes.items ≡ commit_front self.now.start token ++ self.now.entries)) }
+        ensures { IfOk result (λ bytes. bytes.items
+            ≡ commit_front self.now.start (token_of self.now.other self.now.token) ++ self.now.entries) }
     {
-        let token = match &self.other {
-            Some(token) => token.as_slice(),
-            None => self.token.as_slice(),
-        };
-        let mut bytes = commit_front(alloc, self.start, token)?;
+        let mut bytes = commit_front(alloc, self.start, self.next_token())?;
         bytes.extend_from_slice(self.entries.as_slice())?;
         Ok(bytes)
+    }
+
+    // The entries are committed: the next commit has this number, and comes behind them.
+    fn go_on(&mut self, number: u64)
+        ensures { self.new ≡ no_claims number self.old.end self.old.token None }
+    {
+        self.entries.clear();
+        self.number = number;
+        self.start = self.end;
+        self.other = None;
     }
 
     /// Commits the entries, if there are any: under the next number, where nothing may be. `Outrun`: another operator's
@@ -174,22 +198,22 @@ impl Claims {
         client: &Client<'_, H>,
         connection: &mut Connection,
     ) -> Result<(), BucketFault>
-        ensures claimed { OnOk result ((self.old.entries ≡ [])
-            ⊎ WasCommitted client.now self.old.number self.old.start self.old.entries) }
+        ensures claimed { OnOk result (CommitsEntries client.now self.old self.new) }
         ensures none { OnOk result (self.new.entries ≡ []) }
+        ensures unchanged { OnErr result (self.new ≡ self.old) }
     {
         if self.entries.is_empty() {
             return Ok(());
         }
+        let Some(next) = self.number.checked_add(1) else {
+            return Err(BucketFault::Device(DeviceFault::TooLarge));
+        };
         let bytes = self.commit_bytes(client.alloc)?;
         match put_commit(client, connection, self.number, bytes.as_slice())? {
             PutOutcome::Done(_) => {}
             PutOutcome::Refused => return Err(BucketFault::Outrun),
         }
-        self.entries.clear();
-        self.number = self.number.saturating_add(1);
-        self.start = self.end;
-        self.other = None;
+        self.go_on(next);
         Ok(())
     }
 }

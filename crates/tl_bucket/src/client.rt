@@ -25,8 +25,8 @@ fn request_time() -> Duration {
 pub struct Client<'b, H> {
     pub(crate) rt: &'b H,
     pub(crate) alloc: Global,
-    url: Url<'b>,
-    bucket: Bucket<'b>,
+    pub(crate) url: Url<'b>,
+    pub(crate) bucket: Bucket<'b>,
 }
 
 impl<'b, H> Model for Client<'b, H> {
@@ -57,6 +57,20 @@ impl<'b, H> Client<'b, H> {
             alloc,
             url,
             bucket,
+        }
+    }
+}
+
+impl<'b, H> Client<'b, H> {
+    /// Another one of the same bucket.
+    pub(crate) fn again(&self) -> Client<'b, H>
+        ensures { result ≡ self.now }
+    {
+        Client {
+            rt: self.rt,
+            alloc: self.alloc,
+            url: self.url,
+            bucket: self.bucket,
         }
     }
 }

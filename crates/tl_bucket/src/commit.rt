@@ -67,9 +67,9 @@ fn first_control(bytes: &[u8]) -> Option<usize>
     bytes.iter().position(|byte| *byte < 0x20)
 }
 
-// The first line of bytes, without its newline, and what follows it. A line ends with a newline and has no other byte
-// below 0x20.
-fn cut_line(bytes: &[u8]) -> Option<(&[u8], &[u8])>
+/// The first line of bytes, without its newline, and what follows it. A line ends with a newline and has no other byte
+/// below 0x20.
+pub(crate) fn cut_line(bytes: &[u8]) -> Option<(&[u8], &[u8])>
     ensures { MatchOption result (IsNoLine bytes.now)
         (λ r. HasNoControl r.0.now × (bytes.now ≡ line r.0.now ++ r.1.now)) }
 {
@@ -82,8 +82,8 @@ fn cut_line(bytes: &[u8]) -> Option<(&[u8], &[u8])>
     Some((&bytes[..end], &bytes[end + 1..]))
 }
 
-// The number below 2^63 that bytes are, in decimal without sign or leading zeros.
-fn read_size(bytes: &[u8]) -> Option<u64>
+/// The number below 2^63 that bytes are, in decimal without sign or leading zeros.
+pub(crate) fn read_size(bytes: &[u8]) -> Option<u64>
     ensures { MatchOption result (IsNoSize bytes.now)
         (λ size. IsSize size × (bytes.now ≡ number_text size)) }
 {

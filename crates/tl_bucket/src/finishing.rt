@@ -1,17 +1,23 @@
 //! Commits that were begun by who came before, and are finished by who starts.
 
-ghost use Rattle.std.specs.Prelude.{◌≡◌, IfOk, OnOk, map, vec_items};
-ghost use Rattle.tl_append.specs.Appending.{AppendsAtMost, Appends, course};
+ghost use Rattle.std.specs.Prelude.{◌≡◌, IfOk, IsTrue, OnOk, map, vec_items};
+ghost use Rattle.tl_append.specs.Appending.{course};
 ghost use Rattle.tl_bucket.specs.Buckets.{bucket_kept, bucket_trace};
-ghost use Rattle.tl_bucket.specs.Finishing.{Finishes};
+ghost use Rattle.tl_bucket.specs.Claims.{no_claims_of_other};
+ghost use Rattle.tl_bucket.specs.Commits.{Commit as Committed};
+ghost use Rattle.tl_bucket.specs.Finishing.{Finishes, FinishesLog, FinishesOne, IsFirstBehind};
+ghost use Rattle.tl_bucket.specs.Finishing.{ShowsSize};
+ghost use Rattle.tl_bucket.specs.Opened.{WasReadAs};
 ghost use Rattle.tl_note.specs.Key.{IsKeyName};
 ghost use Rattle.tl_tile.specs.Bundle.{AreShortEntries};
 
-use crate::client::Connection;
+use crate::client::{Client, Connection};
 use crate::commit::Commit;
 use crate::fault::BucketFault;
+use crate::noting::told_size;
 use crate::opening::read_numbered;
 use crate::shelf::BucketShelf;
+use crate::together::PutsTogether;
 use std::alloc::Global;
 use std::fs::Files;
 use std::net::{Net, TcpStream};
@@ -22,7 +28,11 @@ use tl_folder::CrashOutcome;
 use tl_ledger::{Found, Ledger};
 use tl_note::is_key_name;
 
-impl<D: CrashOutcome + Drop, H: Net<Stream = TcpStream> + Clock> BucketShelf<'_, D, H> {
+impl<D: CrashOutcome + PutsTogether + Drop, H: Net<Stream = TcpStream> + Clock> BucketShelf<
+    '_,
+    D,
+    H,
+> {
     // That the bucket failed, which it does from then on.
     fn failed(&mut self, fault: BucketFault) -> RunFault
         ensures events { self.new.events ≡ self.old.events }
@@ -32,13 +42,27 @@ impl<D: CrashOutcome + Drop, H: Net<Stream = TcpStream> + Clock> BucketShelf<'_,
         RunFault::of_device(Place::Log(None), fault.of_shelf())
     }
 
+    // Whether the checkpoint that is there tells all that is committed.
+    fn shows_all(&self) -> Result<bool, BucketFault>
+        ensures { IfOk result (λ all. IsTrue all
+            → ShowsSize self.now.objects.at self.now.objects.claims.start) }
+    {
+        match told_size(&self.objects.client, &mut Connection::new())? {
+            Some(told) if told == self.objects.claims.start() => Ok(true),
+            _ => Ok(false),
+        }
+    }
+
     // The number of the first commit that appends entries behind so many: one more than the last where none does.
-    fn first_behind(&self, size: u64) -> Result<u64, BucketFault> {
+    fn first_behind(&self, size: u64) -> Result<u64, BucketFault>
+        ensures { IfOk result
+            (IsFirstBehind self.now.objects.at size self.now.objects.claims.number) }
+    {
         let mut connection = Connection::new();
         let mut number = self.objects.claims.number();
         for _ in 0..u64::MAX {
             if number <= 1 {
-                return Ok(1);
+                return Ok(number);
             }
             let commit = read_numbered(&self.objects.client, &mut connection, number - 1)?;
             if commit.start < size {
@@ -46,16 +70,25 @@ impl<D: CrashOutcome + Drop, H: Net<Stream = TcpStream> + Clock> BucketShelf<'_,
             }
             number -= 1;
         }
-        Ok(number)
+        Err(BucketFault::BadCommit(number))
     }
 
     // The entries of the commit with this number, which are to be put next behind so many.
-    fn take_entries(&mut self, number: u64, size: u64) -> Result<Vec<Vec<u8>>, BucketFault>
+    fn take_entries(
+        &mut self,
+        client: &Client<'_, H>,
+        number: u64,
+        size: u64,
+    ) -> Result<Vec<Vec<u8>>, BucketFault>
         ensures short { IfOk result (λ entries. AreShortEntries (map vec_items entries.items)) }
+        ensures claimed { IfOk result (λ entries. (c : Committed) × WasReadAs client.now number c
+            × (c.start ≡ size) × (c.entries ≡ map vec_items entries.items)
+            × (self.new.objects.claims
+            ≡ no_claims_of_other number size self.old.objects.claims.token c.token)) }
         ensures events { self.new.events ≡ self.old.events }
         ensures place { self.new.place ≡ self.old.place }
     {
-        let commit = read_numbered(&self.objects.client, &mut Connection::new(), number)?;
+        let commit = read_numbered(client, &mut Connection::new(), number)?;
         let Commit {
             start,
             token,
@@ -72,16 +105,18 @@ impl<D: CrashOutcome + Drop, H: Net<Stream = TcpStream> + Clock> BucketShelf<'_,
     fn finish_one<K: LogSigner>(
         &mut self,
         alloc: Global,
+        client: &Client<'_, H>,
         key: &K,
         number: u64,
         ledger: &mut Ledger<Global>,
     ) -> Result<(), RunFault>
         requires origin { IsKeyName (K.log_key key.now).name }
-        ensures finishes { Finishes (K.log_key key.now) (course (bucket_kept D.held D.reached)
-            (bucket_trace D.held D.reached) self.old self.new ledger.old ledger.new) result }
+        ensures finishes { FinishesOne (K.log_key key.now) client.now number
+            (course (bucket_kept D.held D.reached) (bucket_trace D.held D.reached)
+            self.old self.new ledger.old ledger.new) result }
         ensures place { self.new.place ≡ self.old.place }
     {
-        let entries = match self.take_entries(number, ledger.size()) {
+        let entries = match self.take_entries(client, number, ledger.size()) {
             Ok(entries) => entries,
             Err(fault) => return Err(self.failed(fault)),
         };
@@ -100,17 +135,20 @@ impl<D: CrashOutcome + Drop, H: Net<Stream = TcpStream> + Clock> BucketShelf<'_,
         ledger: &mut Ledger<Global>,
     ) -> Result<(), RunFault>
         requires origin { IsKeyName (K.log_key key.now).name }
-        ensures finishes { Finishes (K.log_key key.now) (course (bucket_kept D.held D.reached)
+        ensures finishes { Finishes (K.log_key key.now) self.old.objects.at
+            self.old.objects.claims.number (course (bucket_kept D.held D.reached)
             (bucket_trace D.held D.reached) self.old self.new ledger.old ledger.new) result }
+        ensures even { OnOk result (ledger.new.edge.size ≡ self.new.objects.claims.start) }
         ensures place { self.new.place ≡ self.old.place }
     {
+        let client = self.objects.client.again();
         let end = self.objects.claims.number();
         let first = match self.first_behind(ledger.size()) {
             Ok(first) => first,
             Err(fault) => return Err(self.failed(fault)),
         };
         for number in first..end {
-            match self.finish_one(alloc, key, number, ledger) {
+            match self.finish_one(alloc, &client, key, number, ledger) {
                 Ok(()) => {}
                 Err(fault) => return Err(fault),
             }
@@ -123,7 +161,8 @@ impl<D: CrashOutcome + Drop, H: Net<Stream = TcpStream> + Clock> BucketShelf<'_,
     fn check_size(&mut self, size: u64) -> Result<(), RunFault>
         ensures events { self.new.events ≡ self.old.events }
         ensures place { self.new.place ≡ self.old.place }
-        ensures same { OnOk result (size ≡ self.old.objects.start) }
+        ensures same { OnOk result (size ≡ self.old.objects.claims.start) }
+        ensures unchanged { OnOk result (self.new ≡ self.old) }
     {
         let (number, start) = (self.objects.claims.number(), self.objects.claims.start());
         if size == start {
@@ -137,14 +176,20 @@ impl<D: CrashOutcome + Drop, H: Net<Stream = TcpStream> + Clock> BucketShelf<'_,
 }
 
 /// Finishes the commits of the log of this name in a bucket, under the key that is given, which its checkpoint has to
-/// open: what they append is put and shown. `BadOrigin`: no key has this name.
-pub fn finish_log<F: Files, D: CrashOutcome + Drop, H: Net<Stream = TcpStream> + Clock>(
+/// open: what they append is put and shown. Where the checkpoint tells all of them, nothing more is read. `BadOrigin`: no
+/// key has this name.
+pub fn finish_log<
+    F: Files,
+    D: CrashOutcome + PutsTogether + Drop,
+    H: Net<Stream = TcpStream> + Clock,
+>(
     rt: &F,
     alloc: Global,
     origin: &str,
     key: &LogKey,
     shelf: &mut BucketShelf<'_, D, H>,
 ) -> Result<(), RunFault>
+    ensures finishes { FinishesLog D.held D.reached key.now origin.now shelf.old shelf.new result }
     ensures place { shelf.new.place ≡ shelf.old.place }
 {
     if !is_key_name(origin) {
@@ -154,6 +199,11 @@ pub fn finish_log<F: Files, D: CrashOutcome + Drop, H: Net<Stream = TcpStream> +
         Ok(keys) => keys,
         Err(fault) => return Err(fault),
     };
+    match shelf.shows_all() {
+        Ok(true) => return Ok(()),
+        Ok(false) => {}
+        Err(fault) => return Err(shelf.failed(fault)),
+    }
     let mut found = Found::new(alloc);
     let opened = match open_ledger(alloc, verifier, true, shelf, &NoProposals, &mut found) {
         Ok(opened) => opened,

@@ -20,9 +20,12 @@ mod law;
 mod noting;
 mod objects;
 mod opening;
+mod reach;
 mod record;
 mod shelf;
 mod staged;
+mod together;
+mod workers;
 
 pub use client::Client;
 pub use fault::BucketFault;
@@ -34,3 +37,5 @@ pub use law::{
     stored_bytes_are_right, stored_bytes_stay,
 };
 pub use shelf::BucketShelf;
+pub use together::{DiskAndStore, PutsTogether, SpreadWork};
+pub use workers::Worker;

@@ -1,19 +1,24 @@
 //! The checkpoint of a log in a bucket, and what is read of the bucket.
 
-ghost use Rattle.std.specs.Prelude.{◌≡◌, [], IfOk, IfSome, OnOk, option_map};
-ghost use Rattle.tl_bucket.specs.Answered.{WasRead, WasThere};
-ghost use Rattle.tl_bucket.specs.Buckets.{IsReplacing};
-ghost use Rattle.tl_bucket.specs.Inner.Outcomes.{Finds};
-ghost use Rattle.tl_bucket.specs.Shelved.{content_at};
+ghost use Rattle.std.specs.Prelude.{◌≡◌, [], Some, All, IfOk, IfSome, option_map, string_bytes};
+ghost use Rattle.tl_bucket.specs.Answered.{IsBare, WasRead, WasReadWith};
+ghost use Rattle.tl_bucket.specs.Buckets.{IsReplacing, NoteWasThere};
+ghost use Rattle.tl_bucket.specs.Finishing.{ShowsSize};
+ghost use Rattle.tl_bucket.specs.Inner.Puts.{IsThere};
+ghost use Rattle.tl_bucket.specs.Opened.{KnowsTag};
+ghost use Rattle.tl_bucket.specs.Operators.{TellsSize};
 ghost use Rattle.tl_folder.specs.Places.{place_of};
+ghost use Rattle.tl_get.specs.Post.{value_bytes};
+ghost use Rattle.tl_hash.specs.Bytes.{Bytes};
 ghost use Rattle.tl_tile.specs.Path.{IsResource};
 ghost use Rattle.tl_tile.specs.declared.resource.Resource.TheVariants as resource;
 
 use crate::asking::{MOST_BYTES, PutOutcome};
 use crate::client::{Client, Connection};
+use crate::commit::{cut_line, read_size};
 use crate::fault::BucketFault;
-use crate::staged::object_of;
-use std::alloc::Allocator;
+use crate::staged::{Staged, object_of};
+use std::alloc::{Allocator, Global};
 use std::net::{Net, TcpStream};
 use std::time::Clock;
 use tl_device::DeviceFault;
@@ -24,29 +29,83 @@ use tl_tile::Resource;
 /// The path of the checkpoint.
 pub(crate) const CHECKPOINT: &str = "/checkpoint";
 
+// An entity tag without its quotes, if it has some.
+fn unquoted(etag: &[u8]) -> Option<&[u8]>
+    ensures { IfSome result (λ tag. IsBare etag.now tag.now) }
+{
+    let Some(rest) = etag.strip_prefix(b"\"") else {
+        return Some(etag);
+    };
+    match rest.strip_suffix(b"\"") {
+        Some(bare) => Some(bare),
+        None => None,
+    }
+}
+
 // An entity tag as If-Match is given it: without its quotes, which Ceph's gateway doesn't take.
-fn bare_tag(etag: &[u8]) -> Option<&str> {
-    let Ok(text) = str::from_utf8(etag) else {
+fn bare_tag(etag: &[u8]) -> Option<&str>
+    ensures { IfSome result (λ tag. IsBare etag.now tag.now) }
+{
+    let Some(bare) = unquoted(etag) else {
         return None;
     };
-    let Some(rest) = text.strip_prefix('"') else {
-        return Some(text);
+    match str::from_utf8(bare) {
+        Ok(tag) => Some(tag),
+        Err(_) => None,
+    }
+}
+
+// The entity tag that an answer gives, as If-Match is given it. `NoConditions`: there is none.
+fn own_tag(alloc: Global, etag: &Option<Vec<u8>>) -> Result<String, BucketFault>
+    ensures { IfOk result (λ tag. (text : Bytes) × (value_bytes etag.now ≡ Some text)
+        × IsBare text (string_bytes tag)) }
+{
+    let Some(etag) = etag else {
+        return Err(BucketFault::NoConditions);
     };
-    rest.strip_suffix('"')
+    match bare_tag(etag.as_slice()) {
+        Some(tag) => Ok(String::from_str(alloc, tag)?),
+        None => Err(BucketFault::NoConditions),
+    }
 }
 
 /// The entity tag of the checkpoint that is there, as If-Match is given it, if there is one.
 pub(crate) fn find_tag<H: Net<Stream = TcpStream> + Clock>(
     client: &Client<'_, H>,
     connection: &mut Connection,
-) -> Result<Option<String>, BucketFault> {
-    let Some(found) = connection.find(client, CHECKPOINT, MOST_BYTES)? else {
-        return Ok(None);
+) -> Result<Option<String>, BucketFault>
+    ensures { IfOk result (λ tag. KnowsTag client.now (option_map string_bytes tag)) }
+{
+    match connection.find(client, CHECKPOINT, MOST_BYTES)? {
+        Some(found) => Ok(Some(own_tag(client.alloc, &found.etag)?)),
+        None => Ok(None),
+    }
+}
+
+// How many entries the second line of a note tells (C2SP tlog-checkpoint).
+fn size_told(note: &[u8]) -> Option<u64>
+    ensures { IfSome result (TellsSize note.now) }
+{
+    let Some((_, rest)) = cut_line(note) else {
+        return None;
     };
-    let Some(tag) = found.etag.as_deref().and_then(bare_tag) else {
-        return Err(BucketFault::NoConditions);
+    let Some((number, _)) = cut_line(rest) else {
+        return None;
     };
-    Ok(Some(String::from_str(client.alloc, tag)?))
+    read_size(number)
+}
+
+/// How many entries the checkpoint tells that is there; `None` where there is none, or it tells no number.
+pub(crate) fn told_size<H: Net<Stream = TcpStream> + Clock>(
+    client: &Client<'_, H>,
+    connection: &mut Connection,
+) -> Result<Option<u64>, BucketFault>
+    ensures { IfOk result (λ told. IfSome told (ShowsSize client.now)) }
+{
+    match connection.find(client, CHECKPOINT, MOST_BYTES)? {
+        Some(found) => Ok(size_told(found.body.as_slice())),
+        None => Ok(None),
+    }
 }
 
 // When a checkpoint is to be put.
@@ -59,27 +118,42 @@ fn replacing(etag: Option<&str>) -> Condition<'_>
     }
 }
 
-/// Puts the checkpoint in the place of the one with this entity tag, or where none is, and gives the tag of the new
-/// one. `Outrun`: another one is there.
-pub(crate) fn put_note<H: Net<Stream = TcpStream> + Clock>(
+// The entity tag of the checkpoint that is there, where it has these bytes. `Outrun`: another one is there, or none.
+fn tag_of_note<H: Net<Stream = TcpStream> + Clock>(
     client: &Client<'_, H>,
     connection: &mut Connection,
     note: &[u8],
+) -> Result<String, BucketFault>
+    ensures { IfOk result (λ tag. (text : Bytes)
+        × WasReadWith client.now (place_of [] resource.Checkpoint) note.now (Some text)
+        × IsBare text (string_bytes tag)) }
+{
+    match connection.find(client, CHECKPOINT, MOST_BYTES)? {
+        Some(found) if found.body.as_slice() == note => own_tag(client.alloc, &found.etag),
+        _ => Err(BucketFault::Outrun),
+    }
+}
+
+/// Puts the checkpoint, once these tiles and bundles are there, in the place of the one with this entity tag, or where
+/// none is, and gives the tag of the new one. `Outrun`: another one is there.
+pub(crate) fn put_note<H: Net<Stream = TcpStream> + Clock>(
+    client: &Client<'_, H>,
+    connection: &mut Connection,
+    _staged: &[Staged],
+    note: &[u8],
     etag: Option<&str>,
 ) -> Result<String, BucketFault>
-    ensures { OnOk result ((c : _) × IsReplacing (option_map (λ t. t.now) etag.entry) c
-        × WasThere client.now (content_at (resource.Checkpoint, note.now)) c) }
+    requires there { All (IsThere client.now) _staged.now }
+    ensures { IfOk result (λ tag. NoteWasThere client.now (option_map (λ t. t.now) etag.entry)
+        (Some note.now) (Some (string_bytes tag))) }
 {
     let object = object_of(&Resource::Checkpoint, CHECKPOINT, note);
     let PutOutcome::Done(tag) = connection.put(client, &object, replacing(etag))? else {
         return Err(BucketFault::Outrun);
     };
-    if let Some(tag) = tag.as_deref().and_then(bare_tag) {
-        return Ok(String::from_str(client.alloc, tag)?);
-    }
-    match find_tag(client, connection)? {
-        Some(tag) => Ok(tag),
-        None => Err(BucketFault::Outrun),
+    match own_tag(client.alloc, &tag) {
+        Err(BucketFault::NoConditions) => tag_of_note(client, connection, note),
+        own => own,
     }
 }
 

@@ -1,13 +1,17 @@
 //! The objects of a log in a bucket, and those that wait to be put.
 
-ghost use Rattle.std.specs.Prelude.{◌≡◌, [], ◌∷◌, ◌++◌, IfOk, OnOk, OnErr};
-ghost use Rattle.tl_bucket.specs.Buckets.{KeepsBytes, SettlesObjects};
+ghost use Rattle.std.specs.Prelude.{◌≡◌, [], ◌∷◌, ◌++◌, IfOk, OnOk, OnErr, option_map, string_bytes};
+ghost use Rattle.tl_bucket.specs.Buckets.{KeepsBytes, SettlesObjects, no_objects};
+ghost use Rattle.tl_bucket.specs.Inner.Puts.{item_of};
 
 use crate::claims::Claims;
 use crate::client::{Client, Connection};
 use crate::fault::BucketFault;
 use crate::noting::put_note;
-use crate::staged::{Staged, put_each};
+use crate::staged::Staged;
+use crate::together::PutsTogether;
+use crate::workers::Workers;
+use std::alloc::Global;
 use std::marker::Model;
 use std::net::{Net, TcpStream};
 use std::time::Clock;
@@ -17,10 +21,12 @@ use tl_tile::Resource;
 /// its fault.
 #[derive(Drop)]
 pub(crate) struct Objects<'b, H> {
+    alloc: Global,
     pub(crate) client: Client<'b, H>,
     pub(crate) claims: Claims,
     pub(crate) fault: Option<BucketFault>,
     connection: Connection,
+    workers: Workers,
     staged: Vec<Staged>,
     note: Option<Vec<u8>>,
     etag: Option<String>,
@@ -37,9 +43,7 @@ impl<'b, H> Model for Objects<'b, H> {
       at = o.client;
       waiting = map item_of (vec_items o.staged);
       note = option_map vec_items o.note;
-      number = o.claims.number;
-      start = o.claims.start;
-      entries = o.claims.entries;
+      claims = o.claims;
       etag = option_map string_bytes o.etag;
     } };
 }
@@ -47,20 +51,30 @@ impl<'b, H> Model for Objects<'b, H> {
 impl<'b, H: Net<Stream = TcpStream> + Clock> Objects<'b, H> {
     /// Nothing waits. The log goes as far as the claims do, and its checkpoint has this entity tag, if there is one.
     pub(crate) fn new(client: Client<'b, H>, claims: Claims, etag: Option<String>) -> Objects<'b, H>
-        ensures at { result.at ≡ client.entry }
-        ensures waiting { result.waiting ≡ [] }
-        ensures number { result.number ≡ claims.number }
+        ensures { result ≡ no_objects client.entry claims (option_map string_bytes etag) }
     {
         let alloc = client.alloc;
         Objects {
+            alloc,
             client,
             claims,
             fault: None,
             connection: Connection::new(),
+            workers: Workers::new(alloc),
             staged: Vec::new(alloc),
             note: None,
             etag,
         }
+    }
+
+    // Has a tile or a bundle wait.
+    fn wait(&mut self, staged: Staged) -> Result<(), BucketFault>
+        ensures { OnOk result (self.new ≡ record self.old {
+          waiting = self.old.waiting ++ item_of staged ∷ [];
+        }) }
+    {
+        self.staged.push(staged)?;
+        Ok(())
     }
 
     // Keeps the bytes of a resource until all are put.
@@ -70,17 +84,18 @@ impl<'b, H: Net<Stream = TcpStream> + Clock> Objects<'b, H> {
         if let Some(fault) = self.fault {
             return Err(fault);
         }
-        let staged = Staged::of(self.client.alloc, resource, bytes)?;
+        let staged = Staged::of(self.alloc, resource, bytes)?;
         match resource {
             Resource::Checkpoint => {
                 self.note = Some(staged.bytes);
-                return Ok(());
+                Ok(())
             }
-            Resource::Entries { index, width } => self.claims.add(*index, *width, bytes)?,
-            Resource::Tile(_) => {}
+            Resource::Entries { index, width } => {
+                self.claims.add(*index, *width, bytes)?;
+                self.wait(staged)
+            }
+            Resource::Tile(_) => self.wait(staged),
         }
-        self.staged.push(staged)?;
-        Ok(())
     }
 
     /// Keeps the bytes of a resource until all are put. Where that fails, none is put: what waits may be tiles of
@@ -98,30 +113,33 @@ impl<'b, H: Net<Stream = TcpStream> + Clock> Objects<'b, H> {
     }
 
     // Puts all that waits.
-    fn put_waiting(&mut self) -> Result<(), BucketFault>
-        ensures { OnOk result (SettlesObjects self.old) }
+    fn put_waiting<D: PutsTogether>(&mut self, disk: &D) -> Result<(), BucketFault>
+        ensures { OnOk result (SettlesObjects self.old self.new) }
     {
         if let Some(fault) = self.fault {
             return Err(fault);
         }
         self.claims.claim(&self.client, &mut self.connection)?;
-        put_each(&self.client, &mut self.connection, self.staged.as_slice())?;
-        self.staged.clear();
+        self.workers
+            .put(disk, &self.client, &self.claims, self.staged.as_slice())?;
         let Some(note) = self.note.take() else {
+            self.staged.clear();
             return Ok(());
         };
         let (connection, etag) = (&mut self.connection, self.etag.as_deref());
-        let etag = put_note(&self.client, connection, note.as_slice(), etag)?;
+        let staged = self.staged.as_slice();
+        let etag = put_note(&self.client, connection, staged, note.as_slice(), etag)?;
+        self.staged.clear();
         self.etag = Some(etag);
         Ok(())
     }
 
-    /// Puts all that waits: the commit of the entries that the bundles add; then tiles and bundles; then the
-    /// checkpoint.
-    pub(crate) fn settle(&mut self) -> Result<(), BucketFault>
-        ensures { OnOk result (SettlesObjects self.old) }
+    /// Puts all that waits: the commit of the entries that the bundles add; then tiles and bundles, side by side; then
+    /// the checkpoint.
+    pub(crate) fn settle<D: PutsTogether>(&mut self, disk: &D) -> Result<(), BucketFault>
+        ensures { OnOk result (SettlesObjects self.old self.new) }
     {
-        match self.put_waiting() {
+        match self.put_waiting(disk) {
             Ok(()) => Ok(()),
             Err(fault) => {
                 self.fault = Some(fault);

@@ -1,9 +1,11 @@
 //! A bucket that is opened: whether its store keeps conditions, and how far its log goes.
 
-ghost use Rattle.std.specs.Prelude.{◌≡◌, ℕ, ◌+◌, IfOk, OnOk, MatchBool, map, vec_items};
-ghost use Rattle.tl_bucket.specs.Opened.{IsLastFound, RefusesPuts, WasReadAs};
+ghost use Rattle.std.specs.Prelude.{◌≡◌, None, IfOk, OnOk, MatchBool, map, string_bytes, vec_items};
 ghost use Rattle.tl_bucket.specs.Answered.{WasPut};
-ghost use Rattle.tl_bucket.specs.Opened.{HasCommit, LacksCommit};
+ghost use Rattle.tl_bucket.specs.Buckets.{no_objects};
+ghost use Rattle.tl_bucket.specs.Claims.{no_claims};
+ghost use Rattle.tl_bucket.specs.Opened.{EndsAt, HasCommit, IsAtEnd, IsLastFound, LacksCommit};
+ghost use Rattle.tl_bucket.specs.Opened.{KnowsTag, RefusesPuts, WasReadAs};
 ghost use Rattle.tl_put.specs.Objects.{Content};
 ghost use Rattle.tl_put.specs.declared.object.PutAnswer.TheVariants.{Refused};
 ghost use Rattle.tl_bucket.specs.Inner.Searches.{AreBounds};
@@ -72,10 +74,10 @@ fn has_commit<H: Net<Stream = TcpStream> + Clock>(
     ensures { IfOk result (λ has.
         MatchBool has (HasCommit client.now number) (LacksCommit client.now number)) }
 {
-    match find_commit(client, connection, number)? {
-        Some(_) => Ok(true),
-        None => Ok(false),
-    }
+    let Some(_found) = find_commit(client, connection, number)? else {
+        return Ok(false);
+    };
+    Ok(true)
 }
 
 // A power of two whose commit isn't there, and the one before it, whose commit is, or 0.
@@ -158,16 +160,37 @@ fn committed_size<H: Net<Stream = TcpStream> + Clock>(
     client: &Client<'_, H>,
     connection: &mut Connection,
     number: u64,
-) -> Result<u64, BucketFault> {
+) -> Result<u64, BucketFault>
+    ensures { IfOk result (EndsAt client.now number) }
+{
     if number == 0 {
         return Ok(0);
     }
     let commit = read_numbered(client, connection, number)?;
-    Ok(commit.start.saturating_add(commit.entries.len() as u64))
+    match commit.start.checked_add(commit.entries.len() as u64) {
+        Some(size) => Ok(size),
+        None => Err(BucketFault::BadCommit(number)),
+    }
+}
+
+// The claims of an operator with this token, whose next commit comes behind the last one.
+fn claims_behind<H: Net<Stream = TcpStream> + Clock>(
+    client: &Client<'_, H>,
+    connection: &mut Connection,
+    token: String,
+) -> Result<Claims, BucketFault>
+    ensures { IfOk result (IsAtEnd client.now (string_bytes token)) }
+{
+    let last = last_commit(client, connection)?;
+    let size = committed_size(client, connection, last)?;
+    match last.checked_add(1) {
+        Some(next) => Ok(Claims::new(client.alloc, next, size, token.into_bytes())),
+        None => Err(BucketFault::Device(DeviceFault::TooLarge)),
+    }
 }
 
 impl<'b, D: CrashOutcome + Drop, H: Net<Stream = TcpStream> + Clock> BucketShelf<'b, D, H> {
-    ghost use Rattle.std.specs.Prelude.{[], None};
+    ghost use Rattle.std.specs.Prelude.{[]};
 
     /// The bucket that the client reaches, by this address. The token is a line that tells the operator's commits from
     /// all others'. `NoConditions`: the store doesn't keep the conditions of puts. `ClockIsOff`: the machine's clock
@@ -178,30 +201,28 @@ impl<'b, D: CrashOutcome + Drop, H: Net<Stream = TcpStream> + Clock> BucketShelf
         address: &str,
         token: String,
     ) -> Result<BucketShelf<'b, D, H>, BucketFault>
-        ensures at { IfOk result (λ shelf. shelf.objects.at ≡ client.entry) }
+        ensures refuses { OnOk result (RefusesPuts client.entry) }
+        ensures end { IfOk result (λ shelf.
+            IsAtEnd client.entry (string_bytes token) shelf.objects.claims) }
+        ensures waiting { IfOk result (λ shelf. shelf.objects
+            ≡ no_objects client.entry shelf.objects.claims shelf.objects.etag) }
+        ensures etag { IfOk result (λ shelf. KnowsTag client.entry shelf.objects.etag) }
         ensures place { IfOk result (λ shelf. shelf.place ≡ address.now) }
         ensures events { IfOk result (λ shelf. shelf.events ≡ []) }
         ensures unmarked { IfOk result (λ shelf. shelf.published ≡ None) }
-        ensures waiting { IfOk result (λ shelf. shelf.objects.waiting ≡ []) }
-        ensures last { IfOk result (λ shelf. (last : ℕ) × (shelf.objects.number ≡ last + 1)
-            × IsLastFound client.entry last) }
     {
         let mut connection = Connection::new();
         check_conditions(&client, &mut connection, token.as_bytes())?;
-        let last = last_commit(&client, &mut connection)?;
-        let size = committed_size(&client, &mut connection, last)?;
+        let claims = claims_behind(&client, &mut connection, token)?;
         let etag = find_tag(&client, &mut connection)?;
-        let Some(next) = last.checked_add(1) else {
-            return Err(BucketFault::Device(DeviceFault::TooLarge));
-        };
-        let claims = Claims::new(client.alloc, next, size, token.into_bytes());
         Ok(BucketShelf::new(disk, client, address, claims, etag))
     }
 
     /// The bucket that the client reaches, by this address, to be read alone: what is staged would be refused by any
     /// store that has a commit. Nothing is asked for yet.
     pub fn reader(disk: D, client: Client<'b, H>, address: &str) -> BucketShelf<'b, D, H>
-        ensures at { result.objects.at ≡ client.entry }
+        ensures objects { result.objects ≡ no_objects client.entry (no_claims 1 0 [] None) None }
+        ensures place { result.place ≡ address.now }
     {
         let claims = Claims::new(client.alloc, 1, 0, Vec::new(client.alloc));
         BucketShelf::new(disk, client, address, claims, None)

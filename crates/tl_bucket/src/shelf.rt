@@ -1,8 +1,8 @@
 //! A shelf in a bucket. What is staged waits in memory; the shelf settles by a commit, the tiles and bundles side by
 //! side, and the checkpoint.
 
-ghost use Rattle.std.specs.Prelude.{◌≡◌, [], ◌∷◌, ◌++◌, OnOk, OnErr, Some, None};
-ghost use Rattle.tl_bucket.specs.Buckets.{SettlesObjects, bucket_kept, bucket_trace};
+ghost use Rattle.std.specs.Prelude.{◌≡◌, [], ◌∷◌, ◌++◌, OnOk, OnErr, Some, None, option_map, string_bytes};
+ghost use Rattle.tl_bucket.specs.Buckets.{SettlesObjects, bucket_kept, bucket_trace, no_objects};
 
 use crate::claims::Claims;
 use crate::client::Client;
@@ -10,6 +10,7 @@ use crate::fault::BucketFault;
 use crate::noting::read_object;
 use crate::objects::Objects;
 use crate::record::{Record, note_of};
+use crate::together::PutsTogether;
 use http_server::Log;
 use std::alloc::Allocator;
 use std::marker::Model;
@@ -68,9 +69,8 @@ impl<'b, D: CrashOutcome + Drop, H: Net<Stream = TcpStream> + Clock> BucketShelf
         claims: Claims,
         etag: Option<String>,
     ) -> BucketShelf<'b, D, H>
-        ensures at { result.objects.at ≡ client.entry }
-        ensures waiting { result.objects.waiting ≡ [] }
-        ensures number { result.objects.number ≡ claims.number }
+        ensures objects { result.objects
+            ≡ no_objects client.entry claims (option_map string_bytes etag) }
         ensures place { result.place ≡ address.now }
         ensures events { result.events ≡ [] }
         ensures unmarked { result.published ≡ None }
@@ -92,6 +92,7 @@ impl<'b, D: CrashOutcome + Drop, H: Net<Stream = TcpStream> + Clock> BucketShelf
 
     /// Has each later call that writes fail.
     pub(crate) fn fail(&mut self, fault: BucketFault)
+        ensures objects { self.new.objects ≡ self.old.objects }
         ensures events { self.new.events ≡ self.old.events }
         ensures place { self.new.place ≡ self.old.place }
     {
@@ -99,7 +100,8 @@ impl<'b, D: CrashOutcome + Drop, H: Net<Stream = TcpStream> + Clock> BucketShelf
     }
 }
 
-impl<D: CrashOutcome, H: Net<Stream = TcpStream> + Clock> Shelf for BucketShelf<'_, D, H> {
+impl<D: CrashOutcome + PutsTogether, H: Net<Stream = TcpStream> + Clock> Shelf
+    for BucketShelf<'_, D, H> {
     ghost use Rattle.std.specs.Prelude.{false};
     ghost use Rattle.tl_archive.specs.Partials.{IsFull};
     ghost use Rattle.tl_archive.specs.Shelves.{Stages, Unstages, Settles, Removes, LacksPartials, Fails};
@@ -157,11 +159,11 @@ impl<D: CrashOutcome, H: Net<Stream = TcpStream> + Clock> Shelf for BucketShelf<
         ensures failed { OnErr result (Fails self.old.failures self.new.failures) }
         ensures trace { bucket_trace D.held D.reached self.new
             ≡ bucket_trace D.held D.reached self.old ++ bucket_kept D.held D.reached self.new ∷ [] }
-        ensures there { OnOk result (SettlesObjects self.old.objects) }
+        ensures there { OnOk result (SettlesObjects self.old.objects self.new.objects) }
         ensures place { self.new.place ≡ self.old.place }
         ensures mark { self.new.published ≡ self.old.published }
     {
-        match self.objects.settle() {
+        match self.objects.settle(&self.disk) {
             Ok(()) => {
                 self.calls.note(CallOutcome::Settled, &[]);
                 Ok(())
@@ -179,6 +181,7 @@ impl<D: CrashOutcome, H: Net<Stream = TcpStream> + Clock> Shelf for BucketShelf<
         requires { IsFull full.now }
         ensures removed { Removes full.now (bucket_kept D.held D.reached self.old)
             (bucket_kept D.held D.reached self.new) }
+        ensures objects { self.new.objects ≡ self.old.objects }
         ensures none { OnOk result
             (LacksPartials full.now (bucket_kept D.held D.reached self.new).held) }
         ensures unfailed { OnOk result (self.new.failures ≡ self.old.failures) }
@@ -196,6 +199,7 @@ impl<D: CrashOutcome, H: Net<Stream = TcpStream> + Clock> Shelf for BucketShelf<
     // Nothing is put: commits tell how far the log goes.
     fn mark_published(&mut self, size: u64) -> Result<(), ShelfFault>
         ensures kept { bucket_kept D.held D.reached self.new ≡ bucket_kept D.held D.reached self.old }
+        ensures objects { self.new.objects ≡ self.old.objects }
         ensures marked { OnOk result (self.new.published ≡ Some size) }
         ensures unfailed { OnOk result (self.new.failures ≡ self.old.failures) }
         ensures failed { OnErr result (Fails self.old.failures self.new.failures) }

@@ -1,6 +1,6 @@
 //! Resources that wait to be put.
 
-ghost use Rattle.std.specs.Prelude.{◌≡◌, [], All, IfOk, OnOk};
+ghost use Rattle.std.specs.Prelude.{◌≡◌, [], All, IfOk, IsTrue, OnOk};
 ghost use Rattle.tl_bucket.specs.Answered.{WasThere};
 ghost use Rattle.tl_bucket.specs.Inner.Puts.{IsThere, item_of};
 ghost use Rattle.tl_bucket.specs.Shelved.{caching_of, content_at, media_of};
@@ -45,6 +45,13 @@ impl Staged {
             resource: *resource,
             bytes,
         })
+    }
+
+    /// Whether the other one is of the same resource and has the same bytes.
+    pub(crate) fn is_same(&self, other: &Staged) -> bool
+        ensures { IsTrue result → item_of self.now ≡ item_of other.now }
+    {
+        self.resource == other.resource && self.bytes.as_slice() == other.bytes.as_slice()
     }
 }
 

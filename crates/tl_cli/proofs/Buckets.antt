@@ -1,12 +1,42 @@
 -- Commands on a log in a bucket, from their parts.
-use Rattle.std.proofs.Common.{◌≡◌, ◌⊎◌, Err, inl, inr, refl}
+use Rattle.std.proofs.Common.{◌≡◌, true≢false, Err, [], None, ap, inl, inr, refl, string_bytes, subst, sym, ◌∙◌}
+use Rattle.tl_bucket.specs.Buckets.{Bucketed, Objects, no_objects}
+use Rattle.tl_bucket.specs.Opened.{IsAtEnd, KnowsTag, RefusesPuts}
+use Rattle.tl_hash.specs.Bytes.{Bytes}
+use Rattle.tl_put.specs.Objects.{Place}
 use Rattle.tl_command.specs.declared.fault.RunFault.{RunFault}
-use Rattle.tl_cli.specs.InBucket.{EndsInBucket, IsRefused}
+use Rattle.tl_cli.specs.InBucket.{EndsInBucket, IsPlaceOf, IsRefused, OpensBucket}
+use Rattle.tl_cli.specs.declared.own_bucket.BucketOptions.{BucketOptions}
 use Rattle.tl_cli.specs.declared.fault.CommandFault.{CommandFault}
 use Rattle.tl_cli.specs.declared.fault.CommandFault.TheVariants.{Run, Bucket}
-use Rattle.std.specs.Prelude.{Result}
+use Rattle.std.specs.Prelude.{Result, Ok}
+use Rattle.std.specs.Result.{IsErr}
 
 -- who ends with a fault of a bucket is refused
 pub refused : (fault : RunFault) (result : Result (Unit {0}) CommandFault) → EndsInBucket (Err fault) result → IsRefused result
 refused fault result (inl run) = (Run fault, run)
 refused fault result (inr own) = (Bucket own.0, own.1)
+
+-- a fault that is passed on refuses
+pub is_refused : (result : Result (Unit {0}) CommandFault) → IsErr result → IsRefused result
+is_refused (Ok done) fails = absurd (true≢false (sym fails))
+is_refused (Err fault) fails = (fault, refl)
+
+-- a bucket that was opened by a client is that of the options which tell the client's place
+pub opened : (options : BucketOptions) (b : Bucketed) (p : Place) (token : Bytes) → IsPlaceOf (string_bytes options.address) p → p.credential.region ≡ string_bytes options.region
+    → b.objects ≡ no_objects p b.objects.claims b.objects.etag → RefusesPuts p → IsAtEnd p token b.objects.claims → KnowsTag p b.objects.etag
+    → b.place ≡ string_bytes options.address → b.events ≡ [] → b.published ≡ None → OpensBucket options b
+opened options b p token at region same refuses end tag named events unmarked =
+    let there : b.objects.at ≡ p = ap (λ (o : Objects). o.at) same in
+    record {
+      named = named;
+      at = subst (IsPlaceOf (string_bytes options.address)) (sym there) at;
+      region = ap (λ (q : Place). q.credential.region) there ∙ region;
+      refuses = subst RefusesPuts (sym there) refuses;
+      token = token;
+      end = subst (λ (q : Place). IsAtEnd q token b.objects.claims) (sym there) end;
+      waiting = same ∙ ap (λ (q : Place). no_objects q b.objects.claims b.objects.etag) (sym there);
+      etag = subst (λ (q : Place). KnowsTag q b.objects.etag) (sym there) tag;
+      events = events;
+      unmarked = unmarked;
+    }

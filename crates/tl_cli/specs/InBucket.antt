@@ -1,9 +1,11 @@
 -- Commands on a log in a bucket.
-use Rattle.std.specs.Prelude.{◌≡◌, ◌⊎◌, [], Option, Some, None, Result, Ok, Err, string_bytes}
+use Rattle.std.specs.Prelude.{◌≡◌, ◌⊎◌, ℕ, [], ◌∷◌, ◌++◌, Option, Some, None, Result, Ok, Err, string_bytes}
 use Rattle.tl_archive.specs.Shelves.{Held}
 use Rattle.tl_append.specs.Running.{GoesOn, batch_size, visit}
 use Rattle.tl_append.specs.declared.options.AppendOptions.{AppendOptions}
-use Rattle.tl_bucket.specs.Buckets.{Bucketed, bucket_kept, bucket_trace}
+use Rattle.tl_bucket.specs.Buckets.{Bucketed, bucket_kept, bucket_trace, no_objects}
+use Rattle.tl_bucket.specs.Finishing.{FinishesLog}
+use Rattle.tl_bucket.specs.Opened.{IsAtEnd, KnowsTag, RefusesPuts}
 use Rattle.tl_bucket.specs.declared.fault.BucketFault.{BucketFault}
 use Rattle.tl_command.specs.CheckOpened.{IsIdle}
 use Rattle.tl_command.specs.declared.fault.RunFault.{RunFault}
@@ -11,13 +13,16 @@ use Rattle.tl_device.specs.Device.{Passage, IsUnread}
 use Rattle.tl_folder.specs.Folders.{Reached}
 use Rattle.tl_hash.specs.Bytes.{Bytes}
 use Rattle.tl_ledger.specs.Opening.{Found}
+use Rattle.tl_put.specs.Objects.{Place}
 use Rattle.tl_serve.specs.Serving.{Serves}
 use Rattle.tl_serve.specs.declared.options.ServeOptions.{ServeOptions}
+use Rattle.tl_source.specs.Url.{IsUrl}
 use Rattle.tl_cli.specs.Lasting.{nobody}
 use Rattle.tl_cli.specs.declared.fault.CommandFault.{CommandFault}
 use Rattle.tl_cli.specs.declared.fault.CommandFault.TheVariants.{Run, Bucket}
 use Rattle.tl_cli.specs.declared.in_bucket.AppendToOptions.{AppendToOptions}
 use Rattle.tl_cli.specs.declared.in_bucket.ServeFromOptions.{ServeFromOptions}
+use Rattle.tl_cli.specs.declared.own_bucket.BucketOptions.{BucketOptions}
 
 -- how a command ends that ran like this on a bucket: with its own fault, or with that of the bucket
 abbrev pub EndsInBucket : Result (Unit {0}) RunFault → Result (Unit {0}) CommandFault → Type 0
@@ -28,42 +33,65 @@ EndsInBucket (Err fault) result = (result ≡ Err (Run fault)) ⊎ ((why : Bucke
 abbrev pub IsRefused : Result (Unit {0}) CommandFault → Type 0
 IsRefused result = (fault : CommandFault) × (result ≡ Err fault)
 
--- what others began was finished in the bucket of this address, and then the log went on from what was found there, as
+-- the place is that of an address, behind which a slash may come
+abbrev pub IsPlaceOf : Bytes → Place → Type 0
+IsPlaceOf address p = (text host : Bytes) × (port : ℕ) × ((address ≡ text) ⊎ (address ≡ text ++ 47 ∷ []))
+    × IsUrl text p.host host port p.prefix
+
+-- the bucket that the options name was opened: nothing waits and nothing was done yet; its store refused puts whose
+-- conditions didn't hold, and what is appended next comes behind the last commit that was found
+pub record OpensBucket (options : BucketOptions) (b : Bucketed) : Type 0 where
+  pub named : b.place ≡ string_bytes options.address
+  pub at : IsPlaceOf (string_bytes options.address) b.objects.at
+  pub region : b.objects.at.credential.region ≡ string_bytes options.region
+  pub refuses : RefusesPuts b.objects.at
+  pub token : Bytes
+  pub end : IsAtEnd b.objects.at token b.objects.claims
+  pub waiting : b.objects ≡ no_objects b.objects.at b.objects.claims b.objects.etag
+  pub etag : KnowsTag b.objects.at b.objects.etag
+  pub events : b.events ≡ []
+  pub unmarked : b.published ≡ None
+
+-- what others began was finished in a bucket that was opened, and then the log went on from what was found there, as
 -- one in a folder does
-pub record GoesOnThere (held : Held) (reached : Reached) (address : Bytes) (options : AppendOptions) (i o : Passage) (result : Result (Unit {0}) CommandFault) : Type 0 where
+pub record GoesOnThere (held : Held) (reached : Reached) (opened : Bucketed) (options : AppendOptions) (i o : Passage) (result : Result (Unit {0}) CommandFault) : Type 0 where
   pub before : Bucketed
+  pub finished : FinishesLog held reached options.key (string_bytes options.origin) opened before (Ok tt)
   pub after : Bucketed
-  pub place : after.place ≡ address
+  pub place : after.place ≡ opened.place
   pub found : Found
   pub outcome : Result (Unit {0}) RunFault
   pub goes_on : GoesOn options.key (string_bytes options.origin) (batch_size options.batch) found
       (visit (bucket_kept held reached) (bucket_trace held reached) before after) i o outcome
   pub ends : EndsInBucket outcome result
 
--- `append` in a bucket with this address; or it could not be opened or finished, and nothing was read or written here
-abbrev pub AppendsThere : Held → Reached → Bytes → AppendOptions → Passage → Passage → Result (Unit {0}) CommandFault → Type 0
-AppendsThere held reached address options i o result =
-    (IsRefused result × IsIdle i o) ⊎ GoesOnThere held reached address options i o result
+-- `append` in a bucket that was opened; or it could not be finished, and nothing was read or written here
+abbrev pub AppendsThere : Held → Reached → Bucketed → AppendOptions → Passage → Passage → Result (Unit {0}) CommandFault → Type 0
+AppendsThere held reached opened options i o result =
+    (IsRefused result × IsIdle i o) ⊎ GoesOnThere held reached opened options i o result
 
--- in the bucket that the options name
+-- in the bucket that the options name; or it could not be opened
 abbrev pub AppendsTo : Held → Reached → AppendToOptions → Passage → Passage → Result (Unit {0}) CommandFault → Type 0
-AppendsTo held reached options i o result = AppendsThere held reached (string_bytes options.bucket.address) options.append i o result
+AppendsTo held reached options i o result = (IsRefused result × IsIdle i o)
+    ⊎ ((opened : Bucketed) × OpensBucket options.bucket opened × AppendsThere held reached opened options.append i o result)
 
 -- the same of a log that is served
-pub record ServesBucket (held : Held) (reached : Reached) (address : Bytes) (options : ServeOptions) (result : Result (Unit {0}) CommandFault) : Type 0 where
+pub record ServesBucket (held : Held) (reached : Reached) (opened : Bucketed) (options : ServeOptions) (result : Result (Unit {0}) CommandFault) : Type 0 where
   pub before : Bucketed
+  pub finished : FinishesLog held reached options.key (string_bytes options.origin) opened before (Ok tt)
   pub after : Bucketed
-  pub place : after.place ≡ address
+  pub place : after.place ≡ opened.place
   pub found : Found
   pub outcome : Result (Unit {0}) RunFault
   pub serves : Serves options.key (string_bytes options.origin) nobody found
       (visit (bucket_kept held reached) (bucket_trace held reached) before after) outcome
   pub ends : EndsInBucket outcome result
 
--- `serve` in a bucket with this address
-abbrev pub ServesThere : Held → Reached → Bytes → ServeOptions → Passage → Result (Unit {0}) CommandFault → Type 0
-ServesThere held reached address options i result = (IsRefused result × IsUnread i) ⊎ ServesBucket held reached address options result
+-- `serve` in a bucket that was opened
+abbrev pub ServesThere : Held → Reached → Bucketed → ServeOptions → Passage → Result (Unit {0}) CommandFault → Type 0
+ServesThere held reached opened options i result = (IsRefused result × IsUnread i) ⊎ ServesBucket held reached opened options result
 
 -- in the bucket that the options name
 abbrev pub ServesFrom : Held → Reached → ServeFromOptions → Passage → Result (Unit {0}) CommandFault → Type 0
-ServesFrom held reached options i result = ServesThere held reached (string_bytes options.bucket.address) options.serve i result
+ServesFrom held reached options i result = (IsRefused result × IsUnread i)
+    ⊎ ((opened : Bucketed) × OpensBucket options.bucket opened × ServesThere held reached opened options.serve i result)

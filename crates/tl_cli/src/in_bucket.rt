@@ -21,7 +21,7 @@ use std::os::fd::RawFd;
 use std::random::RandomSource;
 use std::time::Clock;
 use tl_append::{AppendOptions, AsSigned, NoProposals, SealedShelf, run_append};
-use tl_bucket::{BucketShelf, finish_log};
+use tl_bucket::{BucketShelf, PutsTogether, finish_log};
 use tl_command::RunFault;
 use tl_device::Counted;
 use tl_folder::CrashOutcome;
@@ -49,7 +49,7 @@ pub struct ServeFromOptions {
 
 // Finishes what was begun in a bucket, and appends the lines of the input.
 fn finish_and_append<
-    D: CrashOutcome + Drop,
+    D: CrashOutcome + PutsTogether + Drop,
     H: Net<Stream = TcpStream> + Clock + Files<File = File>,
     R: Read,
     W: Write,
@@ -61,14 +61,15 @@ fn finish_and_append<
     reader: &mut Counted<R>,
     writer: &mut Counted<W>,
 ) -> Result<(), CommandFault>
-    ensures { AppendsThere D.held D.reached shelf.entry.place options.now
+    ensures { AppendsThere D.held D.reached shelf.entry options.now
         (passage R.remaining reader.old reader.new) (passage W.contents writer.old writer.new)
         result }
 {
     let mut shelf = shelf;
     let (origin, key) = (options.origin.as_str(), &options.key);
-    if let Err(fault) = finish_log(rt, alloc, origin, key, &mut shelf) {
-        return after_bucket(&shelf, Err(fault));
+    match finish_log(rt, alloc, origin, key, &mut shelf) {
+        Ok(()) => {}
+        Err(fault) => return after_bucket(&shelf, Err(fault)),
     }
     let mut found = Found::new(alloc);
     let outcome = run_append(
@@ -87,7 +88,7 @@ fn finish_and_append<
 /// Appends the lines of the input to the log in a bucket. What other operators began is finished first. The bucket's
 /// own faults are told; `Outrun`: another operator has appended meanwhile.
 pub(crate) fn append_to<
-    D: CrashOutcome + Drop,
+    D: CrashOutcome + PutsTogether + Drop,
     H: Net<Stream = TcpStream> + Clock + Files<File = File> + RandomSource + Env,
     R: Read,
     W: Write,
@@ -131,7 +132,7 @@ fn shown_of<'b, D: CrashOutcome + Copy + Drop, H: Net<Stream = TcpStream> + Cloc
 // Serves the log in a bucket.
 fn serve_sealed<
     'b,
-    D: CrashOutcome + Copy + Send + Drop,
+    D: CrashOutcome + PutsTogether + Copy + Send + Drop,
     H: Host
         + Files<File = File, Dir: Send + Sync>
         + Net<Listener = TcpListener, Stream = TcpStream>,
@@ -164,7 +165,7 @@ fn serve_sealed<
 // Finishes what was begun in a bucket, and serves the log that is there.
 fn finish_and_serve<
     'b,
-    D: CrashOutcome + Copy + Send + Drop,
+    D: CrashOutcome + PutsTogether + Copy + Send + Drop,
     H: Host
         + Files<File = File, Dir: Send + Sync>
         + Net<Listener = TcpListener, Stream = TcpStream>,
@@ -180,13 +181,14 @@ fn finish_and_serve<
     reader: &mut Counted<R>,
     errors: &mut Counted<E>,
 ) -> Result<(), CommandFault>
-    ensures { ServesThere D.held D.reached shelf.entry.place options.now
+    ensures { ServesThere D.held D.reached shelf.entry options.now
         (passage R.remaining reader.old reader.new) result }
 {
     let mut shelf = shelf;
     let (origin, key) = (options.origin.as_str(), &options.key);
-    if let Err(fault) = finish_log(rt, alloc, origin, key, &mut shelf) {
-        return after_bucket(&shelf, Err(fault));
+    match finish_log(rt, alloc, origin, key, &mut shelf) {
+        Ok(()) => {}
+        Err(fault) => return after_bucket(&shelf, Err(fault)),
     }
     let mut found = Found::new(alloc);
     let Served { shelf, outcome } = serve_sealed(
@@ -197,7 +199,7 @@ fn finish_and_serve<
 
 /// Serves the log in a bucket, as one in a folder is served. What other operators began is finished first.
 pub(crate) fn serve_from<
-    D: CrashOutcome + Copy + Send + Drop,
+    D: CrashOutcome + PutsTogether + Copy + Send + Drop,
     H: Host
         + Files<File = File, Dir: Send + Sync>
         + Net<Listener = TcpListener, Stream = TcpStream>

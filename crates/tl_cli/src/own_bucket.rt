@@ -1,7 +1,7 @@
 //! The bucket of a log that a command works on.
 
-ghost use Rattle.std.specs.Prelude.{◌≡◌, [], None, IfOk, string_bytes};
-ghost use Rattle.tl_cli.specs.InBucket.{EndsInBucket};
+ghost use Rattle.std.specs.Prelude.{◌≡◌, ◌⊎◌, [], ◌∷◌, ◌++◌, IfOk, string_bytes};
+ghost use Rattle.tl_cli.specs.InBucket.{EndsInBucket, IsPlaceOf, OpensBucket};
 
 use crate::fault::CommandFault;
 use std::alloc::{AllocError, Global};
@@ -121,15 +121,28 @@ fn new_token<H: RandomSource>(rt: &H, alloc: Global) -> Result<String, CommandFa
     Ok(token)
 }
 
+// An address without the slash that may come behind it.
+fn without_slash(address: &str) -> &str
+    ensures { (address.now ≡ result.now) ⊎ (address.now ≡ result.now ++ 47 ∷ []) }
+{
+    match address.strip_suffix('/') {
+        Some(front) => front,
+        None => address,
+    }
+}
+
 /// What reaches the bucket that the options name, with this key.
 pub(crate) fn client_of<'b, H>(
     rt: &'b H,
     alloc: Global,
     options: &'b BucketOptions,
     key: &'b AccessKey,
-) -> Result<Client<'b, H>, CommandFault> {
-    let address = options.address.as_str();
-    let Some(url) = Url::parse(address.strip_suffix('/').unwrap_or(address)) else {
+) -> Result<Client<'b, H>, CommandFault>
+    ensures at { IfOk result (IsPlaceOf (string_bytes options.entry.now.address)) }
+    ensures region { IfOk result (λ client.
+        client.credential.region ≡ string_bytes options.entry.now.region) }
+{
+    let Some(url) = Url::parse(without_slash(options.address.as_str())) else {
         return Err(CommandFault::Bucket(BucketFault::Device(DeviceFault::NoHost)));
     };
     let credential = Credential {
@@ -153,10 +166,7 @@ pub(crate) fn open_bucket<
     options: &'b BucketOptions,
     key: &'b AccessKey,
 ) -> Result<BucketShelf<'b, D, H>, CommandFault>
-    ensures place { IfOk result
-        (λ shelf. shelf.place ≡ string_bytes options.now.address) }
-    ensures events { IfOk result (λ shelf. shelf.events ≡ []) }
-    ensures unmarked { IfOk result (λ shelf. shelf.published ≡ None) }
+    ensures { IfOk result (OpensBucket options.entry.now) }
 {
     let token = new_token(rt, alloc)?;
     let client = client_of(rt, alloc, options, key)?;

@@ -27,6 +27,7 @@ use std::io::{Read, Write};
 use std::net::{Net, TcpListener, TcpStream};
 use std::random::RandomSource;
 use std::thread::{Threads, available_parallelism};
+use tl_bucket::PutsTogether;
 use tl_command::{
     BuildOptions, CheckOptions, HeadOptions, HmacLogSigner, KeygenOptions, RunFault, SignedOptions,
     read_file, run_audit, run_build, run_build_signed, run_check, run_check_opened,
@@ -202,7 +203,7 @@ fn check_under<H: Files, R: Read, W: Write>(
 /// folder of a log that `append` or `serve` had to itself is then in `folder`, locked until it is dropped. The servers
 /// may wait.
 pub fn run_job<
-    D: CrashOutcome + Copy + Send + Drop,
+    D: CrashOutcome + PutsTogether + Copy + Send + Drop,
     H: Host
         + Files<File = File, Dir: Send + Sync>
         + Net<Listener = TcpListener, Stream = TcpStream>
@@ -259,7 +260,7 @@ pub fn run_job<
 /// name none, the text on how to call the program is written to `errors`, the status is 2, and nothing is read or
 /// written else.
 pub fn run_words<
-    D: CrashOutcome + Copy + Send + Drop,
+    D: CrashOutcome + PutsTogether + Copy + Send + Drop,
     H: Host
         + Files<File = File, Dir: Send + Sync>
         + Net<Listener = TcpListener, Stream = TcpStream>

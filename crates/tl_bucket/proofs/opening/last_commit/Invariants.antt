@@ -1,4 +1,3 @@
-use Rattle.std.proofs.Common.{◌≡◌, ◌⊎◌}
 use Rattle.tl_bucket.specs.Inner.Searches.{AreBounds}
 use Rattle.tl_bucket.proofs.opening.last_commit.Given as goal
 

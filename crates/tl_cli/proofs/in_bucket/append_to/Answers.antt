@@ -1,11 +1,11 @@
-use Rattle.std.proofs.Common.{subst}
-use Rattle.tl_device.specs.Device.{passage}
-use Rattle.tl_hash.specs.Bytes.{Bytes}
-use Rattle.tl_cli.specs.InBucket.{AppendsThere}
+use Rattle.std.proofs.Common.{inl, inr, rules}
 use Rattle.tl_cli.proofs.in_bucket.append_to.Goals as goal
 
+pub returns-in_err-key : goal.returns-in_err-key
+returns-in_err-key g c = inl (search rules)
+
+pub returns-in_err-shelf : goal.returns-in_err-shelf
+returns-in_err-shelf g c = inl (search rules)
+
 pub returns : goal.returns
-returns g c =
-    subst (λ (address : Bytes). AppendsThere g.D.CrashOutcome.held g.D.CrashOutcome.reached address c.args.options.now.append
-    (passage g.R.Read.remaining c.args.reader.now c.finish_and_append.new.reader) (passage g.W.Write.contents c.args.writer.now c.finish_and_append.new.writer) c.finish_and_append.result)
-    c.in_ok-shelf.ensures.place c.finish_and_append.ensures
+returns g c = inr (c.in_ok-shelf.shelf, c.in_ok-shelf.ensures, c.finish_and_append.ensures)

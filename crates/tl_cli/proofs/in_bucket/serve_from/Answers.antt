@@ -1,11 +1,9 @@
-use Rattle.std.proofs.Common.{subst}
-use Rattle.tl_device.specs.Device.{passage}
-use Rattle.tl_hash.specs.Bytes.{Bytes}
-use Rattle.tl_cli.specs.InBucket.{ServesThere}
+use Rattle.std.proofs.Common.{inl, inr, rules}
+use Rattle.tl_cli.proofs.Buckets.{is_refused}
 use Rattle.tl_cli.proofs.in_bucket.serve_from.Goals as goal
 
+pub returns-in_err-shown : goal.returns-in_err-shown
+returns-in_err-shown g c = inl (is_refused c.from_residual-in_err-shown.result c.from_residual-in_err-shown.ensures.0, search rules)
+
 pub returns : goal.returns
-returns g c =
-    subst (λ (address : Bytes). ServesThere g.D.CrashOutcome.held g.D.CrashOutcome.reached address c.args.options.now.serve
-    (passage g.R.Read.remaining c.args.reader.now c.finish_and_serve.new.reader) c.finish_and_serve.result)
-    c.in_ok-shelf.ensures.place c.finish_and_serve.ensures
+returns g c = inr (c.in_ok-shelf.shelf, c.in_ok-shelf.ensures, c.finish_and_serve.ensures)

@@ -33,3 +33,9 @@ returns-in-Witness g c = rw c.in-Witness.is ((c.witness.result, c.witness.ensure
 
 pub returns-in-Serve : goal.returns-in-Serve
 returns-in-Serve g c = rw c.in-Serve.is ((c.serve.result, (c.serve.ensures.refuses, c.serve.ensures.serves), search rules), search rules)
+
+pub returns-in-AppendTo : goal.returns-in-AppendTo
+returns-in-AppendTo g c = rw c.in-AppendTo.is (c.append_to.ensures, search rules)
+
+pub returns-in-ServeFrom : goal.returns-in-ServeFrom
+returns-in-ServeFrom g c = rw c.in-ServeFrom.is (c.serve_from.ensures, search rules)

@@ -1,4 +1,3 @@
-use Rattle.std.proofs.Common.{sym}
 use Rattle.tl_bucket.proofs.Answers.{was_missing, was_read}
 use Rattle.tl_bucket.proofs.client.Connection.try_get.Goals as goal
 

@@ -1,0 +1,29 @@
+use Rattle.std.proofs.Common.{◌∷◌, [], inr, refl}
+use Rattle.tl_append.specs.Keys.{log_key_of, opening_key_of}
+use Rattle.tl_append.proofs.Runs.{grows_then, key_name}
+use Rattle.tl_bucket.specs.Buckets.{bucket_kept, bucket_trace}
+use Rattle.tl_bucket.proofs.finishing.finish_log.Goals as goal
+
+pub finish-requires : goal.finish-requires
+finish-requires g c = record { origin = key_name c.args.key.now c.args.origin.now (log_key_of c.in-Ok.keys.signer) c.in-Ok.ensures (c.if-not-is_key_name.ensures.0 refl) }
+
+pub returns-clause-finishes : goal.returns-clause-finishes
+returns-clause-finishes g c =
+    let opens = c.in-Ok-open_ledger.ensures.opens in
+    let own = log_key_of c.in-Ok.keys.signer in
+    let opener = opening_key_of c.in-Ok.keys.verifier in
+    let kept = bucket_kept g.D.CrashOutcome.held g.D.CrashOutcome.reached in
+    let trace = bucket_trace g.D.CrashOutcome.held g.D.CrashOutcome.reached in
+    inr (inr (record {
+      own = own;
+      named = c.in-Ok.ensures;
+      opener = opener;
+      found = c.open_ledger.new.found;
+      was = c.in-Ok-open_ledger.opened.ledger;
+      is = c.finish.new.ledger;
+      signed = opens.signed;
+      sized = opens.sized;
+      finishes = c.finish.ensures.finishes;
+      grows = λ batches rest appends. grows_then own (opener ∷ []) c.open_ledger.new.found (kept c.args.shelf.now) (kept c.finish.new.self) (trace c.args.shelf.now) (trace c.finish.new.self)
+          c.in-Ok-open_ledger.opened.ledger c.finish.new.ledger opens batches rest appends;
+    }))

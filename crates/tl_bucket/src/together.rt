@@ -1,0 +1,68 @@
+//! How a program has workers put side by side.
+
+use crate::workers::Worker;
+use std::fs::Files;
+use std::net::{Net, TcpStream};
+use std::time::Clock;
+use tl_folder::{AnyOutcome, CrashOutcome, SideBySide, SyncKind, SyncOutcome, SyncsTogether};
+
+/// What has workers put what they have: one after another, or side by side.
+pub trait PutsTogether {
+    /// Has each of the workers work. One that doesn't tells that it has put nothing.
+    fn put_together<H: Net<Stream = TcpStream> + Clock>(&self, rt: &H, workers: &mut [Worker]);
+}
+
+impl PutsTogether for AnyOutcome {
+    fn put_together<H: Net<Stream = TcpStream> + Clock>(&self, rt: &H, workers: &mut [Worker]) {
+        for worker in workers {
+            worker.work(rt);
+        }
+    }
+}
+
+/// How the work of workers is spread over threads: a program hands it in, since it alone has the handle of the threads.
+pub type SpreadWork = fn(&HostRuntime, &mut [Worker]);
+
+/// What a program has done side by side: its disk's syncs, and puts. `spread` is to have each worker work.
+#[derive(Clone, Copy)]
+pub struct DiskAndStore {
+    disk: SideBySide,
+    rt: HostRuntime,
+    spread: SpreadWork,
+    ghost callable: { IsAlwaysCallable spread },
+}
+
+impl DiskAndStore {
+    /// This disk, and a store to which workers are spread in this way.
+    pub fn new(disk: SideBySide, rt: HostRuntime, spread: SpreadWork) -> DiskAndStore
+        requires { IsAlwaysCallable spread }
+    {
+        DiskAndStore { disk, rt, spread }
+    }
+}
+
+impl PutsTogether for DiskAndStore {
+    fn put_together<H: Net<Stream = TcpStream> + Clock>(&self, _rt: &H, workers: &mut [Worker]) {
+        (self.spread)(&self.rt, workers);
+    }
+}
+
+impl SyncsTogether for DiskAndStore {
+    fn sync_each<H: Files>(
+        &self,
+        files: &H,
+        kind: SyncKind,
+        paths: &[String],
+        outcomes: &mut [SyncOutcome],
+    ) {
+        self.disk.sync_each(files, kind, paths, outcomes);
+    }
+}
+
+impl CrashOutcome for DiskAndStore {
+    ghost use Rattle.std.specs.Prelude.{None, false};
+
+    ghost held = { λ _. None };
+
+    ghost reached = { λ _ _. false };
+}

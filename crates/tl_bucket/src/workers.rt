@@ -1,0 +1,178 @@
+//! Puts side by side, by workers that each have a connection of their own.
+
+ghost use Rattle.std.specs.Prelude.{◌≡◌, [], All, OnOk};
+ghost use Rattle.std.specs.Result.{ForOk};
+ghost use Rattle.tl_bucket.specs.Inner.Puts.{IsThere};
+
+use crate::claims::Claims;
+use crate::client::{Client, Connection};
+use crate::fault::BucketFault;
+use crate::reach::Reach;
+use crate::staged::{Staged, put_each};
+use crate::together::PutsTogether;
+use std::alloc::Global;
+use std::net::{Net, TcpStream};
+use std::time::Clock;
+use tl_device::DeviceFault;
+
+/// At most so many workers put at once.
+pub(crate) const MOST_WORKERS: usize = 16;
+
+// What a worker tells that has put nothing.
+const UNPUT: BucketFault = BucketFault::Device(DeviceFault::System);
+
+/// A connection to a bucket that is kept, and objects that it is to put, which are its own. What it tells as done was
+/// there: so whoever has it work need not be trusted.
+#[derive(Drop)]
+pub struct Worker {
+    alloc: Global,
+    reach: Reach,
+    connection: Connection,
+    items: Vec<Staged>,
+    outcome: Result<(), BucketFault>,
+    ghost done: { ForOk outcome (λ _. All (IsThere reach) items.items) },
+}
+
+impl Worker {
+    // A worker of the client's bucket, with nothing to put.
+    fn new<H>(client: &Client<'_, H>) -> Result<Worker, BucketFault> {
+        Ok(Worker {
+            alloc: client.alloc,
+            reach: Reach::of(client)?,
+            connection: Connection::new(),
+            items: Vec::new(client.alloc),
+            outcome: Err(UNPUT),
+        })
+    }
+
+    // Has nothing to put, and nothing to tell.
+    fn clear(&mut self) {
+        self.outcome = Err(UNPUT);
+        self.items.clear();
+    }
+
+    // Has this to put, too.
+    fn take(&mut self, item: Staged) -> Result<(), BucketFault> {
+        self.outcome = Err(UNPUT);
+        self.items.push(item)?;
+        Ok(())
+    }
+
+    /// Puts what the worker has, one after another, up to the first failure, and notes what came of it.
+    pub fn work<H: Net<Stream = TcpStream> + Clock>(&mut self, rt: &H) {
+        let client = self.reach.client(rt, self.alloc);
+        let outcome = put_each(&client, &mut self.connection, self.items.as_slice());
+        self.outcome = outcome;
+    }
+
+    // Checks that the item with this number was put, into this client's bucket, and is this one.
+    fn check<H>(
+        &self,
+        client: &Client<'_, H>,
+        number: usize,
+        item: &Staged,
+    ) -> Result<(), BucketFault>
+        ensures { OnOk result (IsThere client.now item.now) }
+    {
+        self.outcome?;
+        let Some(own) = self.items.get(number) else {
+            return Err(UNPUT);
+        };
+        if !self.reach.is_of(client) || !own.is_same(item) {
+            return Err(UNPUT);
+        }
+        Ok(())
+    }
+}
+
+/// The workers of a shelf.
+#[derive(Drop)]
+pub(crate) struct Workers {
+    workers: Vec<Worker>,
+}
+
+// Has each worker forget what it put.
+fn clear_each(workers: &mut [Worker]) {
+    for worker in workers {
+        worker.clear();
+    }
+}
+
+// Gives copies of the items to the workers, in turn.
+fn share_out(alloc: Global, staged: &[Staged], workers: &mut [Worker]) -> Result<(), BucketFault> {
+    clear_each(workers);
+    for (i, item) in staged.iter().enumerate() {
+        let copy = Staged::of(alloc, &item.resource, item.bytes.as_slice())?;
+        let Some(number) = i.checked_rem(workers.len()) else {
+            return Err(UNPUT);
+        };
+        workers[number].take(copy)?;
+    }
+    Ok(())
+}
+
+// Checks that the item that was given out under this number was put by its worker.
+fn check_one<H>(
+    client: &Client<'_, H>,
+    workers: &[Worker],
+    number: usize,
+    item: &Staged,
+) -> Result<(), BucketFault>
+    ensures { OnOk result (IsThere client.now item.now) }
+{
+    if workers.is_empty() {
+        return Err(UNPUT);
+    }
+    workers[number % workers.len()].check(client, number / workers.len(), item)
+}
+
+// Checks that all that was given out was put.
+fn check_each<H>(
+    client: &Client<'_, H>,
+    workers: &[Worker],
+    staged: &[Staged],
+) -> Result<(), BucketFault>
+    ensures { OnOk result (All (IsThere client.now) staged.now) }
+{
+    for i in 0..staged.len() {
+        check_one(client, workers, i, &staged[i])?;
+    }
+    Ok(())
+}
+
+impl Workers {
+    /// None yet.
+    pub(crate) fn new(alloc: Global) -> Workers {
+        Workers {
+            workers: Vec::new(alloc),
+        }
+    }
+
+    // Has so many workers at least, of the client's bucket.
+    fn open<H>(&mut self, client: &Client<'_, H>, count: usize) -> Result<(), BucketFault> {
+        for _ in self.workers.len()..count {
+            self.workers.push(Worker::new(client)?)?;
+        }
+        Ok(())
+    }
+
+    /// Puts the objects of resources, side by side, once the entries that are claimed for them are committed.
+    pub(crate) fn put<D: PutsTogether, H: Net<Stream = TcpStream> + Clock>(
+        &mut self,
+        disk: &D,
+        client: &Client<'_, H>,
+        _claims: &Claims,
+        staged: &[Staged],
+    ) -> Result<(), BucketFault>
+        requires committed { _claims.now.entries ≡ [] }
+        ensures { OnOk result (All (IsThere client.now) staged.now) }
+    {
+        let count = staged.len().min(MOST_WORKERS);
+        self.open(client, count)?;
+        let held = self.workers.as_mut_slice();
+        let (workers, _) = held.split_at_mut(count.min(held.len()));
+        share_out(client.alloc, staged, workers)?;
+        disk.put_together(client.rt, workers);
+        check_each(client, workers, staged)
+    }
+}
