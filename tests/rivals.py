@@ -1,6 +1,6 @@
-"""Several operators of one log in a bucket at once, for `tests/bucket`: runs of the program that append lines, follow
-their input or take posts, and are killed or stopped for a while at random moments; readers beside them; and what is to
-hold of all that was told and seen.
+"""Several operators of one log in a bucket at once, for `tests/bucket`: runs of the program that append lines, some of
+them thousands, follow their input or take posts, and are killed or stopped for a while at random moments; readers
+beside them; and what is to hold of all that was told and seen.
 """
 import collections
 import contextlib
@@ -70,11 +70,13 @@ class Race:
         dice, turn = random.Random(self.seed * 100 + number), 0
         while time.monotonic() < self.end:
             turn += 1
-            some = [b'operator %d run %d entry %d' % (number, turn, place) for place in range(dice.randrange(1, 80))]
+            work, most = dice.choice([(self.append, 80), (self.append, 80), (self.append, 6000), (self.follow, 80),
+                                      (self.add, 80)])
+            some = [b'operator %d run %d entry %d' % (number, turn, place) for place in range(dice.randrange(1, most))]
             with self.turn:
                 self.given.update(some)
             try:
-                dice.choice([self.append, self.append, self.follow, self.add])(some, dice)
+                work(some, dice)
             except Exception as fault:
                 self.wrong.append(f'{type(fault).__name__}: {fault}')
 
@@ -115,7 +117,7 @@ class Race:
 
     def append(self, some, dice):
         """Lines that are appended: each line of output tells where the next batch of them ends."""
-        batch = dice.choice([1, 5, 30, 300])
+        batch = dice.choice([1, 5, 30, 300]) if len(some) < 80 else 3000
         process = self.begin('append', '--batch', str(batch))
         fate = threading.Thread(target=self.meet, args=(process, dice, 1))
         fate.start()

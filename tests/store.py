@@ -3,8 +3,9 @@
 Header: Transferring Payload in a Single Chunk"; Amazon S3 API Reference, PutObject, GetObject and "Error responses";
 RFC 9110), with nothing of the program's own. It checks each signature and does puts by their conditions, keeps all that
 ever was under each key, and misbehaves where it is told to. Anybody may read logs. Beside it a client, whose requests
-are signed. Run by itself it serves the bucket `logs`, and prints what a client needs:
-  tests/store.py [PORT]
+are signed. Run by itself it serves the bucket `logs`, does each put after so many seconds (0), and prints what a client
+needs:
+  tests/store.py [PORT [SECONDS]]
 """
 import calendar
 import collections
@@ -99,14 +100,16 @@ class Client:
 
 # Requests
 
-Request = collections.namedtuple('Request', 'method target fields body')
-Asked = collections.namedtuple('Asked', 'moment link method key fields status code')
+Request = collections.namedtuple('Request', 'begun method target fields body')
+# `begun` is when a request's first line was there, `moment` when it was decided, just before it is answered.
+Asked = collections.namedtuple('Asked', 'begun moment link method key fields status code')
 Put = collections.namedtuple('Put', 'key body fields')
 
 
 def read_request(source):
     """The next request of a connection; none where it is closed."""
     words = source.readline(65_536).split()
+    begun = time.monotonic()
     if len(words) != 3:
         return None
     fields = {}
@@ -119,7 +122,8 @@ def read_request(source):
     if not line or not length.isdecimal() or int(length) > LARGEST or 'transfer-encoding' in fields:
         return None
     body = source.read(int(length))
-    return Request(words[0].decode(), words[1].decode('latin-1'), fields, body) if len(body) == int(length) else None
+    whole = Request(begun, words[0].decode(), words[1].decode('latin-1'), fields, body)
+    return whole if len(body) == int(length) else None
 
 
 # The store
@@ -140,7 +144,7 @@ class Store:
         self.buckets, self.region, self.turn = set(buckets), region, threading.Lock()
         self.objects, self.past, self.asked, self.rules = {}, [], [], []
         self.heeds, self.shift, self.room, self.full, self.weather = {'if-match', 'if-none-match'}, 0, None, 403, None
-        self.listener, self.links, self.port, self.count, self.busy, self.most = None, set(), 0, 0, 0, 0
+        self.listener, self.links, self.port, self.count, self.busy, self.most, self.spoilt = None, set(), 0, 0, 0, 0, 0
 
     def start(self):
         self.listener = socket.create_server(('127.0.0.1', self.port), backlog=128)
@@ -170,7 +174,8 @@ class Store:
         `failed` is done and answered 500; `refused` isn't done, and answered by a status and a code; `hangs` isn't done
         and not answered for some seconds; `silent` is done and not answered for so long; `half` is done and answered in
         part; `closes` is done and answered, and then the connection closed; `other` has somebody else put something
-        there before, and isn't answered; `waits` is done after a while."""
+        there before, and isn't answered; `waits` is done after a while; `tagless` is done, and answered without an
+        entity tag."""
         rule = Rule(method, pattern, does, times, given)
         with self.turn:
             self.rules.append(rule)
@@ -244,6 +249,7 @@ class Store:
             if self.weather:
                 dice, chance, most = self.weather
                 if dice.random() < chance and request.method == 'PUT':
+                    self.spoilt += 1
                     does = dice.choice(['lost', 'unheard', 'late', 'failed', 'refused', 'half', 'closes'])
                     return does, {'seconds': dice.random() * 2}
                 return 'waits', {'seconds': dice.random() * most}
@@ -276,13 +282,16 @@ class Store:
             return False
         if does == 'failed':
             status, code, fields, body = 500, 'InternalError', {}, b''
+        if does == 'tagless':
+            fields.pop('etag', None)
         whole = answer(request.method, status, code, fields, body, key)
         link.sendall(whole[:len(whole) // 2] if does == 'half' else whole)
         return does not in ('half', 'closes') and request.fields.get('connection', '').lower() != 'close'
 
     def note(self, request, key, number, status, code):
         with self.turn:
-            self.asked.append(Asked(time.monotonic(), number, request.method, key, request.fields, status, code))
+            self.asked.append(Asked(request.begun, time.monotonic(), number, request.method, key, request.fields,
+                                    status, code))
 
     def done(self, request, key, query, number):
         """Does what a request asks: status, code, fields and body of the answer."""
@@ -381,6 +390,8 @@ def answer(method, status, code, fields, body, key):
 if __name__ == '__main__':
     alone = Store()
     alone.port = int(sys.argv[1]) if sys.argv[1:] else 0
+    if sys.argv[2:]:
+        alone.misbehaves('PUT', '', 'waits', sys.maxsize, seconds=float(sys.argv[2]))
     alone.start()
     print(f'http://127.0.0.1:{alone.port}/logs {alone.region} {alone.key[0]} {alone.key[1]}', flush=True)
     threading.Event().wait()
