@@ -23,10 +23,16 @@ use Rattle.tl_bucket.specs.declared.staged.Staged.{Staged}
 were_there : (p : Place) (staged : List Staged) → All (IsThere p) staged → WereThere p (map item_of staged)
 were_there p [] all item has = absurd (none_has item has)
 were_there p (s ∷ more) all item has =
-    elim (cons_cases (item_of s) (map item_of more) item has) as (λ _. ∥ WasThere p (content_at item) Always ∥₁) [
-      | inl same ↦ subst (λ (i : Item). ∥ WasThere p (content_at i) Always ∥₁) same (all 0 s (omega arith))
+    elim (cons_cases (item_of s) (map item_of more) item has) as (λ _. WasThere p (content_at item) Always) [
+      | inl same ↦ subst (λ (i : Item). WasThere p (content_at i) Always) same (all 0 s (omega arith))
       | inr later ↦ were_there p more (All-tail (IsThere p) s more all) item later
     ]
+
+-- what a worker tells
+pub worked : (r : Result (Unit {0}) BucketFault) (p q : Place) (slice staged : List Staged) → q ≡ p → slice ≡ staged → OnOk r (All (IsThere q) slice) → OnOk r (WereThere p (map item_of staged))
+worked (Ok done) p q slice staged same is all =
+    were_there p staged (subst (λ (x : Place). All (IsThere x) staged) same (subst (All (IsThere q)) is all))
+worked (Err fault) p q slice staged same is all = tt
 
 -- objects, by their parts
 abbrev pub made : Place → List Staged → Option Bytes → Claims → Option Bytes → Objects

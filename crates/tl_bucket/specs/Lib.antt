@@ -7,6 +7,7 @@ pub mod Claims
 pub mod Answered
 pub mod Shelved
 pub mod Buckets
+pub mod Workers
 pub mod Opened
 pub mod Finishing
 pub mod FaultWords

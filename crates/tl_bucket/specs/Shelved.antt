@@ -53,6 +53,6 @@ commit_at n bytes =
       body = bytes;
     }
 
--- each of the items was there as the object of its resource, by some answer
+-- each of the items was there as the object of its resource
 abbrev pub WereThere : Place → List Item → Type 0
-WereThere p items = (item : Item) → Contains items item → ∥ WasThere p (content_at item) Always ∥₁
+WereThere p items = (item : Item) → Contains items item → WasThere p (content_at item) Always

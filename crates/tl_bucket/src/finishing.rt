@@ -176,8 +176,8 @@ impl<D: CrashOutcome + PutsTogether + Drop, H: Net<Stream = TcpStream> + Clock> 
 }
 
 /// Finishes the commits of the log of this name in a bucket, under the key that is given, which its checkpoint has to
-/// open: what they append is put and shown. Where the checkpoint tells all of them, nothing more is read. `BadOrigin`: no
-/// key has this name.
+/// open: what they append is put and shown. Where the checkpoint tells all of them, nothing more is read. `BadOrigin`:
+/// no key has this name.
 pub fn finish_log<
     F: Files,
     D: CrashOutcome + PutsTogether + Drop,

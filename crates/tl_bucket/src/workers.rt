@@ -1,8 +1,8 @@
 //! Puts side by side, by workers that each have a connection of their own.
 
 ghost use Rattle.std.specs.Prelude.{◌≡◌, [], All, OnOk};
-ghost use Rattle.std.specs.Result.{ForOk};
 ghost use Rattle.tl_bucket.specs.Inner.Puts.{IsThere};
+ghost use Rattle.tl_bucket.specs.Shelved.{WereThere};
 
 use crate::claims::Claims;
 use crate::client::{Client, Connection};
@@ -11,6 +11,7 @@ use crate::reach::Reach;
 use crate::staged::{Staged, put_each};
 use crate::together::PutsTogether;
 use std::alloc::Global;
+use std::marker::Model;
 use std::net::{Net, TcpStream};
 use std::time::Clock;
 use tl_device::DeviceFault;
@@ -30,7 +31,22 @@ pub struct Worker {
     connection: Connection,
     items: Vec<Staged>,
     outcome: Result<(), BucketFault>,
-    ghost done: { ForOk outcome (λ _. All (IsThere reach) items.items) },
+}
+
+impl Model for Worker {
+    ghost use Rattle.std.specs.Prelude.{All, OnOk, map, vec_items};
+    ghost use Rattle.tl_bucket.specs.Inner.Puts.{IsThere, item_of};
+    ghost use Rattle.tl_bucket.specs.Workers as seen;
+
+    ghost Value = { seen.Work };
+
+    ghost view = { λ w. record {
+      at = w.reach;
+      items = map item_of (vec_items w.items);
+      told = w.outcome;
+    } };
+
+    ghost invariant = { λ w. OnOk w.outcome (All (IsThere w.reach) (vec_items w.items)) };
 }
 
 impl Worker {
@@ -58,8 +74,13 @@ impl Worker {
         Ok(())
     }
 
-    /// Puts what the worker has, one after another, up to the first failure, and notes what came of it.
-    pub fn work<H: Net<Stream = TcpStream> + Clock>(&mut self, rt: &H) {
+    /// Puts what the worker has, one after another, up to the first failure, and tells what came of it: that it is done
+    /// only where each was there.
+    pub fn work<H: Net<Stream = TcpStream> + Clock>(&mut self, rt: &H)
+        ensures at { self.new.at ≡ self.old.at }
+        ensures items { self.new.items ≡ self.old.items }
+        ensures done { OnOk self.new.told (WereThere self.new.at self.new.items) }
+    {
         let client = self.reach.client(rt, self.alloc);
         let outcome = put_each(&client, &mut self.connection, self.items.as_slice());
         self.outcome = outcome;
@@ -89,6 +110,8 @@ impl Worker {
 #[derive(Drop)]
 pub(crate) struct Workers {
     workers: Vec<Worker>,
+    // At most so many work at once.
+    most: usize,
 }
 
 // Has each worker forget what it put.
@@ -145,6 +168,7 @@ impl Workers {
     pub(crate) fn new(alloc: Global) -> Workers {
         Workers {
             workers: Vec::new(alloc),
+            most: MOST_WORKERS,
         }
     }
 
@@ -156,7 +180,29 @@ impl Workers {
         Ok(())
     }
 
-    /// Puts the objects of resources, side by side, once the entries that are claimed for them are committed.
+    // Puts the objects of resources, as many at once as may be.
+    fn try_put<D: PutsTogether, H: Net<Stream = TcpStream> + Clock>(
+        &mut self,
+        disk: &D,
+        client: &Client<'_, H>,
+        staged: &[Staged],
+    ) -> Result<(), BucketFault>
+        ensures { OnOk result (All (IsThere client.now) staged.now) }
+    {
+        let count = staged.len().min(self.most);
+        self.open(client, count)?;
+        let held = self.workers.as_mut_slice();
+        let (workers, _) = held.split_at_mut(count.min(held.len()));
+        share_out(client.alloc, staged, workers)?;
+        disk.put_together(client.rt, workers);
+        let told = check_each(client, workers, staged);
+        clear_each(workers);
+        told
+    }
+
+    /// Puts the objects of resources, side by side, once the entries that are claimed for them are committed. Where a
+    /// put isn't answered in its time, the store may serve fewer connections at once: so they are let go, and there is
+    /// one from then on. Connections are kept else, and no copies.
     pub(crate) fn put<D: PutsTogether, H: Net<Stream = TcpStream> + Clock>(
         &mut self,
         disk: &D,
@@ -167,12 +213,12 @@ impl Workers {
         requires committed { _claims.now.entries ≡ [] }
         ensures { OnOk result (All (IsThere client.now) staged.now) }
     {
-        let count = staged.len().min(MOST_WORKERS);
-        self.open(client, count)?;
-        let held = self.workers.as_mut_slice();
-        let (workers, _) = held.split_at_mut(count.min(held.len()));
-        share_out(client.alloc, staged, workers)?;
-        disk.put_together(client.rt, workers);
-        check_each(client, workers, staged)
+        match self.try_put(disk, client, staged) {
+            Err(BucketFault::Device(DeviceFault::TimedOut)) if self.most > 1 => {}
+            told => return told,
+        }
+        self.workers.clear();
+        self.most = 1;
+        self.try_put(disk, client, staged)
     }
 }

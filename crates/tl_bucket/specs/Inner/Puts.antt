@@ -13,4 +13,4 @@ item_of s = (s.resource, vec_items s.bytes)
 
 -- it was there as the object of its resource
 abbrev pub IsThere : Place → Staged → Type 0
-IsThere p s = ∥ WasThere p (content_at (item_of s)) Always ∥₁
+IsThere p s = WasThere p (content_at (item_of s)) Always

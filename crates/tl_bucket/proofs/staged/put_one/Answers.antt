@@ -15,4 +15,4 @@ returns-in-Done g c =
     let object : Content = content_of c.object_of-object.result in
     let done = there c.args.client.now object Always (value_bytes c.in-Done.field-0) (subst (λ (o : PutOutcome). Concludes c.args.client.now object Always o) c.in-Done.is c.in_ok-put.ensures) in
     let is = c.object_of-object.ensures (c.as_str.ensures.value ∙ c.in_ok-path.ensures) ∙ ap (λ (bytes : Bytes). content_at (c.args.staged.now.resource, bytes)) c.as_slice.ensures.value in
-    ∣ subst (λ (k : Content). WasThere c.args.client.now k Always) is done ∣₁
+    subst (λ (k : Content). WasThere c.args.client.now k Always) is done
