@@ -137,11 +137,13 @@ class Rule:
 
 
 class Store:
-    """A store that listens at a port of this machine, in threads, from `start` until `stop`; its objects stay."""
+    """A store that listens at a port of this machine, in threads, from `start` until `stop`; its objects stay. Where
+    `served` is given, it serves so many connections at once, and the others wait."""
 
-    def __init__(self, buckets=('logs',), region=REGION, name='store', secret=None):
+    def __init__(self, buckets=('logs',), region=REGION, name='store', secret=None, served=None):
         self.key = (f'{name}-id-{random.randbytes(6).hex()}', secret or f'{name}-secret-{random.randbytes(16).hex()}')
         self.buckets, self.region, self.turn = set(buckets), region, threading.Lock()
+        self.served = threading.Semaphore(served) if served else contextlib.nullcontext()
         self.objects, self.past, self.asked, self.rules = {}, [], [], []
         self.heeds, self.shift, self.room, self.full, self.weather = {'if-match', 'if-none-match'}, 0, None, 403, None
         self.listener, self.links, self.port, self.count, self.busy, self.most, self.spoilt = None, set(), 0, 0, 0, 0, 0
@@ -218,7 +220,7 @@ class Store:
 
     def talk(self, link, number):
         try:
-            with link, link.makefile('rb') as source:
+            with self.served, link, link.makefile('rb') as source:
                 while (request := read_request(source)) and self.counted(link, number, request):
                     pass
         except OSError:
