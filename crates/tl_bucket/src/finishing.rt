@@ -15,7 +15,7 @@ use crate::client::{Client, Connection};
 use crate::commit::Commit;
 use crate::fault::BucketFault;
 use crate::noting::told_size;
-use crate::opening::read_numbered;
+use crate::opening::{has_commit, read_numbered};
 use crate::shelf::BucketShelf;
 use crate::together::PutsTogether;
 use std::alloc::Global;
@@ -156,22 +156,32 @@ impl<D: CrashOutcome + PutsTogether + Drop, H: Net<Stream = TcpStream> + Clock> 
         self.check_size(ledger.size())
     }
 
-    // Checks that the log which is shown has what the commits append. `Outrun`: it has more, since another operator
-    // went on meanwhile. `BadCommit`: there are no commits, or they append more.
+    // Why the log which is shown has another size than the commits append. `Outrun`: it has more, and there is a commit
+    // behind those that were found, since another operator went on meanwhile.
+    fn why_uneven(&self, size: u64) -> BucketFault {
+        let (number, start) = (self.objects.claims.number(), self.objects.claims.start());
+        if size < start {
+            return BucketFault::BadCommit(number);
+        }
+        match has_commit(&self.objects.client, &mut Connection::new(), number) {
+            Ok(true) => BucketFault::Outrun,
+            Ok(false) => BucketFault::BadCommit(number),
+            Err(fault) => fault,
+        }
+    }
+
+    // Checks that the log which is shown has what the commits append.
     fn check_size(&mut self, size: u64) -> Result<(), RunFault>
         ensures events { self.new.events ≡ self.old.events }
         ensures place { self.new.place ≡ self.old.place }
         ensures same { OnOk result (size ≡ self.old.objects.claims.start) }
         ensures unchanged { OnOk result (self.new ≡ self.old) }
     {
-        let (number, start) = (self.objects.claims.number(), self.objects.claims.start());
-        if size == start {
+        if size == self.objects.claims.start() {
             return Ok(());
         }
-        if size > start && number > 1 {
-            return Err(self.failed(BucketFault::Outrun));
-        }
-        Err(self.failed(BucketFault::BadCommit(number)))
+        let fault = self.why_uneven(size);
+        Err(self.failed(fault))
     }
 }
 

@@ -65,8 +65,8 @@ fn check_conditions<H: Net<Stream = TcpStream> + Clock>(
     check_refused(client, connection, token, Condition::Matches("0"))
 }
 
-// Whether the commit with this number is there.
-fn has_commit<H: Net<Stream = TcpStream> + Clock>(
+/// Whether the commit with this number is there.
+pub(crate) fn has_commit<H: Net<Stream = TcpStream> + Clock>(
     client: &Client<'_, H>,
     connection: &mut Connection,
     number: u64,
