@@ -1,5 +1,5 @@
 -- What the note of a checkpoint states, and what a log that is opened has of a proposal.
-use Rattle.std.proofs.Common.{inl, inr, option_map, ◌⊎◌, ◌≡◌, ℕ, ◌≤◌, List, map, Option, Some, None, refl, sym, ap, subst, ◌∙◌, arith}
+use Rattle.std.proofs.Common.{inl, inr, option_map, ◌⊎◌, ◌≡◌, ℕ, ◌≤◌, List, Option, Some, None, refl, sym, ap, subst, ◌∙◌, arith}
 use Rattle.tl_hash.specs.Bytes.{Bytes}
 use Rattle.tl_hash.specs.declared.head.Head.{Head}
 use Rattle.tl_note.specs.Key.{Key}
@@ -10,14 +10,15 @@ use Rattle.tl_checkpoint.specs.Checkpoint.{checkpoint_text}
 use Rattle.tl_checkpoint.proofs.OneText.{one_checkpoint}
 use Rattle.tl_archive.specs.Shelves.{Held}
 use Rattle.tl_checkpoint.specs.OpenCheckpoint.{IsSignedCheckpoint}
-use Rattle.tl_ledger.specs.Opening.{IsOfHeld, IsOfNote, IsStated, found_size}
+use Rattle.tl_ledger.specs.Opening.{IsNamed, IsOfHeld, IsOfNote, IsStated, found_size}
 use Rattle.tl_client.specs.Trusted.{IsTrusted}
 use Rattle.tl_append.specs.Cosigning.{HasQuorum}
 use Rattle.tl_append.specs.Proposing.{HasProposal, IsNoOlder, IsProposed, IsThere}
 
--- a note of this checkpoint states its size
-pub states_size : (note : Bytes) (keys : List Key) (c : checkpoint.Head) → IsSignedCheckpoint note keys c → (head : Head) × IsOfNote note keys head × (head.size ≡ c.size)
-states_size note keys c signed = (record { size = c.size; root = c.root }, (c, signed, refl, refl), refl)
+-- a note of this checkpoint of the log states its size
+pub states_size : (note : Bytes) (keys : List Key) (c : checkpoint.Head) (name : Bytes) → IsSignedCheckpoint note keys c → name ≡ c.origin → IsNamed keys name
+    → (head : Head) × IsOfNote note keys head × (head.size ≡ c.size)
+states_size note keys c name signed same named = (record { size = c.size; root = c.root }, (c, signed, subst (IsNamed keys) same named, refl, refl), refl)
 
 -- enough witnesses cosigned a note
 pub has_quorum : (note : Bytes) (keys witnesses : List Key) (need : ℕ) (c : checkpoint.Head)
@@ -69,7 +70,7 @@ grown_shown (Some note) keys size more less (head, of, older) =
 
 -- a note states one size
 pub one_size : (note : Bytes) (keys : List Key) (a b : Head) → IsOfNote note keys a → IsOfNote note keys b → a.size ≡ b.size
-one_size note keys a b (c, signed, sized, rooted) (d, signed_too, sized_too, rooted_too) =
+one_size note keys a b (c, signed, named, sized, rooted) (d, signed_too, named_too, sized_too, rooted_too) =
     let text = (one_note note (checkpoint_text c) (checkpoint_text d) signed.lines signed_too.lines signed.noted signed_too.noted).0 in
     sym sized ∙ ap (λ (h : checkpoint.Head). h.size) (one_checkpoint c d signed.stated signed_too.stated text) ∙ sized_too
 

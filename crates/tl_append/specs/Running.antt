@@ -4,7 +4,9 @@ use Rattle.std.specs.List.{flat_map}
 use Rattle.sha2.specs.Sha256.{sha256}
 use Rattle.tl_hash.specs.Bytes.{Bytes, Digest}
 use Rattle.tl_device.specs.Device.{Passage, HasFailed, IsUnread, WroteWhole}
-use Rattle.tl_key.specs.NoteKey.{SeedKey, note_kind}
+use Rattle.tl_note.specs.Key.{Key}
+use Rattle.tl_key.specs.DemoKey.{demo_verifier_key}
+use Rattle.tl_key.specs.NoteKey.{SeedKey, note_kind, public_of, verifier_key}
 use Rattle.tl_lines.specs.Lines.{Uncut, unread}
 use Rattle.tl_lines.specs.Reading.{TellsAll, all_entries}
 use Rattle.tl_publisher.specs.Histories.{Prefix, Begins}
@@ -60,6 +62,16 @@ abbrev pub IsLogKey : GivenKey → Bytes → LogKey → Type 0
 IsLogKey (given.Secret secret) name key = key ≡ demo_log_key (record { name = name; secret = string_bytes secret })
 IsLogKey (given.File path) name key =
     (bytes : Bytes) × (k : SeedKey) × IsPrivateFile note_kind bytes k × (k.name ≡ name) × (key ≡ seed_log_key k)
+
+-- both keys of a log of this name that its options tell, the one that it signs with and the one that opens what it
+-- signed: they are of one secret, or of one private key
+abbrev pub AreLogKeys : GivenKey → Bytes → LogKey → Key → Type 0
+AreLogKeys (given.Secret secret) name signer opener =
+    (signer ≡ demo_log_key (record { name = name; secret = string_bytes secret }))
+    × (opener ≡ demo_verifier_key (record { name = name; secret = string_bytes secret }))
+AreLogKeys (given.File path) name signer opener =
+    (bytes : Bytes) × (k : SeedKey) × IsPrivateFile note_kind bytes k × (k.name ≡ name)
+    × (signer ≡ seed_log_key k) × (opener ≡ verifier_key (public_of k))
 
 -- the number of entries of a batch: as many as the options tell, one at least
 abbrev pub batch_size : Option ℕ → ℕ

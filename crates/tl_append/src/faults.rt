@@ -56,7 +56,9 @@ pub(crate) fn unopened(fault: OpenFault) -> RunFault
     ensures { result ≡ after_open fault }
 {
     match fault {
-        OpenFault::Checkpoint => RunFault::BadCheckpoint(Place::Log(Some(Resource::Checkpoint))),
+        OpenFault::Checkpoint | OpenFault::OtherLog => {
+            RunFault::BadCheckpoint(Place::Log(Some(Resource::Checkpoint)))
+        }
         OpenFault::TooLarge => unfit(Resource::Checkpoint, DeviceFault::TooLarge),
         OpenFault::Missing(resource) => unfit(resource, DeviceFault::NotThere),
         OpenFault::Damaged(resource) => unfit(resource, DeviceFault::Damaged),

@@ -1,8 +1,8 @@
 //! The keys of a log.
 
 ghost use Rattle.std.specs.Prelude.{◌≡◌, IfOk};
-ghost use Rattle.tl_append.specs.Keys.{log_key_of};
-ghost use Rattle.tl_append.specs.Running.{IsLogKey};
+ghost use Rattle.tl_append.specs.Keys.{log_key_of, opening_key_of};
+ghost use Rattle.tl_append.specs.Running.{AreLogKeys, IsLogKey};
 
 use std::alloc::{AllocError, Allocator, Global};
 use std::fs::Files;
@@ -127,14 +127,17 @@ fn demonstration(alloc: Global, origin: &str, secret: &str) -> Result<DemoKey<Gl
     }
 }
 
-/// The keys of a log of this name, by the key that its options tell. `BadOrigin`: they are of another name.
+/// The keys of a log of this name, by the key that its options tell: the one opens what the other signed. `BadOrigin`:
+/// they are of another name.
 pub fn keys_of<H: Files>(
     rt: &H,
     alloc: Global,
     origin: &str,
     key: &LogKey,
 ) -> Result<LogKeys, RunFault>
-    ensures { IfOk result (λ keys. IsLogKey key.now origin.now (log_key_of keys.signer)) }
+    ensures signer { IfOk result (λ keys. IsLogKey key.now origin.now (log_key_of keys.signer)) }
+    ensures both { IfOk result (λ keys. AreLogKeys key.now origin.now
+        (log_key_of keys.signer) (opening_key_of keys.verifier)) }
 {
     match key {
         LogKey::Secret(secret) => Ok(LogKeys {

@@ -69,7 +69,8 @@ pub trait LogShelf: Drop {
 
     /// Opens the log, whose checkpoint the verifier has to open (C2SP tlog-checkpoint), as far as its checkpoint or the
     /// proposal that is kept goes, whichever has more entries. `found` holds what was read. `Older`: more entries were
-    /// published, and that isn't allowed. `BadCheckpoint` over no resource: the proposal doesn't open.
+    /// published, and that isn't allowed. `BadCheckpoint`: the checkpoint or, over no resource, the proposal doesn't
+    /// open, or is of another log: its origin isn't the verifier's name.
     fn open(
         &mut self,
         alloc: Global,

@@ -17,11 +17,11 @@ use std::alloc::Global;
 use std::snapshot::Snapshot;
 use tl_archive::Shelf;
 use tl_checkpoint::open_checkpoint;
-use tl_command::RunFault;
-use tl_ledger::{Found, Ledger};
+use tl_command::{Place, RunFault};
+use tl_ledger::{Found, Ledger, is_named};
 use tl_note::Verifier;
 
-// The number of entries of the checkpoint that a proposal is of.
+// The number of entries of the checkpoint that a proposal is of, which has to be the log's.
 fn proposed_size(
     alloc: Global,
     note: &str,
@@ -30,10 +30,14 @@ fn proposed_size(
     ensures { IfOk result (λ size. (head : HeadValue)
         × IsOfNote note.now (map (λ v. key v) verifiers.now) head × (head.size ≡ size)) }
 {
-    match open_checkpoint(alloc, note, verifiers) {
-        Ok(checkpoint) => Ok(checkpoint.size),
-        Err(fault) => Err(unproposed(fault)),
+    let checkpoint = match open_checkpoint(alloc, note, verifiers) {
+        Ok(checkpoint) => checkpoint,
+        Err(fault) => return Err(unproposed(fault)),
+    };
+    if !is_named(verifiers, checkpoint.origin.as_str()) {
+        return Err(RunFault::BadCheckpoint(Place::Log(None)));
     }
+    Ok(checkpoint.size)
 }
 
 // The ledger of the log on this shelf, as far as its checkpoint goes.
@@ -139,8 +143,8 @@ fn open_by<S: Shelf, P: ProposalStore>(
 
 /// Opens the log on this shelf, whose checkpoint the verifier has to open (C2SP tlog-checkpoint), as far as that goes
 /// or the proposal that the store keeps, whichever has more entries: of no entries where there is neither. `found` has
-/// what was read. `Older`: more entries were published, and that isn't allowed. `BadCheckpoint` over no resource: the
-/// proposal doesn't open.
+/// what was read. `Older`: more entries were published, and that isn't allowed. `BadCheckpoint`: the checkpoint or,
+/// over no resource, the proposal doesn't open, or is of another log: its origin isn't the verifier's name.
 pub fn open_ledger<S: Shelf, P: ProposalStore>(
     alloc: Global,
     verifier: LogOpeningKey,

@@ -1,7 +1,7 @@
 -- Commits that are finished: what they append is put and shown.
 use Rattle.std.specs.Prelude.{◌≡◌, ◌⊎◌, ℕ, ◌+◌, ◌-◌, ◌<◌, ◌≤◌, ⊤, List, [], ◌∷◌, ◌++◌, length, Result, Ok, Err}
 use Rattle.tl_append.specs.Appending.{Appends, AppendsThen, Course, course, joined}
-use Rattle.tl_append.specs.Running.{Grows, IsLogKey, OfFound, visit}
+use Rattle.tl_append.specs.Running.{AreLogKeys, Grows, OfFound, visit}
 use Rattle.tl_archive.specs.Shelves.{Held}
 use Rattle.tl_command.specs.Mirror.{LogKey}
 use Rattle.tl_command.specs.declared.fault.RunFault.{RunFault}
@@ -68,13 +68,13 @@ Finishes key p end c (Err fault) = (first : ℕ) × FinishesSome key p first c
 abbrev pub ShowsSize : Place → ℕ → Type 0
 ShowsSize p size = (note : Bytes) × WasRead p (place_of [] resource.Checkpoint) note × TellsSize note size
 
--- a log was opened as far as a checkpoint goes that a key opens, and the commits behind that were finished under the key
--- of this name that is given: what was appended came behind each log with the size and the root that were found, at rest
--- in the bucket, or inputs collide
+-- a log was opened as far as a checkpoint goes that the key of this name opens, which is given, and the commits behind
+-- that were finished under it: what was appended came behind each log with the size and the root that were found, at
+-- rest in the bucket, or inputs collide
 pub record OpensAndFinishes (held : Held) (reached : Reached) (key : GivenKey) (name : Bytes) (before after : Bucketed) (result : Result (Unit {0}) RunFault) : Type 0 where
   pub own : LogKey
-  pub named : IsLogKey key name own
   pub opener : Key
+  pub named : AreLogKeys key name own opener
   pub found : Found
   pub was : Ledger
   pub is : Ledger

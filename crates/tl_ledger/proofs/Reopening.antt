@@ -211,6 +211,7 @@ refused_any A note keys unopened.OutOfMemory is = is
 pub unstated : (A : Type 0) (honest : Bool) (held : Held) (may_fail : Resource → ShelfFault → Type 0) (keys : List Key) (note : Bytes) (f : OpenFault) → (honest ≡ true → held resource.Checkpoint ≡ Some note)
     → StatesNone A note keys f → FindsNone honest held may_fail keys f
 unstated A honest held may_fail keys note opening.Checkpoint there (why, known, is) = (note, there, inr (why, known, refused_any A note keys why is))
+unstated A honest held may_fail keys note opening.OtherLog there states = (note, there, states)
 unstated A honest held may_fail keys note opening.TooLarge there states = (note, there, states)
 unstated A honest held may_fail keys note (opening.Missing r) there none = absurd none
 unstated A honest held may_fail keys note (opening.Damaged r) there none = absurd none
@@ -396,6 +397,7 @@ has_signed honest held keys stated head found Holds is own_is signed there holds
 -- a part was not read, or not restored
 pub head_unread : (honest : Bool) (held : Held) (may_fail : Resource → ShelfFault → Type 0) (head : Head) (found : Found) (fault : OpenFault) → ReadFails honest held may_fail head.size fault → HeadFails honest held may_fail head found fault
 head_unread honest held may_fail head found opening.Checkpoint none = none
+head_unread honest held may_fail head found opening.OtherLog none = none
 head_unread honest held may_fail head found opening.TooLarge none = none
 head_unread honest held may_fail head found (opening.Missing r) missing = missing
 head_unread honest held may_fail head found (opening.Damaged r) none = absurd none
@@ -405,6 +407,7 @@ head_unread honest held may_fail head found opening.OutOfMemory memory = tt
 pub part_failed : (honest : Bool) (held : Held) (may_fail : Resource → ShelfFault → Type 0) (items : List Item) (head : Head) (found : Found) (fault : OpenFault) → AreHeld honest held items
     → PartFails (λ r text. Contains items (r, text)) head found.edge_tiles found.entry_tiles fault → HeadFails honest held may_fail head found fault
 part_failed honest held may_fail items head found opening.Checkpoint read none = none
+part_failed honest held may_fail items head found opening.OtherLog read none = none
 part_failed honest held may_fail items head found opening.TooLarge read none = none
 part_failed honest held may_fail items head found (opening.Missing r) read none = absurd none
 part_failed honest held may_fail items head found (opening.Damaged r) read damaged =
@@ -416,6 +419,7 @@ part_failed honest held may_fail items head found opening.OutOfMemory read memor
 pub head_failed : (honest : Bool) (held : Held) (may_fail : Resource → ShelfFault → Type 0) (keys : List Key) (stated : Option Head) (head : Head) (found : Found) (fault : OpenFault) → found.head ≡ Some head → stated ≡ Some head
     → IsOfSigned keys stated → (honest ≡ true → IsOfHeld held keys stated) → HeadFails honest held may_fail head found fault → OpenFails honest held may_fail keys found fault
 head_failed honest held may_fail keys stated head found opening.Checkpoint is own_is signed there none = absurd none
+head_failed honest held may_fail keys stated head found opening.OtherLog is own_is signed there none = absurd none
 head_failed honest held may_fail keys stated head found opening.TooLarge is own_is signed there none = absurd none
 head_failed honest held may_fail keys stated head found (opening.Missing r) is own_is signed there missing =
     has_signed honest held keys stated head found (λ head. IsMissing honest held head.size r) is own_is signed there missing
@@ -428,6 +432,7 @@ head_failed honest held may_fail keys stated head found opening.OutOfMemory is o
 pub note_failed : (honest : Bool) (held : Held) (may_fail : Resource → ShelfFault → Type 0) (note : Bytes) (keys : List Key) (head : Head) (found : Found) (fault : OpenFault) → found.head ≡ Some head
     → IsOfNote note keys head → HeadFails honest held may_fail head found fault → OpenNoteFails honest held may_fail note keys found fault
 note_failed honest held may_fail note keys head found opening.Checkpoint is signed none = absurd none
+note_failed honest held may_fail note keys head found opening.OtherLog is signed none = absurd none
 note_failed honest held may_fail note keys head found opening.TooLarge is signed none = absurd none
 note_failed honest held may_fail note keys head found (opening.Missing r) is signed missing = record { head = head; is = is; signed = signed; holds = missing }
 note_failed honest held may_fail note keys head found (opening.Damaged r) is signed damaged = record { head = head; is = is; signed = signed; holds = damaged }
@@ -437,6 +442,7 @@ note_failed honest held may_fail note keys head found opening.OutOfMemory is sig
 -- nor is a note opened that states none
 pub unstated_note : (A : Type 0) (honest : Bool) (held : Held) (may_fail : Resource → ShelfFault → Type 0) (note : Bytes) (keys : List Key) (found : Found) (fault : OpenFault) → StatesNone A note keys fault → OpenNoteFails honest held may_fail note keys found fault
 unstated_note A honest held may_fail note keys found opening.Checkpoint (why, known, is) = inr (why, known, refused_any A note keys why is)
+unstated_note A honest held may_fail note keys found opening.OtherLog states = states
 unstated_note A honest held may_fail note keys found opening.TooLarge states = states
 unstated_note A honest held may_fail note keys found (opening.Missing r) none = absurd none
 unstated_note A honest held may_fail note keys found (opening.Damaged r) none = absurd none

@@ -21,7 +21,7 @@ use Rattle.tl_client.specs.Checked.{AreCheckedEntries}
 use Rattle.tl_client.specs.Refused.{AnswersOtherEntry, BundleRead}
 use Rattle.tl_archive.specs.Shelves.{Held}
 use Rattle.tl_archive.specs.declared.fault.ShelfFault.{ShelfFault}
-use Rattle.tl_ledger.specs.Opening.{Found, IsOfHeld, IsOfNote, IsOfSigned}
+use Rattle.tl_ledger.specs.Opening.{Found, IsNamed, IsOfHeld, IsOfNote, IsOfSigned}
 use Rattle.tl_ledger.specs.declared.opened.fault.OpenFault.{OpenFault}
 use Rattle.tl_ledger.specs.declared.opened.fault.OpenFault.TheVariants as opening
 
@@ -82,10 +82,16 @@ abbrev pub IsUnopened : Bytes → List Key → Type 0
 IsUnopened bytes keys =
     (IsUtf8 bytes → ⊥) ⊎ ((fault : OpenCheckpointFault) × (fault ≢ unopened.OutOfMemory) × OpensCheckpoint {A = Global} bytes keys (Err fault))
 
--- the note is that of a checkpoint of so many entries, and opens under these keys
+-- the note opens under these keys, and its checkpoint is of another log: its origin is the name of none of the keys
+abbrev pub IsOfOther : List Key → Bytes → Type 0
+IsOfOther keys note =
+    (checkpoint : Checkpoint) × IsSignedCheckpoint note keys checkpoint × ¬ (IsNamed keys checkpoint.origin)
+
+-- the note is that of the log's checkpoint of so many entries, and opens under these keys
 pub record StatesSize (note : Bytes) (keys : List Key) (size : ℕ) : Type 0 where
   pub checkpoint : Checkpoint
   pub signed : IsSignedCheckpoint note keys checkpoint
+  pub named : IsNamed keys checkpoint.origin
   pub sized : checkpoint.size ≡ size
 
 -- the note opens under these keys, and states more entries than a log takes
@@ -95,6 +101,7 @@ StatesTooMany keys note = (size : ℕ) × StatesSize note keys size × (2 ^ 32 �
 -- when each fault comes, by what was read
 abbrev pub OpenFails : Bool → Held → (Resource → ShelfFault → Type 0) → List Key → Found → OpenFault → Type 0
 OpenFails honest held may_fail keys found opening.Checkpoint = HasRead honest held (λ bytes. IsUnopened bytes keys)
+OpenFails honest held may_fail keys found opening.OtherLog = HasRead honest held (IsOfOther keys)
 OpenFails honest held may_fail keys found opening.TooLarge = HasRead honest held (StatesTooMany keys)
 OpenFails honest held may_fail keys found (opening.Missing r) =
     HasSigned honest held keys found.head (λ head. IsMissing honest held head.size r)
@@ -113,6 +120,7 @@ pub record HasStated (note : Bytes) (keys : List Key) (found : Option Head) (Hol
 -- when each fault comes where a log is opened as far as a note goes
 abbrev pub OpenNoteFails : Bool → Held → (Resource → ShelfFault → Type 0) → Bytes → List Key → Found → OpenFault → Type 0
 OpenNoteFails honest held may_fail note keys found opening.Checkpoint = IsUnopened note keys
+OpenNoteFails honest held may_fail note keys found opening.OtherLog = IsOfOther keys note
 OpenNoteFails honest held may_fail note keys found opening.TooLarge = StatesTooMany keys note
 OpenNoteFails honest held may_fail note keys found (opening.Missing r) =
     HasStated note keys found.head (λ head. IsMissing honest held head.size r)

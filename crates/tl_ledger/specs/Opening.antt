@@ -1,5 +1,5 @@
 -- How a log that is on a shelf is opened (C2SP tlog-checkpoint; C2SP tlog-tiles, "Partial Tiles").
-use Rattle.std.specs.Prelude.{◌≡◌, ℕ, ◌⊎◌, List, [], length, Option, Some, None, ⊤}
+use Rattle.std.specs.Prelude.{◌≡◌, ℕ, ◌⊎◌, List, [], length, Any, Option, Some, None, ⊤}
 use Rattle.tl_hash.specs.Bytes.{Bytes, Digest}
 use Rattle.tl_hash.specs.Tree.{tree_hash}
 use Rattle.tl_hash.specs.declared.head.Head.{Head}
@@ -39,13 +39,18 @@ FoundCollides H found log =
     TilesCollide H (tiles_of found.edge_tiles) (found_size found.head) log
     ⊎ (LeavesCollide H found.entries log ⊎ TilesCollide H (tiles_of found.entry_tiles) (found_size found.head) log)
 
--- the note is that of a checkpoint with this size and this root, and opens under these keys
+-- one of the keys has this name
+abbrev pub IsNamed : List Key → Bytes → Type 0
+IsNamed keys name = Any (λ key. key.name ≡ name) keys
+
+-- the note is that of a checkpoint with this size and this root, of the log that one of these keys names, and opens
+-- under the keys
 abbrev pub IsOfNote : Bytes → List Key → Head → Type 0
 IsOfNote note keys head =
-    (signed : checkpoint.Head) × IsSignedCheckpoint note keys signed
+    (signed : checkpoint.Head) × IsSignedCheckpoint note keys signed × IsNamed keys signed.origin
     × (signed.size ≡ head.size) × (signed.root ≡ head.root)
 
--- the size and the root are those of a checkpoint whose note these keys open
+-- the size and the root are those of a checkpoint of the log whose note these keys open
 abbrev pub IsOfSigned : List Key → Option Head → Type 0
 IsOfSigned keys None = ⊤
 IsOfSigned keys (Some head) = (note : Bytes) × IsOfNote note keys head

@@ -10,6 +10,7 @@ ghost use Rattle.tl_ledger.specs.Inner.Restoring.{HeadFails, PartFails, Restores
 mod fault;
 mod found;
 mod heading;
+mod naming;
 mod reading;
 mod restoring;
 mod shelf_source;
@@ -18,6 +19,7 @@ use crate::ledger::Ledger;
 pub use fault::OpenFault;
 pub use found::Found;
 use heading::{find_head, stated};
+pub use naming::is_named;
 use reading::read_partials;
 use restoring::{restore_bundle, restore_edge};
 use shelf_source::ShelfSource;
@@ -93,7 +95,7 @@ impl<A: Allocator + Copy> Ledger<A> {
     /// The ledger of the log on this shelf, as far as its checkpoint goes, which the verifiers have to open (C2SP
     /// tlog-checkpoint); of no entries where there is no checkpoint. It reads the checkpoint, the partial tiles and the
     /// partial bundle, each once, and checks them against the root. `found` then holds what was read, also after a
-    /// fault.
+    /// fault. `OtherLog`: the checkpoint's origin is the name of no verifier.
     pub fn open<S: Shelf>(
         alloc: A,
         shelf: &S,
@@ -122,7 +124,8 @@ impl<A: Allocator + Copy> Ledger<A> {
     }
 
     /// As `open`, as far as this note goes, which the verifiers have to open, and not as the checkpoint that is there:
-    /// that of a checkpoint which isn't at its place yet. The checkpoint there isn't read.
+    /// that of a checkpoint which isn't at its place yet. The checkpoint there isn't read. `OtherLog`: the note's
+    /// origin is the name of no verifier.
     pub fn open_note<S: Shelf>(
         alloc: A,
         shelf: &S,

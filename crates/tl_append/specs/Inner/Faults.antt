@@ -28,6 +28,7 @@ after_ledger ledger.OutOfMemory = run.OutOfMemory
 -- where a log was not opened
 abbrev pub after_open : OpenFault → RunFault
 after_open opening.Checkpoint = run.BadCheckpoint (Log (Some resource.Checkpoint))
+after_open opening.OtherLog = run.BadCheckpoint (Log (Some resource.Checkpoint))
 after_open opening.TooLarge = after_device (Log (Some resource.Checkpoint)) device.TooLarge
 after_open (opening.Missing r) = after_device (Log (Some r)) device.NotThere
 after_open (opening.Damaged r) = after_device (Log (Some r)) device.Damaged

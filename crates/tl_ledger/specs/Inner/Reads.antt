@@ -67,6 +67,7 @@ pub record ReadsOn (honest : Bool) (held : Held) (before after : List Item) : Ty
 -- why a part of a log of this size was not read
 abbrev pub ReadFails : Bool → Held → (Resource → ShelfFault → Type 0) → ℕ → OpenFault → Type 0
 ReadFails honest held may_fail size opening.Checkpoint = ⊥
+ReadFails honest held may_fail size opening.OtherLog = ⊥
 ReadFails honest held may_fail size opening.TooLarge = ⊥
 ReadFails honest held may_fail size (opening.Missing r) = IsMissing honest held size r
 ReadFails honest held may_fail size (opening.Damaged r) = ⊥

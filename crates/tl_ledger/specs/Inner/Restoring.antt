@@ -19,7 +19,7 @@ use Rattle.tl_archive.specs.declared.fault.ShelfFault.{ShelfFault}
 use Rattle.tl_archive.specs.Complete.{HasAll}
 use Rattle.tl_ledger.specs.Standing.{Ledger, IsStanding}
 use Rattle.tl_ledger.specs.Opening.{Found, FoundCollides}
-use Rattle.tl_ledger.specs.OpenFaults.{FailsRead, HasRead, IsDamaged, IsMissing, IsUnopened, MayRead, StatesTooMany}
+use Rattle.tl_ledger.specs.OpenFaults.{FailsRead, HasRead, IsDamaged, IsMissing, IsOfOther, IsUnopened, MayRead, StatesTooMany}
 use Rattle.tl_ledger.specs.Inner.Reads.{AreThere}
 use Rattle.tl_ledger.specs.declared.opened.fault.OpenFault.{OpenFault}
 use Rattle.tl_ledger.specs.declared.opened.fault.OpenFault.TheVariants as opening
@@ -29,6 +29,7 @@ use Rattle.tl_ledger.specs.declared.opened.fault.OpenFault.TheVariants as openin
 -- why a note gave no size and root
 abbrev pub StatesNone : Type 0 → Bytes → List Key → OpenFault → Type 0
 StatesNone A note keys opening.Checkpoint = (why : OpenCheckpointFault) × (why ≢ unopened.OutOfMemory) × OpensCheckpoint {A = A} note keys (Err why)
+StatesNone A note keys opening.OtherLog = IsOfOther keys note
 StatesNone A note keys opening.TooLarge = StatesTooMany keys note
 StatesNone A note keys (opening.Missing r) = ⊥
 StatesNone A note keys (opening.Damaged r) = ⊥
@@ -38,6 +39,7 @@ StatesNone A note keys opening.OutOfMemory = ⊤
 -- why no checkpoint was found
 abbrev pub FindsNone : Bool → Held → (Resource → ShelfFault → Type 0) → List Key → OpenFault → Type 0
 FindsNone honest held may_fail keys opening.Checkpoint = HasRead honest held (λ bytes. IsUnopened bytes keys)
+FindsNone honest held may_fail keys opening.OtherLog = HasRead honest held (IsOfOther keys)
 FindsNone honest held may_fail keys opening.TooLarge = HasRead honest held (StatesTooMany keys)
 FindsNone honest held may_fail keys (opening.Missing r) = ⊥
 FindsNone honest held may_fail keys (opening.Damaged r) = ⊥
@@ -60,6 +62,7 @@ IsBundleOf head entries fetched bytes =
 -- why a part was not restored, by what was read and fetched
 abbrev pub PartFails : (Resource → Bytes → Type 0) → Head → List (Tile × Bytes) → List (Tile × Bytes) → OpenFault → Type 0
 PartFails answers head edge_tiles entry_tiles opening.Checkpoint = ⊥
+PartFails answers head edge_tiles entry_tiles opening.OtherLog = ⊥
 PartFails answers head edge_tiles entry_tiles opening.TooLarge = ⊥
 PartFails answers head edge_tiles entry_tiles (opening.Missing r) = ⊥
 PartFails answers head edge_tiles entry_tiles (opening.Damaged r) = IsDamaged answers head edge_tiles entry_tiles r
@@ -80,6 +83,7 @@ StandsWhereRead items size ledger =
 -- why a log of this size and root was not opened, by what was found
 abbrev pub HeadFails : Bool → Held → (Resource → ShelfFault → Type 0) → Head → Found → OpenFault → Type 0
 HeadFails honest held may_fail head found opening.Checkpoint = ⊥
+HeadFails honest held may_fail head found opening.OtherLog = ⊥
 HeadFails honest held may_fail head found opening.TooLarge = ⊥
 HeadFails honest held may_fail head found (opening.Missing r) = IsMissing honest held head.size r
 HeadFails honest held may_fail head found (opening.Damaged r) = IsDamaged (MayRead honest held) head found.edge_tiles found.entry_tiles r

@@ -15,6 +15,9 @@ pub enum OpenFault {
     /// tlog-checkpoint).
     #[error("the checkpoint does not open")]
     Checkpoint,
+    /// The checkpoint's origin is the name of none of the keys (C2SP tlog-checkpoint): it is of another log.
+    #[error("the checkpoint is of another log")]
+    OtherLog,
     /// The checkpoint states more than 2^32 - 1 entries.
     #[error("the log is too large")]
     TooLarge,

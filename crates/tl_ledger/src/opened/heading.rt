@@ -5,6 +5,7 @@ ghost use Rattle.tl_ledger.specs.Opening.{IsOfHeld, IsOfNote, IsOfSigned, found_
 ghost use Rattle.tl_ledger.specs.Inner.Restoring.{FindsNone, StatesNone};
 
 use crate::opened::fault::OpenFault;
+use crate::opened::naming::is_named;
 use std::alloc::{Allocator, Global};
 use std::str;
 use tl_archive::Shelf;
@@ -15,7 +16,7 @@ use tl_tile::Resource;
 
 const MOST_ENTRIES: u64 = 0xFFFF_FFFF;
 
-/// The size and the root that the checkpoint of a note states.
+/// The size and the root that the checkpoint of a note states, whose origin is the name of one of the keys.
 pub(crate) fn stated<A: Allocator + Copy>(
     alloc: A,
     note: &str,
@@ -30,6 +31,9 @@ pub(crate) fn stated<A: Allocator + Copy>(
         Err(OpenCheckpointFault::OutOfMemory) => return Err(OpenFault::OutOfMemory),
         Err(_) => return Err(OpenFault::Checkpoint),
     };
+    if !is_named(verifiers, checkpoint.origin.as_str()) {
+        return Err(OpenFault::OtherLog);
+    }
     if checkpoint.size > MOST_ENTRIES {
         return Err(OpenFault::TooLarge);
     }

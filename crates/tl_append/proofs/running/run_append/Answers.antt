@@ -7,7 +7,7 @@ use Rattle.tl_append.proofs.Runs.{key_name, stayed, under_part}
 use Rattle.tl_append.proofs.running.run_append.Goals as goal
 
 pub append_under-requires : goal.append_under-requires
-append_under-requires g c = key_name c.args.options.now.key _ (log_key_of c.in-Ok.keys.signer) c.in-Ok.ensures (c.if-not-is_key_name.ensures.0 refl)
+append_under-requires g c = key_name c.args.options.now.key _ (log_key_of c.in-Ok.keys.signer) c.in-Ok.ensures.signer (c.if-not-is_key_name.ensures.0 refl)
 
 pub returns-then-not-is_key_name-clause-goes_on : goal.returns-then-not-is_key_name-clause-goes_on
 returns-then-not-is_key_name-clause-goes_on g c = inl (stayed (g.S.Shelf.kept c.args.shelf.now) (g.S.Shelf.trace c.args.shelf.now) (g.R.Read.remaining c.args.reader.now.device) c.args.reader.now.failed)
@@ -18,13 +18,13 @@ returns-in-Err-clause-goes_on g c = inl (stayed (g.S.Shelf.kept c.args.shelf.now
 pub returns-in-Ok-append_under-clause-goes_on : goal.returns-in-Ok-append_under-clause-goes_on
 returns-in-Ok-append_under-clause-goes_on g c = (
   log_key_of c.in-Ok.keys.signer,
-  subst (λ (n : Bytes). IsLogKey c.args.options.now.key n (log_key_of c.in-Ok.keys.signer)) c.as_str-origin.ensures.value c.in-Ok.ensures,
+  subst (λ (n : Bytes). IsLogKey c.args.options.now.key n (log_key_of c.in-Ok.keys.signer)) c.as_str-origin.ensures.value c.in-Ok.ensures.signer,
   c.in-Ok-append_under.ensures.goes_on,
 )
 
 pub returns-in-Err-append_under-clause-goes_on : goal.returns-in-Err-append_under-clause-goes_on
 returns-in-Err-append_under-clause-goes_on g c =
-    under_part c.args.options.now.key _ _ (log_key_of c.in-Ok.keys.signer) _ _ _ c.as_str-origin.ensures.value c.in-Ok.ensures c.in-Err-append_under.ensures.goes_on
+    under_part c.args.options.now.key _ _ (log_key_of c.in-Ok.keys.signer) _ _ _ c.as_str-origin.ensures.value c.in-Ok.ensures.signer c.in-Err-append_under.ensures.goes_on
 
 pub returns-then-not-is_key_name-clause-left : goal.returns-then-not-is_key_name-clause-left
 returns-then-not-is_key_name-clause-left g c = λ new. inr (stayed (g.S.Shelf.kept c.args.shelf.now) (g.S.Shelf.trace c.args.shelf.now) (g.R.Read.remaining c.args.reader.now.device) c.args.reader.now.failed)

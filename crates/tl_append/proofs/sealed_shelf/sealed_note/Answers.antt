@@ -1,4 +1,3 @@
-use Rattle.std.proofs.Common.{string_bytes}
 use Rattle.tl_append.proofs.ShownBatch.{is_note_of}
 use Rattle.tl_append.proofs.sealed_shelf.sealed_note.Goals as goal
 

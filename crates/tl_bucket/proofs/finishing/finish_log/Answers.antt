@@ -5,7 +5,7 @@ use Rattle.tl_bucket.specs.Buckets.{bucket_kept, bucket_trace}
 use Rattle.tl_bucket.proofs.finishing.finish_log.Goals as goal
 
 pub finish-requires : goal.finish-requires
-finish-requires g c = record { origin = key_name c.args.key.now c.args.origin.now (log_key_of c.in-Ok.keys.signer) c.in-Ok.ensures (c.if-not-is_key_name.ensures.0 refl) }
+finish-requires g c = record { origin = key_name c.args.key.now c.args.origin.now (log_key_of c.in-Ok.keys.signer) c.in-Ok.ensures.signer (c.if-not-is_key_name.ensures.0 refl) }
 
 pub returns-clause-finishes : goal.returns-clause-finishes
 returns-clause-finishes g c =
@@ -16,8 +16,8 @@ returns-clause-finishes g c =
     let trace = bucket_trace g.D.CrashOutcome.held g.D.CrashOutcome.reached in
     inr (inr (record {
       own = own;
-      named = c.in-Ok.ensures;
       opener = opener;
+      named = c.in-Ok.ensures.both;
       found = c.open_ledger.new.found;
       was = c.in-Ok-open_ledger.opened.ledger;
       is = c.finish.new.ledger;

@@ -6,9 +6,9 @@ use Rattle.tl_serve.proofs.Shelves.{serves_given}
 use Rattle.tl_serve.proofs.serve_shelf.run_serve_shelf.Goals as goal
 
 pub serve_under-requires-clause-name : goal.serve_under-requires-clause-name
-serve_under-requires-clause-name g c κs within = key_name c.args.options.now.key _ (log_key_of c.in-Ok.keys.signer) c.in-Ok.ensures (c.if-not-is_key_name.ensures.0 refl)
+serve_under-requires-clause-name g c κs within = key_name c.args.options.now.key _ (log_key_of c.in-Ok.keys.signer) c.in-Ok.ensures.signer (c.if-not-is_key_name.ensures.0 refl)
 
 pub returns-clause-serves : goal.returns-clause-serves
 returns-clause-serves g c =
     serves_given c.args.options.now.key _ _ (log_key_of c.in-Ok.keys.signer) (g.S.LogShelf.quorum c.args.shelf) c.serve_under.new.found (visit g.S.LogShelf.kept g.S.LogShelf.trace c.args.shelf c.serve_under.result.shelf) c.serve_under.result.outcome
-    c.as_str-origin.ensures.value c.in-Ok.ensures c.serve_under.ensures.serves
+    c.as_str-origin.ensures.value c.in-Ok.ensures.signer c.serve_under.ensures.serves
