@@ -4,11 +4,12 @@ use Rattle.std.proofs.lemmas.Bool.{cases_lt}
 use Rattle.std.specs.Prelude.{Err}
 use Rattle.tl_text.specs.Text.{IsOneLine}
 use Rattle.tl_device.specs.Device.{Passage, IsUnwritten, GaveSome, ReadWhole}
+use Rattle.tl_command.specs.Inner.Cuts.{IsMarkFault}
 use Rattle.tl_command.specs.Inner.Growing.{ReadsEdge}
 use Rattle.tl_command.specs.declared.fault.RunFault.{RunFault}
 use Rattle.tl_command.specs.declared.fault.RunFault.TheVariants.{Refused, Read, Write, TooLarge, EntryTooLong, BadOrigin, BadIndex, BadOld, BadPath, NotThere, Malformed, Chain, Sign, Operator, Listen, Accept, OutOfMemory, BadName, BadKey, BadCheckpoint, WrongSignature, Unverified, Device, BadKeyFile}
 use Rattle.tl_command.specs.Lines.{entries_of, first_too_long}
-use Rattle.tl_command.specs.Run.{Output, Fails, Runs, IsAsking, IsEntryFault, ReadEntries, most_input}
+use Rattle.tl_command.specs.Run.{Output, Fails, Runs, IsAsking, ReadEntries, most_input}
 use Rattle.tl_command.specs.Head.{HeadComes, RunsHead, head_text}
 use Rattle.tl_command.specs.ProofText.{consistency_text}
 use Rattle.tl_command.specs.ProofCommands.{ConsistencyComes, consistency_of}
@@ -75,9 +76,9 @@ pub read_lines : (p : Passage) (most : ℕ) (input text : List ℕ) (lines : Lis
 read_lines p most input text lines whole same is short =
     record { input = input; whole = whole; lines = is ∙ ap entries_of same; short = ap first_too_long is ∙ short }
 
--- a line of the whole input that is too long is a fault of the run
+-- why the lines of the whole input weren't counted is a fault of the run
 pub entry_fails : (Comes : List ℕ → Output → Type 0) (i o : Passage) (input text : List ℕ) (fault : RunFault) → ReadWhole i most_input input → text ≡ input → IsUnwritten o
-    → ((place : ℕ) → first_too_long (entries_of input) ≡ Some place → Comes input (Fails (EntryTooLong place))) → IsEntryFault (entries_of text) fault → Runs Comes i o (Err fault)
+    → ((place : ℕ) → first_too_long (entries_of input) ≡ Some place → Comes input (Fails (EntryTooLong place))) → IsMarkFault text fault → Runs Comes i o (Err fault)
 entry_fails Comes i o input text (EntryTooLong place) whole same none comes given =
     (record { input = input; whole = whole; so = comes place (ap (λ (t : List ℕ). first_too_long (entries_of t)) (sym same) ∙ given) }, none)
 entry_fails Comes i o input text Refused whole same none comes given = absurd given
@@ -96,7 +97,7 @@ entry_fails Comes i o input text Operator whole same none comes given = absurd g
 entry_fails Comes i o input text Listen whole same none comes given = absurd given
 entry_fails Comes i o input text Accept whole same none comes given = absurd given
 entry_fails Comes i o input text (Device place why) whole same none comes given = absurd given
-entry_fails Comes i o input text OutOfMemory whole same none comes given = absurd given
+entry_fails Comes i o input text OutOfMemory whole same none comes given = (whole.steady, none, inl (input, whole.consumed, omega (arith, given, ap length same)))
 entry_fails Comes i o input text BadName whole same none comes given = absurd given
 entry_fails Comes i o input text BadKey whole same none comes given = absurd given
 entry_fails Comes i o input text BadKeyFile whole same none comes given = absurd given

@@ -1,22 +1,22 @@
 -- How many lines a text has, line by line, and where it is cut after some of them.
-use Rattle.std.proofs.Common.{inl, inr, ◌≡◌, ℕ, ◌+◌, ◌-◌, ◌<◌, ◌≤◌, true, List, [], ◌∷◌, ◌++◌, length, get_or, take, drop, refl, sym, ap, ◌∙◌, arith, append_assoc, append-nil, None, Some}
-use Rattle.std.specs.Prelude.{◌==◌}
+use Rattle.std.proofs.Common.{inl, inr, ◌≡◌, ℕ, ◌+◌, ◌-◌, ◌<◌, ◌≤◌, true, List, [], ◌∷◌, ◌++◌, length, get_or, take, drop, refl, sym, ap, ◌∙◌, arith, append_assoc, append-nil, All, None, Some}
+use Rattle.std.specs.Prelude.{◌==◌, Bool, cond, not}
 use Rattle.std.proofs.Math.Seq.{take-add, take-append_seam, drop-append_seam}
 use Rattle.std.proofs.lemmas.Bool.{cases_lt, le-ltb, lt-ltb}
 use Rattle.std.proofs.lemmas.Grind.{flat_map-append}
 use Rattle.std.proofs.lemmas.List.{drop_all, length-append, take-append-drop, take_all, take_rest}
-use Rattle.std.proofs.lemmas.List.Elements.{All-nil, All-push, All-weaker}
+use Rattle.std.proofs.lemmas.List.Elements.{All-head, All-nil, All-push, All-tail, All-weaker}
 use Rattle.tl_text.specs.Text.{line}
 use Rattle.tl_tile.specs.Bundle.{AreShortEntries, IsShortEntry}
 use Rattle.tl_command.specs.Inner.Cuts.{AreWholeLines}
-use Rattle.tl_command.specs.Inner.Growing.{IsEdgeFault}
+use Rattle.tl_command.specs.Inner.Growing.{BeginsWith, IsEdgeFault}
 use Rattle.tl_command.specs.Lines.{entries_of, first_too_long, lines_text, HasNoNewline}
 use Rattle.tl_command.specs.declared.fault.RunFault.{RunFault}
 use Rattle.tl_command.specs.declared.fault.RunFault.TheVariants.{Refused, Read, Write, TooLarge, EntryTooLong, BadOrigin, BadIndex, BadOld, BadPath, NotThere, Malformed, Chain, Sign, Operator, Listen, Accept, OutOfMemory, BadName, BadKey, BadCheckpoint, WrongSignature, Unverified, Device, BadKeyFile}
-use Rattle.tl_command.proofs.GrowingLemmas.{empty_list, entries_of_last, entries_so_far, none_found, push_after, push_long, push_short}
+use Rattle.tl_command.proofs.GrowingLemmas.{at_some, empty_list, entries_of_last, entries_so_far, none_found, place_in, push_after, push_long, push_short, some_at}
 use Rattle.tl_command.proofs.LinesLemmas.{entries_of_nothing}
 use Rattle.tl_command.proofs.LineTexts.{entries_of_lines}
-use Rattle.tl_command.proofs.WholeLines.{IsShort, line_ends, none_longer, one_line, plain_before}
+use Rattle.tl_command.proofs.WholeLines.{IsShort, each_short, line_ends, none_longer, one_line, plain_before}
 
 -- ---- counting
 
@@ -64,6 +64,30 @@ counted_all text rest count was none =
     was.whole ∙ ap (λ (es : List (List ℕ)). was.front ++ es) (entries_of_nothing rest none) ∙ append-nil was.front in
     (sym was.number ∙ ap length (sym whole), ap first_too_long whole ∙ was.short)
 
+-- lines behind those of which none is too long
+counted_behind : (text rest : List ℕ) (lines : List (List ℕ)) → BeginsWith text lines rest → entries_of text ≡ lines ++ entries_of rest
+counted_behind text rest lines begins = ap entries_of begins.whole ∙ entries_so_far lines rest begins.plain
+
+pub all_counted : (text rest : List ℕ) (lines : List (List ℕ)) (count : ℕ) → BeginsWith text lines rest → count ≡ length (entries_of rest)
+    → first_too_long (entries_of rest) ≡ None → (length (entries_of text) ≡ length lines + count) × (first_too_long (entries_of text) ≡ None)
+all_counted text rest lines count begins is none =
+    let whole = counted_behind text rest lines begins in (
+      omega (arith, ap length whole, length-append lines (entries_of rest), is),
+      ap first_too_long whole ∙ none_longer (entries_of rest) lines (none_longer lines [] refl begins.short) (each_short (entries_of rest) none),
+    )
+
+long_after : (front others : List (List ℕ)) (place : ℕ) → All IsShort front → first_too_long others ≡ Some place → first_too_long (front ++ others) ≡ Some (length front + place)
+long_after [] others place short some = let zero : place ≡ 0 + place = omega arith in some ∙ ap (λ (n : ℕ). Some n) zero
+long_after (text ∷ front) others place short some =
+    let found = at_some (place_in (front ++ others)) (length (front ++ others)) (length front + place) (long_after front others place (All-tail IsShort text front short) some) in
+    let next : place_in (text ∷ (front ++ others)) ≡ 1 + place_in (front ++ others) = ap (λ (b : Bool). cond (not b) (1 + place_in (front ++ others)) 0) (All-head IsShort text front short) in
+    some_at (place_in (text ∷ (front ++ others))) (length (text ∷ (front ++ others))) (length (text ∷ front) + place) (omega (arith, next, found.0)) (omega (arith, found.0, found.1))
+
+pub long_behind : (text rest : List ℕ) (lines : List (List ℕ)) (place : ℕ) → BeginsWith text lines rest → first_too_long (entries_of rest) ≡ Some place
+    → first_too_long (entries_of text) ≡ Some (length lines + place)
+long_behind text rest lines place begins some =
+    ap first_too_long (counted_behind text rest lines begins) ∙ long_after lines (entries_of rest) place begins.short some
+
 -- ---- cutting
 
 pub no_lines : (text : List ℕ) → AreWholeLines (take 0 text) 0
@@ -86,7 +110,7 @@ lines_more text at newline count rest is was lt found before =
     }
 
 -- the lines of a text are those before a cut and those after it
-lines_cut : (text : List ℕ) (at count : ℕ) (was : AreWholeLines (take at text) count) → entries_of text ≡ was.lines ++ entries_of (drop at text)
+pub lines_cut : (text : List ℕ) (at count : ℕ) (was : AreWholeLines (take at text) count) → entries_of text ≡ was.lines ++ entries_of (drop at text)
 lines_cut text at count was =
     ap entries_of (sym (take-append-drop at text) ∙ ap (λ (t : List ℕ). t ++ drop at text) was.whole) ∙ entries_so_far was.lines (drop at text) was.plain
 

@@ -62,14 +62,14 @@ at_none place count e within =
       | inr ge ↦ omega (arith, ge, within)
     ]
 
-at_some : (place count i : ℕ) → cond (nat_lt place count) (Some place) None ≡ Some i → (place ≡ i) × (place < count)
+pub at_some : (place count i : ℕ) → cond (nat_lt place count) (Some place) None ≡ Some i → (place ≡ i) × (place < count)
 at_some place count i e =
     elim (cases_lt place count) as (λ _. (place ≡ i) × (place < count)) [
       | inl lt ↦ let same : Some place ≡ Some i = ap (λ (b : Bool). cond b (Some place) None) (sym (lt-ltb place count lt)) ∙ e in (cc, lt)
       | inr ge ↦ let bad : None ≡ Some i = ap (λ (b : Bool). cond b (Some place) None) (sym (le-ltb place count ge)) ∙ e in absurd cc
     ]
 
-abbrev place_in : List (List ℕ) → ℕ
+abbrev pub place_in : List (List ℕ) → ℕ
 place_in lines = position_or_len is_too_long lines
 
 pub place_within : (lines : List (List ℕ)) → place_in lines ≤ length lines
@@ -84,7 +84,7 @@ push_short lines last none short =
     let size : length (lines ++ last ∷ []) ≤ place_in (lines ++ last ∷ []) = omega (arith, next, length-append lines (last ∷ [])) in
     ap (λ (b : Bool). cond b (Some (place_in (lines ++ last ∷ []))) None) (le-ltb (place_in (lines ++ last ∷ [])) (length (lines ++ last ∷ [])) size)
 
-some_at : (place count i : ℕ) → place ≡ i → i < count → cond (nat_lt place count) (Some place) None ≡ Some i
+pub some_at : (place count i : ℕ) → place ≡ i → i < count → cond (nat_lt place count) (Some place) None ≡ Some i
 some_at place count i e lt = ap (λ (b : Bool). cond b (Some place) None) (lt-ltb place count (omega (arith, e, lt))) ∙ ap (λ (n : ℕ). Some n) e
 
 pub push_long : (lines : List (List ℕ)) (last : List ℕ) → first_too_long lines ≡ None → is_too_long last ≡ true → first_too_long (lines ++ last ∷ []) ≡ Some (length lines)

@@ -1,6 +1,6 @@
 -- The numbers of bytes of the bundles of a log, and the listing of its resources.
-use Rattle.std.proofs.Common.{inl, inr, ◌≡◌, ℕ, ◌+◌, ◌*◌, ◌^◌, ◌<◌, ◌≤◌, true, List, [], ◌∷◌, ◌++◌, length, get_or, take, drop, refl, sym, ap, ◌∙◌, append_assoc, append-nil, arith}
-use Rattle.std.specs.Prelude.{◌==◌, Contains}
+use Rattle.std.proofs.Common.{inl, inr, ◌≡◌, ℕ, ◌+◌, ◌*◌, ◌^◌, ◌<◌, ◌≤◌, true, List, [], ◌∷◌, ◌++◌, length, get_or, take, drop, refl, sym, ap, ◌∙◌, append_assoc, append-nil, arith, Some, None, ◌-◌}
+use Rattle.std.specs.Prelude.{◌==◌, ◌≢◌, Contains, slice_get}
 use Rattle.std.specs.Int.{w16, to_be_bytes}
 use Rattle.std.specs.List.{flat_map}
 use Rattle.std.proofs.lemmas.Bool.{cases_lt}
@@ -13,42 +13,43 @@ use Rattle.tl_tile.specs.Path.{path_text}
 use Rattle.tl_tile.specs.declared.resource.Resource.{Resource}
 use Rattle.tl_tile.specs.declared.resource.Resource.TheVariants as resource
 use Rattle.tl_command.specs.Inner.BundleLengths.{AreBundleLengths, HasLength}
-use Rattle.tl_command.specs.Lines.{entries_of}
+use Rattle.tl_command.specs.Lines.{entries_of, lines_text}
 use Rattle.tl_command.specs.Mirror.{mirrored, resource_text, listing_line, listing_text}
-use Rattle.tl_command.proofs.LinesLemmas.{entries_of_nothing}
+use Rattle.tl_command.proofs.LineTexts.{last_of_none, last_of_some, text_of_entries, text_with_newline}
 use Rattle.tl_command.proofs.NeededParts.{LiesIn, lies}
 
 -- ---- one bundle
 
--- the bytes of some entries' bundle are counted, and the rest has the other entries
-pub record IsBundled (entries : List (List ℕ)) (rest : List ℕ) (count : ℕ) : Type 0 where
-  pub front : List (List ℕ)
-  pub whole : entries ≡ front ++ entries_of rest
-  pub number : count ≡ length (bundle_text front)
-  pub few : count + 3 * length rest ≤ 12884901888
+-- each entry has two bytes in its bundle where its line has a newline
+bundle_of_lines : (entries : List (List ℕ)) → length (bundle_text entries) ≡ length (lines_text entries) + length entries
+bundle_of_lines [] = refl
+bundle_of_lines (entry ∷ entries) =
+    omega (
+      arith,
+      ap length (flat_map-cons bundled_entry entry entries),
+      length-append (bundled_entry entry) (bundle_text entries),
+      length-append (to_be_bytes w16 (length entry)) entry,
+      ap length (flat_map-cons line entry entries),
+      length-append (line entry) (lines_text entries),
+      length-append entry (10 ∷ []),
+      bundle_of_lines entries,
+    )
 
-pub bundled_none : (entries : List (List ℕ)) (text : List ℕ) → entries_of text ≡ entries → length text < 4294967295 → IsBundled entries text 0
-bundled_none entries text is few = record { front = []; whole = sym is; number = refl; few = omega (arith, few) }
+pub bundle_counted : (entries : List (List ℕ)) (text : List ℕ) (lacking count : ℕ) → entries_of text ≡ entries → length text + lacking ≡ length (lines_text (entries_of text))
+    → count ≡ length entries → length text + lacking + count ≡ length (bundle_text entries)
+bundle_counted entries text lacking count is lacks number =
+    omega (arith, lacks, ap (λ (es : List (List ℕ)). length (lines_text es)) is, number, bundle_of_lines entries)
 
-bundle_push : (front : List (List ℕ)) (entry : List ℕ) → length (bundle_text (front ++ entry ∷ [])) ≡ length (bundle_text front) + (2 + length entry)
-bundle_push front entry =
-    let all : bundle_text (front ++ entry ∷ []) ≡ bundle_text front ++ bundled_entry entry =
-    flat_map-append bundled_entry front (entry ∷ []) ∙ ap (λ (t : List ℕ). bundle_text front ++ t) (flat_map-cons bundled_entry entry [] ∙ append-nil (bundled_entry entry)) in
-    omega (arith, ap length all, length-append (bundle_text front) (bundled_entry entry), length-append (to_be_bytes w16 (length entry)) entry)
+-- the newlines that a text lacks to be lines
+pub lacks_none : (text : List ℕ) (byte : ℕ) → Some byte ≡ slice_get text (length text - 1) → byte ≡ 10 → length text + 0 ≡ length (lines_text (entries_of text))
+lacks_none text byte e same = omega (arith, ap length (text_of_entries text (last_of_some text byte e ∙ same)))
 
-pub bundled_more : (entries : List (List ℕ)) (rest others first : List ℕ) (count : ℕ) → IsBundled entries rest count → entries_of rest ≡ first ∷ entries_of others
-    → length others < length rest → length first + length others ≤ length rest → IsBundled entries others (count + (2 + length first))
-bundled_more entries rest others first count was is shorter within = record {
-  front = was.front ++ first ∷ [];
-  whole = was.whole ∙ ap (λ (es : List (List ℕ)). was.front ++ es) is ∙ sym (append_assoc was.front (first ∷ []) (entries_of others));
-  number = omega (arith, was.number, bundle_push was.front first);
-  few = omega (arith, was.few, shorter, within);
-}
+pub lacks_one : (text : List ℕ) (byte : ℕ) → Some byte ≡ slice_get text (length text - 1) → byte ≢ 10 → length text + 1 ≡ length (lines_text (entries_of text))
+lacks_one text byte e other =
+    omega (arith, ap length (text_with_newline text (λ last. other (sym (last_of_some text byte e) ∙ last))), length-append text (10 ∷ []))
 
-pub bundled_all : (entries : List (List ℕ)) (rest : List ℕ) (count : ℕ) → IsBundled entries rest count → (length rest == 0) ≡ true → count ≡ length (bundle_text entries)
-bundled_all entries rest count was none =
-    let whole : entries ≡ was.front = was.whole ∙ ap (λ (es : List (List ℕ)). was.front ++ es) (entries_of_nothing rest none) ∙ append-nil was.front in
-    was.number ∙ ap (λ (es : List (List ℕ)). length (bundle_text es)) (sym whole)
+pub nothing_lacks : (text : List ℕ) → None ≡ slice_get text (length text - 1) → length text + 0 ≡ length (lines_text (entries_of text))
+nothing_lacks text e = omega (arith, ap length (text_of_entries text (last_of_none text e)))
 
 -- ---- all bundles
 

@@ -21,4 +21,5 @@ pub mod Names
 pub mod Wanted
 pub mod SignedRuns
 pub mod Counting
+pub mod Marks
 pub mod SplitProofs

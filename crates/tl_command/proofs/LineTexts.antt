@@ -71,6 +71,21 @@ text_of_entries (b ∷ c ∷ rest) e =
           ∙ sym (ap lines_text (step_other b (c ∷ rest) other) ∙ text_onto_first b (entries_of (c ∷ rest)) (some_piece (entries_of (c ∷ rest)) (c ∷ rest) (sym below) (omega arith)))
     ]
 
+-- another text is so with a newline more
+pub text_with_newline : (text : List ℕ) → last_or text ≢ 10 → text ++ 10 ∷ [] ≡ lines_text (entries_of text)
+unfolding entries_of
+text_with_newline [] e = absurd (e refl)
+text_with_newline (b ∷ []) e = sym (ap lines_text (step_other b [] e))
+text_with_newline (b ∷ c ∷ rest) e =
+    let below = text_with_newline (c ∷ rest) e in
+    elim (cases_eq b 10) as (λ _. (b ∷ c ∷ rest) ++ 10 ∷ [] ≡ lines_text (entries_of (b ∷ c ∷ rest))) [
+      | inl same ↦ ap (λ (k : ℕ). k ∷ ((c ∷ rest) ++ 10 ∷ [])) same ∙ ap (λ (t : List ℕ). 10 ∷ t) below
+          ∙ sym (ap lines_text (step_newline b (c ∷ rest) same) ∙ flat_map-cons line [] (entries_of (c ∷ rest)))
+      | inr other ↦ ap (λ (t : List ℕ). b ∷ t) below
+          ∙ sym (ap lines_text (step_other b (c ∷ rest) other)
+          ∙ text_onto_first b (entries_of (c ∷ rest)) (some_piece (entries_of (c ∷ rest)) ((c ∷ rest) ++ 10 ∷ []) (sym below) (omega arith)))
+    ]
+
 last_of_line : (text rest : List ℕ) → last_or rest ≡ 10 → last_or (line text ++ rest) ≡ 10
 last_of_line [] [] e = refl
 last_of_line [] (c ∷ rest) e = e

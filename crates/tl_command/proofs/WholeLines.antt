@@ -2,7 +2,7 @@
 use Rattle.std.proofs.Common.{◌≡◌, ℕ, ◌+◌, ◌-◌, ◌<◌, ◌≤◌, true, false, List, [], ◌∷◌, ◌++◌, length, get_or, take, drop, refl, sym, ap, subst, ◌∙◌, arith, append_assoc, append-nil, All, Some, None, vec_items}
 use Rattle.std.specs.Prelude.{◌==◌, Option, is_some}
 use Rattle.std.proofs.Math.ListN.{set}
-use Rattle.std.proofs.Math.Seq.{take-add, take-append_seam}
+use Rattle.std.proofs.Math.Seq.{drop-append_seam, take-add, take-append_seam}
 use Rattle.std.proofs.lemmas.Bool.{eqb-true, le-ltb}
 use Rattle.std.proofs.lemmas.Grind.{flat_map-append}
 use Rattle.std.proofs.lemmas.List.{length-append, length-take-le, take-append-drop, take_more, take_more_set, take_rest, get_or-take}
@@ -51,14 +51,14 @@ begins_found s end lt found before short =
       short = All-push IsShort [] text (All-nil IsShort) (le-ltb 65535 (length text) (omega (arith, count, short)));
     }
 
--- one line more
-pub begins_more : (bytes rest end : List ℕ) (lines : List (List ℕ)) (next : List ℕ) → BeginsWith bytes lines rest → BeginsWith rest (next ∷ []) end
-    → BeginsWith bytes (lines ++ next ∷ []) end
+-- lines more
+pub begins_more : (bytes rest end : List ℕ) (lines next : List (List ℕ)) → BeginsWith bytes lines rest → BeginsWith rest next end
+    → BeginsWith bytes (lines ++ next) end
 begins_more bytes rest end lines next front more = record {
-  whole = front.whole ∙ ap (λ (t : List ℕ). lines_text lines ++ t) more.whole ∙ sym (append_assoc (lines_text lines) (lines_text (next ∷ [])) end)
-      ∙ ap (λ (t : List ℕ). t ++ end) (sym (flat_map-append line lines (next ∷ [])));
-  plain = All-append HasNoNewline lines (next ∷ []) front.plain more.plain;
-  short = All-append IsShort lines (next ∷ []) front.short more.short;
+  whole = front.whole ∙ ap (λ (t : List ℕ). lines_text lines ++ t) more.whole ∙ sym (append_assoc (lines_text lines) (lines_text next) end)
+      ∙ ap (λ (t : List ℕ). t ++ end) (sym (flat_map-append line lines next));
+  plain = All-append HasNoNewline lines next front.plain more.plain;
+  short = All-append IsShort lines next front.short more.short;
 }
 
 -- no line yet
@@ -69,7 +69,7 @@ begins_nothing bytes = record { whole = refl; plain = All-nil HasNoNewline; shor
 pub begins_placed : (bytes rest end : List ℕ) (lines : List (List ℕ)) (place : ℕ) (next : List ℕ) → place < length lines
     → BeginsWith bytes (take place lines) rest → BeginsWith rest (next ∷ []) end → BeginsWith bytes (take (place + 1) (set lines place next)) end
 begins_placed bytes rest end lines place next below front more =
-    subst (λ (all : List (List ℕ)). BeginsWith bytes all end) (sym (take_more_set lines place next below)) (begins_more bytes rest end (take place lines) next front more)
+    subst (λ (all : List (List ℕ)). BeginsWith bytes all end) (sym (take_more_set lines place next below)) (begins_more bytes rest end (take place lines) (next ∷ []) front more)
 
 -- where no line was too long, and lines more of which none is
 pub none_longer : (new lines : List (List ℕ)) → first_too_long lines ≡ None → All IsShort new → first_too_long (lines ++ new) ≡ None
@@ -79,7 +79,7 @@ none_longer (text ∷ new) lines none short =
     ∙ none_longer new (lines ++ text ∷ []) (push_short lines text none (All-head IsShort text new short)) (All-tail IsShort text new short)
 
 -- what stands before the rest is the lines
-lines_before : (bytes : List ℕ) (lines : List (List ℕ)) (rest : List ℕ) → BeginsWith bytes lines rest → length bytes ≡ length (lines_text lines) + length rest
+pub lines_before : (bytes : List ℕ) (lines : List (List ℕ)) (rest : List ℕ) → BeginsWith bytes lines rest → length bytes ≡ length (lines_text lines) + length rest
 lines_before bytes lines rest begins = ap length begins.whole ∙ length-append (lines_text lines) rest
 
 -- each line has its newline
@@ -96,6 +96,12 @@ pub begins_front : (bytes : List ℕ) (lines : List (List ℕ)) (rest : List ℕ
 begins_front bytes lines rest begins =
     let count : length bytes - length rest ≡ length (lines_text lines) = omega (arith, lines_before bytes lines rest begins) in
     ap (λ (n : ℕ). take n bytes) count ∙ ap (λ (t : List ℕ). take (length (lines_text lines)) t) begins.whole ∙ take-append_seam (lines_text lines) rest
+
+-- what follows the lines is the rest
+pub begins_back : (bytes : List ℕ) (lines : List (List ℕ)) (rest : List ℕ) → BeginsWith bytes lines rest → rest ≡ drop (length bytes - length rest) bytes
+begins_back bytes lines rest begins =
+    let count : length (lines_text lines) ≡ length bytes - length rest = omega (arith, lines_before bytes lines rest begins) in
+    sym (drop-append_seam (lines_text lines) rest) ∙ ap (drop (length (lines_text lines))) (sym begins.whole) ∙ ap (λ (n : ℕ). drop n bytes) count
 
 -- whole lines, and whole lines after them
 lines_after : (before new : List (List ℕ)) (last : List ℕ) → last ≡ [] → (lines_text before ++ last) ++ lines_text new ≡ lines_text (before ++ new) ++ []
@@ -139,7 +145,7 @@ part_more input piece at n =
     ∙ ap (λ (t : List ℕ). input ++ t) (sym (take-add at n piece))
 
 -- where no line is too long, each is short
-each_short : (lines : List (List ℕ)) → first_too_long lines ≡ None → All IsShort lines
+pub each_short : (lines : List (List ℕ)) → first_too_long lines ≡ None → All IsShort lines
 each_short lines none =
     let whole = at_none _ (length lines) none (place_within lines) in
     All-from_get_or IsShort lines [] (λ i lt. fails_before_first is_too_long lines i [] (omega (arith, whole, lt)))

@@ -1,41 +1,43 @@
 //! The lines of a text as the entries of a log, of which parts are hashed.
 
-ghost use Rattle.std.specs.Prelude.{◌≡◌, ◌-◌, ◌<◌, ◌^◌, length, map, take, drop, vec_items, None, IfErr, IfOk, OnOk};
+ghost use Rattle.std.specs.Prelude.{◌≡◌, ◌-◌, ◌<◌, ◌^◌, length, map, take, drop, vec_items, IfOk};
 ghost use Rattle.sha2.specs.Sha256.{sha256};
 ghost use Rattle.tl_hash.specs.Tree.{tree_hash};
 ghost use Rattle.tl_tile.specs.Bundle.{AreShortEntries};
-ghost use Rattle.tl_command.specs.Lines.{entries_of, first_too_long};
-ghost use Rattle.tl_command.specs.Run.{IsEntryFault};
+ghost use Rattle.tl_command.specs.Lines.{entries_of};
 
 use crate::entries::split_entries;
 use crate::fault::RunFault;
 use crate::growing::reading::edge_of;
-use crate::text::{count_lines, cut_lines};
+use crate::marked_text::MarkedText;
 use std::alloc::{AllocError, Allocator};
 use std::marker::Model;
 use std::thread::Threads;
 use tl_hash::Hash;
 
 /// The lines of a text, none of which is too long: the entries of a log. They stay where they are. Contracts see the
-/// list of them.
+/// list of them. `LineMarks` gives them.
 #[derive(Drop)]
 pub(crate) struct LogLines<'a> {
-    text: &'a [u8],
-    count: u64,
+    pub(crate) marked: MarkedText<'a>,
+    pub(crate) count: u64,
 }
 
 impl<'a> Model for LogLines<'a> {
     ghost use Rattle.std.specs.Prelude.{◌≡◌, ◌-◌, ◌<◌, ◌^◌, List, length};
     ghost use Rattle.tl_hash.specs.Bytes.{Bytes};
     ghost use Rattle.tl_tile.specs.Bundle.{AreShortEntries};
+    ghost use Rattle.tl_command.specs.Inner.Cuts.{AreMarks};
     ghost use Rattle.tl_command.specs.Lines.{entries_of};
 
     ghost Value = { List Bytes };
 
-    ghost view = { λ lines. entries_of lines.text.now };
+    ghost view = { λ lines. entries_of lines.marked.text.now };
 
-    ghost invariant = { λ lines. (length (entries_of lines.text.now) ≡ lines.count)
-        × (length lines.text.now < 2 ^ 32 - 1) × AreShortEntries (entries_of lines.text.now) };
+    ghost invariant = { λ lines. (length (entries_of lines.marked.text.now) ≡ lines.count)
+        × (length lines.marked.text.now < 2 ^ 32 - 1)
+        × AreShortEntries (entries_of lines.marked.text.now)
+        × AreMarks lines.marked.text.now lines.marked.base lines.marked.ends.now };
 }
 
 // Lines that aren't too long can be hashed but for want of memory.
@@ -49,19 +51,6 @@ fn only_memory(fault: RunFault) -> AllocError
 }
 
 impl<'a> LogLines<'a> {
-    /// The lines of a text. A line of more than 65,535 bytes is `EntryTooLong` of the first such line.
-    pub(crate) fn of(text: &'a [u8]) -> Result<LogLines<'a>, RunFault>
-        requires { length text.now < 2 ^ 32 - 1 }
-        ensures lines { IfOk result (λ lines. lines ≡ entries_of text.now) }
-        ensures short { OnOk result (first_too_long (entries_of text.now) ≡ None) }
-        ensures fault { IfErr result (IsEntryFault (entries_of text.now)) }
-    {
-        match count_lines(text) {
-            Ok(count) => Ok(LogLines { text, count }),
-            Err(fault) => Err(fault),
-        }
-    }
-
     /// How many lines there are.
     pub(crate) fn count(&self) -> u64
         ensures count { result ≡ length self.now }
@@ -75,7 +64,7 @@ impl<'a> LogLines<'a> {
         ensures lines { entries_of result.now ≡ self.now }
         ensures bytes { length result.now < 2 ^ 32 - 1 }
     {
-        self.text
+        self.marked.text
     }
 
     /// The first `count` lines, or all where they are fewer, and those after them.
@@ -83,14 +72,14 @@ impl<'a> LogLines<'a> {
         ensures first { result.0 ≡ take count self.now }
         ensures others { result.1 ≡ drop count self.now }
     {
-        let (front, back) = cut_lines(self.text, count as usize);
+        let (front, back) = self.marked.split(count as usize);
         let taken = count.min(self.count);
         let first = LogLines {
-            text: front,
+            marked: front,
             count: taken,
         };
         let others = LogLines {
-            text: back,
+            marked: back,
             count: self.count - taken,
         };
         (first, others)
@@ -104,7 +93,7 @@ impl<'a> LogLines<'a> {
         ensures entries { IfOk result (λ entries. map vec_items entries.items ≡ self.now) }
         ensures short { AreShortEntries self.now }
     {
-        split_entries(alloc, self.text)
+        split_entries(alloc, self.marked.text)
     }
 
     /// The root of the log of the lines (RFC 6962, section 2.1), hashed by so many threads, which take memory from
@@ -117,7 +106,7 @@ impl<'a> LogLines<'a> {
     ) -> Result<Hash, AllocError>
         ensures { IfOk result (λ root. root ≡ tree_hash sha256 self.now) }
     {
-        match edge_of(rt, workers, workers, threads, self.text) {
+        match edge_of(rt, workers, workers, threads, self.marked.text) {
             Ok(edge) => Ok(edge.root()),
             Err(fault) => Err(only_memory(fault)),
         }

@@ -1,7 +1,9 @@
 -- A text of lines that is cut between them.
-use Rattle.std.specs.Prelude.{◌≡◌, ℕ, List, All, length}
+use Rattle.std.specs.Prelude.{◌≡◌, ℕ, ◌+◌, ◌-◌, ◌<◌, ◌≤◌, List, [], ◌∷◌, All, length, take, drop, Some}
 use Rattle.tl_hash.specs.Bytes.{Bytes}
-use Rattle.tl_command.specs.Lines.{lines_text, HasNoNewline}
+use Rattle.tl_command.specs.Lines.{entries_of, first_too_long, lines_text, HasNoNewline}
+use Rattle.tl_command.specs.declared.fault.RunFault.{RunFault}
+use Rattle.tl_command.specs.declared.fault.RunFault.TheVariants.{EntryTooLong, OutOfMemory}
 
 -- the text is so many whole lines, each with its newline
 pub record AreWholeLines (text : Bytes) (count : ℕ) : Type 0 where
@@ -9,3 +11,21 @@ pub record AreWholeLines (text : Bytes) (count : ℕ) : Type 0 where
   pub whole : text ≡ lines_text lines
   pub plain : All HasNoNewline lines
   pub number : length lines ≡ count
+
+-- so many lines of the text end at this place, less the base
+pub record IsMark (text : Bytes) (base end count : ℕ) : Type 0 where
+  pub above : base ≤ end
+  pub within : end ≤ base + length text
+  pub lines : AreWholeLines (take (end - base) text) count
+
+-- the text's next 256 lines end at each of these places, less the base
+abbrev pub AreMarks : Bytes → ℕ → List ℕ → Type 0
+AreMarks text base [] = Unit {0}
+AreMarks text base (end ∷ ends) = IsMark text base end 256 × AreMarks (drop (end - base) text) end ends
+
+-- why the lines of a text weren't counted: the first that is too long is at this place, or memory was refused, for which
+-- a text of no bytes doesn't ask
+abbrev pub IsMarkFault : Bytes → RunFault → Type 0
+IsMarkFault text (EntryTooLong place) = first_too_long (entries_of text) ≡ Some place
+IsMarkFault text OutOfMemory = 0 < length text
+IsMarkFault text fault = ⊥

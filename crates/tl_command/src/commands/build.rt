@@ -15,6 +15,7 @@ pub(crate) mod resource_bytes;
 pub(crate) mod signed;
 
 use crate::fault::RunFault;
+use crate::line_marks::LineMarks;
 use crate::log_lines::LogLines;
 use crate::streams::{MOST_INPUT, print_text, read_input};
 use checkpoint_note::checkpoint_note_of;
@@ -160,10 +161,11 @@ fn build<
         R.remaining reader.old reader.new) (passage W.contents writer.old writer.new) result }
 {
     let input = read_input(alloc, reader, MOST_INPUT)?;
-    let lines = match LogLines::of(input.as_slice()) {
-        Ok(lines) => lines,
+    let marks = match LineMarks::of(alloc, input.as_slice()) {
+        Ok(marks) => marks,
         Err(fault) => return Err(fault),
     };
+    let lines = marks.lines();
     if is_of_no_entry(lines.count(), wanted) {
         return Err(RunFault::NotThere);
     }

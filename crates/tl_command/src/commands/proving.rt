@@ -10,6 +10,7 @@ pub(crate) mod consistency;
 pub(crate) mod inclusion;
 
 use crate::fault::RunFault;
+use crate::line_marks::LineMarks;
 use crate::log_lines::LogLines;
 use crate::proof_text::{consistency_bytes, inclusion_bytes};
 use crate::streams::{MOST_INPUT, print_text, read_input};
@@ -43,10 +44,11 @@ pub fn run_inclusion<
         (passage W.contents writer.old writer.new) result }
 {
     let input = read_input(alloc, reader, MOST_INPUT)?;
-    let lines = match LogLines::of(input.as_slice()) {
-        Ok(lines) => lines,
+    let marks = match LineMarks::of(alloc, input.as_slice()) {
+        Ok(marks) => marks,
         Err(fault) => return Err(fault),
     };
+    let lines = marks.lines();
     if index >= lines.count() {
         return Err(RunFault::BadIndex);
     }
@@ -77,10 +79,11 @@ pub fn run_consistency<
         (passage W.contents writer.old writer.new) result }
 {
     let input = read_input(alloc, reader, MOST_INPUT)?;
-    let lines = match LogLines::of(input.as_slice()) {
-        Ok(lines) => lines,
+    let marks = match LineMarks::of(alloc, input.as_slice()) {
+        Ok(marks) => marks,
         Err(fault) => return Err(fault),
     };
+    let lines = marks.lines();
     if old > lines.count() {
         return Err(RunFault::BadOld);
     }

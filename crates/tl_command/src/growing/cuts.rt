@@ -3,10 +3,7 @@
 
 ghost use Rattle.std.specs.Prelude.{◌≤◌, length};
 
-use crate::text::lines_end;
-
-// How many lines a tile has.
-const TILE: usize = 256;
+use crate::text::{TILE, lines_end};
 
 // So many tiles of lines at the beginning of a piece, and where the last of them ends.
 #[derive(Clone, Copy)]

@@ -2,8 +2,8 @@ use Rattle.tl_command.proofs.Counting.{counted_all, counted_long, counted_more}
 use Rattle.std.proofs.Common.{sym}
 use Rattle.tl_command.proofs.text.count_lines.Goals as goal
 
-pub returns-then-line-gt-LONGEST_ENTRY-clause-fault : goal.returns-then-line-gt-LONGEST_ENTRY-clause-fault
-returns-then-line-gt-LONGEST_ENTRY-clause-fault c =
+pub returns-then-line-gt-LONGEST_ENTRY-clause-long : goal.returns-then-line-gt-LONGEST_ENTRY-clause-long
+returns-then-line-gt-LONGEST_ENTRY-clause-long c =
     counted_long c.args.text.now c.loop-rest.rest.now c.first_entry.result.1.now c.first_entry.result.0.now c.loop-rest.count
     c.loop-rest.invariant c.first_entry.ensures.entry c.if-line-gt-LONGEST_ENTRY.true
 

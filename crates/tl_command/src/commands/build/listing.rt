@@ -1,14 +1,14 @@
 //! The listing of the resources of a log: the path and the length of each, which takes none of their bytes.
 
-ghost use Rattle.std.specs.Prelude.{◌≡◌, ◌<◌, ◌≤◌, ◌^◌, ◌++◌, ◌∷◌, All, List, length, string_bytes, Contains, IfOk, OnOk};
+ghost use Rattle.std.specs.Prelude.{◌≡◌, ◌+◌, ◌<◌, ◌≤◌, ◌^◌, ◌++◌, ◌∷◌, All, List, length, string_bytes, Contains, IfOk, OnOk};
 ghost use Rattle.tl_hash.specs.Bytes.{Bytes};
 ghost use Rattle.tl_text.specs.Text.{line, number_text};
 ghost use Rattle.tl_tile.specs.Bundle.{bundle_text};
 ghost use Rattle.tl_tile.specs.Path.{IsResource, path_text};
 ghost use Rattle.tl_command.specs.Inner.BundleLengths.{AreBundleLengths, HasLength};
+ghost use Rattle.tl_command.specs.Lines.{entries_of, lines_text};
 ghost use Rattle.tl_command.specs.Mirror.{mirrored, resource_text, listing_text};
 
-use crate::entries::first_entry;
 use crate::log_lines::LogLines;
 use itoa::Buffer;
 use std::alloc::{AllocError, Allocator};
@@ -24,21 +24,27 @@ pub(crate) fn mirrored_of<A: Allocator>(alloc: A, size: u64) -> Result<Vec<Resou
     Ok(resources)
 }
 
-// The number of bytes of the bundle of these lines: each has its length in front, two bytes.
+// How many newlines a text lacks to be whole lines: one where its last line has none.
+fn newlines_lacking(text: &[u8]) -> u64
+    ensures bytes { length text.now + result ≡ length (lines_text (entries_of text.now)) }
+    ensures few { result ≤ 1 }
+{
+    let Some(byte) = text.last() else {
+        return 0;
+    };
+    if *byte == b'\n' { 0 } else { 1 }
+}
+
+// The number of bytes of the bundle of these lines, of which each has its length in front, two bytes, and no newline.
 fn bundle_length(lines: &LogLines<'_>) -> u64
     ensures { result ≡ length (bundle_text lines.now) }
 {
-    let mut count = 0;
-    let mut rest = lines.text();
-    while !rest.is_empty() {
-        let (line, others) = first_entry(rest);
-        count += 2 + line.len() as u64;
-        rest = others;
-    }
-    count
+    let text = lines.text();
+    text.len() as u64 + newlines_lacking(text) + lines.count()
 }
 
-// The numbers of bytes of the bundles of a log, from the first, found in one pass over its lines.
+// The numbers of bytes of the bundles of a log, from the first. Its lines aren't gone over where it is known where each
+// bundle's end.
 fn bundle_lengths_of<A: Allocator>(
     alloc: A,
     lines: &LogLines<'_>,

@@ -1,4 +1,4 @@
-use Rattle.std.proofs.Common.{◌<◌, ◌⊎◌, inl, inr, refl, arith, length, vec_items}
+use Rattle.std.proofs.Common.{◌<◌, ◌⊎◌, inl, inr, ◌∙◌, refl, arith, length, vec_items}
 use Rattle.std.proofs.KnownBytes.{Keeps-refl}
 use Rattle.tl_command.specs.Inner.Steps.{IsServed, WantedComes}
 use Rattle.tl_command.specs.Mirror.{mirrored}
@@ -14,8 +14,8 @@ returns-in-Err g c =
 pub returns-in-Err-answer_of : goal.returns-in-Err-answer_of
 returns-in-Err-answer_of g c =
     let key = g.K.LogSigner.log_key c.args.key.now in
-    let lines = c.in-Ok.lines in
-    let read = read_lines _ _ (vec_items c.in_ok-input.input) c.as_slice.result.now lines c.in_ok-input.ensures c.as_slice.ensures.value c.in-Ok.ensures.lines c.in-Ok.ensures.short in
+    let lines = c.lines-lines.result in
+    let read = read_lines _ _ (vec_items c.in_ok-input.input) c.as_slice.result.now lines c.in_ok-input.ensures c.as_slice.ensures.value (c.lines-lines.ensures ∙ c.in-Ok.ensures.lines) c.in-Ok.ensures.short in
     let either : (0 < length lines) ⊎ IsServed (mirrored 0) c.args.wanted =
     elim c.if-is_of_no_entry.ensures as (λ _. (0 < length lines) ⊎ IsServed (mirrored 0) c.args.wanted) [
       | inl some ↦ inl (omega (arith, some, c.count.ensures.count))

@@ -14,7 +14,7 @@ returns-in-Err g c =
 pub returns-in_err-text : goal.returns-in_err-text
 returns-in_err-text g c =
     let p = err_from_is_err_and c.from_residual-in_err-text.result c.from_residual-in_err-text.ensures.1 in
-    let lines = ap length (c.in-Ok.ensures.lines ∙ ap entries_of c.as_slice.ensures.value) in
+    let lines = ap length (c.lines-lines.ensures ∙ c.in-Ok.ensures.lines ∙ ap entries_of c.as_slice.ensures.value) in
     rw (p.1, p.2, c.in_err-text.ensures.fault) (
       c.in_ok-input.ensures.steady,
       (Keeps-refl (g.W.Write.contents c.args.writer.now.device), refl),
