@@ -59,9 +59,7 @@ impl<'b, H> Client<'b, H> {
             bucket,
         }
     }
-}
 
-impl<'b, H> Client<'b, H> {
     /// Another one of the same bucket.
     pub(crate) fn again(&self) -> Client<'b, H>
         ensures { result ≡ self.now }

@@ -16,8 +16,8 @@ use std::net::{Net, TcpStream};
 use std::time::Clock;
 use tl_device::DeviceFault;
 
-/// At most so many workers put at once.
-pub(crate) const MOST_WORKERS: usize = 16;
+// At most so many workers put at once.
+const MOST_WORKERS: usize = 16;
 
 // What a worker tells that has put nothing.
 const UNPUT: BucketFault = BucketFault::Device(DeviceFault::System);
