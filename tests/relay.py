@@ -5,6 +5,11 @@ import socket
 import threading
 
 
+def is_put(piece):
+    """Whether a request begins here that puts a tile or a bundle."""
+    return piece.startswith(b'PUT ') and b'/tile/' in piece.split(b'\r\n')[0]
+
+
 class Relay:
     """Before a port of this machine, at a port of its own, until it is left."""
 
@@ -18,6 +23,8 @@ class Relay:
         return self
 
     def __exit__(self, *_):
+        # (so that the thread that accepts ends, too)
+        self.listener.shutdown(socket.SHUT_RDWR)
         self.listener.close()
 
     def accept(self):
@@ -36,7 +43,7 @@ class Relay:
         for link in (client, store):
             link.setsockopt(socket.IPPROTO_TCP, socket.TCP_NODELAY, 1)
         threading.Thread(target=self.hand_on, args=(store, client, client, lambda _: False), daemon=True).start()
-        self.hand_on(client, store, client, lambda piece: piece.startswith(b'PUT ') and b'/tile/' in piece.split(b'\r\n')[0])
+        self.hand_on(client, store, client, is_put)
 
     def hand_on(self, source, to, link, begins):
         """Hands on what comes from one side: with it a put of the connection begins, or is answered."""
