@@ -1,10 +1,10 @@
 -- Where a command asks for memory: something was read, or something is printed of nothing.
-use Rattle.std.proofs.Common.{◌≡◌, ℕ, ◌+◌, ◌<◌, ◌≤◌, inl, inr, List, [], ◌∷◌, length, None, refl, sym, ap, ◌∙◌, arith, Some}
+use Rattle.std.proofs.Common.{◌≡◌, ℕ, suc, ◌+◌, ◌<◌, ◌≤◌, inl, inr, List, [], ◌∷◌, length, None, refl, sym, ap, ◌∙◌, arith, Some}
 use Rattle.std.proofs.lemmas.Bool.{cases_lt}
 use Rattle.std.specs.Prelude.{Err}
 use Rattle.tl_text.specs.Text.{IsOneLine}
 use Rattle.tl_device.specs.Device.{Passage, IsUnwritten, GaveSome, ReadWhole}
-use Rattle.tl_command.specs.Inner.Cuts.{IsMarkFault}
+use Rattle.tl_command.specs.Inner.Cuts.{BeginsWithLines, IsMarkFault}
 use Rattle.tl_command.specs.Inner.Growing.{ReadsEdge}
 use Rattle.tl_command.specs.declared.fault.RunFault.{RunFault}
 use Rattle.tl_command.specs.declared.fault.RunFault.TheVariants.{Refused, Read, Write, TooLarge, EntryTooLong, BadOrigin, BadIndex, BadOld, BadPath, NotThere, Malformed, Chain, Sign, Operator, Listen, Accept, OutOfMemory, BadName, BadKey, BadCheckpoint, WrongSignature, Unverified, Device, BadKeyFile}
@@ -14,6 +14,7 @@ use Rattle.tl_command.specs.Head.{HeadComes, RunsHead, head_text}
 use Rattle.tl_command.specs.ProofText.{consistency_text}
 use Rattle.tl_command.specs.ProofCommands.{ConsistencyComes, consistency_of}
 use Rattle.tl_command.proofs.LinesLemmas.{entries_of_nothing}
+use Rattle.tl_command.proofs.WholeLines.{lines_within}
 
 -- an input with a line has a byte
 pub lines_some : (input : List ℕ) → 0 < length (entries_of input) → 0 < length input
@@ -76,6 +77,10 @@ pub read_lines : (p : Passage) (most : ℕ) (input text : List ℕ) (lines : Lis
 read_lines p most input text lines whole same is short =
     record { input = input; whole = whole; lines = is ∙ ap entries_of same; short = ap first_too_long is ∙ short }
 
+-- a text that begins with a line has a byte
+pub begins_some : (text : List ℕ) (count : ℕ) → BeginsWithLines text (suc count) → 0 < length text
+begins_some text count some = omega (arith, lines_within text some.lines some.rest some.begins, some.number)
+
 -- why the lines of the whole input weren't counted is a fault of the run
 pub entry_fails : (Comes : List ℕ → Output → Type 0) (i o : Passage) (input text : List ℕ) (fault : RunFault) → ReadWhole i most_input input → text ≡ input → IsUnwritten o
     → ((place : ℕ) → first_too_long (entries_of input) ≡ Some place → Comes input (Fails (EntryTooLong place))) → IsMarkFault text fault → Runs Comes i o (Err fault)
@@ -97,7 +102,7 @@ entry_fails Comes i o input text Operator whole same none comes given = absurd g
 entry_fails Comes i o input text Listen whole same none comes given = absurd given
 entry_fails Comes i o input text Accept whole same none comes given = absurd given
 entry_fails Comes i o input text (Device place why) whole same none comes given = absurd given
-entry_fails Comes i o input text OutOfMemory whole same none comes given = (whole.steady, none, inl (input, whole.consumed, omega (arith, given, ap length same)))
+entry_fails Comes i o input text OutOfMemory whole same none comes given = (whole.steady, none, inl (input, whole.consumed, omega (arith, begins_some text 255 given, ap length same)))
 entry_fails Comes i o input text BadName whole same none comes given = absurd given
 entry_fails Comes i o input text BadKey whole same none comes given = absurd given
 entry_fails Comes i o input text BadKeyFile whole same none comes given = absurd given

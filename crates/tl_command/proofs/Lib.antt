@@ -8,6 +8,7 @@ pub mod Checking
 pub mod CountedLines
 pub mod GrowingLemmas
 pub mod WholeLines
+pub mod TileLines
 pub mod Filling
 pub mod NoteBytes
 pub mod NoCheckpoints

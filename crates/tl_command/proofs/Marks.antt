@@ -1,5 +1,5 @@
 -- A text of lines, and the places where each 256th of them ends.
-use Rattle.std.proofs.Common.{◌≡◌, ℕ, zero, suc, ◌+◌, ◌-◌, ◌*◌, ◌<◌, ◌≤◌, List, [], ◌∷◌, ◌++◌, length, get_or, take, drop, min, refl, sym, ap, subst, ◌∙◌, arith}
+use Rattle.std.proofs.Common.{◌≡◌, ℕ, zero, suc, ◌+◌, ◌-◌, ◌*◌, ◌≤◌, List, [], ◌∷◌, ◌++◌, length, get_or, take, drop, refl, sym, ap, subst, ◌∙◌, arith}
 use Rattle.std.proofs.Math.Seq.{take-add}
 use Rattle.std.proofs.lemmas.Grind.{flat_map-append}
 use Rattle.std.proofs.lemmas.List.{drop-drop, drop-take, length-append, length-drop, length-take, take-take}
@@ -7,7 +7,7 @@ use Rattle.std.proofs.lemmas.List.Elements.{All-append}
 use Rattle.tl_text.specs.Text.{line}
 use Rattle.tl_command.specs.Inner.Cuts.{AreMarks, AreWholeLines, IsMark}
 use Rattle.tl_command.specs.Inner.Growing.{BeginsWith}
-use Rattle.tl_command.specs.Lines.{entries_of, lines_text, HasNoNewline}
+use Rattle.tl_command.specs.Lines.{entries_of, HasNoNewline}
 use Rattle.tl_command.proofs.Counting.{lines_cut, no_lines}
 use Rattle.tl_command.proofs.WholeLines.{begins_back, begins_front, begins_more, begins_nothing, lines_before}
 

@@ -2,7 +2,7 @@
 
 ghost use Rattle.std.specs.Prelude.{◌≡◌, ◌-◌, ◌*◌, ◌<◌, ◌^◌, List, length, None, IfErr, IfOk, OnErr, OnOk};
 ghost use Rattle.tl_hash.specs.Bytes.{Bytes};
-ghost use Rattle.tl_command.specs.Inner.Cuts.{AreMarks, IsMarkFault};
+ghost use Rattle.tl_command.specs.Inner.Cuts.{AreMarks, BeginsWithLines, IsMarkFault};
 ghost use Rattle.tl_command.specs.Inner.Growing.{BeginsWith};
 ghost use Rattle.tl_command.specs.Lines.{entries_of, first_too_long};
 
@@ -24,19 +24,17 @@ pub(crate) struct LineMarks<'a, A: Allocator> {
 }
 
 impl<'a, A: Allocator> Model for LineMarks<'a, A> {
-    ghost use Rattle.std.specs.Prelude.{◌≡◌, ◌-◌, ◌<◌, ◌^◌, List, length};
+    ghost use Rattle.std.specs.Prelude.{List};
     ghost use Rattle.tl_hash.specs.Bytes.{Bytes};
-    ghost use Rattle.tl_tile.specs.Bundle.{AreShortEntries};
-    ghost use Rattle.tl_command.specs.Inner.Cuts.{AreMarks};
+    ghost use Rattle.tl_command.specs.Inner.Cuts.{AreMarkedLines};
     ghost use Rattle.tl_command.specs.Lines.{entries_of};
 
     ghost Value = { List Bytes };
 
     ghost view = { λ marks. entries_of marks.text.now };
 
-    ghost invariant = { λ marks. (length (entries_of marks.text.now) ≡ marks.count)
-        × (length marks.text.now < 2 ^ 32 - 1) × AreShortEntries (entries_of marks.text.now)
-        × AreMarks marks.text.now 0 marks.ends.items };
+    ghost invariant = { λ marks.
+        AreMarkedLines marks.text.now 0 marks.ends.items marks.count };
 }
 
 // The places where each 256th line of a text ends, up to the first line that is too long or has no newline, and what
@@ -46,7 +44,8 @@ fn mark_tiles<A: Allocator>(alloc: A, text: &[u8]) -> Result<(Vec<usize, A>, &[u
     ensures lines { IfOk result (λ marked. (lines : List Bytes)
         × BeginsWith text.entry.now lines marked.1.now
         × (length lines ≡ length marked.0.items * 256)) }
-    ensures memory { OnErr result (0 < length text.entry.now) }
+    ensures all { IfOk result (λ marked. BeginsWithLines marked.1.now 256 → ⊥) }
+    ensures memory { OnErr result (BeginsWithLines text.entry.now 256) }
 {
     let mut ends = Vec::new(alloc);
     let mut rest = text;
@@ -58,8 +57,8 @@ fn mark_tiles<A: Allocator>(alloc: A, text: &[u8]) -> Result<(Vec<usize, A>, &[u
 }
 
 impl<'a, A: Allocator> LineMarks<'a, A> {
-    /// The lines of a text. A line of more than 65,535 bytes is `EntryTooLong` of the first such line. The memory is that
-    /// of a place for each 256 lines.
+    /// The lines of a text. A line of more than 65,535 bytes is `EntryTooLong` of the first such line. The memory is
+    /// that of a place for each 256 lines.
     pub(crate) fn of(alloc: A, text: &'a [u8]) -> Result<LineMarks<'a, A>, RunFault>
         requires { length text.now < 2 ^ 32 - 1 }
         ensures lines { IfOk result (λ marks. marks ≡ entries_of text.now) }

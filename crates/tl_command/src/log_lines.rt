@@ -24,20 +24,17 @@ pub(crate) struct LogLines<'a> {
 }
 
 impl<'a> Model for LogLines<'a> {
-    ghost use Rattle.std.specs.Prelude.{◌≡◌, ◌-◌, ◌<◌, ◌^◌, List, length};
+    ghost use Rattle.std.specs.Prelude.{List};
     ghost use Rattle.tl_hash.specs.Bytes.{Bytes};
-    ghost use Rattle.tl_tile.specs.Bundle.{AreShortEntries};
-    ghost use Rattle.tl_command.specs.Inner.Cuts.{AreMarks};
+    ghost use Rattle.tl_command.specs.Inner.Cuts.{AreMarkedLines};
     ghost use Rattle.tl_command.specs.Lines.{entries_of};
 
     ghost Value = { List Bytes };
 
     ghost view = { λ lines. entries_of lines.marked.text.now };
 
-    ghost invariant = { λ lines. (length (entries_of lines.marked.text.now) ≡ lines.count)
-        × (length lines.marked.text.now < 2 ^ 32 - 1)
-        × AreShortEntries (entries_of lines.marked.text.now)
-        × AreMarks lines.marked.text.now lines.marked.base lines.marked.ends.now };
+    ghost invariant = { λ lines. AreMarkedLines lines.marked.text.now lines.marked.base
+        lines.marked.ends.now lines.count };
 }
 
 // Lines that aren't too long can be hashed but for want of memory.

@@ -1,6 +1,7 @@
 //! The whole lines at the beginning of a piece of input.
 
-ghost use Rattle.std.specs.Prelude.{◌≡◌, [], ◌∷◌, length, map, IfSome};
+ghost use Rattle.std.specs.Prelude.{◌≡◌, [], ◌∷◌, length, map, IfNone, IfSome};
+ghost use Rattle.tl_command.specs.Inner.Cuts.{BeginsWithLines};
 ghost use Rattle.tl_command.specs.Inner.Growing.{BeginsWith};
 
 use memchr::memchr;
@@ -18,7 +19,8 @@ pub(crate) struct FourLines<'a> {
 
 // The first line of a piece and what follows its newline, where the piece has one and the line isn't too long.
 fn cut_line(piece: &[u8]) -> Option<(&[u8], &[u8])>
-    ensures { IfSome result (λ cut. BeginsWith piece.entry.now (cut.0.now ∷ []) cut.1.now) }
+    ensures line { IfSome result (λ cut. BeginsWith piece.entry.now (cut.0.now ∷ []) cut.1.now) }
+    ensures none { IfNone result (BeginsWithLines piece.entry.now 1 → ⊥) }
 {
     let end = memchr(b'\n', piece)?;
     if end > LONGEST_ENTRY {
@@ -57,6 +59,7 @@ pub(crate) fn cut_tile(piece: &[u8]) -> Option<TileLines<'_>>
     ensures begins { IfSome result (λ tile. BeginsWith piece.entry.now
         (map (λ line. line.now) tile.lines) tile.rest.now) }
     ensures count { IfSome result (λ tile. length tile.lines ≡ 256) }
+    ensures none { IfNone result (BeginsWithLines piece.entry.now 256 → ⊥) }
 {
     let mut lines = [&piece[..0]; 256];
     let mut rest = piece;

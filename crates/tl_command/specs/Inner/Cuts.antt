@@ -1,6 +1,8 @@
 -- A text of lines that is cut between them.
-use Rattle.std.specs.Prelude.{◌≡◌, ℕ, ◌+◌, ◌-◌, ◌<◌, ◌≤◌, List, [], ◌∷◌, All, length, take, drop, Some}
+use Rattle.std.specs.Prelude.{◌≡◌, ℕ, ◌+◌, ◌-◌, ◌<◌, ◌≤◌, ◌^◌, List, [], ◌∷◌, All, length, take, drop, Some}
 use Rattle.tl_hash.specs.Bytes.{Bytes}
+use Rattle.tl_tile.specs.Bundle.{AreShortEntries}
+use Rattle.tl_command.specs.Inner.Growing.{BeginsWith}
 use Rattle.tl_command.specs.Lines.{entries_of, first_too_long, lines_text, HasNoNewline}
 use Rattle.tl_command.specs.declared.fault.RunFault.{RunFault}
 use Rattle.tl_command.specs.declared.fault.RunFault.TheVariants.{EntryTooLong, OutOfMemory}
@@ -23,9 +25,23 @@ abbrev pub AreMarks : Bytes → ℕ → List ℕ → Type 0
 AreMarks text base [] = Unit {0}
 AreMarks text base (end ∷ ends) = IsMark text base end 256 × AreMarks (drop (end - base) text) end ends
 
+-- a text of so many lines, of which none is too long, with the places where each 256th of them ends, less the base
+pub record AreMarkedLines (text : Bytes) (base : ℕ) (ends : List ℕ) (count : ℕ) : Type 0 where
+  pub number : length (entries_of text) ≡ count
+  pub few : length text < 2 ^ 32 - 1
+  pub short : AreShortEntries (entries_of text)
+  pub marks : AreMarks text base ends
+
+-- so many whole lines, or more, stand at the beginning of the text, and none of them is too long
+pub record BeginsWithLines (text : Bytes) (count : ℕ) : Type 0 where
+  pub lines : List Bytes
+  pub rest : Bytes
+  pub begins : BeginsWith text lines rest
+  pub number : count ≤ length lines
+
 -- why the lines of a text weren't counted: the first that is too long is at this place, or memory was refused, for which
--- a text of no bytes doesn't ask
+-- a text asks that begins with 256 lines
 abbrev pub IsMarkFault : Bytes → RunFault → Type 0
 IsMarkFault text (EntryTooLong place) = first_too_long (entries_of text) ≡ Some place
-IsMarkFault text OutOfMemory = 0 < length text
+IsMarkFault text OutOfMemory = BeginsWithLines text 256
 IsMarkFault text fault = ⊥

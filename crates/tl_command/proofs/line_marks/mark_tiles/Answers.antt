@@ -1,8 +1,9 @@
-use Rattle.std.proofs.Common.{◌≡◌, ◌<◌, ◌≤◌, ◌∙◌, List, arith, length, map, refl}
-use Rattle.std.proofs.lemmas.List.{length-map}
+use Rattle.std.proofs.Common.{◌++◌, ◌∙◌, arith, map, refl}
+use Rattle.std.proofs.lemmas.List.{length-append, length-map}
 use Rattle.std.specs.Prelude.{Result, Ok, Err, OnErr}
+use Rattle.tl_command.specs.Inner.Cuts.{BeginsWithLines}
 use Rattle.tl_command.proofs.Marks.{marked_more, marked_none}
-use Rattle.tl_command.proofs.WholeLines.{lines_within}
+use Rattle.tl_command.proofs.WholeLines.{begins_more, lines_within}
 use Rattle.tl_command.proofs.line_marks.mark_tiles.Goals as goal
 
 pub loop-tile-init : goal.loop-tile-init
@@ -33,14 +34,14 @@ pub returns-in_err-push-clause-memory : goal.returns-in_err-push-clause-memory
 returns-in_err-push-clause-memory g c =
     let was = c.loop-tile.invariant in
     let tile = map (λ line. line.now) c.in-Some.tile.lines in
-    let some : 0 < length c.args.text.now = omega (
-      arith,
-      lines_within c.args.text.now was.lines c.loop-tile.rest.now was.begins,
-      lines_within c.loop-tile.rest.now tile c.in-Some.tile.rest.now c.in-Some.ensures.begins,
-      length-map c.in-Some.tile.lines (λ line. line.now),
-      c.in-Some.ensures.count,
-    ) in
-    on_err c.from_residual.result (0 < length c.args.text.now) some
+    let count = length-map c.in-Some.tile.lines (λ line. line.now) in
+    let some : BeginsWithLines c.args.text.now 256 = record {
+      lines = was.lines ++ tile;
+      rest = c.in-Some.tile.rest.now;
+      begins = begins_more c.args.text.now c.loop-tile.rest.now c.in-Some.tile.rest.now was.lines tile was.begins c.in-Some.ensures.begins;
+      number = omega (arith, length-append was.lines tile, count, c.in-Some.ensures.count);
+    } in
+    on_err c.from_residual.result (BeginsWithLines c.args.text.now 256) some
 
 pub returns-clause-marks : goal.returns-clause-marks
 returns-clause-marks g c = c.loop-tile.invariant.marks

@@ -1,5 +1,5 @@
-use Rattle.std.proofs.Common.{◌≡◌, ◌+◌, ◌*◌, ◌≤◌, ◌∙◌, ap, arith, length, refl, subst, sym, Some, ℕ}
-use Rattle.tl_command.specs.Lines.{entries_of, first_too_long}
+use Rattle.std.proofs.Common.{◌≡◌, ◌+◌, ◌*◌, ◌∙◌, ap, arith, length, Some, ℕ}
+use Rattle.tl_command.specs.Lines.{entries_of}
 use Rattle.tl_command.proofs.Bundles.{none_too_long}
 use Rattle.tl_command.proofs.Counting.{all_counted, long_behind}
 use Rattle.tl_command.proofs.LinesLemmas.{length-entries_of}
@@ -34,7 +34,12 @@ pub invariant_of-result : goal.invariant_of-result
 invariant_of-result g c =
     let found = c.in_ok-ends.ensures.lines in
     let all = all_counted c.args.text.now c.in_ok-ends.rest.now found.0 c.in-Ok.count found.1 c.in-Ok.ensures.count c.in-Ok.ensures.short in
-    (omega (arith, all.0, found.2, c.in_ok-ends.ends.ok.0, c.len.ensures), c.requires, none_too_long (entries_of c.args.text.now) all.1, c.in_ok-ends.ensures.marks)
+    record {
+      number = omega (arith, all.0, found.2, c.in_ok-ends.ends.ok.0, c.len.ensures);
+      few = c.requires;
+      short = none_too_long (entries_of c.args.text.now) all.1;
+      marks = c.in_ok-ends.ensures.marks;
+    }
 
 pub returns-in-Ok-clause-short : goal.returns-in-Ok-clause-short
 returns-in-Ok-clause-short g c =

@@ -3,4 +3,4 @@ use Rattle.tl_command.proofs.LinesLemmas.{length-entries_of}
 use Rattle.tl_command.proofs.log_lines.LogLines.count.Goals as goal
 
 pub returns-clause-few : goal.returns-clause-few
-returns-clause-few c = omega (arith, c.self.invariant.0, c.self.invariant.1, length-entries_of c.self.inside.marked.text.now)
+returns-clause-few c = omega (arith, c.self.invariant.number, c.self.invariant.few, length-entries_of c.self.inside.marked.text.now)

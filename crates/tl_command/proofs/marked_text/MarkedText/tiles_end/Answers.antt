@@ -1,4 +1,4 @@
-use Rattle.std.proofs.Common.{◌-◌, ◌*◌, ap, arith, sym, subst, take, ℕ}
+use Rattle.std.proofs.Common.{◌-◌, ◌*◌, arith, sym, subst, take, ℕ}
 use Rattle.tl_command.specs.Inner.Cuts.{AreWholeLines}
 use Rattle.tl_command.proofs.Marks.{marked}
 use Rattle.tl_command.proofs.marked_text.MarkedText.tiles_end.Goals as goal
