@@ -1,4 +1,5 @@
-use Rattle.tl_ledger.proofs.Reopening.{opens_some, unstated_note}
+use Rattle.tl_ledger.proofs.Heading.{unstated_note}
+use Rattle.tl_ledger.proofs.Reopening.{opens_some}
 use Rattle.tl_ledger.proofs.ledger.Ledger.open_note.Goals as goal
 
 pub returns-in-Err-clause-refused : goal.returns-in-Err-clause-refused

@@ -1,5 +1,5 @@
 use Rattle.std.proofs.Common.{rules}
-use Rattle.tl_ledger.proofs.Reopening.{unstated}
+use Rattle.tl_ledger.proofs.Heading.{unstated}
 use Rattle.tl_ledger.proofs.opened.heading.find_head.Goals as goal
 
 pub returns-clause-refused : goal.returns-clause-refused
