@@ -1,5 +1,5 @@
 -- What the note of a checkpoint states, and what a log that is opened has of a proposal.
-use Rattle.std.proofs.Common.{inl, inr, option_map, ◌⊎◌, ◌≡◌, ℕ, ◌≤◌, List, Option, Some, None, refl, sym, ap, subst, ◌∙◌, arith}
+use Rattle.std.proofs.Common.{inl, inr, option_map, ◌⊎◌, ◌≡◌, ℕ, ◌≤◌, List, [], ◌∷◌, Option, Some, None, refl, sym, ap, subst, ◌∙◌, arith}
 use Rattle.tl_hash.specs.Bytes.{Bytes}
 use Rattle.tl_hash.specs.declared.head.Head.{Head}
 use Rattle.tl_note.specs.Key.{Key}
@@ -12,8 +12,12 @@ use Rattle.tl_archive.specs.Shelves.{Held}
 use Rattle.tl_checkpoint.specs.OpenCheckpoint.{IsSignedCheckpoint}
 use Rattle.tl_ledger.specs.Opening.{IsNamed, IsOfHeld, IsOfNote, IsStated, found_size}
 use Rattle.tl_client.specs.Trusted.{IsTrusted}
+use Rattle.tl_command.specs.Mirror.{LogKey}
+use Rattle.tl_command.specs.declared.keys.LogKey.{LogKey as GivenKey}
 use Rattle.tl_append.specs.Cosigning.{HasQuorum}
+use Rattle.tl_append.specs.Inner.Proposals.{IsNewer}
 use Rattle.tl_append.specs.Proposing.{HasProposal, IsNoOlder, IsProposed, IsThere}
+use Rattle.tl_append.specs.Running.{AreLogKeys, HasOwnProposal}
 
 -- a note of this checkpoint of the log states its size
 pub states_size : (note : Bytes) (keys : List Key) (c : checkpoint.Head) (name : Bytes) → IsSignedCheckpoint note keys c → name ≡ c.origin → IsNamed keys name
@@ -42,11 +46,12 @@ own_kept MayHave keys note found had (head, is, of) =
     let less : head.size ≤ found_size found = subst (λ (f : Option Head). head.size ≤ found_size f) (sym is) (omega arith) in
     (Some note, had, (head, of, less))
 
--- by some keys
-pub has_some : {Rests : Type 0} (MayHave : Option Bytes → Type 0) (keys : List Key) (size : ℕ) → Rests ⊎ HasProposal MayHave keys size
-    → Rests ⊎ ((own : List Key) × HasProposal MayHave own size)
-has_some MayHave keys size (inl rests) = inl rests
-has_some MayHave keys size (inr has) = inr (keys, has)
+-- by the key of a log of this name
+pub has_own : {Rests : Type 0} (given : GivenKey) (name named : Bytes) (signer : LogKey) (opener : Key) (MayHave : Option Bytes → Type 0) (size : ℕ)
+    → name ≡ named → AreLogKeys given name signer opener → Rests ⊎ HasProposal MayHave (opener ∷ []) size → Rests ⊎ HasOwnProposal given named MayHave size
+has_own given name named signer opener MayHave size same are (inl rests) = inl rests
+has_own given name named signer opener MayHave size same are (inr has) =
+    inr (signer, opener, subst (λ (n : Bytes). AreLogKeys given n signer opener) same are, has)
 
 -- ---- the checkpoint that is there
 
@@ -83,8 +88,22 @@ proposal_shown shown keys note text size had found (one, of, same) alike (head, 
     let least : had ≤ found_size found = subst (λ (f : Option Head). had ≤ found_size f) (sym is) (omega (arith, less, same, own)) in
     grown_shown shown keys had (found_size found) least older
 
--- the log is that of a proposal
-pub own_proposed : {X : Type 0} (MayHave : Option Bytes → Type 0) (keys : List Key) (bytes : X → Bytes) (kept : Option X) (note : X) (text : Bytes) (found : Option Head)
-    → MayHave (option_map bytes kept) → kept ≡ Some note → text ≡ bytes note → IsStated text keys found → IsProposed MayHave keys found
-own_proposed MayHave keys bytes kept note text found had is same stated =
-    (bytes note, subst (λ (k : Option _). MayHave (option_map bytes k)) is had, subst (λ (n : Bytes). IsStated n keys found) same stated)
+-- ---- a newer proposal
+
+newer_note : {X : Type 0} (MayHave : Option Bytes → Type 0) (keys : List Key) (size : ℕ) (bytes : X → Bytes) (kept : Option X) (note : X)
+    → IsNewer MayHave keys size (option_map bytes kept) → kept ≡ Some note → IsNewer MayHave keys size (Some (bytes note))
+newer_note MayHave keys size bytes kept note newer is = subst (λ (k : Option _). IsNewer MayHave keys size (option_map bytes k)) is newer
+
+-- the log is that of one
+pub own_newer : {X : Type 0} (MayHave : Option Bytes → Type 0) (keys : List Key) (size : ℕ) (bytes : X → Bytes) (kept : Option X) (note : X) (text : Bytes) (found : Option Head)
+    → IsNewer MayHave keys size (option_map bytes kept) → kept ≡ Some note → text ≡ bytes note → IsStated text keys found → IsProposed MayHave keys found
+own_newer MayHave keys size bytes kept note text found newer is same stated =
+    (bytes note, (newer_note MayHave keys size bytes kept note newer is).0, subst (λ (n : Bytes). IsStated n keys found) same stated)
+
+-- it has no fewer entries than the checkpoint
+pub newer_shown : {X : Type 0} (shown : Option Bytes) (MayHave : Option Bytes → Type 0) (keys : List Key) (size : ℕ) (bytes : X → Bytes) (kept : Option X) (note : X) (text : Bytes)
+    (had : ℕ) (found : Option Head) → IsNewer MayHave keys size (option_map bytes kept) → kept ≡ Some note → text ≡ bytes note → IsStated text keys found
+    → had ≤ size → IsNoOlder shown keys had → IsNoOlder shown keys (found_size found)
+newer_shown shown MayHave keys size bytes kept note text had found newer is same stated less older =
+    let (may, (head, of, more)) = newer_note MayHave keys size bytes kept note newer is in
+    proposal_shown shown keys (bytes note) text head.size had found (head, of, refl) same stated (omega (arith, less, more)) older

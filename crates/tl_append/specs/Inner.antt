@@ -2,6 +2,8 @@
 pub
     mod Faults
 pub
+    mod Proposals
+pub
     mod Turns
 pub
     mod Under

@@ -1,5 +1,5 @@
 -- A run of the command `append`: it goes on from the log on a shelf.
-use Rattle.std.specs.Prelude.{◌≡◌, ◌<◌, ◌⊎◌, ℕ, ◌-◌, ◌^◌, max, length, Option, Some, None, List, [], ◌++◌, Contains, Result, Ok, Err, string_bytes}
+use Rattle.std.specs.Prelude.{◌≡◌, ◌<◌, ◌⊎◌, ℕ, ◌-◌, ◌^◌, max, length, Option, Some, None, List, [], ◌∷◌, ◌++◌, Contains, Result, Ok, Err, string_bytes}
 use Rattle.std.specs.List.{flat_map}
 use Rattle.sha2.specs.Sha256.{sha256}
 use Rattle.tl_hash.specs.Bytes.{Bytes, Digest}
@@ -19,6 +19,7 @@ use Rattle.tl_command.specs.declared.keys.LogKey.{LogKey as GivenKey}
 use Rattle.tl_command.specs.declared.keys.LogKey.TheVariants as given
 use Rattle.tl_command.specs.declared.fault.RunFault.{RunFault}
 use Rattle.tl_append.specs.Appending.{AreBatches, AreFirst, joined, publication_line, published_after}
+use Rattle.tl_append.specs.Proposing.{HasProposal}
 
 -- a shelf at rest with the log of these entries, after these publications: each is of a beginning of them, nothing is
 -- staged, whatever a crash leaves is complete for one of the publications, and all that a log of the entries needs is
@@ -72,6 +73,11 @@ AreLogKeys (given.Secret secret) name signer opener =
 AreLogKeys (given.File path) name signer opener =
     (bytes : Bytes) × (k : SeedKey) × IsPrivateFile note_kind bytes k × (k.name ≡ name)
     × (signer ≡ seed_log_key k) × (opener ≡ verifier_key (public_of k))
+
+-- a log of so many entries has all of a proposal that may be kept, which opens by the key that opens what it signs
+abbrev pub HasOwnProposal : GivenKey → Bytes → (Option Bytes → Type 0) → ℕ → Type 0
+HasOwnProposal given name MayHave size =
+    (signer : LogKey) × (opener : Key) × AreLogKeys given name signer opener × HasProposal MayHave (opener ∷ []) size
 
 -- the number of entries of a batch: as many as the options tell, one at least
 abbrev pub batch_size : Option ℕ → ℕ

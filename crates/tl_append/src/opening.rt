@@ -1,12 +1,13 @@
 //! Opening the log on a shelf under the key of its operator.
 
-ghost use Rattle.std.specs.Prelude.{◌≡◌, ◌⊎◌, ◌∷◌, [], true, false, map, IfOk, OnOk, None, Some};
+ghost use Rattle.std.specs.Prelude.{◌≡◌, ◌⊎◌, ◌∷◌, [], true, false, map, option_map, string_bytes, IfOk, OnOk, None, Some};
 ghost use Rattle.sha2.specs.Sha256.{sha256};
 ghost use Rattle.tl_hash.specs.declared.head.Head.{Head as HeadValue};
 ghost use Rattle.tl_tile.specs.declared.resource.Resource.TheVariants as resource;
 ghost use Rattle.tl_ledger.specs.Marks.{IsWithin};
 ghost use Rattle.tl_ledger.specs.Opening.{IsOfNote, Opens, found_size};
 ghost use Rattle.tl_append.specs.Keys.{opening_key_of};
+ghost use Rattle.tl_append.specs.Inner.Proposals.{IsNewer};
 ghost use Rattle.tl_append.specs.Proposing.{HasProposal, IsNoOlder, IsProposed, IsThere};
 
 use crate::faults::{outrun, unopened, unproposed};
@@ -65,6 +66,28 @@ fn open_shown<S: Shelf>(
     Ok(OpenedLog { ledger, is_due })
 }
 
+// The proposal that is kept, where it has more entries than so many.
+fn newer_proposal<P: ProposalStore>(
+    alloc: Global,
+    verifiers: &[Box<dyn Verifier>],
+    store: &P,
+    size: u64,
+) -> Result<Option<String>, RunFault>
+    ensures { IfOk result (λ note. IsNewer (P.may_have store.now)
+        (map (λ v. key v) verifiers.now) size (option_map string_bytes note)) }
+{
+    let note = match store.last(alloc) {
+        Ok(Some(note)) => note,
+        Ok(None) => return Ok(None),
+        Err(fault) => return Err(fault),
+    };
+    match proposed_size(alloc, note.as_str(), verifiers) {
+        Ok(proposed) if proposed > size => Ok(Some(note)),
+        Ok(_) => Ok(None),
+        Err(fault) => Err(fault),
+    }
+}
+
 // The ledger of the log on this shelf, as far as its checkpoint goes or the proposal that is kept, whichever has more
 // entries. Of an older proposal nothing is read: its partial tiles may be gone.
 fn open_newest<S: Shelf, P: ProposalStore>(
@@ -91,18 +114,11 @@ fn open_newest<S: Shelf, P: ProposalStore>(
         Ok(shown) => shown,
         Err(fault) => return Err(fault),
     };
-    let note = match store.last(alloc) {
+    let note = match newer_proposal(alloc, verifiers, store, shown.ledger.size()) {
         Ok(Some(note)) => note,
         Ok(None) => return Ok(shown),
         Err(fault) => return Err(fault),
     };
-    let size = match proposed_size(alloc, note.as_str(), verifiers) {
-        Ok(size) => size,
-        Err(fault) => return Err(fault),
-    };
-    if size <= shown.ledger.size() {
-        return Ok(shown);
-    }
     match Ledger::open_note(alloc, shelf, note.as_str(), verifiers, found) {
         Ok(ledger) => Ok(OpenedLog {
             ledger,

@@ -1,14 +1,14 @@
 //! A run of the command `append`.
 
-ghost use Rattle.std.specs.Prelude.{◌≡◌, ◌⊎◌, ◌∷◌, [], List, true, false, string_bytes, OnErr, OnOk, None};
+ghost use Rattle.std.specs.Prelude.{◌≡◌, ◌⊎◌, ◌∷◌, [], true, false, string_bytes, OnErr, OnOk, None};
 ghost use Rattle.tl_device.specs.Device.{passage};
-ghost use Rattle.tl_note.specs.Key.{IsKeyName, Key};
+ghost use Rattle.tl_note.specs.Key.{IsKeyName};
 ghost use Rattle.tl_ledger.specs.Marks.{IsWithin};
 ghost use Rattle.tl_ledger.specs.Opening.{found_size};
 ghost use Rattle.tl_command.specs.Origins.{RefusesOrigin};
 ghost use Rattle.tl_append.specs.Keys.{log_key_of, opening_key_of};
 ghost use Rattle.tl_append.specs.Proposing.{HasProposal};
-ghost use Rattle.tl_append.specs.Running.{GoesOn, Stays, batch_size, visit};
+ghost use Rattle.tl_append.specs.Running.{GoesOn, HasOwnProposal, Stays, batch_size, visit};
 ghost use Rattle.tl_append.specs.Inner.Under.{GoesOnUnder};
 
 use crate::appending::append_lines;
@@ -106,8 +106,8 @@ pub fn run_append<H: Files, S: Shelf, P: ProposalStore, R: Read, W: Write>(
     ensures within { options.now.allows_older ≡ false → S.is_honest ≡ true
         → OnOk result (IsWithin (found_size found.new.head) (S.published shelf.old)) }
     ensures newest { Stays (visit S.kept S.trace shelf.old shelf.new)
-        (passage R.remaining reader.old reader.new) ⊎ ((keys : List Key)
-        × HasProposal (P.may_have store.now) keys (found_size found.new.head)) }
+        (passage R.remaining reader.old reader.new) ⊎ HasOwnProposal options.now.key
+        (string_bytes options.now.origin) (P.may_have store.now) (found_size found.new.head) }
     ensures place { S.place shelf.new ≡ S.place shelf.old }
 {
     let origin = options.origin.as_str();

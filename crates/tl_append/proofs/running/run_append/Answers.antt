@@ -1,8 +1,8 @@
 use Rattle.std.proofs.Common.{inl, inr, refl, subst}
 use Rattle.tl_hash.specs.Bytes.{Bytes}
-use Rattle.tl_append.specs.Keys.{log_key_of}
+use Rattle.tl_append.specs.Keys.{log_key_of, opening_key_of}
 use Rattle.tl_append.specs.Running.{IsLogKey}
-use Rattle.tl_append.proofs.Proposals.{has_some}
+use Rattle.tl_append.proofs.Proposals.{has_own}
 use Rattle.tl_append.proofs.Runs.{key_name, stayed, under_part}
 use Rattle.tl_append.proofs.running.run_append.Goals as goal
 
@@ -39,7 +39,9 @@ pub returns-in-Err-clause-newest : goal.returns-in-Err-clause-newest
 returns-in-Err-clause-newest g c = inl (stayed (g.S.Shelf.kept c.args.shelf.now) (g.S.Shelf.trace c.args.shelf.now) (g.R.Read.remaining c.args.reader.now.device) c.args.reader.now.failed)
 
 pub returns-in-Ok-append_under-clause-newest : goal.returns-in-Ok-append_under-clause-newest
-returns-in-Ok-append_under-clause-newest g c = has_some _ _ _ c.append_under.ensures.newest
+returns-in-Ok-append_under-clause-newest g c =
+    has_own c.args.options.now.key _ _ (log_key_of c.in-Ok.keys.signer) (opening_key_of c.in-Ok.keys.verifier) _ _ c.as_str-origin.ensures.value c.in-Ok.ensures.both c.append_under.ensures.newest
 
 pub returns-in-Err-append_under-clause-newest : goal.returns-in-Err-append_under-clause-newest
-returns-in-Err-append_under-clause-newest g c = has_some _ _ _ c.append_under.ensures.newest
+returns-in-Err-append_under-clause-newest g c =
+    has_own c.args.options.now.key _ _ (log_key_of c.in-Ok.keys.signer) (opening_key_of c.in-Ok.keys.verifier) _ _ c.as_str-origin.ensures.value c.in-Ok.ensures.both c.append_under.ensures.newest
