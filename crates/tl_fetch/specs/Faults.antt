@@ -1,4 +1,5 @@
 -- Faults of checks, as those of the command.
+use Rattle.tl_note.specs.declared.fault.NoteFault.{NoteFault}
 use Rattle.tl_note.specs.declared.fault.NoteFault.TheVariants as note
 use Rattle.tl_client.specs.declared.fault.ClientFault.{ClientFault}
 use Rattle.tl_client.specs.declared.fault.ClientFault.TheVariants as client
@@ -27,10 +28,14 @@ after_client client.OutOfMemory = fetch.Run run.OutOfMemory
 abbrev pub bad_checkpoint : RunFault
 bad_checkpoint = run.BadCheckpoint (place.Source resource.Checkpoint)
 
+-- a checkpoint that doesn't open as a note
+abbrev pub after_unopened : NoteFault → RunFault
+after_unopened note.Malformed = bad_checkpoint
+after_unopened fault = after_note fault
+
 -- a checkpoint that isn't trusted
 abbrev pub after_head : HeadFault → FetchFault
-after_head (head.Unopened note.Malformed) = fetch.Run bad_checkpoint
-after_head (head.Unopened fault) = fetch.Run (after_note fault)
+after_head (head.Unopened fault) = fetch.Run (after_unopened fault)
 after_head (head.NoCheckpoint fault) = fetch.Run bad_checkpoint
 after_head (head.TooFew count) = fetch.TooFew count
 after_head head.OutOfMemory = fetch.Run run.OutOfMemory

@@ -11,3 +11,5 @@ pub
     mod Ahead
 pub
     mod LogKeys
+pub
+    mod Witnesses

@@ -1,7 +1,7 @@
 //! Faults of checks, as those of the command.
 
 ghost use Rattle.std.specs.Prelude.{◌≡◌};
-ghost use Rattle.tl_fetch.specs.Faults.{IsNoAccusation, after_client, after_head};
+ghost use Rattle.tl_fetch.specs.Faults.{IsNoAccusation, after_client, after_head, after_unopened};
 
 use crate::fault::FetchFault;
 use tl_client::{ClientFault, HeadFault};
@@ -38,14 +38,23 @@ pub(crate) fn client_refusal(fault: ClientFault) -> FetchFault
     }
 }
 
+// Why a checkpoint doesn't open as a note.
+fn unopened_refusal(fault: NoteFault) -> RunFault
+    ensures { result ≡ after_unopened fault }
+{
+    match fault {
+        NoteFault::Malformed => BAD_CHECKPOINT,
+        _ => note_refusal(fault),
+    }
+}
+
 /// Why a checkpoint isn't trusted.
 pub(crate) fn head_refusal(fault: HeadFault) -> FetchFault
     ensures value { result ≡ after_head fault }
     ensures fair { IsNoAccusation result }
 {
     match fault {
-        HeadFault::Unopened(NoteFault::Malformed) => FetchFault::Run(BAD_CHECKPOINT),
-        HeadFault::Unopened(fault) => FetchFault::Run(note_refusal(fault)),
+        HeadFault::Unopened(fault) => FetchFault::Run(unopened_refusal(fault)),
         HeadFault::NoCheckpoint(_) => FetchFault::Run(BAD_CHECKPOINT),
         HeadFault::TooFew(count) => FetchFault::TooFew(count),
         HeadFault::OutOfMemory => FetchFault::Run(RunFault::OutOfMemory),

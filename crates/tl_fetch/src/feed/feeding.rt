@@ -6,6 +6,7 @@ ghost use Rattle.tl_device.specs.Device.{passage};
 ghost use Rattle.tl_fetch.specs.Faults.{IsNoAccusation};
 ghost use Rattle.tl_fetch.specs.Feeding.{HasFed, IsFedNote, IsUnfed, RefusesFeed};
 ghost use Rattle.tl_fetch.specs.Fetching.{AreTwo, Two, grounds_of};
+ghost use Rattle.tl_fetch.specs.Inner.Witnesses.{AreOfOne, IsOfAnother};
 ghost use Rattle.tl_fetch.specs.Printed.{PrintedSome, PrintedWhole};
 ghost use Rattle.tl_fetch.specs.Trusting.{IsGrown, IsKnown, IsNoteOf, alone, policy_of};
 
@@ -36,6 +37,8 @@ fn end_of(witnesses: &[Box<dyn Verifier>], start: usize) -> usize
     requires { start < length witnesses.now }
     ensures more { start < result }
     ensures within { result ≤ length witnesses.now }
+    ensures one { AreOfOne (map (λ w. key w) witnesses.now) start result }
+    ensures other { IsOfAnother (map (λ w. key w) witnesses.now) start result }
 {
     for end in start + 1..witnesses.len() {
         if !are_one(&witnesses[start], &witnesses[end]) {

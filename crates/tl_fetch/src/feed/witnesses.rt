@@ -1,7 +1,8 @@
 //! Witnesses that are asked over HTTP.
 
-ghost use Rattle.std.specs.Prelude.{◌≡◌, ◌⊎◌, IfErr, string_bytes};
-ghost use Rattle.std.specs.List.{Any};
+ghost use Rattle.std.specs.Prelude.{◌≡◌, ◌⊎◌, IfErr, IfOk, string_bytes};
+ghost use Rattle.std.specs.List.{AllZip, Any};
+ghost use Rattle.tl_fetch.specs.Inner.Witnesses.{IsAddressOf};
 ghost use Rattle.tl_source.specs.Url.{IsNoUrl};
 
 use crate::fault::FetchFault;
@@ -17,7 +18,9 @@ use tl_source::Url;
 
 /// The addresses that these texts are. `BadAddress`: one is none over HTTP.
 pub(crate) fn addresses(alloc: Global, texts: &[String]) -> Result<Vec<Url<'_>>, FetchFault>
-    ensures { IfErr result (λ fault. (fault ≡ FetchFault.Run RunFault.OutOfMemory)
+    ensures read { IfOk result (λ urls. AllZip
+        (λ text url. IsAddressOf (string_bytes text) url) texts.now urls.items) }
+    ensures refused { IfErr result (λ fault. (fault ≡ FetchFault.Run RunFault.OutOfMemory)
         ⊎ ((fault ≡ FetchFault.BadAddress) × Any (λ t. IsNoUrl (string_bytes t)) texts.now)) }
 {
     let mut urls = Vec::new(alloc);

@@ -7,7 +7,7 @@ use Rattle.tl_fetch.proofs.feed.command.feed_as_asked.Goals as goal
 
 pub returns-in-Err : goal.returns-in-Err
 returns-in-Err g c =
-    no_address _ c.args.options.now c.in-Err.fault _ (still _ _) (bad_texts c.args.options.now c.as_slice.result.now c.in-Err.fault c.as_slice.ensures.value c.in-Err.ensures)
+    no_address _ c.args.options.now c.in-Err.fault _ (still _ _) (bad_texts c.args.options.now c.as_slice.result.now c.in-Err.fault c.as_slice.ensures.value c.in-Err.ensures.refused)
 
 pub returns : goal.returns
 returns g c =
