@@ -5,7 +5,7 @@ use Rattle.tl_bucket.specs.Opened.{IsAtEnd, KnowsTag, RefusesPuts}
 use Rattle.tl_hash.specs.Bytes.{Bytes}
 use Rattle.tl_put.specs.Objects.{Place}
 use Rattle.tl_command.specs.declared.fault.RunFault.{RunFault}
-use Rattle.tl_cli.specs.InBucket.{EndsInBucket, IsPlaceOf, IsRefused, OpensBucket}
+use Rattle.tl_cli.specs.InBucket.{EndsInBucket, IsKeyFor, IsPlaceOf, IsRefused, IsToken, OpensBucket}
 use Rattle.tl_cli.specs.declared.own_bucket.BucketOptions.{BucketOptions}
 use Rattle.tl_cli.specs.declared.fault.CommandFault.{CommandFault}
 use Rattle.tl_cli.specs.declared.fault.CommandFault.TheVariants.{Run, Bucket}
@@ -24,19 +24,26 @@ is_refused (Err fault) fails = (fault, refl)
 
 -- a bucket that was opened by a client is that of the options which tell the client's place
 pub opened : (options : BucketOptions) (b : Bucketed) (p : Place) (token : Bytes) → IsPlaceOf (string_bytes options.address) p → p.credential.region ≡ string_bytes options.region
-    → b.objects ≡ no_objects p b.objects.claims b.objects.etag → RefusesPuts p → IsAtEnd p token b.objects.claims → KnowsTag p b.objects.etag
+    → IsKeyFor options p.credential.id p.credential.secret → IsToken token → b.objects ≡ no_objects p b.objects.claims b.objects.etag → RefusesPuts p → IsAtEnd p token b.objects.claims → KnowsTag p b.objects.etag
     → b.place ≡ string_bytes options.address → b.events ≡ [] → b.published ≡ None → OpensBucket options b
-opened options b p token at region same refuses end tag named events unmarked =
+opened options b p token at region key drawn same refuses end tag named events unmarked =
     let there : b.objects.at ≡ p = ap (λ (o : Objects). o.at) same in
     record {
       named = named;
       at = subst (IsPlaceOf (string_bytes options.address)) (sym there) at;
       region = ap (λ (q : Place). q.credential.region) there ∙ region;
+      key = subst (λ (q : Place). IsKeyFor options q.credential.id q.credential.secret) (sym there) key;
       refuses = subst RefusesPuts (sym there) refuses;
       token = token;
+      drawn = drawn;
       end = subst (λ (q : Place). IsAtEnd q token b.objects.claims) (sym there) end;
       waiting = same ∙ ap (λ (q : Place). no_objects q b.objects.claims b.objects.etag) (sym there);
       etag = subst (λ (q : Place). KnowsTag q b.objects.etag) (sym there) tag;
       events = events;
       unmarked = unmarked;
     }
+
+-- a key by other words for its name and its secret
+pub key_by : (options : BucketOptions) (id secret name hidden : Bytes) → name ≡ id → hidden ≡ secret → IsKeyFor options id secret → IsKeyFor options name hidden
+key_by options id secret name hidden named same key =
+    subst (λ (n : Bytes). IsKeyFor options n hidden) (sym named) (subst (λ (h : Bytes). IsKeyFor options id h) (sym same) key)

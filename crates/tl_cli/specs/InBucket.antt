@@ -1,5 +1,6 @@
 -- Commands on a log in a bucket.
-use Rattle.std.specs.Prelude.{◌≡◌, ◌⊎◌, ℕ, [], ◌∷◌, ◌++◌, Option, Some, None, Result, Ok, Err, string_bytes}
+use Rattle.std.specs.Prelude.{◌≡◌, ◌⊎◌, ℕ, [], ◌∷◌, ◌++◌, length, Option, Some, None, Result, Ok, Err, string_bytes}
+use Rattle.hex.specs.Hex.{encode_lower}
 use Rattle.tl_archive.specs.Shelves.{Held}
 use Rattle.tl_append.specs.Running.{GoesOn, batch_size, visit}
 use Rattle.tl_append.specs.declared.options.AppendOptions.{AppendOptions}
@@ -17,6 +18,7 @@ use Rattle.tl_put.specs.Objects.{Place}
 use Rattle.tl_serve.specs.Serving.{Serves}
 use Rattle.tl_serve.specs.declared.options.ServeOptions.{ServeOptions}
 use Rattle.tl_source.specs.Url.{IsUrl}
+use Rattle.tl_text.specs.Text.{IsOneLine, line}
 use Rattle.tl_cli.specs.Lasting.{nobody}
 use Rattle.tl_cli.specs.declared.fault.CommandFault.{CommandFault}
 use Rattle.tl_cli.specs.declared.fault.CommandFault.TheVariants.{Run, Bucket}
@@ -33,6 +35,20 @@ EndsInBucket (Err fault) result = (result ≡ Err (Run fault)) ⊎ ((why : Bucke
 abbrev pub IsRefused : Result (Unit {0}) CommandFault → Type 0
 IsRefused result = (fault : CommandFault) × (result ≡ Err fault)
 
+-- a text of two lines, of which the last may lack its newline: a key's name, and its secret
+pub record IsKeyText (text id secret : Bytes) : Type 0 where
+  pub name : IsOneLine id
+  pub hidden : IsOneLine secret
+  pub lines : (text ≡ line id ++ secret) ⊎ (text ≡ line id ++ line secret)
+
+-- the key is that of a file, where the options name one; or the environment has it
+abbrev pub IsKeyFor : BucketOptions → Bytes → Bytes → Type 0
+IsKeyFor options id secret = (options.credentials ≡ None) ⊎ ((text : Bytes) × IsKeyText text id secret)
+
+-- 16 bytes, in hexadecimal
+abbrev pub IsToken : Bytes → Type 0
+IsToken token = (bytes : Bytes) × (length bytes ≡ 16) × (token ≡ encode_lower bytes)
+
 -- the place is that of an address, behind which a slash may come
 abbrev pub IsPlaceOf : Bytes → Place → Type 0
 IsPlaceOf address p = (text host : Bytes) × (port : ℕ) × ((address ≡ text) ⊎ (address ≡ text ++ 47 ∷ []))
@@ -44,8 +60,10 @@ pub record OpensBucket (options : BucketOptions) (b : Bucketed) : Type 0 where
   pub named : b.place ≡ string_bytes options.address
   pub at : IsPlaceOf (string_bytes options.address) b.objects.at
   pub region : b.objects.at.credential.region ≡ string_bytes options.region
+  pub key : IsKeyFor options b.objects.at.credential.id b.objects.at.credential.secret
   pub refuses : RefusesPuts b.objects.at
   pub token : Bytes
+  pub drawn : IsToken token
   pub end : IsAtEnd b.objects.at token b.objects.claims
   pub waiting : b.objects ≡ no_objects b.objects.at b.objects.claims b.objects.etag
   pub etag : KnowsTag b.objects.at b.objects.etag

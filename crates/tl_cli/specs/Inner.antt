@@ -1,3 +1,4 @@
 -- Private words: what contracts of private functions and proofs need.
 pub
     mod Compacting
+pub mod Keys

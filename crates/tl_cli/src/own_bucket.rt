@@ -1,7 +1,10 @@
 //! The bucket of a log that a command works on.
 
-ghost use Rattle.std.specs.Prelude.{◌≡◌, ◌⊎◌, [], ◌∷◌, ◌++◌, IfOk, string_bytes};
-ghost use Rattle.tl_cli.specs.InBucket.{EndsInBucket, IsPlaceOf, OpensBucket};
+ghost use Rattle.std.specs.Prelude.{◌≡◌, ◌↔◌, ◌⊎◌, [], ◌∷◌, ◌++◌, IfOk, IsTrue, MatchOption, string_bytes};
+ghost use Rattle.tl_cli.specs.InBucket.{EndsInBucket, IsKeyFor, IsKeyText, IsPlaceOf, IsToken, OpensBucket};
+ghost use Rattle.tl_cli.specs.Inner.Keys.{IsCut};
+ghost use Rattle.tl_hash.specs.Bytes.{Bytes};
+ghost use Rattle.tl_text.specs.Text.{IsOneLine};
 
 use crate::fault::CommandFault;
 use std::alloc::{AllocError, Global};
@@ -36,17 +39,34 @@ pub(crate) struct AccessKey {
     secret: String,
 }
 
+// The first line of a text and what follows it, or all of it where no line ends.
+fn cut_line(text: &str) -> (&str, &str)
+    ensures { IsCut text.entry.now result.0.now result.1.now }
+{
+    match split_line(text) {
+        Some(cut) => cut,
+        None => (text, ""),
+    }
+}
+
+// Whether these can be a key's name and its secret, with nothing behind them.
+fn is_key(id: &str, secret: &str, after: &str) -> bool
+    ensures { IsTrue result ↔ (IsOneLine id.now × IsOneLine secret.now × (after.now ≡ [])) }
+{
+    is_one_line(id) && is_one_line(secret) && after.is_empty()
+}
+
 // The key that a text of two lines has: its name, and its secret.
-fn parse_key(alloc: Global, text: &str) -> Result<Option<AccessKey>, AllocError> {
+fn parse_key(alloc: Global, text: &str) -> Result<Option<AccessKey>, AllocError>
+    ensures { IfOk result (λ found. MatchOption found
+        ((id secret : Bytes) → IsKeyText text.now id secret → ⊥)
+        (λ key. IsKeyText text.now (string_bytes key.id) (string_bytes key.secret))) }
+{
     let Some((id, rest)) = split_line(text) else {
         return Ok(None);
     };
-    let secret = match split_line(rest) {
-        Some((secret, "")) => secret,
-        Some(_) => return Ok(None),
-        None => rest,
-    };
-    if !is_one_line(id) || !is_one_line(secret) {
+    let (secret, after) = cut_line(rest);
+    if !is_key(id, secret, after) {
         return Ok(None);
     }
     Ok(Some(AccessKey {
@@ -56,7 +76,10 @@ fn parse_key(alloc: Global, text: &str) -> Result<Option<AccessKey>, AllocError>
 }
 
 // The key that a file has.
-fn key_in<H: Files>(rt: &H, alloc: Global, path: &str) -> Result<AccessKey, CommandFault> {
+fn key_in<H: Files>(rt: &H, alloc: Global, path: &str) -> Result<AccessKey, CommandFault>
+    ensures { IfOk result (λ key. (text : Bytes)
+        × IsKeyText text (string_bytes key.id) (string_bytes key.secret)) }
+{
     let bytes = match read_file(rt, alloc, path) {
         Ok(bytes) => bytes,
         Err(RunFault::Device(_, why)) => return Err(CommandFault::Credentials(Some(why))),
@@ -87,7 +110,10 @@ pub(crate) fn access_key<H: Files + Env>(
     rt: &H,
     alloc: Global,
     options: &BucketOptions,
-) -> Result<AccessKey, CommandFault> {
+) -> Result<AccessKey, CommandFault>
+    ensures { IfOk result (λ key.
+        IsKeyFor options.now (string_bytes key.id) (string_bytes key.secret)) }
+{
     if let Some(path) = &options.credentials {
         return key_in(rt, alloc, path);
     }
@@ -97,33 +123,21 @@ pub(crate) fn access_key<H: Files + Env>(
     })
 }
 
-// A hexadecimal digit.
-fn digit(value: u8) -> char {
-    let value = value % 16;
-    if value < 10 {
-        (b'0' + value) as char
-    } else {
-        (b'a' + (value - 10)) as char
-    }
-}
-
-// A text that no other run has: 32 random hexadecimal digits.
-fn new_token<H: RandomSource>(rt: &H, alloc: Global) -> Result<String, CommandFault> {
+// A text that no other run has: 16 random bytes in hexadecimal.
+fn new_token<H: RandomSource>(rt: &H, alloc: Global) -> Result<String, CommandFault>
+    ensures { IfOk result (λ token. IsToken (string_bytes token)) }
+{
     let mut bytes = [0; 16];
     if rt.fill_bytes(&mut bytes).is_err() {
         return Err(CommandFault::Run(RunFault::Read));
     }
-    let mut token = String::new(alloc);
-    for byte in &bytes {
-        token.push(digit(*byte / 16))?;
-        token.push(digit(*byte))?;
-    }
-    Ok(token)
+    Ok(hex::encode(alloc, bytes)?)
 }
 
 // An address without the slash that may come behind it.
 fn without_slash(address: &str) -> &str
-    ensures { (address.now ≡ result.now) ⊎ (address.now ≡ result.now ++ 47 ∷ []) }
+    ensures { (address.now ≡ result.now ++ 47 ∷ []) ⊎ ((address.now ≡ result.now)
+        × ((front : Bytes) → address.now ≡ front ++ 47 ∷ [] → ⊥)) }
 {
     match address.strip_suffix('/') {
         Some(front) => front,
@@ -141,6 +155,8 @@ pub(crate) fn client_of<'b, H>(
     ensures at { IfOk result (IsPlaceOf (string_bytes options.entry.now.address)) }
     ensures region { IfOk result (λ client.
         client.credential.region ≡ string_bytes options.entry.now.region) }
+    ensures key { IfOk result (λ client. (client.credential.id ≡ string_bytes key.entry.now.id)
+        × (client.credential.secret ≡ string_bytes key.entry.now.secret)) }
 {
     let Some(url) = Url::parse(without_slash(options.address.as_str())) else {
         return Err(CommandFault::Bucket(BucketFault::Device(DeviceFault::NoHost)));
@@ -166,6 +182,7 @@ pub(crate) fn open_bucket<
     options: &'b BucketOptions,
     key: &'b AccessKey,
 ) -> Result<BucketShelf<'b, D, H>, CommandFault>
+    requires { IsKeyFor options.now (string_bytes key.now.id) (string_bytes key.now.secret) }
     ensures { IfOk result (OpensBucket options.entry.now) }
 {
     let token = new_token(rt, alloc)?;

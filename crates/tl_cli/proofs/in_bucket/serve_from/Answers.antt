@@ -7,3 +7,6 @@ returns-in_err-shown g c = inl (is_refused c.from_residual-in_err-shown.result c
 
 pub returns : goal.returns
 returns g c = inr (c.in_ok-shelf.shelf, c.in_ok-shelf.ensures, c.finish_and_serve.ensures)
+
+pub returns-in_err-shelf : goal.returns-in_err-shelf
+returns-in_err-shelf g c = inl (is_refused c.from_residual-in_err-shelf.result c.from_residual-in_err-shelf.ensures.0, search rules)
