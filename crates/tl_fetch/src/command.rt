@@ -1,9 +1,9 @@
 //! The command `fetch`.
 
-ghost use Rattle.std.specs.Prelude.{◌≡◌, ◌∷◌, [], string_bytes, IfErr, IfOk, map};
+ghost use Rattle.std.specs.Prelude.{◌≡◌, string_bytes, IfErr, IfOk, map};
 ghost use Rattle.tl_device.specs.Device.{passage};
 ghost use Rattle.tl_fetch.specs.Command.{HasScheme, IsOriginOf, IsToldAs, RunsFetch, RunsUnder, cached_answers, cached_lacks};
-ghost use Rattle.tl_fetch.specs.Inner.LogKeys.{AreTold, ToldBy};
+ghost use Rattle.tl_fetch.specs.Inner.LogKeys.{AreTold, ToldBy, keys_of};
 ghost use Rattle.tl_fetch.specs.Inner.Naming.{Renames, RunsOver};
 ghost use Rattle.tl_fetch.specs.Trusting.{policy_of};
 ghost use Rattle.tl_source.specs.Sources.{origin_of};
@@ -11,7 +11,7 @@ ghost use Rattle.tl_source.specs.Url.{IsNoUrl};
 
 use crate::caching::Caching;
 use crate::fault::FetchFault;
-use crate::log_keys::{first_key, second_key};
+use crate::log_keys::{LogKeys, log_keys};
 use crate::observer::Observer;
 use crate::options::FetchOptions;
 use crate::policy::Policy;
@@ -19,7 +19,7 @@ use crate::progress::Progress;
 use crate::run::fetch_under;
 use crate::state::NoState;
 use crate::state_file::{FileState, file_refusal};
-use crate::witnesses::{check_keys, witness_key};
+use crate::witnesses::witness_key;
 use std::alloc::Global;
 use std::fs::{File, Files};
 use std::io::Write;
@@ -30,7 +30,6 @@ use tl_client::ResourceSource;
 use tl_command::{Place, RunFault};
 use tl_device::Counted;
 use tl_folder::{AtomicFile, TileCache};
-use tl_key::NoteVerifier;
 use tl_note::Verifier;
 use tl_source::{
     AnySource, AsksHost, CachedSource, FolderSource, FullSource, HostClient, HttpSource, Lack,
@@ -224,17 +223,17 @@ fn fetch_as_told<'s, H: Files<File = File> + HostClient, W: Write, E: Write>(
     }
 }
 
-// The same by a log's one key.
-fn fetch_by_one<'s, H: Files<File = File> + HostClient, W: Write, E: Write>(
+// The same by the keys of a log, one or two.
+fn fetch_by<'s, H: Files<File = File> + HostClient, W: Write, E: Write>(
     rt: &'s H,
     alloc: Global,
-    key: NoteVerifier<Global>,
+    keys: LogKeys,
     options: &'s FetchOptions,
     writer: &mut Counted<W>,
     errors: &'s mut Counted<E>,
     is_terminal: bool,
 ) -> Result<(), FetchFault>
-    requires { AreTold options.now key.name (key ∷ []) }
+    requires { AreTold options.now keys.key.name (keys_of keys.key keys.other) }
     ensures { RunsFetch options.now (passage W.contents writer.old writer.new) result }
 {
     let mut witnesses: Vec<Box<dyn Verifier>> = Vec::new(alloc);
@@ -242,44 +241,25 @@ fn fetch_by_one<'s, H: Files<File = File> + HostClient, W: Write, E: Write>(
         let key = witness_key(alloc, options, place)?;
         witnesses.push(Box::new(alloc, key)?)?;
     }
-    let origin = String::from_str(alloc, key.name())?;
-    let log: Box<dyn Verifier> = Box::new(alloc, key)?;
-    let policy = Policy {
-        origin: origin.as_str(),
-        log: &[log],
-        witnesses: witnesses.as_slice(),
-        need: options.need,
+    let origin = String::from_str(alloc, keys.key.name())?;
+    let witnesses = witnesses.as_slice();
+    let (origin, need) = (origin.as_str(), options.need);
+    let first: Box<dyn Verifier> = Box::new(alloc, keys.key)?;
+    let Some(other) = keys.other else {
+        let policy = Policy {
+            origin,
+            log: &[first],
+            witnesses,
+            need,
+        };
+        return fetch_as_told(rt, alloc, &policy, options, writer, errors, is_terminal);
     };
-    fetch_as_told(rt, alloc, &policy, options, writer, errors, is_terminal)
-}
-
-// The same by either of a log's two keys.
-fn fetch_by_two<'s, H: Files<File = File> + HostClient, W: Write, E: Write>(
-    rt: &'s H,
-    alloc: Global,
-    key: NoteVerifier<Global>,
-    other: NoteVerifier<Global>,
-    options: &'s FetchOptions,
-    writer: &mut Counted<W>,
-    errors: &'s mut Counted<E>,
-    is_terminal: bool,
-) -> Result<(), FetchFault>
-    requires { AreTold options.now key.name (key ∷ other ∷ []) }
-    ensures { RunsFetch options.now (passage W.contents writer.old writer.new) result }
-{
-    let mut witnesses: Vec<Box<dyn Verifier>> = Vec::new(alloc);
-    for place in 0..options.witnesses.len() {
-        let key = witness_key(alloc, options, place)?;
-        witnesses.push(Box::new(alloc, key)?)?;
-    }
-    let origin = String::from_str(alloc, key.name())?;
-    let first: Box<dyn Verifier> = Box::new(alloc, key)?;
     let second: Box<dyn Verifier> = Box::new(alloc, other)?;
     let policy = Policy {
-        origin: origin.as_str(),
+        origin,
         log: &[first, second],
-        witnesses: witnesses.as_slice(),
-        need: options.need,
+        witnesses,
+        need,
     };
     fetch_as_told(rt, alloc, &policy, options, writer, errors, is_terminal)
 }
@@ -306,12 +286,6 @@ pub fn run_fetch<
 ) -> Result<(), FetchFault>
     ensures { RunsFetch options.now (passage W.contents writer.old writer.new) result }
 {
-    let key = first_key(alloc, options)?;
-    let Some(text) = &options.other_key else {
-        check_keys(alloc, options, &[*key.public_key()])?;
-        return fetch_by_one(rt, alloc, key, options, writer, errors, is_terminal);
-    };
-    let other = second_key(alloc, options, text, &key)?;
-    check_keys(alloc, options, &[*key.public_key(), *other.public_key()])?;
-    fetch_by_two(rt, alloc, key, other, options, writer, errors, is_terminal)
+    let keys = log_keys(alloc, options)?;
+    fetch_by(rt, alloc, keys, options, writer, errors, is_terminal)
 }

@@ -2,24 +2,30 @@
 
 ghost use Rattle.std.specs.Prelude.{◌≡◌, ◌∷◌, [], IfErr, IfOk, MatchBool, Some, string_bytes};
 ghost use Rattle.tl_fetch.specs.Command.{HaveLogKeys, IsKeyFault, log_texts};
-ghost use Rattle.tl_fetch.specs.Inner.LogKeys.{AreNotTwo, AreTwo};
+ghost use Rattle.tl_fetch.specs.Inner.LogKeys.{AreNotTwo, AreTold, AreTwo, keys_of};
 ghost use Rattle.tl_key.specs.KeyText.{IsVerifierText};
 ghost use Rattle.tl_key.specs.NoteKey.{note_kind};
 
 use crate::fault::FetchFault;
 use crate::options::FetchOptions;
-use crate::witnesses::{is_same, read_text};
+use crate::witnesses::{check_keys, is_same, read_text};
 use std::alloc::Global;
 use tl_command::RunFault;
 use tl_key::{Note, NoteVerifier};
 use tl_note::Verifier;
 
-/// The key of the log that the first text is of.
+/// The keys of a log, one or two.
+#[derive(Drop)]
+pub(crate) struct LogKeys {
+    /// The one that it is named by.
+    pub(crate) key: NoteVerifier<Global>,
+    /// The other one, where it has two.
+    pub(crate) other: Option<NoteVerifier<Global>>,
+}
+
+// The key of the log that the first text is of.
 #[tactic(auto, using(crate::proofs::LogKeyLemmas::no_first))]
-pub(crate) fn first_key(
-    alloc: Global,
-    options: &FetchOptions,
-) -> Result<NoteVerifier<Global>, FetchFault>
+fn first_key(alloc: Global, options: &FetchOptions) -> Result<NoteVerifier<Global>, FetchFault>
     ensures read { IfOk result (λ k. IsVerifierText note_kind (string_bytes options.now.key) k) }
     ensures refused { IfErr result (IsKeyFault options.now) }
 {
@@ -39,9 +45,9 @@ fn is_another(key: &NoteVerifier<Global>, other: &NoteVerifier<Global>) -> bool
     !is_same(other.public_key(), key.public_key())
 }
 
-/// The key of the log that the second text is of, another one than the first.
+// The key of the log that the second text is of, another one than the first.
 #[tactic(auto, using(crate::proofs::LogKeyLemmas::no_second, crate::proofs::LogKeyLemmas::no_other, crate::proofs::LogKeyLemmas::two_told))]
-pub(crate) fn second_key(
+fn second_key(
     alloc: Global,
     options: &FetchOptions,
     text: &String,
@@ -60,4 +66,24 @@ pub(crate) fn second_key(
         return Err(FetchFault::OtherKey);
     }
     Ok(other)
+}
+
+/// The keys of the log that the options tell (C2SP signed-note, "Verifier keys"), where each of its witnesses has a public
+/// key of its own. The log's texts are looked at first.
+pub(crate) fn log_keys(alloc: Global, options: &FetchOptions) -> Result<LogKeys, FetchFault>
+    ensures told { IfOk result
+        (λ keys. AreTold options.now keys.key.name (keys_of keys.key keys.other)) }
+    ensures refused { IfErr result (IsKeyFault options.now) }
+{
+    let key = first_key(alloc, options)?;
+    let Some(text) = &options.other_key else {
+        check_keys(alloc, options, &[*key.public_key()])?;
+        return Ok(LogKeys { key, other: None });
+    };
+    let other = second_key(alloc, options, text, &key)?;
+    check_keys(alloc, options, &[*key.public_key(), *other.public_key()])?;
+    Ok(LogKeys {
+        key,
+        other: Some(other),
+    })
 }

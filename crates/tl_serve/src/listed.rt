@@ -3,7 +3,7 @@
 use crate::cosigner::{Own, SharedSigner};
 use crate::host::Host;
 use crate::options::WitnessOptions;
-use crate::witness::{own_key, read_chains, refusal, serve_all};
+use crate::witness::{own_key, read_chains, serve_trusted};
 use crate::witness_fault::{WitnessFault, after_run};
 use std::alloc::Global;
 use std::fs::{Files, metadata};
@@ -12,11 +12,10 @@ use std::net::{Net, TcpListener, TcpStream};
 use std::sync::Arc;
 use tl_command::{MOST_INPUT, RunFault};
 use tl_device::{Counted, DeviceFault, read_plain};
-use tl_hash::Sha256Tree;
 use tl_logs::{KnownLog, LogsFault, read_logs};
 use tl_note::{Signer, Verifier};
 use tl_proof::Link;
-use tl_witness::{Book, SharedWitness, Trust};
+use tl_witness::Trust;
 
 // The logs that the file at this path names.
 fn known_logs<H: Files>(
@@ -36,34 +35,9 @@ fn known_logs<H: Files>(
     }
 }
 
-// Serves a witness that trusts these, and has cosigned these chains.
-fn serve_trusted<
-    H: Host + Net<Listener = TcpListener, Stream = TcpStream>,
-    O: Write + Send,
-    L: Write,
->(
-    rt: &H,
-    alloc: Global,
-    options: &WitnessOptions,
-    trusts: Vec<Trust<Global>>,
-    chains: Vec<(String, Vec<Link<Global>>)>,
-    writer: &mut Counted<O>,
-    log: &mut Counted<L>,
-) -> Result<(), RunFault> {
-    let book = match Book::open(alloc, alloc, Sha256Tree, trusts, chains) {
-        Ok(book) => book,
-        Err(fault) => return Err(refusal(fault)),
-    };
-    let Ok(witness) = SharedWitness::new(book) else {
-        return Err(RunFault::OutOfMemory);
-    };
-    serve_all(rt, alloc, options, &witness, writer, log)
-}
-
-// Serves a witness of these logs that cosigns by this key. What it cosigned for others is left out.
+// Serves a witness of these logs that cosigns by this key, and has cosigned these chains.
 fn serve_listed<
     H: Host + Net<Listener = TcpListener, Stream = TcpStream>,
-    R: Read,
     O: Write + Send,
     L: Write,
 >(
@@ -72,11 +46,10 @@ fn serve_listed<
     options: &WitnessOptions,
     logs: Vec<KnownLog<Global>>,
     key: Arc<Own>,
-    reader: &mut Counted<R>,
+    chains: Vec<(String, Vec<Link<Global>>)>,
     writer: &mut Counted<O>,
     log: &mut Counted<L>,
 ) -> Result<(), RunFault> {
-    let chains = read_chains(alloc, Some(logs.as_slice()), reader)?;
     let mut trusts = Vec::new(alloc);
     trusts.reserve(logs.len())?;
     for KnownLog { origin, keys } in logs {
@@ -112,5 +85,10 @@ pub(crate) fn run_listed<
 ) -> Result<(), WitnessFault> {
     let logs = known_logs(rt, alloc, path)?;
     let key = Arc::new(alloc, own_key(rt, alloc, options)?)?;
-    after_run(serve_listed(rt, alloc, options, logs, key, reader, writer, log))
+    // (what it cosigned for others is left out)
+    let chains = match read_chains(alloc, Some(logs.as_slice()), reader) {
+        Ok(chains) => chains,
+        Err(fault) => return Err(WitnessFault::Run(fault)),
+    };
+    after_run(serve_listed(rt, alloc, options, logs, key, chains, writer, log))
 }

@@ -22,7 +22,7 @@ use crate::saver::LineSaver;
 use crate::serve::threads_of;
 use crate::witness_fault::{WitnessFault, after_run, state_refusal};
 use mio::Poll;
-use std::alloc::Global;
+use std::alloc::{AllocError, Global};
 use std::fs::Files;
 use std::io::{Read, Write};
 use std::net::{Net, TcpListener, TcpStream};
@@ -75,8 +75,8 @@ fn printed_chains<R: Read>(
     }
 }
 
-/// Why a book was not opened.
-pub(crate) fn refusal(fault: BookFault) -> RunFault {
+// Why a book was not opened.
+fn refusal(fault: BookFault) -> RunFault {
     match fault {
         BookFault::OutOfMemory => RunFault::OutOfMemory,
         BookFault::BadName(_) => RunFault::Sign,
@@ -205,8 +205,8 @@ fn answer_all<
     })
 }
 
-/// Listens, and answers connections to a witness.
-pub(crate) fn serve_all<
+// Listens, and answers connections to a witness.
+fn serve_all<
     H: Host + Net<Listener = TcpListener, Stream = TcpStream>,
     W: Witness<Global> + Sync,
     O: Write + Send,
@@ -226,8 +226,8 @@ pub(crate) fn serve_all<
     answer_all(rt, alloc, options.time, &door, witness, &queue, &news)
 }
 
-// Serves a witness that knows its log by this key, cosigns by that one, and has cosigned these chains.
-fn serve_under<
+/// Serves a witness that trusts these, and has cosigned these chains.
+pub(crate) fn serve_trusted<
     H: Host + Net<Listener = TcpListener, Stream = TcpStream>,
     O: Write + Send,
     L: Write,
@@ -235,22 +235,11 @@ fn serve_under<
     rt: &H,
     alloc: Global,
     options: &WitnessOptions,
-    origin: &str,
-    verifier: Box<dyn Verifier>,
-    cosigner: Box<dyn Signer>,
+    trusts: Vec<Trust<Global>>,
     chains: Vec<(String, Vec<Link<Global>>)>,
     writer: &mut Counted<O>,
     log: &mut Counted<L>,
 ) -> Result<(), RunFault> {
-    let mut verifiers = Vec::new(alloc);
-    verifiers.push(verifier)?;
-    let trust = Trust {
-        origin: String::from_str(alloc, origin)?,
-        verifiers,
-        cosigner,
-    };
-    let mut trusts = Vec::new(alloc);
-    trusts.push(trust)?;
     let book = match Book::open(alloc, alloc, Sha256Tree, trusts, chains) {
         Ok(book) => book,
         Err(fault) => return Err(refusal(fault)),
@@ -259,6 +248,25 @@ fn serve_under<
         return Err(RunFault::OutOfMemory);
     };
     serve_all(rt, alloc, options, &witness, writer, log)
+}
+
+// Whom a witness trusts that knows one log by this key and cosigns by that one.
+fn trust_of(
+    alloc: Global,
+    origin: &str,
+    verifier: Box<dyn Verifier>,
+    cosigner: Box<dyn Signer>,
+) -> Result<Vec<Trust<Global>>, AllocError> {
+    let mut verifiers = Vec::new(alloc);
+    verifiers.push(verifier)?;
+    let origin = String::from_str(alloc, origin)?;
+    let mut trusts = Vec::new(alloc);
+    trusts.push(Trust {
+        origin,
+        verifiers,
+        cosigner,
+    })?;
+    Ok(trusts)
 }
 
 // A demonstration key; a name that is no key's has this fault.
@@ -351,9 +359,8 @@ fn run_one<
         Own::Demonstration(key) => Box::new(alloc, key)?,
         Own::Private(key) => Box::new(alloc, key)?,
     };
-    serve_under(
-        rt, alloc, options, origin, verifier, cosigner, chains, writer, log,
-    )
+    let trusts = trust_of(alloc, origin, verifier, cosigner)?;
+    serve_trusted(rt, alloc, options, trusts, chains, writer, log)
 }
 
 /// Serves a witness over HTTP: reads the lines that an earlier run printed, tells the address, then answers

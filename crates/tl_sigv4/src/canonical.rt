@@ -66,13 +66,15 @@ pub fn canonical_request<A: Allocator>(
     ensures text { IfOk result (λ text. string_bytes text
         ≡ canonical_text (request_of request.now)) }
 {
-    let mut text = String::new(alloc);
-    text.push_str(request.method)?;
-    text.push_str("\n")?;
-    text.push_str(request.path)?;
-    text.push_str("\n")?;
-    text.push_str(request.query)?;
-    text.push_str("\n")?;
+    let mut text = [
+        request.method,
+        "\n",
+        request.path,
+        "\n",
+        request.query,
+        "\n",
+    ]
+    .concat(alloc)?;
     push_lines(&mut text, request.fields)?;
     text.push_str("\n")?;
     push_names(&mut text, request.fields)?;

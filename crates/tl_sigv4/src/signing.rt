@@ -1,33 +1,50 @@
 //! Signatures.
 
-ghost use Rattle.std.specs.Prelude.{◌≡◌, ◌++◌, IfOk, OnOk, map, string_bytes};
+ghost use Rattle.std.specs.Prelude.{◌≡◌, ◌++◌, IfOk, codes, map, string_bytes};
 ghost use Rattle.tl_sigv4.specs.Canonical.{IsCanonical};
 ghost use Rattle.tl_sigv4.specs.Requests.{credential_of, field_of, request_of};
 ghost use Rattle.tl_sigv4.specs.Signing as spec;
 
-use crate::canonical::{canonical_request, push_names};
+use crate::canonical::{canonical_request, payload_digest, push_names};
 use crate::credential::Credential;
 use crate::moment::Moment;
 use crate::request::Request;
 use std::alloc::{AllocError, Allocator};
-use tl_hash::{Hash, Sha256Tree, TreeHash};
+use tl_hash::Hash;
 use tl_key::hmac;
 
-// Appends the scope of a credential on a day.
-fn push_scope<A: Allocator>(
-    out: &mut String<A>,
+// The scope of a credential on a day.
+fn scope_of<A: Allocator>(
+    alloc: A,
     credential: &Credential<'_>,
     moment: &Moment,
-) -> Result<(), AllocError>
-    ensures scope { OnOk result (string_bytes out.new
-        ≡ string_bytes out.old ++ spec.scope_text (credential_of credential.now) moment.now) }
+) -> Result<String<A>, AllocError>
+    ensures scope { IfOk result (λ text. string_bytes text
+        ≡ spec.scope_text (credential_of credential.now) moment.now) }
 {
-    out.push_str(moment.day())?;
-    out.push_str("/")?;
-    out.push_str(credential.region)?;
-    out.push_str("/")?;
-    out.push_str(credential.service)?;
-    out.push_str("/aws4_request")
+    [
+        moment.day(),
+        "/",
+        credential.region,
+        "/",
+        credential.service,
+        "/aws4_request",
+    ]
+    .concat(alloc)
+}
+
+// The string to sign, of the texts that it has.
+fn text_to_sign<'t, A: Allocator>(
+    alloc: A,
+    time: &'t str,
+    scope: &'t str,
+    digest: &'t str,
+) -> Result<String<A>, AllocError>
+    ensures text { IfOk result (λ text. string_bytes text
+        ≡ codes "AWS4-HMAC-SHA256\n" ++ time.now ++ codes "\n"
+        ++ scope.now ++ codes "\n" ++ digest.now) }
+{
+    ["AWS4-HMAC-SHA256\n", time, "\n", scope, "\n", digest].concat(alloc)
 }
 
 /// The string to sign ("Signature Calculations for the Authorization Header", Task 2) of a request whose field
@@ -44,16 +61,9 @@ pub fn string_to_sign<A: Allocator + Copy>(
         ≡ spec.string_to_sign (request_of request.now) (credential_of credential.now) moment.now) }
 {
     let canonical = canonical_request(alloc, request)?;
-    let digest = Sha256Tree.digest(canonical.as_bytes(), &[], &[]);
-    let digits = hex::encode(alloc, digest.as_bytes().as_slice())?;
-    let mut text = String::new(alloc);
-    text.push_str("AWS4-HMAC-SHA256\n")?;
-    text.push_str(moment.time())?;
-    text.push_str("\n")?;
-    push_scope(&mut text, credential, moment)?;
-    text.push_str("\n")?;
-    text.push_str(digits.as_str())?;
-    Ok(text)
+    let digest = payload_digest(alloc, canonical.as_bytes())?;
+    let scope = scope_of(alloc, credential, moment)?;
+    text_to_sign(alloc, moment.time(), scope.as_str(), digest.as_str())
 }
 
 /// The signing key ("Signature Calculations for the Authorization Header", Task 3). It signs any request on the day of
@@ -95,6 +105,26 @@ pub fn signature<A: Allocator + Copy>(
     Ok(digits)
 }
 
+// The value of the field up to the names of the fields that are signed.
+fn before_names<'t, A: Allocator>(
+    alloc: A,
+    id: &'t str,
+    scope: &'t str,
+) -> Result<String<A>, AllocError>
+    ensures text { IfOk result (λ text. string_bytes text
+        ≡ codes "AWS4-HMAC-SHA256 Credential=" ++ id.now ++ codes "/" ++ scope.now
+        ++ codes ",SignedHeaders=") }
+{
+    [
+        "AWS4-HMAC-SHA256 Credential=",
+        id,
+        "/",
+        scope,
+        ",SignedHeaders=",
+    ]
+    .concat(alloc)
+}
+
 /// The value of the field `Authorization` ("Signature Calculations for the Authorization Header", "Overview") of a
 /// request whose field `x-amz-date` has the time of this moment. Fields that are not in canonical form are not to be
 /// handed in (`is_canonical`). It fails only where memory is refused.
@@ -109,12 +139,8 @@ pub fn authorization<A: Allocator + Copy>(
         ≡ spec.authorization (request_of request.now) (credential_of credential.now) moment.now) }
 {
     let signature = signature(alloc, request, credential, moment)?;
-    let mut text = String::new(alloc);
-    text.push_str("AWS4-HMAC-SHA256 Credential=")?;
-    text.push_str(credential.id)?;
-    text.push_str("/")?;
-    push_scope(&mut text, credential, moment)?;
-    text.push_str(",SignedHeaders=")?;
+    let scope = scope_of(alloc, credential, moment)?;
+    let mut text = before_names(alloc, credential.id, scope.as_str())?;
     push_names(&mut text, request.fields)?;
     text.push_str(",Signature=")?;
     text.push_str(signature.as_str())?;

@@ -1,5 +1,5 @@
 -- The keys of one log, as they are read and boxed.
-use Rattle.std.specs.Prelude.{◌≡◌, ◌≢◌, ◌⊎◌, List, map}
+use Rattle.std.specs.Prelude.{◌≡◌, ◌≢◌, ◌⊎◌, ◌∷◌, [], List, Option, None, Some, map}
 use Rattle.tl_hash.specs.Bytes.{Bytes}
 use Rattle.tl_key.specs.NoteKey.{PublicKey, verifier_key}
 use Rattle.tl_note.specs.Key.{Key}
@@ -14,6 +14,11 @@ pub record AreTwo (key other : PublicKey) : Type 0 where
 -- it hasn't, or the first's
 abbrev pub AreNotTwo : PublicKey → PublicKey → Type 0
 AreNotTwo key other = (other.name ≢ key.name) ⊎ (other.key ≡ key.key)
+
+-- one key, or two
+abbrev pub keys_of : PublicKey → Option PublicKey → List PublicKey
+keys_of key None = key ∷ []
+keys_of key (Some other) = key ∷ other ∷ []
 
 -- the keys that were told, of a log of this name, and no witness has one of their public keys
 pub record AreTold (options : FetchOptions) (name : Bytes) (keys : List PublicKey) : Type 0 where

@@ -1,10 +1,10 @@
 //! The command `feed`.
 
-ghost use Rattle.std.specs.Prelude.{◌≡◌, ◌∷◌, [], map};
+ghost use Rattle.std.specs.Prelude.{◌≡◌, map};
 ghost use Rattle.tl_device.specs.Device.{passage};
 ghost use Rattle.tl_fetch.specs.FeedCommand.{RunsFeed, RunsFeedUnder};
 ghost use Rattle.tl_fetch.specs.Inner.FeedRuns.{FeedsOver};
-ghost use Rattle.tl_fetch.specs.Inner.LogKeys.{AreTold, ToldBy};
+ghost use Rattle.tl_fetch.specs.Inner.LogKeys.{AreTold, ToldBy, keys_of};
 ghost use Rattle.tl_fetch.specs.Trusting.{policy_of};
 
 use crate::command::{source_of, with_lack};
@@ -12,13 +12,13 @@ use crate::fault::FetchFault;
 use crate::feed::asking::AsksWitnesses;
 use crate::feed::feeding::feed_under;
 use crate::feed::witnesses::{HttpWitnesses, addresses};
-use crate::log_keys::{first_key, second_key};
+use crate::log_keys::{LogKeys, log_keys};
 use crate::observer::Nobody;
 use crate::options::FetchOptions;
 use crate::policy::Policy;
 use crate::state::NoState;
 use crate::state_file::{FileState, file_refusal};
-use crate::witnesses::{check_keys, witness_key};
+use crate::witnesses::witness_key;
 use std::alloc::Global;
 use std::fs::{File, Files};
 use std::io::Write;
@@ -27,7 +27,6 @@ use std::time::{Clock, Duration};
 use tl_client::ResourceSource;
 use tl_device::Counted;
 use tl_folder::AtomicFile;
-use tl_key::NoteVerifier;
 use tl_note::Verifier;
 use tl_source::{FullSource, NamesLack};
 
@@ -143,16 +142,16 @@ fn feed_as_told<'s, H: Files<File = File> + Net<Stream = TcpStream> + Clock, W: 
     }
 }
 
-// The same by a log's one key.
-fn feed_by_one<'s, H: Files<File = File> + Net<Stream = TcpStream> + Clock, W: Write, E: Write>(
+// The same by the keys of a log, one or two.
+fn feed_by<'s, H: Files<File = File> + Net<Stream = TcpStream> + Clock, W: Write, E: Write>(
     rt: &'s H,
     alloc: Global,
-    key: NoteVerifier<Global>,
+    keys: LogKeys,
     options: &'s FeedOptions,
     writer: &mut Counted<W>,
     errors: &'s mut Counted<E>,
 ) -> Result<(), FetchFault>
-    requires { AreTold options.now.log key.name (key ∷ []) }
+    requires { AreTold options.now.log keys.key.name (keys_of keys.key keys.other) }
     ensures { RunsFeed options.now (passage W.contents writer.old writer.new) result }
 {
     let mut witnesses: Vec<Box<dyn Verifier>> = Vec::new(alloc);
@@ -160,43 +159,25 @@ fn feed_by_one<'s, H: Files<File = File> + Net<Stream = TcpStream> + Clock, W: W
         let key = witness_key(alloc, &options.log, place)?;
         witnesses.push(Box::new(alloc, key)?)?;
     }
-    let origin = String::from_str(alloc, key.name())?;
-    let log: Box<dyn Verifier> = Box::new(alloc, key)?;
-    let policy = Policy {
-        origin: origin.as_str(),
-        log: &[log],
-        witnesses: witnesses.as_slice(),
-        need: options.log.need,
+    let origin = String::from_str(alloc, keys.key.name())?;
+    let witnesses = witnesses.as_slice();
+    let (origin, need) = (origin.as_str(), options.log.need);
+    let first: Box<dyn Verifier> = Box::new(alloc, keys.key)?;
+    let Some(other) = keys.other else {
+        let policy = Policy {
+            origin,
+            log: &[first],
+            witnesses,
+            need,
+        };
+        return feed_as_told(rt, alloc, &policy, options, writer, errors);
     };
-    feed_as_told(rt, alloc, &policy, options, writer, errors)
-}
-
-// The same by either of a log's two keys.
-fn feed_by_two<'s, H: Files<File = File> + Net<Stream = TcpStream> + Clock, W: Write, E: Write>(
-    rt: &'s H,
-    alloc: Global,
-    key: NoteVerifier<Global>,
-    other: NoteVerifier<Global>,
-    options: &'s FeedOptions,
-    writer: &mut Counted<W>,
-    errors: &'s mut Counted<E>,
-) -> Result<(), FetchFault>
-    requires { AreTold options.now.log key.name (key ∷ other ∷ []) }
-    ensures { RunsFeed options.now (passage W.contents writer.old writer.new) result }
-{
-    let mut witnesses: Vec<Box<dyn Verifier>> = Vec::new(alloc);
-    for place in 0..options.log.witnesses.len() {
-        let key = witness_key(alloc, &options.log, place)?;
-        witnesses.push(Box::new(alloc, key)?)?;
-    }
-    let origin = String::from_str(alloc, key.name())?;
-    let first: Box<dyn Verifier> = Box::new(alloc, key)?;
     let second: Box<dyn Verifier> = Box::new(alloc, other)?;
     let policy = Policy {
-        origin: origin.as_str(),
+        origin,
         log: &[first, second],
-        witnesses: witnesses.as_slice(),
-        need: options.log.need,
+        witnesses,
+        need,
     };
     feed_as_told(rt, alloc, &policy, options, writer, errors)
 }
@@ -213,16 +194,6 @@ pub fn run_feed<'s, H: Files<File = File> + Net<Stream = TcpStream> + Clock, W: 
 ) -> Result<(), FetchFault>
     ensures { RunsFeed options.now (passage W.contents writer.old writer.new) result }
 {
-    let key = first_key(alloc, &options.log)?;
-    let Some(text) = &options.log.other_key else {
-        check_keys(alloc, &options.log, &[*key.public_key()])?;
-        return feed_by_one(rt, alloc, key, options, writer, errors);
-    };
-    let other = second_key(alloc, &options.log, text, &key)?;
-    check_keys(
-        alloc,
-        &options.log,
-        &[*key.public_key(), *other.public_key()],
-    )?;
-    feed_by_two(rt, alloc, key, other, options, writer, errors)
+    let keys = log_keys(alloc, &options.log)?;
+    feed_by(rt, alloc, keys, options, writer, errors)
 }
