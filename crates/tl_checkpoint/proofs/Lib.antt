@@ -2,6 +2,7 @@ pub mod LinesLemmas
 pub mod ExtensionLemmas
 pub mod CosignatureLemmas
 pub mod OneText
+pub mod WriteLemmas
 pub mod ParseLemmas
 pub mod NoteTexts
 pub mod Quorums

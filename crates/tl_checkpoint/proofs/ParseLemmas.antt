@@ -1,6 +1,8 @@
 -- A checkpoint, by the parts of its text.
-use Rattle.std.proofs.Common.{◌≡◌, ℕ, ◌^◌, ◌<◌, List, ◌∷◌, length, sym, subst, ◌∙◌, Ok, Err, Result}
+use Rattle.std.proofs.Common.{◌≡◌, ◌≢◌, ◌==◌, ℕ, ◌^◌, ◌<◌, List, [], ◌∷◌, length, Bool, false, true, sym, ap, subst, ◌∙◌, arith, Ok, Err, Result}
 use Rattle.std.specs.Prelude.{IsErrAnd}
+use Rattle.std.proofs.lemmas.Bool.Decides.{nat_tests}
+use Rattle.std.proofs.lemmas.List.{nil_from_length}
 use Rattle.std.proofs.lemmas.List.Elements.{All-head}
 use Rattle.tl_hash.specs.Bytes.{IsHash}
 use Rattle.tl_text.specs.Text.{number_text, base64_text, HasNoControl, IsSize}
@@ -10,7 +12,7 @@ use Rattle.tl_checkpoint.specs.declared.checkpoint.CheckpointFault.{CheckpointFa
 use Rattle.tl_checkpoint.specs.declared.checkpoint.CheckpointFault.TheVariants.{OutOfMemory}
 use Rattle.tl_checkpoint.specs.declared.parsing.Parts.{Parts}
 use Rattle.tl_checkpoint.specs.Checkpoint.{Head, IsHead, checkpoint_text}
-use Rattle.tl_checkpoint.specs.ParseCheckpoint.{IsCheckpointText, IsInLines, ParsesCheckpoint}
+use Rattle.tl_checkpoint.specs.ParseCheckpoint.{HasLines, IsCheckpointText, IsInLines, ParsesCheckpoint}
 use Rattle.tl_checkpoint.specs.Inner.CutLines.{AreExtensions, CutsLines}
 use Rattle.tl_checkpoint.proofs.ExtensionLemmas.{text_of_lines}
 use Rattle.tl_checkpoint.proofs.OneText.{plain_lines}
@@ -45,3 +47,22 @@ parses_refused {A = A} text parts size root (Err fault) same cuts some s r =
     let head = head_of_lines text parts.origin.now parts.size.now parts.root.now root cuts.extensions.0 size cuts.lines some s.0 s.1 r.0 r.1 in
     let is : IsCheckpointText text = (made parts.origin.now size root cuts.extensions.0, head.0, head.1) in
     subst (λ (f : CheckpointFault). ParsesCheckpoint {A = A} text (Err f)) (sym same) is
+
+-- the text's first lines are those that were cut
+pub has_lines : (text : List ℕ) (parts : Parts) → CutsLines text parts
+    → HasLines text parts.origin.now parts.size.now parts.root.now
+has_lines text parts cuts = record { extensions = cuts.extensions.0; lines = cuts.lines }
+
+-- an origin that is empty
+pub has_no_origin : (text : List ℕ) (parts : Parts) (empty : Bool) → empty ≡ (length parts.origin.now == 0) → empty ≡ true
+    → CutsLines text parts → HasLines text [] parts.size.now parts.root.now
+has_no_origin text parts empty is told cuts =
+    let none : length parts.origin.now ≡ 0 = grind (arith, nat_tests) in
+    subst (λ (o : List ℕ). HasLines text o parts.size.now parts.root.now) (nil_from_length parts.origin.now none) (has_lines text parts cuts)
+
+-- an origin that isn't
+pub some_text : (text : List ℕ) (empty : Bool) → empty ≡ (length text == 0) → empty ≡ false → 0 < length text
+some_text text empty is told = grind (arith, nat_tests)
+
+pub not_empty : (text : List ℕ) → 0 < length text → text ≢ []
+not_empty text some = λ is. omega (arith, some, ap length is)

@@ -1,5 +1,5 @@
 -- Faults of a source, as faults of a client that reads leaves and makes proofs.
-use Rattle.std.proofs.Common.{◌≡◌, ℕ, ◌+◌, ◌-◌, ◌*◌, ◌/◌, ◌%◌, ◌^◌, ◌<◌, ◌≤◌, inl, inr, Bool, true, false, ◌||◌, eqb, List, [], ◌∷◌, ◌++◌, append_assoc, Some, None, refl, sym, ap, subst, ◌∙◌, cond, arith}
+use Rattle.std.proofs.Common.{◌≡◌, ℕ, ◌+◌, ◌-◌, ◌*◌, ◌/◌, ◌%◌, ◌^◌, ◌<◌, ◌≤◌, inl, inr, Bool, true, false, ◌||◌, eqb, List, [], ◌∷◌, ◌++◌, append_assoc, Some, None, Err, refl, sym, ap, subst, ◌∙◌, cond, arith}
 use Rattle.std.proofs.lemmas.Bool.{cases_Bool, cases_lt, le-leb}
 use Rattle.std.proofs.lemmas.Nat.{pow-add}
 use Rattle.std.proofs.Math.Nat.{div-le_self}
@@ -28,13 +28,20 @@ use Rattle.tl_tile.proofs.Edges.{Some-injective, under_within}
 use Rattle.tl_tile.proofs.Levels.{positive_256}
 use Rattle.tl_tile.proofs.NeededLemmas.{next_count}
 use Rattle.tl_tile.proofs.Push.{same_tile-is, same_tile-self}
+use Rattle.tl_hash.specs.declared.head.Head.{Head}
 use Rattle.tl_client.specs.Blame.{AnswersNoBundle, AreServed, ServesBadTile, WantsTile, leaf_reading}
 use Rattle.tl_tile.specs.Needed.{bundle_width}
 use Rattle.tl_client.specs.Bundles.{HasBundle}
-use Rattle.tl_client.specs.Faults.{after_prove, after_read}
-use Rattle.tl_client.specs.Refused.{BundleRead, IsBetween, LeafRead, RefusesEntries, RefusesEntry}
+use Rattle.tl_client.specs.Faults.{after_prove, after_read, after_source}
+use Rattle.tl_client.specs.Refused.{BundleRead, IsBetween, LeafRead, RefusesEntries, RefusesEntry, RefusesGrowth}
+use Rattle.tl_tile.specs.ReadBundle.{ReadsBundle}
+use Rattle.tl_tile.specs.declared.bundle.BundleFault.{BundleFault}
+use Rattle.tl_tile.specs.declared.bundle.BundleFault.TheVariants as bundle
+use Rattle.tl_tile.specs.declared.source.SourceFault.{SourceFault}
+use Rattle.tl_tile.specs.declared.source.SourceFault.TheVariants as source
+use Rattle.tl_client.specs.Inner.BundleFaults.{after_bundle}
 use Rattle.tl_client.specs.Inner.Growing.{RefusesProof}
-use Rattle.tl_client.specs.Inner.Leaves.{RefusesBundle}
+use Rattle.tl_client.specs.Inner.Leaves.{RefusesBundle, RefusesLeaves}
 use Rattle.tl_client.specs.declared.fault.ClientFault.{ClientFault}
 use Rattle.tl_client.specs.declared.fault.ClientFault.TheVariants as client
 
@@ -233,3 +240,67 @@ pub bundle_refused : (answers : Resource → List ℕ → Type 0) (lacks : Resou
     → width ≡ bundle_width read.size read.bundle → RefusesBundle answers lacks read.bundle width fault → RefusesEntries answers lacks read fault
 bundle_refused answers lacks read width fault has is refused =
     bundle_cases answers lacks read fault has (subst (λ (w : ℕ). RefusesBundle answers lacks read.bundle w fault) is refused)
+
+-- a fault of reading the leaves of a bundle is one of reading its entries
+leaf_cases : (answers : Resource → List ℕ → Type 0) (lacks : Resource → Type 0) (read : BundleRead) (fault : ClientFault) → HasBundle read.size read.bundle
+    → RefusesLeaves lacks (leaf_reading read.size read.root (256 * read.bundle) (bundle_width read.size read.bundle) read.fetched) fault
+    → RefusesEntries answers lacks read fault
+leaf_cases answers lacks read client.Range has refused = absurd refused
+leaf_cases answers lacks read client.Unavailable has refused = (has, inr refused)
+leaf_cases answers lacks read (client.BadTile level index width) has refused = (has, refused)
+leaf_cases answers lacks read (client.BadBundle _) has refused = absurd refused
+leaf_cases answers lacks read (client.BadEntry _) has refused = absurd refused
+leaf_cases answers lacks read client.Shrunk has refused = refused
+leaf_cases answers lacks read client.Forked has refused = refused
+leaf_cases answers lacks read client.OutOfMemory has refused = has
+
+pub leaves_refused : (answers : Resource → List ℕ → Type 0) (lacks : Resource → Type 0) (read : BundleRead) (width : ℕ) (fault : ClientFault) → HasBundle read.size read.bundle
+    → width ≡ bundle_width read.size read.bundle
+    → RefusesLeaves lacks (leaf_reading read.size read.root (256 * read.bundle) width read.fetched) fault → RefusesEntries answers lacks read fault
+leaves_refused answers lacks read width fault has is refused =
+    leaf_cases answers lacks read fault has
+    (subst (λ (w : ℕ). RefusesLeaves lacks (leaf_reading read.size read.root (256 * read.bundle) w read.fetched) fault) is refused)
+
+-- ---- the leaf of an entry
+
+-- a fault of reading it is one of reading tiles over it
+pub leaf_tiles : (answers : Resource → List ℕ → Type 0) (lacks : Resource → Type 0) (size : ℕ) (root : List ℕ) (entry : ℕ) (fetched : List (Tile × List ℕ)) (fault : ClientFault)
+    → AreServed answers size fetched → RefusesLeaves lacks (leaf_reading size root entry 1 fetched) fault → RefusesTiles answers lacks size root entry fault
+leaf_tiles answers lacks size root entry fetched client.Range served refused = refused
+leaf_tiles answers lacks size root entry fetched client.Unavailable served refused = inl (fetched, served, refused)
+leaf_tiles answers lacks size root entry fetched (client.BadTile level index width) served refused = (fetched, served, refused)
+leaf_tiles answers lacks size root entry fetched (client.BadBundle _) served refused = refused
+leaf_tiles answers lacks size root entry fetched (client.BadEntry _) served refused = refused
+leaf_tiles answers lacks size root entry fetched client.Shrunk served refused = refused
+leaf_tiles answers lacks size root entry fetched client.Forked served refused = refused
+leaf_tiles answers lacks size root entry fetched client.OutOfMemory served refused = tt
+
+-- ---- growth
+
+-- a fault of making its proof
+pub growth_refused : (answers : Resource → List ℕ → Type 0) (lacks : Resource → Type 0) (old new : Head) (fault : ClientFault) → new.size ≤ 2 ^ 62
+    → RefusesProof answers lacks old.size new.size new.root fault → RefusesGrowth answers lacks old new fault
+growth_refused answers lacks old new client.Range limit refused = absurd refused
+growth_refused answers lacks old new client.Unavailable limit (between, wants) = ((between, limit), wants)
+growth_refused answers lacks old new (client.BadTile level index width) limit (between, bad) = ((between, limit), bad)
+growth_refused answers lacks old new (client.BadBundle _) limit refused = refused
+growth_refused answers lacks old new (client.BadEntry _) limit refused = refused
+growth_refused answers lacks old new client.Shrunk limit refused = absurd refused
+growth_refused answers lacks old new client.Forked limit refused = absurd refused
+growth_refused answers lacks old new client.OutOfMemory limit between = (between, limit)
+
+-- ---- fetching a bundle
+
+-- a fault of the source
+pub source_refused : (answers : Resource → List ℕ → Type 0) (lacks : Resource → Type 0) (bundle width : ℕ) (fault : SourceFault)
+    → (fault ≡ source.Unavailable → lacks (resource.Entries bundle width)) → RefusesBundle answers lacks bundle width (after_source fault)
+source_refused answers lacks bundle width source.Unavailable gives = gives refl
+source_refused answers lacks bundle width source.OutOfMemory gives = tt
+
+-- a text that it answers and that is no bundle
+pub text_refused : (A : Type 0) (answers : Resource → List ℕ → Type 0) (lacks : Resource → Type 0) (index width : ℕ) (text : List ℕ) (fault : BundleFault)
+    → answers (resource.Entries index width) text → ReadsBundle {A = A} text width (Err fault) → RefusesBundle answers lacks index width (after_bundle index fault)
+text_refused A answers lacks index width text bundle.EntryTooLong answered read = absurd read
+text_refused A answers lacks index width text bundle.Truncated answered read = (refl, (text, answered, inl read))
+text_refused A answers lacks index width text bundle.Trailing answered read = (refl, (text, answered, inr read))
+text_refused A answers lacks index width text bundle.OutOfMemory answered read = tt

@@ -101,6 +101,13 @@ by_nobody text lines = record {
   all = λ name is. absurd (omega (arith, is.known.1));
 }
 
+-- nobody, by lists that have none
+pub by_none : {W N : Type 0} (key : W → Key) (now : N → Bytes) (text : Bytes) (witnesses : List W) (lines : List Signature) (items : List N) → length witnesses ≡ 0 → items ≡ []
+    → AreCosigners text (map key witnesses) lines (map now items)
+by_none key now text [] lines [] none nothing = by_nobody text lines
+by_none key now text (w ∷ witnesses) lines items none nothing = absurd (omega (arith, none))
+by_none key now text [] lines (n ∷ items) none nothing = absurd cc
+
 module _ (text : Bytes) (first : Key) (rest : List Key) (lines : List Signature) (names : List Bytes) (old : AreCosigners text rest lines names) where
   each_more : All (HasCosigned text (first ∷ rest) lines) names
   each_more k d within = known_more text first rest lines (slice_index_or names k d) (old.each k d within)

@@ -1,5 +1,5 @@
 -- Lines behind a line with a word and their number, and the lines of an audit's text.
-use Rattle.std.proofs.Common.{inl, inr, ◌≡◌, ℕ, ◌-◌, ◌<◌, ◌≤◌, List, [], ◌∷◌, ◌++◌, length, get_or, map, take, drop, refl, sym, ap, ◌∙◌, arith, All}
+use Rattle.std.proofs.Common.{inl, inr, ◌≡◌, ℕ, ◌-◌, ◌<◌, ◌≤◌, List, [], ◌∷◌, ◌++◌, length, get_or, map, take, drop, refl, sym, ap, ◌∙◌, append_assoc, subst, arith, All}
 use Rattle.std.specs.Prelude.{◌≢◌, codes}
 use Rattle.std.specs.List.{onto_first}
 use Rattle.std.proofs.Math.Seq.{take-append_seam, drop-append_seam}
@@ -7,6 +7,7 @@ use Rattle.std.proofs.lemmas.Bool.{cases_eq}
 use Rattle.std.proofs.lemmas.Fmt.{decimal_injective}
 use Rattle.std.proofs.lemmas.List.{append_cancel_left, length-map, length-append, length-take-le, map-append, take-append-drop, take-map, drop-map, take_rest}
 use Rattle.std.proofs.lemmas.List.Elements.{All-nil, All-cons, All-head, All-tail, All-append}
+use Rattle.tl_hash.specs.Bytes.{IsHash}
 use Rattle.tl_text.specs.Text.{number_text, base64_text, IsSize}
 use Rattle.tl_command.specs.AuditText.{Audit, IsAudit, counted_lines, audit_lines, audit_text}
 use Rattle.tl_command.specs.Inner.Shown.{IsAuditRead}
@@ -57,6 +58,15 @@ counted_none text xs first word count some is spelled fits few entries others si
     let cut = counted_number text xs first word count some is spelled fits entries others size e in
     absurd (omega (arith, few, cut.0, ap length cut.1, length-map (drop 1 xs) text, length-append entries others))
 
+-- a first line that has the word and no number
+pub counted_absent : {X : Type 0} (text : X → List ℕ) (xs : List X) (first : X) (word : List ℕ) → 1 ≤ length xs → first ≡ get_or xs 0 first
+    → ((n : ℕ) → IsSize n → text first ≢ word ++ number_text n) → (entries others : List (List ℕ)) → IsSize (length entries)
+    → map text xs ≢ counted_lines word entries ++ others
+counted_absent text [] first word some is none entries others size e = absurd (omega arith)
+counted_absent text (x ∷ more) first word some is none entries others size e =
+    let head : text x ≡ word ++ number_text (length entries) = cc in
+    none (length entries) size (ap text is ∙ head)
+
 -- the same of slices
 pub slices_found : {X : Type 0} (text : X → List ℕ) (xs : List X) (first : X) (word : List ℕ) (count : ℕ) (rest : List X) → rest ≡ drop 1 xs → 1 ≤ length xs
     → first ≡ get_or xs 0 first → text first ≡ word ++ number_text count → count ≤ length rest
@@ -74,6 +84,28 @@ pub slices_only : {X : Type 0} (text : X → List ℕ) (xs : List X) (first : X)
 slices_only {X} text xs first word count rest e some is spelled fits entries others size lines =
     let cut = counted_only text xs first word count some is spelled fits entries others size lines in
     (ap (λ (r : List X). map text (take count r)) e ∙ cut.0, ap (map text) (take_rest rest count ∙ ap (drop count) e) ∙ cut.1)
+
+-- an audit's lines behind its old entries
+abbrev pub after_old : Audit → List (List ℕ)
+after_old a = counted_lines (codes "new ") a.new ++ map base64_text a.proof
+
+pub audit_cut : (a : Audit) → audit_lines a ≡ counted_lines (codes "old ") a.old ++ after_old a
+audit_cut a = append_assoc (counted_lines (codes "old ") a.old) (counted_lines (codes "new ") a.new) (map base64_text a.proof)
+
+abbrev audit_of : List (List ℕ) → List (List ℕ) → List (List ℕ) → Audit
+audit_of old new proof = record { old = old; new = new; proof = proof }
+
+-- the audit that was read of lines
+pub audit_found : {X : Type 0} (text : X → List ℕ) (lines old rest new last : List X) (proof : List (List ℕ)) → IsSize (length old) → IsSize (length new) → All IsHash proof
+    → map text lines ≡ counted_lines (codes "old ") (map text old) ++ map text rest → map text rest ≡ counted_lines (codes "new ") (map text new) ++ map text last
+    → map text last ≡ map base64_text proof
+    → IsAuditRead (audit_of (map text old) (map text new) proof) × (map text lines ≡ audit_lines (audit_of (map text old) (map text new) proof))
+audit_found text lines old rest new last proof old_count new_count fit first second third =
+    let behind : map text rest ≡ after_old (audit_of (map text old) (map text new) proof) =
+    second ∙ ap (λ (ls : List (List ℕ)). counted_lines (codes "new ") (map text new) ++ ls) third in (
+      record { old_count = subst IsSize (sym (length-map old text)) old_count; new_count = subst IsSize (sym (length-map new text)) new_count; proof = fit },
+      first ∙ ap (λ (ls : List (List ℕ)). counted_lines (codes "old ") (map text old) ++ ls) behind ∙ sym (audit_cut (audit_of (map text old) (map text new) proof)),
+    )
 
 -- the lines of an audit's text have no newline
 pub audit_plain : (a : Audit) → IsAudit a → All HasNoNewline (audit_lines a)

@@ -16,6 +16,7 @@ use Rattle.tl_fetch.specs.Entries.{IsCheckedBundle, IsCheckedEntry, AreEntriesBe
 use Rattle.tl_tile.specs.declared.resource.Resource.{Resource}
 use Rattle.tl_fetch.specs.declared.fault.FetchFault.{FetchFault}
 use Rattle.tl_fetch.specs.Printed.{FailsPrinting, PrintedSome, PrintedWhole, RefusesAll}
+use Rattle.tl_fetch.proofs.EntryLemmas.{place_within}
 use Rattle.tl_fetch.proofs.Passages.{GoesOn, joined}
 
 -- places after one in its bundle
@@ -65,6 +66,24 @@ rest_of f H head from xs rest is bundle within =
     let between = rest_between H head from (map f xs) bundle (subst (λ (n : ℕ). k ≤ n) (sym (length-map xs f)) within) in
     subst (λ (ys : List Bytes). AreEntriesBetween H head from (from + length rest) ys) (sym same)
     (subst (λ (n : ℕ). AreEntriesBetween H head from (from + n) (drop k (map f xs))) many between)
+
+-- how many entries the code has behind a place
+rest_count : {X : Type 0} (xs : List X) (k : ℕ) → length (take (length xs - k) (drop k xs)) ≡ length xs - k
+rest_count xs k = ap length (take_rest xs k) ∙ length-drop k xs
+
+-- the next place is further on, and within the log
+pub next_further : {X : Type 0} (f : X → Bytes) (size from : ℕ) (xs : List X) → from < size → length (map f xs) ≡ bundle_width size (from / 256)
+    → from < from + length (take (length xs - from % 256) (drop (from % 256) xs))
+next_further f size from xs below many =
+    omega (arith, rest_count xs (from % 256), length-map xs f, many, place_within size from below)
+
+behind_last : (size from : ℕ) → from < size → from + (bundle_width size (from / 256) - from % 256) ≤ size
+behind_last size from below = grind arith
+
+pub next_within : {X : Type 0} (f : X → Bytes) (size from : ℕ) (xs : List X) → from < size → length (map f xs) ≡ bundle_width size (from / 256)
+    → from + length (take (length xs - from % 256) (drop (from % 256) xs)) ≤ size
+next_within f size from xs below many =
+    omega (arith, rest_count xs (from % 256), length-map xs f, many, behind_last size from below)
 
 -- the entry at a place of two parts
 either_place : (H : Digest) (head : Head) (a b c : ℕ) (xs ys : List Bytes) → AreEntriesBetween H head a b xs → AreEntriesBetween H head b c ys

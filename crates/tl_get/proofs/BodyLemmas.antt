@@ -1,14 +1,16 @@
 -- What was read of a body decides.
-use Rattle.std.proofs.Common.{◌≡◌, ◌<◌, ◌≤◌, ℕ, List, [], ◌∷◌, ◌++◌, Option, Err, Bool, false, append_assoc, ap, arith, drop, inl, inr, length, length-append, refl, sym, take, ◌∙◌}
+use Rattle.std.proofs.Common.{◌≡◌, ◌<◌, ◌≤◌, ℕ, List, [], ◌∷◌, ◌++◌, Option, Err, Bool, false, append-nil, append_assoc, ap, arith, drop, inl, inr, length, length-append, length-take, ◌⊎◌, min, refl, sym, take, ◌∙◌}
 use Rattle.std.proofs.KnownBytes.{Consumes-trans}
-use Rattle.std.proofs.lemmas.List.{length-take-le}
-use Rattle.std.specs.Io.KnownBytes.{Consumes}
+use Rattle.std.proofs.lemmas.Bool.{cases_lt}
+use Rattle.std.proofs.lemmas.List.{drop_all, length-take-le, nil_from_length, take-append-drop, take-append-le, take_all}
+use Rattle.std.specs.Io.KnownBytes.{Consumes, IsAtEnd}
 use Rattle.tl_device.specs.Reading.{Gave}
 use Rattle.tl_get.specs.Get.{Receives}
 use Rattle.tl_get.specs.Response.{BodyDecides}
-use Rattle.tl_get.specs.Inner.Bodies.{GrownBody, FullBody, SomeBody}
+use Rattle.tl_get.specs.Inner.Bodies.{EndedBody, GrownBody, FullBody, SomeBody}
 use Rattle.tl_get.specs.declared.fault.GetFault.TheVariants.{TooLarge}
 use Rattle.tl_get.specs.declared.framing.Framing.TheVariants.{UntilEnd}
+use Rattle.tl_device.proofs.ReadLemmas.{gave_end, gave_none}
 use Rattle.tl_device.proofs.SendingLemmas.{over}
 
 -- bytes were read, and then more
@@ -59,3 +61,79 @@ rest_past a b c f g h begun body limit came then = inr (record {
 -- more bytes than the limit came with the head
 pub begun_past : (begun rest : List ℕ) (limit : ℕ) → limit < length begun → BodyDecides limit UntilEnd (begun ++ rest) (Err TooLarge)
 begun_past begun rest limit past = inr (inl ((λ fits. absurd (omega (arith, length-append begun rest, past, fits))), refl))
+
+-- what came with the head was kept
+pub begun_kept : (a : Option (List ℕ)) (f : Bool) (begun empty body : List ℕ) (most n : ℕ)
+    → empty ≡ [] → n ≡ min (length begun) most → body ≡ empty ++ take n begun
+    → GrownBody (over a a f f) (take (min (length begun) most) begun) body
+begun_kept a f begun empty body most n none least kept =
+    let same : body ≡ take (min (length begun) most) begun =
+    kept ∙ (ap (λ (l : List ℕ). l ++ take n begun) none ∙ ap (λ (m : ℕ). take m begun) least) in
+    record { bytes = []; gave = gave_none a f; joined = append-nil (take (min (length begun) most) begun) ∙ sym same }
+
+-- what came with the head could not be kept
+pub begun_unkept : (a : Option (List ℕ)) (f : Bool) (begun : List ℕ) (most n : ℕ)
+    → n ≡ min (length begun) most → 0 < length (take n begun) → SomeBody (over a a f f) begun most
+begun_unkept a f begun most n least some =
+    let long = length-take n begun in
+    record {
+      bytes = [];
+      gave = gave_none a f;
+      some = omega (arith, length-append begun [], long, some);
+      wanted = omega (arith, least, long, some);
+    }
+
+-- more of a body came, and was kept
+pub more_kept : (a b c : Option (List ℕ)) (f g h : Bool) (start body block rest kept : List ℕ) (n : ℕ)
+    → GrownBody (over a b f g) start body → n ≤ length block → Consumes b c (take n block) → h ≡ g → kept ≡ body ++ take n (block ++ rest)
+    → GrownBody (over a c f h) start kept
+more_kept a b c f g h start body block rest kept n grown bound then same put =
+    let more = take n block in
+    let read : kept ≡ body ++ more = put ∙ ap (λ (l : List ℕ). body ++ l) (take-append-le n block rest bound) in
+    record {
+      bytes = grown.bytes ++ more;
+      gave = gave_then a b c f g h grown.bytes more false grown.gave (record { consumed = then; at_end = λ e. absurd cc; steady = same });
+      joined = sym (append_assoc start grown.bytes more) ∙ (ap (λ (l : List ℕ). l ++ more) grown.joined ∙ sym read);
+    }
+
+-- the input ended before the body was full
+pub ended_short : (a b c : Option (List ℕ)) (f g h : Bool) (begun body block : List ℕ) (most n : ℕ)
+    → GrownBody (over a b f g) (take (min (length begun) most) begun) body → n ≡ 0 → Consumes b c (take n block) → IsAtEnd c → h ≡ g
+    → length body < most → EndedBody (over a c f h) begun most body
+ended_short a b c f g h begun body block most n grown none then at_end same short =
+    let start = take (min (length begun) most) begun in
+    let long = ap (λ (l : List ℕ). length l) grown.joined in
+    let all = take_all (min (length begun) most) begun (omega (arith, long, length-append start grown.bytes, length-take (min (length begun) most) begun, short)) in
+    record {
+      bytes = grown.bytes;
+      gave = gave_end a b c f g h grown.bytes block n grown.gave none then at_end same;
+      joined = ap (λ (l : List ℕ). l ++ grown.bytes) (sym all) ∙ grown.joined;
+      short = short;
+    }
+
+-- no more than a body that is full came, and all that came with the head behind it
+full_joined : (begun bytes body : List ℕ) (most : ℕ) → (most < length begun) ⊎ (length begun ≤ most)
+    → take (min (length begun) most) begun ++ bytes ≡ body → length body ≡ most → begun ++ bytes ≡ body ++ drop most begun
+full_joined begun bytes body most (inl past) joined whole =
+    let start = take (min (length begun) most) begun in
+    let long = ap (λ (l : List ℕ). length l) joined in
+    let nothing = nil_from_length bytes (omega (arith, long, length-append start bytes, length-take (min (length begun) most) begun, whole, past)) in
+    let least : min (length begun) most ≡ most = omega (arith, past) in
+    let front : take most begun ≡ body =
+    ap (λ (n : ℕ). take n begun) (sym least) ∙ (sym (append-nil start) ∙ (ap (λ (l : List ℕ). start ++ l) (sym nothing) ∙ joined)) in
+    ap (λ (l : List ℕ). begun ++ l) nothing ∙ (append-nil begun
+    ∙ (sym (take-append-drop most begun) ∙ ap (λ (l : List ℕ). l ++ drop most begun) front))
+full_joined begun bytes body most (inr within) joined whole =
+    let all = take_all (min (length begun) most) begun (omega (arith, within)) in
+    ap (λ (l : List ℕ). l ++ bytes) (sym all) ∙ (joined
+    ∙ (sym (append-nil body) ∙ ap (λ (l : List ℕ). body ++ l) (sym (drop_all most begun within))))
+
+-- the body is full
+pub grown_full : (a b : Option (List ℕ)) (f g : Bool) (begun body : List ℕ) (most : ℕ)
+    → GrownBody (over a b f g) (take (min (length begun) most) begun) body → length body ≡ most → FullBody (over a b f g) begun most body
+grown_full a b f g begun body most grown whole = record {
+  bytes = grown.bytes;
+  gave = grown.gave;
+  joined = full_joined begun grown.bytes body most (cases_lt most (length begun)) grown.joined whole;
+  whole = whole;
+}

@@ -1,9 +1,12 @@
 -- What the parser says of a chunk's line, of an input of which the first bytes were read.
-use Rattle.std.proofs.Common.{◌≡◌, ◌+◌, ◌<◌, ◌≤◌, ℕ, List, [], ◌∷◌, ◌++◌, append-nil, append_assoc, ap, arith, drop, inl, inr, length, length-append, length-take, min, subst, sym, take, ◌∙◌}
+use Rattle.std.proofs.Common.{◌≡◌, ◌+◌, ◌<◌, ◌≤◌, ℕ, Bool, List, Option, [], ◌∷◌, ◌++◌, append-nil, append_assoc, ap, arith, drop, inl, inr, length, length-append, length-take, min, subst, sym, take, ◌∙◌}
 use Rattle.std.proofs.lemmas.List.{take-append-drop, take-append-le, take-take, take_all, take_at}
 use Rattle.httparse.specs.Grammar.{ChunkLine, HasNoChunkLine, MayBecomeChunkLine, NeverHasChunkLine, ReadsChunkLine, print_chunk_line}
 use Rattle.httparse.specs.Spans.{IsChunkLineAt}
 use Rattle.tl_get.specs.Chunks.{IsCutLine, IsLine, LacksLine}
+use Rattle.tl_get.specs.Inner.Taking.{Took}
+use Rattle.tl_device.proofs.SendingLemmas.{over}
+use Rattle.tl_get.proofs.TakingLemmas.{took_kept}
 
 -- a line among the first bytes
 pub line_whole : (bytes : List ℕ) (most len n : ℕ) → most ≡ min (length bytes) 256 → (l : ChunkLine) × IsChunkLineAt (take most bytes) len n l
@@ -70,3 +73,15 @@ lacks_on bytes rest (inr late) = inr (
   omega (arith, length-append bytes rest, late.0),
   subst (λ (t : List ℕ). HasNoChunkLine t) (sym (take-append-le 256 bytes rest late.0)) late.1,
 )
+
+-- the line in front of what is kept was taken
+pub line_taken : (a b : Option (List ℕ)) (f g : Bool) (old kept bytes new : List ℕ) (len n : ℕ)
+    → Took (over a b f g) old kept [] → bytes ≡ kept → (len ≤ length bytes) × IsLine (take len bytes) n → new ≡ drop len kept
+    → (line : List ℕ) × IsLine line n × Took (over a b f g) old new line
+line_taken a b f g old kept bytes new len n took same found skipped =
+    let split : kept ≡ take len kept ++ new =
+    sym (take-append-drop len kept) ∙ ap (λ (l : List ℕ). take len kept ++ l) (sym skipped) in (
+      take len kept,
+      subst (λ (l : List ℕ). IsLine (take len l) n) same found.1,
+      took_kept a b f g old kept new [] (take len kept) took split,
+    )

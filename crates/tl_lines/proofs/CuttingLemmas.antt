@@ -2,7 +2,7 @@
 use Rattle.std.proofs.Common.{inl, inr, ◌≡◌, ℕ, ◌+◌, ◌-◌, ◌<◌, ◌≤◌, Bool, true, false, List, [], ◌∷◌, ◌++◌, length, take, drop, cond, refl, sym, ap, ◌∙◌, arith, subst, append_assoc, append-nil}
 use Rattle.std.specs.Prelude.{Option, Some, None, is_some}
 use Rattle.std.specs.Option.{unwrap_or}
-use Rattle.std.proofs.lemmas.List.{length-append, length-drop, length-take-le, take-append-drop, take-take, take_all, drop-take, drop-drop, drop_all}
+use Rattle.std.proofs.lemmas.List.{length-append, length-drop, length-take, length-take-le, take-append-drop, take-take, take_all, drop-take, drop-drop, drop_all}
 use Rattle.std.proofs.lemmas.List.Elements.{All-append, All-take}
 use Rattle.tl_lines.specs.Lines.{Closes, Entry, HasNoNewline, HoldsNoLine, IsAtLine, Tells, Told, TooLong, Uncut, counted, lines_after, lines_of, one_more, to_come, told_of, unread}
 use Rattle.tl_lines.specs.Inner.Cutting.{EndsAt, FindsNewline}
@@ -302,3 +302,12 @@ closed_none u cut off begun =
 pub nothing_in : {X : Type 0} (xs : List X) → length xs ≡ 0 → xs ≡ []
 nothing_in [] none = refl
 nothing_in (x ∷ xs) none = absurd (omega arith)
+
+-- where nothing is left of a block, and where something is
+pub nothing_waits : {P : Type 0} (start end : ℕ) (block waiting : List ℕ) → take (end - start) (drop start block) ≡ waiting → end ≤ start → 0 < length waiting → P
+nothing_waits start end block waiting is past some = absurd (omega (arith, ap length is, length-take (end - start) (drop start block), past, some))
+
+pub something_waits : {P : Type 0} (start end : ℕ) (block waiting : List ℕ)
+    → take (end - start) (drop start block) ≡ waiting → start < end → end ≤ length block → waiting ≡ [] → P
+something_waits start end block waiting is before within none =
+    absurd (omega (arith, ap length is, waiting_length start end block (omega (arith, before)) within, before, ap length none))

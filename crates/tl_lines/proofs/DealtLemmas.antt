@@ -1,9 +1,9 @@
 -- One entry more is dealt.
-use Rattle.std.proofs.Common.{inl, inr, ◌≡◌, ℕ, zero, suc, ◌+◌, ◌*◌, ◌<◌, ◌≤◌, List, [], ◌∷◌, ◌++◌, Some, None, length, get_or, set, replicate, refl, sym, ap, ◌∙◌, arith, subst, length-set}
+use Rattle.std.proofs.Common.{inl, inr, ◌≡◌, ℕ, zero, suc, ◌+◌, ◌*◌, ◌<◌, ◌≤◌, List, [], ◌∷◌, ◌++◌, Some, None, length, get_or, set, replicate, refl, sym, ap, ◌∙◌, arith, subst, append-nil, length-set}
 use Rattle.std.specs.Prelude.{map, slice_get, vec_items}
 use Rattle.std.specs.declared.vec.Vec.{Vec}
 use Rattle.std.proofs.lemmas.Bool.{cases_eq, cases_lt}
-use Rattle.std.proofs.lemmas.List.{get_or-map, get_or-set_same, get_or-set_other, get_or-replicate, length-map, length-replicate, map-set}
+use Rattle.std.proofs.lemmas.List.{get_or-map, get_or-set_same, get_or-set_other, get_or-replicate, length-map, length-replicate, map-set, map_push, nil_from_length, replicate_more}
 use Rattle.std.proofs.lemmas.Nat.{same_from_place, row_fits}
 use Rattle.std.proofs.lemmas.Option.{slice_get_past}
 use Rattle.tl_lines.specs.Dealt.{Deals}
@@ -87,3 +87,25 @@ list_pushed lanes entries lists x old new turn lane dealt place within is pushed
     let joined : map vec_items (set lists lane new) ≡ set (map vec_items lists) lane (get_or (map vec_items lists) lane [] ++ x ∷ []) =
     map-set vec_items lists lane new ∙ ap (λ list. set (map vec_items lists) lane list) (pushed ∙ ap (λ list. list ++ x ∷ []) (sym own)) in
     subst (λ ls. Deals lanes (entries ++ x ∷ []) ls) (sym joined) (dealt_more lanes entries (map vec_items lists) x turn lane dealt place within)
+
+-- one list more has no entry
+pub one_more_empty : {X A : Type 0} (lists more : List (Vec X A)) (list : Vec X A) (n : ℕ) → map vec_items lists ≡ replicate n []
+    → more ≡ lists ++ list ∷ [] → vec_items list ≡ [] → map vec_items more ≡ replicate (n + 1) []
+one_more_empty {X = X} lists more list n so_far pushed empty =
+    ap (map vec_items) pushed ∙ (map_push vec_items lists list
+    ∙ (ap (λ (l : List X). map vec_items lists ++ l ∷ []) empty ∙ (ap (λ (ls : List (List X)). ls ++ [] ∷ []) so_far ∙ replicate_more n [])))
+
+-- where there is no lane
+pub no_lane : {X : Type 0} (lanes : ℕ) (entries : List X) (lists : List (List X)) → lanes ≡ 0 → lists ≡ replicate lanes [] → Deals lanes entries lists
+no_lane lanes entries lists none made = record {
+  count = ap length made ∙ length-replicate lanes [];
+  each = λ j k lt. absurd (omega (arith, lt, none));
+}
+
+-- no entry is left
+pub all_dealt : {X : Type 0} (lanes len : ℕ) (entries dealt rest : List X) (lists : List (List X)) → Deals lanes dealt lists
+    → dealt ++ rest ≡ entries → len ≡ length rest → len ≡ 0 → Deals lanes entries lists
+all_dealt {X = X} lanes len entries dealt rest lists so_far all is none =
+    let nothing = nil_from_length rest (sym is ∙ none) in
+    let same : dealt ≡ entries = sym (append-nil dealt) ∙ (ap (λ (l : List X). dealt ++ l) (sym nothing) ∙ all) in
+    subst (λ (l : List X). Deals lanes l lists) same so_far

@@ -168,3 +168,15 @@ links_fork-one H old new proof m n root fork m_is n_is root_is accepted find =
     let found_size : SameOrForks H fork (tree_hash H old) (tree_hash H (take (length old) new)) (fold_inputs H (length old) (length new) proof (tree_hash H old)) (inputs H new) =
     subst (λ (z : ℕ). SameOrForks H fork (tree_hash H old) (tree_hash H (take z new)) (fold_inputs H z (length new) proof (tree_hash H old)) (inputs H new)) m_is found_root in
     subst (λ (z : ℕ). LinksFork H fork old new (record { size = z; root = tree_hash H new; proof = proof } ∷ [])) (sym n_is) (links_fork-here H old new proof fork found_size)
+
+-- the links lead from the old list to the new one where their steps are accepted
+pub AreAccepted-led : (H : Digest) (old new : List (List ℕ)) (steps : List Step) (m n : ℕ) (root new_root : List ℕ) → m ≡ length old → n ≡ length new → root ≡ tree_hash H old → new_root ≡ tree_hash H new
+    → (Linked H m root steps × EndsWith m root steps n new_root) ↔ AreAccepted H old new steps
+AreAccepted-led H old new steps m n root new_root m_is n_is root_is new_is = rw (m_is, n_is, root_is, new_is) (λ a. a, λ a. a)
+
+-- a fork in the links is one of the chain
+pub links_fork-led : (H : Digest) (old new : List (List ℕ)) (steps : List Step) (m : ℕ) (root : List ℕ) (fork : Option Fork) → m ≡ length old → root ≡ tree_hash H old
+    → SameOrForks H fork root (tree_hash H (take m new)) (step_inputs H new m root steps) (step_inputs H new m root steps) → LinksFork H fork old new steps
+links_fork-led H old new steps m root fork m_is root_is found =
+    let of_root = subst (λ (z : List ℕ). SameOrForks H fork z (tree_hash H (take m new)) (step_inputs H new m z steps) (step_inputs H new m z steps)) root_is found in
+    subst (λ (z : ℕ). SameOrForks H fork (tree_hash H old) (tree_hash H (take z new)) (step_inputs H new z (tree_hash H old) steps) (step_inputs H new z (tree_hash H old) steps)) m_is of_root

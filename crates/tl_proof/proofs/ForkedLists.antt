@@ -1,6 +1,6 @@
 -- Two lists of one length with one root that differ at a place: two nodes on the way there, or the leaves.
-use Rattle.std.proofs.Common.{◌≡◌, ◌≢◌, ℕ, ◌+◌, ◌-◌, ◌<◌, ◌≤◌, List, [], length, map, take, drop, get_or, None, Contains, sym, ap, ◌∙◌, arith}
-use Rattle.std.proofs.lemmas.List.{take_all, take-map, drop-map, length-map, get_or-take, get_or-drop, get_or-map}
+use Rattle.std.proofs.Common.{◌≡◌, ◌≢◌, ℕ, ◌+◌, ◌-◌, ◌<◌, ◌≤◌, List, [], ◌∷◌, ◌++◌, length, map, take, drop, get_or, None, Contains, sym, ap, ◌∙◌, arith}
+use Rattle.std.proofs.lemmas.List.{take_all, take_more, map-append, take-map, drop-map, length-map, get_or-take, get_or-drop, get_or-map}
 use Rattle.tl_hash.specs.Bytes.{Digest}
 use Rattle.tl_hash.specs.Split.{IsSplit}
 use Rattle.tl_hash.specs.Tree.{tree_hash, inputs, node_input, leaf_input}
@@ -120,6 +120,15 @@ IsPrefix-all f old new n least most same =
     let len : length (map f old) ≡ n = length-map old f ∙ (omega (arith, least, most)) in
     let whole : map f (take n old) ≡ map f old = ap (map f) (take_all n old least) in
     sym whole ∙ same ∙ sym (take-map f n new) ∙ ap (λ (m : ℕ). take m (map f new)) (sym len)
+
+-- one entry more is the same
+pub same-more : {X : Type 0} (f : X → List ℕ) (old new : List X) (i : ℕ) (x y : X) → i < length old → length old ≤ length new → x ≡ get_or old i x → y ≡ get_or new i y
+    → f x ≡ f y → map f (take i old) ≡ map f (take i new) → map f (take (i + 1) old) ≡ map f (take (i + 1) new)
+same-more f old new i x y within most at_old at_new same so_far =
+    let more_old : take (i + 1) old ≡ take i old ++ x ∷ [] = take_more old i x within ∙ ap (λ v. take i old ++ v ∷ []) (sym at_old) in
+    let more_new : take (i + 1) new ≡ take i new ++ y ∷ [] = take_more new i y (omega (arith, within, most)) ∙ ap (λ v. take i new ++ v ∷ []) (sym at_new) in
+    ap (map f) more_old ∙ map-append f (take i old) (x ∷ []) ∙ (λ k. so_far k ++ same k ∷ [])
+    ∙ sym (map-append f (take i new) (y ∷ [])) ∙ ap (map f) (sym more_new)
 
 pub DifferAt-place : {X : Type 0} (f : X → List ℕ) (old new : List X) (i : ℕ) (x y : X) → i < length old → length old ≤ length new → x ≡ get_or old i x → y ≡ get_or new i y
     → f x ≢ f y → DifferAt (map f old) (map f new) i

@@ -1,10 +1,11 @@
 -- Proofs followed side by side, each a step at a time.
-use Rattle.std.proofs.Common.{◌≡◌, ◌≢◌, ◌<◌, ◌≤◌, ◌↔◌, All, drop, subst, ℕ, ◌-◌, Bool, List, [], ◌∷◌, length, take, reverse, get_or, Some, option_map, if◌then◌else◌, refl, sym, ap, ◌∙◌, arith}
+use Rattle.std.proofs.Common.{◌≡◌, ◌≢◌, ◌<◌, ◌≤◌, ◌↔◌, All, drop, subst, ℕ, ◌-◌, Bool, List, [], ◌∷◌, length, take, reverse, get_or, slice_index_or, Option, Some, None, option_map, if◌then◌else◌, refl, sym, ap, ◌∙◌, arith}
+use Rattle.std.specs.Prelude.{IfSome}
 use Rattle.std.proofs.lemmas.Bool.{eq-eqb}
 use Rattle.tl_hash.specs.Bytes.{Digest}
 use Rattle.tl_hash.specs.Tree.{node_input}
 use Rattle.tl_proof.specs.Acceptance.{root_from_leaf, AcceptsInclusion}
-use Rattle.tl_proof.specs.Inner.Lanes.{lane_root, node_with}
+use Rattle.tl_proof.specs.Inner.Lanes.{lane_root, node_with, LeadsTo}
 use Rattle.tl_proof.specs.declared.records.ClaimWalk.{ClaimWalk}
 use Rattle.std.proofs.lemmas.List.{get_or_default}
 use Rattle.std.proofs.lemmas.List.Elements.{All-cons, All-head, All-tail}
@@ -15,6 +16,13 @@ use Rattle.tl_proof.proofs.Checks.{reverse_last}
 pub lane-leaf : (H : Digest) (lane : ClaimWalk) → lane.size ≡ 1 → lane_root H lane [] ≡ Some lane.leaf
 unfolding root_from_leaf
 lane-leaf H lane one = rw (eq-eqb lane.size 1 one) refl
+
+-- whole trees lead to their leaves by proofs that are empty
+pub leaves-lead : (H : Digest) (lane : ClaimWalk) (proof : List (List ℕ)) (roots : Option (List (List ℕ))) (n : ℕ) → length proof ≡ 0
+    → IfSome roots (λ r. (G : Digest) → lane_root G lane [] ≡ Some (slice_index_or r n [])) → IfSome roots (λ r. LeadsTo H lane proof (slice_index_or r n []))
+leaves-lead H lane [] None n none leads = tt
+leaves-lead H lane [] (Some r) n none leads = leads H
+leaves-lead H lane (hash ∷ proof) roots n none leads = absurd (omega (arith, none))
 
 -- the root of a tree, from that of its part below
 pub lane-up : (H : Digest) (lane below : ClaimWalk) (on_left : Bool) (n : ℕ) (xs : List (List ℕ)) (x left right root node : List ℕ) → length xs ≡ n → n ≢ 0 → x ≡ get_or xs (n - 1) x

@@ -116,6 +116,11 @@ paths-push size index indexes counts segments plan n small n_is path paths =
       needed = subst (λ (x : ℕ). IsNeeded 0 x (segments ++ plan)) (sym (records_need-push size indexes index)) (needed-both (records_need size indexes) (inclusion_needs size index) segments plan paths.needed path.needed);
     }
 
+-- no index is asked for
+pub none-asked : (indexes : List ℕ) → length indexes ≡ 0 → indexes ≡ []
+none-asked [] none = refl
+none-asked (index ∷ indexes) none = absurd (omega (arith, none))
+
 -- the proof of one index more
 pub paths-next : (size : ℕ) (indexes : List ℕ) (i d index : ℕ) (counts next : List ℕ) (segments now : List Segment) (n : ℕ) → i < length indexes → index ≡ get_or indexes i d → All (IsIndex size) indexes
     → GrowsBy (IsPathPlan index 0 size) segments now → n ≡ length now - length segments → next ≡ counts ++ n ∷ []

@@ -1,15 +1,15 @@
 -- Tiles that are kept from one read to the next.
-use Rattle.std.proofs.Common.{◌≡◌, ℕ, ◌/◌, ◌^◌, ◌<◌, inl, inr, ◌⊎◌, Bool, true, false, cond, List, [], ◌∷◌, ◌++◌, append_assoc, All, nat_lt, take, ◌&&◌, ◌==◌, ◌*◌, ◌≤◌, refl, sym, ap, subst, ◌∙◌, arith}
+use Rattle.std.proofs.Common.{◌≡◌, ℕ, ◌/◌, ◌^◌, ◌<◌, inl, inr, ◌⊎◌, Bool, true, false, cond, List, [], ◌∷◌, ◌++◌, append_assoc, All, nat_lt, get_or, length, take, drop, Some, ◌+◌, ◌&&◌, ◌==◌, ◌*◌, ◌≤◌, refl, sym, ap, subst, ◌∙◌, arith}
 use Rattle.std.specs.Prelude.{vec_items}
 use Rattle.std.specs.List.{prefix_len, take_while}
 use Rattle.std.specs.declared.vec.Vec.{Vec}
 use Rattle.std.proofs.lemmas.Bool.{cases_Bool, le-ltb, lt-ltb, or_parts}
-use Rattle.std.proofs.lemmas.List.{append-nil, take-map}
+use Rattle.std.proofs.lemmas.List.{append-nil, at_drop_more, take-map}
 use Rattle.std.proofs.lemmas.List.Elements.{All-head, All-tail}
 use Rattle.std.proofs.lemmas.List.Sums.{take_while-cons}
 use Rattle.tl_hash.specs.Bytes.{Digest}
 use Rattle.tl_tile.specs.declared.resource.Tile.{Tile}
-use Rattle.tl_tile.specs.Fetched.{is_on_path, texts_of, tiles_in}
+use Rattle.tl_tile.specs.Fetched.{is_on_path, same_tile, texts_of, tiles_in, tiles_of}
 use Rattle.tl_tile.specs.Fetching.{IsPartialOf}
 use Rattle.tl_tile.specs.Verified.{AreNext, ComesNext, HavePassed, IsNextPartial}
 use Rattle.tl_tile.proofs.Orders.{edge-partial}
@@ -96,3 +96,45 @@ pub path-kept : {A : Type 0} (index count : ℕ) (items after : List (Tile × Ve
     → texts_of after ≡ take_while (λ f. is_on_path index f.0) (texts_of items)
 path-kept index count items after many cut_at =
     ap texts_of cut_at ∙ sym (take-map (λ t. (t.0, vec_items t.1)) count items) ∙ ap (λ (n : ℕ). take n (texts_of items)) many
+
+-- ---- as the code goes over tiles
+
+-- the front of the tiles that are left, with its text
+texts-front : {A : Type 0} (tiles : List (Tile × Vec ℕ A)) (i : ℕ) (t : Tile × Vec ℕ A) → i < length tiles → t ≡ get_or tiles i t
+    → texts_of (drop i tiles) ≡ (t.0, vec_items t.1) ∷ texts_of (drop (i + 1) tiles)
+texts-front tiles i t less is = at_drop_more texts_of tiles i t less ∙ ap (λ x. (x.0, vec_items x.1) ∷ texts_of (drop (i + 1) tiles)) (sym is)
+
+-- another tile than the one that is looked for
+pub text-later : {A : Type 0} (tiles : List (Tile × Vec ℕ A)) (i : ℕ) (t : Tile × Vec ℕ A) (tile : Tile) → i < length tiles → t ≡ get_or tiles i t → same_tile t.0 tile ≡ false
+    → tiles_of (texts_of tiles) tile ≡ tiles_of (texts_of (drop i tiles)) tile → tiles_of (texts_of tiles) tile ≡ tiles_of (texts_of (drop (i + 1) tiles)) tile
+text-later tiles i t tile less is differ so_far =
+    so_far ∙ ap (λ list. tiles_of list tile) (texts-front tiles i t less is)
+    ∙ ap (λ (b : Bool). cond b (Some (vec_items t.1)) (tiles_of (texts_of (drop (i + 1) tiles)) tile)) differ
+
+-- and that tile
+pub text-here : {A : Type 0} (tiles : List (Tile × Vec ℕ A)) (i : ℕ) (t : Tile × Vec ℕ A) (tile : Tile) (text : List ℕ) → i < length tiles → t ≡ get_or tiles i t → same_tile t.0 tile ≡ true
+    → text ≡ vec_items t.1 → tiles_of (texts_of tiles) tile ≡ tiles_of (texts_of (drop i tiles)) tile → tiles_of (texts_of tiles) tile ≡ Some text
+text-here tiles i t tile text less is same text_is so_far =
+    so_far ∙ ap (λ list. tiles_of list tile) (texts-front tiles i t less is)
+    ∙ ap (λ (b : Bool). cond b (Some (vec_items t.1)) (tiles_of (texts_of (drop (i + 1) tiles)) tile)) same
+    ∙ ap (λ (x : List ℕ). Some x) (sym text_is)
+
+-- one more on the path
+pub path-later : {A : Type 0} (index count : ℕ) (tiles : List (Tile × Vec ℕ A)) (i : ℕ) (t : Tile × Vec ℕ A) → i < length tiles → t ≡ get_or tiles i t → is_on_path index t.0 ≡ true
+    → prefix_len (λ f. is_on_path index f.0) (texts_of tiles) ≡ count + prefix_len (λ f. is_on_path index f.0) (texts_of (drop i tiles))
+    → prefix_len (λ f. is_on_path index f.0) (texts_of tiles) ≡ count + 1 + prefix_len (λ f. is_on_path index f.0) (texts_of (drop (i + 1) tiles))
+path-later index count tiles i t less is on so_far =
+    let many : List (Tile × List ℕ) → ℕ = prefix_len (λ f. is_on_path index f.0) in
+    let more : many (texts_of (drop i tiles)) ≡ 1 + many (texts_of (drop (i + 1) tiles)) =
+    ap many (texts-front tiles i t less is) ∙ ap (λ (b : Bool). cond b (1 + many (texts_of (drop (i + 1) tiles))) 0) on in
+    omega (arith, so_far, more)
+
+-- and the first that is not
+pub path-end : {A : Type 0} (index count : ℕ) (tiles : List (Tile × Vec ℕ A)) (i : ℕ) (t : Tile × Vec ℕ A) → i < length tiles → t ≡ get_or tiles i t → is_on_path index t.0 ≡ false
+    → prefix_len (λ f. is_on_path index f.0) (texts_of tiles) ≡ count + prefix_len (λ f. is_on_path index f.0) (texts_of (drop i tiles))
+    → count ≡ prefix_len (λ f. is_on_path index f.0) (texts_of tiles)
+path-end index count tiles i t less is off so_far =
+    let many : List (Tile × List ℕ) → ℕ = prefix_len (λ f. is_on_path index f.0) in
+    let none : many (texts_of (drop i tiles)) ≡ 0 =
+    ap many (texts-front tiles i t less is) ∙ ap (λ (b : Bool). cond b (1 + many (texts_of (drop (i + 1) tiles))) 0) off in
+    omega (arith, so_far, none)

@@ -1,12 +1,12 @@
 -- The leaf hashes of the entries of a tile fold to the tree hash of these.
-use Rattle.std.proofs.Common.{◌≡◌, ◌<◌, ◌≤◌, ◌+◌, ◌*◌, ◌∙◌, ℕ, List, [], ◌∷◌, ◌++◌, length, get_or, map, take, drop, refl, sym, ap, subst, arith}
+use Rattle.std.proofs.Common.{◌≡◌, ◌<◌, ◌+◌, ◌*◌, ◌∙◌, ℕ, List, [], ◌∷◌, ◌++◌, length, get_or, map, take, drop, refl, sym, ap, arith}
 use Rattle.std.specs.List.{range_with_len}
 use Rattle.std.proofs.lemmas.List.{ext_get_or, get_or-map, get_or_append_left, get_or_push, length-map, length_push, take_all, take_more}
 use Rattle.std.proofs.lemmas.List.FromFn.{get_or-map-range_with_len, length-map-range_with_len}
 use Rattle.std.proofs.Math.Seq.{drop-cons}
 use Rattle.tl_hash.specs.Bytes.{Bytes, Digest}
 use Rattle.tl_hash.specs.Tree.{leaf_input, tree_hash, hash_of, tree_of, tree_within}
-use Rattle.tl_tile.specs.Inner.Run.{part, place_hash, Run, IsRun}
+use Rattle.tl_tile.specs.Inner.Run.{part, place_hash, IsRun}
 use Rattle.tl_tile.specs.Inner.FoldsTo.{FoldsTo}
 use Rattle.tl_tile.proofs.Runs.{run_of}
 

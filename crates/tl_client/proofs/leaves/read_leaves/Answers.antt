@@ -1,5 +1,8 @@
-use Rattle.std.proofs.Common.{◌∙◌}
+use Rattle.std.proofs.Common.{List, arith, subst, ℕ, ◌∙◌}
 use Rattle.std.proofs.lemmas.Result.{err_from_is_err_and}
+use Rattle.sha2.specs.Sha256.{sha256}
+use Rattle.tl_tile.specs.Fetching.{IsNeededFor}
+use Rattle.tl_tile.specs.TileReader.{AreAuthentic}
 use Rattle.tl_client.proofs.LeafReads.{count_is, leaves_fault, many_numbers, served_added, served_none}
 use Rattle.tl_client.proofs.leaves.read_leaves.Goals as goal
 
@@ -23,10 +26,30 @@ pub returns-clause-passed : goal.returns-clause-passed
 returns-clause-passed g c = rw (c.new-reader.ensures) at c.in_ok-leaves.ensures.passed
 
 pub returns-clause-served : goal.returns-clause-served
-returns-clause-served g c = served_added _ _ _ _ _ _ (rw (c.new-reader.ensures) at c.read_after.ensures.adds)
+returns-clause-served g c =
+    served_added (g.S.ResourceSource.may_answer c.args.source.now) c.args.size c.args.root (IsNeededFor c.args.size c.deref.result.now) c.args.fetched.now c.read_after.new.fetched
+    (rw (c.new-reader.ensures) at c.read_after.ensures.adds)
 
 pub returns-in_err-leaves-clause-served : goal.returns-in_err-leaves-clause-served
-returns-in_err-leaves-clause-served g c = served_added _ _ _ _ _ _ (rw (c.new-reader.ensures) at c.read_after.ensures.adds)
+returns-in_err-leaves-clause-served g c =
+    served_added (g.S.ResourceSource.may_answer c.args.source.now) c.args.size c.args.root (IsNeededFor c.args.size c.deref.result.now) c.args.fetched.now c.read_after.new.fetched
+    (rw (c.new-reader.ensures) at c.read_after.ensures.adds)
 
 pub returns-in_err-numbers-clause-served : goal.returns-in_err-numbers-clause-served
 returns-in_err-numbers-clause-served g c = served_none (g.S.ResourceSource.may_answer c.args.source.now) c.args.size c.args.fetched.now
+
+pub returns-clause-authentic : goal.returns-clause-authentic
+returns-clause-authentic g c =
+    subst (λ (xs : List ℕ). AreAuthentic sha256 (record { size = c.args.size; root = c.args.root; indexes = xs; fetched = c.read_after.new.fetched }) c.in_ok-leaves.leaves.items)
+    (c.deref.ensures.value ∙ c.in_ok-numbers.ensures) (rw (c.new-reader.ensures) at c.in_ok-leaves.ensures.authentic)
+
+pub numbers_of-requires : goal.numbers_of-requires
+numbers_of-requires g c = omega (arith, c.requires.inside, c.requires.limit)
+
+pub read_after-requires : goal.read_after-requires
+read_after-requires g c = rw (c.new-reader.ensures) c.requires.passed
+
+pub returns-in_err-numbers-clause-refused : goal.returns-in_err-numbers-clause-refused
+returns-in_err-numbers-clause-refused g c =
+    let p = err_from_is_err_and c.from_residual.result c.from_residual.ensures.1 in
+    rw (p.1, p.2) tt

@@ -1,7 +1,12 @@
 use Rattle.std.proofs.Common.{◌∙◌, sym, ap, arith, length, vec_items}
 use Rattle.std.proofs.lemmas.List.{take_rest}
-use Rattle.tl_command.proofs.CountedLines.{slices_found, slices_only, counted_none}
+use Rattle.tl_command.proofs.CountedLines.{slices_found, slices_only, counted_none, counted_absent}
 use Rattle.tl_command.proofs.audit_text.counted.Goals as goal
+
+pub returns-in_default-number_after-clause-only : goal.returns-in_default-number_after-clause-only
+returns-in_default-number_after-clause-only g c = λ entries others size e.
+    counted_absent vec_items c.args.lines.now c.first-item.result c.args.word.now c.in-len1-up.len_at_least c.first-item.is
+    (λ n fits is. c.in_default-number_after.ensures n fits (c.as_slice.ensures.value ∙ is)) entries others size e
 
 pub returns-then-count-rest-clause-only : goal.returns-then-count-rest-clause-only
 returns-then-count-rest-clause-only g c = λ entries others size e.

@@ -1,9 +1,10 @@
-use Rattle.std.proofs.Common.{◌/◌, refl, sym, subst, map, vec_items}
+use Rattle.std.proofs.Common.{◌≡◌, ◌/◌, inr, length, refl, sym, subst, ap, ◌∙◌, map, vec_items}
 use Rattle.sha2.specs.Sha256.{sha256}
 use Rattle.tl_tile.specs.Fetched.{tiles_of}
+use Rattle.tl_tile.specs.Needed.{bundle_width}
 use Rattle.tl_client.specs.Checked.{AreCheckedEntries}
 use Rattle.tl_fetch.proofs.EntryLemmas.{place_in}
-use Rattle.tl_fetch.proofs.ListingLemmas.{after_nothing, rest_of}
+use Rattle.tl_fetch.proofs.ListingLemmas.{after_nothing, next_further, next_within, rest_of}
 use Rattle.tl_fetch.proofs.listing.lines_from.Goals as goal
 
 pub returns-clause-lines : goal.returns-clause-lines
@@ -20,3 +21,21 @@ returns-clause-lines g c =
 
 pub read_bundle-requires : goal.read_bundle-requires
 read_bundle-requires g c = c.keep_path.ensures.passed sha256 c.args.head.now.size c.args.head.now.root c.requires.passed
+
+pub returns-clause-further : goal.returns-clause-further
+returns-clause-further g c =
+    let items = c.deref.result.now in
+    let many : length (map vec_items items) ≡ bundle_width c.args.head.now.size (c.args.from / 256) = ap (λ xs. length (map vec_items xs)) c.deref.ensures.value ∙ c.in-Ok.ensures.entries.whole.count in
+    next_further vec_items c.args.head.now.size c.args.from items c.requires.below many
+
+pub returns-clause-within : goal.returns-clause-within
+returns-clause-within g c =
+    let items = c.deref.result.now in
+    let many : length (map vec_items items) ≡ bundle_width c.args.head.now.size (c.args.from / 256) = ap (λ xs. length (map vec_items xs)) c.deref.ensures.value ∙ c.in-Ok.ensures.entries.whole.count in
+    next_within vec_items c.args.head.now.size c.args.from items c.requires.below many
+
+pub returns-clause-passed : goal.returns-clause-passed
+returns-clause-passed g c = c.in-Ok.ensures.passed
+
+pub returns-in-Err-clause-refused : goal.returns-in-Err-clause-refused
+returns-in-Err-clause-refused g c = inr (inr (c.in-Err.fault, c.in-Err.ensures.refused, c.client_refusal.ensures))

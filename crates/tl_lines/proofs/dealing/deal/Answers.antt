@@ -1,7 +1,7 @@
-use Rattle.std.proofs.Common.{◌+◌, ◌∙◌, ◌++◌, ◌∷◌, [], ap, sym, subst, length, arith, append_assoc}
+use Rattle.std.proofs.Common.{◌+◌, ◌∙◌, ◌++◌, ◌∷◌, [], ap, sym, subst, length, map, vec_items, arith, append_assoc}
 use Rattle.std.proofs.lemmas.List.{length_push}
 use Rattle.tl_lines.specs.Dealt.{Deals}
-use Rattle.tl_lines.proofs.DealtLemmas.{none_dealt, list_pushed}
+use Rattle.tl_lines.proofs.DealtLemmas.{all_dealt, list_pushed, no_lane, none_dealt}
 use Rattle.tl_lines.proofs.dealing.deal.Goals as goal
 
 pub loop-entry-init : goal.loop-entry-init
@@ -39,3 +39,13 @@ loop-entry-preserved g c =
       all = append_assoc c.loop-entry.yielded (entry ∷ []) c.next.new.self.rest.items ∙ ap (λ rest. c.loop-entry.yielded ++ rest) (sym step.0) ∙ so_far.all;
       len = omega (arith, ap length step.0, step.1, so_far.len);
     }
+
+pub returns-then-lanes-eq0-clause-dealt : goal.returns-then-lanes-eq0-clause-dealt
+returns-then-lanes-eq0-clause-dealt g c =
+    no_lane c.args.lanes c.args.entries.items (map vec_items c.in_ok-lists.lists.items) c.if-lanes-eq0.true c.in_ok-lists.ensures.lists
+
+pub returns-clause-dealt : goal.returns-clause-dealt
+returns-clause-dealt g c =
+    let so_far = c.loop-entry.invariant in
+    all_dealt c.args.lanes c.loop-entry.entry-iterator.rest.len c.args.entries.items c.loop-entry.yielded c.loop-entry.entry-iterator.rest.items
+    (map vec_items c.loop-entry.lists.items) so_far.dealt so_far.all so_far.len c.in-None.ensures.steps.0

@@ -1,7 +1,19 @@
 use Rattle.std.proofs.Common.{slice_index_or, ℕ, List, [], Some, refl, sym, ap, ◌∙◌, arith}
 use Rattle.std.proofs.lemmas.List.{get_or_default}
-use Rattle.tl_proof.proofs.LaneSteps.{lane-up}
+use Rattle.tl_proof.proofs.LaneSteps.{lane-up, leaves-lead}
 use Rattle.tl_proof.proofs.records.+lead_four.Goals as goal
+
+pub returns-then-n-eq0-clause-a : goal.returns-then-n-eq0-clause-a
+returns-then-n-eq0-clause-a g t c = leaves-lead g.T.TreeHash.digest_of c.args.lanes.a c.args.a.now c.only_leaves.result 0 (c.if-n-eq0.true) c.only_leaves.ensures.a
+
+pub returns-then-n-eq0-clause-b : goal.returns-then-n-eq0-clause-b
+returns-then-n-eq0-clause-b g t c = leaves-lead g.T.TreeHash.digest_of c.args.lanes.b c.args.b.now c.only_leaves.result 1 (c.requires.b ∙ c.if-n-eq0.true) c.only_leaves.ensures.b
+
+pub returns-then-n-eq0-clause-c : goal.returns-then-n-eq0-clause-c
+returns-then-n-eq0-clause-c g t c = leaves-lead g.T.TreeHash.digest_of c.args.lanes.c c.args.c.now c.only_leaves.result 2 (c.requires.c ∙ c.if-n-eq0.true) c.only_leaves.ensures.c
+
+pub returns-then-n-eq0-clause-d : goal.returns-then-n-eq0-clause-d
+returns-then-n-eq0-clause-d g t c = leaves-lead g.T.TreeHash.digest_of c.args.lanes.d c.args.d.now c.only_leaves.result 3 (c.requires.d ∙ c.if-n-eq0.true) c.only_leaves.ensures.d
 
 pub returns-clause-a : goal.returns-clause-a
 returns-clause-a g t c =

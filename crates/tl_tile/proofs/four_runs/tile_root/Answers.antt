@@ -1,4 +1,4 @@
-use Rattle.std.proofs.Common.{map, refl, ◌∙◌, arith}
+use Rattle.std.proofs.Common.{map, refl, ◌∙◌}
 use Rattle.std.proofs.lemmas.List.{length-map}
 use Rattle.tl_tile.proofs.TileLeaves.{leaves_fold}
 use Rattle.tl_tile.proofs.four_runs.tile_root.Goals as goal

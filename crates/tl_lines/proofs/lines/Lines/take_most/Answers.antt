@@ -1,10 +1,10 @@
-use Rattle.std.proofs.Common.{◌∙◌, ◌++◌, ◌∷◌, [], ap, sym, subst, length, map, vec_items, arith}
+use Rattle.std.proofs.Common.{◌≡◌, ◌∙◌, ◌++◌, ◌∷◌, [], ap, refl, sym, subst, length, map, vec_items, arith}
 use Rattle.std.proofs.lemmas.List.{length-map, length_push, map_push}
 use Rattle.std.proofs.lemmas.Result.{err_from_is_err_and}
 use Rattle.tl_device.specs.Device.{passage}
 use Rattle.tl_lines.specs.Lines.{TooLong}
 use Rattle.tl_lines.specs.Reading.{TellsOf, all_entries}
-use Rattle.tl_lines.proofs.ReadingLemmas.{all_read, entry_more, entry_short, line_failed, of_then}
+use Rattle.tl_lines.proofs.ReadingLemmas.{all_read, entry_more, entry_short, line_failed, none_of, of_then}
 use Rattle.tl_lines.proofs.lines.Lines.take_most.Goals as goal
 
 pub returns-in_err-push-in-Ok-Some-Entry : goal.returns-in_err-push-in-Ok-Some-Entry
@@ -75,3 +75,19 @@ loop-line-preserved g c =
       lines = subst (λ ls. TellsOf c.args.self.now c.next.new.self (passage g.R.Read.remaining before after) (all_entries ls))
           (sym (ap (map vec_items) pushed ∙ map_push vec_items at.lines.items line)) more;
     }
+
+pub loop-line-init : goal.loop-line-init
+loop-line-init g c =
+    let reader = c.args.reader.now in
+    record {
+      count = ap length c.new-lines.ensures.items;
+      first = λ _. refl;
+      lines = subst (λ ls. TellsOf c.args.self.now c.args.self.now (passage g.R.Read.remaining reader reader) (all_entries ls))
+          (sym (ap (map vec_items) c.new-lines.ensures.items)) (none_of c.args.self.now (g.R.Read.remaining reader.device) reader.failed);
+    }
+
+pub returns : goal.returns
+returns g c =
+    let at = c.loop-line in
+    let all : length at.lines.items ≡ c.args.count = omega (arith, at.invariant.count, c.loop-line-test.false, at.auto._line-end) in
+    (omega (arith, all), at.invariant.lines, λ few. absurd (omega (arith, all, few)))

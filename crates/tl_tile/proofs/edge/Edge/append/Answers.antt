@@ -1,8 +1,18 @@
-use Rattle.std.proofs.Common.{◌++◌, ◌∷◌, [], List, take, refl, ap, sym, ◌∙◌, arith}
+use Rattle.std.proofs.Common.{◌++◌, ◌∷◌, ◌+◌, [], List, length, take, refl, ap, sym, ◌∙◌, arith}
 use Rattle.tl_hash.specs.Bytes.{Bytes}
+use Rattle.tl_tile.specs.RightEdge.{filled_tiles}
 use Rattle.tl_tile.proofs.Adding.{edge-more}
 use Rattle.tl_tile.proofs.FillSteps.{entry_after}
 use Rattle.tl_tile.proofs.edge.Edge.append.Goals as goal
+
+pub fill-requires-clause-counted : goal.fill-requires-clause-counted
+fill-requires-clause-counted g c = ap length c.deref.ensures.value ∙ c.self.invariant.0
+
+pub keep-requires-clause-within : goal.keep-requires-clause-within
+keep-requires-clause-within g c = omega (arith, c.in_ok-filled.ensures.within, ap length c.deref.ensures.value, ap length c.in_ok-reserve.ensures.items)
+
+pub keep-requires-clause-counted : goal.keep-requires-clause-counted
+keep-requires-clause-counted g c = c.in_ok-filled.ensures.counted
 
 pub returns-clause-entry : goal.returns-clause-entry
 returns-clause-entry g c entries is =
@@ -22,3 +32,9 @@ returns-clause-tiles g c entries is =
     let kept = c.deref.ensures.value ∙ ap (λ e. e.kept) c.self.view_is ∙ is.2 in
     c.in_ok-filled.ensures.tiles refl refl entries (c.args.entry.now ∷ [])
     (entry_after g.T.TreeHash.digest_of c.self.inside.size c.deref.result.now c.leaf_hash-leaf.result entries c.args.entry.now (is.0 ∙ sym (ap (λ e. e.size) c.self.view_is)) kept c.leaf_hash-leaf.ensures)
+
+pub returns-clause-named : goal.returns-clause-named
+returns-clause-named g c = c.in_ok-filled.ensures.named refl refl ∙ ap (λ e. filled_tiles (e.size + 1)) c.self.view_is
+
+pub returns-clause-size : goal.returns-clause-size
+returns-clause-size g c = c.keep.ensures.size ∙ ap (λ e. e.size + 1) c.self.view_is

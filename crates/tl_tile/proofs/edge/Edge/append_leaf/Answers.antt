@@ -1,4 +1,4 @@
-use Rattle.std.proofs.Common.{◌++◌, ◌∷◌, [], List, take, vec_items, refl, ap, sym, ◌∙◌, arith}
+use Rattle.std.proofs.Common.{◌++◌, ◌∷◌, [], List, length, take, vec_items, refl, ap, sym, ◌∙◌, arith}
 use Rattle.std.proofs.lemmas.List.{map-append}
 use Rattle.tl_hash.specs.Bytes.{Bytes}
 use Rattle.tl_tile.specs.RightEdge.{IsEdgeOf}
@@ -6,6 +6,15 @@ use Rattle.tl_tile.specs.Fetched.{texts_of}
 use Rattle.tl_tile.proofs.Adding.{adds-one}
 use Rattle.tl_tile.proofs.FillSteps.{entry_after}
 use Rattle.tl_tile.proofs.edge.Edge.append_leaf.Goals as goal
+
+pub fill-requires-clause-counted : goal.fill-requires-clause-counted
+fill-requires-clause-counted g c = ap length c.deref.ensures.value ∙ c.self.invariant.0
+
+pub keep-requires-clause-within : goal.keep-requires-clause-within
+keep-requires-clause-within g c = omega (arith, c.in_ok-filled.ensures.within, ap length c.deref.ensures.value, ap length c.in_ok-reserve.ensures.items)
+
+pub keep-requires-clause-counted : goal.keep-requires-clause-counted
+keep-requires-clause-counted g c = c.in_ok-filled.ensures.counted
 
 pub returns : goal.returns
 returns g c entry leaf =
