@@ -264,9 +264,9 @@ fn fetch_by<'s, H: Files<File = File> + HostClient, W: Write, E: Write>(
     fetch_as_told(rt, alloc, &policy, options, writer, errors, is_terminal)
 }
 
-/// `fetch`: reads the keys of the log, one or two, and of the witnesses (C2SP signed-note, "Verifier keys"), and fetches
-/// what is wanted from the folder or over HTTP as `fetch_under` does, of the log with the name of its keys, with as many
-/// requests in flight as the options tell. Where `errors` goes to a terminal, it is told how far the checks are.
+/// `fetch`: reads the keys of the log, one or two, and of the witnesses (C2SP signed-note, "Verifier keys"), and
+/// fetches what is wanted from the folder or over HTTP as `fetch_under` does, of the log with the name of its keys, with
+/// as many requests in flight as the options tell. Where `errors` goes to a terminal, it is told how far the checks are.
 pub fn run_fetch<
     's,
     H: Files<File = File>

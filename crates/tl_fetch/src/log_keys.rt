@@ -68,8 +68,8 @@ fn second_key(
     Ok(other)
 }
 
-/// The keys of the log that the options tell (C2SP signed-note, "Verifier keys"), where each of its witnesses has a public
-/// key of its own. The log's texts are looked at first.
+/// The keys of the log that the options tell (C2SP signed-note, "Verifier keys"), where each of its witnesses has a
+/// public key of its own. The log's texts are looked at first.
 pub(crate) fn log_keys(alloc: Global, options: &FetchOptions) -> Result<LogKeys, FetchFault>
     ensures told { IfOk result
         (λ keys. AreTold options.now keys.key.name (keys_of keys.key keys.other)) }

@@ -182,9 +182,9 @@ fn feed_by<'s, H: Files<File = File> + Net<Stream = TcpStream> + Clock, W: Write
     feed_as_told(rt, alloc, &policy, options, writer, errors)
 }
 
-/// `feed`: reads the keys of the log, one or two, and of the witnesses (C2SP signed-note, "Verifier keys"), and brings the
-/// checkpoint of the log, which is read from a folder or over HTTP, before each witness, as `feed_under` does. Why a
-/// witness gave no cosignature is told on `errors`, a line each.
+/// `feed`: reads the keys of the log, one or two, and of the witnesses (C2SP signed-note, "Verifier keys"), and brings
+/// the checkpoint of the log, which is read from a folder or over HTTP, before each witness, as `feed_under` does. Why
+/// a witness gave no cosignature is told on `errors`, a line each.
 pub fn run_feed<'s, H: Files<File = File> + Net<Stream = TcpStream> + Clock, W: Write, E: Write>(
     rt: &'s H,
     alloc: Global,
