@@ -1,5 +1,6 @@
 pub mod Loops
 pub mod Proposals
+pub mod Publishing
 pub mod Reading
 pub mod Runs
 pub mod Showing

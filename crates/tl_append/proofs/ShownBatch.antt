@@ -17,7 +17,7 @@ use Rattle.tl_command.specs.Mirror.{LogKey, checkpoint_note}
 use Rattle.tl_append.specs.Cosigning.{HasCosigned, HasQuorum, Quorum, ShowsAtMost, ShowsBatch, ShowsThen, shown}
 use Rattle.tl_append.specs.Inner.Turns.{IsNoteOf, SealsBatch, turn}
 use Rattle.tl_append.proofs.Showing.{AreCosigned}
-use Rattle.tl_append.proofs.Turns.{along, checkpoint_stays, kept_as, safe_as, safe_both, safe_on}
+use Rattle.tl_append.proofs.Turns.{along, checkpoint_stays, kept_as, safe_as, safe_both, safe_on, shown_as}
 
 -- a note of a size and a root with some lines behind it, where these are those of the log
 pub is_note_of : (key : LogKey) (now : Ledger) (size : ℕ) (root note lines text : Bytes) → size ≡ now.edge.size
@@ -115,11 +115,11 @@ module _ (key : LogKey) (q : Quorum) (batch : List Bytes) (a m : Kept) (saw mid 
         shows = one_shown;
         there = λ h log keeps.
             let after = put h log keeps in
-            let new : Prefix = shown key (log ++ batch) lines in
-            subst (λ (es : List Bytes). IsShown (h ++ new ∷ []) es b.held) (whole log) (
-              checkpoint_note key (log ++ batch) ++ lines,
+            let new : Prefix = shown key (log ++ batch) lines in (
+              new,
               Contains-append_right h (new ∷ []) new (has_head new []),
-              there h (log ++ batch) after ∙ ap (λ (n : Bytes). Some n) (same ∙ text_is h (log ++ batch) after),
+              after.stands.at_edge.0,
+              record { note = there h (log ++ batch) after ∙ ap (λ (n : Bytes). Some n) (same ∙ text_is h (log ++ batch) after); all = (kept h (log ++ batch) after).whole },
             );
         cosigned = λ h log keeps.
             let after = put h log keeps in (
@@ -135,12 +135,13 @@ module _ (key : LogKey) (q : Quorum) (batch : List Bytes) (a m : Kept) (saw mid 
 -- what is spent was removed
 module _ (key : LogKey) (q : Quorum) (batch : List Bytes) (a m b : Kept) (saw mid sees : List Kept) (was is : Ledger)
     (all : SealsBatch key q batch (along a m saw mid was is))
-    (kept : (h : List Prefix) (log : List Bytes) → IsKeeping sha256 h log m is → IsShown h log m.held → IsKeeping sha256 h log b is)
-    (safe : (h : List Prefix) (log : List Bytes) → IsKeeping sha256 h log m is → IsShown h log m.held → KeptSafe sha256 h mid sees) where
+    (n : ℕ) (same : n ≡ is.edge.size)
+    (kept : (h : List Prefix) (log : List Bytes) (x : Ledger) → IsKeeping sha256 h log m x → IsShown sha256 h n m.held → IsKeeping sha256 h log b x)
+    (safe : (h : List Prefix) (log : List Bytes) (x : Ledger) → IsKeeping sha256 h log m x → IsShown sha256 h n m.held → KeptSafe sha256 h mid sees) where
   still_shown : ShowsThen key q (turn batch all.lines ∷ []) [] (along a b saw sees was is)
   still_shown = record {
-    kept = λ h log keeps. kept _ _ (all.shows.kept h log keeps) (all.there h log keeps);
-    safe = λ h log keeps. safe_both _ saw mid sees (all.shows.safe h log keeps) (safe _ _ (all.shows.kept h log keeps) (all.there h log keeps));
+    kept = λ h log keeps. kept _ _ is (all.shows.kept h log keeps) (shown_as _ n is.edge.size m.held same (all.there h log keeps));
+    safe = λ h log keeps. safe_both _ saw mid sees (all.shows.safe h log keeps) (safe _ _ is (all.shows.kept h log keeps) (shown_as _ n is.edge.size m.held same (all.there h log keeps)));
     cosigned = all.shows.cosigned;
   }
 

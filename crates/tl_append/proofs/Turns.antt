@@ -9,18 +9,18 @@ use Rattle.std.proofs.lemmas.Grind.{flat_map-append}
 use Rattle.sha2.specs.Sha256.{sha256}
 use Rattle.tl_hash.specs.Bytes.{Bytes}
 use Rattle.tl_hash.specs.Tree.{tree_hash}
-use Rattle.tl_device.specs.Device.{Passage, WroteWhole}
+use Rattle.tl_device.specs.Device.{WroteWhole}
 use Rattle.tl_tile.specs.declared.resource.Resource.TheVariants as resource
 use Rattle.tl_publisher.specs.Histories.{Prefix}
-use Rattle.tl_archive.specs.Shelves.{Kept}
+use Rattle.tl_archive.specs.Shelves.{Held, Kept}
 use Rattle.tl_archive.specs.Complete.{IsComplete, IsSafe, KeptSafe}
 use Rattle.tl_archive.proofs.Lists.{has_head}
 use Rattle.tl_ledger.specs.Standing.{Ledger, IsStanding}
 use Rattle.tl_ledger.specs.Keeping.{IsKeeping, published}
 use Rattle.tl_ledger.specs.Spent.{IsShown, RemovesSpent}
 use Rattle.tl_command.specs.Mirror.{LogKey, checkpoint_note}
-use Rattle.tl_append.specs.Appending.{Appends, AppendsAtMost, AppendsThen, Course, HasCheckpoint, PrintsHeads, head_line, joined, publication_line, published_after}
-use Rattle.tl_append.specs.Inner.Turns.{Publishes, HasShown}
+use Rattle.tl_append.specs.Appending.{Appends, AppendsAtMost, AppendsThen, Course, HasCheckpoint, PrintsHeads, joined, publication_line, published_after}
+use Rattle.tl_append.specs.Inner.Turns.{HasShown}
 
 -- a shelf and a ledger before and after
 abbrev pub along : Kept → Kept → List Kept → List Kept → Ledger → Ledger → Course
@@ -59,7 +59,7 @@ joined_on xs ys = flat_map-append (λ (batch : List Bytes). batch) xs ys
 pub joined_one : (batch : List Bytes) → joined (batch ∷ []) ≡ batch
 joined_one batch = append-nil batch
 
-published_on : (key : LogKey) (log : List Bytes) (xs ys : List (List Bytes)) → published_after key log (xs ++ ys) ≡ published_after key log xs ++ published_after key (log ++ joined xs) ys
+pub published_on : (key : LogKey) (log : List Bytes) (xs ys : List (List Bytes)) → published_after key log (xs ++ ys) ≡ published_after key log xs ++ published_after key (log ++ joined xs) ys
 published_on key log [] ys = ap (λ (l : List Bytes). published_after key l ys) (sym (append-nil log))
 published_on key log (x ∷ xs) ys =
     ap (λ (ps : List Prefix). published (log ++ x) (checkpoint_note key (log ++ x)) ∷ ps)
@@ -136,24 +136,6 @@ at_most key batch a b saw sees was is grown all = record {
   own = inr (append-nil (batch ++ []) ∙ append-nil batch, grown);
 }
 
--- and its head was printed
-pub one_told : (key : LogKey) (batch : List Bytes) (a b : Kept) (saw sees : List Kept) (was is : Ledger) (size : ℕ) (root : Bytes) (o : Passage)
-    → Appends key (batch ∷ []) (along a b saw sees was is)
-    → size ≡ is.edge.size
-    → ((entries : List Bytes) → IsStanding sha256 entries is → root ≡ tree_hash sha256 entries)
-    → WroteWhole o (head_line size root) → Publishes key batch (along a b saw sees was is) o
-one_told key batch a b saw sees was is size root o all sized rooted wrote = record {
-  appends = all;
-  heads = record {
-    lines = λ h log keeps.
-        let stands : IsStanding sha256 (log ++ batch) is =
-        subst (λ (es : List Bytes). IsStanding sha256 (log ++ es) is) (joined_one batch) (all.kept h log keeps).stands in
-        let told : head_line size root ≡ head_line (length (log ++ batch)) (tree_hash sha256 (log ++ batch)) =
-        ap (λ (n : ℕ). head_line n root) (sized ∙ sym stands.at_edge.0) ∙ ap (head_line (length (log ++ batch))) (rooted (log ++ batch) stands) in
-        subst (WroteWhole o) (told ∙ sym (append-nil (head_line (length (log ++ batch)) (tree_hash sha256 (log ++ batch))))) wrote;
-  };
-}
-
 module _ (key : LogKey) (batch : List Bytes) (a m : Kept) (saw mid : List Kept) (was now : Ledger)
     (safe : (h : List Prefix) (log : List Bytes) → IsKeeping sha256 h log a was → KeptSafe sha256 h saw mid) where
   safe_none : (h : List Prefix) (log : List Bytes) → IsKeeping sha256 h log a was → KeptSafe sha256 (h ++ []) saw mid
@@ -208,13 +190,12 @@ module _ (key : LogKey) (batch : List Bytes) (a m : Kept) (saw mid : List Kept) 
 
       -- its checkpoint is there
       pub one_shown : ((h : List Prefix) (log : List Bytes) → IsKeeping sha256 h log m now → b.held resource.Checkpoint ≡ Some sealed)
-          → (h : List Prefix) (log : List Bytes) → IsKeeping sha256 h log a was → IsShown (h ++ published_after key log (batch ∷ [])) (log ++ joined (batch ∷ [])) b.held
+          → (h : List Prefix) (log : List Bytes) → IsKeeping sha256 h log a was → IsShown sha256 (h ++ published_after key log (batch ∷ [])) now.edge.size b.held
       one_shown there h log keeps =
           let after = put h log keeps in
           let own : Prefix = published (log ++ batch) (checkpoint_note key (log ++ batch)) in
           let is : sealed ≡ checkpoint_note key (log ++ batch) = same ∙ signed (log ++ batch) (after.stands.at_edge.0 ∙ sym sized) (sym (rooted (log ++ batch) after.stands)) in
-          subst (λ (es : List Bytes). IsShown (h ++ own ∷ []) (log ++ es) b.held) (sym (joined_one batch))
-          (checkpoint_note key (log ++ batch), Contains-append_right h (own ∷ []) own (has_head own []), there h (log ++ batch) after ∙ ap (λ (n : Bytes). Some n) is)
+          (own, Contains-append_right h (own ∷ []) own (has_head own []), after.stands.at_edge.0, record { note = there h (log ++ batch) after ∙ ap (λ (n : Bytes). Some n) is; all = (kept h (log ++ batch) after).whole })
 
       pub one_noted : ((h : List Prefix) (log : List Bytes) → IsKeeping sha256 h log m now → b.held resource.Checkpoint ≡ Some sealed) → HasCheckpoint key batch (along a b saw sees was now)
       one_noted there h log keeps =
@@ -233,14 +214,18 @@ safe_both h saw mid sees first then = record {
   each = All-append (IsSafe sha256 h) first.steps then.steps first.each then.each;
 }
 
-pub spent_removed : (key : LogKey) (batch : List Bytes) (a m b : Kept) (saw mid sees : List Kept) (was is : Ledger)
+-- by a size that is the ledger's
+pub shown_as : (h : List Prefix) (n size : ℕ) (held : Held) → n ≡ size → IsShown sha256 h size held → IsShown sha256 h n held
+shown_as h n size held same shown = subst (λ (x : ℕ). IsShown sha256 h x held) (sym same) shown
+
+pub spent_removed : (key : LogKey) (batch : List Bytes) (a m b : Kept) (saw mid sees : List Kept) (was is : Ledger) (n : ℕ) → n ≡ is.edge.size
     → Appends key (batch ∷ []) (along a m saw mid was is) → HasShown key batch (along a m saw mid was is)
-    → ((h : List Prefix) (log : List Bytes) → IsKeeping sha256 h log m is → IsShown h log m.held → IsKeeping sha256 h log b is)
-    → ((h : List Prefix) (log : List Bytes) → IsKeeping sha256 h log m is → IsShown h log m.held → KeptSafe sha256 h mid sees)
+    → ((h : List Prefix) (log : List Bytes) (x : Ledger) → IsKeeping sha256 h log m x → IsShown sha256 h n m.held → IsKeeping sha256 h log b x)
+    → ((h : List Prefix) (log : List Bytes) (x : Ledger) → IsKeeping sha256 h log m x → IsShown sha256 h n m.held → KeptSafe sha256 h mid sees)
     → Appends key (batch ∷ []) (along a b saw sees was is)
-spent_removed key batch a m b saw mid sees was is all shown kept safe = record {
-  kept = λ h log keeps. kept _ _ (all.kept h log keeps) (shown h log keeps);
-  safe = λ h log keeps. safe_both _ saw mid sees (all.safe h log keeps) (safe _ _ (all.kept h log keeps) (shown h log keeps));
+spent_removed key batch a m b saw mid sees was is n same all shown kept safe = record {
+  kept = λ h log keeps. kept _ _ is (all.kept h log keeps) (shown_as _ n is.edge.size m.held same (shown h log keeps));
+  safe = λ h log keeps. safe_both _ saw mid sees (all.safe h log keeps) (safe _ _ is (all.kept h log keeps) (shown_as _ n is.edge.size m.held same (shown h log keeps)));
 }
 
 -- the checkpoint stays

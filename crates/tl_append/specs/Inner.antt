@@ -1,5 +1,7 @@
 -- Private words: what contracts of private functions and proofs need.
 pub
+    mod Due
+pub
     mod Faults
 pub
     mod Proposals

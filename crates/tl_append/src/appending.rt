@@ -1,15 +1,13 @@
 //! Lines of an input that are appended to a log in batches.
 
-ghost use Rattle.std.specs.Prelude.{◌≡◌, ◌<◌, map, vec_items, OnErr, OnOk};
+ghost use Rattle.std.specs.Prelude.{◌≡◌, ◌<◌, OnErr, OnOk};
 ghost use Rattle.tl_device.specs.Device.{passage};
 ghost use Rattle.tl_note.specs.Key.{IsKeyName};
-ghost use Rattle.tl_tile.specs.Bundle.{AreShortEntries};
-ghost use Rattle.tl_append.specs.Appending.{AppendsAtMost, AppendsLines, AppendsSome, course};
-ghost use Rattle.tl_append.specs.Inner.Turns.{Publishes};
+ghost use Rattle.tl_append.specs.Appending.{AppendsLines, AppendsSome, course};
 
-use crate::batch::append_batch;
+use crate::due::{publish_due, put_due};
 use crate::faults::line_fault;
-use crate::printing::print_head;
+use crate::options::Joining;
 use std::alloc::Global;
 use std::io::{Read, Write};
 use tl_archive::Shelf;
@@ -18,44 +16,25 @@ use tl_device::Counted;
 use tl_ledger::Ledger;
 use tl_lines::Lines;
 
-// Appends a batch to a log, publishes that, and prints its head.
-fn publish<K: LogSigner, S: Shelf, W: Write>(
-    alloc: Global,
-    key: &K,
-    batch: &[Vec<u8>],
-    keeps_partials: bool,
-    shelf: &mut S,
-    ledger: &mut Ledger<Global>,
-    writer: &mut Counted<W>,
-) -> Result<(), RunFault>
-    requires origin { IsKeyName (K.log_key key.now).name }
-    requires short { AreShortEntries (map vec_items batch.now) }
-    ensures all { OnOk result (Publishes (K.log_key key.now) (map vec_items batch.now)
-        (course S.kept S.trace shelf.old shelf.new ledger.old ledger.new)
-        (passage W.contents writer.old writer.new)) }
-    ensures part { OnErr result (AppendsAtMost (K.log_key key.now) (map vec_items batch.now)
-        (course S.kept S.trace shelf.old shelf.new ledger.old ledger.new)) }
-    ensures place { S.place shelf.new ≡ S.place shelf.old }
-{
-    match append_batch(alloc, key, batch, keeps_partials, shelf, ledger) {
-        Ok(()) => {}
-        Err(fault) => return Err(fault),
-    }
-    match print_head(alloc, writer, ledger.size(), ledger.root()) {
-        Ok(()) => Ok(()),
-        Err(fault) => Err(fault),
+// Whether what is due waits for the next batch, of so many lines.
+fn waits_for_next(joining: Joining, lines: &Lines<Global>, batch: u64) -> bool {
+    match joining {
+        Joining::Never => false,
+        Joining::AtHand => lines.count().saturating_sub(lines.entries()) >= batch,
+        Joining::Always => true,
     }
 }
 
 /// Appends the lines of the input to the log on the shelf, which is the ledger's, and publishes it after each `batch`
 /// lines, at least 1, and at the end, once at least: each time under a note of its checkpoint by the key, whose name is
-/// the log's. Spent partial tiles are then removed, unless they are kept, and the size and the root printed. It keeps
-/// one batch and the ledger, whatever the log's size. `Operator`: the log would have more than 2^32 - 1 entries.
+/// the log's, alone or with what the next batch adds. Spent partial tiles are then removed, unless they are kept, and
+/// size and root printed. It keeps one batch and the ledger. `Operator`: the log would have more than 2^32 - 1 entries.
 pub fn append_lines<K: LogSigner, S: Shelf, R: Read, W: Write>(
     alloc: Global,
     key: &K,
     batch: u64,
     keeps_partials: bool,
+    joining: Joining,
     shelf: &mut S,
     ledger: &mut Ledger<Global>,
     reader: &mut Counted<R>,
@@ -75,22 +54,48 @@ pub fn append_lines<K: LogSigner, S: Shelf, R: Read, W: Write>(
         Ok(lines) => lines,
         Err(_) => return Err(RunFault::OutOfMemory),
     };
-    let mut is_due = true;
+    let mut due = None;
+    let mut is_first = true;
     for _turn in 0..u64::MAX {
         let entries = match lines.take_most(reader, batch) {
             Ok(entries) => entries,
-            Err(fault) => return Err(line_fault(fault)),
+            Err(fault) => {
+                let _ = publish_due(alloc, keeps_partials, shelf, ledger, &mut due, writer);
+                return Err(line_fault(fault));
+            }
         };
-        if entries.is_empty() && !is_due {
-            return Ok(());
+        if entries.is_empty() && !is_first {
+            match publish_due(alloc, keeps_partials, shelf, ledger, &mut due, writer) {
+                Ok(()) => return Ok(()),
+                Err(fault) => return Err(fault),
+            }
         }
         let batched = entries.as_slice();
-        match publish(alloc, key, batched, keeps_partials, shelf, ledger, writer) {
-            Ok(()) => is_due = false,
+        match put_due(
+            alloc,
+            key,
+            batched,
+            keeps_partials,
+            shelf,
+            ledger,
+            &mut due,
+            writer,
+        ) {
+            Ok(()) => is_first = false,
             Err(fault) => return Err(fault),
         }
         if (entries.len() as u64) < batch {
-            return Ok(());
+            match publish_due(alloc, keeps_partials, shelf, ledger, &mut due, writer) {
+                Ok(()) => return Ok(()),
+                Err(fault) => return Err(fault),
+            }
+        }
+        if waits_for_next(joining, &lines, batch) {
+            continue;
+        }
+        match publish_due(alloc, keeps_partials, shelf, ledger, &mut due, writer) {
+            Ok(()) => {}
+            Err(fault) => return Err(fault),
         }
     }
     Err(RunFault::Operator)

@@ -16,10 +16,10 @@ use crate::faults::{unkept, unput};
 use std::alloc::Global;
 use tl_archive::Shelf;
 use tl_command::{LogSigner, RunFault, sign_checkpoint};
-use tl_ledger::Ledger;
+use tl_ledger::{Ledger, remove_spent};
 
-// The most entries of a log.
-const MOST_ENTRIES: u64 = 4_294_967_295;
+/// The most entries of a log.
+pub(crate) const MOST_ENTRIES: u64 = 4_294_967_295;
 
 /// Puts a batch behind a log. `Operator`: it has no room for it, and nothing was put.
 pub(crate) fn put_batch<S: Shelf>(
@@ -129,7 +129,7 @@ pub fn append_batch<K: LogSigner, S: Shelf>(
     if keeps_partials {
         return Ok(());
     }
-    match ledger.remove_spent(shelf, from) {
+    match remove_spent(shelf, from, ledger.size()) {
         Ok(()) => Ok(()),
         Err(fault) => Err(unkept(fault)),
     }

@@ -4,7 +4,7 @@
 //! ```
 //! let mut found = Found::new(alloc);
 //! run_append(
-//!     &rt, alloc, &options, &mut shelf, &store, &mut found, &mut reader, &mut writer,
+//!     &rt, alloc, &options, Joining::AtHand, &mut shelf, &store, &mut found, &mut reader, &mut writer,
 //! )?; // prints `2 n5+..`
 //! let sealer = Cosigners::new(asker, quorum); // or `AsSigned`, where nobody has to cosign
 //! let mut cosigned = SealedShelf::new(shelf, store, sealer, false);
@@ -16,6 +16,7 @@
 mod appending;
 mod batch;
 mod cosigners;
+mod due;
 mod faults;
 mod keys;
 mod log_shelf;
@@ -34,7 +35,7 @@ pub use faults::line_fault;
 pub use keys::{LogKeys, LogOpeningKey, LogSigningKey, keys_of};
 pub use log_shelf::{LogShelf, OpenedLog};
 pub use opening::open_ledger;
-pub use options::AppendOptions;
+pub use options::{AppendOptions, Joining};
 pub use proposal::{NoProposals, ProposalStore};
 pub use running::run_append;
 pub use sealed_shelf::SealedShelf;

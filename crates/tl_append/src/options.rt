@@ -4,6 +4,18 @@ ghost use Rattle.std.specs.Prelude.{◌≡◌, ◌<◌};
 
 use tl_command::LogKey;
 
+/// When a batch is published together with what the next one adds, and not by itself: a shelf that waits for its disk
+/// waits half as often then.
+#[derive(Clone, Copy, Debug, PartialEq, Eq)]
+pub enum Joining {
+    /// Never.
+    Never,
+    /// Where the next one was read already, so that nothing that is to be published waits for the input.
+    AtHand,
+    /// Wherever there is a next one: the input keeps nobody waiting, as a plain file doesn't.
+    Always,
+}
+
 /// The options of `append`, and of `build` into a folder.
 #[derive(Drop)]
 pub struct AppendOptions {

@@ -15,7 +15,7 @@ use crate::appending::append_lines;
 use crate::faults::taken;
 use crate::keys::{LogKeys, keys_of};
 use crate::opening::open_ledger;
-use crate::options::AppendOptions;
+use crate::options::{AppendOptions, Joining};
 use crate::proposal::ProposalStore;
 use std::alloc::Global;
 use std::fs::Files;
@@ -31,6 +31,7 @@ fn append_under<S: Shelf, P: ProposalStore, R: Read, W: Write>(
     alloc: Global,
     keys: LogKeys,
     options: &AppendOptions,
+    joining: Joining,
     shelf: &mut S,
     store: &P,
     found: &mut Found<Global>,
@@ -69,6 +70,7 @@ fn append_under<S: Shelf, P: ProposalStore, R: Read, W: Write>(
         &signer,
         batch,
         keeps,
+        joining,
         shelf,
         &mut ledger,
         reader,
@@ -87,6 +89,7 @@ pub fn run_append<H: Files, S: Shelf, P: ProposalStore, R: Read, W: Write>(
     rt: &H,
     alloc: Global,
     options: &AppendOptions,
+    joining: Joining,
     shelf: &mut S,
     store: &P,
     found: &mut Found<Global>,
@@ -118,7 +121,9 @@ pub fn run_append<H: Files, S: Shelf, P: ProposalStore, R: Read, W: Write>(
         Ok(keys) => keys,
         Err(fault) => return Err(fault),
     };
-    match append_under(alloc, keys, options, shelf, store, found, reader, writer) {
+    match append_under(
+        alloc, keys, options, joining, shelf, store, found, reader, writer,
+    ) {
         Ok(()) => Ok(()),
         Err(fault) => Err(fault),
     }

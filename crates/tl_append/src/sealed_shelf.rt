@@ -18,7 +18,7 @@ use crate::sealing::SealsNotes;
 use std::alloc::Global;
 use tl_archive::Shelf;
 use tl_command::{LogSigner, RunFault, sign_checkpoint};
-use tl_ledger::{Found, Ledger};
+use tl_ledger::{Found, Ledger, remove_spent};
 
 // The note of the log's checkpoint by the key, as it is shown.
 fn sealed_note<K: LogSigner, P: ProposalStore, Z: SealsNotes>(
@@ -193,7 +193,7 @@ impl<S: Shelf + Drop, P: ProposalStore + Drop, Z: SealsNotes + Drop> LogShelf
         if self.keeps_partials {
             return Ok(());
         }
-        match ledger.remove_spent(&mut self.shelf, from) {
+        match remove_spent(&mut self.shelf, from, ledger.size()) {
             Ok(()) => Ok(()),
             Err(fault) => Err(unkept(fault)),
         }

@@ -20,7 +20,7 @@ use std::net::{Net, TcpListener, TcpStream};
 use std::os::fd::RawFd;
 use std::random::RandomSource;
 use std::time::Clock;
-use tl_append::{AppendOptions, AsSigned, NoProposals, SealedShelf, run_append};
+use tl_append::{AppendOptions, AsSigned, Joining, NoProposals, SealedShelf, run_append};
 use tl_bucket::{BucketShelf, PutsTogether, finish_log};
 use tl_command::RunFault;
 use tl_device::Counted;
@@ -76,6 +76,7 @@ fn finish_and_append<
         rt,
         alloc,
         options,
+        Joining::Never,
         &mut shelf,
         &NoProposals,
         &mut found,

@@ -15,7 +15,7 @@ use std::fs::{File, Files};
 use std::io::{Read, Write};
 use std::net::{Net, TcpListener, TcpStream};
 use std::os::fd::RawFd;
-use tl_append::{AppendOptions, run_append};
+use tl_append::{AppendOptions, Joining, run_append};
 use tl_command::{Place, RunFault, print_text};
 use tl_device::{Counted, DeviceFault};
 use tl_folder::{CrashOutcome, DurableAppend, LineStream, stream_lines};
@@ -25,6 +25,14 @@ use tl_note::is_key_name;
 use tl_serve::{
     Host, KnownLogs, ServeOptions, WitnessFault, WitnessOptions, run_serve, run_witness,
 };
+
+// How the batches of standard input are joined: no read of a plain file waits for who writes there.
+fn joining_of<H: Files>(rt: &H) -> Joining {
+    match rt.metadata("/dev/stdin") {
+        Ok(metadata) if metadata.is_file() => Joining::Always,
+        _ => Joining::AtHand,
+    }
+}
 
 /// Appends the lines of the input to the log in a folder, where no other process works meanwhile. The folder is then in
 /// `folder`, where it could be opened.
@@ -65,8 +73,9 @@ pub(crate) fn append<
     };
     let path = path.as_str();
     let store = ReadProposal { rt, path };
+    let joining = joining_of(rt);
     let outcome = run_append(
-        rt, alloc, options, &mut shelf, &store, &mut found, reader, writer,
+        rt, alloc, options, joining, &mut shelf, &store, &mut found, reader, writer,
     );
     *folder = Some(OwnFolder { lock, shelf, found });
     outcome

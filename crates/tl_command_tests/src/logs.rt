@@ -9,7 +9,7 @@ use std::io::Read;
 use std::net::{Net, TcpListener, TcpStream};
 use std::str;
 use std::thread::Threads;
-use tl_append::{AppendOptions, AsSigned, NoProposals, SealedShelf, run_append};
+use tl_append::{AppendOptions, AsSigned, Joining, NoProposals, SealedShelf, run_append};
 use tl_command::{HmacLogSigner, LogKey, RunFault, run_build};
 use tl_device::Counted;
 use tl_folder::{AnyOutcome, FolderShelf};
@@ -116,6 +116,7 @@ pub fn go_on<
         rt,
         alloc,
         &options,
+        Joining::Never,
         &mut shelf,
         &NoProposals,
         &mut found,

@@ -4,7 +4,7 @@ use Rattle.std.specs.Prelude.{Contains}
 use Rattle.std.proofs.Math.Nat.{div-mul-le_self}
 use Rattle.std.proofs.lemmas.Bool.{cases_lt}
 use Rattle.std.proofs.lemmas.Nat.{le-div, pow-add}
-use Rattle.std.proofs.lemmas.List.{append-nil}
+use Rattle.std.proofs.lemmas.List.{append-nil, length-append}
 use Rattle.std.proofs.lemmas.List.Elements.{All-nil}
 use Rattle.sha2.specs.Sha256.{sha256}
 use Rattle.tl_hash.specs.Bytes.{Bytes}
@@ -14,14 +14,14 @@ use Rattle.tl_tile.specs.TileText.{level_count}
 use Rattle.tl_tile.specs.Needed.{needed_resources}
 use Rattle.tl_tile.proofs.Levels.{next_power, positive_256}
 use Rattle.tl_tile.proofs.TileTexts.{scaled_le}
-use Rattle.tl_publisher.specs.Histories.{Prefix}
+use Rattle.tl_publisher.specs.Histories.{Prefix, Begins}
 use Rattle.tl_publisher.proofs.Needs.{needs_tile, needs_bundle}
 use Rattle.tl_archive.specs.Shelves.{Item, Held, Kept, MayLeave}
 use Rattle.tl_archive.specs.Complete.{text_of, HasAll, IsSafe, KeptSafe}
 use Rattle.tl_archive.proofs.Lists.{none_has, all_is}
 use Rattle.tl_archive.proofs.Stays.{does_need}
 use Rattle.tl_ledger.specs.Standing.{Ledger}
-use Rattle.tl_ledger.specs.Keeping.{IsKeeping, published}
+use Rattle.tl_ledger.specs.Keeping.{IsKeeping}
 use Rattle.tl_ledger.specs.Spent.{IsSpent, RemovesSpent, LacksSpent, IsShown}
 use Rattle.tl_ledger.specs.Inner.Spending.{Sheds, IsPartialAt, LacksAt, LacksLevel}
 use Rattle.tl_ledger.proofs.Staging.{all_join}
@@ -104,18 +104,16 @@ span_small (suc zero) span low is = (omega (arith, is), omega (arith, is))
 span_small (suc (suc zero)) span low is = (omega (arith, is), omega (arith, is))
 span_small (suc (suc (suc d))) span low is = absurd (omega (arith, low))
 
-pub level_sheds : (level span size own : ℕ) (a b c : Kept) (saw mid sees : List Kept) → span ≡ 256 ^ level → own ≡ size → Sheds size a b saw mid
-    → ((n : ℕ) → own / (span * 256) * 256 ^ (level + 1) ≤ n → Sheds n b c mid sees) → Sheds size a c saw sees
-level_sheds level span size own a b c saw mid sees is sized first then =
-    let within : own / (span * 256) * 256 ^ (level + 1) ≤ size =
-    subst (λ (u : ℕ). own / (span * 256) * u ≤ size) (span_on level span is) (omega (arith, div-mul-le_self own (span * 256), sized)) in
+pub level_sheds : (level span size : ℕ) (a b c : Kept) (saw mid sees : List Kept) → span ≡ 256 ^ level → Sheds size a b saw mid
+    → ((n : ℕ) → size / (span * 256) * 256 ^ (level + 1) ≤ n → Sheds n b c mid sees) → Sheds size a c saw sees
+level_sheds level span size a b c saw mid sees is first then =
+    let within : size / (span * 256) * 256 ^ (level + 1) ≤ size =
+    subst (λ (u : ℕ). size / (span * 256) * u ≤ size) (span_on level span is) (div-mul-le_self size (span * 256)) in
     sheds_on size a b c saw mid sees first (then size within)
 
-pub level_gone : (level span from size own : ℕ) (held : Held) → span ≡ 256 ^ level → own ≡ size
-    → LacksLevel level (from / (span * 256)) (own / (span * 256)) held → LacksLevel level (from / 256 ^ (level + 1)) (size / 256 ^ (level + 1)) held
-level_gone level span from size own held is sized lacks =
-    subst (λ (u : ℕ). LacksLevel level (from / u) (size / u) held) (span_on level span is)
-    (subst (λ (n : ℕ). LacksLevel level (from / (span * 256)) (n / (span * 256)) held) sized lacks)
+pub level_gone : (level span from size : ℕ) (held : Held) → span ≡ 256 ^ level
+    → LacksLevel level (from / (span * 256)) (size / (span * 256)) held → LacksLevel level (from / 256 ^ (level + 1)) (size / 256 ^ (level + 1)) held
+level_gone level span from size held is lacks = subst (λ (u : ℕ). LacksLevel level (from / u) (size / u) held) (span_on level span is) lacks
 
 -- a log of fewer than 2 ^ 32 entries has no two full tiles above the third level
 low_level : (level index size : ℕ) → size < 2 ^ 32 → (index + 2) * 256 ^ (level + 1) ≤ size → level < 3
@@ -180,52 +178,63 @@ needed_unspent size (resource.Entries index width) has spent =
     ]
 needed_unspent size resource.Checkpoint has spent = absurd spent
 
-module _ (history : List Prefix) (log : List Bytes) (a : Kept) (ledger : Ledger) (was : IsKeeping sha256 history log a ledger) (shown : IsShown history log a.held) where
-  -- by the size that the ledger has
-  spent_of : (k : Kept) → RemovesSpent ledger.edge.size a k → RemovesSpent (length log) a k
-  spent_of k part = subst (λ (n : ℕ). RemovesSpent n a k) (sym was.stands.at_edge.0) part
+-- what is spent stays so in a longer log
+spent_on : (size more : ℕ) (r : Resource) → size ≤ more → IsSpent size r → IsSpent more r
+spent_on size more (resource.Tile t) le spent = (spent.0, omega (arith, le, spent.1))
+spent_on size more (resource.Entries index width) le spent = (spent.0, omega (arith, le, spent.1))
+spent_on size more resource.Checkpoint le spent = absurd spent
 
-  all_stays : (k : Kept) → RemovesSpent (length log) a k → HasAll sha256 log k.held
-  all_stays k part r needed =
-      elim (part.others r) as (λ _. k.held r ≡ Some (text_of sha256 r log)) [
-        | inl same ↦ same ∙ was.whole r needed
-        | inr gone ↦ absurd (needed_unspent (length log) r needed gone.0)
+begins_shorter : (front log : List Bytes) → Begins front log → length front ≤ length log
+begins_shorter front log (more, is) = omega (arith, ap (λ (x : List Bytes). length x) is, length-append front more)
+
+module _ (history : List Prefix) (log : List Bytes) (a : Kept) (ledger : Ledger) (was : IsKeeping sha256 history log a ledger) (size : ℕ) (shown : IsShown sha256 history size a.held) where
+  abbrev P : Prefix
+  P = shown.0
+
+  within_log : size ≤ length log
+  within_log = omega (arith, shown.2, begins_shorter P.entries log (was.begins P shown.1))
+
+  -- what a log needs that is no shorter than the one that is shown
+  all_stays : (k : Kept) (entries : List Bytes) → RemovesSpent size a k → size ≤ length entries → HasAll sha256 entries a.held → HasAll sha256 entries k.held
+  all_stays k entries part le all r needed =
+      elim (part.others r) as (λ _. k.held r ≡ Some (text_of sha256 r entries)) [
+        | inl same ↦ same ∙ all r needed
+        | inr gone ↦ absurd (needed_unspent (length entries) r needed (spent_on size (length entries) r le gone.0))
       ]
 
-  note_stays : (k : Kept) → RemovesSpent (length log) a k → k.held resource.Checkpoint ≡ Some shown.0
+  note_stays : (k : Kept) → RemovesSpent size a k → k.held resource.Checkpoint ≡ Some P.note
   note_stays k part =
-      elim (part.others resource.Checkpoint) as (λ _. k.held resource.Checkpoint ≡ Some shown.0) [
-        | inl same ↦ same ∙ shown.2
+      elim (part.others resource.Checkpoint) as (λ _. k.held resource.Checkpoint ≡ Some P.note) [
+        | inl same ↦ same ∙ shown.3.note
         | inr gone ↦ absurd gone.0
       ]
 
   -- nothing is staged, so a crash leaves what is there
-  leaves : (k : Kept) (left : Held) → RemovesSpent (length log) a k → MayLeave k left → (r : Resource) → left r ≡ k.held r
+  leaves : (k : Kept) (left : Held) → RemovesSpent size a k → MayLeave k left → (r : Resource) → left r ≡ k.held r
   leaves k left part may r =
       elim (may r) as (λ _. left r ≡ k.held r) [
         | inl same ↦ same
         | inr own ↦ absurd (none_has (r, own.0) (subst (λ (x : List Item). Contains x (r, own.0)) (part.staged ∙ was.rests) own.2))
       ]
 
-  safe_after : (k : Kept) → RemovesSpent (length log) a k → IsSafe sha256 history k
+  safe_after : (k : Kept) → RemovesSpent size a k → IsSafe sha256 history k
   safe_after k part left may =
       let same = leaves k left part may in
-      inr (published log shown.0, shown.1, record { note = same resource.Checkpoint ∙ note_stays k part; all = λ r needed. same r ∙ all_stays k part r needed })
+      let own : HasAll sha256 P.entries k.held = all_stays k P.entries part (omega (arith, shown.2)) shown.3.all in
+      inr (P, shown.1, record { note = same resource.Checkpoint ∙ note_stays k part; all = λ r needed. same r ∙ own r needed })
 
-  pub spent_kept : (b : Kept) → RemovesSpent ledger.edge.size a b → IsKeeping sha256 history log b ledger
-  spent_kept b removes =
-      let part = spent_of b removes in
-      record {
-        stands = was.stands;
-        begins = was.begins;
-        rests = part.staged ∙ was.rests;
-        safe = safe_after b part;
-        whole = all_stays b part;
-      }
+  pub spent_kept : (b : Kept) → RemovesSpent size a b → IsKeeping sha256 history log b ledger
+  spent_kept b part = record {
+    stands = was.stands;
+    begins = was.begins;
+    rests = part.staged ∙ was.rests;
+    safe = safe_after b part;
+    whole = all_stays b log part within_log was.whole;
+  }
 
-  pub spent_safe : (b : Kept) (saw sees : List Kept) → Sheds ledger.edge.size a b saw sees → KeptSafe sha256 history saw sees
+  pub spent_safe : (b : Kept) (saw sees : List Kept) → Sheds size a b saw sees → KeptSafe sha256 history saw sees
   spent_safe b saw sees sheds = record {
     steps = sheds.steps;
     trace = sheds.trace;
-    each = all_is (RemovesSpent ledger.edge.size a) (IsSafe sha256 history) sheds.steps (λ k part. safe_after k (spent_of k part)) sheds.each;
+    each = all_is (RemovesSpent size a) (IsSafe sha256 history) sheds.steps safe_after sheds.each;
   }

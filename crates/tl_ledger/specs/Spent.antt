@@ -1,11 +1,11 @@
 -- Partial tiles and bundles that a log needs no more (C2SP tlog-tiles, "Partial Tiles").
-use Rattle.std.specs.Prelude.{◌≡◌, ℕ, ◌+◌, ◌*◌, ◌^◌, ◌<◌, ◌≤◌, ◌⊎◌, List, Some, None, Contains}
-use Rattle.tl_hash.specs.Bytes.{Bytes}
+use Rattle.std.specs.Prelude.{◌≡◌, ℕ, ◌+◌, ◌*◌, ◌^◌, ◌<◌, ◌≤◌, ◌⊎◌, List, length, None, Contains}
+use Rattle.tl_hash.specs.Bytes.{Digest}
 use Rattle.tl_tile.specs.declared.resource.Resource.{Resource}
 use Rattle.tl_tile.specs.declared.resource.Resource.TheVariants as resource
 use Rattle.tl_publisher.specs.Histories.{Prefix}
+use Rattle.tl_archive.specs.Complete.{IsFor}
 use Rattle.tl_archive.specs.Shelves.{Held, Kept}
-use Rattle.tl_ledger.specs.Keeping.{published}
 
 -- a partial tile or bundle in a log of so many entries, where the full one is there, and the full one behind it, too
 abbrev pub IsSpent : ℕ → Resource → Type 0
@@ -34,7 +34,6 @@ pub record RemovesSpent (size : ℕ) (a b : Kept) : Type 0 where
 abbrev pub LacksSpent : ℕ → ℕ → Held → Type 0
 LacksSpent from size held = (r : Resource) → IsSpentSince from size r → held r ≡ None
 
--- the checkpoint that is there is that of a publication of the whole log
-abbrev pub IsShown : List Prefix → List Bytes → Held → Type 0
-IsShown history log held =
-    (note : Bytes) × Contains history (published log note) × (held resource.Checkpoint ≡ Some note)
+-- the checkpoint that is there is that of a publication of so many entries, with all that it needs
+abbrev pub IsShown : Digest → List Prefix → ℕ → Held → Type 0
+IsShown H history size held = (p : Prefix) × Contains history p × (length p.entries ≡ size) × IsFor H p held

@@ -7,11 +7,10 @@ ghost use Rattle.tl_publisher.specs.Histories.{Prefix};
 ghost use Rattle.tl_archive.specs.Complete.{KeptSafe};
 ghost use Rattle.tl_archive.specs.Shelves.{Fails};
 ghost use Rattle.tl_ledger.specs.Keeping.{IsKeeping};
+ghost use Rattle.tl_ledger.specs.Standing.{Ledger};
 ghost use Rattle.tl_ledger.specs.Spent.{IsShown, LacksSpent, RemovesSpent};
 ghost use Rattle.tl_ledger.specs.Inner.Spending.{LacksAt, LacksLevel, Sheds};
 
-use crate::ledger::Ledger;
-use std::alloc::Allocator;
 use tl_archive::{Shelf, ShelfFault};
 use tl_tile::{Resource, Tile};
 
@@ -58,33 +57,30 @@ fn remove_level<S: Shelf>(shelf: &mut S, level: u32, had: u64, has: u64) -> Resu
     Ok(())
 }
 
-impl<A: Allocator + Copy> Ledger<A> {
-    /// Removes the partial tiles and bundles that are spent since the log had `from` entries (C2SP tlog-tiles,
-    /// "Partial Tiles"): those of which the full one is there, and the full one behind it, too, so that who reads by
-    /// an earlier checkpoint has a while to do so. Its checkpoint has to be there.
-    pub fn remove_spent<S: Shelf>(&self, shelf: &mut S, from: u64) -> Result<(), ShelfFault>
-        requires small { self.now.edge.size < 2 ^ 32 }
-        ensures kept { (history : List Prefix) (log : List Bytes)
-            → IsKeeping sha256 history log (S.kept shelf.old) self.now
-            → IsShown history log (S.kept shelf.old).held
-            → IsKeeping sha256 history log (S.kept shelf.new) self.now }
-        ensures safe { (history : List Prefix) (log : List Bytes)
-            → IsKeeping sha256 history log (S.kept shelf.old) self.now
-            → IsShown history log (S.kept shelf.old).held
-            → KeptSafe sha256 history (S.trace shelf.old) (S.trace shelf.new) }
-        ensures spent { RemovesSpent self.now.edge.size (S.kept shelf.old) (S.kept shelf.new) }
-        ensures gone { OnOk result
-            (LacksSpent from self.now.edge.size (S.kept shelf.new).held) }
-        ensures unfailed { OnOk result (S.faults shelf.new ≡ S.faults shelf.old) }
-        ensures failed { OnErr result (Fails (S.faults shelf.old) (S.faults shelf.new)) }
-        ensures place { S.place shelf.new ≡ S.place shelf.old }
-        ensures mark { S.published shelf.new ≡ S.published shelf.old }
-    {
-        let mut span: u64 = 1;
-        for level in 0..3u32 {
-            span *= 256;
-            remove_level(shelf, level, from / span, self.size() / span)?;
-        }
-        Ok(())
+/// Removes the partial tiles and bundles that are spent since the log had `from` entries (C2SP tlog-tiles, "Partial
+/// Tiles"), where the checkpoint of `size` entries is there: those of which the full one is there, and the full one
+/// behind it, too, so that who reads by an earlier checkpoint has a while to do so. More may have been put since.
+pub fn remove_spent<S: Shelf>(shelf: &mut S, from: u64, size: u64) -> Result<(), ShelfFault>
+    requires small { size < 2 ^ 32 }
+    ensures kept { (history : List Prefix) (log : List Bytes) (ledger : Ledger)
+        → IsKeeping sha256 history log (S.kept shelf.old) ledger
+        → IsShown sha256 history size (S.kept shelf.old).held
+        → IsKeeping sha256 history log (S.kept shelf.new) ledger }
+    ensures safe { (history : List Prefix) (log : List Bytes) (ledger : Ledger)
+        → IsKeeping sha256 history log (S.kept shelf.old) ledger
+        → IsShown sha256 history size (S.kept shelf.old).held
+        → KeptSafe sha256 history (S.trace shelf.old) (S.trace shelf.new) }
+    ensures spent { RemovesSpent size (S.kept shelf.old) (S.kept shelf.new) }
+    ensures gone { OnOk result (LacksSpent from size (S.kept shelf.new).held) }
+    ensures unfailed { OnOk result (S.faults shelf.new ≡ S.faults shelf.old) }
+    ensures failed { OnErr result (Fails (S.faults shelf.old) (S.faults shelf.new)) }
+    ensures place { S.place shelf.new ≡ S.place shelf.old }
+    ensures mark { S.published shelf.new ≡ S.published shelf.old }
+{
+    let mut span: u64 = 1;
+    for level in 0..3u32 {
+        span *= 256;
+        remove_level(shelf, level, from / span, size / span)?;
     }
+    Ok(())
 }

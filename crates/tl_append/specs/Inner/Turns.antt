@@ -2,25 +2,19 @@
 use Rattle.std.specs.Prelude.{◌≡◌, List, [], ◌∷◌, ◌++◌}
 use Rattle.sha2.specs.Sha256.{sha256}
 use Rattle.tl_hash.specs.Bytes.{Bytes}
-use Rattle.tl_device.specs.Device.{Passage}
 use Rattle.tl_publisher.specs.Histories.{Prefix}
 use Rattle.tl_ledger.specs.Standing.{Ledger, IsStanding}
 use Rattle.tl_ledger.specs.Keeping.{IsKeeping}
 use Rattle.tl_ledger.specs.Spent.{IsShown}
 use Rattle.tl_command.specs.Mirror.{LogKey, checkpoint_note}
-use Rattle.tl_append.specs.Appending.{Appends, Course, PrintsHeads, joined, published_after}
-use Rattle.tl_append.specs.Cosigning.{HasCosigned, Quorum, ShowsThen, Turn, entries_of, shown_after}
+use Rattle.tl_append.specs.Appending.{Course, published_after}
+use Rattle.tl_append.specs.Cosigning.{HasCosigned, Quorum, ShowsThen, Turn, shown_after}
 
 -- the checkpoint that is there is that of the log with the batch behind it
 abbrev pub HasShown : LogKey → List Bytes → Course → Type 0
 HasShown key batch c =
     (history : List Prefix) (log : List Bytes) → IsKeeping sha256 history log c.before c.was
-    → IsShown (history ++ published_after key log (batch ∷ [])) (log ++ joined (batch ∷ [])) c.after.held
-
--- a batch was published, and its head printed
-pub record Publishes (key : LogKey) (batch : List Bytes) (c : Course) (o : Passage) : Type 0 where
-  pub appends : Appends key (batch ∷ []) c
-  pub heads : PrintsHeads key (batch ∷ []) c o
+    → IsShown sha256 (history ++ published_after key log (batch ∷ [])) c.is.edge.size c.after.held
 
 -- a batch with lines of witnesses
 abbrev pub turn : List Bytes → Bytes → Turn
@@ -36,5 +30,5 @@ pub record SealsBatch (key : LogKey) (q : Quorum) (batch : List Bytes) (c : Cour
   pub lines : Bytes
   pub shows : ShowsThen key q (turn batch lines ∷ []) [] c
   pub there : (history : List Prefix) (log : List Bytes) → IsKeeping sha256 history log c.before c.was
-      → IsShown (history ++ shown_after key log (turn batch lines ∷ [])) ((log ++ entries_of (turn batch lines ∷ [])) ++ []) c.after.held
+      → IsShown sha256 (history ++ shown_after key log (turn batch lines ∷ [])) c.is.edge.size c.after.held
   pub cosigned : HasCosigned key q batch c

@@ -7,7 +7,7 @@ pub returns-in-Ok-remove_spent-clause-all : goal.returns-in-Ok-remove_spent-clau
 returns-in-Ok-remove_spent-clause-all g c =
     spent_removed (g.K.LogSigner.log_key c.args.key.now) (map vec_items c.args.batch.now) (g.S.Shelf.kept c.args.shelf.now) (g.S.Shelf.kept c.publish_batch.new.shelf) (g.S.Shelf.kept c.remove_spent.new.shelf)
     (g.S.Shelf.trace c.args.shelf.now) (g.S.Shelf.trace c.publish_batch.new.shelf) (g.S.Shelf.trace c.remove_spent.new.shelf) c.args.ledger.now c.publish_batch.new.ledger
-    c.in-Ok.ensures.all c.in-Ok.ensures.shown c.remove_spent.ensures.kept c.remove_spent.ensures.safe
+    c.size.result c.size.ensures c.in-Ok.ensures.all c.in-Ok.ensures.shown c.remove_spent.ensures.kept c.remove_spent.ensures.safe
 
 pub returns-in-Err-remove_spent-clause-part : goal.returns-in-Err-remove_spent-clause-part
 returns-in-Err-remove_spent-clause-part g c =
@@ -16,7 +16,7 @@ returns-in-Err-remove_spent-clause-part g c =
     (omega (arith, c.in-Ok.ensures.sized, length-map c.args.batch.now vec_items))
     (spent_removed (g.K.LogSigner.log_key c.args.key.now) (map vec_items c.args.batch.now) (g.S.Shelf.kept c.args.shelf.now) (g.S.Shelf.kept c.publish_batch.new.shelf) (g.S.Shelf.kept c.remove_spent.new.shelf)
     (g.S.Shelf.trace c.args.shelf.now) (g.S.Shelf.trace c.publish_batch.new.shelf) (g.S.Shelf.trace c.remove_spent.new.shelf) c.args.ledger.now c.publish_batch.new.ledger
-    c.in-Ok.ensures.all c.in-Ok.ensures.shown c.remove_spent.ensures.kept c.remove_spent.ensures.safe)
+    c.size.result c.size.ensures c.in-Ok.ensures.all c.in-Ok.ensures.shown c.remove_spent.ensures.kept c.remove_spent.ensures.safe)
 
 pub returns-in-Ok-remove_spent-clause-there : goal.returns-in-Ok-remove_spent-clause-there
 returns-in-Ok-remove_spent-clause-there g c =

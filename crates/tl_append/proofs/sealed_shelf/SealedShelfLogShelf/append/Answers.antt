@@ -10,13 +10,13 @@ pub returns-in-Ok-remove_spent-clause-all : goal.returns-in-Ok-remove_spent-clau
 returns-in-Ok-remove_spent-clause-all g c =
     spent_shown (g.K.LogSigner.log_key c.args.key.now) (g.Z.SealsNotes.quorum c.args.self.now.sealer) (map vec_items c.args.batch.now) (g.S.Shelf.kept c.args.self.now.shelf) (g.S.Shelf.kept c.show.new.self.shelf) (g.S.Shelf.kept c.remove_spent.new.shelf)
     (g.S.Shelf.trace c.args.self.now.shelf) (g.S.Shelf.trace c.show.new.self.shelf) (g.S.Shelf.trace c.remove_spent.new.shelf) c.args.ledger.now c.show.new.ledger
-    c.in-Ok.ensures.all c.remove_spent.ensures.kept c.remove_spent.ensures.safe
+    c.in-Ok.ensures.all c.size.result c.size.ensures c.remove_spent.ensures.kept c.remove_spent.ensures.safe
 
 pub returns-in-Err-remove_spent-clause-part : goal.returns-in-Err-remove_spent-clause-part
 returns-in-Err-remove_spent-clause-part g c =
     spent_at_most (g.K.LogSigner.log_key c.args.key.now) (g.Z.SealsNotes.quorum c.args.self.now.sealer) (map vec_items c.args.batch.now) (g.S.Shelf.kept c.args.self.now.shelf) (g.S.Shelf.kept c.show.new.self.shelf) (g.S.Shelf.kept c.remove_spent.new.shelf)
     (g.S.Shelf.trace c.args.self.now.shelf) (g.S.Shelf.trace c.show.new.self.shelf) (g.S.Shelf.trace c.remove_spent.new.shelf) c.args.ledger.now c.show.new.ledger
-    c.in-Ok.ensures.all c.remove_spent.ensures.kept c.remove_spent.ensures.safe
+    c.in-Ok.ensures.all c.size.result c.size.ensures c.remove_spent.ensures.kept c.remove_spent.ensures.safe
     (omega (arith, c.in-Ok.ensures.sized, length-map c.args.batch.now vec_items))
 
 pub returns-then-self-clause-there : goal.returns-then-self-clause-there
@@ -26,4 +26,4 @@ pub returns-in-Ok-remove_spent-clause-there : goal.returns-in-Ok-remove_spent-cl
 returns-in-Ok-remove_spent-clause-there g c =
     spent_cosigned (g.K.LogSigner.log_key c.args.key.now) (g.Z.SealsNotes.quorum c.args.self.now.sealer) (map vec_items c.args.batch.now) (g.S.Shelf.kept c.args.self.now.shelf) (g.S.Shelf.kept c.show.new.self.shelf) (g.S.Shelf.kept c.remove_spent.new.shelf)
     (g.S.Shelf.trace c.args.self.now.shelf) (g.S.Shelf.trace c.show.new.self.shelf) (g.S.Shelf.trace c.remove_spent.new.shelf) c.args.ledger.now c.show.new.ledger
-    c.in-Ok.ensures.all c.remove_spent.ensures.kept c.remove_spent.ensures.safe _ c.remove_spent.ensures.spent
+    c.in-Ok.ensures.all c.size.result c.size.ensures c.remove_spent.ensures.kept c.remove_spent.ensures.safe _ c.remove_spent.ensures.spent

@@ -1,0 +1,36 @@
+-- A publication that is due: its entries were put and its note signed, and that isn't on the shelf yet.
+use Rattle.std.specs.Prelude.{◌≡◌, ⊤, List, [], ◌∷◌, ◌++◌, Option, Some, None, string_bytes}
+use Rattle.std.specs.List.{flat_map}
+use Rattle.sha2.specs.Sha256.{sha256}
+use Rattle.tl_hash.specs.Bytes.{Bytes}
+use Rattle.tl_device.specs.Device.{Passage, WroteWhole}
+use Rattle.tl_publisher.specs.Histories.{Prefix}
+use Rattle.tl_archive.specs.Complete.{KeptSafe}
+use Rattle.tl_ledger.specs.Standing.{Ledger, IsStanding}
+use Rattle.tl_ledger.specs.Keeping.{IsKeeping, published}
+use Rattle.tl_command.specs.Mirror.{LogKey, checkpoint_note}
+use Rattle.tl_append.specs.Appending.{Course, publication_line}
+use Rattle.tl_append.specs.declared.due.Due.{Due}
+
+-- the note, if there is one, is that of the checkpoint of the log at which the ledger stands, by the log's key
+abbrev pub IsSigned : LogKey → Ledger → Option Due → Type 0
+IsSigned key ledger None = ⊤
+IsSigned key ledger (Some due) = (log : List Bytes) → IsStanding sha256 log ledger → string_bytes due.note ≡ checkpoint_note key log
+
+-- the publication of a log that is due, if one is
+abbrev pub due_of : LogKey → List Bytes → Option Due → List Prefix
+due_of key log None = []
+due_of key log (Some due) = published log (checkpoint_note key log) ∷ []
+
+-- whatever the ledger kept before, it keeps with the publication that was due, and these entries behind the log;
+-- whatever a crash leaves at any moment in between is complete for one of the publications
+pub record PublishesDue (key : LogKey) (due : Option Due) (put : List Bytes) (c : Course) : Type 0 where
+  pub kept : (history : List Prefix) (log : List Bytes) → IsKeeping sha256 history log c.before c.was
+      → IsKeeping sha256 (history ++ due_of key log due) (log ++ put) c.after c.is
+  pub safe : (history : List Prefix) (log : List Bytes) → IsKeeping sha256 history log c.before c.was
+      → KeptSafe sha256 (history ++ due_of key log due) c.saw c.sees
+
+-- the writer took the line of the publication that was due
+abbrev pub PrintsDue : LogKey → Option Due → Course → Passage → Type 0
+PrintsDue key due c o = (history : List Prefix) (log : List Bytes) → IsKeeping sha256 history log c.before c.was
+    → WroteWhole o (flat_map publication_line (due_of key log due))
