@@ -19,5 +19,3 @@ pub
     mod Subproofs
 pub
     mod BundleLengths
-pub
-    mod Measuring
