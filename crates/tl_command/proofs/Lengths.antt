@@ -21,7 +21,7 @@ use Rattle.tl_command.proofs.NeededParts.{LiesIn, lies}
 -- ---- one bundle
 
 -- each entry has two bytes in its bundle where its line has a newline
-bundle_of_lines : (entries : List (List ℕ)) → length (bundle_text entries) ≡ length (lines_text entries) + length entries
+pub bundle_of_lines : (entries : List (List ℕ)) → length (bundle_text entries) ≡ length (lines_text entries) + length entries
 bundle_of_lines [] = refl
 bundle_of_lines (entry ∷ entries) =
     omega (
@@ -34,62 +34,6 @@ bundle_of_lines (entry ∷ entries) =
       length-append entry (10 ∷ []),
       bundle_of_lines entries,
     )
-
-pub bundle_counted : (entries : List (List ℕ)) (text : List ℕ) (lacking count : ℕ) → entries_of text ≡ entries → length text + lacking ≡ length (lines_text (entries_of text))
-    → count ≡ length entries → length text + lacking + count ≡ length (bundle_text entries)
-bundle_counted entries text lacking count is lacks number =
-    omega (arith, lacks, ap (λ (es : List (List ℕ)). length (lines_text es)) is, number, bundle_of_lines entries)
-
--- the newlines that a text lacks to be lines
-pub lacks_none : (text : List ℕ) (byte : ℕ) → Some byte ≡ slice_get text (length text - 1) → byte ≡ 10 → length text + 0 ≡ length (lines_text (entries_of text))
-lacks_none text byte e same = omega (arith, ap length (text_of_entries text (last_of_some text byte e ∙ same)))
-
-pub lacks_one : (text : List ℕ) (byte : ℕ) → Some byte ≡ slice_get text (length text - 1) → byte ≢ 10 → length text + 1 ≡ length (lines_text (entries_of text))
-lacks_one text byte e other =
-    omega (arith, ap length (text_with_newline text (λ last. other (sym (last_of_some text byte e) ∙ last))), length-append text (10 ∷ []))
-
-pub nothing_lacks : (text : List ℕ) → None ≡ slice_get text (length text - 1) → length text + 0 ≡ length (lines_text (entries_of text))
-nothing_lacks text e = omega (arith, ap length (text_of_entries text (last_of_none text e)))
-
--- ---- all bundles
-
--- the lengths so far, and what is left of the entries
-pub record HaveLengths (lengths : List ℕ) (rest entries : List (List ℕ)) : Type 0 where
-  pub left : rest ≡ drop (length lengths * 256) entries
-  pub each : (index d : ℕ) → index < length lengths → get_or lengths index d ≡ length (bundle_text (take 256 (drop (index * 256) entries)))
-
-pub lengths_none : (lengths : List ℕ) (rest entries : List (List ℕ)) → lengths ≡ [] → rest ≡ drop 0 entries → HaveLengths lengths rest entries
-lengths_none lengths rest entries none is =
-    let zero : length lengths ≡ 0 = ap length none in
-    let start : 0 ≡ length lengths * 256 = omega (arith, zero) in record {
-      left = is ∙ ap (λ (n : ℕ). drop n entries) start;
-      each = λ index d less. absurd (omega (arith, zero, less));
-    }
-
-pub lengths_more : (lengths after : List ℕ) (rest bundle others entries : List (List ℕ)) (count : ℕ) → HaveLengths lengths rest entries → bundle ≡ take 256 rest
-    → others ≡ drop 256 rest → count ≡ length (bundle_text bundle) → after ≡ lengths ++ count ∷ [] → HaveLengths after others entries
-lengths_more lengths after rest bundle others entries count was bundle_is others_is counted added =
-    let number : length after ≡ length lengths + 1 = omega (arith, ap length added, length-append lengths (count ∷ [])) in
-    let next : length lengths * 256 + 256 ≡ length after * 256 = omega (arith, number) in
-    let last : count ≡ length (bundle_text (take 256 (drop (length lengths * 256) entries))) =
-    counted ∙ ap (λ (es : List (List ℕ)). length (bundle_text es)) (bundle_is ∙ ap (take 256) was.left) in
-    record {
-      left = others_is ∙ ap (drop 256) was.left ∙ drop-drop 256 (length lengths * 256) entries ∙ ap (λ (n : ℕ). drop n entries) next;
-      each = λ index d less.
-          ap (λ (xs : List ℕ). get_or xs index d) added ∙
-          elim (cases_lt index (length lengths)) as (λ _. get_or (lengths ++ count ∷ []) index d ≡ length (bundle_text (take 256 (drop (index * 256) entries)))) [
-            | inl before ↦ get_or_append_left lengths (count ∷ []) d index before ∙ was.each index d before
-            | inr past ↦
-                let here : length lengths ≡ index = omega (arith, past, less, number) in
-                get_or_push lengths count d index here ∙ last ∙ ap (λ (n : ℕ). length (bundle_text (take 256 (drop (n * 256) entries)))) here
-          ];
-    }
-
-pub lengths_all : (lengths : List ℕ) (rest entries : List (List ℕ)) → HaveLengths lengths rest entries → length rest ≤ 0 → AreBundleLengths lengths entries
-lengths_all lengths rest entries have none = record {
-  all = omega (arith, ap length have.left, length-drop (length lengths * 256) entries, none);
-  each = have.each;
-}
 
 -- ---- the length of a resource
 
@@ -108,13 +52,12 @@ bundle_has lengths entries index width small are has =
     ] in
     are.each index 0 (omega (arith, are.all, parts.1, parts.3)) ∙ ap (λ (es : List (List ℕ)). length (bundle_text es)) same
 
-pub has_length : (lengths : List ℕ) (entries : List (List ℕ)) (r : Resource) → length entries < 2 ^ 32 → AreBundleLengths lengths entries → Contains (mirrored (length entries)) r
-    → HasLength lengths r
-has_length lengths entries (resource.Tile t) small are has = tt
-has_length lengths entries (resource.Entries index width) small are has =
-    let parts : LiesIn (length entries) (resource.Entries index width) = lies (length entries) (resource.Entries index width) small has in
-    omega (arith, are.all, parts.1, parts.3)
-has_length lengths entries resource.Checkpoint small are has = tt
+pub has_length : (lengths : List ℕ) (size : ℕ) (r : Resource) → size < 2 ^ 32 → size ≤ length lengths * 256 → Contains (mirrored size) r → HasLength lengths r
+has_length lengths size (resource.Tile t) small all has = tt
+has_length lengths size (resource.Entries index width) small all has =
+    let parts : LiesIn size (resource.Entries index width) = lies size (resource.Entries index width) small has in
+    omega (arith, all, parts.1, parts.3)
+has_length lengths size resource.Checkpoint small all has = tt
 
 -- ---- the listing
 

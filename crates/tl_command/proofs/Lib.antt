@@ -17,6 +17,7 @@ pub mod KeyRuns
 pub mod NeededParts
 pub mod Bundles
 pub mod Lengths
+pub mod MeasuringLemmas
 pub mod TileHashes
 pub mod Names
 pub mod Wanted

@@ -13,15 +13,16 @@ use Rattle.tl_tile.specs.Needed.{needed_resources}
 use Rattle.tl_tile.proofs.Levels.{positive_256}
 use Rattle.tl_tile.proofs.OnePath.{only_path}
 use Rattle.tl_tile.proofs.TileTexts.{scaled_le}
-use Rattle.tl_device.specs.Device.{Passage, IsUnwritten}
+use Rattle.tl_device.specs.Device.{Passage, IsSteady, IsUnwritten, WrotePart, WroteWhole}
 use Rattle.tl_command.specs.Lines.{entries_of, first_too_long}
-use Rattle.tl_command.specs.Run.{Output, Prints, PrintsRefusal, Fails, Runs, CameOf, IsAsking, ReadEntries, most_input}
+use Rattle.tl_command.specs.Run.{Output, Prints, PrintsRefusal, Fails, Runs, CameOf, IsAsking, ReadEntries, Wrote, WroteSome, most_input}
 use Rattle.tl_command.specs.declared.fault.RunFault.{RunFault}
 use Rattle.tl_command.specs.declared.fault.RunFault.TheVariants as fault
 use Rattle.tl_command.proofs.Asking.{gave_entry, none_too_long}
 use Rattle.tl_command.proofs.LinesLemmas.{length-entries_of, entries_of_nothing}
 use Rattle.tl_command.specs.Mirror.{LogKey, checkpoint_note, mirrored, resource_text, listing_text}
 use Rattle.tl_command.specs.Build.{IsPrinted, IsMissing, BuildComes, IsLawfulPath, RunsBuild}
+use Rattle.tl_command.specs.Inner.Growing.{ReadsEdge}
 use Rattle.tl_command.specs.Inner.Steps.{IsAsked, IsServed, IsShown, AnswersWanted, WantedComes}
 use Rattle.tl_command.proofs.NeededParts.{LiesIn, lies, lawful}
 
@@ -190,14 +191,6 @@ answers_some A note n entries size wanted r (Ok text) is same count has shown me
     subst (λ (w : Option Resource). IsShown note entries w text.items) (sym is) (there, spelled)
 answers_some A note n entries size wanted r (Err f) is same count has shown memory = subst (λ (e : RunFault). AnswersWanted {A = A} note entries wanted (Err e)) (sym memory) tt
 
--- the listing is the answer where no resource is wanted
-pub shows_all : (note n : List ℕ) (entries : List (List ℕ)) (resources : List Resource) (size : ℕ) (wanted : Option Resource) (text : List ℕ) → wanted ≡ None
-    → n ≡ note → length entries ≡ size → resources ≡ mirrored size → text ≡ listing_text n entries resources → IsShown note entries wanted text
-shows_all note n entries resources size wanted text is same count all spelled =
-    let whole : text ≡ listing_text note entries (mirrored (length entries)) =
-    spelled ∙ ap (λ (t : List ℕ). listing_text t entries resources) same ∙ ap (λ (rs : List Resource). listing_text note entries rs) (all ∙ ap mirrored (sym count)) in
-    subst (λ (w : Option Resource). IsShown note entries w text) (sym is) whole
-
 -- the log hasn't got what is wanted
 pub not_there : (key : LogKey) (wanted : Option Resource) (i o : Passage) (entries : List (List ℕ)) → ReadEntries i most_input entries → IsUnwritten o
     → ¬ (IsServed (mirrored (length entries)) wanted) → Runs (WantedComes key wanted) i o (Err fault.NotThere)
@@ -234,3 +227,58 @@ answer_fails A key wanted i o fault.BadKeyFile entries read none asks given = ab
 answer_fails A key wanted i o (fault.BadCheckpoint place) entries read none asks given = absurd given
 answer_fails A key wanted i o (fault.WrongSignature place) entries read none asks given = absurd given
 answer_fails A key wanted i o fault.Unverified entries read none asks given = absurd given
+
+-- the listing is asked for of any input
+asks_to_list : (key : LogKey) (i : Passage) → IsAsking (WantedComes key None) i
+asks_to_list key i = inr (listing_text (checkpoint_note key (entries_of [])) (entries_of []) (mirrored (length (entries_of []))), (none_too_long, refl))
+
+-- where the input's edge wasn't read, the run has failed
+pub list_fails : (key : LogKey) (i o : Passage) (f : RunFault) → IsUnwritten o → ReadsEdge i (Err f) → Runs (WantedComes key None) i o (Err f)
+list_fails key i o fault.Refused none reads = absurd reads
+list_fails key i o fault.Read none reads = (reads, none)
+list_fails key i o fault.Write none reads = absurd reads
+list_fails key i o fault.TooLarge none reads = (reads, none)
+list_fails key i o (fault.EntryTooLong place) none reads = (record { input = reads.input; whole = reads.whole; so = reads.first }, none)
+list_fails key i o fault.BadOrigin none reads = absurd reads
+list_fails key i o fault.BadIndex none reads = absurd reads
+list_fails key i o fault.BadOld none reads = absurd reads
+list_fails key i o fault.BadPath none reads = absurd reads
+list_fails key i o fault.NotThere none reads = absurd reads
+list_fails key i o fault.Malformed none reads = absurd reads
+list_fails key i o (fault.Chain place) none reads = absurd reads
+list_fails key i o fault.Sign none reads = absurd reads
+list_fails key i o fault.Operator none reads = absurd reads
+list_fails key i o fault.Listen none reads = absurd reads
+list_fails key i o fault.Accept none reads = absurd reads
+list_fails key i o (fault.Device place why) none reads = absurd reads
+list_fails key i o fault.OutOfMemory none reads = (reads, none, asks_to_list key i)
+list_fails key i o fault.BadName none reads = absurd reads
+list_fails key i o fault.BadKey none reads = absurd reads
+list_fails key i o fault.BadKeyFile none reads = absurd reads
+list_fails key i o (fault.BadCheckpoint place) none reads = absurd reads
+list_fails key i o (fault.WrongSignature place) none reads = absurd reads
+list_fails key i o fault.Unverified none reads = absurd reads
+
+-- and it has where memory was refused for the listing
+pub list_refused : (key : LogKey) (i o : Passage) (f : RunFault) → IsUnwritten o → IsSteady i → f ≡ fault.OutOfMemory → Runs (WantedComes key None) i o (Err f)
+list_refused key i o f none steady is = subst (λ (e : RunFault). Runs (WantedComes key None) i o (Err e)) (sym is) (steady, none, asks_to_list key i)
+
+-- what came of an input of which this answer is shown
+answered : (key : LogKey) (wanted : Option Resource) (i : Passage) (entries : List (List ℕ)) (text bytes : List ℕ) → ReadEntries i most_input entries → IsShown (checkpoint_note key entries) entries wanted bytes → text ≡ bytes
+    → CameOf (WantedComes key wanted) i (Prints text)
+answered key wanted i entries text bytes read shown same = record {
+  input = read.input;
+  whole = read.whole;
+  so = (
+    sym (ap first_too_long read.lines) ∙ read.short,
+    subst (λ (es : List (List ℕ)). IsShown (checkpoint_note key es) es wanted text) read.lines (subst (λ (t : List ℕ). IsShown (checkpoint_note key entries) entries wanted t) (sym same) shown),
+  );
+}
+
+pub answer_printed : (key : LogKey) (wanted : Option Resource) (i o : Passage) (entries : List (List ℕ)) (text bytes : List ℕ) → ReadEntries i most_input entries → IsShown (checkpoint_note key entries) entries wanted bytes → text ≡ bytes
+    → WroteWhole o text → Wrote (WantedComes key wanted) Prints i o
+answer_printed key wanted i o entries text bytes read shown same wrote = record { text = text; came = answered key wanted i entries text bytes read shown same; written = wrote }
+
+pub answer_cut : (key : LogKey) (wanted : Option Resource) (i o : Passage) (entries : List (List ℕ)) (text bytes : List ℕ) → ReadEntries i most_input entries → IsShown (checkpoint_note key entries) entries wanted bytes → text ≡ bytes
+    → WrotePart o text → WroteSome (WantedComes key wanted) i o
+answer_cut key wanted i o entries text bytes read shown same part = record { text = text; came = inl (answered key wanted i entries text bytes read shown same); part = part }

@@ -19,3 +19,5 @@ pub
     mod Subproofs
 pub
     mod BundleLengths
+pub
+    mod Measuring

@@ -13,6 +13,7 @@ use tl_hash::Sha256Tree;
 use tl_tile::Edge;
 
 mod cuts;
+pub(crate) mod measuring;
 pub(crate) mod reading;
 mod shares;
 

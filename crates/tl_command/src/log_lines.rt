@@ -4,7 +4,6 @@ ghost use Rattle.std.specs.Prelude.{◌≡◌, ◌-◌, ◌<◌, ◌^◌, length
 ghost use Rattle.sha2.specs.Sha256.{sha256};
 ghost use Rattle.tl_hash.specs.Tree.{tree_hash};
 ghost use Rattle.tl_tile.specs.Bundle.{AreShortEntries};
-ghost use Rattle.tl_command.specs.Lines.{entries_of};
 
 use crate::entries::split_entries;
 use crate::fault::RunFault;
@@ -54,14 +53,6 @@ impl<'a> LogLines<'a> {
         ensures few { result < 2 ^ 32 - 1 }
     {
         self.count
-    }
-
-    /// The text of the lines.
-    pub(crate) fn text(&self) -> &'a [u8]
-        ensures lines { entries_of result.now ≡ self.now }
-        ensures bytes { length result.now < 2 ^ 32 - 1 }
-    {
-        self.marked.text
     }
 
     /// The first `count` lines, or all where they are fewer, and those after them.

@@ -1,12 +1,12 @@
 //! The command `build`: what a static mirror of the log of the lines of the input serves.
 
-ghost use Rattle.std.specs.Prelude.{◌≡◌, ◌<◌, ◌^◌, ◌↔◌, ◌⊎◌, IsTrue, IfErr, IfOk, MatchBool, Contains, length, option_map};
+ghost use Rattle.std.specs.Prelude.{◌≡◌, ◌<◌, ◌^◌, ◌↔◌, ◌⊎◌, IsTrue, IfErr, IfOk, MatchBool, Contains, None, Some, length, option_map};
 ghost use Rattle.tl_note.specs.Key.{IsKeyName};
 ghost use Rattle.tl_device.specs.Device.{passage};
 ghost use Rattle.tl_command.specs.Run.{Runs};
 ghost use Rattle.tl_command.specs.Mirror.{checkpoint_note, mirrored, resource_text};
 ghost use Rattle.tl_command.specs.Build.{RunsBuild};
-ghost use Rattle.tl_command.specs.Inner.Steps.{ReadsPath, IsServed, AnswersWanted, WantedComes};
+ghost use Rattle.tl_command.specs.Inner.Steps.{ReadsPath, AnswersWanted, WantedComes};
 
 pub(crate) mod checkpoint_note;
 pub(crate) mod listing;
@@ -15,6 +15,7 @@ pub(crate) mod resource_bytes;
 pub(crate) mod signed;
 
 use crate::fault::RunFault;
+use crate::growing::reading::read_measured;
 use crate::line_marks::LineMarks;
 use crate::log_lines::LogLines;
 use crate::streams::{MOST_INPUT, print_text, read_input};
@@ -55,29 +56,19 @@ fn wanted_of(get: Option<&str>) -> Result<Option<Resource>, RunFault>
     }
 }
 
-// Whether these resources have the one that is wanted, if one is.
-fn is_served(resources: &[Resource], wanted: Option<Resource>) -> bool
-    ensures { IsTrue result ↔ IsServed resources.now wanted }
-{
-    match wanted {
-        Some(resource) => resources.contains(&resource),
-        None => true,
-    }
-}
-
 // Whether a log of so many entries has none, and a tile or an entry bundle is wanted of it.
-fn is_of_no_entry(count: u64, wanted: Option<Resource>) -> bool
+fn is_of_no_entry(count: u64, wanted: Resource) -> bool
     ensures { MatchBool result
-        ((count ≡ 0) × ¬ (IsServed (mirrored 0) wanted))
-        ((0 < count) ⊎ IsServed (mirrored 0) wanted) }
+        ((count ≡ 0) × ¬ (Contains (mirrored 0) wanted))
+        ((0 < count) ⊎ Contains (mirrored 0) wanted) }
 {
     if count > 0 {
         return false;
     }
     match wanted {
-        Some(Resource::Tile(_)) => true,
-        Some(Resource::Entries { .. }) => true,
-        _ => false,
+        Resource::Tile(_) => true,
+        Resource::Entries { .. } => true,
+        Resource::Checkpoint => false,
     }
 }
 
@@ -110,7 +101,14 @@ fn wanted_bytes<H: Threads + Sync, K: LogSigner, A: Allocator + Copy, B: Allocat
     }
 }
 
-// The listing of the log of these lines, or the bytes of the resource that is wanted.
+// Whether these resources have the one that is wanted.
+fn has_resource(resources: &[Resource], wanted: Resource) -> bool
+    ensures { IsTrue result ↔ Contains resources.now wanted }
+{
+    resources.contains(&wanted)
+}
+
+// The bytes of the resource that is wanted of the log of these lines, if it has that.
 fn answer_of<H: Threads + Sync, K: LogSigner, A: Allocator + Copy, B: Allocator + Copy + Send>(
     rt: &H,
     alloc: A,
@@ -118,26 +116,21 @@ fn answer_of<H: Threads + Sync, K: LogSigner, A: Allocator + Copy, B: Allocator 
     threads: usize,
     global: Global,
     key: &K,
-    wanted: Option<Resource>,
+    wanted: Resource,
     lines: &LogLines<'_>,
 ) -> Result<Vec<u8, A>, RunFault>
     requires { IsKeyName (K.log_key key.now).name }
     ensures { AnswersWanted
-        (checkpoint_note (K.log_key key.now) lines.now) lines.now wanted result }
+        (checkpoint_note (K.log_key key.now) lines.now) lines.now (Some wanted) result }
 {
     let resources = mirrored_of(alloc, lines.count())?;
-    if !is_served(resources.as_slice(), wanted) {
+    if !has_resource(resources.as_slice(), wanted) {
         return Err(RunFault::NotThere);
     }
-    if let Some(resource) = wanted {
-        return wanted_bytes(rt, alloc, workers, threads, global, key, resource, lines);
-    }
-    let note = checkpoint_note_of(rt, alloc, workers, threads, global, key, lines)?;
-    let listing = listing_of(alloc, resources.as_slice(), lines, note.as_str())?;
-    Ok(listing.into_bytes())
+    wanted_bytes(rt, alloc, workers, threads, global, key, wanted, lines)
 }
 
-// Reads the whole input and writes what is wanted of the log of its lines.
+// Reads the whole input and writes the resource that is wanted of the log of its lines.
 fn build<
     H: Threads + Sync,
     K: LogSigner,
@@ -152,12 +145,12 @@ fn build<
     threads: usize,
     global: Global,
     key: &K,
-    wanted: Option<Resource>,
+    wanted: Resource,
     reader: &mut Counted<R>,
     writer: &mut Counted<W>,
 ) -> Result<(), RunFault>
     requires { IsKeyName (K.log_key key.now).name }
-    ensures { Runs (WantedComes (K.log_key key.now) wanted) (passage
+    ensures { Runs (WantedComes (K.log_key key.now) (Some wanted)) (passage
         R.remaining reader.old reader.new) (passage W.contents writer.old writer.new) result }
 {
     let input = read_input(alloc, reader, MOST_INPUT)?;
@@ -174,6 +167,42 @@ fn build<
         Err(fault) => return Err(fault),
     };
     print_text(writer, answer.as_slice())?;
+    Ok(())
+}
+
+// Reads the whole input and writes the listing of the log of its lines, of which no more is kept than a right edge and
+// the lengths of its bundles.
+fn list<
+    H: Threads + Sync,
+    K: LogSigner,
+    A: Allocator + Copy,
+    B: Allocator + Copy + Send,
+    R: Read,
+    W: Write,
+>(
+    rt: &H,
+    alloc: A,
+    workers: B,
+    threads: usize,
+    global: Global,
+    key: &K,
+    reader: &mut Counted<R>,
+    writer: &mut Counted<W>,
+) -> Result<(), RunFault>
+    requires { IsKeyName (K.log_key key.now).name }
+    ensures { Runs (WantedComes (K.log_key key.now) None) (passage R.remaining reader.old reader.new)
+        (passage W.contents writer.old writer.new) result }
+{
+    let (edge, lengths) = match read_measured(rt, alloc, workers, threads, reader) {
+        Ok(log) => log,
+        Err(fault) => return Err(fault),
+    };
+    let (size, root) = (edge.size(), edge.root());
+    let listing = match listing_of(alloc, global, key, size, root, lengths.as_slice()) {
+        Ok(listing) => listing,
+        Err(fault) => return Err(fault),
+    };
+    print_text(writer, listing.as_bytes())?;
     Ok(())
 }
 
@@ -206,8 +235,10 @@ pub fn run_build<
     if !is_key_name(key.origin()) {
         return Err(RunFault::BadOrigin);
     }
-    let wanted = wanted_of(get)?;
-    build(
-        rt, alloc, workers, threads, global, key, wanted, reader, writer,
-    )
+    match wanted_of(get)? {
+        Some(wanted) => build(
+            rt, alloc, workers, threads, global, key, wanted, reader, writer,
+        ),
+        None => list(rt, alloc, workers, threads, global, key, reader, writer),
+    }
 }

@@ -3,11 +3,13 @@
 ghost use Rattle.std.specs.Prelude.{◌≡◌, ◌-◌, ◌<◌, ◌≤◌, ◌^◌, true, length, take, vec_len, IfNone, IfOk, IfSome, OnSome};
 ghost use Rattle.std.specs.Io.KnownBytes.{Consumes, IsAtEnd};
 ghost use Rattle.tl_command.specs.Inner.Growing.{IsOutcome, ReadsEdge};
+ghost use Rattle.tl_command.specs.Inner.Measuring.{ReadsMeasured};
 ghost use Rattle.tl_command.specs.Lines.{entries_of};
 ghost use Rattle.tl_device.specs.Device.{passage};
 
 use crate::fault::RunFault;
 use crate::growing::Growing;
+use crate::growing::measuring::Measuring;
 use crate::streams::MOST_INPUT;
 use std::alloc::{AllocError, Allocator};
 use std::io::Read;
@@ -94,6 +96,45 @@ pub(crate) fn read_edge<
         total += n as u64;
         if n < block.len() && total <= MOST_INPUT {
             return growing.finish();
+        }
+    }
+    Err(RunFault::TooLarge)
+}
+
+/// The right edge of the log of the lines of all that the reader gives, and the lengths of its entry bundles. It reads
+/// as `read_edge` does, and keeps eight bytes for each bundle besides.
+pub(crate) fn read_measured<
+    H: Threads + Sync,
+    A: Allocator + Copy,
+    B: Allocator + Copy + Send,
+    R: Read,
+>(
+    rt: &H,
+    alloc: A,
+    workers: B,
+    threads: usize,
+    reader: &mut Counted<R>,
+) -> Result<(Edge<Sha256Tree, A>, Vec<u64, A>), RunFault>
+    ensures { ReadsMeasured (passage R.remaining reader.old reader.new) result }
+{
+    let mut growing = Growing::new(alloc);
+    let mut measuring = Measuring::new(alloc);
+    let mut block = empty_block(alloc)?;
+    let mut total = 0u64;
+    while total <= MOST_INPUT {
+        let Some(n) = fill(reader, &mut block) else {
+            return Err(RunFault::Read);
+        };
+        let piece = &block[..n];
+        growing.take_block(rt, workers, threads, piece)?;
+        measuring.take(piece)?;
+        total += n as u64;
+        if n < block.len() && total <= MOST_INPUT {
+            let lengths = measuring.finish()?;
+            match growing.finish() {
+                Ok(edge) => return Ok((edge, lengths)),
+                Err(fault) => return Err(fault),
+            }
         }
     }
     Err(RunFault::TooLarge)

@@ -1,17 +1,21 @@
 //! The listing of the resources of a log: the path and the length of each, which takes none of their bytes.
 
-ghost use Rattle.std.specs.Prelude.{◌≡◌, ◌+◌, ◌<◌, ◌≤◌, ◌^◌, ◌++◌, ◌∷◌, All, List, length, string_bytes, Contains, IfOk, OnOk};
+ghost use Rattle.std.specs.Prelude.{◌≡◌, ◌*◌, ◌<◌, ◌≤◌, ◌^◌, ◌++◌, ◌∷◌, All, List, length, string_bytes, Contains, IfErr, IfOk, OnOk};
+ghost use Rattle.sha2.specs.Sha256.{sha256};
 ghost use Rattle.tl_hash.specs.Bytes.{Bytes};
+ghost use Rattle.tl_hash.specs.Tree.{tree_hash};
+ghost use Rattle.tl_note.specs.Key.{IsKeyName};
 ghost use Rattle.tl_text.specs.Text.{line, number_text};
-ghost use Rattle.tl_tile.specs.Bundle.{bundle_text};
 ghost use Rattle.tl_tile.specs.Path.{IsResource, path_text};
 ghost use Rattle.tl_command.specs.Inner.BundleLengths.{AreBundleLengths, HasLength};
-ghost use Rattle.tl_command.specs.Lines.{entries_of, lines_text};
-ghost use Rattle.tl_command.specs.Mirror.{mirrored, resource_text, listing_text};
+ghost use Rattle.tl_command.specs.Mirror.{checkpoint_note, mirrored, resource_text, listing_text};
 
-use crate::log_lines::LogLines;
+use crate::commands::build::checkpoint_note::sign_checkpoint;
+use crate::commands::build::log_signer::LogSigner;
+use crate::fault::RunFault;
 use itoa::Buffer;
-use std::alloc::{AllocError, Allocator};
+use std::alloc::{AllocError, Allocator, Global};
+use tl_hash::Hash;
 use tl_tile::{Resource, needed, path_of};
 
 /// The resources of a log of so many entries: those that it needs, and then the checkpoint.
@@ -22,43 +26,6 @@ pub(crate) fn mirrored_of<A: Allocator>(alloc: A, size: u64) -> Result<Vec<Resou
     let mut resources = needed(alloc, size)?;
     resources.push(Resource::Checkpoint)?;
     Ok(resources)
-}
-
-// How many newlines a text lacks to be whole lines: one where its last line has none.
-fn newlines_lacking(text: &[u8]) -> u64
-    ensures bytes { length text.now + result ≡ length (lines_text (entries_of text.now)) }
-    ensures few { result ≤ 1 }
-{
-    let Some(byte) = text.last() else {
-        return 0;
-    };
-    if *byte == b'\n' { 0 } else { 1 }
-}
-
-// The number of bytes of the bundle of these lines, of which each has its length in front, two bytes, and no newline.
-fn bundle_length(lines: &LogLines<'_>) -> u64
-    ensures { result ≡ length (bundle_text lines.now) }
-{
-    let text = lines.text();
-    text.len() as u64 + newlines_lacking(text) + lines.count()
-}
-
-// The numbers of bytes of the bundles of a log, from the first. Its lines aren't gone over where it is known where each
-// bundle's end.
-fn bundle_lengths_of<A: Allocator>(
-    alloc: A,
-    lines: &LogLines<'_>,
-) -> Result<Vec<u64, A>, AllocError>
-    ensures { IfOk result (λ lengths. AreBundleLengths lengths.items lines.now) }
-{
-    let mut lengths = Vec::new(alloc);
-    let (_none, mut rest) = lines.split(0);
-    while rest.count() > 0 {
-        let (bundle, others) = rest.split(256);
-        lengths.push(bundle_length(&bundle))?;
-        rest = others;
-    }
-    Ok(lengths)
 }
 
 // The number of bytes of a resource of a log whose bundles have these lengths, where this is the checkpoint's note.
@@ -95,23 +62,48 @@ fn push_line<A: Allocator + Copy>(
     Ok(())
 }
 
-/// The line of each of these resources of the log of the lines, whose checkpoint's note this is.
-pub(crate) fn listing_of<A: Allocator + Copy>(
+// The line of each of these resources of a log whose bundles have these lengths, and whose checkpoint's note this is.
+fn lines_of<A: Allocator + Copy>(
     alloc: A,
     resources: &[Resource],
-    lines: &LogLines<'_>,
+    lengths: &[u64],
     note: &str,
 ) -> Result<String<A>, AllocError>
-    requires served { All (Contains (mirrored (length lines.now))) resources.now }
-    requires few { length lines.now < 2 ^ 32 }
-    ensures { IfOk result
-        (λ text. string_bytes text ≡ listing_text note.now lines.now resources.now) }
+    requires lawful { All IsResource resources.now }
+    requires measured { All (HasLength lengths.now) resources.now }
+    ensures { (entries : List Bytes) → length entries < 2 ^ 32 → AreBundleLengths lengths.now entries
+        → All (Contains (mirrored (length entries))) resources.now → IfOk result
+        (λ text. string_bytes text ≡ listing_text note.now entries resources.now) }
 {
-    let lengths = bundle_lengths_of(alloc, lines)?;
     let mut out = String::new(alloc);
     for resource in resources {
-        let count = resource_length(*resource, lengths.as_slice(), note);
+        let count = resource_length(*resource, lengths, note);
         push_line(alloc, &mut out, resource, count)?;
     }
     Ok(out)
+}
+
+/// The listing of a log of `size` entries with this root, whose bundles have these lengths: the path and the length of
+/// each of its resources, the checkpoint last. The checkpoint's note is signed by the log's key, which takes its memory
+/// from `global`. It fails for want of memory alone.
+pub(crate) fn listing_of<K: LogSigner, A: Allocator + Copy>(
+    alloc: A,
+    global: Global,
+    key: &K,
+    size: u64,
+    root: Hash,
+    lengths: &[u64],
+) -> Result<String<A>, RunFault>
+    requires origin { IsKeyName (K.log_key key.now).name }
+    requires few { size < 2 ^ 32 }
+    requires measured { size ≤ length lengths.now * 256 }
+    ensures text { (entries : List Bytes) → length entries ≡ size → tree_hash sha256 entries ≡ root
+        → AreBundleLengths lengths.now entries → IfOk result (λ text. string_bytes text
+        ≡ listing_text (checkpoint_note (K.log_key key.now) entries) entries (mirrored size)) }
+    ensures fault { IfErr result (λ fault. fault ≡ RunFault.OutOfMemory) }
+{
+    let resources = mirrored_of(alloc, size)?;
+    let note = sign_checkpoint(alloc, global, key, size, root)?;
+    let text = lines_of(alloc, resources.as_slice(), lengths, note.as_str())?;
+    Ok(text)
 }

@@ -1,14 +1,16 @@
-use Rattle.std.proofs.Common.{◌<◌, ◌⊎◌, inl, inr, ◌∙◌, refl, arith, length, vec_items}
+use Rattle.std.proofs.Common.{Some, ◌<◌, ◌⊎◌, inl, inr, ◌∙◌, refl, arith, length, vec_items}
 use Rattle.std.proofs.KnownBytes.{Keeps-refl}
+use Rattle.std.proofs.lemmas.Result.{err_from_is_err_and}
+use Rattle.tl_device.specs.Device.{passage}
 use Rattle.tl_command.specs.Inner.Steps.{IsServed, WantedComes}
 use Rattle.tl_command.specs.Mirror.{mirrored}
 use Rattle.tl_command.proofs.Asking.{entry_fails, read_lines}
-use Rattle.tl_command.proofs.Wanted.{answer_fails, asks_for}
+use Rattle.tl_command.proofs.Wanted.{answer_cut, answer_fails, answer_printed, asks_for}
 use Rattle.tl_command.proofs.commands.build.build.Goals as goal
 
 pub returns-in-Err : goal.returns-in-Err
 returns-in-Err g c =
-    entry_fails (WantedComes (g.K.LogSigner.log_key c.args.key.now) c.args.wanted) _ _ (vec_items c.in_ok-input.input) c.as_slice.result.now c.in-Err.fault
+    entry_fails (WantedComes (g.K.LogSigner.log_key c.args.key.now) (Some c.args.wanted)) _ _ (vec_items c.in_ok-input.input) c.as_slice.result.now c.in-Err.fault
     c.in_ok-input.ensures c.as_slice.ensures.value (Keeps-refl (g.W.Write.contents c.args.writer.now.device), refl) (λ place long. long) c.in-Err.ensures.fault
 
 pub returns-in-Err-answer_of : goal.returns-in-Err-answer_of
@@ -16,10 +18,25 @@ returns-in-Err-answer_of g c =
     let key = g.K.LogSigner.log_key c.args.key.now in
     let lines = c.lines-lines.result in
     let read = read_lines _ _ (vec_items c.in_ok-input.input) c.as_slice.result.now lines c.in_ok-input.ensures c.as_slice.ensures.value (c.lines-lines.ensures ∙ c.in-Ok.ensures.lines) c.in-Ok.ensures.short in
-    let either : (0 < length lines) ⊎ IsServed (mirrored 0) c.args.wanted =
-    elim c.if-is_of_no_entry.ensures as (λ _. (0 < length lines) ⊎ IsServed (mirrored 0) c.args.wanted) [
+    let either : (0 < length lines) ⊎ IsServed (mirrored 0) (Some c.args.wanted) =
+    elim c.if-is_of_no_entry.ensures as (λ _. (0 < length lines) ⊎ IsServed (mirrored 0) (Some c.args.wanted)) [
       | inl some ↦ inl (omega (arith, some, c.count.ensures.count))
       | inr served ↦ inr served
     ] in
-    answer_fails g.row.A.Denot key c.args.wanted _ _ c.in-Err-answer_of.fault lines read (Keeps-refl (g.W.Write.contents c.args.writer.now.device), refl)
-    (asks_for key c.args.wanted _ lines read either) c.in-Err-answer_of.ensures
+    answer_fails g.row.A.Denot key (Some c.args.wanted) _ _ c.in-Err-answer_of.fault lines read (Keeps-refl (g.W.Write.contents c.args.writer.now.device), refl)
+    (asks_for key (Some c.args.wanted) _ lines read either) c.in-Err-answer_of.ensures
+
+pub returns-in_err-print_text : goal.returns-in_err-print_text
+returns-in_err-print_text g c =
+    let key = g.K.LogSigner.log_key c.args.key.now in
+    let lines = c.lines-lines.result in
+    let read = read_lines (passage g.R.Read.remaining c.args.reader.now c.read_input.new.reader) _ (vec_items c.in_ok-input.input) c.as_slice.result.now lines c.in_ok-input.ensures c.as_slice.ensures.value (c.lines-lines.ensures ∙ c.in-Ok.ensures.lines) c.in-Ok.ensures.short in
+    let p = err_from_is_err_and c.from_residual-in_err-print_text.result c.from_residual-in_err-print_text.ensures.1 in
+    rw (p.1, p.2, c.in_err-print_text.ensures.fault) (answer_cut key (Some c.args.wanted) _ (passage g.W.Write.contents c.args.writer.now c.print_text.new.writer) lines c.as_slice-2.result.now (vec_items c.in-Ok-answer_of.answer) read c.in-Ok-answer_of.ensures c.as_slice-2.ensures.value c.in_err-print_text.ensures.part)
+
+pub returns : goal.returns
+returns g c =
+    let key = g.K.LogSigner.log_key c.args.key.now in
+    let lines = c.lines-lines.result in
+    let read = read_lines (passage g.R.Read.remaining c.args.reader.now c.read_input.new.reader) _ (vec_items c.in_ok-input.input) c.as_slice.result.now lines c.in_ok-input.ensures c.as_slice.ensures.value (c.lines-lines.ensures ∙ c.in-Ok.ensures.lines) c.in-Ok.ensures.short in
+    answer_printed key (Some c.args.wanted) _ (passage g.W.Write.contents c.args.writer.now c.print_text.new.writer) lines c.as_slice-2.result.now (vec_items c.in-Ok-answer_of.answer) read c.in-Ok-answer_of.ensures c.as_slice-2.ensures.value c.in_ok-print_text.ensures.whole
