@@ -3,6 +3,7 @@ pub mod Proposals
 pub mod Publishing
 pub mod Reading
 pub mod Runs
+pub mod Sheds
 pub mod Showing
 pub mod ShownBatch
 pub mod Turns

@@ -1,5 +1,5 @@
 -- A run over the log on a shelf.
-use Rattle.std.proofs.Common.{inl, inr, ◌≡◌, ◌⊎◌, ℕ, Bool, List, [], ◌++◌, Option, refl, sym, ap, subst, ◌∙◌}
+use Rattle.std.proofs.Common.{inl, inr, ◌≡◌, ◌⊎◌, ℕ, Bool, List, [], ◌++◌, Option, Some, length, refl, sym, ap, subst, ◌∙◌}
 use Rattle.std.proofs.KnownBytes.{Keeps-refl}
 use Rattle.std.proofs.lemmas.List.{append-nil}
 use Rattle.sha2.specs.Sha256.{sha256}
@@ -7,16 +7,17 @@ use Rattle.tl_hash.specs.Bytes.{Bytes}
 use Rattle.tl_note.specs.Key.{IsKeyName, Key}
 use Rattle.tl_device.specs.Device.{Passage}
 use Rattle.tl_lines.proofs.ReadingLemmas.{over}
+use Rattle.tl_tile.specs.declared.resource.Resource.TheVariants as resource
 use Rattle.tl_publisher.specs.Histories.{Prefix}
 use Rattle.tl_archive.specs.Shelves.{Kept}
 use Rattle.tl_ledger.specs.Standing.{Ledger, IsStanding}
 use Rattle.tl_ledger.specs.Keeping.{IsKeeping}
 use Rattle.tl_ledger.specs.Opening.{Found, FoundCollides, Opens}
-use Rattle.tl_command.specs.Mirror.{LogKey}
+use Rattle.tl_command.specs.Mirror.{LogKey, checkpoint_note}
 use Rattle.tl_command.specs.declared.keys.LogKey.{LogKey as GivenKey}
 use Rattle.tl_command.specs.declared.keys.LogKey.TheVariants as given
 use Rattle.tl_append.specs.Appending.{AppendsLines, AppendsSome, AppendsThen, AreBatches, joined, published_after}
-use Rattle.tl_append.specs.Running.{GoesOnPart, GoesOnWhole, Grows, IsLogKey, IsResting, OfFound, Stays, Visit, WroteHeads}
+use Rattle.tl_append.specs.Running.{GoesOnPart, GoesOnWhole, Grows, HadAll, HasLast, IsLogKey, IsResting, MarksLast, OfFound, Stays, Visit, WroteHeads}
 use Rattle.tl_append.proofs.Turns.{along}
 
 -- a shelf before and after
@@ -43,20 +44,29 @@ module _ (key : LogKey) (keys : List Key) (found : Found) (a b : Kept) (saw sees
         | inr collides ↦ inl collides
       ]
 
-  pub whole_run : (i o : Passage) (size batch : ℕ) → batch ≡ size
-      → AppendsLines key batch (along a b saw sees was is) i o → GoesOnWhole key size found (between a b saw sees) i o
-  whole_run i o size batch same all = record {
+  pub whole_run : (i o : Passage) (size batch : ℕ) (keeps : Bool) → batch ≡ size
+      → AppendsLines key batch keeps (along a b saw sees was is) i o → GoesOnWhole key size found (between a b saw sees) i o
+  whole_run i o size batch keeps same all = record {
     batches = all.batches;
     sized = subst (λ (n : ℕ). AreBatches n all.batches) same all.sized;
     some = all.some;
     last = all.last;
-    grows = of_found (Grows key all.batches [] (between a b saw sees)) (λ h log keeps. record {
-      rests = subst (λ (t : List Bytes). IsResting sha256 (h ++ published_after key log all.batches) t b) (sym (append-nil (log ++ joined all.batches))) (resting _ (log ++ joined all.batches) b is (all.appends.kept h log keeps));
-      safe = all.appends.safe h log keeps;
+    grows = of_found (Grows key all.batches [] (between a b saw sees)) (λ h log was_kept. record {
+      rests = subst (λ (t : List Bytes). IsResting sha256 (h ++ published_after key log all.batches) t b) (sym (append-nil (log ++ joined all.batches))) (resting _ (log ++ joined all.batches) b is (all.appends.kept h log was_kept));
+      safe = all.appends.safe h log was_kept;
     });
     lines = all.lines;
-    heads = of_found (WroteHeads key all.batches o) (λ h log keeps. all.heads.lines h log keeps);
+    shown = of_found (HadAll key all.batches (between a b saw sees)) (λ h log was_kept. all.shown h log was_kept);
+    there = of_found (HasLast key all.batches (between a b saw sees)) (λ h log was_kept. all.there h log was_kept);
+    heads = of_found (WroteHeads key all.batches o) (λ h log was_kept. all.heads.lines h log was_kept);
   }
+
+  -- the last one is marked
+  pub marks_last : (i o : Passage) (size : ℕ) (keeps : Bool) (mark : Option ℕ) → mark ≡ Some is.edge.size
+      → AppendsLines key size keeps (along a b saw sees was is) i o → MarksLast key found (between a b saw sees) mark
+  marks_last i o size keeps mark marked all =
+      of_found (λ h log. (whole : List Bytes) × (b.held resource.Checkpoint ≡ Some (checkpoint_note key whole)) × (mark ≡ Some (length whole)))
+      (λ h log was_kept. (log ++ joined all.batches, all.there h log was_kept, marked ∙ ap (λ (n : ℕ). Some n) (sym (all.appends.kept h log was_kept).stands.at_edge.0)))
 
   -- batches that were appended, and what was put after them
   pub grows_then : (batches : List (List Bytes)) (rest : List Bytes) → AppendsThen key batches rest (along a b saw sees was is)

@@ -1,6 +1,6 @@
 -- Entries that are appended to a log in batches, each of them published.
-use Rattle.std.specs.Prelude.{◌≡◌, ℕ, ◌+◌, ◌<◌, ◌≤◌, ◌⊎◌, ⊤, Some, List, [], ◌∷◌, ◌++◌, length}
-use Rattle.std.specs.List.{flat_map}
+use Rattle.std.specs.Prelude.{◌≡◌, Bool, ℕ, ◌+◌, ◌<◌, ◌≤◌, ◌⊎◌, ⊤, false, Some, List, [], ◌∷◌, ◌++◌, Contains, length}
+use Rattle.std.specs.List.{All, flat_map}
 use Rattle.sha2.specs.Sha256.{sha256}
 use Rattle.tl_hash.specs.Bytes.{Bytes}
 use Rattle.tl_hash.specs.Tree.{tree_hash}
@@ -11,9 +11,10 @@ use Rattle.tl_lines.specs.Reading.{TellsOf, TellsAll, all_entries}
 use Rattle.tl_tile.specs.declared.resource.Resource.TheVariants as resource
 use Rattle.tl_publisher.specs.Histories.{Prefix}
 use Rattle.tl_archive.specs.Shelves.{Kept}
-use Rattle.tl_archive.specs.Complete.{KeptSafe}
+use Rattle.tl_archive.specs.Complete.{IsFor, KeptSafe}
 use Rattle.tl_ledger.specs.Standing.{Ledger}
 use Rattle.tl_ledger.specs.Keeping.{IsKeeping, published}
+use Rattle.tl_ledger.specs.Spent.{LacksSpent}
 use Rattle.tl_command.specs.Mirror.{LogKey, checkpoint_note}
 
 -- the entries of batches, one after another
@@ -73,6 +74,20 @@ abbrev pub HasCheckpoint : LogKey → List Bytes → Course → Type 0
 HasCheckpoint key batch c = (history : List Prefix) (log : List Bytes) → IsKeeping sha256 history log c.before c.was
     → c.after.held resource.Checkpoint ≡ Some (checkpoint_note key (log ++ batch))
 
+-- after some call so far the checkpoint of this publication was there, with all that it needs
+abbrev pub WasThere : List Kept → Prefix → Type 0
+WasThere sees p = (kept : Kept) × Contains sees kept × IsFor sha256 p kept.held
+
+-- so it was with the publication of each of these batches
+abbrev pub WereThere : LogKey → List (List Bytes) → Course → Type 0
+WereThere key batches c = (history : List Prefix) (log : List Bytes) → IsKeeping sha256 history log c.before c.was
+    → All (WasThere c.sees) (published_after key log batches)
+
+-- no partial tile or bundle is there that is spent since the last of these batches
+abbrev pub LacksSpentByLast : List (List Bytes) → Course → Type 0
+LacksSpentByLast batches c = (front : List (List Bytes)) × ((last : List Bytes) × (batches ≡ front ++ last ∷ []))
+    × LacksSpent (c.was.edge.size + length (joined front)) c.is.edge.size c.after.held
+
 -- the line of a size and a root
 abbrev pub head_line : ℕ → Bytes → Bytes
 head_line size root = line (number_text size ++ 32 ∷ base64_text root)
@@ -92,14 +107,18 @@ AreBatches size [] = ⊤
 AreBatches size (last ∷ []) = length last ≤ size
 AreBatches size (batch ∷ next ∷ more) = (length batch ≡ size) × AreBatches size (next ∷ more)
 
--- all lines that were to come of an input were appended in batches, one at least, and the heads of these were printed
-pub record AppendsLines (key : LogKey) (size : ℕ) (c : Course) (i o : Passage) : Type 0 where
+-- all lines that were to come of an input were appended in batches, one at least; each publication was there, the last
+-- one is, the heads of them were printed, and unless they are kept, no partial tiles are left that the last batch spent
+pub record AppendsLines (key : LogKey) (size : ℕ) (keeps : Bool) (c : Course) (i o : Passage) : Type 0 where
   pub batches : List (List Bytes)
   pub sized : AreBatches size batches
   pub some : 0 < length batches
   pub last : Uncut
   pub appends : Appends key batches c
   pub lines : TellsAll unread last i (all_entries (joined batches))
+  pub shown : WereThere key batches c
+  pub there : HasCheckpoint key (joined batches) c
+  pub spent : keeps ≡ false → LacksSpentByLast batches c
   pub heads : PrintsHeads key batches c o
 
 -- these entries are the first of the lines of an input

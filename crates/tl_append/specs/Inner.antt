@@ -4,7 +4,11 @@ pub
 pub
     mod Faults
 pub
+    mod Owing
+pub
     mod Proposals
+pub
+    mod Shedding
 pub
     mod Turns
 pub

@@ -1,6 +1,6 @@
 -- A run of the command `append`: it goes on from the log on a shelf.
 use Rattle.std.specs.Prelude.{◌≡◌, ◌<◌, ◌⊎◌, ℕ, ◌-◌, ◌^◌, max, length, Option, Some, None, List, [], ◌∷◌, ◌++◌, Contains, Result, Ok, Err, string_bytes}
-use Rattle.std.specs.List.{flat_map}
+use Rattle.std.specs.List.{All, flat_map}
 use Rattle.sha2.specs.Sha256.{sha256}
 use Rattle.tl_hash.specs.Bytes.{Bytes, Digest}
 use Rattle.tl_device.specs.Device.{Passage, HasFailed, IsUnread, WroteWhole}
@@ -9,16 +9,17 @@ use Rattle.tl_key.specs.DemoKey.{demo_verifier_key}
 use Rattle.tl_key.specs.NoteKey.{SeedKey, note_kind, public_of, verifier_key}
 use Rattle.tl_lines.specs.Lines.{Uncut, unread}
 use Rattle.tl_lines.specs.Reading.{TellsAll, all_entries}
+use Rattle.tl_tile.specs.declared.resource.Resource.TheVariants as resource
 use Rattle.tl_publisher.specs.Histories.{Prefix, Begins}
 use Rattle.tl_archive.specs.Shelves.{Kept}
 use Rattle.tl_archive.specs.Complete.{HasAll, IsSafe, KeptSafe}
 use Rattle.tl_ledger.specs.Opening.{Found, FoundCollides, IsLogOf}
-use Rattle.tl_command.specs.Mirror.{LogKey, demo_log_key, seed_log_key}
+use Rattle.tl_command.specs.Mirror.{LogKey, checkpoint_note, demo_log_key, seed_log_key}
 use Rattle.tl_command.specs.Keys.{IsPrivateFile}
 use Rattle.tl_command.specs.declared.keys.LogKey.{LogKey as GivenKey}
 use Rattle.tl_command.specs.declared.keys.LogKey.TheVariants as given
 use Rattle.tl_command.specs.declared.fault.RunFault.{RunFault}
-use Rattle.tl_append.specs.Appending.{AreBatches, AreFirst, joined, publication_line, published_after}
+use Rattle.tl_append.specs.Appending.{AreBatches, AreFirst, WasThere, joined, publication_line, published_after}
 use Rattle.tl_append.specs.Proposing.{HasProposal}
 
 -- a shelf at rest with the log of these entries, after these publications: each is of a beginning of them, nothing is
@@ -57,6 +58,20 @@ OfFound found before Comes =
 abbrev pub WroteHeads : LogKey → List (List Bytes) → Passage → List Prefix → List Bytes → Type 0
 WroteHeads key batches o history log = WroteWhole o (flat_map publication_line (published_after key log batches))
 
+-- each publication was there
+abbrev pub HadAll : LogKey → List (List Bytes) → Visit → List Prefix → List Bytes → Type 0
+HadAll key batches v history log = All (WasThere v.sees) (published_after key log batches)
+
+-- the checkpoint that is there is that of the log with all batches
+abbrev pub HasLast : LogKey → List (List Bytes) → Visit → List Prefix → List Bytes → Type 0
+HasLast key batches v history log =
+    v.after.held resource.Checkpoint ≡ Some (checkpoint_note key (log ++ joined batches))
+
+-- the size of the log whose checkpoint is there is marked
+abbrev pub MarksLast : LogKey → Found → Visit → Option ℕ → Type 0
+MarksLast key found v mark = OfFound found v.before (λ history log. (all : List Bytes)
+    × (v.after.held resource.Checkpoint ≡ Some (checkpoint_note key all)) × (mark ≡ Some (length all)))
+
 -- the key of a log of this name that its options tell: the demonstration key of the name and a secret, or the private
 -- key of the name that a file has
 abbrev pub IsLogKey : GivenKey → Bytes → LogKey → Type 0
@@ -84,7 +99,8 @@ abbrev pub batch_size : Option ℕ → ℕ
 batch_size None = 2 ^ 64 - 1
 batch_size (Some count) = max count 1
 
--- all lines of the input were appended in batches, one at least, and the heads of these were printed
+-- all lines of the input were appended in batches, one at least; each publication was there, the last one is, and the
+-- heads of them were printed
 pub record GoesOnWhole (key : LogKey) (size : ℕ) (found : Found) (v : Visit) (i o : Passage) : Type 0 where
   pub batches : List (List Bytes)
   pub sized : AreBatches size batches
@@ -92,6 +108,8 @@ pub record GoesOnWhole (key : LogKey) (size : ℕ) (found : Found) (v : Visit) (
   pub last : Uncut
   pub grows : OfFound found v.before (Grows key batches [] v)
   pub lines : TellsAll unread last i (all_entries (joined batches))
+  pub shown : OfFound found v.before (HadAll key batches v)
+  pub there : OfFound found v.before (HasLast key batches v)
   pub heads : OfFound found v.before (WroteHeads key batches o)
 
 -- some were before a fault: the first of them, unless a read failed

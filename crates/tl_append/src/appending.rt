@@ -1,11 +1,12 @@
 //! Lines of an input that are appended to a log in batches.
 
-ghost use Rattle.std.specs.Prelude.{◌≡◌, ◌<◌, OnErr, OnOk};
+ghost use Rattle.std.specs.Prelude.{◌≡◌, ◌<◌, ◌^◌, ◌⊎◌, None, OnErr, OnOk, Some};
 ghost use Rattle.tl_device.specs.Device.{passage};
 ghost use Rattle.tl_note.specs.Key.{IsKeyName};
 ghost use Rattle.tl_append.specs.Appending.{AppendsLines, AppendsSome, course};
+ghost use Rattle.tl_append.specs.Inner.Owing.{LeavesLast, LeavesSome};
 
-use crate::due::{publish_due, put_due};
+use crate::due::{Due, publish_due, put_due};
 use crate::faults::line_fault;
 use crate::options::Joining;
 use std::alloc::Global;
@@ -25,10 +26,79 @@ fn waits_for_next(joining: Joining, lines: &Lines<Global>, batch: u64) -> bool {
     }
 }
 
+// Puts the lines of the input behind the log in batches, each of which is published with what the next one adds or,
+// where it doesn't wait for that, alone. What is due then is the publication of the last one, if any.
+fn put_lines<K: LogSigner, S: Shelf, R: Read, W: Write>(
+    alloc: Global,
+    key: &K,
+    batch: u64,
+    keeps_partials: bool,
+    joining: Joining,
+    shelf: &mut S,
+    ledger: &mut Ledger<Global>,
+    due: &mut Option<Due>,
+    reader: &mut Counted<R>,
+    writer: &mut Counted<W>,
+) -> Result<(), RunFault>
+    requires origin { IsKeyName (K.log_key key.now).name }
+    requires batch { 0 < batch }
+    requires none { due.old ≡ None }
+    ensures all { OnOk result (LeavesLast
+        (K.log_key key.now) batch keeps_partials due.new (S.published shelf.new)
+        (course S.kept S.trace shelf.old shelf.new ledger.old ledger.new)
+        (passage R.remaining reader.old reader.new) (passage W.contents writer.old writer.new)) }
+    ensures some { OnErr result (LeavesSome (K.log_key key.now) due.new
+        (course S.kept S.trace shelf.old shelf.new ledger.old ledger.new)
+        (passage R.remaining reader.old reader.new)) }
+    ensures small { (due.new ≡ None) ⊎ (ledger.new.edge.size < 2 ^ 32) }
+    ensures place { S.place shelf.new ≡ S.place shelf.old }
+{
+    let mut lines = match Lines::new(alloc) {
+        Ok(lines) => lines,
+        Err(_) => return Err(RunFault::OutOfMemory),
+    };
+    let mut is_first = true;
+    for _turn in 0..u64::MAX {
+        let entries = match lines.take_most(reader, batch) {
+            Ok(entries) => entries,
+            Err(fault) => return Err(line_fault(fault)),
+        };
+        if entries.is_empty() && !is_first {
+            return Ok(());
+        }
+        let batched = entries.as_slice();
+        match put_due(
+            alloc,
+            key,
+            batched,
+            keeps_partials,
+            shelf,
+            ledger,
+            due,
+            writer,
+        ) {
+            Ok(()) => is_first = false,
+            Err(fault) => return Err(fault),
+        }
+        if (entries.len() as u64) < batch {
+            return Ok(());
+        }
+        if waits_for_next(joining, &lines, batch) {
+            continue;
+        }
+        match publish_due(alloc, keeps_partials, shelf, ledger, due, writer) {
+            Ok(()) => {}
+            Err(fault) => return Err(fault),
+        }
+    }
+    Err(RunFault::Operator)
+}
+
 /// Appends the lines of the input to the log on the shelf, which is the ledger's, and publishes it after each `batch`
 /// lines, at least 1, and at the end, once at least: each time under a note of its checkpoint by the key, whose name is
-/// the log's, alone or with what the next batch adds. Spent partial tiles are then removed, unless they are kept, and
-/// size and root printed. It keeps one batch and the ledger. `Operator`: the log would have more than 2^32 - 1 entries.
+/// the log's, alone or with what the next batch adds. Its size is then marked, spent partial tiles are removed, unless
+/// they are kept, and size and root printed. It keeps one batch and the ledger. `Operator`: the log would have more
+/// than 2^32 - 1 entries.
 pub fn append_lines<K: LogSigner, S: Shelf, R: Read, W: Write>(
     alloc: Global,
     key: &K,
@@ -42,61 +112,35 @@ pub fn append_lines<K: LogSigner, S: Shelf, R: Read, W: Write>(
 ) -> Result<(), RunFault>
     requires origin { IsKeyName (K.log_key key.now).name }
     requires batch { 0 < batch }
-    ensures all { OnOk result (AppendsLines (K.log_key key.now) batch
+    ensures all { OnOk result (AppendsLines (K.log_key key.now) batch keeps_partials
         (course S.kept S.trace shelf.old shelf.new ledger.old ledger.new)
         (passage R.remaining reader.old reader.new) (passage W.contents writer.old writer.new)) }
+    ensures marked { OnOk result (S.published shelf.new ≡ Some ledger.new.edge.size) }
     ensures some { OnErr result (AppendsSome (K.log_key key.now)
         (course S.kept S.trace shelf.old shelf.new ledger.old ledger.new)
         (passage R.remaining reader.old reader.new)) }
     ensures place { S.place shelf.new ≡ S.place shelf.old }
 {
-    let mut lines = match Lines::new(alloc) {
-        Ok(lines) => lines,
-        Err(_) => return Err(RunFault::OutOfMemory),
-    };
     let mut due = None;
-    let mut is_first = true;
-    for _turn in 0..u64::MAX {
-        let entries = match lines.take_most(reader, batch) {
-            Ok(entries) => entries,
-            Err(fault) => {
-                let _ = publish_due(alloc, keeps_partials, shelf, ledger, &mut due, writer);
-                return Err(line_fault(fault));
-            }
-        };
-        if entries.is_empty() && !is_first {
-            match publish_due(alloc, keeps_partials, shelf, ledger, &mut due, writer) {
-                Ok(()) => return Ok(()),
-                Err(fault) => return Err(fault),
-            }
-        }
-        let batched = entries.as_slice();
-        match put_due(
-            alloc,
-            key,
-            batched,
-            keeps_partials,
-            shelf,
-            ledger,
-            &mut due,
-            writer,
-        ) {
-            Ok(()) => is_first = false,
-            Err(fault) => return Err(fault),
-        }
-        if (entries.len() as u64) < batch {
-            match publish_due(alloc, keeps_partials, shelf, ledger, &mut due, writer) {
-                Ok(()) => return Ok(()),
-                Err(fault) => return Err(fault),
-            }
-        }
-        if waits_for_next(joining, &lines, batch) {
-            continue;
-        }
-        match publish_due(alloc, keeps_partials, shelf, ledger, &mut due, writer) {
-            Ok(()) => {}
-            Err(fault) => return Err(fault),
-        }
+    let put = put_lines(
+        alloc,
+        key,
+        batch,
+        keeps_partials,
+        joining,
+        shelf,
+        ledger,
+        &mut due,
+        reader,
+        writer,
+    );
+    let shown = publish_due(alloc, keeps_partials, shelf, ledger, &mut due, writer);
+    match put {
+        Ok(()) => {}
+        Err(fault) => return Err(fault),
     }
-    Err(RunFault::Operator)
+    match shown {
+        Ok(()) => Ok(()),
+        Err(fault) => Err(fault),
+    }
 }

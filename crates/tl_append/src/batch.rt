@@ -13,10 +13,11 @@ ghost use Rattle.tl_append.specs.Appending.{Appends, AppendsAtMost, HasCheckpoin
 ghost use Rattle.tl_append.specs.Inner.Turns.{HasShown};
 
 use crate::faults::{unkept, unput};
+use crate::shedding::shed_spent;
 use std::alloc::Global;
 use tl_archive::Shelf;
 use tl_command::{LogSigner, RunFault, sign_checkpoint};
-use tl_ledger::{Ledger, remove_spent};
+use tl_ledger::Ledger;
 
 /// The most entries of a log.
 pub(crate) const MOST_ENTRIES: u64 = 4_294_967_295;
@@ -126,11 +127,8 @@ pub fn append_batch<K: LogSigner, S: Shelf>(
         Ok(()) => {}
         Err(fault) => return Err(fault),
     }
-    if keeps_partials {
-        return Ok(());
-    }
-    match remove_spent(shelf, from, ledger.size()) {
+    match shed_spent(from, ledger.size(), keeps_partials, shelf) {
         Ok(()) => Ok(()),
-        Err(fault) => Err(unkept(fault)),
+        Err(fault) => Err(fault),
     }
 }

@@ -1,30 +1,27 @@
 //! Batches of which each is published together with what the next one adds: the disk is waited for once for both.
 
 ghost use Rattle.std.specs.Prelude.{◌≡◌, ◌+◌, ◌<◌, ◌^◌, ◌⊎◌, [], List, false, length, map, vec_items, IfOk, OnErr, OnOk, None, Some};
-ghost use Rattle.sha2.specs.Sha256.{sha256};
 ghost use Rattle.tl_hash.specs.Bytes.{Bytes};
 ghost use Rattle.tl_device.specs.Device.{WroteWhole, passage};
 ghost use Rattle.tl_note.specs.Key.{IsKeyName};
 ghost use Rattle.tl_tile.specs.Bundle.{AreShortEntries};
-ghost use Rattle.tl_publisher.specs.Histories.{Prefix};
-ghost use Rattle.tl_archive.specs.Complete.{KeptSafe};
-ghost use Rattle.tl_ledger.specs.Keeping.{IsKeeping};
-ghost use Rattle.tl_ledger.specs.Spent.{IsShown, LacksSpent};
-ghost use Rattle.tl_ledger.specs.Standing.{Ledger as Stands};
+ghost use Rattle.tl_ledger.specs.Spent.{LacksSpent};
 ghost use Rattle.tl_command.specs.Mirror.{LogKey};
 ghost use Rattle.tl_append.specs.Appending.{course, head_line};
-ghost use Rattle.tl_append.specs.Inner.Due.{IsSigned, PrintsDue, PublishesDue};
+ghost use Rattle.tl_append.specs.Inner.Due.{IsSigned, PrintsDue, PublishesDue, ShowsDue};
+ghost use Rattle.tl_append.specs.Inner.Shedding.{ShedsSpent};
 
 use crate::batch::MOST_ENTRIES;
 use crate::faults::{unkept, unput};
 use crate::printing::print_head;
+use crate::shedding::shed_spent;
 use std::alloc::Global;
 use std::io::Write;
 use tl_archive::Shelf;
 use tl_command::{LogSigner, RunFault, sign_checkpoint};
 use tl_device::Counted;
 use tl_hash::Hash;
-use tl_ledger::{Ledger, remove_spent};
+use tl_ledger::Ledger;
 
 /// A publication of a log that is due: its entries were put, and its note is signed and isn't on the shelf yet.
 #[derive(Drop)]
@@ -44,42 +41,13 @@ fn sign_due<K: LogSigner>(
 ) -> Result<Due, RunFault>
     requires origin { IsKeyName (K.log_key key.now).name }
     requires small { ledger.now.edge.size < 2 ^ 32 }
-    ensures { IfOk result (λ due. IsSigned (K.log_key key.now) ledger.now (Some due)) }
+    ensures signed { IfOk result (λ due. IsSigned (K.log_key key.now) ledger.now (Some due)) }
+    ensures from { IfOk result (λ due. due.from ≡ from) }
 {
     let (size, root) = (ledger.size(), ledger.root());
     match sign_checkpoint(alloc, alloc, key, size, root) {
         Ok(note) => Ok(Due { note, from }),
         Err(fault) => Err(fault),
-    }
-}
-
-// Removes the partial tiles and bundles that are spent since the log had so many entries, unless they are kept, where the
-// checkpoint of `size` entries is there.
-fn shed_spent<S: Shelf>(
-    from: u64,
-    size: u64,
-    keeps_partials: bool,
-    shelf: &mut S,
-) -> Result<(), RunFault>
-    requires small { size < 2 ^ 32 }
-    ensures kept { (history : List Prefix) (log : List Bytes) (ledger : Stands)
-        → IsKeeping sha256 history log (S.kept shelf.old) ledger
-        → IsShown sha256 history size (S.kept shelf.old).held
-        → IsKeeping sha256 history log (S.kept shelf.new) ledger }
-    ensures safe { (history : List Prefix) (log : List Bytes) (ledger : Stands)
-        → IsKeeping sha256 history log (S.kept shelf.old) ledger
-        → IsShown sha256 history size (S.kept shelf.old).held
-        → KeptSafe sha256 history (S.trace shelf.old) (S.trace shelf.new) }
-    ensures gone { keeps_partials ≡ false
-        → OnOk result (LacksSpent from size (S.kept shelf.new).held) }
-    ensures place { S.place shelf.new ≡ S.place shelf.old }
-{
-    if keeps_partials {
-        return Ok(());
-    }
-    match remove_spent(shelf, from, size) {
-        Ok(()) => Ok(()),
-        Err(fault) => Err(unkept(fault)),
     }
 }
 
@@ -95,18 +63,13 @@ fn end_publication<S: Shelf, W: Write>(
     writer: &mut Counted<W>,
 ) -> Result<(), RunFault>
     requires small { size < 2 ^ 32 }
-    ensures kept { (history : List Prefix) (log : List Bytes) (ledger : Stands)
-        → IsKeeping sha256 history log (S.kept shelf.old) ledger
-        → IsShown sha256 history size (S.kept shelf.old).held
-        → IsKeeping sha256 history log (S.kept shelf.new) ledger }
-    ensures safe { (history : List Prefix) (log : List Bytes) (ledger : Stands)
-        → IsKeeping sha256 history log (S.kept shelf.old) ledger
-        → IsShown sha256 history size (S.kept shelf.old).held
-        → KeptSafe sha256 history (S.trace shelf.old) (S.trace shelf.new) }
+    ensures sheds { ShedsSpent size (S.kept shelf.old) (S.kept shelf.new)
+        (S.trace shelf.old) (S.trace shelf.new) }
     ensures gone { keeps_partials ≡ false
         → OnOk result (LacksSpent from size (S.kept shelf.new).held) }
     ensures printed { OnOk result
         (WroteWhole (passage W.contents writer.old writer.new) (head_line size root)) }
+    ensures mark { S.published shelf.new ≡ S.published shelf.old }
     ensures place { S.place shelf.new ≡ S.place shelf.old }
 {
     match shed_spent(from, size, keeps_partials, shelf) {
@@ -134,6 +97,10 @@ pub(crate) fn publish_due<S: Shelf, W: Write>(
     ensures printed { (key : LogKey) → IsSigned key ledger.now due.old → OnOk result (PrintsDue key due.old
         (course S.kept S.trace shelf.old shelf.new ledger.now ledger.now)
         (passage W.contents writer.old writer.new)) }
+    ensures shows { (key : LogKey) → IsSigned key ledger.now due.old → OnOk result
+        (ShowsDue key keeps_partials due.old (S.published shelf.new)
+        (course S.kept S.trace shelf.old shelf.new ledger.now ledger.now)) }
+    ensures same { due.old ≡ None → shelf.new ≡ shelf.old }
     ensures none { due.new ≡ None }
     ensures place { S.place shelf.new ≡ S.place shelf.old }
 {
@@ -170,6 +137,9 @@ fn put_with<S: Shelf, W: Write>(
     ensures printed { (key : LogKey) → IsSigned key ledger.old due → OnOk result (PrintsDue key due
         (course S.kept S.trace shelf.old shelf.new ledger.old ledger.new)
         (passage W.contents writer.old writer.new)) }
+    ensures shows { (key : LogKey) → IsSigned key ledger.old due → OnOk result
+        (ShowsDue key keeps_partials due (S.published shelf.new)
+        (course S.kept S.trace shelf.old shelf.new ledger.old ledger.new)) }
     ensures part { (key : LogKey) → IsSigned key ledger.old due → OnErr result ((put : List Bytes)
         × ((put ≡ []) ⊎ (put ≡ map vec_items batch.now)) × PublishesDue key due put
         (course S.kept S.trace shelf.old shelf.new ledger.old ledger.new)) }
@@ -220,12 +190,19 @@ pub(crate) fn put_due<K: LogSigner, S: Shelf, W: Write>(
         (PrintsDue (K.log_key key.now) due.old
         (course S.kept S.trace shelf.old shelf.new ledger.old ledger.new)
         (passage W.contents writer.old writer.new)) }
+    ensures shows { IsSigned (K.log_key key.now) ledger.old due.old → OnOk result
+        (ShowsDue (K.log_key key.now) keeps_partials due.old (S.published shelf.new)
+        (course S.kept S.trace shelf.old shelf.new ledger.old ledger.new)) }
     ensures part { IsSigned (K.log_key key.now) ledger.old due.old → OnErr result ((put : List Bytes)
         × ((put ≡ []) ⊎ (put ≡ map vec_items batch.now))
         × PublishesDue (K.log_key key.now) due.old put
         (course S.kept S.trace shelf.old shelf.new ledger.old ledger.new)) }
     ensures signed { OnOk result (IsSigned (K.log_key key.now) ledger.new due.new) }
-    ensures due { OnOk result ((last : Due) × (due.new ≡ Some last)) }
+    ensures due { OnOk result ((last : Due) × (due.new ≡ Some last)
+        × (last.from ≡ ledger.old.edge.size)) }
+    ensures none { OnErr result (due.new ≡ None) }
+    ensures sized { OnOk result
+        (ledger.new.edge.size ≡ ledger.old.edge.size + length batch.now) }
     ensures small { OnOk result (ledger.new.edge.size < 2 ^ 32) }
     ensures place { S.place shelf.new ≡ S.place shelf.old }
 {

@@ -27,6 +27,7 @@ mod proposal;
 mod running;
 mod sealed_shelf;
 mod sealing;
+mod shedding;
 
 pub use appending::append_lines;
 pub use batch::append_batch;

@@ -5,10 +5,11 @@ ghost use Rattle.tl_device.specs.Device.{passage};
 ghost use Rattle.tl_note.specs.Key.{IsKeyName};
 ghost use Rattle.tl_ledger.specs.Marks.{IsWithin};
 ghost use Rattle.tl_ledger.specs.Opening.{found_size};
+ghost use Rattle.tl_command.specs.Mirror.{LogKey};
 ghost use Rattle.tl_command.specs.Origins.{RefusesOrigin};
 ghost use Rattle.tl_append.specs.Keys.{log_key_of, opening_key_of};
 ghost use Rattle.tl_append.specs.Proposing.{HasProposal};
-ghost use Rattle.tl_append.specs.Running.{GoesOn, HasOwnProposal, Stays, batch_size, visit};
+ghost use Rattle.tl_append.specs.Running.{GoesOn, HasOwnProposal, IsLogKey, MarksLast, Stays, batch_size, visit};
 ghost use Rattle.tl_append.specs.Inner.Under.{GoesOnUnder};
 
 use crate::appending::append_lines;
@@ -42,6 +43,8 @@ fn append_under<S: Shelf, P: ProposalStore, R: Read, W: Write>(
     ensures goes_on { GoesOnUnder (log_key_of keys.signer) (batch_size options.now.batch) found.new
         (visit S.kept S.trace shelf.old shelf.new) (passage R.remaining reader.old reader.new)
         (passage W.contents writer.old writer.new) result }
+    ensures marked { OnOk result (MarksLast (log_key_of keys.signer) found.new
+        (visit S.kept S.trace shelf.old shelf.new) (S.published shelf.new)) }
     ensures fresh { options.now.is_new ≡ true → OnOk result (found.new.head ≡ None) }
     ensures left { options.now.is_new ≡ true → OnErr result ((found.new.head ≡ None)
         ⊎ Stays (visit S.kept S.trace shelf.old shelf.new)
@@ -102,6 +105,9 @@ pub fn run_append<H: Files, S: Shelf, P: ProposalStore, R: Read, W: Write>(
         (batch_size options.now.batch) found.new
         (visit S.kept S.trace shelf.old shelf.new) (passage R.remaining reader.old reader.new)
         (passage W.contents writer.old writer.new) result }
+    ensures marked { OnOk result ((own : LogKey)
+        × IsLogKey options.now.key (string_bytes options.now.origin) own × MarksLast own found.new
+        (visit S.kept S.trace shelf.old shelf.new) (S.published shelf.new)) }
     ensures fresh { options.now.is_new ≡ true → OnOk result (found.new.head ≡ None) }
     ensures left { options.now.is_new ≡ true → OnErr result ((found.new.head ≡ None)
         ⊎ Stays (visit S.kept S.trace shelf.old shelf.new)

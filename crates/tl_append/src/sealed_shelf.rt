@@ -15,10 +15,11 @@ use crate::log_shelf::{LogShelf, OpenedLog};
 use crate::opening::open_ledger;
 use crate::proposal::ProposalStore;
 use crate::sealing::SealsNotes;
+use crate::shedding::shed_spent;
 use std::alloc::Global;
 use tl_archive::Shelf;
 use tl_command::{LogSigner, RunFault, sign_checkpoint};
-use tl_ledger::{Found, Ledger, remove_spent};
+use tl_ledger::{Found, Ledger};
 
 // The note of the log's checkpoint by the key, as it is shown.
 fn sealed_note<K: LogSigner, P: ProposalStore, Z: SealsNotes>(
@@ -190,12 +191,9 @@ impl<S: Shelf + Drop, P: ProposalStore + Drop, Z: SealsNotes + Drop> LogShelf
             Ok(()) => {}
             Err(fault) => return Err(fault),
         }
-        if self.keeps_partials {
-            return Ok(());
-        }
-        match remove_spent(&mut self.shelf, from, ledger.size()) {
+        match shed_spent(from, ledger.size(), self.keeps_partials, &mut self.shelf) {
             Ok(()) => Ok(()),
-            Err(fault) => Err(unkept(fault)),
+            Err(fault) => Err(fault),
         }
     }
 }

@@ -1,15 +1,18 @@
 -- A publication that is due: its entries were put and its note signed, and that isn't on the shelf yet.
-use Rattle.std.specs.Prelude.{◌≡◌, ⊤, List, [], ◌∷◌, ◌++◌, Option, Some, None, string_bytes}
-use Rattle.std.specs.List.{flat_map}
+use Rattle.std.specs.Prelude.{◌≡◌, Bool, ℕ, ⊤, false, List, [], ◌∷◌, ◌++◌, Option, Some, None, string_bytes}
+use Rattle.std.specs.List.{All, flat_map}
 use Rattle.sha2.specs.Sha256.{sha256}
 use Rattle.tl_hash.specs.Bytes.{Bytes}
 use Rattle.tl_device.specs.Device.{Passage, WroteWhole}
+use Rattle.tl_tile.specs.declared.resource.Resource.TheVariants as resource
 use Rattle.tl_publisher.specs.Histories.{Prefix}
+use Rattle.tl_archive.specs.Shelves.{Held}
 use Rattle.tl_archive.specs.Complete.{KeptSafe}
 use Rattle.tl_ledger.specs.Standing.{Ledger, IsStanding}
 use Rattle.tl_ledger.specs.Keeping.{IsKeeping, published}
+use Rattle.tl_ledger.specs.Spent.{LacksSpent}
 use Rattle.tl_command.specs.Mirror.{LogKey, checkpoint_note}
-use Rattle.tl_append.specs.Appending.{Course, publication_line}
+use Rattle.tl_append.specs.Appending.{Course, WasThere, publication_line}
 use Rattle.tl_append.specs.declared.due.Due.{Due}
 
 -- the note, if there is one, is that of the checkpoint of the log at which the ledger stands, by the log's key
@@ -34,3 +37,23 @@ pub record PublishesDue (key : LogKey) (due : Option Due) (put : List Bytes) (c 
 abbrev pub PrintsDue : LogKey → Option Due → Course → Passage → Type 0
 PrintsDue key due c o = (history : List Prefix) (log : List Bytes) → IsKeeping sha256 history log c.before c.was
     → WroteWhole o (flat_map publication_line (due_of key log due))
+
+-- the mark is of so many entries, where a publication was due
+abbrev pub MarksDue : Option Due → ℕ → Option ℕ → Type 0
+MarksDue None size mark = ⊤
+MarksDue (Some due) size mark = mark ≡ Some size
+
+-- nothing is there that is spent since the publication before the one that was due
+abbrev pub LacksDue : Option Due → ℕ → Held → Type 0
+LacksDue None size held = ⊤
+LacksDue (Some due) size held = LacksSpent due.from size held
+
+-- the publication that was due was there, its checkpoint still is and its size is marked, and what it spent is gone,
+-- unless that is kept
+pub record ShowsDue (key : LogKey) (keeps : Bool) (due : Option Due) (mark : Option ℕ) (c : Course) : Type 0 where
+  pub seen : (history : List Prefix) (log : List Bytes) → IsKeeping sha256 history log c.before c.was
+      → All (WasThere c.sees) (due_of key log due)
+  pub there : (history : List Prefix) (log : List Bytes) → IsKeeping sha256 history log c.before c.was
+      → All (λ p. c.after.held resource.Checkpoint ≡ Some p.note) (due_of key log due)
+  pub marked : MarksDue due c.was.edge.size mark
+  pub gone : keeps ≡ false → LacksDue due c.was.edge.size c.after.held

@@ -1,182 +1,37 @@
-use Rattle.std.proofs.Common.{Global, Bool, ℕ, ap, refl, ◌∙◌, ◌≡◌, ◌<◌, ◌⊎◌, inl, inr, [], ◌++◌, List, length, map, vec_items, false, sym, subst, arith, append-nil}
-use Rattle.std.specs.Vec.{vec_len}
-use Rattle.std.proofs.lemmas.Bool.{eqb-true}
-use Rattle.std.proofs.lemmas.List.{length-map}
-use Rattle.tl_hash.specs.Bytes.{Bytes}
-use Rattle.tl_device.specs.Device.{HasFailed, passage}
-use Rattle.tl_lines.specs.Lines.{unread}
-use Rattle.tl_lines.specs.Reading.{TellsAll, TellsOf, all_entries}
-use Rattle.tl_lines.proofs.CuttingLemmas.{nothing_in}
-use Rattle.tl_lines.proofs.ReadingLemmas.{over}
-use Rattle.tl_append.specs.Appending.{AreBatches, AreFirst, joined}
-use Rattle.tl_append.proofs.Loops.{AreFull, IsSoFar, are_batches, batch_due, begun, ended, full_push, full_then, joined_push, none_begun, none_left, stopped, stopped_so}
-use Rattle.tl_append.proofs.Reading.{all_on, are_first, entries_are_short, first_failed, lines_on}
-use Rattle.tl_append.proofs.Turns.{along}
+use Rattle.std.proofs.Common.{ap}
+use Rattle.tl_device.specs.Device.{passage}
+use Rattle.tl_append.specs.Appending.{AreBatches}
+use Rattle.tl_append.proofs.Loops.{all_left, finished, has_ended, some_left}
 use Rattle.tl_append.proofs.appending.append_lines.Goals as goal
 
 pub returns-in-Err-clause-some : goal.returns-in-Err-clause-some
-returns-in-Err-clause-some g c = none_begun (g.K.LogSigner.log_key c.args.key.now) (g.S.Shelf.kept c.args.shelf.now) (g.S.Shelf.trace c.args.shelf.now) c.args.ledger.now (g.R.Read.remaining c.args.reader.now.device) c.args.reader.now.failed
+returns-in-Err-clause-some g c =
+    some_left (g.K.LogSigner.log_key c.args.key.now) (g.S.Shelf.kept c.args.shelf.now) (g.S.Shelf.kept c.put_lines-put.new.shelf) (g.S.Shelf.kept c.publish_due-shown.new.shelf)
+    (g.S.Shelf.trace c.args.shelf.now) (g.S.Shelf.trace c.put_lines-put.new.shelf) (g.S.Shelf.trace c.publish_due-shown.new.shelf) c.args.ledger.now c.put_lines-put.new.ledger (passage g.R.Read.remaining c.args.reader.now c.put_lines-put.new.reader) c.put_lines-put.new.due c.in-Err.ensures.some
+    (c.publish_due-shown.ensures.publishes (g.K.LogSigner.log_key c.args.key.now) c.in-Err.ensures.some.signed)
 
-pub loop-turn-init : goal.loop-turn-init
-loop-turn-init g c = record {
-  so_far = begun (g.K.LogSigner.log_key c.args.key.now) c.args.batch (g.S.Shelf.kept c.args.shelf.now) (g.S.Shelf.trace c.args.shelf.now) c.args.ledger.now (g.R.Read.remaining c.args.reader.now.device) (g.W.Write.contents c.args.writer.now.device) c.args.reader.now.failed c.args.writer.now.failed c.in-Ok.lines c.in-Ok.ensures;
-  small = inl refl;
-  place = refl;
-}
+pub returns-in-Ok-shown-clause-all : goal.returns-in-Ok-shown-clause-all
+returns-in-Ok-shown-clause-all g c =
+    let left = c.in-Ok.ensures.all in
+    finished (AreBatches c.args.batch) (g.K.LogSigner.log_key c.args.key.now) c.args.keeps_partials (g.S.Shelf.published c.put_lines-put.new.shelf) (g.S.Shelf.published c.publish_due-shown.new.shelf) (g.S.Shelf.kept c.args.shelf.now) (g.S.Shelf.kept c.put_lines-put.new.shelf) (g.S.Shelf.kept c.publish_due-shown.new.shelf)
+    (g.S.Shelf.trace c.args.shelf.now) (g.S.Shelf.trace c.put_lines-put.new.shelf) (g.S.Shelf.trace c.publish_due-shown.new.shelf) c.args.ledger.now c.put_lines-put.new.ledger
+    (g.W.Write.contents c.args.writer.now.device) (g.W.Write.contents c.put_lines-put.new.writer.device) (g.W.Write.contents c.publish_due-shown.new.writer.device) c.args.writer.now.failed c.put_lines-put.new.writer.failed c.publish_due-shown.new.writer.failed c.put_lines-put.new.due left.so_far
+    (c.publish_due-shown.ensures.publishes (g.K.LogSigner.log_key c.args.key.now) left.so_far.signed) (c.in-Ok-shown.ensures.shows (g.K.LogSigner.log_key c.args.key.now) left.so_far.signed) (c.in-Ok-shown.ensures.printed (g.K.LogSigner.log_key c.args.key.now) left.so_far.signed)
+    (λ none. (ap g.S.Shelf.kept (c.publish_due-shown.ensures.same none), ap g.S.Shelf.published (c.publish_due-shown.ensures.same none))) c.args.batch left.now (passage g.R.Read.remaining c.args.reader.now c.put_lines-put.new.reader) left.so_far.sized left.lines
 
-pub returns-in-Err-take_most-clause-some : goal.returns-in-Err-take_most-clause-some
-returns-in-Err-take_most-clause-some g c =
-    let so_far = c.loop-turn.invariant.so_far in
-    stopped (AreFull c.args.batch) (g.K.LogSigner.log_key c.args.key.now) c.loop-turn.is_first (g.S.Shelf.kept c.args.shelf.now) (g.S.Shelf.kept c.loop-turn.shelf) (g.S.Shelf.kept c.publish_due.new.shelf)
-    (g.S.Shelf.trace c.args.shelf.now) (g.S.Shelf.trace c.loop-turn.shelf) (g.S.Shelf.trace c.publish_due.new.shelf) c.args.ledger.now c.loop-turn.ledger c.loop-turn.ledger
-    (over (g.R.Read.remaining c.args.reader.now.device) (g.R.Read.remaining c.loop-turn.reader.device) c.args.reader.now.failed c.loop-turn.reader.failed) (g.W.Write.contents c.args.writer.now.device) (g.W.Write.contents c.loop-turn.writer.device) (g.W.Write.contents c.publish_due.new.writer.device) c.args.writer.now.failed c.loop-turn.writer.failed c.publish_due.new.writer.failed c.loop-turn.lines c.loop-turn.due so_far
-    [] (c.publish_due.ensures.publishes (g.K.LogSigner.log_key c.args.key.now) so_far.signed) (over (g.R.Read.remaining c.args.reader.now.device) (g.R.Read.remaining c.take_most.new.reader.device) c.args.reader.now.failed c.take_most.new.reader.failed)
-    (subst (λ (es : List Bytes). HasFailed (over (g.R.Read.remaining c.args.reader.now.device) (g.R.Read.remaining c.take_most.new.reader.device) c.args.reader.now.failed c.take_most.new.reader.failed) ⊎ AreFirst (over (g.R.Read.remaining c.args.reader.now.device) (g.R.Read.remaining c.take_most.new.reader.device) c.args.reader.now.failed c.take_most.new.reader.failed) es) (sym (append-nil (joined (so_far.batches ++ so_far.last))))
-    (first_failed c.loop-turn.lines c.take_most.new.self (g.R.Read.remaining c.args.reader.now.device) (g.R.Read.remaining c.loop-turn.reader.device) (g.R.Read.remaining c.take_most.new.reader.device) c.args.reader.now.failed c.loop-turn.reader.failed c.take_most.new.reader.failed (joined (so_far.batches ++ so_far.last)) so_far.lines Global c.args.batch c.in-Err-take_most.fault c.in-Err-take_most.ensures))
+pub returns-in-Ok-shown-clause-marked : goal.returns-in-Ok-shown-clause-marked
+returns-in-Ok-shown-clause-marked g c =
+    let left = c.in-Ok.ensures.all in
+    (has_ended (AreBatches c.args.batch) (g.K.LogSigner.log_key c.args.key.now) c.args.keeps_partials (g.S.Shelf.published c.put_lines-put.new.shelf) (g.S.Shelf.published c.publish_due-shown.new.shelf) (g.S.Shelf.kept c.args.shelf.now) (g.S.Shelf.kept c.put_lines-put.new.shelf) (g.S.Shelf.kept c.publish_due-shown.new.shelf)
+    (g.S.Shelf.trace c.args.shelf.now) (g.S.Shelf.trace c.put_lines-put.new.shelf) (g.S.Shelf.trace c.publish_due-shown.new.shelf) c.args.ledger.now c.put_lines-put.new.ledger
+    (g.W.Write.contents c.args.writer.now.device) (g.W.Write.contents c.put_lines-put.new.writer.device) (g.W.Write.contents c.publish_due-shown.new.writer.device) c.args.writer.now.failed c.put_lines-put.new.writer.failed c.publish_due-shown.new.writer.failed c.put_lines-put.new.due left.so_far
+    (c.publish_due-shown.ensures.publishes (g.K.LogSigner.log_key c.args.key.now) left.so_far.signed) (c.in-Ok-shown.ensures.shows (g.K.LogSigner.log_key c.args.key.now) left.so_far.signed) (c.in-Ok-shown.ensures.printed (g.K.LogSigner.log_key c.args.key.now) left.so_far.signed)
+    (λ none. (ap g.S.Shelf.kept (c.publish_due-shown.ensures.same none), ap g.S.Shelf.published (c.publish_due-shown.ensures.same none)))).marked
 
-pub returns-in-Ok-publish_due-clause-all : goal.returns-in-Ok-publish_due-clause-all
-returns-in-Ok-publish_due-clause-all g c =
-    let so_far = c.loop-turn.invariant.so_far in
-    let items = c.in-Ok-take_most.entries.items in
-    let none : length items ≡ 0 = omega (arith, eqb-true (vec_len c.in-Ok-take_most.entries) 0 (sym {A = Bool} c.if-is_empty.ensures), c.in-Ok-take_most.entries.ok.0) in
-    let some : TellsAll c.loop-turn.lines c.take_most.new.self (passage g.R.Read.remaining c.loop-turn.reader c.take_most.new.reader) (all_entries (map vec_items items)) =
-    c.in-Ok-take_most.ensures.2 (omega (arith, none, c.requires.batch)) in
-    let all : TellsAll c.loop-turn.lines c.take_most.new.self (passage g.R.Read.remaining c.loop-turn.reader c.take_most.new.reader) [] = rw (nothing_in items none) at some in
-    ended (AreFull c.args.batch) (g.K.LogSigner.log_key c.args.key.now) c.loop-turn.is_first (g.S.Shelf.kept c.args.shelf.now) (g.S.Shelf.kept c.loop-turn.shelf) (g.S.Shelf.kept c.publish_due-then-not-is_first.new.shelf)
-    (g.S.Shelf.trace c.args.shelf.now) (g.S.Shelf.trace c.loop-turn.shelf) (g.S.Shelf.trace c.publish_due-then-not-is_first.new.shelf) c.args.ledger.now c.loop-turn.ledger c.loop-turn.ledger
-    (over (g.R.Read.remaining c.args.reader.now.device) (g.R.Read.remaining c.loop-turn.reader.device) c.args.reader.now.failed c.loop-turn.reader.failed) (g.W.Write.contents c.args.writer.now.device) (g.W.Write.contents c.loop-turn.writer.device) (g.W.Write.contents c.publish_due-then-not-is_first.new.writer.device) c.args.writer.now.failed c.loop-turn.writer.failed c.publish_due-then-not-is_first.new.writer.failed c.loop-turn.lines c.loop-turn.due so_far
-    (c.publish_due-then-not-is_first.ensures.publishes (g.K.LogSigner.log_key c.args.key.now) so_far.signed) (c.in-Ok-publish_due.ensures.printed (g.K.LogSigner.log_key c.args.key.now) so_far.signed) c.args.batch c.take_most.new.self (over (g.R.Read.remaining c.args.reader.now.device) (g.R.Read.remaining c.take_most.new.reader.device) c.args.reader.now.failed c.take_most.new.reader.failed)
-    (are_batches c.args.batch (so_far.batches ++ so_far.last) so_far.sized) (so_far.some c.if-not-is_first.true)
-    (subst (λ (es : List Bytes). TellsAll unread c.take_most.new.self (over (g.R.Read.remaining c.args.reader.now.device) (g.R.Read.remaining c.take_most.new.reader.device) c.args.reader.now.failed c.take_most.new.reader.failed) (all_entries es)) (append-nil (joined (so_far.batches ++ so_far.last))) (all_on c.loop-turn.lines c.take_most.new.self (g.R.Read.remaining c.args.reader.now.device) (g.R.Read.remaining c.loop-turn.reader.device) (g.R.Read.remaining c.take_most.new.reader.device) c.args.reader.now.failed c.loop-turn.reader.failed c.take_most.new.reader.failed (joined (so_far.batches ++ so_far.last)) so_far.lines [] all))
-
-pub returns-in-Err-publish_due-clause-some : goal.returns-in-Err-publish_due-clause-some
-returns-in-Err-publish_due-clause-some g c =
-    let so_far = c.loop-turn.invariant.so_far in
-    let items = c.in-Ok-take_most.entries.items in
-    let none : length items ≡ 0 = omega (arith, eqb-true (vec_len c.in-Ok-take_most.entries) 0 (sym {A = Bool} c.if-is_empty.ensures), c.in-Ok-take_most.entries.ok.0) in
-    let some : TellsAll c.loop-turn.lines c.take_most.new.self (passage g.R.Read.remaining c.loop-turn.reader c.take_most.new.reader) (all_entries (map vec_items items)) =
-    c.in-Ok-take_most.ensures.2 (omega (arith, none, c.requires.batch)) in
-    let all : TellsAll c.loop-turn.lines c.take_most.new.self (passage g.R.Read.remaining c.loop-turn.reader c.take_most.new.reader) [] = rw (nothing_in items none) at some in
-    stopped (AreFull c.args.batch) (g.K.LogSigner.log_key c.args.key.now) c.loop-turn.is_first (g.S.Shelf.kept c.args.shelf.now) (g.S.Shelf.kept c.loop-turn.shelf) (g.S.Shelf.kept c.publish_due-then-not-is_first.new.shelf)
-    (g.S.Shelf.trace c.args.shelf.now) (g.S.Shelf.trace c.loop-turn.shelf) (g.S.Shelf.trace c.publish_due-then-not-is_first.new.shelf) c.args.ledger.now c.loop-turn.ledger c.loop-turn.ledger
-    (over (g.R.Read.remaining c.args.reader.now.device) (g.R.Read.remaining c.loop-turn.reader.device) c.args.reader.now.failed c.loop-turn.reader.failed) (g.W.Write.contents c.args.writer.now.device) (g.W.Write.contents c.loop-turn.writer.device) (g.W.Write.contents c.publish_due-then-not-is_first.new.writer.device) c.args.writer.now.failed c.loop-turn.writer.failed c.publish_due-then-not-is_first.new.writer.failed c.loop-turn.lines c.loop-turn.due so_far
-    [] (c.publish_due-then-not-is_first.ensures.publishes (g.K.LogSigner.log_key c.args.key.now) so_far.signed) (over (g.R.Read.remaining c.args.reader.now.device) (g.R.Read.remaining c.take_most.new.reader.device) c.args.reader.now.failed c.take_most.new.reader.failed)
-    (inr (are_first c.take_most.new.self (over (g.R.Read.remaining c.args.reader.now.device) (g.R.Read.remaining c.take_most.new.reader.device) c.args.reader.now.failed c.take_most.new.reader.failed) (joined (so_far.batches ++ so_far.last)) [] [] (inl refl) (lines_on c.loop-turn.lines c.take_most.new.self (g.R.Read.remaining c.args.reader.now.device) (g.R.Read.remaining c.loop-turn.reader.device) (g.R.Read.remaining c.take_most.new.reader.device) c.args.reader.now.failed c.loop-turn.reader.failed c.take_most.new.reader.failed (joined (so_far.batches ++ so_far.last)) so_far.lines [] all.lines)))
-
-pub put_due-requires-clause-short : goal.put_due-requires-clause-short
-put_due-requires-clause-short g c =
-    let told : TellsOf c.loop-turn.lines c.take_most.new.self (passage g.R.Read.remaining c.loop-turn.reader c.take_most.new.reader) (all_entries (map vec_items c.as_slice-batched.result.now)) =
-    rw c.as_slice-batched.ensures.value c.in-Ok-take_most.ensures.1 in
-    entries_are_short c.loop-turn.lines c.take_most.new.self (passage g.R.Read.remaining c.loop-turn.reader c.take_most.new.reader) (map vec_items c.as_slice-batched.result.now) told
-
-pub returns-in-Err-put_due-clause-some : goal.returns-in-Err-put_due-clause-some
-returns-in-Err-put_due-clause-some g c =
-    let so_far = c.loop-turn.invariant.so_far in
-    let told : TellsOf c.loop-turn.lines c.take_most.new.self (passage g.R.Read.remaining c.loop-turn.reader c.take_most.new.reader) (all_entries (map vec_items c.as_slice-batched.result.now)) =
-    rw c.as_slice-batched.ensures.value c.in-Ok-take_most.ensures.1 in
-    let part = c.in-Err-put_due.ensures.part so_far.signed in
-    stopped (AreFull c.args.batch) (g.K.LogSigner.log_key c.args.key.now) c.loop-turn.is_first (g.S.Shelf.kept c.args.shelf.now) (g.S.Shelf.kept c.loop-turn.shelf) (g.S.Shelf.kept c.put_due.new.shelf)
-    (g.S.Shelf.trace c.args.shelf.now) (g.S.Shelf.trace c.loop-turn.shelf) (g.S.Shelf.trace c.put_due.new.shelf) c.args.ledger.now c.loop-turn.ledger c.put_due.new.ledger
-    (over (g.R.Read.remaining c.args.reader.now.device) (g.R.Read.remaining c.loop-turn.reader.device) c.args.reader.now.failed c.loop-turn.reader.failed) (g.W.Write.contents c.args.writer.now.device) (g.W.Write.contents c.loop-turn.writer.device) (g.W.Write.contents c.put_due.new.writer.device) c.args.writer.now.failed c.loop-turn.writer.failed c.put_due.new.writer.failed c.loop-turn.lines c.loop-turn.due so_far
-    part.0 part.2 (over (g.R.Read.remaining c.args.reader.now.device) (g.R.Read.remaining c.take_most.new.reader.device) c.args.reader.now.failed c.take_most.new.reader.failed)
-    (inr (are_first c.take_most.new.self (over (g.R.Read.remaining c.args.reader.now.device) (g.R.Read.remaining c.take_most.new.reader.device) c.args.reader.now.failed c.take_most.new.reader.failed) (joined (so_far.batches ++ so_far.last)) (map vec_items c.as_slice-batched.result.now) part.0 part.1 (lines_on c.loop-turn.lines c.take_most.new.self (g.R.Read.remaining c.args.reader.now.device) (g.R.Read.remaining c.loop-turn.reader.device) (g.R.Read.remaining c.take_most.new.reader.device) c.args.reader.now.failed c.loop-turn.reader.failed c.take_most.new.reader.failed (joined (so_far.batches ++ so_far.last)) so_far.lines (map vec_items c.as_slice-batched.result.now) told)))
-
-pub returns-in-Ok-publish_due-2-clause-all : goal.returns-in-Ok-publish_due-2-clause-all
-returns-in-Ok-publish_due-2-clause-all g c =
-    let so_far = c.loop-turn.invariant.so_far in
-    let told : TellsOf c.loop-turn.lines c.take_most.new.self (passage g.R.Read.remaining c.loop-turn.reader c.take_most.new.reader) (all_entries (map vec_items c.as_slice-batched.result.now)) =
-    rw c.as_slice-batched.ensures.value c.in-Ok-take_most.ensures.1 in
-    let few : length c.in-Ok-take_most.entries.items < c.args.batch = omega (arith, c.len.ensures, c.in-Ok-take_most.entries.ok.0, c.if-len-batch.true) in
-    let all : TellsAll c.loop-turn.lines c.take_most.new.self (passage g.R.Read.remaining c.loop-turn.reader c.take_most.new.reader) (all_entries (map vec_items c.as_slice-batched.result.now)) =
-    rw c.as_slice-batched.ensures.value (c.in-Ok-take_most.ensures.2 few) in
-    let so_now : IsSoFar (AreBatches c.args.batch) (g.K.LogSigner.log_key c.args.key.now) false (along (g.S.Shelf.kept c.args.shelf.now) (g.S.Shelf.kept c.put_due.new.shelf) (g.S.Shelf.trace c.args.shelf.now) (g.S.Shelf.trace c.put_due.new.shelf) c.args.ledger.now c.put_due.new.ledger) (over (g.R.Read.remaining c.args.reader.now.device) (g.R.Read.remaining c.take_most.new.reader.device) c.args.reader.now.failed c.take_most.new.reader.failed) (over (g.W.Write.contents c.args.writer.now.device) (g.W.Write.contents c.put_due.new.writer.device) c.args.writer.now.failed c.put_due.new.writer.failed) c.take_most.new.self c.put_due.new.due =
-    batch_due (AreFull c.args.batch) (g.K.LogSigner.log_key c.args.key.now) c.loop-turn.is_first (g.S.Shelf.kept c.args.shelf.now) (g.S.Shelf.kept c.loop-turn.shelf) (g.S.Shelf.kept c.put_due.new.shelf)
-    (g.S.Shelf.trace c.args.shelf.now) (g.S.Shelf.trace c.loop-turn.shelf) (g.S.Shelf.trace c.put_due.new.shelf) c.args.ledger.now c.loop-turn.ledger c.put_due.new.ledger
-    (over (g.R.Read.remaining c.args.reader.now.device) (g.R.Read.remaining c.loop-turn.reader.device) c.args.reader.now.failed c.loop-turn.reader.failed) (g.W.Write.contents c.args.writer.now.device) (g.W.Write.contents c.loop-turn.writer.device) (g.W.Write.contents c.put_due.new.writer.device) c.args.writer.now.failed c.loop-turn.writer.failed c.put_due.new.writer.failed c.loop-turn.lines c.loop-turn.due so_far
-    (map vec_items c.as_slice-batched.result.now) (c.in-Ok-put_due.ensures.publishes so_far.signed) (c.in-Ok-put_due.ensures.printed so_far.signed)
-    (AreBatches c.args.batch) false (over (g.R.Read.remaining c.args.reader.now.device) (g.R.Read.remaining c.take_most.new.reader.device) c.args.reader.now.failed c.take_most.new.reader.failed) c.take_most.new.self (map vec_items c.as_slice-batched.result.now) c.put_due.new.due c.in-Ok-put_due.ensures.due.0 refl c.in-Ok-put_due.ensures.due.1 c.in-Ok-put_due.ensures.signed
-    (full_then c.args.batch (so_far.batches ++ so_far.last) (map vec_items c.as_slice-batched.result.now) so_far.sized (omega (arith, few, length-map c.as_slice-batched.result.now (vec_items {X = ℕ} {Z = Global}), ap length c.as_slice-batched.ensures.value)))
-    (lines_on c.loop-turn.lines c.take_most.new.self (g.R.Read.remaining c.args.reader.now.device) (g.R.Read.remaining c.loop-turn.reader.device) (g.R.Read.remaining c.take_most.new.reader.device) c.args.reader.now.failed c.loop-turn.reader.failed c.take_most.new.reader.failed (joined (so_far.batches ++ so_far.last)) so_far.lines (map vec_items c.as_slice-batched.result.now) told) in
-    ended (AreBatches c.args.batch) (g.K.LogSigner.log_key c.args.key.now) false (g.S.Shelf.kept c.args.shelf.now) (g.S.Shelf.kept c.put_due.new.shelf) (g.S.Shelf.kept c.publish_due-then-len-batch.new.shelf)
-    (g.S.Shelf.trace c.args.shelf.now) (g.S.Shelf.trace c.put_due.new.shelf) (g.S.Shelf.trace c.publish_due-then-len-batch.new.shelf) c.args.ledger.now c.put_due.new.ledger c.put_due.new.ledger
-    (over (g.R.Read.remaining c.args.reader.now.device) (g.R.Read.remaining c.take_most.new.reader.device) c.args.reader.now.failed c.take_most.new.reader.failed) (g.W.Write.contents c.args.writer.now.device) (g.W.Write.contents c.put_due.new.writer.device) (g.W.Write.contents c.publish_due-then-len-batch.new.writer.device) c.args.writer.now.failed c.put_due.new.writer.failed c.publish_due-then-len-batch.new.writer.failed c.take_most.new.self c.put_due.new.due so_now
-    (c.publish_due-then-len-batch.ensures.publishes (g.K.LogSigner.log_key c.args.key.now) so_now.signed) (c.in-Ok-publish_due-2.ensures.printed (g.K.LogSigner.log_key c.args.key.now) so_now.signed) c.args.batch c.take_most.new.self (over (g.R.Read.remaining c.args.reader.now.device) (g.R.Read.remaining c.take_most.new.reader.device) c.args.reader.now.failed c.take_most.new.reader.failed) so_now.sized (so_now.some refl)
-    (subst (λ (es : List Bytes). TellsAll unread c.take_most.new.self (over (g.R.Read.remaining c.args.reader.now.device) (g.R.Read.remaining c.take_most.new.reader.device) c.args.reader.now.failed c.take_most.new.reader.failed) (all_entries es)) (joined_push (so_far.batches ++ so_far.last) (map vec_items c.as_slice-batched.result.now)) (all_on c.loop-turn.lines c.take_most.new.self (g.R.Read.remaining c.args.reader.now.device) (g.R.Read.remaining c.loop-turn.reader.device) (g.R.Read.remaining c.take_most.new.reader.device) c.args.reader.now.failed c.loop-turn.reader.failed c.take_most.new.reader.failed (joined (so_far.batches ++ so_far.last)) so_far.lines (map vec_items c.as_slice-batched.result.now) all))
-
-pub returns-in-Err-publish_due-2-clause-some : goal.returns-in-Err-publish_due-2-clause-some
-returns-in-Err-publish_due-2-clause-some g c =
-    let so_far = c.loop-turn.invariant.so_far in
-    let told : TellsOf c.loop-turn.lines c.take_most.new.self (passage g.R.Read.remaining c.loop-turn.reader c.take_most.new.reader) (all_entries (map vec_items c.as_slice-batched.result.now)) =
-    rw c.as_slice-batched.ensures.value c.in-Ok-take_most.ensures.1 in
-    let few : length c.in-Ok-take_most.entries.items < c.args.batch = omega (arith, c.len.ensures, c.in-Ok-take_most.entries.ok.0, c.if-len-batch.true) in
-    let so_now : IsSoFar (AreBatches c.args.batch) (g.K.LogSigner.log_key c.args.key.now) false (along (g.S.Shelf.kept c.args.shelf.now) (g.S.Shelf.kept c.put_due.new.shelf) (g.S.Shelf.trace c.args.shelf.now) (g.S.Shelf.trace c.put_due.new.shelf) c.args.ledger.now c.put_due.new.ledger) (over (g.R.Read.remaining c.args.reader.now.device) (g.R.Read.remaining c.take_most.new.reader.device) c.args.reader.now.failed c.take_most.new.reader.failed) (over (g.W.Write.contents c.args.writer.now.device) (g.W.Write.contents c.put_due.new.writer.device) c.args.writer.now.failed c.put_due.new.writer.failed) c.take_most.new.self c.put_due.new.due =
-    batch_due (AreFull c.args.batch) (g.K.LogSigner.log_key c.args.key.now) c.loop-turn.is_first (g.S.Shelf.kept c.args.shelf.now) (g.S.Shelf.kept c.loop-turn.shelf) (g.S.Shelf.kept c.put_due.new.shelf)
-    (g.S.Shelf.trace c.args.shelf.now) (g.S.Shelf.trace c.loop-turn.shelf) (g.S.Shelf.trace c.put_due.new.shelf) c.args.ledger.now c.loop-turn.ledger c.put_due.new.ledger
-    (over (g.R.Read.remaining c.args.reader.now.device) (g.R.Read.remaining c.loop-turn.reader.device) c.args.reader.now.failed c.loop-turn.reader.failed) (g.W.Write.contents c.args.writer.now.device) (g.W.Write.contents c.loop-turn.writer.device) (g.W.Write.contents c.put_due.new.writer.device) c.args.writer.now.failed c.loop-turn.writer.failed c.put_due.new.writer.failed c.loop-turn.lines c.loop-turn.due so_far
-    (map vec_items c.as_slice-batched.result.now) (c.in-Ok-put_due.ensures.publishes so_far.signed) (c.in-Ok-put_due.ensures.printed so_far.signed)
-    (AreBatches c.args.batch) false (over (g.R.Read.remaining c.args.reader.now.device) (g.R.Read.remaining c.take_most.new.reader.device) c.args.reader.now.failed c.take_most.new.reader.failed) c.take_most.new.self (map vec_items c.as_slice-batched.result.now) c.put_due.new.due c.in-Ok-put_due.ensures.due.0 refl c.in-Ok-put_due.ensures.due.1 c.in-Ok-put_due.ensures.signed
-    (full_then c.args.batch (so_far.batches ++ so_far.last) (map vec_items c.as_slice-batched.result.now) so_far.sized (omega (arith, few, length-map c.as_slice-batched.result.now (vec_items {X = ℕ} {Z = Global}), ap length c.as_slice-batched.ensures.value)))
-    (lines_on c.loop-turn.lines c.take_most.new.self (g.R.Read.remaining c.args.reader.now.device) (g.R.Read.remaining c.loop-turn.reader.device) (g.R.Read.remaining c.take_most.new.reader.device) c.args.reader.now.failed c.loop-turn.reader.failed c.take_most.new.reader.failed (joined (so_far.batches ++ so_far.last)) so_far.lines (map vec_items c.as_slice-batched.result.now) told) in
-    stopped_so (AreBatches c.args.batch) (g.K.LogSigner.log_key c.args.key.now) false (g.S.Shelf.kept c.args.shelf.now) (g.S.Shelf.kept c.put_due.new.shelf) (g.S.Shelf.kept c.publish_due-then-len-batch.new.shelf)
-    (g.S.Shelf.trace c.args.shelf.now) (g.S.Shelf.trace c.put_due.new.shelf) (g.S.Shelf.trace c.publish_due-then-len-batch.new.shelf) c.args.ledger.now c.put_due.new.ledger c.put_due.new.ledger
-    (over (g.R.Read.remaining c.args.reader.now.device) (g.R.Read.remaining c.take_most.new.reader.device) c.args.reader.now.failed c.take_most.new.reader.failed) (g.W.Write.contents c.args.writer.now.device) (g.W.Write.contents c.put_due.new.writer.device) (g.W.Write.contents c.publish_due-then-len-batch.new.writer.device) c.args.writer.now.failed c.put_due.new.writer.failed c.publish_due-then-len-batch.new.writer.failed c.take_most.new.self c.put_due.new.due so_now
-    (c.publish_due-then-len-batch.ensures.publishes (g.K.LogSigner.log_key c.args.key.now) so_now.signed)
-
-pub loop-turn-preserved-then-waits_for_next : goal.loop-turn-preserved-then-waits_for_next
-loop-turn-preserved-then-waits_for_next g c =
-    let so_far = c.loop-turn.invariant.so_far in
-    let told : TellsOf c.loop-turn.lines c.take_most.new.self (passage g.R.Read.remaining c.loop-turn.reader c.take_most.new.reader) (all_entries (map vec_items c.as_slice-batched.result.now)) =
-    rw c.as_slice-batched.ensures.value c.in-Ok-take_most.ensures.1 in
-    let so_now : IsSoFar (AreFull c.args.batch) (g.K.LogSigner.log_key c.args.key.now) false (along (g.S.Shelf.kept c.args.shelf.now) (g.S.Shelf.kept c.put_due.new.shelf) (g.S.Shelf.trace c.args.shelf.now) (g.S.Shelf.trace c.put_due.new.shelf) c.args.ledger.now c.put_due.new.ledger) (over (g.R.Read.remaining c.args.reader.now.device) (g.R.Read.remaining c.take_most.new.reader.device) c.args.reader.now.failed c.take_most.new.reader.failed) (over (g.W.Write.contents c.args.writer.now.device) (g.W.Write.contents c.put_due.new.writer.device) c.args.writer.now.failed c.put_due.new.writer.failed) c.take_most.new.self c.put_due.new.due =
-    batch_due (AreFull c.args.batch) (g.K.LogSigner.log_key c.args.key.now) c.loop-turn.is_first (g.S.Shelf.kept c.args.shelf.now) (g.S.Shelf.kept c.loop-turn.shelf) (g.S.Shelf.kept c.put_due.new.shelf)
-    (g.S.Shelf.trace c.args.shelf.now) (g.S.Shelf.trace c.loop-turn.shelf) (g.S.Shelf.trace c.put_due.new.shelf) c.args.ledger.now c.loop-turn.ledger c.put_due.new.ledger
-    (over (g.R.Read.remaining c.args.reader.now.device) (g.R.Read.remaining c.loop-turn.reader.device) c.args.reader.now.failed c.loop-turn.reader.failed) (g.W.Write.contents c.args.writer.now.device) (g.W.Write.contents c.loop-turn.writer.device) (g.W.Write.contents c.put_due.new.writer.device) c.args.writer.now.failed c.loop-turn.writer.failed c.put_due.new.writer.failed c.loop-turn.lines c.loop-turn.due so_far
-    (map vec_items c.as_slice-batched.result.now) (c.in-Ok-put_due.ensures.publishes so_far.signed) (c.in-Ok-put_due.ensures.printed so_far.signed)
-    (AreFull c.args.batch) false (over (g.R.Read.remaining c.args.reader.now.device) (g.R.Read.remaining c.take_most.new.reader.device) c.args.reader.now.failed c.take_most.new.reader.failed) c.take_most.new.self (map vec_items c.as_slice-batched.result.now) c.put_due.new.due c.in-Ok-put_due.ensures.due.0 refl c.in-Ok-put_due.ensures.due.1 c.in-Ok-put_due.ensures.signed
-    (full_push c.args.batch (so_far.batches ++ so_far.last) (map vec_items c.as_slice-batched.result.now) so_far.sized (omega (arith, c.in-Ok-take_most.ensures.0, c.len.ensures, c.in-Ok-take_most.entries.ok.0, c.if-len-batch.false, length-map c.as_slice-batched.result.now (vec_items {X = ℕ} {Z = Global}), ap length c.as_slice-batched.ensures.value)))
-    (lines_on c.loop-turn.lines c.take_most.new.self (g.R.Read.remaining c.args.reader.now.device) (g.R.Read.remaining c.loop-turn.reader.device) (g.R.Read.remaining c.take_most.new.reader.device) c.args.reader.now.failed c.loop-turn.reader.failed c.take_most.new.reader.failed (joined (so_far.batches ++ so_far.last)) so_far.lines (map vec_items c.as_slice-batched.result.now) told) in
-    record {
-      so_far = so_now;
-      small = inr c.in-Ok-put_due.ensures.small;
-      place = c.put_due.ensures.place ∙ c.loop-turn.invariant.place;
-    }
-
-pub returns-in-Err-publish_due-3-clause-some : goal.returns-in-Err-publish_due-3-clause-some
-returns-in-Err-publish_due-3-clause-some g c =
-    let so_far = c.loop-turn.invariant.so_far in
-    let told : TellsOf c.loop-turn.lines c.take_most.new.self (passage g.R.Read.remaining c.loop-turn.reader c.take_most.new.reader) (all_entries (map vec_items c.as_slice-batched.result.now)) =
-    rw c.as_slice-batched.ensures.value c.in-Ok-take_most.ensures.1 in
-    let so_now : IsSoFar (AreFull c.args.batch) (g.K.LogSigner.log_key c.args.key.now) false (along (g.S.Shelf.kept c.args.shelf.now) (g.S.Shelf.kept c.put_due.new.shelf) (g.S.Shelf.trace c.args.shelf.now) (g.S.Shelf.trace c.put_due.new.shelf) c.args.ledger.now c.put_due.new.ledger) (over (g.R.Read.remaining c.args.reader.now.device) (g.R.Read.remaining c.take_most.new.reader.device) c.args.reader.now.failed c.take_most.new.reader.failed) (over (g.W.Write.contents c.args.writer.now.device) (g.W.Write.contents c.put_due.new.writer.device) c.args.writer.now.failed c.put_due.new.writer.failed) c.take_most.new.self c.put_due.new.due =
-    batch_due (AreFull c.args.batch) (g.K.LogSigner.log_key c.args.key.now) c.loop-turn.is_first (g.S.Shelf.kept c.args.shelf.now) (g.S.Shelf.kept c.loop-turn.shelf) (g.S.Shelf.kept c.put_due.new.shelf)
-    (g.S.Shelf.trace c.args.shelf.now) (g.S.Shelf.trace c.loop-turn.shelf) (g.S.Shelf.trace c.put_due.new.shelf) c.args.ledger.now c.loop-turn.ledger c.put_due.new.ledger
-    (over (g.R.Read.remaining c.args.reader.now.device) (g.R.Read.remaining c.loop-turn.reader.device) c.args.reader.now.failed c.loop-turn.reader.failed) (g.W.Write.contents c.args.writer.now.device) (g.W.Write.contents c.loop-turn.writer.device) (g.W.Write.contents c.put_due.new.writer.device) c.args.writer.now.failed c.loop-turn.writer.failed c.put_due.new.writer.failed c.loop-turn.lines c.loop-turn.due so_far
-    (map vec_items c.as_slice-batched.result.now) (c.in-Ok-put_due.ensures.publishes so_far.signed) (c.in-Ok-put_due.ensures.printed so_far.signed)
-    (AreFull c.args.batch) false (over (g.R.Read.remaining c.args.reader.now.device) (g.R.Read.remaining c.take_most.new.reader.device) c.args.reader.now.failed c.take_most.new.reader.failed) c.take_most.new.self (map vec_items c.as_slice-batched.result.now) c.put_due.new.due c.in-Ok-put_due.ensures.due.0 refl c.in-Ok-put_due.ensures.due.1 c.in-Ok-put_due.ensures.signed
-    (full_push c.args.batch (so_far.batches ++ so_far.last) (map vec_items c.as_slice-batched.result.now) so_far.sized (omega (arith, c.in-Ok-take_most.ensures.0, c.len.ensures, c.in-Ok-take_most.entries.ok.0, c.if-len-batch.false, length-map c.as_slice-batched.result.now (vec_items {X = ℕ} {Z = Global}), ap length c.as_slice-batched.ensures.value)))
-    (lines_on c.loop-turn.lines c.take_most.new.self (g.R.Read.remaining c.args.reader.now.device) (g.R.Read.remaining c.loop-turn.reader.device) (g.R.Read.remaining c.take_most.new.reader.device) c.args.reader.now.failed c.loop-turn.reader.failed c.take_most.new.reader.failed (joined (so_far.batches ++ so_far.last)) so_far.lines (map vec_items c.as_slice-batched.result.now) told) in
-    stopped_so (AreFull c.args.batch) (g.K.LogSigner.log_key c.args.key.now) false (g.S.Shelf.kept c.args.shelf.now) (g.S.Shelf.kept c.put_due.new.shelf) (g.S.Shelf.kept c.publish_due-in-loop-turn.new.shelf)
-    (g.S.Shelf.trace c.args.shelf.now) (g.S.Shelf.trace c.put_due.new.shelf) (g.S.Shelf.trace c.publish_due-in-loop-turn.new.shelf) c.args.ledger.now c.put_due.new.ledger c.put_due.new.ledger
-    (over (g.R.Read.remaining c.args.reader.now.device) (g.R.Read.remaining c.take_most.new.reader.device) c.args.reader.now.failed c.take_most.new.reader.failed) (g.W.Write.contents c.args.writer.now.device) (g.W.Write.contents c.put_due.new.writer.device) (g.W.Write.contents c.publish_due-in-loop-turn.new.writer.device) c.args.writer.now.failed c.put_due.new.writer.failed c.publish_due-in-loop-turn.new.writer.failed c.take_most.new.self c.put_due.new.due so_now
-    (c.publish_due-in-loop-turn.ensures.publishes (g.K.LogSigner.log_key c.args.key.now) so_now.signed)
-
-pub loop-turn-preserved : goal.loop-turn-preserved
-loop-turn-preserved g c =
-    let so_far = c.loop-turn.invariant.so_far in
-    let told : TellsOf c.loop-turn.lines c.take_most.new.self (passage g.R.Read.remaining c.loop-turn.reader c.take_most.new.reader) (all_entries (map vec_items c.as_slice-batched.result.now)) =
-    rw c.as_slice-batched.ensures.value c.in-Ok-take_most.ensures.1 in
-    let so_now : IsSoFar (AreFull c.args.batch) (g.K.LogSigner.log_key c.args.key.now) false (along (g.S.Shelf.kept c.args.shelf.now) (g.S.Shelf.kept c.put_due.new.shelf) (g.S.Shelf.trace c.args.shelf.now) (g.S.Shelf.trace c.put_due.new.shelf) c.args.ledger.now c.put_due.new.ledger) (over (g.R.Read.remaining c.args.reader.now.device) (g.R.Read.remaining c.take_most.new.reader.device) c.args.reader.now.failed c.take_most.new.reader.failed) (over (g.W.Write.contents c.args.writer.now.device) (g.W.Write.contents c.put_due.new.writer.device) c.args.writer.now.failed c.put_due.new.writer.failed) c.take_most.new.self c.put_due.new.due =
-    batch_due (AreFull c.args.batch) (g.K.LogSigner.log_key c.args.key.now) c.loop-turn.is_first (g.S.Shelf.kept c.args.shelf.now) (g.S.Shelf.kept c.loop-turn.shelf) (g.S.Shelf.kept c.put_due.new.shelf)
-    (g.S.Shelf.trace c.args.shelf.now) (g.S.Shelf.trace c.loop-turn.shelf) (g.S.Shelf.trace c.put_due.new.shelf) c.args.ledger.now c.loop-turn.ledger c.put_due.new.ledger
-    (over (g.R.Read.remaining c.args.reader.now.device) (g.R.Read.remaining c.loop-turn.reader.device) c.args.reader.now.failed c.loop-turn.reader.failed) (g.W.Write.contents c.args.writer.now.device) (g.W.Write.contents c.loop-turn.writer.device) (g.W.Write.contents c.put_due.new.writer.device) c.args.writer.now.failed c.loop-turn.writer.failed c.put_due.new.writer.failed c.loop-turn.lines c.loop-turn.due so_far
-    (map vec_items c.as_slice-batched.result.now) (c.in-Ok-put_due.ensures.publishes so_far.signed) (c.in-Ok-put_due.ensures.printed so_far.signed)
-    (AreFull c.args.batch) false (over (g.R.Read.remaining c.args.reader.now.device) (g.R.Read.remaining c.take_most.new.reader.device) c.args.reader.now.failed c.take_most.new.reader.failed) c.take_most.new.self (map vec_items c.as_slice-batched.result.now) c.put_due.new.due c.in-Ok-put_due.ensures.due.0 refl c.in-Ok-put_due.ensures.due.1 c.in-Ok-put_due.ensures.signed
-    (full_push c.args.batch (so_far.batches ++ so_far.last) (map vec_items c.as_slice-batched.result.now) so_far.sized (omega (arith, c.in-Ok-take_most.ensures.0, c.len.ensures, c.in-Ok-take_most.entries.ok.0, c.if-len-batch.false, length-map c.as_slice-batched.result.now (vec_items {X = ℕ} {Z = Global}), ap length c.as_slice-batched.ensures.value)))
-    (lines_on c.loop-turn.lines c.take_most.new.self (g.R.Read.remaining c.args.reader.now.device) (g.R.Read.remaining c.loop-turn.reader.device) (g.R.Read.remaining c.take_most.new.reader.device) c.args.reader.now.failed c.loop-turn.reader.failed c.take_most.new.reader.failed (joined (so_far.batches ++ so_far.last)) so_far.lines (map vec_items c.as_slice-batched.result.now) told) in
-    record {
-      so_far = none_left (AreFull c.args.batch) (g.K.LogSigner.log_key c.args.key.now) false (g.S.Shelf.kept c.args.shelf.now) (g.S.Shelf.kept c.put_due.new.shelf) (g.S.Shelf.kept c.publish_due-in-loop-turn.new.shelf)
-          (g.S.Shelf.trace c.args.shelf.now) (g.S.Shelf.trace c.put_due.new.shelf) (g.S.Shelf.trace c.publish_due-in-loop-turn.new.shelf) c.args.ledger.now c.put_due.new.ledger c.put_due.new.ledger
-          (over (g.R.Read.remaining c.args.reader.now.device) (g.R.Read.remaining c.take_most.new.reader.device) c.args.reader.now.failed c.take_most.new.reader.failed) (g.W.Write.contents c.args.writer.now.device) (g.W.Write.contents c.put_due.new.writer.device) (g.W.Write.contents c.publish_due-in-loop-turn.new.writer.device) c.args.writer.now.failed c.put_due.new.writer.failed c.publish_due-in-loop-turn.new.writer.failed c.take_most.new.self c.put_due.new.due so_now
-          (c.publish_due-in-loop-turn.ensures.publishes (g.K.LogSigner.log_key c.args.key.now) so_now.signed) (c.in-Ok-publish_due-3.ensures.printed (g.K.LogSigner.log_key c.args.key.now) so_now.signed) c.publish_due-in-loop-turn.new.due c.publish_due-in-loop-turn.ensures.none;
-      small = inl c.publish_due-in-loop-turn.ensures.none;
-      place = c.publish_due-in-loop-turn.ensures.place ∙ c.put_due.ensures.place ∙ c.loop-turn.invariant.place;
-    }
+pub returns-clause-some : goal.returns-clause-some
+returns-clause-some g c =
+    let left = c.in-Ok.ensures.all in
+    some_left (g.K.LogSigner.log_key c.args.key.now) (g.S.Shelf.kept c.args.shelf.now) (g.S.Shelf.kept c.put_lines-put.new.shelf) (g.S.Shelf.kept c.publish_due-shown.new.shelf)
+    (g.S.Shelf.trace c.args.shelf.now) (g.S.Shelf.trace c.put_lines-put.new.shelf) (g.S.Shelf.trace c.publish_due-shown.new.shelf) c.args.ledger.now c.put_lines-put.new.ledger (passage g.R.Read.remaining c.args.reader.now c.put_lines-put.new.reader) c.put_lines-put.new.due
+    (all_left (g.K.LogSigner.log_key c.args.key.now) c.args.batch c.args.keeps_partials c.put_lines-put.new.due (g.S.Shelf.published c.put_lines-put.new.shelf) (g.S.Shelf.kept c.args.shelf.now) (g.S.Shelf.kept c.put_lines-put.new.shelf) (g.S.Shelf.trace c.args.shelf.now) (g.S.Shelf.trace c.put_lines-put.new.shelf) c.args.ledger.now c.put_lines-put.new.ledger (passage g.R.Read.remaining c.args.reader.now c.put_lines-put.new.reader) _ left)
+    (c.publish_due-shown.ensures.publishes (g.K.LogSigner.log_key c.args.key.now) left.so_far.signed)

@@ -1,7 +1,7 @@
-use Rattle.std.proofs.Common.{◌≡◌, ◌⊎◌, inr, [], List, Option, map, vec_items, refl, subst}
+use Rattle.std.proofs.Common.{◌≡◌, ◌∙◌, ◌⊎◌, inr, [], List, Option, map, vec_items, refl, subst}
 use Rattle.tl_hash.specs.Bytes.{Bytes}
 use Rattle.tl_device.specs.Device.{passage}
-use Rattle.tl_append.specs.Inner.Due.{IsSigned, PrintsDue, PublishesDue}
+use Rattle.tl_append.specs.Inner.Due.{IsSigned, PrintsDue, PublishesDue, ShowsDue}
 use Rattle.tl_append.specs.declared.due.Due.{Due}
 use Rattle.tl_append.proofs.Turns.{along}
 use Rattle.tl_append.proofs.due.put_due.Goals as goal
@@ -24,4 +24,9 @@ returns-in-Err-sign_due-clause-part g c = λ signed. (
 )
 
 pub returns-in-Ok-sign_due-clause-due : goal.returns-in-Ok-sign_due-clause-due
-returns-in-Ok-sign_due-clause-due g c = (c.in-Ok-sign_due.last, refl)
+returns-in-Ok-sign_due-clause-due g c = (c.in-Ok-sign_due.last, refl, c.in-Ok-sign_due.ensures.from ∙ c.size-from.ensures)
+
+pub returns-in-Ok-sign_due-clause-shows : goal.returns-in-Ok-sign_due-clause-shows
+returns-in-Ok-sign_due-clause-shows g c =
+    subst (λ (d : Option Due). IsSigned (g.K.LogSigner.log_key c.args.key.now) c.args.ledger.now d → ShowsDue (g.K.LogSigner.log_key c.args.key.now) c.args.keeps_partials d (g.S.Shelf.published c.put_with.new.shelf) (along (g.S.Shelf.kept c.args.shelf.now) (g.S.Shelf.kept c.put_with.new.shelf) (g.S.Shelf.trace c.args.shelf.now) (g.S.Shelf.trace c.put_with.new.shelf) c.args.ledger.now c.put_with.new.ledger))
+    c.take.ensures.value (c.in-Ok-put_with.ensures.shows (g.K.LogSigner.log_key c.args.key.now))

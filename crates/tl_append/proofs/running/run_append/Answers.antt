@@ -45,3 +45,10 @@ returns-in-Ok-append_under-clause-newest g c =
 pub returns-in-Err-append_under-clause-newest : goal.returns-in-Err-append_under-clause-newest
 returns-in-Err-append_under-clause-newest g c =
     has_own c.args.options.now.key _ _ (log_key_of c.in-Ok.keys.signer) (opening_key_of c.in-Ok.keys.verifier) _ _ c.as_str-origin.ensures.value c.in-Ok.ensures.both c.append_under.ensures.newest
+
+pub returns-in-Ok-append_under-clause-marked : goal.returns-in-Ok-append_under-clause-marked
+returns-in-Ok-append_under-clause-marked g c = (
+  log_key_of c.in-Ok.keys.signer,
+  subst (λ (n : Bytes). IsLogKey c.args.options.now.key n (log_key_of c.in-Ok.keys.signer)) c.as_str-origin.ensures.value c.in-Ok.ensures.signer,
+  c.in-Ok-append_under.ensures.marked,
+)

@@ -6,7 +6,7 @@ use Rattle.tl_archive.specs.Shelves.{Kept}
 use Rattle.tl_ledger.specs.Keeping.{IsKeeping, published}
 use Rattle.tl_ledger.specs.Inner.Putting.{KeepsAt}
 use Rattle.tl_ledger.proofs.Beside.{on_err_any}
-use Rattle.tl_ledger.proofs.Keeping.{copied, marked_kept, marked_safe, same_trace, unasked_kept, within}
+use Rattle.tl_ledger.proofs.Keeping.{copied, last_seen, marked_kept, marked_safe, same_trace, unasked_kept, within}
 use Rattle.tl_ledger.proofs.ledger.Ledger.seal_and_put.Goals as goal
 
 pub returns-in_err-edge-clause-stayed : goal.returns-in_err-edge-clause-stayed
@@ -92,3 +92,6 @@ returns-clause-there g c = λ history log was.
     let copy : KeepsAt sha256 history log (g.S.Shelf.kept c.args.shelf.now) c.in_ok-edge.edge c.in_ok-bundle.bundle.items =
     copied history log (g.S.Shelf.kept c.args.shelf.now) c.self.inside.edge c.in_ok-edge.edge c.self.inside.bundle.items c.in_ok-bundle.bundle.items c.in_ok-edge.ensures.size c.in_ok-edge.ensures.kept bundle own in
     subst (λ (k : Kept). IsFor sha256 (published log c.args.note.now) k.held) (sym c.mark_published.ensures.kept) (c.in_ok-put_beside.ensures.there history log copy)
+
+pub returns-clause-seen : goal.returns-clause-seen
+returns-clause-seen g c = last_seen (g.S.Shelf.kept c.mark_published.new.self) (g.S.Shelf.trace c.put_beside.new.shelf) (g.S.Shelf.trace c.mark_published.new.self) c.mark_published.ensures.trace

@@ -1,0 +1,19 @@
+-- Spent partial tiles and bundles that are removed.
+use Rattle.std.specs.Prelude.{ℕ, List}
+use Rattle.sha2.specs.Sha256.{sha256}
+use Rattle.tl_hash.specs.Bytes.{Bytes}
+use Rattle.tl_publisher.specs.Histories.{Prefix}
+use Rattle.tl_archive.specs.Shelves.{Kept}
+use Rattle.tl_archive.specs.Complete.{KeptSafe}
+use Rattle.tl_ledger.specs.Standing.{Ledger}
+use Rattle.tl_ledger.specs.Keeping.{IsKeeping}
+use Rattle.tl_ledger.specs.Spent.{IsShown, RemovesSpent}
+
+-- some that are spent may be gone, and where the checkpoint of so many entries is there, all that the ledger kept it
+-- keeps, and whatever a crash leaves at any moment in between is complete
+pub record ShedsSpent (size : ℕ) (a b : Kept) (saw sees : List Kept) : Type 0 where
+  pub kept : (history : List Prefix) (log : List Bytes) (ledger : Ledger) → IsKeeping sha256 history log a ledger
+      → IsShown sha256 history size a.held → IsKeeping sha256 history log b ledger
+  pub safe : (history : List Prefix) (log : List Bytes) (ledger : Ledger) → IsKeeping sha256 history log a ledger
+      → IsShown sha256 history size a.held → KeptSafe sha256 history saw sees
+  pub spent : RemovesSpent size a b
