@@ -6,7 +6,8 @@ use std::alloc::Global;
 use std::io;
 use std::time::{Clock, Instant};
 use tl_hash::{Hash, Sha256Tree, TreeHash, leaf_hash};
-use tl_proof::{InclusionClaim, check_records, prove_records};
+use tl_proof::prove_records;
+use tl_records::{InclusionClaim, check_records};
 
 // The places of the proofs in a log of this size.
 fn places(alloc: Global, size: u64) -> Option<Vec<u64>> {

@@ -1,6 +1,5 @@
 pub mod Equations
 pub mod Inclusion
-pub mod LaneSteps
 pub mod Consistency
 pub mod Folds
 pub mod Forks

@@ -2,8 +2,6 @@
 pub
     mod Forks
 pub
-    mod Lanes
-pub
     mod ManyPaths
 pub
     mod Segments

@@ -4,11 +4,7 @@
 //! let proof = prove_tree(alloc, Sha256Tree, 2, 1, &store)?; // from one entry to two
 //! assert!(check_tree(Sha256Tree, &proof, 2, root, 1, old_root));
 //! assert!(!check_tree(Sha256Tree, &proof, 2, root, 1, root));
-//!
 //! let proofs = prove_records(alloc, Sha256Tree, 2, &[0, 1], &store)?; // of both entries, from one read
-//! let cat = InclusionClaim { index: 0, leaf: cat_hash, proof: &proofs[0] };
-//! let dog = InclusionClaim { index: 1, leaf: dog_hash, proof: &proofs[1] };
-//! assert!(check_records(Sha256Tree, 2, root, &[cat, dog])); // four proofs at a time
 //! ```
 #![tactic(auto)]
 
@@ -20,7 +16,6 @@ mod link;
 mod plan;
 mod prove;
 mod read;
-mod records;
 mod verdict;
 
 pub use audit::{audit_chain, audit_tree};
@@ -28,5 +23,4 @@ pub use check::{check_record, check_tree};
 pub use fault::ProveFault;
 pub use link::{HashList, Link};
 pub use prove::{prove_record, prove_records, prove_tree};
-pub use records::{InclusionClaim, check_records};
 pub use verdict::{AuditFault, Verdict};

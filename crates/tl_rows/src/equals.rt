@@ -5,7 +5,8 @@ use crate::proofs::{Claim, accepts, made};
 use crate::words::{Told, Words, put, unknown};
 use std::alloc::{Allocator, Global};
 use tl_hash::{Hash, Sha256Tree, leaf_hash, node_hash};
-use tl_proof::{InclusionClaim, check_records, prove_records};
+use tl_proof::prove_records;
+use tl_records::{InclusionClaim, check_records};
 use tl_store::{stored_index, tree_hash};
 use tl_tile::{FetchedTiles, SourceFault, Tile, TileHashReader, TileSource, tile_bytes};
 

@@ -4,10 +4,8 @@ use crate::stores::named_store;
 use crate::words::{Shown, Told, Words, entries_of, number_of, put, unknown};
 use std::alloc::{AllocError, Global};
 use tl_hash::{Hash, Sha256Tree, entry_root, leaf_hash};
-use tl_proof::{
-    InclusionClaim, ProveFault, check_record, check_records, check_tree, prove_record,
-    prove_records, prove_tree,
-};
+use tl_proof::{ProveFault, check_record, check_tree, prove_record, prove_records, prove_tree};
+use tl_records::{InclusionClaim, check_records};
 use tl_store::HashReader;
 
 /// What a proof is to show: of an entry by its index and leaf hash, or of an old size and root.

@@ -5,8 +5,8 @@ use Rattle.std.proofs.lemmas.Bool.{eq-eqb}
 use Rattle.tl_hash.specs.Bytes.{Digest}
 use Rattle.tl_hash.specs.Tree.{node_input}
 use Rattle.tl_proof.specs.Acceptance.{root_from_leaf, AcceptsInclusion}
-use Rattle.tl_proof.specs.Inner.Lanes.{lane_root, node_with, LeadsTo}
-use Rattle.tl_proof.specs.declared.records.ClaimWalk.{ClaimWalk}
+use Rattle.tl_records.specs.Inner.Lanes.{lane_root, node_with, LeadsTo}
+use Rattle.tl_records.specs.declared.checking.ClaimWalk.{ClaimWalk}
 use Rattle.std.proofs.lemmas.List.{get_or_default}
 use Rattle.std.proofs.lemmas.List.Elements.{All-cons, All-head, All-tail}
 use Rattle.tl_proof.proofs.Folds.{Some-injective}

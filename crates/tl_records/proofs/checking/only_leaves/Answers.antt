@@ -1,5 +1,5 @@
-use Rattle.tl_proof.proofs.LaneSteps.{lane-leaf}
-use Rattle.tl_proof.proofs.records.only_leaves.Goals as goal
+use Rattle.tl_records.proofs.LaneSteps.{lane-leaf}
+use Rattle.tl_records.proofs.checking.only_leaves.Goals as goal
 
 pub returns-then-lanes-eq1-4-clause-a : goal.returns-then-lanes-eq1-4-clause-a
 returns-then-lanes-eq1-4-clause-a c H = lane-leaf H c.args.lanes.a c.if-lanes-eq1.true

@@ -1,7 +1,7 @@
 use Rattle.tl_proof.specs.Acceptance.{AcceptsInclusion}
 use Rattle.std.proofs.lemmas.List.{take_rest}
-use Rattle.tl_proof.proofs.LaneSteps.{All-four}
-use Rattle.tl_proof.proofs.records.check_records.Goals as goal
+use Rattle.tl_records.proofs.LaneSteps.{All-four}
+use Rattle.tl_records.proofs.checking.check_records.Goals as goal
 
 pub loop-left-preserved : goal.loop-left-preserved
 loop-left-preserved g c =

@@ -3,7 +3,7 @@ use Rattle.std.specs.Prelude.{◌≡◌, Bool, List, Option, Some, reverse, if�
 use Rattle.tl_hash.specs.Bytes.{Bytes, Digest}
 use Rattle.tl_hash.specs.Tree.{node_input}
 use Rattle.tl_proof.specs.Acceptance.{root_from_leaf}
-use Rattle.tl_proof.specs.declared.records.ClaimWalk.{ClaimWalk}
+use Rattle.tl_records.specs.declared.checking.ClaimWalk.{ClaimWalk}
 
 -- the root that a proof leads to from the leaf of a lane; the proof is given from its last hash to its first
 abbrev pub lane_root : Digest → ClaimWalk → List Bytes → Option Bytes

@@ -1,7 +1,7 @@
 use Rattle.std.proofs.Common.{slice_index_or, ℕ, List, [], Some, refl, sym, ap, ◌∙◌, arith}
 use Rattle.std.proofs.lemmas.List.{get_or_default}
-use Rattle.tl_proof.proofs.LaneSteps.{lane-up, leaves-lead}
-use Rattle.tl_proof.proofs.records.+lead_four.Goals as goal
+use Rattle.tl_records.proofs.LaneSteps.{lane-up, leaves-lead}
+use Rattle.tl_records.proofs.checking.+lead_four.Goals as goal
 
 pub returns-then-n-eq0-clause-a : goal.returns-then-n-eq0-clause-a
 returns-then-n-eq0-clause-a g t c = leaves-lead g.T.TreeHash.digest_of c.args.lanes.a c.args.a.now c.only_leaves.result 0 (c.if-n-eq0.true) c.only_leaves.ensures.a

@@ -1,6 +1,6 @@
 use Rattle.std.proofs.Common.{◌↔◌, All, length}
 use Rattle.tl_proof.specs.Acceptance.{AcceptsInclusion}
-use Rattle.tl_proof.proofs.records.check_records.Given as goal
+use Rattle.tl_records.proofs.checking.check_records.Given as goal
 
 -- all are accepted where all that are left are
 abbrev pub invariant-loop-left : goal.invariant-loop-left

@@ -1,6 +1,6 @@
 use Rattle.std.proofs.Common.{arith}
-use Rattle.tl_proof.proofs.LaneSteps.{accepts-at, iff_four, iff_both}
-use Rattle.tl_proof.proofs.records.accepts_four.Goals as goal
+use Rattle.tl_records.proofs.LaneSteps.{accepts-at, iff_four, iff_both}
+use Rattle.tl_records.proofs.checking.accepts_four.Goals as goal
 
 pub returns-in-Some : goal.returns-in-Some
 returns-in-Some g c =

@@ -3,10 +3,10 @@
 ghost use Rattle.std.specs.Prelude.{◌≡◌, ◌<◌, ◌↔◌, IsTrue, IfSome, All, Some, reverse, length, option_map, slice_index_or, if◌then◌else◌, [], ◌∷◌, List};
 ghost use Rattle.tl_hash.specs.Bytes.{Bytes, Digest};
 ghost use Rattle.tl_proof.specs.Acceptance.{root_from_leaf, AcceptsInclusion};
-ghost use Rattle.tl_proof.specs.Inner.Lanes.{LeadsTo, lane_root, node_with};
+ghost use Rattle.tl_records.specs.Inner.Lanes.{LeadsTo, lane_root, node_with};
 
-use crate::check::{check_record, same};
 use tl_hash::{Hash, TreeHash, hash_level, split_point};
+use tl_proof::check_record;
 
 /// A claim of inclusion: the entry at `index`, counted from 0, has this leaf hash. Its inclusion proof goes with it
 /// (PATH of RFC 6962, section 2.1.1), the hash nearest to the leaf first.
@@ -210,7 +210,7 @@ fn lead_records<T: TreeHash>(
 fn reaches(index: u64, size: u64, found: Hash, root: Hash) -> bool
     ensures { IsTrue result ↔ ((index < size) × (found ≡ root)) }
 {
-    index < size && same(found, root)
+    index < size && found == root
 }
 
 // Whether all four are true.

@@ -1,5 +1,5 @@
 use Rattle.tl_proof.proofs.Equations.{root_from_leaf-left, root_from_leaf-right}
-use Rattle.tl_proof.proofs.records.last_turn.Goals as goal
+use Rattle.tl_records.proofs.checking.last_turn.Goals as goal
 
 pub returns-then-lane-k : goal.returns-then-lane-k
 returns-then-lane-k c H last others =
