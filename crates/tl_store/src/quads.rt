@@ -1,10 +1,10 @@
 //! Sixteen entries added together: the hashes of four quads of them, side by side.
 
-ghost use Rattle.std.specs.Prelude.{◌≡◌, ◌≤◌, ◌<◌, ◌+◌, ◌*◌, ◌%◌, ◌^◌, ◌++◌, List, length, map, vec_items, vec_capacity};
+ghost use Rattle.std.specs.Prelude.{◌≡◌, ◌≤◌, ◌<◌, ◌+◌, ◌*◌, ◌%◌, ◌^◌, [], ◌++◌, List, length, map, slice_index_or, vec_items, vec_capacity};
 ghost use Rattle.tl_hash.specs.Bytes.{Bytes};
 ghost use Rattle.tl_store.specs.Stored.{stored_count, stored_hashes};
 ghost use Rattle.tl_store.specs.Inner.Adds.{AddsEntries};
-ghost use Rattle.tl_store.specs.Inner.Quads.{quad_of};
+ghost use Rattle.tl_store.specs.Inner.Quads.{IsLeafAt, quad_of};
 
 use crate::pushes::push_higher;
 use std::alloc::Allocator;
@@ -41,6 +41,27 @@ impl FourQuads {
     }
 }
 
+// The hashes of four leaves side by side: of the entry at one place of each of four lists.
+fn leaves_at<T: TreeHash, A: Allocator>(
+    h: T,
+    place: usize,
+    a: &[Vec<u8, A>],
+    b: &[Vec<u8, A>],
+    c: &[Vec<u8, A>],
+    d: &[Vec<u8, A>],
+) -> [Hash; 4]
+    requires a { place < length a.now }
+    requires b { place < length b.now }
+    requires c { place < length c.now }
+    requires d { place < length d.now }
+    ensures a { IsLeafAt vec_items T.digest_of a.now place (slice_index_or result 0 []) }
+    ensures b { IsLeafAt vec_items T.digest_of b.now place (slice_index_or result 1 []) }
+    ensures c { IsLeafAt vec_items T.digest_of c.now place (slice_index_or result 2 []) }
+    ensures d { IsLeafAt vec_items T.digest_of d.now place (slice_index_or result 3 []) }
+{
+    h.digest_four(0, &a[place], &b[place], &c[place], &d[place])
+}
+
 // The hashes over four quads of entries, hashed side by side.
 fn four_quads<T: TreeHash, A: Allocator>(
     h: T,
@@ -58,10 +79,10 @@ fn four_quads<T: TreeHash, A: Allocator>(
     ensures c { quad_of result 2 ≡ stored_hashes T.digest_of (map vec_items c.now) }
     ensures d { quad_of result 3 ≡ stored_hashes T.digest_of (map vec_items d.now) }
 {
-    let first = h.digest_four(0, &a[0], &b[0], &c[0], &d[0]);
-    let second = h.digest_four(0, &a[1], &b[1], &c[1], &d[1]);
-    let third = h.digest_four(0, &a[2], &b[2], &c[2], &d[2]);
-    let fourth = h.digest_four(0, &a[3], &b[3], &c[3], &d[3]);
+    let first = leaves_at(h, 0, a, b, c, d);
+    let second = leaves_at(h, 1, a, b, c, d);
+    let third = leaves_at(h, 2, a, b, c, d);
+    let fourth = leaves_at(h, 3, a, b, c, d);
     let left = hash_level(h, &first, &second);
     let right = hash_level(h, &third, &fourth);
     let top = hash_level(h, &left, &right);
@@ -104,6 +125,7 @@ fn push_quad<T: TreeHash, A: Allocator>(
         → length entries ≡ 4
         → quad_of quads.now lane ≡ stored_hashes T.digest_of entries
         → AddsEntries T.digest_of size entries hashes.old.items hashes.new.items }
+    ensures counted { length hashes.new.items ≡ stored_count (size + 4) }
     ensures capacity { vec_capacity hashes.new ≡ vec_capacity hashes.old }
 {
     let quad = quads.of(lane);

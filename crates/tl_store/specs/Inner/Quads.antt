@@ -1,6 +1,7 @@
 -- The hashes over four quads of entries.
-use Rattle.std.specs.Prelude.{ℕ, List, [], ◌∷◌, slice_index_or}
-use Rattle.tl_hash.specs.Bytes.{Bytes}
+use Rattle.std.specs.Prelude.{◌≡◌, ℕ, List, [], ◌∷◌, slice_index_or}
+use Rattle.tl_hash.specs.Bytes.{Bytes, Digest}
+use Rattle.tl_hash.specs.Tree.{leaf_input}
 use Rattle.tl_store.specs.declared.quads.FourQuads.{FourQuads}
 
 -- the hashes of one quad, as they are stored
@@ -14,3 +15,7 @@ quad_of quads lane =
     ∷ slice_index_or quads.right lane []
     ∷ slice_index_or quads.top lane []
     ∷ []
+
+-- the hash is that of the leaf which is the entry at this place
+abbrev pub IsLeafAt : {X : Type 0} → (X → Bytes) → Digest → List X → ℕ → Bytes → Type 0
+IsLeafAt {X} bytes_of H entries place hash = (entry : X) × (entry ≡ slice_index_or entries place entry) × (hash ≡ H (leaf_input (bytes_of entry)))

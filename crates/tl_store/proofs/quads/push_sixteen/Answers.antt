@@ -1,5 +1,6 @@
-use Rattle.std.proofs.Common.{◌≡◌, ◌+◌, length, map, take, drop, vec_items, vec_capacity, refl, arith}
+use Rattle.std.proofs.Common.{◌≡◌, ◌+◌, ◌∙◌, length, map, take, drop, vec_items, vec_capacity, ap, refl, arith}
 use Rattle.std.proofs.lemmas.List.{length-take-le, length-drop, length-map}
+use Rattle.tl_store.specs.Stored.{stored_count}
 use Rattle.tl_store.proofs.AddsLemmas.{room_for, adds-parts}
 use Rattle.tl_store.proofs.quads.push_sixteen.Goals as goal
 
@@ -13,6 +14,15 @@ push_quad-requires-2-clause-room g c =
 pub push_quad-requires-3-clause-room : goal.push_quad-requires-3-clause-room
 push_quad-requires-3-clause-room g c =
     omega (arith, c.push_quad.ensures.capacity, c.push_quad-2.ensures.capacity, room_for (c.args.size + 8 + 4) (c.args.size + 16) (vec_capacity c.args.hashes.now) (omega arith) c.requires.room)
+
+pub push_quad-requires-2-clause-counted : goal.push_quad-requires-2-clause-counted
+push_quad-requires-2-clause-counted g c = c.push_quad.ensures.counted
+
+pub push_quad-requires-3-clause-counted : goal.push_quad-requires-3-clause-counted
+push_quad-requires-3-clause-counted g c = let next : c.args.size + 4 + 4 ≡ c.args.size + 8 = omega arith in c.push_quad-2.ensures.counted ∙ ap stored_count next
+
+pub push_quad-requires-4-clause-counted : goal.push_quad-requires-4-clause-counted
+push_quad-requires-4-clause-counted g c = let next : c.args.size + 8 + 4 ≡ c.args.size + 12 = omega arith in c.push_quad-3.ensures.counted ∙ ap stored_count next
 
 pub returns-clause-added : goal.returns-clause-added
 returns-clause-added g c =
