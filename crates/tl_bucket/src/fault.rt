@@ -108,13 +108,14 @@ impl Display for BucketFault {
     ghost output = { λ fault. Some (bucket_words fault) };
 
     fn fmt<W: fmt::Write>(&self, f: &mut Formatter<W>) -> fmt::Result {
-        match self {
-            BucketFault::Device(fault) => write!(f, "{fault}"),
-            BucketFault::ClockIsOff => f.write_str("the clock is more than 15 minutes off"),
-            BucketFault::NoConditions => f.write_str("the store takes no conditional puts"),
-            BucketFault::Outrun => f.write_str("another operator has appended"),
-            BucketFault::BadCommit(number) => write!(f, "commit {number} is damaged"),
-        }
+        let words = match self {
+            BucketFault::Device(fault) => return write!(f, "{fault}"),
+            BucketFault::ClockIsOff => "the clock is more than 15 minutes off",
+            BucketFault::NoConditions => "the store takes no conditional puts",
+            BucketFault::Outrun => "another operator has appended",
+            BucketFault::BadCommit(number) => return write!(f, "commit {number} is damaged"),
+        };
+        f.write_str(words)
     }
 }
 

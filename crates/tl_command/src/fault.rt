@@ -80,32 +80,33 @@ impl Display for RunFault {
     ghost output = { λ fault. Some (fault_words fault) };
 
     fn fmt<W: fmt::Write>(&self, f: &mut Formatter<W>) -> fmt::Result {
-        match self {
-            RunFault::Refused => f.write_str("refused"),
-            RunFault::Read => f.write_str("read failed"),
-            RunFault::Write => f.write_str("write failed"),
-            RunFault::TooLarge => f.write_str("input too large"),
-            RunFault::EntryTooLong(i) => write!(f, "entry {i} too long"),
-            RunFault::BadOrigin => f.write_str("bad origin"),
-            RunFault::BadIndex => f.write_str("bad index"),
-            RunFault::BadOld => f.write_str("bad old size"),
-            RunFault::BadPath => f.write_str("bad path"),
-            RunFault::NotThere => f.write_str("not there"),
-            RunFault::Malformed => f.write_str("malformed input"),
-            RunFault::Chain(k) => write!(f, "chain {k} refused"),
-            RunFault::Sign => f.write_str("signing failed"),
-            RunFault::Operator => f.write_str("operator refused"),
-            RunFault::Listen => f.write_str("listen failed"),
-            RunFault::Accept => f.write_str("accept failed"),
-            RunFault::OutOfMemory => f.write_str("out of memory"),
-            RunFault::BadName => f.write_str("bad name"),
-            RunFault::BadKey => f.write_str("bad key"),
-            RunFault::BadCheckpoint(place) => write!(f, "{place}: bad checkpoint"),
-            RunFault::WrongSignature(k) => write!(f, "signature {k} wrong"),
-            RunFault::Unverified => f.write_str("no known signature"),
-            RunFault::Device(place, fault) => write!(f, "{place}: {fault}"),
-            RunFault::BadKeyFile => f.write_str("file: bad key"),
-        }
+        let words = match self {
+            RunFault::Refused => "refused",
+            RunFault::Read => "read failed",
+            RunFault::Write => "write failed",
+            RunFault::TooLarge => "input too large",
+            RunFault::EntryTooLong(i) => return write!(f, "entry {i} too long"),
+            RunFault::BadOrigin => "bad origin",
+            RunFault::BadIndex => "bad index",
+            RunFault::BadOld => "bad old size",
+            RunFault::BadPath => "bad path",
+            RunFault::NotThere => "not there",
+            RunFault::Malformed => "malformed input",
+            RunFault::Chain(k) => return write!(f, "chain {k} refused"),
+            RunFault::Sign => "signing failed",
+            RunFault::Operator => "operator refused",
+            RunFault::Listen => "listen failed",
+            RunFault::Accept => "accept failed",
+            RunFault::OutOfMemory => "out of memory",
+            RunFault::BadName => "bad name",
+            RunFault::BadKey => "bad key",
+            RunFault::BadCheckpoint(place) => return write!(f, "{place}: bad checkpoint"),
+            RunFault::WrongSignature(k) => return write!(f, "signature {k} wrong"),
+            RunFault::Unverified => "no known signature",
+            RunFault::Device(place, fault) => return write!(f, "{place}: {fault}"),
+            RunFault::BadKeyFile => "file: bad key",
+        };
+        f.write_str(words)
     }
 }
 

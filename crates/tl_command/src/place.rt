@@ -23,11 +23,12 @@ impl Display for Place {
     ghost output = { λ place. Some (place_words place) };
 
     fn fmt<W: fmt::Write>(&self, f: &mut Formatter<W>) -> fmt::Result {
-        match self {
-            Place::File => f.write_str("file"),
-            Place::State => f.write_str("state"),
-            Place::Log(_) => f.write_str("log"),
-            Place::Source(_) => f.write_str("source"),
-        }
+        let words = match self {
+            Place::File => "file",
+            Place::State => "state",
+            Place::Log(_) => "log",
+            Place::Source(_) => "source",
+        };
+        f.write_str(words)
     }
 }

@@ -128,33 +128,34 @@ impl Display for DeviceFault {
     ghost output = { λ fault. Some (device_words fault) };
 
     fn fmt<W: fmt::Write>(&self, f: &mut Formatter<W>) -> fmt::Result {
-        match self {
-            DeviceFault::NotThere => f.write_str("not there"),
-            DeviceFault::Taken => f.write_str("already there"),
-            DeviceFault::Denied => f.write_str("permission denied"),
-            DeviceFault::ReadOnly => f.write_str("read-only file system"),
-            DeviceFault::Full => f.write_str("no space left"),
-            DeviceFault::NotPlain => f.write_str("not a plain file"),
-            DeviceFault::NotFolder => f.write_str("not a folder"),
-            DeviceFault::Moved => f.write_str("no longer at its path"),
-            DeviceFault::Busy => f.write_str("in use"),
-            DeviceFault::TooLarge => f.write_str("too large"),
-            DeviceFault::Damaged => f.write_str("damaged"),
-            DeviceFault::Older => f.write_str("older than one that was there"),
-            DeviceFault::NoHost => f.write_str("no such host"),
-            DeviceFault::NoConnection => f.write_str("connection refused"),
-            DeviceFault::Unreachable => f.write_str("unreachable"),
-            DeviceFault::TimedOut => f.write_str("timed out"),
-            DeviceFault::Broken => f.write_str("connection broken"),
-            DeviceFault::Status(status) => write!(f, "{status}"),
-            DeviceFault::NotHttp => f.write_str("no response over HTTP"),
-            DeviceFault::Encoded => f.write_str("encoded body"),
-            DeviceFault::BadLength => f.write_str("body of no clear length"),
-            DeviceFault::BadChunk => f.write_str("malformed chunk"),
-            DeviceFault::CutShort => f.write_str("body cut short"),
-            DeviceFault::OutOfMemory => f.write_str("out of memory"),
-            DeviceFault::System => f.write_str("input/output error"),
-        }
+        let words = match self {
+            DeviceFault::NotThere => "not there",
+            DeviceFault::Taken => "already there",
+            DeviceFault::Denied => "permission denied",
+            DeviceFault::ReadOnly => "read-only file system",
+            DeviceFault::Full => "no space left",
+            DeviceFault::NotPlain => "not a plain file",
+            DeviceFault::NotFolder => "not a folder",
+            DeviceFault::Moved => "no longer at its path",
+            DeviceFault::Busy => "in use",
+            DeviceFault::TooLarge => "too large",
+            DeviceFault::Damaged => "damaged",
+            DeviceFault::Older => "older than one that was there",
+            DeviceFault::NoHost => "no such host",
+            DeviceFault::NoConnection => "connection refused",
+            DeviceFault::Unreachable => "unreachable",
+            DeviceFault::TimedOut => "timed out",
+            DeviceFault::Broken => "connection broken",
+            DeviceFault::Status(status) => return write!(f, "{status}"),
+            DeviceFault::NotHttp => "no response over HTTP",
+            DeviceFault::Encoded => "encoded body",
+            DeviceFault::BadLength => "body of no clear length",
+            DeviceFault::BadChunk => "malformed chunk",
+            DeviceFault::CutShort => "body cut short",
+            DeviceFault::OutOfMemory => "out of memory",
+            DeviceFault::System => "input/output error",
+        };
+        f.write_str(words)
     }
 }
 

@@ -52,25 +52,26 @@ impl Display for FetchFault {
     ghost output = { λ fault. Some (fetch_words fault) };
 
     fn fmt<W: fmt::Write>(&self, f: &mut Formatter<W>) -> fmt::Result {
-        match self {
-            FetchFault::Run(fault) => fault.fmt(f),
-            FetchFault::BadAddress => f.write_str("bad address"),
-            FetchFault::OtherKey => f.write_str("second key isn't another key of the log"),
-            FetchFault::BadWitness(k) => write!(f, "bad key of witness {k}"),
-            FetchFault::SharedKey(k) => write!(f, "witness {k} has the key of another"),
-            FetchFault::Unavailable => f.write_str("not available"),
-            FetchFault::OtherLog => f.write_str("checkpoint of another log"),
-            FetchFault::TooFew(n) => write!(f, "cosigned by {n} witnesses"),
+        let words = match self {
+            FetchFault::Run(fault) => return fault.fmt(f),
+            FetchFault::BadAddress => "bad address",
+            FetchFault::OtherKey => "second key isn't another key of the log",
+            FetchFault::BadWitness(k) => return write!(f, "bad key of witness {k}"),
+            FetchFault::SharedKey(k) => return write!(f, "witness {k} has the key of another"),
+            FetchFault::Unavailable => "not available",
+            FetchFault::OtherLog => "checkpoint of another log",
+            FetchFault::TooFew(n) => return write!(f, "cosigned by {n} witnesses"),
             FetchFault::BadTile {
                 level,
                 index,
                 width,
-            } => write!(f, "tile {level} {index} {width} wrong"),
-            FetchFault::BadBundle(i) => write!(f, "entry bundle {i} malformed"),
-            FetchFault::BadEntry(i) => write!(f, "entry {i} wrong"),
-            FetchFault::Shrunk => f.write_str("log shrank"),
-            FetchFault::Forked => f.write_str("log forked"),
-        }
+            } => return write!(f, "tile {level} {index} {width} wrong"),
+            FetchFault::BadBundle(i) => return write!(f, "entry bundle {i} malformed"),
+            FetchFault::BadEntry(i) => return write!(f, "entry {i} wrong"),
+            FetchFault::Shrunk => "log shrank",
+            FetchFault::Forked => "log forked",
+        };
+        f.write_str(words)
     }
 }
 
