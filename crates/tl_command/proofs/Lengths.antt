@@ -1,11 +1,10 @@
 -- The numbers of bytes of the bundles of a log, and the listing of its resources.
-use Rattle.std.proofs.Common.{inl, inr, ◌≡◌, ℕ, ◌+◌, ◌*◌, ◌^◌, ◌<◌, ◌≤◌, List, [], ◌∷◌, ◌++◌, length, get_or, take, drop, refl, sym, ap, ◌∙◌, append-nil, arith, Some, None, ◌-◌}
-use Rattle.std.specs.Prelude.{◌≢◌, Contains, slice_get}
+use Rattle.std.proofs.Common.{inl, inr, ◌≡◌, ℕ, ◌+◌, ◌*◌, ◌^◌, ◌<◌, ◌≤◌, List, [], ◌∷◌, ◌++◌, length, get_or, take, drop, refl, sym, ap, ◌∙◌, append-nil, arith}
+use Rattle.std.specs.Prelude.{Contains}
 use Rattle.std.specs.Int.{w16, to_be_bytes}
 use Rattle.std.specs.List.{flat_map}
-use Rattle.std.proofs.lemmas.Bool.{cases_lt}
 use Rattle.std.proofs.lemmas.Grind.{flat_map-append}
-use Rattle.std.proofs.lemmas.List.{drop-drop, get_or_append_left, get_or_push, length-append, length-drop, take_all, take_more}
+use Rattle.std.proofs.lemmas.List.{length-append, length-drop, take_all, take_more}
 use Rattle.std.proofs.lemmas.List.Concat.{flat_map-cons}
 use Rattle.tl_text.specs.Text.{line, number_text}
 use Rattle.tl_tile.specs.Bundle.{bundled_entry, bundle_text}
@@ -13,9 +12,8 @@ use Rattle.tl_tile.specs.Path.{path_text}
 use Rattle.tl_tile.specs.declared.resource.Resource.{Resource}
 use Rattle.tl_tile.specs.declared.resource.Resource.TheVariants as resource
 use Rattle.tl_command.specs.Inner.BundleLengths.{AreBundleLengths, HasLength}
-use Rattle.tl_command.specs.Lines.{entries_of, lines_text}
+use Rattle.tl_command.specs.Lines.{lines_text}
 use Rattle.tl_command.specs.Mirror.{mirrored, resource_text, listing_line, listing_text}
-use Rattle.tl_command.proofs.LineTexts.{last_of_none, last_of_some, text_of_entries, text_with_newline}
 use Rattle.tl_command.proofs.NeededParts.{LiesIn, lies}
 
 -- ---- one bundle

@@ -13,6 +13,7 @@ pub mod Filling
 pub mod NoteBytes
 pub mod NoCheckpoints
 pub mod Runs
+pub mod Failing
 pub mod KeyRuns
 pub mod NeededParts
 pub mod Bundles

@@ -13,9 +13,9 @@ use Rattle.tl_command.specs.Run.{most_input}
 use Rattle.tl_command.specs.declared.fault.RunFault.{RunFault}
 use Rattle.tl_command.specs.declared.growing.measuring.Measuring.{Measuring}
 
--- the input so far is whole lines and the beginning of one more; of these lines each 256 are a full bundle, whose length
--- is known; those that are left are fewer, and their bytes are counted with their newlines, and those of the line that
--- is begun
+-- the input so far is whole lines and the beginning of one more; of these lines each 256 are a full bundle, whose
+-- length is known; those that are left are fewer, and their bytes are counted with their newlines, and those of the
+-- line that is begun
 pub record IsMeasuring {A : Type 0} (m : Measuring A) (input : Bytes) : Type 0 where
   pub lines : List Bytes
   pub last : Bytes

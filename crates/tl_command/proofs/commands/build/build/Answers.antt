@@ -6,6 +6,7 @@ use Rattle.tl_command.specs.Inner.Steps.{IsServed, WantedComes}
 use Rattle.tl_command.specs.Mirror.{mirrored}
 use Rattle.tl_command.proofs.Asking.{entry_fails, read_lines}
 use Rattle.tl_command.proofs.Wanted.{answer_cut, answer_fails, answer_printed, asks_for}
+use Rattle.tl_command.proofs.Failing.{unread}
 use Rattle.tl_command.proofs.commands.build.build.Goals as goal
 
 pub returns-in-Err : goal.returns-in-Err
@@ -40,3 +41,9 @@ returns g c =
     let lines = c.lines-lines.result in
     let read = read_lines (passage g.R.Read.remaining c.args.reader.now c.read_input.new.reader) _ (vec_items c.in_ok-input.input) c.as_slice.result.now lines c.in_ok-input.ensures c.as_slice.ensures.value (c.lines-lines.ensures ∙ c.in-Ok.ensures.lines) c.in-Ok.ensures.short in
     answer_printed key (Some c.args.wanted) _ (passage g.W.Write.contents c.args.writer.now c.print_text.new.writer) lines c.as_slice-2.result.now (vec_items c.in-Ok-answer_of.answer) read c.in-Ok-answer_of.ensures c.as_slice-2.ensures.value c.in_ok-print_text.ensures.whole
+
+pub returns-in_err-input : goal.returns-in_err-input
+returns-in_err-input g c =
+    let p = err_from_is_err_and c.from_residual.result c.from_residual.ensures.1 in
+    rw (p.1, p.2)
+    (unread (WantedComes (g.K.LogSigner.log_key c.args.key.now) (Some c.args.wanted)) (passage g.R.Read.remaining c.args.reader.now c.read_input.new.reader) (passage g.W.Write.contents c.args.writer.now c.args.writer.now) _ c.in_err-input.ensures (Keeps-refl (g.W.Write.contents c.args.writer.now.device), refl))

@@ -1,8 +1,11 @@
-use Rattle.std.proofs.Common.{None, Option, Some, subst, sym}
+use Rattle.std.proofs.Common.{None, Some, subst, refl}
 use Rattle.tl_note.specs.Key.{IsKeyName}
-use Rattle.tl_tile.specs.declared.resource.Resource.{Resource}
 use Rattle.tl_command.specs.Inner.Steps.{IsAsked}
 use Rattle.tl_command.proofs.Wanted.{runs_build}
+use Rattle.std.proofs.KnownBytes.{Keeps-refl}
+use Rattle.std.proofs.lemmas.Result.{err_from_is_err_and}
+use Rattle.tl_device.specs.Device.{passage}
+use Rattle.tl_command.proofs.Failing.{wanted_fails}
 use Rattle.tl_command.proofs.commands.build.run_build.Goals as goal
 
 pub returns-in-Some : goal.returns-in-Some
@@ -10,3 +13,9 @@ returns-in-Some g c = runs_build (g.K.LogSigner.log_key c.args.key.now) _ (Some 
 
 pub returns-in-None : goal.returns-in-None
 returns-in-None g c = runs_build (g.K.LogSigner.log_key c.args.key.now) _ None _ _ c.list.result (subst IsKeyName c.origin.ensures (c.is_key_name.ensures.0 c.if-not-is_key_name.false)) (subst (IsAsked _) c.in-None.is c.in_ok-wanted.ensures) c.list.ensures
+
+pub returns-in_err-wanted : goal.returns-in_err-wanted
+returns-in_err-wanted g c =
+    let p = err_from_is_err_and c.from_residual.result c.from_residual.ensures.1 in
+    rw (p.1, p.2)
+    (wanted_fails (g.K.LogSigner.log_key c.args.key.now) _ (passage g.R.Read.remaining c.args.reader.now c.args.reader.now) (passage g.W.Write.contents c.args.writer.now c.args.writer.now) _ (subst IsKeyName c.origin.ensures (c.is_key_name.ensures.0 c.if-not-is_key_name.false)) (Keeps-refl (g.R.Read.remaining c.args.reader.now.device), refl) (Keeps-refl (g.W.Write.contents c.args.writer.now.device), refl) c.in_err-wanted.ensures)

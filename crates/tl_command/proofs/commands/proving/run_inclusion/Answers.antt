@@ -4,6 +4,8 @@ use Rattle.std.proofs.lemmas.Result.{err_from_is_err_and}
 use Rattle.tl_command.specs.Lines.{entries_of}
 use Rattle.tl_command.specs.ProofCommands.{InclusionComes}
 use Rattle.tl_command.proofs.Asking.{entry_fails, gave_line}
+use Rattle.tl_device.specs.Device.{passage}
+use Rattle.tl_command.proofs.Failing.{unread}
 use Rattle.tl_command.proofs.commands.proving.run_inclusion.Goals as goal
 
 pub returns-in-Err : goal.returns-in-Err
@@ -20,3 +22,9 @@ returns-in_err-text g c =
       (Keeps-refl (g.W.Write.contents c.args.writer.now.device), refl),
       inl (gave_line _ _ (vec_items c.in_ok-input.input) c.in_ok-input.ensures (omega (arith, c.if-index-count.false, c.count.ensures.count, lines))),
     )
+
+pub returns-in_err-input : goal.returns-in_err-input
+returns-in_err-input g c =
+    let p = err_from_is_err_and c.from_residual.result c.from_residual.ensures.1 in
+    rw (p.1, p.2)
+    (unread (InclusionComes c.args.index) (passage g.R.Read.remaining c.args.reader.now c.read_input.new.reader) (passage g.W.Write.contents c.args.writer.now c.args.writer.now) _ c.in_err-input.ensures (Keeps-refl (g.W.Write.contents c.args.writer.now.device), refl))

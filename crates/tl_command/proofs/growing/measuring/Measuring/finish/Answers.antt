@@ -1,6 +1,5 @@
-use Rattle.std.proofs.Common.{◌<◌, ◌++◌, ◌∷◌, ◌∙◌, [], List, ℕ, length, sym, subst, arith}
+use Rattle.std.proofs.Common.{◌<◌, ◌++◌, ◌∷◌, [], List, ℕ, length, sym, subst, arith}
 use Rattle.tl_command.specs.Inner.BundleLengths.{AreBundleLengths}
-use Rattle.tl_command.specs.Lines.{entries_of}
 use Rattle.std.specs.Prelude.{IfOk}
 use Rattle.tl_command.proofs.GrowingLemmas.{same_entries}
 use Rattle.tl_command.proofs.growing.measuring.Measuring.finish.Goals as goal
