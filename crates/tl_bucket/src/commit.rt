@@ -26,7 +26,7 @@ pub(crate) struct Commit<A: Allocator> {
 }
 
 /// Why a commit wasn't read.
-#[derive(Clone, Copy, Debug, PartialEq, Eq)]
+#[derive(Clone, Copy)]
 pub(crate) enum CommitFault {
     /// The bytes are no commit's.
     Malformed,

@@ -26,7 +26,7 @@ pub trait Observer {
 }
 
 /// Nobody is told.
-#[derive(Clone, Copy, Debug, PartialEq, Eq)]
+#[derive(Clone, Copy)]
 pub(crate) struct Nobody;
 
 impl Observer for Nobody {

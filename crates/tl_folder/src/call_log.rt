@@ -7,7 +7,7 @@ use http_server::Log;
 use std::marker::Model;
 
 /// What was asked of a system.
-#[derive(Clone, Copy, Debug, PartialEq, Eq)]
+#[derive(Clone, Copy)]
 pub(crate) enum Asked {
     Write,
     Create,

@@ -12,7 +12,7 @@ use tl_device::DeviceFault;
 
 /// Which file or folder it is: the device that it is on, and its number there. While it is open or has a path, none
 /// other has the same.
-#[derive(Clone, Copy, Debug, PartialEq, Eq)]
+#[derive(Clone, Copy, PartialEq, Eq)]
 pub(crate) struct FileId {
     device: u64,
     number: u64,

@@ -17,7 +17,7 @@ pub(crate) struct KeyLine<A: Allocator> {
 }
 
 /// Why a line isn't taken.
-#[derive(Clone, Copy, Debug)]
+#[derive(Clone, Copy)]
 pub(crate) enum LineFault {
     Malformed,
     Twice,

@@ -14,7 +14,7 @@ use tl_hash::{TreeHash, empty_hash};
 use tl_proof::{Link, check_tree};
 
 /// Why a link isn't taken.
-#[derive(Clone, Copy, Debug)]
+#[derive(Clone, Copy)]
 pub(crate) enum LinkFault {
     /// It isn't accepted from the head of its origin.
     Broken,

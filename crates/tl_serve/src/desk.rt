@@ -23,7 +23,7 @@ struct HandedIn {
 }
 
 /// Why an entry wasn't taken.
-#[derive(Clone, Copy, PartialEq, Eq)]
+#[derive(Clone, Copy)]
 pub(crate) enum Untaken {
     /// There is no room for it now.
     Refused,

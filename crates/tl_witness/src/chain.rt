@@ -35,7 +35,7 @@ impl<T: TreeHash, A: Allocator> Model for Chain<T, A> {
 }
 
 /// Why a link was not kept.
-#[derive(Clone, Copy, Debug)]
+#[derive(Clone, Copy)]
 pub(crate) enum KeepFault {
     SaveFailed,
     OutOfMemory,

@@ -31,7 +31,7 @@ pub(crate) struct Found<'m, A: Allocator> {
 }
 
 /// Why a body leads to no place.
-#[derive(Clone, Copy, Debug)]
+#[derive(Clone, Copy)]
 pub(crate) enum Unfound {
     /// It is no request, or its note is no checkpoint.
     Malformed,
