@@ -8,7 +8,7 @@ ghost use Rattle.tl_append.specs.Inner.Owing.{LeavesLast, LeavesSome};
 
 use crate::due::{Due, publish_due, put_due};
 use crate::faults::line_fault;
-use crate::options::Joining;
+use crate::options::{Batching, Joining};
 use std::alloc::Global;
 use std::io::{Read, Write};
 use tl_archive::Shelf;
@@ -17,11 +17,11 @@ use tl_device::Counted;
 use tl_ledger::Ledger;
 use tl_lines::Lines;
 
-// Whether what is due waits for the next batch, of so many lines.
-fn waits_for_next(joining: Joining, lines: &Lines<Global>, batch: u64) -> bool {
-    match joining {
+// Whether what is due waits for the next batch.
+fn waits_for_next(batching: Batching, lines: &Lines<Global>) -> bool {
+    match batching.joining {
         Joining::Never => false,
-        Joining::AtHand => lines.count().saturating_sub(lines.entries()) >= batch,
+        Joining::AtHand => lines.count().saturating_sub(lines.entries()) >= batching.size,
         Joining::Always => true,
     }
 }
@@ -31,9 +31,7 @@ fn waits_for_next(joining: Joining, lines: &Lines<Global>, batch: u64) -> bool {
 fn put_lines<K: LogSigner, S: Shelf, R: Read, W: Write>(
     alloc: Global,
     key: &K,
-    batch: u64,
-    keeps_partials: bool,
-    joining: Joining,
+    batching: Batching,
     shelf: &mut S,
     ledger: &mut Ledger<Global>,
     due: &mut Option<Due>,
@@ -41,10 +39,10 @@ fn put_lines<K: LogSigner, S: Shelf, R: Read, W: Write>(
     writer: &mut Counted<W>,
 ) -> Result<(), RunFault>
     requires origin { IsKeyName (K.log_key key.now).name }
-    requires batch { 0 < batch }
+    requires size { 0 < batching.size }
     requires none { due.old ≡ None }
     ensures all { OnOk result (LeavesLast
-        (K.log_key key.now) batch keeps_partials due.new (S.published shelf.new)
+        (K.log_key key.now) batching.size batching.keeps_partials due.new (S.published shelf.new)
         (course S.kept S.trace shelf.old shelf.new ledger.old ledger.new)
         (passage R.remaining reader.old reader.new) (passage W.contents writer.old writer.new)) }
     ensures some { OnErr result (LeavesSome (K.log_key key.now) due.new
@@ -57,20 +55,21 @@ fn put_lines<K: LogSigner, S: Shelf, R: Read, W: Write>(
         Ok(lines) => lines,
         Err(_) => return Err(RunFault::OutOfMemory),
     };
+    let (size, keeps_partials) = (batching.size, batching.keeps_partials);
     let mut is_first = true;
     for _turn in 0..u64::MAX {
-        let entries = match lines.take_most(reader, batch) {
+        let entries = match lines.take_most(reader, size) {
             Ok(entries) => entries,
             Err(fault) => return Err(line_fault(fault)),
         };
         if entries.is_empty() && !is_first {
             return Ok(());
         }
-        let batched = entries.as_slice();
+        let batch = entries.as_slice();
         match put_due(
             alloc,
             key,
-            batched,
+            batch,
             keeps_partials,
             shelf,
             ledger,
@@ -80,10 +79,10 @@ fn put_lines<K: LogSigner, S: Shelf, R: Read, W: Write>(
             Ok(()) => is_first = false,
             Err(fault) => return Err(fault),
         }
-        if (entries.len() as u64) < batch {
+        if (entries.len() as u64) < size {
             return Ok(());
         }
-        if waits_for_next(joining, &lines, batch) {
+        if waits_for_next(batching, &lines) {
             continue;
         }
         match publish_due(alloc, keeps_partials, shelf, ledger, due, writer) {
@@ -94,25 +93,22 @@ fn put_lines<K: LogSigner, S: Shelf, R: Read, W: Write>(
     Err(RunFault::Operator)
 }
 
-/// Appends the lines of the input to the log on the shelf, which is the ledger's, and publishes it after each `batch`
-/// lines, at least 1, and at the end, once at least: each time under a note of its checkpoint by the key, whose name is
-/// the log's, alone or with what the next batch adds. Its size is then marked, spent partial tiles are removed, unless
-/// they are kept, and size and root printed. It keeps one batch and the ledger. `Operator`: the log would have more
-/// than 2^32 - 1 entries.
+/// Appends the lines of the input to the log on the shelf, which is the ledger's, and publishes it after each batch and
+/// at the end, once at least: each time under a note of its checkpoint by the key, whose name is the log's, alone or
+/// with what the next batch adds. Its size is then marked, spent partial tiles are removed, unless they are kept, and
+/// size and root printed. It keeps one batch and the ledger. `Operator`: the log would have more than 2^32 - 1 entries.
 pub fn append_lines<K: LogSigner, S: Shelf, R: Read, W: Write>(
     alloc: Global,
     key: &K,
-    batch: u64,
-    keeps_partials: bool,
-    joining: Joining,
+    batching: Batching,
     shelf: &mut S,
     ledger: &mut Ledger<Global>,
     reader: &mut Counted<R>,
     writer: &mut Counted<W>,
 ) -> Result<(), RunFault>
     requires origin { IsKeyName (K.log_key key.now).name }
-    requires batch { 0 < batch }
-    ensures all { OnOk result (AppendsLines (K.log_key key.now) batch keeps_partials
+    requires size { 0 < batching.size }
+    ensures all { OnOk result (AppendsLines (K.log_key key.now) batching.size batching.keeps_partials
         (course S.kept S.trace shelf.old shelf.new ledger.old ledger.new)
         (passage R.remaining reader.old reader.new) (passage W.contents writer.old writer.new)) }
     ensures marked { OnOk result (S.published shelf.new ≡ Some ledger.new.edge.size) }
@@ -123,18 +119,10 @@ pub fn append_lines<K: LogSigner, S: Shelf, R: Read, W: Write>(
 {
     let mut due = None;
     let put = put_lines(
-        alloc,
-        key,
-        batch,
-        keeps_partials,
-        joining,
-        shelf,
-        ledger,
-        &mut due,
-        reader,
-        writer,
+        alloc, key, batching, shelf, ledger, &mut due, reader, writer,
     );
-    let shown = publish_due(alloc, keeps_partials, shelf, ledger, &mut due, writer);
+    let keeps = batching.keeps_partials;
+    let shown = publish_due(alloc, keeps, shelf, ledger, &mut due, writer);
     match put {
         Ok(()) => {}
         Err(fault) => return Err(fault),

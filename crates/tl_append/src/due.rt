@@ -92,9 +92,11 @@ pub(crate) fn publish_due<S: Shelf, W: Write>(
     writer: &mut Counted<W>,
 ) -> Result<(), RunFault>
     requires small { (due.old ≡ None) ⊎ (ledger.now.edge.size < 2 ^ 32) }
-    ensures publishes { (key : LogKey) → IsSigned key ledger.now due.old → PublishesDue key due.old []
+    ensures publishes { (key : LogKey) → IsSigned key ledger.now due.old
+        → PublishesDue key due.old []
         (course S.kept S.trace shelf.old shelf.new ledger.now ledger.now) }
-    ensures printed { (key : LogKey) → IsSigned key ledger.now due.old → OnOk result (PrintsDue key due.old
+    ensures printed { (key : LogKey) → IsSigned key ledger.now due.old
+        → OnOk result (PrintsDue key due.old
         (course S.kept S.trace shelf.old shelf.new ledger.now ledger.now)
         (passage W.contents writer.old writer.new)) }
     ensures shows { (key : LogKey) → IsSigned key ledger.now due.old → OnOk result
@@ -134,7 +136,8 @@ fn put_with<S: Shelf, W: Write>(
     ensures publishes { (key : LogKey) → IsSigned key ledger.old due
         → OnOk result (PublishesDue key due (map vec_items batch.now)
         (course S.kept S.trace shelf.old shelf.new ledger.old ledger.new)) }
-    ensures printed { (key : LogKey) → IsSigned key ledger.old due → OnOk result (PrintsDue key due
+    ensures printed { (key : LogKey) → IsSigned key ledger.old due
+        → OnOk result (PrintsDue key due
         (course S.kept S.trace shelf.old shelf.new ledger.old ledger.new)
         (passage W.contents writer.old writer.new)) }
     ensures shows { (key : LogKey) → IsSigned key ledger.old due → OnOk result
@@ -193,7 +196,8 @@ pub(crate) fn put_due<K: LogSigner, S: Shelf, W: Write>(
     ensures shows { IsSigned (K.log_key key.now) ledger.old due.old → OnOk result
         (ShowsDue (K.log_key key.now) keeps_partials due.old (S.published shelf.new)
         (course S.kept S.trace shelf.old shelf.new ledger.old ledger.new)) }
-    ensures part { IsSigned (K.log_key key.now) ledger.old due.old → OnErr result ((put : List Bytes)
+    ensures part { IsSigned (K.log_key key.now) ledger.old due.old
+        → OnErr result ((put : List Bytes)
         × ((put ≡ []) ⊎ (put ≡ map vec_items batch.now))
         × PublishesDue (K.log_key key.now) due.old put
         (course S.kept S.trace shelf.old shelf.new ledger.old ledger.new)) }

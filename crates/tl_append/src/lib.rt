@@ -36,7 +36,7 @@ pub use faults::line_fault;
 pub use keys::{LogKeys, LogOpeningKey, LogSigningKey, keys_of};
 pub use log_shelf::{LogShelf, OpenedLog};
 pub use opening::open_ledger;
-pub use options::{AppendOptions, Joining};
+pub use options::{AppendOptions, Batching, Joining};
 pub use proposal::{NoProposals, ProposalStore};
 pub use running::run_append;
 pub use sealed_shelf::SealedShelf;

@@ -16,6 +16,17 @@ pub enum Joining {
     Always,
 }
 
+/// How a log grows in batches.
+#[derive(Clone, Copy)]
+pub struct Batching {
+    /// After how many entries it is published, at least 1.
+    pub size: u64,
+    /// Whether partial tiles and bundles stay that full ones have replaced.
+    pub keeps_partials: bool,
+    /// When a batch is published together with what the next one adds.
+    pub joining: Joining,
+}
+
 /// The options of `append`, and of `build` into a folder.
 #[derive(Drop)]
 pub struct AppendOptions {

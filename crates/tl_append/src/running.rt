@@ -16,7 +16,7 @@ use crate::appending::append_lines;
 use crate::faults::taken;
 use crate::keys::{LogKeys, keys_of};
 use crate::opening::open_ledger;
-use crate::options::{AppendOptions, Joining};
+use crate::options::{AppendOptions, Batching, Joining};
 use crate::proposal::ProposalStore;
 use std::alloc::Global;
 use std::fs::Files;
@@ -67,18 +67,13 @@ fn append_under<S: Shelf, P: ProposalStore, R: Read, W: Write>(
     if options.is_new && !is_first {
         return Err(taken());
     }
-    let (batch, keeps) = (options.batch_size(), options.keeps_partials);
-    match append_lines(
-        alloc,
-        &signer,
-        batch,
-        keeps,
+    let size = options.batch_size();
+    let batching = Batching {
+        size,
+        keeps_partials: options.keeps_partials,
         joining,
-        shelf,
-        &mut ledger,
-        reader,
-        writer,
-    ) {
+    };
+    match append_lines(alloc, &signer, batching, shelf, &mut ledger, reader, writer) {
         Ok(()) => Ok(()),
         Err(fault) => Err(fault),
     }

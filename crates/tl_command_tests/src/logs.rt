@@ -116,7 +116,7 @@ pub fn go_on<
         rt,
         alloc,
         &options,
-        Joining::Never,
+        Joining::Always,
         &mut shelf,
         &NoProposals,
         &mut found,

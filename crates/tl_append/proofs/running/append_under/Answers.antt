@@ -13,7 +13,7 @@ returns-then-not-is_first-clause-goes_on g c = inl (stayed (g.S.Shelf.kept c.arg
 pub returns-in-Ok-append_lines-clause-goes_on : goal.returns-in-Ok-append_lines-clause-goes_on
 returns-in-Ok-append_lines-clause-goes_on g c =
     whole_run (log_key_of c.args.keys.signer) _ c.open_ledger.new.found (g.S.Shelf.kept c.args.shelf.now) (g.S.Shelf.kept c.append_lines.new.shelf) (g.S.Shelf.trace c.args.shelf.now) (g.S.Shelf.trace c.append_lines.new.shelf) c.in-Ok.opened.ledger c.append_lines.new.ledger c.in-Ok.ensures.opens
-    (passage g.R.Read.remaining c.args.reader.now c.append_lines.new.reader) (passage g.W.Write.contents c.args.writer.now c.append_lines.new.writer) _ c.batch_size-batch.result c.args.options.now.keeps_partials c.batch_size-batch.ensures.size c.in-Ok-append_lines.ensures.all
+    (passage g.R.Read.remaining c.args.reader.now c.append_lines.new.reader) (passage g.W.Write.contents c.args.writer.now c.append_lines.new.writer) _ c.batch_size-size.result c.args.options.now.keeps_partials c.batch_size-size.ensures.size c.in-Ok-append_lines.ensures.all
 
 pub returns-clause-goes_on : goal.returns-clause-goes_on
 returns-clause-goes_on g c =
@@ -41,4 +41,4 @@ returns-clause-newest g c = inr c.in-Ok.ensures.newest
 pub returns-in-Ok-append_lines-clause-marked : goal.returns-in-Ok-append_lines-clause-marked
 returns-in-Ok-append_lines-clause-marked g c =
     marks_last (log_key_of c.args.keys.signer) _ c.open_ledger.new.found (g.S.Shelf.kept c.args.shelf.now) (g.S.Shelf.kept c.append_lines.new.shelf) (g.S.Shelf.trace c.args.shelf.now) (g.S.Shelf.trace c.append_lines.new.shelf) c.in-Ok.opened.ledger c.append_lines.new.ledger c.in-Ok.ensures.opens
-    (passage g.R.Read.remaining c.args.reader.now c.append_lines.new.reader) (passage g.W.Write.contents c.args.writer.now c.append_lines.new.writer) c.batch_size-batch.result c.args.options.now.keeps_partials (g.S.Shelf.published c.append_lines.new.shelf) c.in-Ok-append_lines.ensures.marked c.in-Ok-append_lines.ensures.all
+    (passage g.R.Read.remaining c.args.reader.now c.append_lines.new.reader) (passage g.W.Write.contents c.args.writer.now c.append_lines.new.writer) c.batch_size-size.result c.args.options.now.keeps_partials (g.S.Shelf.published c.append_lines.new.shelf) c.in-Ok-append_lines.ensures.marked c.in-Ok-append_lines.ensures.all
