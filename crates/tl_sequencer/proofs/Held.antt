@@ -49,9 +49,13 @@ module _ {E A : Type 0} where
   }
 
 module _ {E A : Type 0} (history : List (Vec ℕ E × ℕ)) (waiting : List (Vec ℕ E)) (count limit : ℕ) (lanes : List (Lane A)) (was : IsHeld history waiting count limit lanes) where
+  -- the count is that of the entries
+  pub counted-log : count ≡ length (entries_of (log_of {E = E} [] (taken_of history) (who_of history) limit lanes))
+  counted-log = omega (arith, was.counted, log-length {E = E} [] (taken_of history) (who_of history) limit lanes, length-map history (λ (p : Vec ℕ E × ℕ). p.0))
+
   -- the room that is left, and what fits into it
   pub room-log : limit - count + length (entries_of (log_of {E = E} [] (taken_of history) (who_of history) limit lanes)) ≡ limit
-  room-log = omega (arith, was.counted, was.log.fits, log-length {E = E} [] (taken_of history) (who_of history) limit lanes, length-map history (λ (p : Vec ℕ E × ℕ). p.0))
+  room-log = omega (arith, counted-log, was.log.fits)
 
   pub fits-log : (n : ℕ) → n ≤ limit - count → length (entries_of (log_of {E = E} [] (taken_of history) (who_of history) limit lanes)) + n ≤ limit
   fits-log n fits = omega (arith, room-log)

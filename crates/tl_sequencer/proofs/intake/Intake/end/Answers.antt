@@ -2,7 +2,7 @@ use Rattle.std.proofs.Common.{◌<◌, [], length, sym}
 use Rattle.tl_sequencer.specs.Rings.{log_of}
 use Rattle.tl_sequencer.specs.Inner.Held.{taken_of, who_of}
 use Rattle.tl_sequencer.proofs.Logs.{Ends-closes, Ends-fits, same-rings, end-inside, given-is, refuses-log}
-use Rattle.tl_sequencer.proofs.Held.{Ends-held, fits-log, room-log}
+use Rattle.tl_sequencer.proofs.Held.{Ends-held, fits-log, room-log, same-held}
 use Rattle.tl_sequencer.proofs.intake.Intake.end.Goals as goal
 
 inside : (g : _) (c : goal.After-drop-ended-inside g) → c.lane-lane.result < length c.self.inside.lanes.items
@@ -10,6 +10,9 @@ inside g c = end-inside c.self.inside.lanes.items c.args.ended _ c.lane-lane.ens
 
 pub invariant_of-self : goal.invariant_of-self
 invariant_of-self g c = Ends-held _ _ _ _ _ _ _ _ _ _ (inside g c) c.index_mut-ending.ensures.value c.end_noted.ensures.drained c.self.invariant _ c.in-Ok.n c.in-Ok.ensures.room c.in-Ok.ensures.taken
+
+pub invariant_of-self-in-Err : goal.invariant_of-self-in-Err
+invariant_of-self-in-Err g c = same-held _ _ _ _ _ _ _ _ _ c.index_mut-ending.ensures.value c.in-Err.ensures.err.0 c.in-Err.ensures.err.1 c.in-Err.ensures.err.2 _ c.self.invariant
 
 pub returns-in-Ok-clause-rings : goal.returns-in-Ok-clause-rings
 returns-in-Ok-clause-rings g c = rw (← c.self.view_is) (same-rings c.self.inside.lanes.items c.lane-lane.result c.index_mut-ending.result.now c.end_noted.new.self c.index_mut-ending.ensures.value c.end_noted.ensures.ring)

@@ -1,7 +1,12 @@
 use Rattle.std.proofs.Common.{[], arith}
 use Rattle.tl_sequencer.proofs.Logs.{Gives-takes, same-rings}
-use Rattle.tl_sequencer.proofs.Held.{Gives-held, fits-log}
+use Rattle.tl_sequencer.proofs.Held.{Gives-held, fits-log, same-held}
 use Rattle.tl_sequencer.proofs.intake.Intake.take.Goals as goal
+
+pub invariant_of-self : goal.invariant_of-self
+invariant_of-self g c =
+    let same = rw c.in_default.is at c.take_noted.ensures.err in
+    same-held _ _ _ _ _ _ _ _ _ c.index_mut-from.ensures.value same.0 same.1 same.2 _ c.self.invariant
 
 pub invariant_of-self-2 : goal.invariant_of-self-2
 invariant_of-self-2 g c = Gives-held _ _ _ _ _ _ _ _ _ _ (omega arith) c.index_mut-from.ensures.value c.take_noted.ensures.drained c.self.invariant _ (omega (arith, c.in-Ok.ensures.most)) c.in-Ok.ensures.taken
