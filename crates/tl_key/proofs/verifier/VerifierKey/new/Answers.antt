@@ -1,0 +1,4 @@
+use Rattle.tl_key.proofs.verifier.VerifierKey.new.Goals as goal
+
+pub made-requires-after_bounds : goal.made-requires-after_bounds
+made-requires-after_bounds g c = λ κs bounds. record { lawful = c.is_key_name.ensures.0 c.if-not-is_key_name.false; id_is = rw c.KIND.ensures at c.id_of-id.ensures }
