@@ -47,6 +47,12 @@ not_empty : (left : List ℕ) → false ≡ nat_eq (length left) 0 → left ≢ 
 not_empty [] some e = absurd cc
 not_empty (b ∷ left) some e = absurd cc
 
+-- what follows a line is shorter
+pub shorter : (left words rest : List ℕ) → false ≡ nat_eq (length left) 0 → CutsLine left words rest → length rest + 1 ≤ length left
+shorter left words rest some (one, inl whole) = omega (arith, ap length whole, length-append words (10 ∷ rest))
+shorter [] words rest some (one, inr last) = absurd cc
+shorter (b ∷ left) words rest some (one, inr last) = omega (arith, ap length last.1)
+
 more_text : (lines : List FileLine) (l : FileLine) → file_text (lines ++ l ∷ []) ≡ file_text lines ++ line l.words
 more_text lines l =
     let text : FileLine → List ℕ = λ m. line m.words in

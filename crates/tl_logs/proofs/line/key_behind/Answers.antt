@@ -21,3 +21,8 @@ pub returns-in_default-from_str : goal.returns-in_default-from_str
 returns-in_default-from_str g c =
     let parts = split_parts 32 c.args.text.now (Some (c.in-Some.name, c.in-Some.key)) c.in-Some.ensures.cases (omega arith) in
     (record { origin = c.in-Some.name.now; key = c.in-Ok.key }, (c.in-Some.key.now, c.if-not-is_key_name.ensures.0 refl, c.in-Ok.ensures, parts.0))
+
+pub returns : goal.returns
+returns g c =
+    let parts = split_parts 32 c.args.text.now (Some (c.in-Some.name, c.in-Some.key)) c.in-Some.ensures.cases (omega arith) in
+    rw c.in-Ok-from_str.ensures.ok (c.in-Some.key.now, c.if-not-is_key_name.ensures.0 refl, c.in-Ok.ensures, parts.0)

@@ -1,7 +1,8 @@
+use Rattle.std.proofs.Common.{arith}
 use Rattle.tl_logs.specs.ReadLogs.{logs_shown}
 use Rattle.tl_logs.specs.Inner.ByOrigin.{index_of}
 use Rattle.tl_logs.proofs.IndexLaws.{indexes_none}
-use Rattle.tl_logs.proofs.FileLaws.{read_none, read_more, refused}
+use Rattle.tl_logs.proofs.FileLaws.{read_none, read_more, refused, shorter}
 use Rattle.tl_logs.proofs.reading.read_logs.Goals as goal
 
 pub loop-left-init : goal.loop-left-init
@@ -18,3 +19,6 @@ loop-left-preserved g c = (
       c.cut_line.result.1.now c.loop-left.invariant.0 c.loop-left-test.ensures c.cut_line.ensures c.in-Ok.ensures.taken,
   c.in-Ok.ensures.indexed,
 )
+
+pub loop-left-smaller : goal.loop-left-smaller
+loop-left-smaller g c = omega (arith, shorter c.loop-left.left.now c.cut_line.result.0.now c.cut_line.result.1.now c.loop-left-test.ensures c.cut_line.ensures)
