@@ -6,9 +6,10 @@ use Rattle.std.proofs.lemmas.List.{take_all}
 use Rattle.std.proofs.lemmas.List.Elements.{All-map, All-more}
 use Rattle.tl_hash.specs.Bytes.{Bytes}
 use Rattle.tl_note.specs.Key.{Key}
-use Rattle.tl_note.specs.Note.{Signature}
+use Rattle.tl_note.specs.Note.{IsSignature, Signature, signature_line}
 use Rattle.tl_note.specs.View.{AreLines}
 use Rattle.tl_checkpoint.specs.Cosignature.{ChecksCosignature, IsCosignature}
+use Rattle.tl_cosign.specs.Lines.{CosignsText}
 use Rattle.tl_cosign.specs.Inner.Answered.{AreOthers, IsOther}
 
 -- whether a line is one by one of these keys
@@ -45,6 +46,13 @@ own_key {W = W} key text line (x ∷ ws) (zero, w, within, is, by) =
 own_key {W = W} key text line (x ∷ ws) (suc k, w, within, is, by) =
     let (own, (place, inside, at), of) = own_key key text line ws (k, w, omega (arith, within), is, by) in
     (own, (suc place, omega (arith, inside), at), of)
+
+-- by one of them it is a line of a cosignature
+pub cosigns : {W : Type 0} (key : W → Key) (text : Bytes) (line : Signature) (ws : List W) (bytes : Bytes) → IsSignature line → bytes ≡ signature_line line
+    → Finds key text line ws true → CosignsText (map key ws) text bytes
+cosigns {W = W} key text line ws bytes lawful spelled found =
+    let (own, known, (time, by)) = own_key key text line ws found in
+    record { signature = line; lawful = lawful; spelled = spelled; key = own; known = known; time = time; valid = by }
 
 pub none_own : {W : Type 0} (key : W → Key) (text : Bytes) (line : Signature) (ws : List W) → Finds key text line ws false → IsOther text (map key ws) line
 none_own key text line ws none = All-map (λ k. (time : ℕ) → IsCosignature text k line time → ⊥) key ws none

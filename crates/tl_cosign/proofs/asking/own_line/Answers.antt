@@ -1,5 +1,6 @@
-use Rattle.std.proofs.Common.{arith, inr, map, refl}
-use Rattle.tl_cosign.proofs.Others.{none_own, others_all, others_more}
+use Rattle.std.proofs.Common.{All, arith, inr, map, refl, subst, sym}
+use Rattle.tl_note.specs.Note.{IsSignature}
+use Rattle.tl_cosign.proofs.Others.{cosigns, none_own, others_all, others_more}
 use Rattle.tl_cosign.proofs.asking.own_line.Goals as goal
 
 pub loop-line-preserved : goal.loop-line-preserved
@@ -13,3 +14,9 @@ returns-clause-none g c = inr (
   others_all c.args.text.now _ c.args.lines.now c.in-Ok.views.items c.deref-line-items.result.now c.loop-line.line-index c.deref-line-items.ensures.value c.in-Ok.ensures
       (omega (arith, c.loop-line-test.false)) c.loop-line.invariant,
 )
+
+pub returns-then-branch-clause-line : goal.returns-then-branch-clause-line
+returns-then-branch-clause-line g c =
+    let each = subst (All IsSignature) (sym c.deref-line-items.ensures.value) c.in-Ok.ensures.each in
+    let lawful = subst IsSignature (sym c.line-item.is) (each c.loop-line.line-index c.line-item.result (omega (arith, c.loop-line-test.true))) in
+    cosigns _ c.args.text.now c.line-item.result c.args.keys.now _ lawful c.in_ok-text_of.ensures (rw (c.if-branch.true) at c.in_ok-is_own.ensures)
