@@ -6,7 +6,8 @@ use Rattle.tl_hash.specs.Bytes.{Bytes}
 use Rattle.tl_note.specs.Key.{Key}
 use Rattle.tl_checkpoint.specs.Checkpoint.{Head as Checkpoint}
 use Rattle.tl_checkpoint.specs.OpenCheckpoint.{IsSignedCheckpoint}
-use Rattle.tl_ledger.specs.Opening.{IsNamed}
+use Rattle.tl_hash.specs.declared.head.Head.{Head}
+use Rattle.tl_ledger.specs.Opening.{IsNamed, IsOfNote}
 use Rattle.tl_ledger.specs.OpenFaults.{IsOfOther, StatesTooMany}
 
 never : IsTrue false → ⊥
@@ -39,3 +40,8 @@ of_other note keys c name signed same none = (c, signed, (λ named. never (none 
 -- it is of the log, and too large
 pub of_too_many : (note : Bytes) (keys : List Key) (c : Checkpoint) (name : Bytes) → IsSignedCheckpoint note keys c → name ≡ c.origin → IsNamed keys name → 2 ^ 32 ≤ c.size → StatesTooMany keys note
 of_too_many note keys c name signed same named large = (c.size, record { checkpoint = c; signed = signed; named = subst (IsNamed keys) same named; sized = refl }, large)
+
+-- the note is of a log with the name of one of the keys
+pub of_note : (note : Bytes) (keys : List Key) (c : Checkpoint) (name : Bytes) → IsSignedCheckpoint note keys c → name ≡ c.origin → IsNamed keys name
+    → (head : Head) → c.size ≡ head.size → c.root ≡ head.root → IsOfNote note keys head
+of_note note keys c name signed same named head size root = (c, signed, subst (IsNamed keys) same named, size, root)
