@@ -1,15 +1,20 @@
-use Rattle.std.proofs.Common.{refl, map, subst, sym, ap, ◌∙◌, string_bytes}
+use Rattle.std.proofs.Common.{refl, inl, map, subst, sym, ap, ◌∙◌, string_bytes}
 use Rattle.tl_witness.specs.ByOrigin.{Indexes, index_of}
 use Rattle.tl_witness.proofs.ByOriginLaws.{all_known, first_not_known}
 use Rattle.tl_witness.proofs.Moved.{shown_twice}
 use Rattle.tl_witness.proofs.OpeningLaws.{once_to, once_from, trusted_to, untrusted_to, names_to, bad_name_to, opened_to, origins_once}
-use Rattle.tl_witness.proofs.OpeningFaults.{chain_fault}
+use Rattle.tl_witness.proofs.OpeningFaults.{chain_fault, memory_refused}
 use Rattle.tl_witness.proofs.book.Book.open.Goals as goal
 
 pub returns-in-Ok-None-clause-err : goal.returns-in-Ok-None-clause-err
 returns-in-Ok-None-clause-err g c = λ once.
     let test = rw (c.in-Ok-None.field-0-is, c.as_slice.ensures.value, c.as_slice-2.ensures.value) at c.in-Ok-None.ensures.ok in
     test (once_from _ _ _ _ _ c.args.trusts.items c.args.chains.items (λ t. refl) (λ t. refl) (λ d. refl) once)
+
+pub returns-in-Err-clause-err : goal.returns-in-Err-clause-err
+returns-in-Err-clause-err g c =
+    let some = rw (c.as_slice.ensures.value, c.as_slice-2.ensures.value) at c.in-Err.ensures.err in
+    memory_refused _ _ c.args.trusts.items c.args.chains.items some
 
 pub returns-in-Some-clause-err : goal.returns-in-Some-clause-err
 returns-in-Some-clause-err g c =
@@ -51,6 +56,9 @@ pub enter-requires-clause-named : goal.enter-requires-clause-named
 enter-requires-clause-named g c =
     let named = rw c.as_slice-4.ensures.value at c.in_default-first_bad_name.ensures in
     names_to _ _ c.args.trusts.items (λ t. refl) named
+
+pub returns-in_default-enter-clause-err : goal.returns-in_default-enter-clause-err
+returns-in_default-enter-clause-err g c = memory_refused _ _ c.args.trusts.items c.args.chains.items (inl c.in_default-enter.ensures.memory)
 
 pub returns-clause-ok : goal.returns-clause-ok
 returns-clause-ok g c =
