@@ -39,6 +39,16 @@ line_of_words l after =
     ∙ append_assoc (n ++ 32 ∷ r) (32 ∷ c) (32 ∷ hs)
     ∙ append_assoc n (32 ∷ r) (32 ∷ c ++ 32 ∷ hs))
 
+-- a line that is written part by part
+behind_space : (old spaced new part : List ℕ) → spaced ≡ old ++ 32 ∷ [] → new ≡ spaced ++ part → new ≡ old ++ 32 ∷ part
+behind_space old spaced new part first then = then ∙ (ap (λ (t : List ℕ). t ++ part) first ∙ append_assoc old (32 ∷ []) part)
+
+pub line_written : (size root count hashes origin t0 t1 t2 t3 t4 t5 t6 t7 t8 t9 : List ℕ)
+    → t0 ≡ [] → t1 ≡ t0 ++ size → t2 ≡ t1 ++ 32 ∷ [] → t3 ≡ t2 ++ root → t4 ≡ t3 ++ 32 ∷ [] → t5 ≡ t4 ++ count → t6 ≡ t5 ++ hashes → t7 ≡ t6 ++ 32 ∷ []
+    → t8 ≡ t7 ++ origin → t9 ≡ t8 ++ 10 ∷ [] → t9 ≡ (size ++ 32 ∷ root ++ 32 ∷ count ++ hashes ++ 32 ∷ origin) ++ 10 ∷ []
+line_written size root count hashes origin t0 t1 t2 t3 t4 t5 t6 t7 t8 t9 e0 e1 e2 e3 e4 e5 e6 e7 e8 e9 =
+    rw (e9, behind_space t6 t7 t8 origin e7 e8, e6, behind_space t3 t4 t5 count e4 e5, behind_space t1 t2 t3 root e2 e3, e1, e0) refl
+
 -- the words have no newline
 abbrev IsOther : ℕ → Type 0
 IsOther byte = byte ≢ 10
