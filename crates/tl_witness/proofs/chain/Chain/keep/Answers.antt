@@ -1,8 +1,8 @@
-use Rattle.std.proofs.Common.{map}
+use Rattle.std.proofs.Common.{map, refl, arith}
 use Rattle.std.proofs.lemmas.List.{map-append}
 use Rattle.tl_proof.specs.Acceptance.{step_of}
 use Rattle.tl_witness.specs.Chain.{Follows, first_head, last_head}
-use Rattle.tl_witness.proofs.ChainLaws.{chain-snoc, line_made}
+use Rattle.tl_witness.proofs.ChainLaws.{chain-snoc, line_made, unless_err, where_err}
 use Rattle.tl_witness.proofs.chain.Chain.keep.Goals as goal
 
 -- the link follows the chain as it is at the push, which the reserve left as it was
@@ -11,3 +11,21 @@ invariant_of-self-2 g c =
     let follows : Follows g.T.TreeHash.digest_of (last_head (first_head g.T.TreeHash.digest_of) (map step_of c.self.inside.links.items)) (step_of c.args.link) = rw c.self.view_is c.requires.follows in
     rw (c.push_reserved.ensures.items, c.reserve.ensures.items, map-append)
     (chain-snoc g.T.TreeHash.digest_of (map step_of c.self.inside.links.items) (step_of c.args.link) c.self.invariant follows (line_made _ c.requires.line))
+
+pub invariant_of-self : goal.invariant_of-self
+invariant_of-self g c = rw c.reserve.ensures.items c.self.invariant
+
+pub returns-then-is_err-2-clause-failed : goal.returns-then-is_err-2-clause-failed
+returns-then-is_err-2-clause-failed g c = λ e. where_err c.save.result _ c.if-is_err-2.ensures.value c.save.ensures.failed
+
+pub invariant_of-self-then-is_err-2 : goal.invariant_of-self-then-is_err-2
+invariant_of-self-then-is_err-2 g c = rw c.reserve.ensures.items c.self.invariant
+
+pub push_reserved-requires : goal.push_reserved-requires
+push_reserved-requires g c =
+    let room = unless_err c.reserve.result _ c.if-is_err.ensures.value c.reserve.ensures.ok in
+    omega (arith, room)
+
+pub returns-clause-kept : goal.returns-clause-kept
+returns-clause-kept g c =
+    (unless_err c.save.result _ c.if-is_err-2.ensures.value c.save.ensures.kept, rw (c.push_reserved.ensures.items, c.reserve.ensures.items, map-append, c.self.view_is) refl)
