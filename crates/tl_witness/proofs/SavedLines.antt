@@ -1,6 +1,7 @@
 -- Reading the lines of saved links, one after the other.
-use Rattle.std.proofs.Common.{◌≡◌, ◌≢◌, ℕ, ◌+◌, ◌≤◌, false, List, [], ◌∷◌, ◌++◌, length, refl, sym, ap, subst, ◌∙◌, append_assoc, append-nil, arith, All, Ok, Err, Result}
+use Rattle.std.proofs.Common.{◌≡◌, ◌≢◌, ℕ, ◌+◌, ◌≤◌, ◌<◌, true, false, List, [], ◌∷◌, ◌++◌, length, refl, sym, ap, subst, ◌∙◌, append_assoc, append-nil, arith, All, Ok, Err, Result}
 use Rattle.std.specs.Prelude.{nat_eq, IsErrAnd, String}
+use Rattle.std.proofs.lemmas.Bool.{eqb-true}
 use Rattle.std.proofs.lemmas.List.{length-append}
 use Rattle.std.proofs.lemmas.List.Concat.{flat_map-cons, flat_map-append}
 use Rattle.std.proofs.lemmas.List.Elements.{All-head, All-nil, All-push}
@@ -10,7 +11,7 @@ use Rattle.tl_proof.specs.Acceptance.{Step}
 use Rattle.tl_proof.specs.declared.link.Link.{Link}
 use Rattle.tl_witness.specs.declared.chain_reading.ChainFault.{ChainFault}
 use Rattle.tl_witness.specs.declared.chain_reading.ChainFault.TheVariants.{OutOfMemory}
-use Rattle.tl_witness.specs.ReadChain.{BeginsWithLine, IsLineOf, ReadsChain}
+use Rattle.tl_witness.specs.ReadChain.{AreChainsOf, BeginsWithLine, IsLineOf, ReadsChain}
 use Rattle.tl_witness.specs.ChainFields.{PutsStep, chain_words}
 use Rattle.tl_witness.specs.Open.{SavedChain}
 use Rattle.tl_witness.proofs.LineText.{line_of_words}
@@ -81,3 +82,16 @@ begins bytes saved count left words rest origin step read cut is =
 pub reads_refused : {A : Type 0} → (bytes : List ℕ) (r : Result (Vec (String A × Vec (Link A) A) A) ChainFault) → IsErrAnd r (λ e. e ≡ OutOfMemory) → BeginsWithLine bytes → ReadsChain bytes r
 reads_refused bytes (Ok read) refused is = absurd refused
 reads_refused {A = A} bytes (Err fault) refused is = subst (λ (f : ChainFault). ReadsChain {A = A} bytes (Err f)) (sym refused) is
+
+-- all is read once nothing is left
+pub all_read : (bytes : List ℕ) (saved : List SavedChain) (count : ℕ) (left : List ℕ) → HasRead bytes saved count left → true ≡ nat_eq (length left) 0 → AreChainsOf bytes saved
+all_read bytes saved count [] read none = record {
+  lines = read.lines;
+  text = record { each = read.each; spelled = read.whole ∙ append-nil (chain_text read.lines) };
+  same = read.same;
+}
+all_read bytes saved count (b ∷ left) read none = absurd (let zero : length (b ∷ left) ≡ 0 = eqb-true (length (b ∷ left)) 0 (sym none) in omega (arith, zero))
+
+-- less is left behind a line
+pub less_left : (left words rest : List ℕ) → left ≡ words ++ 10 ∷ rest → length rest < length left
+less_left left words rest cut = omega (arith, ap length cut, length-append words (10 ∷ rest))

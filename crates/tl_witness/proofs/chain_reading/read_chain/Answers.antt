@@ -3,7 +3,7 @@ use Rattle.tl_witness.specs.ReadChain.{chains_shown}
 use Rattle.tl_witness.specs.ByOrigin.{index_of}
 use Rattle.tl_witness.proofs.ByOriginLaws.{indexes_none}
 use Rattle.tl_witness.proofs.LineText.{no_text_line, no_such_words}
-use Rattle.tl_witness.proofs.SavedLines.{read_none, read_more, malformed, begins, reads_refused}
+use Rattle.tl_witness.proofs.SavedLines.{read_none, read_more, malformed, begins, reads_refused, all_read, less_left}
 use Rattle.tl_witness.proofs.chain_reading.read_chain.Goals as goal
 
 pub loop-left-init : goal.loop-left-init
@@ -41,3 +41,10 @@ loop-left-preserved g c =
     c.in-Some.words.now c.in-Some.rest.now (record { origin = c.in-Some-cut_fields.fields.origin.now; step = step_of c.in_ok-link.link }) c.loop-left.invariant.0
     c.in-Some.ensures.1 is.spelled is.lawful c.in_ok-put_link.ensures.put in
     (read, c.in_ok-put_link.ensures.indexed)
+
+pub loop-left-smaller : goal.loop-left-smaller
+loop-left-smaller g c = less_left c.loop-left.left.now c.in-Some.words.now c.in-Some.rest.now c.in-Some.ensures.1
+
+pub returns : goal.returns
+returns g c =
+    all_read c.args.bytes.now (chains_shown c.loop-left.chains.items) c.loop-left.line c.loop-left.left.now c.loop-left.invariant.0 c.loop-left-test.ensures
