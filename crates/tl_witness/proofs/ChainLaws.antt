@@ -126,3 +126,8 @@ unless_err (Err y) Fact test fact = absurd cc
 pub where_err : {T E : Type 0} (r : Result T E) (Fact : Type 0) → true ≡ is_err r → OnErr r Fact → Fact
 where_err (Ok x) Fact test fact = absurd cc
 where_err (Err y) Fact test fact = fact
+
+-- what is so holds where there is an error
+pub at_err : {T E : Type 0} (r : Result T E) (Fact : Type 0) → Fact → OnErr r Fact
+at_err (Ok x) Fact fact = tt
+at_err (Err y) Fact fact = fact

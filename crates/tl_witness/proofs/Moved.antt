@@ -1,7 +1,8 @@
 -- A list that is moved, one element after the other, into another.
 use Rattle.std.proofs.Common.{◌≡◌, ℕ, ◌+◌, ◌<◌, get_or, take, List, [], ◌∷◌, ◌++◌, refl, sym, ap, subst, ◌∙◌, map, length, append_assoc, append-nil, arith, All}
 use Rattle.std.proofs.lemmas.List.Elements.{All-push}
-use Rattle.std.proofs.lemmas.List.{map-append, map_more}
+use Rattle.std.proofs.lemmas.List.{length-map, map-append, map_more}
+use Rattle.tl_witness.proofs.ListLaws.{some_there}
 
 -- what was moved shows as it did
 pub moved : {E G Y : Type 0} (f : E → Y) (h : G → Y) (done : List G) (one : G) (first : E) (left now : List E) (all : List Y)
@@ -36,3 +37,10 @@ copied_more f h xs i x copies now copy lt is so_far same pushed =
     ∙ (map-append h copies (copy ∷ [])
     ∙ (ap (λ (t : List _). t ++ h copy ∷ []) so_far
     ∙ (ap (λ (y : _). map f (take i xs) ++ y ∷ []) (same ∙ ap f is) ∙ sym (map_more f xs i x lt))))
+
+-- there is one of them where one is left
+pub some_left : {E Y : Type 0} (f : E → Y) (done left now : List E) (one : E) (all : List E) → left ≡ one ∷ now → map f done ++ map f left ≡ map f all → 0 < length all
+some_left f done left now one all next so_far =
+    let whole : map f done ++ f one ∷ map f now ≡ map f all = ap (λ (t : List _). map f done ++ map f t) (sym next) ∙ so_far in
+    let some : 0 < length (map f all) = some_there (map f done) (f one) (map f now) (map f all) whole in
+    omega (arith, some, length-map all f)

@@ -1,6 +1,7 @@
 use Rattle.std.proofs.Common.{length, refl, ap, sym, subst, ◌∙◌, string_bytes, arith}
 use Rattle.tl_witness.specs.ByOrigin.{Indexes, index_of}
-use Rattle.tl_witness.proofs.Moved.{moved, moved_all, shown_twice}
+use Rattle.tl_witness.proofs.ChainLaws.{at_err}
+use Rattle.tl_witness.proofs.Moved.{moved, moved_all, shown_twice, some_left}
 use Rattle.tl_witness.proofs.OpeningLaws.{entered_none, entered_push, enters, named_next, not_before}
 use Rattle.tl_witness.proofs.CosignLaws.{same_key}
 use Rattle.tl_witness.proofs.opening.enter.Goals as goal
@@ -21,6 +22,14 @@ pub name_of-requires : goal.name_of-requires
 name_of-requires g c =
     let whole = rw c.in-Some.ensures.steps.0 at c.loop-trust.invariant.2 in
     named_next _ _ _ _ whole c.requires.named
+
+pub returns-in_err-cosigner_name-clause-memory : goal.returns-in_err-cosigner_name-clause-memory
+returns-in_err-cosigner_name-clause-memory g c =
+    at_err c.from_residual.result _ (some_left _ c.loop-trust.yielded c.loop-trust.trust-iterator.rest.items _ c.in-Some.trust c.args.trusts.items c.in-Some.ensures.steps.0 c.loop-trust.invariant.2)
+
+pub returns-in_err-push-clause-memory : goal.returns-in_err-push-clause-memory
+returns-in_err-push-clause-memory g c =
+    at_err c.from_residual-in_err-push.result _ (some_left _ c.loop-trust.yielded c.loop-trust.trust-iterator.rest.items _ c.in-Some.trust c.args.trusts.items c.in-Some.ensures.steps.0 c.loop-trust.invariant.2)
 
 pub loop-trust-preserved : goal.loop-trust-preserved
 loop-trust-preserved g c =
