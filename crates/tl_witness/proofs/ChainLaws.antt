@@ -1,5 +1,5 @@
 -- Laws of chains.
-use Rattle.std.proofs.Common.{◌≡◌, ℕ, zero, suc, ◌+◌, ◌-◌, List, [], ◌∷◌, ◌++◌, Some, refl, ap, sym, subst, ◌∙◌, length, map, take, get_or, arith, slice_get, ◌<◌, true, false, Ok, Err, Result}
+use Rattle.std.proofs.Common.{◌≡◌, ℕ, zero, suc, ◌+◌, ◌-◌, List, [], ◌∷◌, ◌++◌, Some, refl, ap, sym, subst, ◌∙◌, length, map, take, get_or, arith, slice_get, ◌<◌, true, false, None, Ok, Err, Result}
 use Rattle.std.specs.Prelude.{is_err, OnOk, OnErr}
 use Rattle.std.proofs.lemmas.List.{length-map, map_more, take-map, get_or-map}
 use Rattle.std.proofs.lemmas.Option.{slice_get_within, slice_get-map, slice_get-get_or}
@@ -131,3 +131,9 @@ where_err (Err y) Fact test fact = fact
 pub at_err : {T E : Type 0} (r : Result T E) (Fact : Type 0) → Fact → OnErr r Fact
 at_err (Ok x) Fact fact = tt
 at_err (Err y) Fact fact = fact
+
+-- no step is last where there is none
+pub last_head-none : {A : Type 0} (f : A → Step) (old : TreeHead) (xs : List A) → None ≡ slice_get xs (length xs - 1) → last_head old (map f xs) ≡ old
+last_head-none f old [] none = refl
+last_head-none f old (x ∷ xs) none =
+    absurd (let some : None ≡ Some (get_or (x ∷ xs) (length (x ∷ xs) - 1) x) = none ∙ slice_get-get_or (x ∷ xs) (length (x ∷ xs) - 1) x (omega arith) in cc)
