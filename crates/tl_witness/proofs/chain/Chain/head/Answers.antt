@@ -1,4 +1,4 @@
-use Rattle.std.proofs.Common.{◌≡◌, ap, sym}
+use Rattle.std.proofs.Common.{◌≡◌, ◌∙◌, ap, sym}
 use Rattle.tl_proof.specs.Acceptance.{step_of}
 use Rattle.tl_witness.specs.Chain.{TreeHead, head_after, first_head, last_head}
 use Rattle.tl_witness.proofs.ChainLaws.{last_head-map, last_head-none}
@@ -20,3 +20,8 @@ pub returns-in-None-clause-size : goal.returns-in-None-clause-size
 returns-in-None-clause-size g c =
     let none = rw c.deref.ensures.value at c.in-None.ensures.value in
     rw (← c.self.view_is) (ap (λ (h : TreeHead). h.size) (sym (last_head-none step_of (first_head g.T.TreeHash.digest_of) c.self.inside.links.items none)))
+
+pub returns-in-None-clause-root : goal.returns-in-None-clause-root
+returns-in-None-clause-root g c =
+    let none = rw c.deref.ensures.value at c.in-None.ensures.value in
+    rw (← c.self.view_is) (c.empty_hash.ensures ∙ ap (λ (h : TreeHead). h.root) (sym (last_head-none step_of (first_head g.T.TreeHash.digest_of) c.self.inside.links.items none)))
