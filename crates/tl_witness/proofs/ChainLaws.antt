@@ -1,5 +1,5 @@
 -- Laws of chains.
-use Rattle.std.proofs.Common.{◌≡◌, ℕ, zero, suc, ◌+◌, ◌-◌, List, [], ◌∷◌, ◌++◌, Some, refl, ap, sym, subst, ◌∙◌, length, map, take, get_or, arith, slice_get, ◌<◌, true, false, None, Ok, Err, Result}
+use Rattle.std.proofs.Common.{◌≡◌, ℕ, zero, suc, ◌+◌, ◌-◌, List, [], ◌∷◌, ◌++◌, Some, refl, ap, sym, subst, ◌∙◌, length, map, take, get_or, arith, slice_get, ◌<◌, false, None, Ok, Err, Result}
 use Rattle.std.specs.Prelude.{is_err, OnOk, OnErr}
 use Rattle.std.proofs.lemmas.List.{length-map, map_more, take-map, get_or-map}
 use Rattle.std.proofs.lemmas.Option.{slice_get_within, slice_get-map, slice_get-get_or}
@@ -118,14 +118,10 @@ come_break H f xs i size root x lt is come breaks = record {
   breaks = λ follows. breaks (rw (← come.size_is, ← come.root_is) (subst (λ (l : List Step). Follows H (last_head (first_head H) l) (f x)) (take-map f i xs) follows));
 }
 
--- what a call ensures where a test finds no error, and where it finds one
+-- what a call ensures where a test finds no error
 pub unless_err : {T E : Type 0} (r : Result T E) (Fact : Type 0) → false ≡ is_err r → OnOk r Fact → Fact
 unless_err (Ok x) Fact test fact = fact
 unless_err (Err y) Fact test fact = absurd cc
-
-pub where_err : {T E : Type 0} (r : Result T E) (Fact : Type 0) → true ≡ is_err r → OnErr r Fact → Fact
-where_err (Ok x) Fact test fact = absurd cc
-where_err (Err y) Fact test fact = fact
 
 -- what is so holds where there is an error
 pub at_err : {T E : Type 0} (r : Result T E) (Fact : Type 0) → Fact → OnErr r Fact

@@ -1,8 +1,8 @@
-use Rattle.std.proofs.Common.{map, refl, arith}
+use Rattle.std.proofs.Common.{map, refl, arith, rules}
 use Rattle.std.proofs.lemmas.List.{map-append}
 use Rattle.tl_proof.specs.Acceptance.{step_of}
 use Rattle.tl_witness.specs.Chain.{Follows, first_head, last_head}
-use Rattle.tl_witness.proofs.ChainLaws.{chain-snoc, line_made, unless_err, where_err}
+use Rattle.tl_witness.proofs.ChainLaws.{chain-snoc, line_made, unless_err}
 use Rattle.tl_witness.proofs.chain.Chain.keep.Goals as goal
 
 -- the link follows the chain as it is at the push, which the reserve left as it was
@@ -15,12 +15,6 @@ invariant_of-self-2 g c =
 pub invariant_of-self : goal.invariant_of-self
 invariant_of-self g c = rw c.reserve.ensures.items c.self.invariant
 
-pub returns-then-is_err-2-clause-failed : goal.returns-then-is_err-2-clause-failed
-returns-then-is_err-2-clause-failed g c = λ e. where_err c.save.result _ c.if-is_err-2.ensures.value c.save.ensures.failed
-
-pub invariant_of-self-then-is_err-2 : goal.invariant_of-self-then-is_err-2
-invariant_of-self-then-is_err-2 g c = rw c.reserve.ensures.items c.self.invariant
-
 pub push_reserved-requires : goal.push_reserved-requires
 push_reserved-requires g c =
     let room = unless_err c.reserve.result _ c.if-is_err.ensures.value c.reserve.ensures.ok in
@@ -28,4 +22,4 @@ push_reserved-requires g c =
 
 pub returns-clause-kept : goal.returns-clause-kept
 returns-clause-kept g c =
-    (unless_err c.save.result _ c.if-is_err-2.ensures.value c.save.ensures.kept, rw (c.push_reserved.ensures.items, c.reserve.ensures.items, map-append, c.self.view_is) refl)
+    (search rules, rw (c.push_reserved.ensures.items, c.reserve.ensures.items, map-append, c.self.view_is) refl)

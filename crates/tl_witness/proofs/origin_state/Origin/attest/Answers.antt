@@ -13,8 +13,10 @@ pub returns-in-Err-SaveFailed-clause-ok : goal.returns-in-Err-SaveFailed-clause-
 returns-in-Err-SaveFailed-clause-ok g c =
     let fails = c.in-Err-SaveFailed.ensures.failed (ap Err c.in-Err-SaveFailed.field-0-is) in
     let stays = c.in-Err-SaveFailed.ensures.err in
-    inr (inl (omega (arith, c.if-link-head.false, c.head.ensures.size),
-        (c.refusal-in-Err-SaveFailed.ensures.status, c.refusal-in-Err-SaveFailed.ensures.body, fails, rw stays refl)))
+    inr (inl (
+      omega (arith, c.if-link-head.false, c.head.ensures.size),
+      (c.refusal-in-Err-SaveFailed.ensures.status, c.refusal-in-Err-SaveFailed.ensures.body, fails, rw stays refl),
+    ))
 
 pub returns-clause-err : goal.returns-clause-err
 returns-clause-err g c = (c.in-Err-OutOfMemory.ensures.no_memory (ap Err c.in-Err-OutOfMemory.field-0-is), c.in-Err-OutOfMemory.ensures.err)

@@ -6,12 +6,28 @@ pub returns-then-not-accepts-clause-ok : goal.returns-then-not-accepts-clause-ok
 returns-then-not-accepts-clause-ok g c =
     let size = c.head-size.ensures.size in
     let one : (c.args.link.size ≡ c.head-size.result.0 → c.args.link.root ≡ c.head-size.result.1) = search rules in
-    inr (omega (arith, c.if-link-old.false), inr (c.if-old-size.false ∙ size, inr (λ e. one (e ∙ sym size) ∙ c.head-size.ensures.root,
-        inl (λ follows. (let wrong = c.if-not-accepts.ensures.1 follows in absurd cc), (c.refusal-then-not-accepts.ensures.status, c.refusal-then-not-accepts.ensures.body, (refl, refl))))))
+    inr (
+      omega (arith, c.if-link-old.false),
+      inr (
+        c.if-old-size.false ∙ size,
+        inr (
+          λ e. one (e ∙ sym size) ∙ c.head-size.ensures.root,
+          inl (λ follows. (let wrong = c.if-not-accepts.ensures.1 follows in absurd cc), (c.refusal-then-not-accepts.ensures.status, c.refusal-then-not-accepts.ensures.body, (refl, refl))),
+        ),
+      ),
+    )
 
 pub returns-clause-ok : goal.returns-clause-ok
 returns-clause-ok g c =
     let size = c.head-size.ensures.size in
     let one : (c.args.link.size ≡ c.head-size.result.0 → c.args.link.root ≡ c.head-size.result.1) = search rules in
-    IfOk-weaker c.attest.result _ _ (λ reply settled. inr (omega (arith, c.if-link-old.false), inr (c.if-old-size.false ∙ size, inr (λ e. one (e ∙ sym size) ∙ c.head-size.ensures.root,
-        inr (c.if-not-accepts.ensures.0 refl, settled))))) c.attest.ensures.ok
+    IfOk-weaker c.attest.result _ _ (λ reply settled. inr (
+      omega (arith, c.if-link-old.false),
+      inr (
+        c.if-old-size.false ∙ size,
+        inr (
+          λ e. one (e ∙ sym size) ∙ c.head-size.ensures.root,
+          inr (c.if-not-accepts.ensures.0 refl, settled),
+        ),
+      ),
+    )) c.attest.ensures.ok
