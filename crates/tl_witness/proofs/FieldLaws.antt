@@ -1,7 +1,7 @@
 -- Where the first field of a text ends, and texts that begin with no number or no hash.
-use Rattle.std.proofs.Common.{◌≡◌, ℕ, List, arith, Option, Bor}
+use Rattle.std.proofs.Common.{◌≡◌, ◌∙◌, ap, ℕ, List, arith, Option, Bor}
 use Rattle.std.specs.Prelude.{MatchOption, Some, None}
-use Rattle.std.proofs.lemmas.Str.Pattern.{IsSplitOnceResult, split_after}
+use Rattle.std.proofs.lemmas.Str.Pattern.{IsSplitOnceResult, split_after, split_parts}
 use Rattle.tl_hash.specs.Bytes.{IsHash}
 use Rattle.tl_text.specs.Text.{number_text, base64_text, IsSize}
 use Rattle.tl_text.specs.Pieces.{IsNoSize, IsNoHash}
@@ -33,3 +33,7 @@ no_hash_field text split = λ hash rest is e. field_parts text (base64_text hash
 pub no_hash : (text : List ℕ) (words rest : Bor (List ℕ)) → IsSplitOnceResult 32 text (Some (words, rest)) → IsNoHash words.now → HasNoHash text
 no_hash text words rest split none = λ hash after is e.
     none hash is (field_parts text (base64_text hash) after (Some (words, rest)) split (hash_without hash is) e).0
+
+-- a text whose first words are known is a field of them
+pub known_field : (text known : List ℕ) (words rest : Bor (List ℕ)) → IsSplitOnceResult 32 text (Some (words, rest)) → words.now ≡ known → text ≡ field known rest.now
+known_field text known words rest split is = (split_parts 32 text (Some (words, rest)) split (omega arith)).0 ∙ ap (λ (t : List ℕ). field t rest.now) is
