@@ -18,6 +18,9 @@ returns-in-Err-Unknown-clause-decided g c =
     (no_place c.args.self.now.states.items _ (λ e. string_bytes e.origin.name) _ (λ e. refl) other.nowhere)
     (c.refusal-in-Err-Unknown.ensures.status, c.refusal-in-Err-Unknown.ensures.body, refl, refl)
 
+pub returns-in-Err-OutOfMemory-clause-unchanged : goal.returns-in-Err-OutOfMemory-clause-unchanged
+returns-in-Err-OutOfMemory-clause-unchanged g c = (let asks = rw c.in-Err-OutOfMemory.field-0-is at c.in-Err-OutOfMemory.ensures in (refl, refl, asks))
+
 pub index_mut-state-requires : goal.index_mut-state-requires
 index_mut-state-requires g c =
     let is = rw c.as_slice.ensures.value at c.in-Ok.ensures in
