@@ -1,7 +1,7 @@
 use Rattle.std.proofs.Common.{List, map, vec_items, sym, subst}
 use Rattle.tl_note.specs.Key.{SigningKey}
 use Rattle.tl_publisher.specs.Resuming.{Resumption, ResumeRefuses}
-use Rattle.tl_publisher.proofs.Resumptions.{err_passes, not_memory, operator_refused}
+use Rattle.tl_publisher.proofs.Resumptions.{err_passes, not_memory, log_refused, operator_refused}
 use Rattle.tl_publisher.proofs.operator.Operator.resume.Goals as goal
 
 pub returns-in_err-base-clause-refused : goal.returns-in_err-base-clause-refused
@@ -24,3 +24,11 @@ returns-in-Err-begin-clause-refused g c =
     let all = rw c.as_slice.ensures.value at c.in_default.ensures in
     subst (ResumeRefuses r keys c.args.lanes c.args.capacity c.args.readers) (sym c.operator_refusal.ensures)
     (operator_refused r keys c.args.lanes c.args.capacity c.args.readers (map vec_items c.in_ok-base.base.items) c.in_ok-base.ensures.base c.in-Err-begin.fault all c.in-Ok.ensures.bounds c.in-Err-begin.ensures.refused)
+
+pub returns-in-Err-clause-refused : goal.returns-in-Err-clause-refused
+returns-in-Err-clause-refused g c =
+    let r : Resumption = record { note = c.args.note.now; keys = map (λ b. (goal.Verifier-dyn g (b.vtable, b.value)).key b.value) c.args.verifiers.now; bundles = map vec_items c.args.bundles.now; origin = c.args.origin.now; limit = c.args.limit } in
+    let keys : List SigningKey = map (λ b. (goal.Signer-dyn g (b.vtable, b.value)).signing_key b.value) c.args.signers.items in
+    let all = rw c.as_slice.ensures.value at c.in_default.ensures in
+    subst (ResumeRefuses r keys c.args.lanes c.args.capacity c.args.readers) (sym c.log_refusal.ensures)
+    (log_refused r keys c.args.lanes c.args.capacity c.args.readers (map vec_items c.in_ok-base.base.items) c.in_ok-base.ensures.base c.in-Err.back.why all c.in-Err.ensures.refused)
