@@ -1,6 +1,6 @@
 -- Who must cosign, and what is proposed to them.
 use Rattle.std.proofs.Common.{◌≡◌, ℕ, List, [], ◌∷◌, length, take, Some, None, refl, sym, ap, subst, ◌∙◌, append-nil, arith}
-use Rattle.std.specs.Prelude.{Err}
+use Rattle.std.specs.Prelude.{Result, Ok, Err, IfErr}
 use Rattle.std.proofs.lemmas.List.{take_all}
 use Rattle.std.proofs.lemmas.List.Elements.{All-nil}
 use Rattle.sha2.specs.Sha256.{sha256}
@@ -100,6 +100,11 @@ sign_refuses a log start g size root (publish.Sign place) same needed fresh is s
     (needed, fresh, subst (λ (t : List ℕ). MayFail t a.signers place) (grown_text a log start g size root same is size_is root_is) told)
 sign_refuses a log start g size root publish.Quorum same needed fresh is size_is root_is told = absurd told
 sign_refuses a log start g size root publish.OutOfMemory same needed fresh is size_is root_is told = (needed, fresh)
+
+-- what stays is said of each fault
+pub same_err : {T F : Type 0} (r : Result T F) (P : Type 0) → P → IfErr r (λ _. P)
+same_err (Ok x) P is = tt
+same_err (Err fault) P is = is
 
 -- what is kept of a growth of the whole log is what is proposed
 pub proposed_of : {A : Type 0} (a b : Operated A) (old new : Running A) (g : Grown) (head_size size : ℕ) (root note copy : List ℕ)

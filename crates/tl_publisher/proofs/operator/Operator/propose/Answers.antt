@@ -1,12 +1,13 @@
 use Rattle.std.proofs.Common.{refl, sym, subst, ◌∙◌, map, take, string_bytes, true≢false}
 use Rattle.std.specs.Prelude.{Err, option_map}
 use Rattle.std.specs.Global.{Global}
-use Rattle.tl_publisher.specs.Operating.{Operated}
+use Rattle.tl_publisher.specs.Running.{Running}
+use Rattle.tl_publisher.specs.Operating.{Operated, IsOperating}
 use Rattle.tl_sequencer.specs.Log.{entries_of}
-use Rattle.tl_publisher.specs.Publishing.{EndsWith}
+use Rattle.tl_publisher.specs.Publishing.{EndsWith, IsSame}
 use Rattle.tl_publisher.specs.Inner.Noting.{NotesHead}
 use Rattle.tl_publisher.specs.Proposing.{ProposeRefuses}
-use Rattle.tl_publisher.proofs.Proposals.{sign_refuses, proposed_of, operating_proposes}
+use Rattle.tl_publisher.proofs.Proposals.{same_err, sign_refuses, proposed_of, operating_proposes}
 use Rattle.tl_publisher.proofs.Resumptions.{err_passes}
 use Rattle.tl_publisher.proofs.operator.Operator.propose.Goals as goal
 
@@ -47,3 +48,27 @@ returns-clause-operating g c =
     (proposed_of _ _ c.args.self.now.run c.adopt.new.self c.in_ok-next.next c.head.result.size c.size-size.result c.head.result.root (string_bytes c.in_ok-note.note) (string_bytes c.in_ok-note.note)
     refl refl refl refl refl c.in_ok-adopt.ensures.same c.in_ok-adopt.ensures.grown c.if-self-eq0.false fresh c.in_ok-next.ensures c.head.ensures.size root c.size-size.ensures signed refl)
     c.requires
+
+pub returns-in_err-adopt-clause-operating : goal.returns-in_err-adopt-clause-operating
+returns-in_err-adopt-clause-operating g c =
+    let of : Running Global → Operated Global = λ r. record {
+      origin = string_bytes c.args.self.now.origin;
+      signers = map (λ b. (goal.Signer-dyn g (b.vtable, b.value)).signing_key b.value) c.args.self.now.signers.items;
+      quorum = record { witnesses = map (λ b. (goal.Verifier-dyn g (b.vtable, b.value)).key b.value) c.args.self.now.witnesses.items; need = c.args.self.now.need };
+      log = r.log;
+      proposal = option_map (λ note. record { entries = take r.grown (entries_of r.log); note = string_bytes note }) c.args.self.now.proposal;
+      past = r.past;
+    } in
+    subst (λ r. IsOperating (of r)) (sym c.in_err-adopt.ensures.refused) c.requires
+
+pub returns-in_err-adopt-clause-same : goal.returns-in_err-adopt-clause-same
+returns-in_err-adopt-clause-same g c =
+    let of : Running Global → Operated Global = λ r. record {
+      origin = string_bytes c.args.self.now.origin;
+      signers = map (λ b. (goal.Signer-dyn g (b.vtable, b.value)).signing_key b.value) c.args.self.now.signers.items;
+      quorum = record { witnesses = map (λ b. (goal.Verifier-dyn g (b.vtable, b.value)).key b.value) c.args.self.now.witnesses.items; need = c.args.self.now.need };
+      log = r.log;
+      proposal = option_map (λ note. record { entries = take r.grown (entries_of r.log); note = string_bytes note }) c.args.self.now.proposal;
+      past = r.past;
+    } in
+    same_err c.from_residual-in_err-adopt.result _ (subst (λ r. IsSame (of c.args.self.now.run) (of r)) (sym c.in_err-adopt.ensures.refused) (record { log = refl; proposal = refl; past = refl }))

@@ -1,5 +1,7 @@
 use Rattle.std.proofs.Common.{List, map, vec_items, sym, subst}
 use Rattle.tl_note.specs.Key.{SigningKey}
+use Rattle.tl_sequencer.specs.Opened.{IsOpened}
+use Rattle.tl_publisher.specs.Signed.{AreSigners}
 use Rattle.tl_publisher.specs.Resuming.{Resumption, ResumeRefuses}
 use Rattle.tl_publisher.proofs.Resumptions.{err_passes, not_memory, log_refused, operator_refused}
 use Rattle.tl_publisher.proofs.operator.Operator.resume.Goals as goal
@@ -32,3 +34,20 @@ returns-in-Err-clause-refused g c =
     let all = rw c.as_slice.ensures.value at c.in_default.ensures in
     subst (ResumeRefuses r keys c.args.lanes c.args.capacity c.args.readers) (sym c.log_refusal.ensures)
     (log_refused r keys c.args.lanes c.args.capacity c.args.readers (map vec_items c.in_ok-base.base.items) c.in_ok-base.ensures.base c.in-Err.back.why all c.in-Err.ensures.refused)
+
+pub begin-requires-clause-signers : goal.begin-requires-clause-signers
+begin-requires-clause-signers g c = subst (λ keys. AreSigners (map (λ b. (goal.Signer-dyn g (b.vtable, b.value)).signing_key b.value) keys)) c.as_slice.ensures.value c.in_default.ensures.1
+
+pub returns-in-Ok-begin-clause-resumed : goal.returns-in-Ok-begin-clause-resumed
+returns-in-Ok-begin-clause-resumed g c = (
+  map vec_items c.in_ok-base.base.items,
+  c.in_ok-base.ensures.base,
+  record {
+    origin = c.in-Ok-begin.ensures.begun.origin;
+    signers = c.in-Ok-begin.ensures.begun.signers;
+    free = c.in-Ok-begin.ensures.begun.free;
+    log = subst (λ log. IsOpened (map vec_items c.in_ok-base.base.items) c.args.lanes c.args.capacity c.args.limit log c.in-Ok.opened.1.items) (sym c.in-Ok-begin.ensures.log) c.in-Ok.ensures.opened;
+    unproposed = c.in-Ok-begin.ensures.begun.unproposed;
+    unpublished = c.in-Ok-begin.ensures.begun.unpublished;
+  },
+)
