@@ -1,6 +1,7 @@
 -- Who must cosign, and what is proposed to them.
 use Rattle.std.proofs.Common.{◌≡◌, ℕ, List, [], ◌∷◌, length, take, Some, None, refl, sym, ap, subst, ◌∙◌, append-nil, arith}
 use Rattle.std.specs.Prelude.{Result, Ok, Err, IfErr}
+use Rattle.std.specs.Result.{IsErrAnd}
 use Rattle.std.proofs.lemmas.List.{take_all}
 use Rattle.std.proofs.lemmas.List.Elements.{All-nil}
 use Rattle.sha2.specs.Sha256.{sha256}
@@ -15,7 +16,7 @@ use Rattle.tl_publisher.specs.Histories.{Prefix, Past, AreOf, BeginWith, Begins,
 use Rattle.tl_publisher.specs.Boards.{Board, face_head, head_if}
 use Rattle.tl_publisher.specs.Signed.{AreSigners, IsSignedNote, AreSignedBy, Quorum, no_quorum, text_of_log}
 use Rattle.tl_publisher.specs.Operating.{Operated, IsOperating, IsOfSame, IsProposal}
-use Rattle.tl_publisher.specs.Publishing.{EndsWith, IsFree}
+use Rattle.tl_publisher.specs.Publishing.{EndsWith, IsFree, IsSame, Publishes}
 use Rattle.tl_publisher.specs.Proposing.{IsRequired, IsProposed, ProposeRefuses}
 use Rattle.tl_publisher.specs.Stages.{IsNextOf, IsShown}
 use Rattle.tl_publisher.specs.Grown.{Grown, IsGrown}
@@ -100,6 +101,22 @@ sign_refuses a log start g size root (publish.Sign place) same needed fresh is s
     (needed, fresh, subst (λ (t : List ℕ). MayFail t a.signers place) (grown_text a log start g size root same is size_is root_is) told)
 sign_refuses a log start g size root publish.Quorum same needed fresh is size_is root_is told = absurd told
 sign_refuses a log start g size root publish.OutOfMemory same needed fresh is size_is root_is told = (needed, fresh)
+
+-- signing stops a publication
+pub sign_stops : {A : Type 0} (a b : Operated A) (size : ℕ) (root : List ℕ) (fault : PublishFault) → IsFree a → (EndsWith a.past.log (entries_of a.log) → ⊥)
+    → (size ≡ length (entries_of a.log)) × (root ≡ tree_hash sha256 (entries_of a.log)) → IsSame a b → NotesHead a.origin a.signers size root (Err fault) → Publishes a b (Err fault)
+sign_stops a b size root publish.NothingNew free fresh head same told = absurd told
+sign_stops a b size root (publish.Sign place) free fresh head same told =
+    let text : text_of_head a.origin size root ≡ text_of_log a.origin (entries_of a.log) =
+    let count = head.0 in let hash = head.1 in λ i. checkpoint_text (record { origin = a.origin; size = count i; root = hash i; extensions = [] }) in
+    (free, fresh, subst (λ (t : List ℕ). MayFail t a.signers place) text told, same)
+sign_stops a b size root publish.Quorum free fresh head same told = absurd told
+sign_stops a b size root publish.OutOfMemory free fresh head same told = (free, fresh, same)
+
+-- what is answered where a fault is handed on
+pub passes : {T F : Type 0} (P : Result T F → Type 0) (given : F) (r : Result T F) → IsErrAnd r (λ fault. fault ≡ given) → P (Err given) → P r
+passes P given (Ok x) same is = absurd same
+passes P given (Err fault) same is = subst (λ (f : _). P (Err f)) (sym same) is
 
 -- what stays is said of each fault
 pub same_err : {T F : Type 0} (r : Result T F) (P : Type 0) → P → IfErr r (λ _. P)
