@@ -1,5 +1,5 @@
 use Rattle.std.proofs.Common.{◌++◌, List, ℕ, drop, map, take, take-add, vec_items, sym, ap, subst, ◌∙◌, length, arith}
-use Rattle.std.proofs.lemmas.List.{map-append, take_rest, length-drop, drop-map}
+use Rattle.std.proofs.lemmas.List.{map-append, take_all, take_rest, length-drop, drop-map}
 use Rattle.std.proofs.lemmas.List.Elements.{All-drop}
 use Rattle.sha2.specs.Sha256.{sha256}
 use Rattle.tl_tile.specs.Bundle.{IsShortEntry, AreShortEntries}
@@ -30,3 +30,8 @@ loop-at-preserved g c =
       size = omega (arith, more.size, inv.size);
       grown = subst (λ (es : List (List ℕ)). IsGrown sha256 0 es c.append_some.new.self) same (more.grown 0 _ inv.grown);
     }
+
+pub returns : goal.returns
+returns g c =
+    let inv = c.loop-at.invariant in
+    subst (λ (list : List _). IsGrown sha256 0 (map vec_items list) c.loop-at.growth) (take_all c.loop-at.at c.args.entries.now (omega (arith, inv.within, c.loop-at-test.false))) inv.grown
