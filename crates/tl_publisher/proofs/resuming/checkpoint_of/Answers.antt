@@ -1,0 +1,11 @@
+use Rattle.std.proofs.Common.{not, ap, ◌∙◌, true≢false}
+use Rattle.std.proofs.lemmas.Slice.Eq.{bytes_eq-Decides}
+use Rattle.tl_checkpoint.specs.Checkpoint.{head_of}
+use Rattle.tl_publisher.proofs.resuming.checkpoint_of.Goals as goal
+
+pub returns-then-ne-clause-refused : goal.returns-then-ne-clause-refused
+returns-then-ne-clause-refused g c bundles limit signers lanes capacity readers = (
+  head_of c.in-Ok.checkpoint,
+  c.in-Ok.ensures,
+  (λ same. true≢false (c.if-ne.ensures ∙ ap not ((bytes_eq-Decides c.as_str.result.now c.args.origin.now).1 (c.as_str.ensures.value ∙ same)))),
+)
