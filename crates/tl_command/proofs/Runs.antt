@@ -3,8 +3,10 @@ use Rattle.std.proofs.Common.{◌≡◌, ℕ, inl, List, [], ◌∷◌, sym, sub
 use Rattle.std.specs.Prelude.{Option, Result, Ok, Err, OnOk, OnErr, IfErr}
 use Rattle.tl_device.specs.Device.{Passage, IsUnwritten, ReadWhole, WroteWhole, WrotePart}
 use Rattle.tl_note.specs.Key.{Key}
+use Rattle.tl_note.specs.Note.{Note}
 use Rattle.tl_note.specs.OpenNote.{OpensNote}
 use Rattle.tl_note.specs.declared.fault.NoteFault.{NoteFault}
+use Rattle.tl_note.specs.declared.open.OpenedNote.{OpenedNote}
 use Rattle.tl_note.specs.declared.fault.NoteFault.TheVariants as note
 use Rattle.tl_key.specs.KeyText.{IsVerifierText}
 use Rattle.tl_key.specs.NoteKey.{PublicKey, note_kind, verifier_key}
@@ -14,7 +16,7 @@ use Rattle.tl_command.specs.ProofCommands.{CheckAboutComes}
 use Rattle.tl_command.specs.Run.{Output, Prints, Runs, CameOf, most_input}
 use Rattle.tl_command.specs.declared.fault.RunFault.{RunFault}
 use Rattle.tl_command.specs.declared.fault.RunFault.TheVariants.{Refused, Read, Write, TooLarge, EntryTooLong, BadOrigin, BadIndex, BadOld, BadPath, NotThere, Malformed, Chain, Sign, Operator, Listen, Accept, OutOfMemory, BadName, BadKey, BadCheckpoint, WrongSignature, Unverified, Device, BadKeyFile}
-use Rattle.tl_command.specs.Open.{OpenComes, RunsOpen, after_note}
+use Rattle.tl_command.specs.Open.{IsOpened, OpenComes, RunsOpen, after_note}
 use Rattle.tl_command.specs.CheckOpened.{RunsUnder, RunsCheckOpened, subject_of}
 use Rattle.tl_command.proofs.NoteBytes.{note_some}
 
@@ -39,6 +41,22 @@ note_fails A keys i o input note.Unverified whole none given =
 note_fails A keys i o input (note.Sign place) whole none given = absurd given
 note_fails A keys i o input note.OutOfMemory whole none given =
     (whole.steady, none, inl (input, whole.consumed, note_some input given.0 given.1 given.2))
+
+-- the same of what was answered, of the text that the input is
+pub note_refused : (A : Type 0) (keys : List Key) (i o : Passage) (input message : List ℕ) (fault : NoteFault) (answer : RunFault) → answer ≡ after_note fault → message ≡ input
+    → ReadWhole i most_input input → IsUnwritten o → OpensNote {A = A} message keys (Err fault) → Runs (OpenComes keys) i o (Err answer)
+note_refused A keys i o input message fault answer told same whole none given =
+    subst (λ (f : RunFault). Runs (OpenComes keys) i o (Err f)) (sym told)
+    (note_fails A keys i o input fault whole none (subst (λ (bytes : List ℕ). OpensNote {A = A} bytes keys (Err fault)) same given))
+
+-- a note that opens is printed
+pub note_printed : (A : Type 0) (keys : List Key) (i o : Passage) (input message text : List ℕ) (opened : OpenedNote A) (r : Result (Unit {0}) RunFault) → message ≡ input
+    → ReadWhole i most_input input → OpensNote {A = A} message keys (Ok opened) → text ≡ opened.note.text.now
+    → OnOk r (WroteWhole o text) → IfErr r (λ fault. fault ≡ Write) → OnErr r (WrotePart o text) → Runs (OpenComes keys) i o r
+note_printed A keys i o input message text opened r same whole given spelled =
+    let note : Note input opened.note.text.now opened.note.signatures.items = subst (λ (bytes : List ℕ). Note bytes opened.note.text.now opened.note.signatures.items) same given.note in
+    let is : IsOpened keys input opened.note.text.now = record { lines = opened.note.signatures.items; noted = note; opens = given.opens } in
+    printed (OpenComes keys) i o text r (record { input = input; whole = whole; so = subst (IsOpened keys input) (sym spelled) is })
 
 -- a run under the key that a text is of
 pub runs_open : (text : List ℕ) (k : PublicKey) (i o : Passage) (r : Result (Unit {0}) RunFault) → IsVerifierText note_kind text k

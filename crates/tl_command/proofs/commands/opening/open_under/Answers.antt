@@ -1,9 +1,10 @@
-use Rattle.std.proofs.Common.{rules, refl}
+use Rattle.std.proofs.Common.{Global, rules, refl, ◌∙◌, vec_items}
 use Rattle.tl_command.proofs.NoteBytes.{note_utf8}
 use Rattle.std.proofs.KnownBytes.{Keeps-refl}
 use Rattle.std.proofs.lemmas.Result.{err_from_is_err_and}
 use Rattle.tl_device.specs.Device.{passage}
 use Rattle.tl_command.proofs.Failing.{unread}
+use Rattle.tl_command.proofs.Runs.{note_printed, note_refused}
 use Rattle.tl_command.proofs.commands.opening.open_under.Goals as goal
 
 pub returns-in_default : goal.returns-in_default
@@ -21,3 +22,14 @@ returns-in_err-input g c =
     let p = err_from_is_err_and c.from_residual.result c.from_residual.ensures.1 in
     rw (p.1, p.2)
     (unread _ (passage g.R.Read.remaining c.args.reader.now c.read_input.new.reader) (passage g.W.Write.contents c.args.writer.now c.args.writer.now) _ c.in_err-input.ensures (Keeps-refl (g.W.Write.contents c.args.writer.now.device), refl))
+
+pub returns : goal.returns
+returns g c =
+    note_refused (Unit {0}) _ _ _ (vec_items c.in_ok-input.input) c.in-Ok.message.now c.in-Err.fault c.note_refusal.result c.note_refusal.ensures
+    (c.in-Ok.ensures.cases.0 ∙ c.as_slice.ensures.value) c.in_ok-input.ensures (Keeps-refl (g.W.Write.contents c.args.writer.now.device), refl) c.in-Err.ensures
+
+pub returns-in-Ok-open_note : goal.returns-in-Ok-open_note
+returns-in-Ok-open_note g c =
+    note_printed Global _ _ _ (vec_items c.in_ok-input.input) c.in-Ok.message.now c.as_bytes.result.now c.in-Ok-open_note.opened c.print_text.result
+    (c.in-Ok.ensures.cases.0 ∙ c.as_slice.ensures.value) c.in_ok-input.ensures c.in-Ok-open_note.ensures c.as_bytes.ensures.value
+    c.print_text.ensures.whole c.print_text.ensures.fault c.print_text.ensures.part
