@@ -5,11 +5,15 @@ use Rattle.std.specs.Prelude.{Err}
 use Rattle.tl_text.specs.Text.{IsOneLine}
 use Rattle.tl_device.specs.Device.{Passage, IsUnwritten, GaveSome, ReadWhole}
 use Rattle.tl_command.specs.Inner.Cuts.{BeginsWithLines, IsMarkFault}
-use Rattle.tl_command.specs.Inner.Growing.{ReadsEdge}
+use Rattle.sha2.specs.Sha256.{sha256}
+use Rattle.tl_hash.specs.Tree.{tree_hash}
+use Rattle.tl_tile.specs.RightEdge.{EdgeContents, IsEdgeOf}
+use Rattle.tl_checkpoint.specs.Checkpoint.{checkpoint_text}
+use Rattle.tl_command.specs.Inner.Growing.{ReadEdge, ReadsEdge}
 use Rattle.tl_command.specs.declared.fault.RunFault.{RunFault}
 use Rattle.tl_command.specs.declared.fault.RunFault.TheVariants.{Refused, Read, Write, TooLarge, EntryTooLong, BadOrigin, BadIndex, BadOld, BadPath, NotThere, Malformed, Chain, Sign, Operator, Listen, Accept, OutOfMemory, BadName, BadKey, BadCheckpoint, WrongSignature, Unverified, Device, BadKeyFile}
 use Rattle.tl_command.specs.Lines.{entries_of, first_too_long}
-use Rattle.tl_command.specs.Run.{Output, Fails, Runs, IsAsking, ReadEntries, most_input}
+use Rattle.tl_command.specs.Run.{Output, Prints, Fails, Runs, CameOf, IsAsking, ReadEntries, most_input}
 use Rattle.tl_command.specs.Head.{HeadComes, RunsHead, head_text}
 use Rattle.tl_command.specs.ProofText.{consistency_text}
 use Rattle.tl_command.specs.ProofCommands.{ConsistencyComes, consistency_of}
@@ -43,6 +47,19 @@ asks_of_old old p most input whole within =
 -- a checkpoint is printed of any input
 pub asks_of_head : (origin : List ℕ) (p : Passage) → IsAsking (HeadComes origin) p
 asks_of_head origin p = inr (head_text origin (entries_of []), (none_too_long, refl))
+
+-- the text of the checkpoint of the log of an input's lines, whose edge was read
+pub head_came : (origin : List ℕ) (i : Passage) (edge : EdgeContents) (size : ℕ) (root text bytes : List ℕ) → ReadEdge i edge → size ≡ edge.size
+    → ((entries : List (List ℕ)) → IsEdgeOf edge sha256 entries → root ≡ tree_hash sha256 entries)
+    → bytes ≡ checkpoint_text (record { origin = origin; size = size; root = root; extensions = [] }) → text ≡ bytes → CameOf (HeadComes origin) i (Prints text)
+head_came origin i edge size root text bytes read counted hashed is same =
+    let count : size ≡ length (entries_of read.input) = counted ∙ sym read.stands.0 in
+    let tree : root ≡ tree_hash sha256 (entries_of read.input) = hashed (entries_of read.input) read.stands in
+    record {
+      input = read.input;
+      whole = read.whole;
+      so = (read.short, same ∙ is ∙ (λ j. checkpoint_text (record { origin = origin; size = count j; root = tree j; extensions = [] })));
+    }
 
 -- a fault of reading an input's edge is one of `head`
 pub head_fault : (origin : List ℕ) (i o : Passage) (fault : RunFault) → IsOneLine origin → IsUnwritten o → ReadsEdge i (Err fault) → RunsHead origin i o (Err fault)

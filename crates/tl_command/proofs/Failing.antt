@@ -1,6 +1,6 @@
 -- Runs that end before their input is answered: why they fail is what the call that failed says.
-use Rattle.std.proofs.Common.{inl, List, ℕ}
-use Rattle.std.specs.Prelude.{Option, Err}
+use Rattle.std.proofs.Common.{◌≡◌, ◌∙◌, inl, List, ℕ, sym, subst}
+use Rattle.std.specs.Prelude.{Option, Result, Ok, Err, IsErrAnd}
 use Rattle.tl_hash.specs.Bytes.{Digest}
 use Rattle.tl_note.specs.Key.{IsKeyName, Key}
 use Rattle.tl_key.specs.NoteKey.{note_kind}
@@ -25,6 +25,11 @@ use Rattle.tl_command.specs.Inner.Steps.{ReadsPath}
 use Rattle.tl_command.specs.declared.fault.RunFault.{RunFault}
 use Rattle.tl_command.specs.declared.place.Place.TheVariants.{File}
 use Rattle.tl_command.specs.declared.fault.RunFault.TheVariants.{Refused, Read, Write, TooLarge, EntryTooLong, BadOrigin, BadIndex, BadOld, BadPath, NotThere, Malformed, Chain, Sign, Operator, Listen, Accept, OutOfMemory, BadName, BadKey, BadCheckpoint, WrongSignature, Unverified, Device, BadKeyFile}
+
+-- what a call failed with is handed on
+pub handed_on : (Holds : Result (Unit {0}) RunFault → Type 0) (r : Result (Unit {0}) RunFault) (given fault : RunFault) → IsErrAnd r (λ e. e ≡ given) → given ≡ fault → Holds (Err fault) → Holds r
+handed_on Holds (Ok done) given fault is same holds = absurd is
+handed_on Holds (Err e) given fault is same holds = subst (λ (f : RunFault). Holds (Err f)) (sym (is ∙ same)) holds
 
 -- the input can't be read
 pub unread : (Comes : List ℕ → Output → Type 0) (i o : Passage) (fault : RunFault) → ReadingFails most_input i fault → IsUnwritten o → Runs Comes i o (Err fault)

@@ -22,6 +22,11 @@ use Rattle.tl_command.proofs.Asking.{gave_entry, none_too_long}
 use Rattle.tl_command.proofs.LinesLemmas.{length-entries_of, entries_of_nothing}
 use Rattle.tl_command.specs.Mirror.{LogKey, checkpoint_note, mirrored, resource_text, listing_text}
 use Rattle.tl_command.specs.Build.{IsPrinted, IsMissing, BuildComes, IsLawfulPath, RunsBuild}
+use Rattle.sha2.specs.Sha256.{sha256}
+use Rattle.tl_hash.specs.Tree.{tree_hash}
+use Rattle.tl_tile.specs.RightEdge.{EdgeContents, IsEdgeOf}
+use Rattle.tl_command.specs.Inner.BundleLengths.{AreBundleLengths}
+use Rattle.tl_command.specs.Inner.Measuring.{ReadMeasured}
 use Rattle.tl_command.specs.Inner.Growing.{ReadsEdge}
 use Rattle.tl_command.specs.Inner.Steps.{IsAsked, IsServed, IsShown, AnswersWanted, WantedComes}
 use Rattle.tl_command.proofs.NeededParts.{LiesIn, lies, lawful}
@@ -262,6 +267,21 @@ list_fails key i o fault.Unverified none reads = absurd reads
 -- and it has where memory was refused for the listing
 pub list_refused : (key : LogKey) (i o : Passage) (f : RunFault) → IsUnwritten o → IsSteady i → f ≡ fault.OutOfMemory → Runs (WantedComes key None) i o (Err f)
 list_refused key i o f none steady is = subst (λ (e : RunFault). Runs (WantedComes key None) i o (Err e)) (sym is) (steady, none, asks_to_list key i)
+
+-- the listing of the log of an input's lines, whose edge and lengths were read
+pub list_came : (key : LogKey) (i : Passage) (edge : EdgeContents) (lengths sizes : List ℕ) (size : ℕ) (root text bytes : List ℕ) → ReadMeasured i edge sizes → lengths ≡ sizes → size ≡ edge.size
+    → ((entries : List (List ℕ)) → IsEdgeOf edge sha256 entries → root ≡ tree_hash sha256 entries)
+    → ((entries : List (List ℕ)) → length entries ≡ size → tree_hash sha256 entries ≡ root → AreBundleLengths lengths entries → bytes ≡ listing_text (checkpoint_note key entries) entries (mirrored size))
+    → text ≡ bytes → CameOf (WantedComes key None) i (Prints text)
+list_came key i edge lengths sizes size root text bytes read measured counted hashed is same =
+    let entries : List (List ℕ) = entries_of read.input in
+    let count : length entries ≡ size = read.stands.0 ∙ sym counted in
+    let are : AreBundleLengths lengths entries = subst (λ (ns : List ℕ). AreBundleLengths ns entries) (sym measured) read.lengths in
+    record {
+      input = read.input;
+      whole = read.whole;
+      so = (read.short, same ∙ is entries count (sym (hashed entries read.stands)) are ∙ ap (λ (n : ℕ). listing_text (checkpoint_note key entries) entries (mirrored n)) (sym count));
+    }
 
 -- what came of an input of which this answer is shown
 answered : (key : LogKey) (wanted : Option Resource) (i : Passage) (entries : List (List ℕ)) (text bytes : List ℕ) → ReadEntries i most_input entries → IsShown (checkpoint_note key entries) entries wanted bytes → text ≡ bytes

@@ -1,12 +1,14 @@
-use Rattle.std.proofs.Common.{Some, ◌<◌, ◌⊎◌, inl, inr, ◌∙◌, refl, arith, length, vec_items}
+use Rattle.std.proofs.Common.{◌≡◌, Some, ◌<◌, ◌⊎◌, inl, inr, ◌∙◌, refl, arith, length, subst, vec_items, ℕ}
 use Rattle.std.proofs.KnownBytes.{Keeps-refl}
 use Rattle.std.proofs.lemmas.Result.{err_from_is_err_and}
 use Rattle.tl_device.specs.Device.{passage}
 use Rattle.tl_command.specs.Inner.Steps.{IsServed, WantedComes}
 use Rattle.tl_command.specs.Mirror.{mirrored}
 use Rattle.tl_command.proofs.Asking.{entry_fails, read_lines}
-use Rattle.tl_command.proofs.Wanted.{answer_cut, answer_fails, answer_printed, asks_for}
-use Rattle.tl_command.proofs.Failing.{unread}
+use Rattle.tl_command.proofs.Wanted.{answer_cut, answer_fails, answer_printed, asks_for, not_there}
+use Rattle.tl_command.specs.Run.{Runs}
+use Rattle.tl_command.specs.declared.fault.RunFault.TheVariants.{Write}
+use Rattle.tl_command.proofs.Failing.{handed_on, unread}
 use Rattle.tl_command.proofs.commands.build.build.Goals as goal
 
 pub returns-in-Err : goal.returns-in-Err
@@ -32,8 +34,9 @@ returns-in_err-print_text g c =
     let key = g.K.LogSigner.log_key c.args.key.now in
     let lines = c.lines-lines.result in
     let read = read_lines (passage g.R.Read.remaining c.args.reader.now c.read_input.new.reader) _ (vec_items c.in_ok-input.input) c.as_slice.result.now lines c.in_ok-input.ensures c.as_slice.ensures.value (c.lines-lines.ensures ∙ c.in-Ok.ensures.lines) c.in-Ok.ensures.short in
-    let p = err_from_is_err_and c.from_residual-in_err-print_text.result c.from_residual-in_err-print_text.ensures.1 in
-    rw (p.1, p.2, c.in_err-print_text.ensures.fault) (answer_cut key (Some c.args.wanted) _ (passage g.W.Write.contents c.args.writer.now c.print_text.new.writer) lines c.as_slice-2.result.now (vec_items c.in-Ok-answer_of.answer) read c.in-Ok-answer_of.ensures c.as_slice-2.ensures.value c.in_err-print_text.ensures.part)
+    handed_on (Runs (WantedComes key (Some c.args.wanted)) (passage g.R.Read.remaining c.args.reader.now c.read_input.new.reader) (passage g.W.Write.contents c.args.writer.now c.print_text.new.writer))
+    c.from_residual-in_err-print_text.result _ Write c.from_residual-in_err-print_text.ensures.1 c.in_err-print_text.ensures.fault
+    (answer_cut key (Some c.args.wanted) _ (passage g.W.Write.contents c.args.writer.now c.print_text.new.writer) lines c.as_slice-2.result.now (vec_items c.in-Ok-answer_of.answer) read c.in-Ok-answer_of.ensures c.as_slice-2.ensures.value c.in_err-print_text.ensures.part)
 
 pub returns : goal.returns
 returns g c =
@@ -47,3 +50,12 @@ returns-in_err-input g c =
     let p = err_from_is_err_and c.from_residual.result c.from_residual.ensures.1 in
     rw (p.1, p.2)
     (unread (WantedComes (g.K.LogSigner.log_key c.args.key.now) (Some c.args.wanted)) (passage g.R.Read.remaining c.args.reader.now c.read_input.new.reader) (passage g.W.Write.contents c.args.writer.now c.args.writer.now) _ c.in_err-input.ensures (Keeps-refl (g.W.Write.contents c.args.writer.now.device), refl))
+
+pub returns-then-is_of_no_entry : goal.returns-then-is_of_no_entry
+returns-then-is_of_no_entry g c =
+    let key = g.K.LogSigner.log_key c.args.key.now in
+    let lines = c.lines-lines.result in
+    let read = read_lines (passage g.R.Read.remaining c.args.reader.now c.read_input.new.reader) _ (vec_items c.in_ok-input.input) c.as_slice.result.now lines c.in_ok-input.ensures c.as_slice.ensures.value (c.lines-lines.ensures ∙ c.in-Ok.ensures.lines) c.in-Ok.ensures.short in
+    let none : 0 ≡ length lines = omega (arith, c.if-is_of_no_entry.ensures.0, c.count.ensures.count) in
+    not_there key (Some c.args.wanted) _ (passage g.W.Write.contents c.args.writer.now c.args.writer.now) lines read (Keeps-refl (g.W.Write.contents c.args.writer.now.device), refl)
+    (subst (λ (n : ℕ). ¬ (IsServed (mirrored n) (Some c.args.wanted))) none c.if-is_of_no_entry.ensures.1)
