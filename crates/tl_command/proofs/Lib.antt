@@ -15,6 +15,7 @@ pub mod NoCheckpoints
 pub mod Runs
 pub mod Failing
 pub mod KeyRuns
+pub mod PrivateFiles
 pub mod ProofRuns
 pub mod NeededParts
 pub mod Bundles

@@ -1,7 +1,7 @@
 //! Keys that a command is told.
 
 ghost use Rattle.tl_key.specs.Reading.{ReadsSigner, ReadsVerifier};
-ghost use Rattle.tl_command.specs.Keys.{ReadsFile, ReadsKey, ReadsPrivate};
+ghost use Rattle.tl_command.specs.Keys.{IsTextOf, ReadsFile, ReadsKey, ReadsPrivate};
 
 use crate::fault::RunFault;
 use crate::place::Place;
@@ -32,6 +32,16 @@ pub fn read_log_key(alloc: Global, text: &str) -> Result<NoteVerifier<Global>, R
     }
 }
 
+// The text without the newline that ends it, if one does.
+fn without_newline(text: &str) -> &str
+    ensures { IsTextOf text.now result.now }
+{
+    match text.strip_suffix("\n") {
+        Some(line) => line,
+        None => text,
+    }
+}
+
 /// The private key whose text the bytes of a file are, with a newline after it or without (`tl_key::read_signer_key`).
 /// `BadKeyFile`: they are of no key of the type asked for.
 pub fn read_private_key<K: KeyKind>(
@@ -43,11 +53,7 @@ pub fn read_private_key<K: KeyKind>(
     let Ok(text) = str::from_utf8(bytes) else {
         return Err(RunFault::BadKeyFile);
     };
-    let read = match text.strip_suffix("\n") {
-        Some(line) => read_signer_key(alloc, line),
-        None => read_signer_key(alloc, text),
-    };
-    match read {
+    match read_signer_key(alloc, without_newline(text)) {
         Ok(key) => Ok(key),
         Err(KeyFault::OutOfMemory) => Err(RunFault::OutOfMemory),
         Err(_) => Err(RunFault::BadKeyFile),
