@@ -4,6 +4,7 @@ pub mod LineTexts
 pub mod LineFields
 pub mod HashLines
 pub mod ProofTexts
+pub mod ProofBytes
 pub mod Checking
 pub mod CountedLines
 pub mod GrowingLemmas

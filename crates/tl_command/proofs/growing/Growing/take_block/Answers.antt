@@ -1,5 +1,5 @@
-use Rattle.std.proofs.Common.{List, ℕ, length, ap, subst, arith}
-use Rattle.std.proofs.lemmas.List.{take_rest, length-drop}
+use Rattle.std.proofs.Common.{◌++◌, List, ℕ, length, ap, subst, arith}
+use Rattle.std.proofs.lemmas.List.{take_all, take_rest, length-drop}
 use Rattle.tl_command.specs.Inner.Growing.{IsGrowing}
 use Rattle.tl_command.proofs.WholeLines.{part_more}
 use Rattle.tl_command.proofs.growing.Growing.take_block.Goals as goal
@@ -15,3 +15,7 @@ loop-at-preserved g c =
       size = omega (arith, so_far.size, taken.size);
       grows = λ input was. subst (λ (t : List ℕ). IsGrowing c.take_share.new.self t) (part_more input block at c.in_ok-at.field-0) (taken.grows _ (so_far.grows input was));
     }
+
+pub returns-clause-grows : goal.returns-clause-grows
+returns-clause-grows g c = λ input was.
+    subst (λ (t : List ℕ). IsGrowing c.loop-at.self (input ++ t)) (take_all c.loop-at.at c.args.block.now (omega (arith, c.loop-at-test.false))) (c.loop-at.invariant.grows input was)
