@@ -15,3 +15,7 @@ returns-in_err-checkpoint g c =
     let p = err_from_is_err_and c.from_residual.result c.from_residual.ensures.1 in
     rw (p.1, p.2)
     (checkpoint_fails (Unit {0}) c.args.bytes.now _ c.args.name.now _ (passage g.R.Read.remaining c.args.reader.now c.args.reader.now) (passage g.W.Write.contents c.args.writer.now c.args.writer.now) _ ((Keeps-refl (g.R.Read.remaining c.args.reader.now.device), refl), (Keeps-refl (g.W.Write.contents c.args.writer.now.device), refl)) c.in_err-checkpoint.ensures)
+
+pub returns-then-ne : goal.returns-then-ne
+returns-then-ne g c =
+    (record { checkpoint = _; signed = c.in_ok-checkpoint.ensures; other = search rules }, ((Keeps-refl (g.R.Read.remaining c.args.reader.now.device), refl), (Keeps-refl (g.W.Write.contents c.args.writer.now.device), refl)))

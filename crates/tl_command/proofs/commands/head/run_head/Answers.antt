@@ -23,17 +23,21 @@ returns-in_err-text g c =
 pub returns-in_err-print_text : goal.returns-in_err-print_text
 returns-in_err-print_text g c =
     handed_on (RunsHead c.args.origin.now (passage g.R.Read.remaining c.args.reader.now c.read_edge.new.reader) (passage g.W.Write.contents c.args.writer.now c.print_text.new.writer))
-    c.from_residual-in_err-print_text.result _ Write c.from_residual-in_err-print_text.ensures.1 c.in_err-print_text.ensures.fault
-    ((c.if-not-is_one_line.ensures.0 refl), record {
-      text = c.as_bytes.result.now;
-      came = inl (head_came c.args.origin.now (passage g.R.Read.remaining c.args.reader.now c.read_edge.new.reader) _ c.size.result c.root.result c.as_bytes.result.now _ c.in_ok-edge.ensures c.size.ensures c.root.ensures c.in_ok-text.ensures.text c.as_bytes.ensures.value);
-      part = c.in_err-print_text.ensures.part;
-    })
+    c.from_residual-in_err-print_text.result _ Write c.from_residual-in_err-print_text.ensures.1 c.in_err-print_text.ensures.fault (
+      (c.if-not-is_one_line.ensures.0 refl),
+      record {
+        text = c.as_bytes.result.now;
+        came = inl (head_came c.args.origin.now (passage g.R.Read.remaining c.args.reader.now c.read_edge.new.reader) _ c.size.result c.root.result c.as_bytes.result.now _ c.in_ok-edge.ensures c.size.ensures c.root.ensures c.in_ok-text.ensures.text c.as_bytes.ensures.value);
+        part = c.in_err-print_text.ensures.part;
+      },
+    )
 
 pub returns : goal.returns
-returns g c =
-    ((c.if-not-is_one_line.ensures.0 refl), record {
-      text = c.as_bytes.result.now;
-      came = head_came c.args.origin.now (passage g.R.Read.remaining c.args.reader.now c.read_edge.new.reader) _ c.size.result c.root.result c.as_bytes.result.now _ c.in_ok-edge.ensures c.size.ensures c.root.ensures c.in_ok-text.ensures.text c.as_bytes.ensures.value;
-      written = c.in_ok-print_text.ensures.whole;
-    })
+returns g c = (
+  (c.if-not-is_one_line.ensures.0 refl),
+  record {
+    text = c.as_bytes.result.now;
+    came = head_came c.args.origin.now (passage g.R.Read.remaining c.args.reader.now c.read_edge.new.reader) _ c.size.result c.root.result c.as_bytes.result.now _ c.in_ok-edge.ensures c.size.ensures c.root.ensures c.in_ok-text.ensures.text c.as_bytes.ensures.value;
+    written = c.in_ok-print_text.ensures.whole;
+  },
+)
