@@ -1,7 +1,7 @@
 -- Runs of `inclusion` and `consistency`: what came of an input of which these are the lines.
 use Rattle.std.proofs.Common.{◌≡◌, ℕ, ◌<◌, ◌≤◌, List, length, sym, ap, subst, ◌∙◌}
 use Rattle.tl_device.specs.Device.{Passage}
-use Rattle.tl_command.specs.Lines.{entries_of, first_too_long}
+use Rattle.tl_command.specs.Lines.{first_too_long}
 use Rattle.tl_command.specs.ProofText.{inclusion_text, consistency_text}
 use Rattle.tl_command.specs.ProofCommands.{InclusionComes, inclusion_of, ConsistencyComes, consistency_of}
 use Rattle.tl_command.specs.Run.{Prints, Fails, CameOf, ReadEntries, most_input}
