@@ -5,6 +5,7 @@ pub mod LineFields
 pub mod HashLines
 pub mod ProofTexts
 pub mod ProofBytes
+pub mod AuditRuns
 pub mod Checking
 pub mod CountedLines
 pub mod GrowingLemmas
