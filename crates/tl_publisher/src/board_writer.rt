@@ -77,6 +77,22 @@ fn logged<R: Wait>(rt: &R, writer: CopyWriter, step: Step<Global>) -> CopyWriter
     unreachable!()
 }
 
+// Shows a copy that has what is pending, or what was shown where memory is short.
+fn published<R: Wait>(rt: &R, writer: CopyWriter) -> (CopyWriter, Result<(), AllocError>)
+    requires shown { stages.IsShown sha256 (stages.visible
+        (fold stages.moved writer.desk.shown.value (drop writer.behind writer.log.items))) }
+    requires book { (fold stages.moved writer.desk.shown.value
+        (drop writer.behind writer.log.items)).past.book ≡ writer.desk.shown.value.past.book }
+    ensures values { MatchResult result.1
+        (λ _. (result.0.desk.shown.value ≡ fold stages.moved writer.desk.shown.value
+        (drop writer.behind writer.log.items)) × (drop result.0.behind result.0.log.items ≡ []))
+        (λ _. (result.0.desk.shown.value ≡ writer.desk.shown.value)
+        × (drop result.0.behind result.0.log.items ≡ drop writer.behind writer.log.items)) }
+    ensures view { view result.0.desk.place ≡ view writer.desk.place }
+{
+    writer.publish_as::<Show, R>(rt)
+}
+
 // Shows what was laid down and logged. It takes no memory, so the first round ends the loop.
 fn shown<R: Wait>(rt: &R, writer: CopyWriter) -> CopyWriter
     requires shown { stages.IsShown sha256 (stages.visible
@@ -90,7 +106,7 @@ fn shown<R: Wait>(rt: &R, writer: CopyWriter) -> CopyWriter
 {
     let mut writer = writer;
     for _ in rt.forever() {
-        let (next, done) = writer.publish_as::<Show, R>(rt);
+        let (next, done) = published(rt, writer);
         writer = next;
         if done.is_ok() {
             return writer;
@@ -111,7 +127,7 @@ fn tried<R: Wait>(rt: &R, writer: CopyWriter) -> (CopyWriter, Result<(), AllocEr
         (drop writer.behind writer.log.items)) × (drop result.0.behind result.0.log.items ≡ [])) }
     ensures view { view result.0.desk.place ≡ view writer.desk.place }
 {
-    writer.publish_as::<Show, R>(rt)
+    published(rt, writer)
 }
 
 // Brings what is pending into both copies. What is shown stays.

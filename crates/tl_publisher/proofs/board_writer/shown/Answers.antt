@@ -1,15 +1,16 @@
 use Rattle.std.proofs.Common.{fold, sym, ◌∙◌}
 use Rattle.tl_publisher.specs.Stages.{moved}
 use Rattle.tl_publisher.proofs.Stages.{ok_values}
-use Rattle.tl_publisher.proofs.Moves.{stays}
 use Rattle.tl_publisher.proofs.board_writer.shown.Goals as goal
 
-pub publish_as-next-requires : goal.publish_as-next-requires
-publish_as-next-requires g c next is =
-    stays _ _ _ next (rw (is, c.loop.invariant.1, c.loop.invariant.2) c.requires.shown) (rw (is, c.loop.invariant.1, c.loop.invariant.2) c.requires.book)
+pub published-next-requires-clause-shown : goal.published-next-requires-clause-shown
+published-next-requires-clause-shown g c = rw (c.loop.invariant.1, c.loop.invariant.2) c.requires.shown
+
+pub published-next-requires-clause-book : goal.published-next-requires-clause-book
+published-next-requires-clause-book g c = rw (c.loop.invariant.1, c.loop.invariant.2) c.requires.book
 
 pub returns-then-is_ok-clause-value : goal.returns-then-is_ok-clause-value
 returns-then-is_ok-clause-value g c =
     let inv = c.loop.invariant in
-    let done = ok_values c.publish_as-next.result.1 _ _ (sym c.is_ok.ensures.value ∙ c.if-is_ok.true) c.publish_as-next.ensures.values in
+    let done = ok_values c.published-next.result.1 _ _ (sym c.is_ok.ensures.value ∙ c.if-is_ok.true) c.published-next.ensures.values in
     done.0 ∙ (λ i. fold moved (inv.1 i) (inv.2 i))
