@@ -1,9 +1,10 @@
 -- Where an option stands in the value of a field.
-use Rattle.std.proofs.Common.{◌≡◌, ◌+◌, ◌<◌, ◌≤◌, ℕ, List, ◌++◌, IsTrue, ap, append_assoc, arith, codes, drop, inl, inr, length, length-append, refl, reverse, subst, sym, take, ◌∙◌}
+use Rattle.std.proofs.Common.{◌≡◌, ◌+◌, ◌<◌, ◌≤◌, ℕ, List, ◌++◌, Bool, IsTrue, false, true, ap, append_assoc, arith, codes, drop, inl, inr, length, length-append, refl, reverse, subst, sym, take, ◌∙◌}
 use Rattle.std.proofs.lemmas.List.{length-map, length-take-le, take-append-drop}
 use Rattle.std.proofs.Math.Nat.{eq-or-lt_of_le}
 use Rattle.std.proofs.Math.Seq.{drop-append_seam, take-append_seam}
 use Rattle.std.specs.Char.{to_ascii_lowercase}
+use Rattle.std.specs.Prelude.{◌↔◌}
 use Rattle.tl_get.specs.Fields.{IsSameWord}
 use Rattle.tl_get.specs.Persistence.{NamesClose, is_item_end}
 use Rattle.tl_get.specs.Inner.Closing.{NamesCloseAt}
@@ -70,3 +71,44 @@ at_some value end past none = λ is.
     let at = parts_at value (length is.before) (is, refl) in
     let room = at.room in
     none (length is.before) (omega (arith, room, past)) (is, refl)
+
+-- ---- what the tests tell
+
+-- what is true isn't false
+pub is_apart : (test : Bool) → IsTrue test → test ≡ false → ⊥
+is_apart test is off = cc
+
+-- another word is there
+pub other_word : (value rest word : List ℕ) (start : ℕ) (test : Bool) → rest ≡ drop start value → word ≡ take 5 rest
+    → (IsSameWord word (codes "close") → IsTrue test) → test ≡ false → IsTrue false ↔ NamesCloseAt value start
+other_word value rest word start test back cut same off = (
+  λ is. absurd (is_apart false is refl),
+  λ at.
+      let is : at.0.word ≡ word = (parts_at value start at).cut ∙ (ap (λ (l : List ℕ). take 5 l) (sym back) ∙ sym cut) in
+      absurd (is_apart test (same (subst (λ (l : List ℕ). IsSameWord l (codes "close")) is at.0.close)) off),
+)
+
+-- a word goes on there
+pub no_start : (value before : List ℕ) (start : ℕ) (test : Bool) → before ≡ take start value → test ≡ is_item_end (reverse before) → test ≡ false
+    → IsTrue false ↔ NamesCloseAt value start
+no_start value before start test front tests off = (
+  λ is. absurd (is_apart false is refl),
+  λ at.
+      let same : at.0.before ≡ before = (parts_at value start at).front ∙ sym front in
+      absurd (is_apart test (tests ∙ subst (λ (l : List ℕ). IsTrue (is_item_end (reverse l))) same at.0.first) off),
+)
+
+-- the word begins there, and ends or goes on
+pub stands_where : (value before rest word after : List ℕ) (start : ℕ) (test end : Bool) → start ≤ length value → before ≡ take start value → rest ≡ drop start value
+    → word ≡ take 5 rest → after ≡ drop 5 rest → IsSameWord word (codes "close") → test ≡ is_item_end (reverse before) → test ≡ true → end ≡ is_item_end after
+    → IsTrue end ↔ NamesCloseAt value start
+stands_where value before rest word after start test end within front back cut left close tests begins ends = (
+  λ is. stands_at value before rest word after start within front back cut left close (sym tests ∙ begins) (sym ends ∙ is),
+  λ at.
+      let same : at.0.after ≡ after = (parts_at value start at).left ∙ (ap (λ (l : List ℕ). drop 5 l) (sym back) ∙ sym left) in
+      ends ∙ subst (λ (l : List ℕ). IsTrue (is_item_end l)) same at.0.last,
+)
+
+-- it stands at no place of the value
+pub stands_nowhere : (value : List ℕ) (end : ℕ) → length value ≤ end → ((k : ℕ) → k < end → ¬ (NamesCloseAt value k)) → IsTrue false ↔ NamesClose value
+stands_nowhere value end past none = (λ is. absurd (is_apart false is refl), λ is. absurd (at_some value end past none is))

@@ -17,3 +17,4 @@ pub mod Fits
 pub mod Wanted
 pub mod ClosingLemmas
 pub mod AnswerLemmas
+pub mod Failing

@@ -1,16 +1,17 @@
-use Rattle.std.proofs.lemmas.Result.{err_from_is_err_and}
+use Rattle.tl_get.specs.Inner.ChunkReads.{ReadsChunk}
 use Rattle.tl_get.proofs.DataLemmas.{return_missing, feed_missing, chunk_whole}
+use Rattle.tl_get.proofs.Failing.{handed_on}
 use Rattle.tl_get.proofs.chunks.read_chunk.Goals as goal
 
 pub returns-in_err-read_byte : goal.returns-in_err-read_byte
 returns-in_err-read_byte g c =
-    let p = err_from_is_err_and c.from_residual-in_err-read_byte.result c.from_residual-in_err-read_byte.ensures.1 in
-    rw (p.1, p.2) (return_missing _ _ _ _ _ _ _ _ _ _ _ _ c.in_ok-read_data.ensures c.in_err-read_byte.ensures)
+    handed_on (ReadsChunk c.args.size _ _ _ _ _) c.from_residual-in_err-read_byte.result _ c.from_residual-in_err-read_byte.ensures.1
+    (return_missing _ _ _ _ _ _ _ _ _ _ _ _ c.in_ok-read_data.ensures c.in_err-read_byte.ensures)
 
 pub returns-in_err-read_byte-2 : goal.returns-in_err-read_byte-2
 returns-in_err-read_byte-2 g c =
-    let p = err_from_is_err_and c.from_residual-in_err-read_byte-2.result c.from_residual-in_err-read_byte-2.ensures.1 in
-    rw (p.1, p.2) (feed_missing _ _ _ _ _ _ _ _ _ _ _ _ _ _ _ c.in_ok-read_data.ensures c.in_ok-read_byte.ensures c.in_err-read_byte-2.ensures)
+    handed_on (ReadsChunk c.args.size _ _ _ _ _) c.from_residual-in_err-read_byte-2.result _ c.from_residual-in_err-read_byte-2.ensures.1
+    (feed_missing _ _ _ _ _ _ _ _ _ _ _ _ _ _ _ c.in_ok-read_data.ensures c.in_ok-read_byte.ensures c.in_err-read_byte-2.ensures)
 
 pub returns : goal.returns
 returns g c = chunk_whole _ _ _ _ _ _ _ _ _ _ _ _ _ _ _ c.in_ok-read_data.ensures c.in_ok-read_byte.ensures c.in_ok-read_byte-2.ensures

@@ -1,6 +1,7 @@
-use Rattle.std.proofs.Common.{◌+◌, ◌<◌, ◌≤◌, arith, inl, inr, length, refl, vec_items}
-use Rattle.std.proofs.lemmas.Result.{err_from_is_err_and}
+use Rattle.std.proofs.Common.{◌++◌, ◌+◌, ◌<◌, ◌≤◌, arith, inl, inr, length, refl, vec_items}
+use Rattle.tl_get.specs.Response.{ChunksDecide}
 use Rattle.tl_get.proofs.ChunkLemmas.{came_none, no_line, line_decides, no_data, one_more}
+use Rattle.tl_get.proofs.Failing.{no_outcome}
 use Rattle.tl_get.proofs.chunks.read_chunks.Goals as goal
 
 pub loop-body-init : goal.loop-body-init
@@ -8,8 +9,8 @@ loop-body-init g c = rw c.new-window.ensures (came_none _ _ _ _ _ c.new-body.ens
 
 pub returns-in_err-size : goal.returns-in_err-size
 returns-in_err-size g c =
-    let p = err_from_is_err_and c.from_residual.result c.from_residual.ensures.1 in
-    rw (p.1, p.2) (no_line c.args.limit _ _ _ _ _ _ _ c.args.begun.now c.loop-body.window (vec_items c.loop-body.body) c.loop-body.invariant c.in_err-size.ensures)
+    no_outcome (λ rest r. ChunksDecide c.args.limit (c.args.begun.now ++ rest) r) _ c.from_residual.result _ c.from_residual.ensures.1
+    (no_line c.args.limit _ _ _ _ _ _ _ c.args.begun.now c.loop-body.window (vec_items c.loop-body.body) c.loop-body.invariant c.in_err-size.ensures)
 
 pub returns-then-size-eq0 : goal.returns-then-size-eq0
 returns-then-size-eq0 g c =
@@ -34,10 +35,10 @@ loop-body-preserved g c =
 
 pub returns-in_err-read_chunk : goal.returns-in_err-read_chunk
 returns-in_err-read_chunk g c =
-    let p = err_from_is_err_and c.from_residual-in_err-read_chunk.result c.from_residual-in_err-read_chunk.ensures.1 in
     let room = c.loop-body.invariant.fits in
     let some : 0 < c.in_ok-size.size = omega (arith, c.if-size-eq0.false) in
     let fits : length (vec_items c.loop-body.body) + c.in_ok-size.size ≤ c.args.limit =
     omega (arith, c.loop-body.body.ok.0, c.len.ensures, c.if-size-limit.false, room) in
-    rw (p.1, p.2) (no_data c.args.limit c.in_ok-size.size _ _ _ _ _ _ _ _ _ c.args.begun.now c.loop-body.window _ (vec_items c.loop-body.body) c.loop-body.invariant c.in_ok-size.ensures
+    no_outcome (λ rest r. ChunksDecide c.args.limit (c.args.begun.now ++ rest) r) _ c.from_residual-in_err-read_chunk.result _ c.from_residual-in_err-read_chunk.ensures.1
+    (no_data c.args.limit c.in_ok-size.size _ _ _ _ _ _ _ _ _ c.args.begun.now c.loop-body.window _ (vec_items c.loop-body.body) c.loop-body.invariant c.in_ok-size.ensures
     some fits c.in_err-read_chunk.ensures)

@@ -1,24 +1,24 @@
 use Rattle.std.proofs.Common.{Contains}
-use Rattle.std.proofs.lemmas.Result.{err_from_is_err_and}
-use Rattle.tl_get.specs.Exchange.{sought}
+use Rattle.tl_get.specs.Exchange.{Answers, sought}
 use Rattle.tl_get.proofs.AnswerLemmas.{answer_alone, answer_no_body, answer_no_field, answer_open, answer_whole}
+use Rattle.tl_get.proofs.Failing.{no_answer}
 use Rattle.tl_get.proofs.kept.read_answer.Goals as goal
 
 pub returns-in_err-taken-clause-table : goal.returns-in_err-taken-clause-table
 returns-in_err-taken-clause-table g c =
-    let p = err_from_is_err_and c.from_residual.result c.from_residual.ensures.1 in
-    rw (p.1, p.2) (answer_alone (sought c.args.message.now c.args.limit) _ _ c.in_err-taken.ensures)
+    no_answer (Answers (sought c.args.message.now c.args.limit)) _ c.from_residual.result _ c.from_residual.ensures.1
+    (answer_alone (sought c.args.message.now c.args.limit) _ _ c.in_err-taken.ensures)
 
 pub returns-in_err-field-clause-table : goal.returns-in_err-field-clause-table
 returns-in_err-field-clause-table g c =
-    let p = err_from_is_err_and c.from_residual-in_err-field.result c.from_residual-in_err-field.ensures.1 in
-    rw (p.1, p.2) (answer_no_field (sought c.args.message.now c.args.limit) _ c.read_taken.new.buf c.read_taken.new.headers c.in_ok-taken.taken c.in_ok-taken.ensures
+    no_answer (Answers (sought c.args.message.now c.args.limit)) _ c.from_residual-in_err-field.result _ c.from_residual-in_err-field.ensures.1
+    (answer_no_field (sought c.args.message.now c.args.limit) _ c.read_taken.new.buf c.read_taken.new.headers c.in_ok-taken.taken c.in_ok-taken.ensures
     (rw (c.as_bytes-name.ensures.value) at c.in_err-field.ensures))
 
 pub returns-in_err-body-clause-table : goal.returns-in_err-body-clause-table
 returns-in_err-body-clause-table g c =
-    let p = err_from_is_err_and c.from_residual-in_err-body.result c.from_residual-in_err-body.ensures.1 in
-    rw (p.1, p.2) (answer_no_body (sought c.args.message.now c.args.limit) _ _ _ _ _ _ c.read_taken.new.buf c.read_taken.new.headers c.in_ok-taken.taken _ c.in_ok-taken.ensures
+    no_answer (Answers (sought c.args.message.now c.args.limit)) _ c.from_residual-in_err-body.result _ c.from_residual-in_err-body.ensures.1
+    (answer_no_body (sought c.args.message.now c.args.limit) _ _ _ _ _ _ c.read_taken.new.buf c.read_taken.new.headers c.in_ok-taken.taken _ c.in_ok-taken.ensures
     (rw (c.body_framing-framing.ensures.framing) at c.in_err-body.ensures.decides))
 
 pub returns-clause-table : goal.returns-clause-table

@@ -1,24 +1,24 @@
 use Rattle.std.proofs.Common.{Contains}
-use Rattle.std.proofs.lemmas.Result.{err_from_is_err_and}
-use Rattle.tl_get.specs.Post.{Given, ReplyDecides}
+use Rattle.tl_get.specs.Post.{Given, Replies, ReplyDecides}
 use Rattle.tl_get.proofs.ExchangeLemmas.{decides_alone}
+use Rattle.tl_get.proofs.Failing.{no_reply}
 use Rattle.tl_get.proofs.ReplyLemmas.{no_body, no_field, whole_reply}
 use Rattle.tl_get.proofs.posting.read_reply.Goals as goal
 
 pub returns-in_err-taken : goal.returns-in_err-taken
 returns-in_err-taken g c =
-    let p = err_from_is_err_and c.from_residual.result c.from_residual.ensures.1 in
-    rw (p.1, p.2) (decides_alone Given (Contains c.args.statuses.now) (λ b framing r. ReplyDecides c.args.name.now c.args.limit b framing r) _ _ c.in_err-taken.ensures)
+    no_reply (Replies c.args.statuses.now c.args.name.now c.args.limit) _ c.from_residual.result _ c.from_residual.ensures.1
+    (decides_alone Given (Contains c.args.statuses.now) (λ b framing r. ReplyDecides c.args.name.now c.args.limit b framing r) _ _ c.in_err-taken.ensures)
 
 pub returns-in_err-field : goal.returns-in_err-field
 returns-in_err-field g c =
-    let p = err_from_is_err_and c.from_residual-in_err-field.result c.from_residual-in_err-field.ensures.1 in
-    rw (p.1, p.2) (no_field c.args.statuses.now c.args.name.now c.args.limit _ c.read_taken.new.buf c.read_taken.new.headers c.in_ok-taken.taken c.in_ok-taken.ensures c.in_err-field.ensures)
+    no_reply (Replies c.args.statuses.now c.args.name.now c.args.limit) _ c.from_residual-in_err-field.result _ c.from_residual-in_err-field.ensures.1
+    (no_field c.args.statuses.now c.args.name.now c.args.limit _ c.read_taken.new.buf c.read_taken.new.headers c.in_ok-taken.taken c.in_ok-taken.ensures c.in_err-field.ensures)
 
 pub returns-in_err-body : goal.returns-in_err-body
 returns-in_err-body g c =
-    let p = err_from_is_err_and c.from_residual-in_err-body.result c.from_residual-in_err-body.ensures.1 in
-    rw (p.1, p.2) (no_body c.args.statuses.now c.args.name.now c.args.limit _ _ _ _ _ _ c.read_taken.new.buf c.read_taken.new.headers c.in_ok-taken.taken _ c.in_ok-taken.ensures c.in_err-body.ensures.decides)
+    no_reply (Replies c.args.statuses.now c.args.name.now c.args.limit) _ c.from_residual-in_err-body.result _ c.from_residual-in_err-body.ensures.1
+    (no_body c.args.statuses.now c.args.name.now c.args.limit _ _ _ _ _ _ c.read_taken.new.buf c.read_taken.new.headers c.in_ok-taken.taken _ c.in_ok-taken.ensures c.in_err-body.ensures.decides)
 
 pub returns : goal.returns
 returns g c =
