@@ -1,6 +1,7 @@
 pub mod Apart
 pub mod Blamed
 pub mod ByKeys
+pub mod Failing
 pub mod Forks
 pub mod FourLeaves
 pub mod Heads

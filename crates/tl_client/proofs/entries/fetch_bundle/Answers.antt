@@ -1,7 +1,7 @@
 use Rattle.std.proofs.Common.{subst, sym, ◌∙◌}
-use Rattle.std.proofs.lemmas.Result.{err_from_is_err_and}
 use Rattle.tl_tile.specs.declared.resource.Resource.TheVariants as resource
 use Rattle.tl_client.proofs.Blamed.{source_refused, text_refused}
+use Rattle.tl_client.proofs.Failing.{fault_on}
 use Rattle.tl_client.proofs.entries.fetch_bundle.Goals as goal
 
 pub get-requires : goal.get-requires
@@ -9,8 +9,7 @@ get-requires g c = (c.requires.index, c.requires.some, c.requires.most)
 
 pub returns-in_err-bytes-clause-refused : goal.returns-in_err-bytes-clause-refused
 returns-in_err-bytes-clause-refused g c =
-    let p = err_from_is_err_and c.from_residual.result c.from_residual.ensures.1 in
-    rw (p.1, p.2)
+    fault_on _ c.from_residual.result _ c.from_residual.ensures.1
     (source_refused (g.S.ResourceSource.may_answer c.args.source.now) (g.S.ResourceSource.may_lack c.args.source.now) c.args.bundle c.args.width c.in_err-bytes.field-0.0
     c.in_err-bytes.ensures.lacks)
 

@@ -1,9 +1,9 @@
 use Rattle.std.proofs.Common.{ap, arith, length, map, refl, sym, vec_items, ◌∙◌, ◌≡◌}
 use Rattle.std.proofs.lemmas.List.{length-map}
-use Rattle.std.proofs.lemmas.Result.{err_from_is_err_and}
 use Rattle.sha2.specs.Sha256.{sha256}
 use Rattle.tl_client.proofs.Apart.{false_is_not_true}
 use Rattle.tl_client.proofs.Blamed.{bundle_refused, leaves_refused}
+use Rattle.tl_client.proofs.Failing.{fault_on}
 use Rattle.tl_client.proofs.LeafReads.{served_none}
 use Rattle.tl_client.proofs.OtherEntries.{other_refused}
 use Rattle.tl_client.proofs.SameEntries.{checked_entries}
@@ -17,16 +17,14 @@ returns-clause-entries g c =
 
 pub returns-in_err-entries-clause-refused : goal.returns-in_err-entries-clause-refused
 returns-in_err-entries-clause-refused g c =
-    let p = err_from_is_err_and c.from_residual.result c.from_residual.ensures.1 in
-    rw (p.1, p.2)
+    fault_on _ c.from_residual.result _ c.from_residual.ensures.1
     (bundle_refused (g.S.ResourceSource.may_answer c.args.source.now) (g.S.ResourceSource.may_lack c.args.source.now)
     (record { size = c.args.size; root = c.args.root; bundle = c.args.bundle; fetched = c.args.fetched.now }) c.bundle_width-width.result c.in_err-entries.field-0.0
     (c.if-not-has_bundle.ensures.0 refl) c.bundle_width-width.ensures.value c.in_err-entries.ensures.refused)
 
 pub returns-in_err-check_leaves-clause-refused : goal.returns-in_err-check_leaves-clause-refused
 returns-in_err-check_leaves-clause-refused g c =
-    let p = err_from_is_err_and c.from_residual-in_err-check_leaves.result c.from_residual-in_err-check_leaves.ensures.1 in
-    rw (p.1, p.2)
+    fault_on _ c.from_residual-in_err-check_leaves.result _ c.from_residual-in_err-check_leaves.ensures.1
     (other_refused (g.S.ResourceSource.may_answer c.args.source.now) (g.S.ResourceSource.may_lack c.args.source.now)
     (record { size = c.args.size; root = c.args.root; bundle = c.args.bundle; fetched = c.read_leaves.new.fetched }) c.bundle_width-width.result (map vec_items c.in_ok-entries.entries.items) c.in_ok-leaves.leaves.items
     c.in_err-check_leaves.field-0.0 (c.if-not-has_bundle.ensures.0 refl) c.bundle_width-width.ensures.value c.bundle_width-width.ensures.inside c.in_ok-entries.ensures.entries c.in_ok-entries.ensures.answered
@@ -40,8 +38,7 @@ returns-in_err-entries-clause-served g c = served_none (g.S.ResourceSource.may_a
 
 pub returns-in_err-leaves-clause-refused : goal.returns-in_err-leaves-clause-refused
 returns-in_err-leaves-clause-refused g c =
-    let p = err_from_is_err_and c.from_residual-in_err-leaves.result c.from_residual-in_err-leaves.ensures.1 in
-    rw (p.1, p.2)
+    fault_on _ c.from_residual-in_err-leaves.result _ c.from_residual-in_err-leaves.ensures.1
     (leaves_refused (g.S.ResourceSource.may_answer c.args.source.now) (g.S.ResourceSource.may_lack c.args.source.now)
     (record { size = c.args.size; root = c.args.root; bundle = c.args.bundle; fetched = c.read_leaves.new.fetched }) c.bundle_width-width.result c.in_err-leaves.field-0.0
     (c.if-not-has_bundle.ensures.0 refl) c.bundle_width-width.ensures.value c.in_err-leaves.ensures.refused)

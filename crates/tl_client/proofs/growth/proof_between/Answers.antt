@@ -1,5 +1,4 @@
 use Rattle.std.proofs.Common.{◌-◌, arith}
-use Rattle.std.proofs.lemmas.Result.{err_from_is_err_and}
 use Rattle.sha2.specs.Sha256.{sha256}
 use Rattle.tl_proof.specs.Needs.{consistency_needs}
 use Rattle.tl_proof.specs.Proofs.{consistency_proof}
@@ -7,6 +6,7 @@ use Rattle.tl_proof.specs.ProveFaults.{IsOldSize}
 use Rattle.tl_client.specs.Faults.{after_prove}
 use Rattle.tl_client.proofs.Apart.{made_for}
 use Rattle.tl_client.proofs.Blamed.{consistency_most, kept_refused, leaf_tiles, proof_refused}
+use Rattle.tl_client.proofs.Failing.{fault_on}
 use Rattle.tl_client.proofs.LeafReads.{none_passed, served_all}
 use Rattle.tl_client.proofs.growth.proof_between.Goals as goal
 
@@ -20,8 +20,7 @@ returns-clause-made g c between = (
 
 pub returns-in_err-proof-clause-refused : goal.returns-in_err-proof-clause-refused
 returns-in_err-proof-clause-refused g c =
-    let p = err_from_is_err_and c.from_residual-in_err-proof.result c.from_residual-in_err-proof.ensures.1 in
-    rw (p.1, p.2)
+    fault_on _ c.from_residual-in_err-proof.result _ c.from_residual-in_err-proof.ensures.1
     (proof_refused (g.S.ResourceSource.may_answer c.args.source.now) (g.S.ResourceSource.may_lack c.args.source.now) c.args.old c.args.size c.args.root (after_prove c.in_err-proof.field-0.0)
     (record { some = omega (arith, c.if-old-eq0.false); more = omega (arith, c.if-old-size.false, c.requires.order) })
     (kept_refused (g.S.ResourceSource.may_answer c.args.source.now) (g.S.ResourceSource.may_lack c.args.source.now) (IsOldSize c.args.size c.args.old) c.args.size c.args.root (c.args.old - 1)
@@ -46,8 +45,7 @@ returns-in_err-proof-clause-served g c =
 
 pub returns-in_err-_leaf-clause-refused : goal.returns-in_err-_leaf-clause-refused
 returns-in_err-_leaf-clause-refused g c =
-    let p = err_from_is_err_and c.from_residual.result c.from_residual.ensures.1 in
-    rw (p.1, p.2)
+    fault_on _ c.from_residual.result _ c.from_residual.ensures.1
     (proof_refused (g.S.ResourceSource.may_answer c.args.source.now) (g.S.ResourceSource.may_lack c.args.source.now) c.args.old c.args.size c.args.root c.in_err-_leaf.field-0.0
     (record { some = omega (arith, c.if-old-eq0.false); more = omega (arith, c.if-old-size.false, c.requires.order) })
     (leaf_tiles (g.S.ResourceSource.may_answer c.args.source.now) (g.S.ResourceSource.may_lack c.args.source.now) c.args.size c.args.root (c.args.old - 1) c.read_leaves.new.fetched c.in_err-_leaf.field-0.0

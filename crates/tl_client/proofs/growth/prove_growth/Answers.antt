@@ -1,8 +1,8 @@
 use Rattle.std.proofs.Common.{arith, refl}
-use Rattle.std.proofs.lemmas.Result.{err_from_is_err_and}
 use Rattle.sha2.specs.Sha256.{sha256}
 use Rattle.tl_client.proofs.Apart.{false_is_not_true}
 use Rattle.tl_client.proofs.Blamed.{growth_refused}
+use Rattle.tl_client.proofs.Failing.{fault_on}
 use Rattle.tl_client.proofs.Forks.{fork_of}
 use Rattle.tl_client.proofs.LeafReads.{none_served}
 use Rattle.tl_client.proofs.growth.prove_growth.Goals as goal
@@ -17,8 +17,7 @@ returns-clause-accepted g c = (rw (c.deref.ensures.value) at c.if-not-check_tree
 
 pub returns-in_err-proof-clause-refused : goal.returns-in_err-proof-clause-refused
 returns-in_err-proof-clause-refused g c =
-    let p = err_from_is_err_and c.from_residual.result c.from_residual.ensures.1 in
-    rw (p.1, p.2)
+    fault_on _ c.from_residual.result _ c.from_residual.ensures.1
     (growth_refused (g.S.ResourceSource.may_answer c.args.source.now) (g.S.ResourceSource.may_lack c.args.source.now) c.args.old c.args.new c.in_err-proof.field-0.0
     (omega (arith, c.if-size.false)) c.in_err-proof.ensures.refused)
 

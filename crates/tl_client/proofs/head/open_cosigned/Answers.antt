@@ -1,26 +1,26 @@
 use Rattle.std.proofs.Common.{Bor, List, ℕ, arith}
 use Rattle.std.proofs.lemmas.List.{length-map}
-use Rattle.std.proofs.lemmas.Result.{err_from_is_err_and}
 use Rattle.tl_checkpoint.specs.Checkpoint.{head_of}
+use Rattle.tl_client.specs.Trusted.{OpensHead}
+use Rattle.tl_client.proofs.Failing.{handed_on}
 use Rattle.tl_client.proofs.Heads.{note_fault, text_fault, cosigned_is}
 use Rattle.tl_client.proofs.head.open_cosigned.Goals as goal
 
 pub returns-in_err-opened : goal.returns-in_err-opened
 returns-in_err-opened g c =
-    let p = err_from_is_err_and c.from_residual.result c.from_residual.ensures.1 in
-    rw (p.1, p.2) (note_fault _ c.args.note.now _ c.in_err-opened.field-0.0 c.in_err-opened.ensures)
+    handed_on (OpensHead c.args.note.now _) c.from_residual.result _ c.from_residual.ensures.1
+    (note_fault _ c.args.note.now _ c.in_err-opened.field-0.0 c.in_err-opened.ensures)
 
 pub returns-in_err-checkpoint : goal.returns-in_err-checkpoint
 returns-in_err-checkpoint g c =
-    let p = err_from_is_err_and c.from_residual-in_err-checkpoint.result c.from_residual-in_err-checkpoint.ensures.1 in
-    rw (p.1, p.2)
+    handed_on (OpensHead c.args.note.now _) c.from_residual-in_err-checkpoint.result _ c.from_residual-in_err-checkpoint.ensures.1
     (text_fault _ c.args.note.now _ c.in_ok-opened.opened.note.text.now c.in_ok-opened.opened.note.signatures.items c.in_err-checkpoint.field-0.0
     c.in_ok-opened.ensures.note c.in_ok-opened.ensures.opens c.in_err-checkpoint.ensures)
 
 pub returns-in_err-names : goal.returns-in_err-names
 returns-in_err-names g c =
-    let p = err_from_is_err_and c.from_residual-in_err-names.result c.from_residual-in_err-names.ensures.1 in
-    rw (p.1, p.2) (c.in_ok-opened.opened.note.text.now, c.in_ok-opened.opened.note.signatures.items, c.in_ok-opened.ensures.note)
+    handed_on (OpensHead c.args.note.now _) c.from_residual-in_err-names.result _ c.from_residual-in_err-names.ensures.1
+    (c.in_ok-opened.opened.note.text.now, c.in_ok-opened.opened.note.signatures.items, c.in_ok-opened.ensures.note)
 
 pub returns-then-len-need : goal.returns-then-len-need
 returns-then-len-need g c = (

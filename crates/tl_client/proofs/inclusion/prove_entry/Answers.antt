@@ -1,11 +1,11 @@
 use Rattle.std.proofs.Common.{arith, refl}
-use Rattle.std.proofs.lemmas.Result.{err_from_is_err_and}
 use Rattle.sha2.specs.Sha256.{sha256}
 use Rattle.tl_proof.specs.Needs.{inclusion_needs}
 use Rattle.tl_proof.specs.ProveFaults.{IsIndex}
 use Rattle.tl_client.specs.Faults.{after_prove}
 use Rattle.tl_client.proofs.Apart.{false_is_not_true, other_leaf}
 use Rattle.tl_client.proofs.Blamed.{entry_refused, inclusion_most, kept_refused, leaf_tiles}
+use Rattle.tl_client.proofs.Failing.{fault_on}
 use Rattle.tl_client.proofs.LeafReads.{none_passed, served_all}
 use Rattle.tl_client.proofs.inclusion.prove_entry.Goals as goal
 
@@ -20,9 +20,8 @@ returns-then-not-check_record-clause-refused g c =
 
 pub returns-in_err-proof-clause-refused : goal.returns-in_err-proof-clause-refused
 returns-in_err-proof-clause-refused g c =
-    let p = err_from_is_err_and c.from_residual-in_err-proof.result c.from_residual-in_err-proof.ensures.1 in
     let inside : IsIndex c.args.size c.args.index = c.if-not-is_index.ensures.0 refl in
-    rw (p.1, p.2)
+    fault_on _ c.from_residual-in_err-proof.result _ c.from_residual-in_err-proof.ensures.1
     (entry_refused (g.S.ResourceSource.may_answer c.args.source.now) (g.S.ResourceSource.may_lack c.args.source.now)
     (record { size = c.args.size; root = c.args.root; index = c.args.index; leaf = c.args.leaf }) (after_prove c.in_err-proof.field-0.0) inside
     (kept_refused (g.S.ResourceSource.may_answer c.args.source.now) (g.S.ResourceSource.may_lack c.args.source.now) (IsIndex c.args.size c.args.index) c.args.size c.args.root c.args.index
@@ -38,8 +37,7 @@ returns-clause-accepted g c = (rw (c.deref.ensures.value) at c.if-not-check_reco
 
 pub returns-in_err-_leaf-clause-refused : goal.returns-in_err-_leaf-clause-refused
 returns-in_err-_leaf-clause-refused g c =
-    let p = err_from_is_err_and c.from_residual.result c.from_residual.ensures.1 in
-    rw (p.1, p.2)
+    fault_on _ c.from_residual.result _ c.from_residual.ensures.1
     (entry_refused (g.S.ResourceSource.may_answer c.args.source.now) (g.S.ResourceSource.may_lack c.args.source.now)
     (record { size = c.args.size; root = c.args.root; index = c.args.index; leaf = c.args.leaf }) c.in_err-_leaf.field-0.0 (c.if-not-is_index.ensures.0 refl)
     (leaf_tiles (g.S.ResourceSource.may_answer c.args.source.now) (g.S.ResourceSource.may_lack c.args.source.now) c.args.size c.args.root c.args.index c.read_leaves.new.fetched c.in_err-_leaf.field-0.0

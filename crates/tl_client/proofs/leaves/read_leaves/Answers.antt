@@ -1,15 +1,14 @@
 use Rattle.std.proofs.Common.{List, arith, subst, ℕ, ◌∙◌}
-use Rattle.std.proofs.lemmas.Result.{err_from_is_err_and}
 use Rattle.sha2.specs.Sha256.{sha256}
 use Rattle.tl_tile.specs.Fetching.{IsNeededFor}
 use Rattle.tl_tile.specs.TileReader.{AreAuthentic}
+use Rattle.tl_client.proofs.Failing.{fault_on}
 use Rattle.tl_client.proofs.LeafReads.{count_is, leaves_fault, many_numbers, served_added, served_none}
 use Rattle.tl_client.proofs.leaves.read_leaves.Goals as goal
 
 pub returns-in_err-leaves-clause-refused : goal.returns-in_err-leaves-clause-refused
 returns-in_err-leaves-clause-refused g c =
-    let p = err_from_is_err_and c.from_residual-in_err-leaves.result c.from_residual-in_err-leaves.ensures.1 in
-    rw (p.1, p.2)
+    fault_on _ c.from_residual-in_err-leaves.result _ c.from_residual-in_err-leaves.ensures.1
     (leaves_fault (g.S.ResourceSource.may_lack c.args.source.now) c.args.fetched.now c.args.size c.args.root c.args.first c.args.count c.deref.result.now c.read_after.new.fetched c.in_err-leaves.field-0.0 (c.deref.ensures.value ∙ c.in_ok-numbers.ensures) c.requires.inside
     c.requires.limit (rw (c.new-reader.ensures) at c.in_err-leaves.ensures.faults))
 
@@ -51,5 +50,5 @@ read_after-requires g c = rw (c.new-reader.ensures) c.requires.passed
 
 pub returns-in_err-numbers-clause-refused : goal.returns-in_err-numbers-clause-refused
 returns-in_err-numbers-clause-refused g c =
-    let p = err_from_is_err_and c.from_residual.result c.from_residual.ensures.1 in
-    rw (p.1, p.2) tt
+    fault_on _ c.from_residual.result _ c.from_residual.ensures.1
+    tt
