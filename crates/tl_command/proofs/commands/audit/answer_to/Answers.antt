@@ -1,7 +1,8 @@
 use Rattle.std.proofs.Common.{◌∙◌, ◌≡◌, sym, ap, subst, map, vec_items, length, All, arith}
 use Rattle.std.proofs.lemmas.List.{length-map}
-use Rattle.std.proofs.lemmas.Result.{err_from_is_err_and}
 use Rattle.tl_command.proofs.Asking.{lines_some}
+use Rattle.tl_command.proofs.Failing.{passed_on}
+use Rattle.tl_command.specs.Inner.Answers.{AnswersAuditText}
 use Rattle.tl_command.specs.AuditText.{audit_lines}
 use Rattle.tl_command.specs.Inner.Shown.{audit_shown}
 use Rattle.tl_command.specs.Lines.{entries_of, lines_text, HasNoNewline}
@@ -32,5 +33,5 @@ returns g c = λ a lawful e.
 pub returns-in_err-parts : goal.returns-in_err-parts
 returns-in_err-parts g c =
     let found = rw c.in-Some.is at c.in_ok-lines.ensures.lines in
-    let p = err_from_is_err_and c.from_residual-in_err-parts.result c.from_residual-in_err-parts.ensures.1 in
-    rw (p.1, p.2) (lines_some c.args.text.now (omega (arith, c.in_err-parts.ensures.memory, ap length (ap (map vec_items) c.as_slice.ensures.value ∙ found.0), length-map c.as_slice.result.now vec_items)))
+    passed_on (AnswersAuditText {A = g.row.A.Denot} g.T.TreeHash.digest_of c.args.text.now) c.from_residual-in_err-parts.result _ c.from_residual-in_err-parts.ensures.1
+    (lines_some c.args.text.now (omega (arith, c.in_err-parts.ensures.memory, ap length (ap (map vec_items) c.as_slice.ensures.value ∙ found.0), length-map c.as_slice.result.now vec_items)))

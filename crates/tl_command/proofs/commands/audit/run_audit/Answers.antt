@@ -1,16 +1,16 @@
 use Rattle.std.proofs.Common.{refl}
 use Rattle.std.proofs.KnownBytes.{Keeps-refl}
-use Rattle.std.proofs.lemmas.Result.{err_from_is_err_and}
 use Rattle.tl_device.specs.Device.{passage}
 use Rattle.tl_command.specs.AuditCommand.{AuditComes}
+use Rattle.tl_command.specs.Run.{Runs}
 use Rattle.tl_command.proofs.AuditRuns.{audit_extends, audit_refuses}
-use Rattle.tl_command.proofs.Failing.{audit_fails, unread}
+use Rattle.tl_command.proofs.Failing.{audit_fails, passed_on, unread}
 use Rattle.tl_command.proofs.commands.audit.run_audit.Goals as goal
 
 pub returns-in_err-input : goal.returns-in_err-input
 returns-in_err-input g c =
-    let p = err_from_is_err_and c.from_residual.result c.from_residual.ensures.1 in
-    rw (p.1, p.2)
+    passed_on (Runs (AuditComes g.T.TreeHash.digest_of) (passage g.R.Read.remaining c.args.reader.now c.read_input.new.reader) (passage g.W.Write.contents c.args.writer.now c.args.writer.now))
+    c.from_residual.result _ c.from_residual.ensures.1
     (unread (AuditComes g.T.TreeHash.digest_of) (passage g.R.Read.remaining c.args.reader.now c.read_input.new.reader) (passage g.W.Write.contents c.args.writer.now c.args.writer.now)
     _ c.in_err-input.ensures (Keeps-refl (g.W.Write.contents c.args.writer.now.device), refl))
 

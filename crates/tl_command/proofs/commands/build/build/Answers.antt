@@ -1,6 +1,5 @@
 use Rattle.std.proofs.Common.{◌≡◌, Some, ◌<◌, ◌⊎◌, inl, inr, ◌∙◌, refl, arith, length, subst, vec_items, ℕ}
 use Rattle.std.proofs.KnownBytes.{Keeps-refl}
-use Rattle.std.proofs.lemmas.Result.{err_from_is_err_and}
 use Rattle.tl_device.specs.Device.{passage}
 use Rattle.tl_command.specs.Inner.Steps.{IsServed, WantedComes}
 use Rattle.tl_command.specs.Mirror.{mirrored}
@@ -8,7 +7,7 @@ use Rattle.tl_command.proofs.Asking.{entry_fails, read_lines}
 use Rattle.tl_command.proofs.Wanted.{answer_cut, answer_fails, answer_printed, asks_for, not_there}
 use Rattle.tl_command.specs.Run.{Runs}
 use Rattle.tl_command.specs.declared.fault.RunFault.TheVariants.{Write}
-use Rattle.tl_command.proofs.Failing.{handed_on, unread}
+use Rattle.tl_command.proofs.Failing.{handed_on, passed_on, unread}
 use Rattle.tl_command.proofs.commands.build.build.Goals as goal
 
 pub returns-in-Err : goal.returns-in-Err
@@ -47,8 +46,8 @@ returns g c =
 
 pub returns-in_err-input : goal.returns-in_err-input
 returns-in_err-input g c =
-    let p = err_from_is_err_and c.from_residual.result c.from_residual.ensures.1 in
-    rw (p.1, p.2)
+    passed_on (Runs (WantedComes (g.K.LogSigner.log_key c.args.key.now) (Some c.args.wanted)) (passage g.R.Read.remaining c.args.reader.now c.read_input.new.reader) (passage g.W.Write.contents c.args.writer.now c.args.writer.now))
+    c.from_residual.result _ c.from_residual.ensures.1
     (unread (WantedComes (g.K.LogSigner.log_key c.args.key.now) (Some c.args.wanted)) (passage g.R.Read.remaining c.args.reader.now c.read_input.new.reader) (passage g.W.Write.contents c.args.writer.now c.args.writer.now) _ c.in_err-input.ensures (Keeps-refl (g.W.Write.contents c.args.writer.now.device), refl))
 
 pub returns-then-is_of_no_entry : goal.returns-then-is_of_no_entry

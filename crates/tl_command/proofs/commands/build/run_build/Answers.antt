@@ -3,9 +3,9 @@ use Rattle.tl_note.specs.Key.{IsKeyName}
 use Rattle.tl_command.specs.Inner.Steps.{IsAsked}
 use Rattle.tl_command.proofs.Wanted.{runs_build}
 use Rattle.std.proofs.KnownBytes.{Keeps-refl}
-use Rattle.std.proofs.lemmas.Result.{err_from_is_err_and}
 use Rattle.tl_device.specs.Device.{passage}
-use Rattle.tl_command.proofs.Failing.{wanted_fails}
+use Rattle.tl_command.specs.Build.{RunsBuild}
+use Rattle.tl_command.proofs.Failing.{passed_on, wanted_fails}
 use Rattle.tl_command.proofs.commands.build.run_build.Goals as goal
 
 pub returns-in-Some : goal.returns-in-Some
@@ -16,6 +16,6 @@ returns-in-None g c = runs_build (g.K.LogSigner.log_key c.args.key.now) _ None _
 
 pub returns-in_err-wanted : goal.returns-in_err-wanted
 returns-in_err-wanted g c =
-    let p = err_from_is_err_and c.from_residual.result c.from_residual.ensures.1 in
-    rw (p.1, p.2)
+    passed_on (RunsBuild (g.K.LogSigner.log_key c.args.key.now) _ (passage g.R.Read.remaining c.args.reader.now c.args.reader.now) (passage g.W.Write.contents c.args.writer.now c.args.writer.now))
+    c.from_residual.result _ c.from_residual.ensures.1
     (wanted_fails (g.K.LogSigner.log_key c.args.key.now) _ (passage g.R.Read.remaining c.args.reader.now c.args.reader.now) (passage g.W.Write.contents c.args.writer.now c.args.writer.now) _ (subst IsKeyName c.origin.ensures (c.is_key_name.ensures.0 c.if-not-is_key_name.false)) (Keeps-refl (g.R.Read.remaining c.args.reader.now.device), refl) (Keeps-refl (g.W.Write.contents c.args.writer.now.device), refl) c.in_err-wanted.ensures)

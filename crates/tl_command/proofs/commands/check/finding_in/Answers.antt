@@ -1,7 +1,8 @@
 use Rattle.std.proofs.Common.{◌∙◌, ap, map, vec_items, length, arith}
 use Rattle.std.proofs.lemmas.List.{length-map}
-use Rattle.std.proofs.lemmas.Result.{err_from_is_err_and}
 use Rattle.tl_command.proofs.Asking.{lines_some}
+use Rattle.tl_command.proofs.Failing.{passed_on}
+use Rattle.tl_command.specs.Inner.Checks.{FindsInText}
 use Rattle.tl_command.specs.ProofText.{proof_lines}
 use Rattle.tl_command.proofs.ProofTexts.{proof_plain, entries_of_proof}
 use Rattle.tl_command.proofs.commands.check.finding_in.Goals as goal
@@ -18,5 +19,5 @@ returns g c = λ p lawful e.
 pub returns-in_err-finding : goal.returns-in_err-finding
 returns-in_err-finding g c =
     let found = rw c.in-Some.is at c.in_ok-lines.ensures.lines in
-    let p = err_from_is_err_and c.from_residual-in_err-finding.result c.from_residual-in_err-finding.ensures.1 in
-    rw (p.1, p.2) (lines_some c.args.text.now (omega (arith, c.in_err-finding.ensures.memory, ap length (ap (map vec_items) c.as_slice.ensures.value ∙ found.0), length-map c.as_slice.result.now vec_items)))
+    passed_on (FindsInText c.args.text.now) c.from_residual-in_err-finding.result _ c.from_residual-in_err-finding.ensures.1
+    (lines_some c.args.text.now (omega (arith, c.in_err-finding.ensures.memory, ap length (ap (map vec_items) c.as_slice.ensures.value ∙ found.0), length-map c.as_slice.result.now vec_items)))

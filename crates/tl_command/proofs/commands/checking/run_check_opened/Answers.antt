@@ -1,12 +1,12 @@
 use Rattle.std.proofs.Common.{refl}
 use Rattle.std.proofs.KnownBytes.{Keeps-refl}
-use Rattle.std.proofs.lemmas.Result.{err_from_is_err_and}
 use Rattle.tl_device.specs.Device.{passage}
-use Rattle.tl_command.proofs.Failing.{key_fails}
+use Rattle.tl_command.specs.CheckOpened.{RunsCheckOpened}
+use Rattle.tl_command.proofs.Failing.{key_fails, passed_on}
 use Rattle.tl_command.proofs.commands.checking.run_check_opened.Goals as goal
 
 pub returns-in_err-key : goal.returns-in_err-key
 returns-in_err-key g c =
-    let p = err_from_is_err_and c.from_residual.result c.from_residual.ensures.1 in
-    rw (p.1, p.2)
+    passed_on (RunsCheckOpened c.args.text.now c.args.bytes.now _ (passage g.R.Read.remaining c.args.reader.now c.args.reader.now) (passage g.W.Write.contents c.args.writer.now c.args.writer.now))
+    c.from_residual.result _ c.from_residual.ensures.1
     (key_fails c.args.text.now c.args.bytes.now _ (passage g.R.Read.remaining c.args.reader.now c.args.reader.now) (passage g.W.Write.contents c.args.writer.now c.args.writer.now) _ ((Keeps-refl (g.R.Read.remaining c.args.reader.now.device), refl), (Keeps-refl (g.W.Write.contents c.args.writer.now.device), refl)) c.in_err-key.ensures)

@@ -1,17 +1,16 @@
 use Rattle.std.proofs.Common.{inl, refl}
 use Rattle.std.proofs.KnownBytes.{Keeps-refl}
-use Rattle.std.proofs.lemmas.Result.{err_from_is_err_and}
 use Rattle.tl_device.specs.Device.{passage}
 use Rattle.tl_command.specs.Head.{RunsHead}
 use Rattle.tl_command.specs.declared.fault.RunFault.TheVariants.{OutOfMemory, Write}
 use Rattle.tl_command.proofs.Asking.{head_came, head_fault, asks_of_head}
-use Rattle.tl_command.proofs.Failing.{handed_on}
+use Rattle.tl_command.proofs.Failing.{handed_on, passed_on}
 use Rattle.tl_command.proofs.commands.head.run_head.Goals as goal
 
 pub returns-in_err-edge : goal.returns-in_err-edge
 returns-in_err-edge g c =
-    let p = err_from_is_err_and c.from_residual.result c.from_residual.ensures.1 in
-    rw (p.1, p.2)
+    passed_on (RunsHead c.args.origin.now (passage g.R.Read.remaining c.args.reader.now c.read_edge.new.reader) (passage g.W.Write.contents c.args.writer.now c.args.writer.now))
+    c.from_residual.result _ c.from_residual.ensures.1
     (head_fault c.args.origin.now _ _ c.in_err-edge.field-0.0 (c.if-not-is_one_line.ensures.0 refl) (Keeps-refl (g.W.Write.contents c.args.writer.now.device), refl) c.in_err-edge.ensures)
 
 pub returns-in_err-text : goal.returns-in_err-text

@@ -1,7 +1,8 @@
 use Rattle.std.proofs.Common.{rules, ◌∙◌, refl}
 use Rattle.std.proofs.KnownBytes.{Keeps-refl}
-use Rattle.std.proofs.lemmas.Result.{err_from_is_err_and}
 use Rattle.tl_device.specs.Device.{passage}
+use Rattle.tl_command.specs.Keygen.{GivesKey}
+use Rattle.tl_command.proofs.Failing.{passed_on}
 use Rattle.tl_command.proofs.KeyRuns.{gives, gives_part, no_key}
 use Rattle.tl_command.proofs.commands.keygen.run_keygen.Goals as goal
 
@@ -18,13 +19,13 @@ returns g c =
 
 pub returns-in_err-key : goal.returns-in_err-key
 returns-in_err-key g c =
-    let p = err_from_is_err_and c.from_residual.result c.from_residual.ensures.1 in
-    rw (p.1, p.2)
+    passed_on (GivesKey c.args.name.now g.K.KeyKind.KIND (passage g.W.Write.contents c.args.writer.now c.args.writer.now) (passage g.E.Write.contents c.args.errors.now c.args.errors.now))
+    c.from_residual.result _ c.from_residual.ensures.1
     (no_key c.args.name.now g.K.KeyKind.KIND (passage g.W.Write.contents c.args.writer.now c.args.writer.now) (passage g.E.Write.contents c.args.errors.now c.args.errors.now) _
     ((Keeps-refl (g.W.Write.contents c.args.writer.now.device), refl), (Keeps-refl (g.E.Write.contents c.args.errors.now.device), refl)) c.in_err-key.ensures)
 
 pub returns-in_err-texts : goal.returns-in_err-texts
 returns-in_err-texts g c =
-    let p = err_from_is_err_and c.from_residual-in_err-texts.result c.from_residual-in_err-texts.ensures.1 in
-    rw (p.1, p.2)
+    passed_on (GivesKey c.args.name.now g.K.KeyKind.KIND (passage g.W.Write.contents c.args.writer.now c.args.writer.now) (passage g.E.Write.contents c.args.errors.now c.args.errors.now))
+    c.from_residual-in_err-texts.result _ c.from_residual-in_err-texts.ensures.1
     (c.in_ok-key.ensures.1, ((Keeps-refl (g.W.Write.contents c.args.writer.now.device), refl), (Keeps-refl (g.E.Write.contents c.args.errors.now.device), refl)))

@@ -1,9 +1,9 @@
 use Rattle.std.proofs.Common.{Global, rules, refl, ◌∙◌, vec_items}
 use Rattle.tl_command.proofs.NoteBytes.{note_utf8}
 use Rattle.std.proofs.KnownBytes.{Keeps-refl}
-use Rattle.std.proofs.lemmas.Result.{err_from_is_err_and}
 use Rattle.tl_device.specs.Device.{passage}
-use Rattle.tl_command.proofs.Failing.{unread}
+use Rattle.tl_command.specs.Run.{Runs}
+use Rattle.tl_command.proofs.Failing.{passed_on, unread}
 use Rattle.tl_command.proofs.Runs.{note_printed, note_refused}
 use Rattle.tl_command.proofs.commands.opening.open_under.Goals as goal
 
@@ -19,8 +19,8 @@ returns-in_default g c = (
 
 pub returns-in_err-input : goal.returns-in_err-input
 returns-in_err-input g c =
-    let p = err_from_is_err_and c.from_residual.result c.from_residual.ensures.1 in
-    rw (p.1, p.2)
+    passed_on (Runs _ (passage g.R.Read.remaining c.args.reader.now c.read_input.new.reader) (passage g.W.Write.contents c.args.writer.now c.args.writer.now))
+    c.from_residual.result _ c.from_residual.ensures.1
     (unread _ (passage g.R.Read.remaining c.args.reader.now c.read_input.new.reader) (passage g.W.Write.contents c.args.writer.now c.args.writer.now) _ c.in_err-input.ensures (Keeps-refl (g.W.Write.contents c.args.writer.now.device), refl))
 
 pub returns : goal.returns

@@ -1,6 +1,5 @@
 use Rattle.std.proofs.Common.{◌∙◌, ap, arith, inl, length, refl, vec_items}
 use Rattle.std.proofs.KnownBytes.{Keeps-refl}
-use Rattle.std.proofs.lemmas.Result.{err_from_is_err_and}
 use Rattle.tl_command.specs.Lines.{entries_of}
 use Rattle.tl_command.specs.ProofCommands.{ConsistencyComes}
 use Rattle.tl_command.proofs.Asking.{asks_of_old, entry_fails, read_lines}
@@ -8,7 +7,7 @@ use Rattle.tl_command.proofs.ProofRuns.{consistency_came, no_old}
 use Rattle.tl_device.specs.Device.{passage}
 use Rattle.tl_command.specs.Run.{Runs}
 use Rattle.tl_command.specs.declared.fault.RunFault.TheVariants.{OutOfMemory, Write}
-use Rattle.tl_command.proofs.Failing.{handed_on, unread}
+use Rattle.tl_command.proofs.Failing.{handed_on, passed_on, unread}
 use Rattle.tl_command.proofs.commands.proving.run_consistency.Goals as goal
 
 pub returns-in-Err : goal.returns-in-Err
@@ -28,8 +27,8 @@ returns-in_err-text g c =
 
 pub returns-in_err-input : goal.returns-in_err-input
 returns-in_err-input g c =
-    let p = err_from_is_err_and c.from_residual.result c.from_residual.ensures.1 in
-    rw (p.1, p.2)
+    passed_on (Runs (ConsistencyComes c.args.old) (passage g.R.Read.remaining c.args.reader.now c.read_input.new.reader) (passage g.W.Write.contents c.args.writer.now c.args.writer.now))
+    c.from_residual.result _ c.from_residual.ensures.1
     (unread (ConsistencyComes c.args.old) (passage g.R.Read.remaining c.args.reader.now c.read_input.new.reader) (passage g.W.Write.contents c.args.writer.now c.args.writer.now) _ c.in_err-input.ensures (Keeps-refl (g.W.Write.contents c.args.writer.now.device), refl))
 
 pub returns : goal.returns
