@@ -1,4 +1,5 @@
 use Rattle.std.proofs.Common.{Global, Bool, ℕ, ap, refl, ◌∙◌, ◌≡◌, ◌<◌, ◌⊎◌, inl, inr, [], ◌++◌, List, length, map, vec_items, false, sym, subst, arith, append-nil}
+use Rattle.std.proofs.lemmas.Grind.{common_steps}
 use Rattle.std.specs.Vec.{vec_len}
 use Rattle.std.proofs.lemmas.Bool.{eqb-true}
 use Rattle.std.proofs.lemmas.List.{length-map}
@@ -140,3 +141,60 @@ loop-turn-preserved g c =
       small = inl c.publish_due.ensures.none;
       place = c.publish_due.ensures.place ∙ c.put_due.ensures.place ∙ c.loop-turn.invariant.place;
     }
+
+pub publish_due-requires : goal.publish_due-requires
+publish_due-requires g c = grind (arith, common_steps)
+
+pub returns-clause-some : goal.returns-clause-some
+returns-clause-some g c = grind (arith, common_steps)
+
+pub returns-in-Err-publish_due-clause-all : goal.returns-in-Err-publish_due-clause-all
+returns-in-Err-publish_due-clause-all g c = grind (arith, common_steps)
+
+pub returns-in-Err-publish_due-clause-place : goal.returns-in-Err-publish_due-clause-place
+returns-in-Err-publish_due-clause-place g c = grind (arith, common_steps)
+
+pub returns-in-Err-publish_due-clause-small : goal.returns-in-Err-publish_due-clause-small
+returns-in-Err-publish_due-clause-small g c = grind (arith, common_steps)
+
+pub returns-in-Err-put_due-clause-all : goal.returns-in-Err-put_due-clause-all
+returns-in-Err-put_due-clause-all g c = grind (arith, common_steps)
+
+pub returns-in-Err-put_due-clause-place : goal.returns-in-Err-put_due-clause-place
+returns-in-Err-put_due-clause-place g c = grind (arith, common_steps)
+
+pub returns-in-Err-put_due-clause-small : goal.returns-in-Err-put_due-clause-small
+returns-in-Err-put_due-clause-small g c = grind (arith, common_steps)
+
+pub returns-in-Err-take_most-clause-all : goal.returns-in-Err-take_most-clause-all
+returns-in-Err-take_most-clause-all g c = grind (arith, common_steps)
+
+pub returns-in-Err-take_most-clause-place : goal.returns-in-Err-take_most-clause-place
+returns-in-Err-take_most-clause-place g c = grind (arith, common_steps)
+
+pub returns-in-Err-take_most-clause-small : goal.returns-in-Err-take_most-clause-small
+returns-in-Err-take_most-clause-small g c = grind (arith, common_steps)
+
+pub returns-then-len-size-clause-place : goal.returns-then-len-size-clause-place
+returns-then-len-size-clause-place g c = grind (arith, common_steps)
+
+pub returns-then-len-size-clause-small : goal.returns-then-len-size-clause-small
+returns-then-len-size-clause-small g c = grind (arith, common_steps)
+
+pub returns-then-len-size-clause-some : goal.returns-then-len-size-clause-some
+returns-then-len-size-clause-some g c = grind (arith, common_steps)
+
+pub returns-then-not-is_first-clause-place : goal.returns-then-not-is_first-clause-place
+returns-then-not-is_first-clause-place g c = grind (arith, common_steps)
+
+pub returns-then-not-is_first-clause-small : goal.returns-then-not-is_first-clause-small
+returns-then-not-is_first-clause-small g c = grind (arith, common_steps)
+
+pub returns-then-not-is_first-clause-some : goal.returns-then-not-is_first-clause-some
+returns-then-not-is_first-clause-some g c = grind (arith, common_steps)
+
+pub same-lines : goal.same-lines
+same-lines g c = grind (arith, common_steps)
+
+pub same-lines-in-loop-turn : goal.same-lines-in-loop-turn
+same-lines-in-loop-turn g c = grind (arith, common_steps)

@@ -1,4 +1,5 @@
-use Rattle.std.proofs.Common.{◌≡◌, ◌∙◌, ◌⊎◌, inr, [], List, Option, map, vec_items, refl, subst}
+use Rattle.std.proofs.Common.{◌≡◌, ◌∙◌, ◌⊎◌, inr, [], List, Option, map, vec_items, refl, subst, arith}
+use Rattle.std.proofs.lemmas.Grind.{common_steps}
 use Rattle.tl_hash.specs.Bytes.{Bytes}
 use Rattle.tl_device.specs.Device.{passage}
 use Rattle.tl_append.specs.Inner.Due.{IsSigned, PrintsDue, PublishesDue, ShowsDue}
@@ -30,3 +31,15 @@ pub returns-in-Ok-sign_due-clause-shows : goal.returns-in-Ok-sign_due-clause-sho
 returns-in-Ok-sign_due-clause-shows g c =
     subst (λ (d : Option Due). IsSigned (g.K.LogSigner.log_key c.args.key.now) c.args.ledger.now d → ShowsDue (g.K.LogSigner.log_key c.args.key.now) c.args.keeps_partials d (g.S.Shelf.published c.put_with.new.shelf) (along (g.S.Shelf.kept c.args.shelf.now) (g.S.Shelf.kept c.put_with.new.shelf) (g.S.Shelf.trace c.args.shelf.now) (g.S.Shelf.trace c.put_with.new.shelf) c.args.ledger.now c.put_with.new.ledger))
     c.take.ensures.value (c.in-Ok-put_with.ensures.shows (g.K.LogSigner.log_key c.args.key.now))
+
+pub put_with-requires-clause-short : goal.put_with-requires-clause-short
+put_with-requires-clause-short g c = grind (arith, common_steps)
+
+pub returns-in-Err-clause-part : goal.returns-in-Err-clause-part
+returns-in-Err-clause-part g c = grind (arith, common_steps)
+
+pub returns-in-Ok-clause-part : goal.returns-in-Ok-clause-part
+returns-in-Ok-clause-part g c = grind (arith, common_steps)
+
+pub returns-in-Ok-sign_due-clause-publishes : goal.returns-in-Ok-sign_due-clause-publishes
+returns-in-Ok-sign_due-clause-publishes g c = grind (arith, common_steps)

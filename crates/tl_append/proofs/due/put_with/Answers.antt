@@ -1,4 +1,5 @@
-use Rattle.std.proofs.Common.{◌∙◌, inl, inr, [], Option, map, vec_items, refl, sym, subst}
+use Rattle.std.proofs.Common.{◌∙◌, inl, inr, [], Option, map, vec_items, refl, sym, subst, arith}
+use Rattle.std.proofs.lemmas.Grind.{common_steps}
 use Rattle.tl_append.specs.Inner.Due.{PublishesDue, ShowsDue}
 use Rattle.tl_append.specs.declared.due.Due.{Due}
 use Rattle.tl_append.proofs.Turns.{along}
@@ -52,3 +53,9 @@ returns-clause-part g c = λ key signed. (
       signed c.in-Ok-seal_and_put.ensures.kept c.seal_and_put.ensures.safe
       (g.S.Shelf.kept c.end_publication.new.shelf) (g.S.Shelf.trace c.end_publication.new.shelf) c.size-size.result c.size-size.ensures c.in-Ok-seal_and_put.ensures.there c.end_publication.ensures.sheds,
 )
+
+pub returns-in-Ok-clause-printed : goal.returns-in-Ok-clause-printed
+returns-in-Ok-clause-printed g c = grind (arith, common_steps)
+
+pub seal_and_put-requires-clause-short : goal.seal_and_put-requires-clause-short
+seal_and_put-requires-clause-short g c = grind (arith, common_steps)

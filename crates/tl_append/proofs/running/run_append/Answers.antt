@@ -1,4 +1,5 @@
-use Rattle.std.proofs.Common.{inl, inr, refl, subst}
+use Rattle.std.proofs.Common.{inl, inr, refl, subst, arith}
+use Rattle.std.proofs.lemmas.Grind.{common_steps}
 use Rattle.tl_hash.specs.Bytes.{Bytes}
 use Rattle.tl_append.specs.Keys.{log_key_of, opening_key_of}
 use Rattle.tl_append.specs.Running.{IsLogKey}
@@ -52,3 +53,36 @@ returns-in-Ok-append_under-clause-marked g c = (
   subst (λ (n : Bytes). IsLogKey c.args.options.now.key n (log_key_of c.in-Ok.keys.signer)) c.as_str-origin.ensures.value c.in-Ok.ensures.signer,
   c.in-Ok-append_under.ensures.marked,
 )
+
+pub returns-in-Err-append_under-clause-fresh : goal.returns-in-Err-append_under-clause-fresh
+returns-in-Err-append_under-clause-fresh g c = grind (arith, common_steps)
+
+pub returns-in-Err-append_under-clause-marked : goal.returns-in-Err-append_under-clause-marked
+returns-in-Err-append_under-clause-marked g c = grind (arith, common_steps)
+
+pub returns-in-Err-append_under-clause-place : goal.returns-in-Err-append_under-clause-place
+returns-in-Err-append_under-clause-place g c = grind (arith, common_steps)
+
+pub returns-in-Err-append_under-clause-refuses : goal.returns-in-Err-append_under-clause-refuses
+returns-in-Err-append_under-clause-refuses g c = grind (arith, common_steps)
+
+pub returns-in-Err-append_under-clause-within : goal.returns-in-Err-append_under-clause-within
+returns-in-Err-append_under-clause-within g c = grind (arith, common_steps)
+
+pub returns-in-Err-clause-refuses : goal.returns-in-Err-clause-refuses
+returns-in-Err-clause-refuses g c = grind (arith, common_steps)
+
+pub returns-in-Ok-append_under-clause-fresh : goal.returns-in-Ok-append_under-clause-fresh
+returns-in-Ok-append_under-clause-fresh g c = grind (arith, common_steps)
+
+pub returns-in-Ok-append_under-clause-left : goal.returns-in-Ok-append_under-clause-left
+returns-in-Ok-append_under-clause-left g c = grind (arith, common_steps)
+
+pub returns-in-Ok-append_under-clause-place : goal.returns-in-Ok-append_under-clause-place
+returns-in-Ok-append_under-clause-place g c = grind (arith, common_steps)
+
+pub returns-in-Ok-append_under-clause-refuses : goal.returns-in-Ok-append_under-clause-refuses
+returns-in-Ok-append_under-clause-refuses g c = grind (arith, common_steps)
+
+pub returns-then-not-is_key_name-clause-refuses : goal.returns-then-not-is_key_name-clause-refuses
+returns-then-not-is_key_name-clause-refuses g c = grind (arith, common_steps)

@@ -1,4 +1,5 @@
 use Rattle.std.proofs.Common.{◌≡◌, ◌<◌, length, arith}
+use Rattle.std.proofs.lemmas.Grind.{common_steps}
 use Rattle.std.proofs.lemmas.Bool.Decides.{nat_tests}
 use Rattle.tl_text.proofs.Base64Lemmas.{is_refused}
 use Rattle.tl_checkpoint.proofs.ExtensionLemmas.{no_first, no_empty, sees_more}
@@ -20,3 +21,9 @@ pub loop-left-preserved : goal.loop-left-preserved
 loop-left-preserved c =
     let some : 0 < length c.in-Some.words.now = grind (arith, nat_tests) in
     sees_more c.args.text.now c.loop-left.left.now c.in-Some.words.now c.in-Some.rest.now c.loop-left.invariant (record { some = some; plain = c.in-Some.ensures.0 }) c.in-Some.ensures.1 c.in-Some.ensures.2
+
+pub loop-left-smaller : goal.loop-left-smaller
+loop-left-smaller c = grind (arith, common_steps)
+
+pub returns : goal.returns
+returns c = grind (arith, common_steps)

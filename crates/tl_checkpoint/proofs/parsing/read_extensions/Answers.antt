@@ -1,4 +1,5 @@
 use Rattle.std.proofs.Common.{List, [], ◌∷◌, ℕ, map, string_bytes, vec_items, sym, subst, ap, length, arith}
+use Rattle.std.proofs.lemmas.Grind.{common_steps}
 use Rattle.std.proofs.lemmas.List.{length-append}
 use Rattle.tl_text.specs.Text.{line}
 use Rattle.tl_checkpoint.proofs.LinesLemmas.{one_more}
@@ -23,3 +24,6 @@ loop-words-preserved g c =
 
 pub returns : goal.returns
 returns g c = reads_whole c.args.text.now c.loop-words.left.now (map string_bytes (vec_items c.loop-words.lines)) c.loop-words.invariant c.requires (rw c.in_default.is at c.split_line.ensures)
+
+pub loop-words-init : goal.loop-words-init
+loop-words-init g c = grind (arith, common_steps)

@@ -1,4 +1,5 @@
-use Rattle.std.proofs.Common.{◌∙◌, sym, ap, vec_items, map, subst, All}
+use Rattle.std.proofs.Common.{◌∙◌, sym, ap, vec_items, map, subst, All, arith}
+use Rattle.std.proofs.lemmas.Grind.{common_steps}
 use Rattle.std.proofs.lemmas.List.Elements.{All-push}
 use Rattle.tl_hash.specs.Bytes.{IsHash}
 use Rattle.tl_text.specs.Text.{base64_text}
@@ -18,3 +19,9 @@ loop-line-preserved g c =
       spelled = one_more vec_items base64_text c.args.lines.now c.loop-line.line-index c.line-item.result c.loop-line.hashes.items c.in-Some.hash c.loop-line-test.true c.line-item.is
           c.loop-line.invariant.spelled (sym c.as_slice.ensures.value ∙ found.1) ∙ ap (map base64_text) (sym c.in_ok-push.ensures.items);
     }
+
+pub returns-clause-hashes : goal.returns-clause-hashes
+returns-clause-hashes g c = grind (arith, common_steps)
+
+pub returns-in_default-clause-memory : goal.returns-in_default-clause-memory
+returns-in_default-clause-memory g c = grind (arith, common_steps)

@@ -1,4 +1,5 @@
-use Rattle.std.proofs.Common.{[], false, inr}
+use Rattle.std.proofs.Common.{[], false, inr, arith}
+use Rattle.std.proofs.lemmas.Grind.{common_steps}
 use Rattle.tl_get.proofs.BodyLemmas.{begun_past, rest_past}
 use Rattle.tl_device.proofs.ReadLemmas.{gave_none}
 use Rattle.tl_get.proofs.body.read_rest.Goals as goal
@@ -13,3 +14,6 @@ returns-then-begun-limit g c = inr (record {
 
 pub returns-in-Some-false : goal.returns-in-Some-false
 returns-in-Some-false g c = rest_past _ _ _ _ _ _ _ _ _ c.in-Full.ensures (rw c.in-Some-false.field-0-test at c.in-Some-false.ensures)
+
+pub returns-in-NoMemory : goal.returns-in-NoMemory
+returns-in-NoMemory g c = grind (arith, common_steps)

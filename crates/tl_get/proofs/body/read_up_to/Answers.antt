@@ -1,4 +1,5 @@
 use Rattle.std.proofs.Common.{◌++◌, arith, drop, length, length-take, min, take}
+use Rattle.std.proofs.lemmas.Grind.{common_steps}
 use Rattle.tl_get.proofs.BodyLemmas.{begun_kept, begun_unkept, ended_short, grown_full, more_kept, some_more}
 use Rattle.tl_get.proofs.body.read_up_to.Goals as goal
 
@@ -55,3 +56,18 @@ returns-in_default-append g c =
     (take (min (length c.args.begun.now) c.args.most) c.args.begun.now) c.loop-alloc.body.items
     c.read_some.new.buf c.args.most c.in-Some.n c.loop-alloc.invariant.grown c.in-Some.ensures.bound c.in-Some.ensures.consumed c.in-Some.ensures.steady
     (omega (arith, c.if-n-eq0.false)) (omega (arith, c.loop-alloc-test.true))
+
+pub append-requires-in-loop-alloc : goal.append-requires-in-loop-alloc
+append-requires-in-loop-alloc g c = grind (arith, common_steps)
+
+pub loop-alloc-smaller : goal.loop-alloc-smaller
+loop-alloc-smaller g c = grind (arith, common_steps)
+
+pub slice_bounds-append-end-in-loop-alloc : goal.slice_bounds-append-end-in-loop-alloc
+slice_bounds-append-end-in-loop-alloc g c = grind (arith, common_steps)
+
+pub slice_bounds-block-end-in-loop-alloc : goal.slice_bounds-block-end-in-loop-alloc
+slice_bounds-block-end-in-loop-alloc g c = grind (arith, common_steps)
+
+pub slice_bounds-read_some-end : goal.slice_bounds-read_some-end
+slice_bounds-read_some-end g c = grind (arith, common_steps)

@@ -1,4 +1,5 @@
 use Rattle.std.proofs.Common.{◌++◌, ◌+◌, ◌<◌, ◌≤◌, arith, inl, inr, length, refl, vec_items}
+use Rattle.std.proofs.lemmas.Grind.{common_steps}
 use Rattle.tl_get.specs.Response.{ChunksDecide}
 use Rattle.tl_get.proofs.ChunkLemmas.{came_none, no_line, line_decides, no_data, one_more}
 use Rattle.tl_get.proofs.Failing.{no_outcome}
@@ -42,3 +43,6 @@ returns-in_err-read_chunk g c =
     no_outcome (λ rest r. ChunksDecide c.args.limit (c.args.begun.now ++ rest) r) _ c.from_residual-in_err-read_chunk.result _ c.from_residual-in_err-read_chunk.ensures.1
     (no_data c.args.limit c.in_ok-size.size _ _ _ _ _ _ _ _ _ c.args.begun.now c.loop-body.window _ (vec_items c.loop-body.body) c.loop-body.invariant c.in_ok-size.ensures
     some fits c.in_err-read_chunk.ensures)
+
+pub loop-body-smaller : goal.loop-body-smaller
+loop-body-smaller g c = grind (arith, common_steps)

@@ -1,4 +1,5 @@
 use Rattle.std.proofs.Common.{arith}
+use Rattle.std.proofs.lemmas.Grind.{common_steps}
 use Rattle.std.proofs.lemmas.List.{length-take-le}
 use Rattle.tl_get.proofs.DataLemmas.{data_short, data_unkept, data_more}
 use Rattle.tl_get.proofs.chunks.read_data.Goals as goal
@@ -20,3 +21,9 @@ loop-left-preserved g c =
       came = data_more _ _ _ _ _ _ _ _ c.refill.new.self c.bytes-bytes.result.now _ _ _ _ _ _ c.min-n.result c.loop-left.invariant.came c.in-More.ensures.0
           c.bytes-bytes.ensures least c.skip.ensures c.in-Ok.ensures.appended;
     }
+
+pub returns : goal.returns
+returns g c = grind (arith, common_steps)
+
+pub skip-requires : goal.skip-requires
+skip-requires g c = grind (arith, common_steps)

@@ -1,4 +1,5 @@
-use Rattle.std.proofs.Common.{[], Err, inl, inr, refl}
+use Rattle.std.proofs.Common.{[], Err, inl, inr, refl, arith}
+use Rattle.std.proofs.lemmas.Grind.{common_steps}
 use Rattle.tl_get.specs.Response.{LineDecides}
 use Rattle.tl_get.specs.declared.fault.GetFault.TheVariants.{BadChunk, Short}
 use Rattle.tl_get.proofs.ChunkLineLemmas.{lacks_on, line_taken}
@@ -36,3 +37,6 @@ returns-in-Lacking g c =
     let lacks = rw c.bytes.ensures at c.in-Lacking.ensures in
     decided LineDecides (Err BadChunk) (g.I.Read.remaining old.device) (g.I.Read.remaining new.device) old.failed new.failed c.args.window.now c.loop-len.window []
     c.loop-len.invariant (λ rest. inr (refl, lacks_on c.loop-len.window rest lacks))
+
+pub loop-len-smaller : goal.loop-len-smaller
+loop-len-smaller g c = grind (arith, common_steps)

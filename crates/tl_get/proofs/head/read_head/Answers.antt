@@ -1,4 +1,5 @@
 use Rattle.std.proofs.Common.{◌≤◌, ◌∙◌, length, take, true, false, arith}
+use Rattle.std.proofs.lemmas.Grind.{common_steps}
 use Rattle.std.proofs.lemmas.List.{length-take-le}
 use Rattle.tl_get.proofs.HeadLaws.{refused_input, ended_input, long_input}
 use Rattle.tl_get.proofs.PassedLemmas.{head_within, passed_more, passed_grown, put_length}
@@ -74,3 +75,6 @@ heads-preserved g c =
       gave = gave_more _ _ _ _ _ _ _ _ _ _ _ inside bound c.heads.invariant.gave c.in-Some.ensures.consumed c.in-Some.ensures.steady;
       passed = passed_grown c.heads.buf c.read_some.new.buf c.heads.start c.heads.len _ c.in-Some.n ordered inside bound c.heads.invariant.passed;
     }
+
+pub returns-then-not-is_interim : goal.returns-then-not-is_interim
+returns-then-not-is_interim g c = grind (arith, common_steps)

@@ -1,4 +1,5 @@
-use Rattle.std.proofs.Common.{Contains}
+use Rattle.std.proofs.Common.{Contains, arith}
+use Rattle.std.proofs.lemmas.Grind.{common_steps}
 use Rattle.tl_get.specs.Exchange.{Answers, sought}
 use Rattle.tl_get.proofs.AnswerLemmas.{answer_alone, answer_no_body, answer_no_field, answer_open, answer_whole}
 use Rattle.tl_get.proofs.Failing.{no_answer}
@@ -34,3 +35,12 @@ returns-clause-open g c =
     (rw (c.body_framing-framing.ensures.framing) at c.in_ok-body.ensures.full)
     (rw (c.body_framing-framing.ensures.framing) at c.persists-goes_on.ensures.persists)
     (rw (c.as_slice.ensures.value) at c.is_left_open-stays_open.ensures.open)
+
+pub copy_value-requires : goal.copy_value-requires
+copy_value-requires g c = grind (arith, common_steps)
+
+pub persists-goes_on-requires : goal.persists-goes_on-requires
+persists-goes_on-requires g c = grind (arith, common_steps)
+
+pub slice_bounds-copy_value-end : goal.slice_bounds-copy_value-end
+slice_bounds-copy_value-end g c = grind (arith, common_steps)

@@ -1,4 +1,5 @@
 use Rattle.std.proofs.Common.{arith}
+use Rattle.std.proofs.lemmas.Grind.{common_steps}
 use Rattle.tl_get.proofs.ClosingLemmas.{is_apart, none_further, stands_nowhere}
 use Rattle.tl_get.proofs.persistence.names_close.Goals as goal
 
@@ -10,3 +11,6 @@ pub returns : goal.returns
 returns c = record {
   close = stands_nowhere c.args.value.now c.loop-start.start (omega (arith, c.loop-start-test.false)) c.loop-start.invariant;
 }
+
+pub returns-then-names_close_at : goal.returns-then-names_close_at
+returns-then-names_close_at c = grind (arith, common_steps)

@@ -1,4 +1,5 @@
-use Rattle.std.proofs.Common.{Contains}
+use Rattle.std.proofs.Common.{Contains, arith}
+use Rattle.std.proofs.lemmas.Grind.{common_steps}
 use Rattle.tl_get.specs.Post.{Given, Replies, ReplyDecides}
 use Rattle.tl_get.proofs.ExchangeLemmas.{decides_alone}
 use Rattle.tl_get.proofs.Failing.{no_reply}
@@ -23,3 +24,9 @@ returns-in_err-body g c =
 pub returns : goal.returns
 returns g c =
     whole_reply c.args.statuses.now c.args.name.now c.args.limit _ _ _ _ _ _ c.read_taken.new.buf c.read_taken.new.headers c.in_ok-taken.taken _ _ c.in_ok-taken.ensures c.in_ok-field.ensures c.in_ok-body.ensures.decides
+
+pub copy_value-requires : goal.copy_value-requires
+copy_value-requires g c = grind (arith, common_steps)
+
+pub slice_bounds-copy_value-end : goal.slice_bounds-copy_value-end
+slice_bounds-copy_value-end g c = grind (arith, common_steps)

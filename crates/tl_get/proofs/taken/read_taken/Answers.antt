@@ -1,4 +1,5 @@
-use Rattle.std.proofs.Common.{Contains}
+use Rattle.std.proofs.Common.{Contains, arith}
+use Rattle.std.proofs.lemmas.Grind.{common_steps}
 use Rattle.tl_get.proofs.ExchangeLemmas.{head_alone, no_head}
 use Rattle.tl_get.proofs.taken.read_taken.Goals as goal
 
@@ -8,3 +9,6 @@ returns-in-Missing g c = no_head (Contains c.args.statuses.now) _ c.in-Missing.e
 pub returns-in-Err : goal.returns-in-Err
 returns-in-Err g c =
     head_alone (Contains c.args.statuses.now) _ c.read_head.new.buf c.read_head.new.headers c.in-Head.start c.in-Head.len c.in-Head.spans c.in-Err.fault c.in-Head.ensures c.in-Err.ensures
+
+pub announced-requires : goal.announced-requires
+announced-requires g c = grind (arith, common_steps)

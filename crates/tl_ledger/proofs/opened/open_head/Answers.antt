@@ -1,3 +1,5 @@
+use Rattle.std.proofs.Common.{arith}
+use Rattle.std.proofs.lemmas.Grind.{common_steps}
 use Rattle.tl_ledger.proofs.Reopening.{part_failed, stands_whole}
 use Rattle.tl_ledger.proofs.opened.open_head.Goals as goal
 
@@ -8,3 +10,6 @@ returns-in-Ok-restore-clause-honest g c = λ own.
 pub returns-clause-refused : goal.returns-clause-refused
 returns-clause-refused g c =
     part_failed _ _ _ c.in-Ok.source c.args.head.now c.restore.new.found c.in-Err-restore.fault c.in-Ok.ensures.held c.in-Err-restore.ensures.refused
+
+pub returns-in-Err-clause-refused : goal.returns-in-Err-clause-refused
+returns-in-Err-clause-refused g c = grind (arith, common_steps)

@@ -1,4 +1,5 @@
-use Rattle.std.proofs.Common.{◌++◌, inl, inr, ℕ, List, map, vec_items, refl}
+use Rattle.std.proofs.Common.{◌++◌, inl, inr, ℕ, List, map, vec_items, refl, arith}
+use Rattle.std.proofs.lemmas.Grind.{common_steps}
 use Rattle.sha2.specs.Sha256.{sha256}
 use Rattle.tl_tile.specs.declared.resource.Resource.TheVariants as resource
 use Rattle.tl_ledger.specs.Inner.Putting.{IsBeside, IsRight}
@@ -34,3 +35,6 @@ pub returns-clause-note : goal.returns-clause-note
 returns-clause-note g c = λ front stands.
     (c.stage_all.ensures.adds front stands).keeps (resource.Checkpoint, c.args.note.now)
     (staged_one (g.S.Shelf.kept c.args.shelf.now) (g.S.Shelf.kept c.stage.new.self) resource.Checkpoint c.args.note.now c.in_ok-stage.ensures.staged)
+
+pub stage_all-requires-clause-short : goal.stage_all-requires-clause-short
+stage_all-requires-clause-short g c = grind (arith, common_steps)

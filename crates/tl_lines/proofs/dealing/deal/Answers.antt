@@ -1,4 +1,5 @@
 use Rattle.std.proofs.Common.{◌+◌, ◌∙◌, ◌++◌, ◌∷◌, [], ap, sym, subst, length, map, vec_items, arith, append_assoc}
+use Rattle.std.proofs.lemmas.Grind.{common_steps}
 use Rattle.std.proofs.lemmas.List.{length_push}
 use Rattle.tl_lines.specs.Dealt.{Deals}
 use Rattle.tl_lines.proofs.DealtLemmas.{all_dealt, list_pushed, no_lane, none_dealt}
@@ -49,3 +50,21 @@ returns-clause-dealt g c =
     let so_far = c.loop-entry.invariant in
     all_dealt c.args.lanes c.loop-entry.entry-iterator.rest.len c.args.entries.items c.loop-entry.yielded c.loop-entry.entry-iterator.rest.items
     (map vec_items c.loop-entry.lists.items) so_far.dealt so_far.all so_far.len c.in-None.ensures.steps.0
+
+pub index_mut-list-requires : goal.index_mut-list-requires
+index_mut-list-requires g c = grind (arith, common_steps)
+
+pub loop-entry-preserved-derived : goal.loop-entry-preserved-derived
+loop-entry-preserved-derived g c = grind (arith, common_steps)
+
+pub loop-entry-preserved-then-lane-lanes-derived : goal.loop-entry-preserved-then-lane-lanes-derived
+loop-entry-preserved-then-lane-lanes-derived g c = grind (arith, common_steps)
+
+pub overflow_add-lane : goal.overflow_add-lane
+overflow_add-lane g c = omega arith
+
+pub overflow_add-lane-then-lane-lanes : goal.overflow_add-lane-then-lane-lanes
+overflow_add-lane-then-lane-lanes g c = omega arith
+
+pub returns-clause-memory : goal.returns-clause-memory
+returns-clause-memory g c = grind (arith, common_steps)

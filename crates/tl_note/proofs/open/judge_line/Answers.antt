@@ -1,4 +1,5 @@
-use Rattle.std.proofs.Common.{◌≡◌, Some, sym, ap, ◌∙◌}
+use Rattle.std.proofs.Common.{◌≡◌, Some, sym, ap, ◌∙◌, arith}
+use Rattle.std.proofs.lemmas.Grind.{common_steps}
 use Rattle.std.specs.Prelude.{slice_get}
 use Rattle.std.proofs.lemmas.Option.{slice_get-get_or}
 use Rattle.tl_note.specs.Note.{Signature}
@@ -22,3 +23,6 @@ returns g c =
     let line = c.index-lines-place.result in
     let at : slice_get c.args.lines.now c.args.place ≡ Some line = slice_get-get_or c.args.lines.now c.args.place line c.requires ∙ ap (λ (s : Signature). Some s) (sym c.index-lines-place.is) in
     (line, at, (sym c.if-not-is_known.ensures, sym c.if-is_repeated.ensures, c.in_ok-verify_line.ensures))
+
+pub slice_bounds-is_repeated-end : goal.slice_bounds-is_repeated-end
+slice_bounds-is_repeated-end g c = grind (arith, common_steps)

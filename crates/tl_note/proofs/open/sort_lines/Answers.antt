@@ -1,4 +1,5 @@
-use Rattle.std.proofs.Common.{◌+◌, ◌++◌, ◌∷◌, [], List, map}
+use Rattle.std.proofs.Common.{◌+◌, ◌++◌, ◌∷◌, [], List, map, arith}
+use Rattle.std.proofs.lemmas.Grind.{common_steps}
 use Rattle.tl_note.specs.Key.{Key}
 use Rattle.tl_note.proofs.OpenLemmas.{sorted_same, sorts_unknown, sorts_repeated, sorts_verified, sorts_fault, sorts_refused, needs_memory, unknown_clear}
 use Rattle.tl_note.proofs.open.sort_lines.Goals as goal
@@ -48,3 +49,6 @@ returns-in_err-push-in-Verified g c =
     let found = rw c.in-Verified.is at judged.2 in
     sorts_refused keys c.args.text.now c.args.lines.now c.from_residual-in_err-push-in-Verified.result c.from_residual-in_err-push-in-Verified.ensures.1
     (needs_memory keys c.args.lines.now c.loop-place.place judged.0 judged.1 c.loop-place.invariant.begun found.2.0)
+
+pub returns : goal.returns
+returns g c = grind (arith, common_steps)

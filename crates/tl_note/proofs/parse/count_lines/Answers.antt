@@ -1,4 +1,5 @@
 use Rattle.std.proofs.Common.{◌≡◌, ◌<◌, length, arith}
+use Rattle.std.proofs.lemmas.Grind.{common_steps}
 use Rattle.std.proofs.lemmas.Bool.Decides.{nat_tests}
 use Rattle.tl_note.proofs.LineLemmas.{too_many, no_first, no_lines, counts_none, counts_more, counts_all}
 use Rattle.tl_note.proofs.parse.count_lines.Goals as goal
@@ -36,3 +37,6 @@ pub returns : goal.returns
 returns c =
     let empty : length c.loop-left.left.now ≡ 0 = grind (arith, nat_tests) in
     counts_all c.args.text.now c.loop-left.left.now c.loop-left.count c.loop-left.invariant empty (omega arith)
+
+pub loop-left-smaller : goal.loop-left-smaller
+loop-left-smaller c = grind (arith, common_steps)

@@ -1,4 +1,5 @@
-use Rattle.std.proofs.Common.{Some, None}
+use Rattle.std.proofs.Common.{Some, None, arith}
+use Rattle.std.proofs.lemmas.Grind.{common_steps}
 use Rattle.tl_note.proofs.LineLemmas.{line_parts}
 use Rattle.tl_note.proofs.parse.cut_line.Goals as goal
 
@@ -10,3 +11,6 @@ returns-in_default-read c = λ first rest cuts.
     let parts = line_parts c.args.text.now (Some (c.in-Some.words, c.in-Some.rest)) first rest c.in-Some.ensures.cases cuts in
     let none = rw c.in_default-read.is at c.read.ensures in
     none first cuts.lawful parts.0
+
+pub returns : goal.returns
+returns c = grind (arith, common_steps)

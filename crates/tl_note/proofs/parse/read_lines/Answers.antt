@@ -1,4 +1,5 @@
-use Rattle.std.proofs.Common.{List, sym, subst}
+use Rattle.std.proofs.Common.{List, sym, subst, arith}
+use Rattle.std.proofs.lemmas.Grind.{common_steps}
 use Rattle.tl_note.specs.Note.{Signature}
 use Rattle.tl_note.proofs.LineLemmas.{HasRead, reads_more, reads_all}
 use Rattle.tl_note.proofs.parse.read_lines.Goals as goal
@@ -11,3 +12,9 @@ loop-line-preserved g c =
 
 pub returns : goal.returns
 returns g c = reads_all c.args.text.now c.loop-line.left.now c.loop-line.lines.items c.args.count c.loop-line.invariant (rw c.in_default.is at c.cut_line.ensures) c.requires
+
+pub loop-line-init : goal.loop-line-init
+loop-line-init g c = grind (arith, common_steps)
+
+pub loop-line-smaller : goal.loop-line-smaller
+loop-line-smaller g c = grind (arith, common_steps)

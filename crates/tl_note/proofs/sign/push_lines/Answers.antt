@@ -1,4 +1,5 @@
 use Rattle.std.proofs.Common.{arith, string_bytes}
+use Rattle.std.proofs.lemmas.Grind.{common_steps}
 use Rattle.tl_note.proofs.SignLemmas.{name_at, passes_on, signed_more}
 use Rattle.tl_note.proofs.sign.push_lines.Goals as goal
 
@@ -12,3 +13,6 @@ pub loop-place-preserved : goal.loop-place-preserved
 loop-place-preserved g c =
     let signed = c.in_ok-push_line.ensures in
     signed_more (λ b. (goal.Signer-dyn g (b.vtable, b.value)).signing_key b.value) c.args.signers.now c.args.text.now (string_bytes c.args.note.now) (string_bytes c.loop-place.note) (string_bytes c.push_line.new.note) c.loop-place.place c.index-signers-place.result signed.0 (omega arith) c.index-signers-place.is c.loop-place.invariant signed.1 signed.2 signed.3
+
+pub returns : goal.returns
+returns g c = grind (arith, common_steps)

@@ -1,4 +1,5 @@
 use Rattle.std.proofs.Common.{[], slice_index_or, refl, sym, subst, arith}
+use Rattle.std.proofs.lemmas.Grind.{common_steps}
 use Rattle.tl_proof.specs.Inner.ManyPaths.{IsPathsPlan}
 use Rattle.tl_proof.proofs.ManyPathLemmas.{paths-none, paths-next, paths-all}
 use Rattle.tl_proof.proofs.plan.paths_segments.Goals as goal
@@ -20,3 +21,6 @@ loop-index-preserved g c =
 
 pub returns : goal.returns
 returns g c = paths-all c.args.size c.args.indexes.now c.loop-index.index-index c.loop-index.counts.items c.loop-index.segments.items c.loop-index-test.false c.loop-index.invariant
+
+pub overflow_sub-len : goal.overflow_sub-len
+overflow_sub-len g c = grind (arith, common_steps)

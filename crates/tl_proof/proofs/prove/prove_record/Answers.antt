@@ -1,4 +1,5 @@
-use Rattle.std.proofs.Common.{◌++◌, All, map, sym, ap, subst, ◌∙◌}
+use Rattle.std.proofs.Common.{◌++◌, All, map, sym, ap, subst, ◌∙◌, arith}
+use Rattle.std.proofs.lemmas.Grind.{common_steps}
 use Rattle.std.proofs.lemmas.Result.{err_from_is_err_and}
 use Rattle.tl_store.proofs.Covering.{aligned-all}
 use Rattle.tl_proof.specs.Needs.{inclusion_needs}
@@ -31,3 +32,6 @@ returns-clause-in_range g c =
     let need : IsNeeded 0 (inclusion_needs c.args.size c.args.index) c.deref.result.now =
     subst (IsNeeded 0 (inclusion_needs c.args.size c.args.index)) (sym c.deref.ensures.value) c.in_ok-segments.ensures.plan.needed in
     ((c.is_index.ensures.0 c.if-not-is_index.false), c.in_ok-read_segments.ensures.in_range (inclusion_needs c.args.size c.args.index) need)
+
+pub read_segments-requires-clause-small : goal.read_segments-requires-clause-small
+read_segments-requires-clause-small g c = grind (arith, common_steps)

@@ -1,4 +1,5 @@
 use Rattle.std.proofs.Common.{◌<◌, ◌≤◌, ◌^◌, ◌++◌, ◌∙◌, All, length, map, take, vec_items, sym, ap, subst, arith}
+use Rattle.std.proofs.lemmas.Grind.{common_steps}
 use Rattle.std.specs.List.{sum}
 use Rattle.std.proofs.lemmas.Bool.{both_ways, eqb-true}
 use Rattle.std.proofs.lemmas.Bool.Decides.{nat_tests}
@@ -84,3 +85,6 @@ returns-clause-in_range g c =
     let needed = records_need c.args.size c.args.indexes.now in
     let need : IsNeeded 0 needed c.deref.result.now = subst (IsNeeded 0 needed) (sym c.deref.ensures.value) c.in_ok-plan.ensures.needed in
     (c.are_indexes.ensures.0 c.if-not-are_indexes.false, c.in_ok-hashes.ensures.in_range needed need)
+
+pub returns-clause-faults : goal.returns-clause-faults
+returns-clause-faults g c = grind (arith, common_steps)

@@ -1,4 +1,5 @@
 use Rattle.std.proofs.Common.{◌++◌, take, All, map, sym, ap, subst, ◌∙◌, arith}
+use Rattle.std.proofs.lemmas.Grind.{common_steps}
 use Rattle.std.proofs.lemmas.Result.{err_from_is_err_and}
 use Rattle.tl_store.proofs.Covering.{aligned-all}
 use Rattle.tl_proof.specs.Needs.{consistency_needs}
@@ -40,3 +41,6 @@ returns-clause-in_range g c =
     let need : IsNeeded 0 (consistency_needs c.args.size c.args.old) c.deref.result.now =
     subst (IsNeeded 0 (consistency_needs c.args.size c.args.old)) (sym c.deref.ensures.value) (needed-proof c.args.old c.args.size c.in_ok-segments.segments.items (omega (arith, c.if-old-eq0.false)) (omega (arith, c.if-old-size.false, c.if-old-size-2.false)) c.in_ok-segments.ensures) in
     ((c.if-old-size.false, c.if-size.false), c.in_ok-read_segments.ensures.in_range (consistency_needs c.args.size c.args.old) need)
+
+pub read_segments-requires-clause-small : goal.read_segments-requires-clause-small
+read_segments-requires-clause-small g c = grind (arith, common_steps)

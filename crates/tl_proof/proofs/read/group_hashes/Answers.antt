@@ -1,4 +1,5 @@
-use Rattle.std.proofs.Common.{refl, slice_index_or}
+use Rattle.std.proofs.Common.{refl, slice_index_or, arith}
+use Rattle.std.proofs.lemmas.Grind.{common_steps}
 use Rattle.tl_proof.proofs.SegmentReads.{roots-init, roots-enough, roots-more, roots-all, segment-at, no_segment}
 use Rattle.tl_proof.proofs.read.group_hashes.Goals as goal
 
@@ -19,3 +20,6 @@ slice_bounds-cover_hash-end g c =
 
 pub returns-clause-hashes : goal.returns-clause-hashes
 returns-clause-hashes g c = roots-all g.T.TreeHash.digest_of c.args.segments.now c.args.hashes.now c.loop-segment.segment-index c.loop-segment.from c.loop-segment.roots.items c.loop-segment-test.false c.loop-segment.invariant
+
+pub overflow_add-to : goal.overflow_add-to
+overflow_add-to g c = grind (arith, common_steps)

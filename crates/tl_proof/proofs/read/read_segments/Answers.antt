@@ -1,4 +1,5 @@
-use Rattle.std.proofs.Common.{◌^◌, length, ap, ◌∙◌}
+use Rattle.std.proofs.Common.{◌^◌, length, ap, ◌∙◌, arith}
+use Rattle.std.proofs.lemmas.Grind.{common_steps}
 use Rattle.std.proofs.lemmas.Result.{err_from_is_err_and}
 use Rattle.tl_store.specs.Reader.{readable_size}
 use Rattle.tl_proof.proofs.SegmentReads.{needed-within, needed-small, needed-some, segments_fault, groups-count, groups-within, readable-all}
@@ -35,3 +36,6 @@ pub returns-in_err-group_hashes-clause-faults : goal.returns-in_err-group_hashes
 returns-in_err-group_hashes-clause-faults g c needed need =
     let p = err_from_is_err_and c.from_residual-in_err-group_hashes.result c.from_residual-in_err-group_hashes.ensures.1 in
     rw (p.1, p.2) (needed-some needed c.args.segments.now need c.requires.parts c.in_err-group_hashes.ensures.some, needed-small needed (2 ^ 62) c.args.segments.now need c.requires.small)
+
+pub returns-clause-count : goal.returns-clause-count
+returns-clause-count g c = grind (arith, common_steps)

@@ -1,4 +1,5 @@
-use Rattle.std.proofs.Common.{length, get_or, string_bytes, refl}
+use Rattle.std.proofs.Common.{length, get_or, string_bytes, refl, arith}
+use Rattle.std.proofs.lemmas.Grind.{common_steps}
 use Rattle.std.proofs.lemmas.List.{get_or_default}
 use Rattle.std.proofs.lemmas.Option.{slice_get_read}
 use Rattle.tl_checkpoint.specs.declared.quorum.Cosigned.{Cosigned}
@@ -15,3 +16,6 @@ loop-cosigned-preserved c =
     (get_or_default c.args.found.now index none at c.loop-cosigned-test.true)
     (slice_get_read c.args.lines.now (length c.args.lines.now) at.line line refl (c.requires index none c.loop-cosigned-test.true) c.index-lines-cosigned.is)
     c.loop-cosigned.invariant c.in_ok-push_to.ensures
+
+pub returns : goal.returns
+returns c = grind (arith, common_steps)

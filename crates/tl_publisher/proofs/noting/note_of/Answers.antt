@@ -1,4 +1,5 @@
-use Rattle.std.proofs.Common.{map, string_bytes, sym, subst, ◌∙◌}
+use Rattle.std.proofs.Common.{map, string_bytes, sym, subst, ◌∙◌, arith}
+use Rattle.std.proofs.lemmas.Grind.{common_steps}
 use Rattle.std.specs.Global.{Global}
 use Rattle.tl_note.specs.Note.{IsNoteText}
 use Rattle.tl_publisher.specs.Signed.{IsSignedNote, no_quorum}
@@ -14,3 +15,6 @@ pub refusal-requires : goal.refusal-requires
 refusal-requires g c =
     let keys = map (λ b. (goal.Signer-dyn g (b.vtable, b.value)).signing_key b.value) c.args.signers.now in
     known_fault Global keys c.as_str.result.now c.in-Err.fault (subst IsNoteText (sym c.as_str.ensures.value) c.in_ok-text.ensures.note) c.requires.signers c.in-Err.ensures
+
+pub returns : goal.returns
+returns g c = grind (arith, common_steps)

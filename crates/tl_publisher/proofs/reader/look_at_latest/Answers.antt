@@ -1,4 +1,5 @@
-use Rattle.std.proofs.Common.{subst, sym, ap, ◌∙◌}
+use Rattle.std.proofs.Common.{subst, sym, ap, ◌∙◌, arith}
+use Rattle.std.proofs.lemmas.Grind.{common_steps}
 use Rattle.std.specs.Prelude.{IsSome}
 use Rattle.sha2.specs.Sha256.{sha256}
 use Rattle.tl_publisher.specs.Answers.{Sees}
@@ -23,3 +24,9 @@ returns-in-Ok-latest g c =
       subst (λ (seen : Past). Sees seen c.follow-follows.new.past) c.reader.view_is followed.1,
       c.in-Ok-latest.ensures.latest ∙ ap (λ (p : Past). latest_if sha256 (last_of p.log)) (sym followed.0),
     )
+
+pub follow-follows-requires-clause-shown : goal.follow-follows-requires-clause-shown
+follow-follows-requires-clause-shown g c = grind (arith, common_steps)
+
+pub latest_of-latest-requires : goal.latest_of-latest-requires
+latest_of-latest-requires g c = grind (arith, common_steps)

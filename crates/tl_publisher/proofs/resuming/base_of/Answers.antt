@@ -1,4 +1,5 @@
-use Rattle.std.proofs.Common.{not, map, vec_items, sym, ap, ◌∙◌, true≢false}
+use Rattle.std.proofs.Common.{not, map, vec_items, sym, ap, ◌∙◌, true≢false, arith}
+use Rattle.std.proofs.lemmas.Grind.{common_steps}
 use Rattle.std.proofs.lemmas.List.{length-map}
 use Rattle.std.proofs.lemmas.Slice.Eq.{bytes_eq-Decides}
 use Rattle.tl_publisher.specs.Resuming.{Resumption}
@@ -71,3 +72,33 @@ returns-clause-base g c =
       };
       root = sym root ∙ (bytes_eq-Decides c.head.result.root c.in_ok-checkpoint.checkpoint.root).0 (true_of_not _ c.if-ne.ensures);
     }
+
+pub of-requires-clause-few : goal.of-requires-clause-few
+of-requires-clause-few g c = grind (arith, common_steps)
+
+pub of-requires-clause-short : goal.of-requires-clause-short
+of-requires-clause-short g c = grind (arith, common_steps)
+
+pub read_all-requires : goal.read_all-requires
+read_all-requires g c = grind (arith, common_steps)
+
+pub returns-clause-grown : goal.returns-clause-grown
+returns-clause-grown g c = grind (arith, common_steps)
+
+pub returns-clause-refused : goal.returns-clause-refused
+returns-clause-refused g c = grind (arith, common_steps)
+
+pub returns-then-ne-clause-base : goal.returns-then-ne-clause-base
+returns-then-ne-clause-base g c = grind (arith, common_steps)
+
+pub returns-then-ne-clause-grown : goal.returns-then-ne-clause-grown
+returns-then-ne-clause-grown g c = grind (arith, common_steps)
+
+pub returns-then-not-is_sized-clause-base : goal.returns-then-not-is_sized-clause-base
+returns-then-not-is_sized-clause-base g c = grind (arith, common_steps)
+
+pub returns-then-not-is_sized-clause-grown : goal.returns-then-not-is_sized-clause-grown
+returns-then-not-is_sized-clause-grown g c = grind (arith, common_steps)
+
+pub same-growth : goal.same-growth
+same-growth g c = grind (arith, common_steps)

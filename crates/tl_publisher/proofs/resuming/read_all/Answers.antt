@@ -1,4 +1,5 @@
 use Rattle.std.proofs.Common.{map, vec_items, sym, ◌∙◌, arith}
+use Rattle.std.proofs.lemmas.Grind.{common_steps}
 use Rattle.std.proofs.lemmas.List.{length-map}
 use Rattle.tl_publisher.proofs.Resumptions.{read_next, read_whole}
 use Rattle.tl_publisher.proofs.resuming.read_all.Goals as goal
@@ -18,3 +19,6 @@ pub returns-clause-entries : goal.returns-clause-entries
 returns-clause-entries c =
     let many = length-map c.args.bundles.now vec_items in
     (read_whole (map vec_items c.args.bundles.now) c.args.size c.loop-place.place (map vec_items c.loop-place.base.items) (many ∙ c.requires) (omega (arith, many, c.loop-place-test.false)) c.loop-place.invariant).1
+
+pub loop-place-init : goal.loop-place-init
+loop-place-init c = grind (arith, common_steps)

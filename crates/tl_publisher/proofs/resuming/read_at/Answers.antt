@@ -1,4 +1,5 @@
 use Rattle.std.proofs.Common.{map, vec_items, sym, subst, ◌∙◌, arith}
+use Rattle.std.proofs.lemmas.Grind.{common_steps}
 use Rattle.std.specs.Prelude.{Err}
 use Rattle.std.specs.Global.{Global}
 use Rattle.std.proofs.lemmas.List.{length-map}
@@ -21,3 +22,6 @@ returns-in-Err c = record {
       (bundle_refused Global (map vec_items c.args.bundles.now) c.args.size c.args.place c.deref.result.now c.in-Err.fault (omega (arith, many, c.requires.within)) bytes
       (subst (λ w. ReadsBundle {A = Global} c.deref.result.now w (Err c.in-Err.fault)) c.bundle_width-width.ensures.value c.in-Err.ensures) before);
 }
+
+pub returns-in-Ok-clause-text : goal.returns-in-Ok-clause-text
+returns-in-Ok-clause-text c = grind (arith, common_steps)

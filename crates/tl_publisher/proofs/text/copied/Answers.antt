@@ -1,4 +1,5 @@
-use Rattle.std.proofs.Common.{◌≡◌, ◌<◌, ◌+◌, ◌++◌, ◌∷◌, ◌∙◌, [], ℕ, List, ap, get_or, length, sym, take}
+use Rattle.std.proofs.Common.{◌≡◌, ◌<◌, ◌+◌, ◌++◌, ◌∷◌, ◌∙◌, [], ℕ, List, ap, get_or, length, sym, take, arith}
+use Rattle.std.proofs.lemmas.Grind.{common_steps}
 use Rattle.std.proofs.lemmas.List.{take_more}
 use Rattle.tl_publisher.proofs.text.copied.Goals as goal
 
@@ -11,3 +12,6 @@ pub loop-text-preserved : goal.loop-text-preserved
 loop-text-preserved g c =
     one_more c.deref-text-items.result.now c.loop-text.text-index c.text-item.result c.loop-text.all.items c.push.new.self.items c.loop-text-test.true c.text-item.is c.loop-text.invariant
     (c.in_ok-push.ensures.items ∙ ap (λ t. c.loop-text.all.items ++ t ∷ []) c.in_ok-again.ensures)
+
+pub returns : goal.returns
+returns g c = grind (arith, common_steps)

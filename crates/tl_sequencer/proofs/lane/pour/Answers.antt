@@ -1,4 +1,5 @@
 use Rattle.std.proofs.Common.{arith, ap, length}
+use Rattle.std.proofs.lemmas.Grind.{common_steps}
 use Rattle.std.proofs.lemmas.List.{length-append}
 use Rattle.tl_sequencer.proofs.Rings.{Pours-more, placed-more}
 use Rattle.tl_sequencer.proofs.lane.pour.Goals as goal
@@ -16,3 +17,9 @@ loop-preserved g c =
       who = omega arith;
       places = omega arith;
     }
+
+pub loop-init : goal.loop-init
+loop-init g c = grind (arith, common_steps)
+
+pub returns-clause-poured : goal.returns-clause-poured
+returns-clause-poured g c = grind (arith, common_steps)

@@ -1,4 +1,5 @@
 use Rattle.std.proofs.Common.{◌≡◌, [], ◌∷◌, ◌++◌, length, arith, ap}
+use Rattle.std.proofs.lemmas.Grind.{common_steps}
 use Rattle.tl_sequencer.specs.Inner.Held.{taken_of, who_of}
 use Rattle.tl_sequencer.proofs.Rings.{Pours-more}
 use Rattle.tl_sequencer.proofs.Held.{taken_of-more, who_of-more, SameDrained-more}
@@ -18,3 +19,9 @@ loop-preserved g c =
       known = omega arith;
       room = omega arith;
     }
+
+pub loop-init : goal.loop-init
+loop-init g c = grind (arith, common_steps)
+
+pub returns-clause-poured : goal.returns-clause-poured
+returns-clause-poured g c = grind (arith, common_steps)

@@ -1,4 +1,5 @@
 use Rattle.std.proofs.Common.{◌+◌, ◌≤◌, ◌∙◌, length, vec_items, vec_capacity, arith}
+use Rattle.std.proofs.lemmas.Grind.{common_steps}
 use Rattle.tl_store.proofs.AddsLemmas.{adds-next, room_for}
 use Rattle.tl_store.proofs.pushes.push_singly.Goals as goal
 
@@ -15,3 +16,9 @@ loop-before-preserved g c =
           (omega (arith, c.loop-before-test.true)) c.index-entries-before.is (omega arith) c.loop-before.invariant.added next;
       capacity = c.push_entry.ensures.capacity ∙ c.loop-before.invariant.capacity;
     }
+
+pub push_entry-requires-clause-counted : goal.push_entry-requires-clause-counted
+push_entry-requires-clause-counted g c = grind (arith, common_steps)
+
+pub returns-clause-added : goal.returns-clause-added
+returns-clause-added g c = grind (arith, common_steps)

@@ -1,4 +1,5 @@
 use Rattle.std.proofs.Common.{◌+◌, ◌≤◌, ◌∙◌, length, drop, vec_items, vec_capacity, refl, sym, arith}
+use Rattle.std.proofs.lemmas.Grind.{common_steps}
 use Rattle.tl_store.proofs.AddsLemmas.{first-none, first-counted, first-more, first-all, room_for}
 use Rattle.tl_store.proofs.pushes.push_sixteens.Goals as goal
 
@@ -37,3 +38,6 @@ pub returns-clause-added : goal.returns-clause-added
 returns-clause-added g c =
     first-all vec_items g.T.TreeHash.digest_of c.args.size c.loop-count.count c.args.entries.now c.loop-count.left.now _ _ _
     c.loop-count.invariant.added c.loop-count.invariant.count c.push_singly.ensures.added
+
+pub push_singly-requires-clause-room : goal.push_singly-requires-clause-room
+push_singly-requires-clause-room g c = grind (arith, common_steps)

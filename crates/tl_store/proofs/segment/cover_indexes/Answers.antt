@@ -1,4 +1,5 @@
-use Rattle.std.proofs.Common.{vec_len, vec_capacity}
+use Rattle.std.proofs.Common.{vec_len, vec_capacity, arith}
+use Rattle.std.proofs.lemmas.Grind.{common_steps}
 use Rattle.tl_store.proofs.Covering.{added-none, added-more, added-room, added-all, added-count}
 use Rattle.tl_store.proofs.segment.cover_indexes.Goals as goal
 
@@ -27,3 +28,6 @@ pub returns-clause-count : goal.returns-clause-count
 returns-clause-count g c =
     added-count c.args.start c.args.end c.loop-covered.covered c.args.indexes.now.items c.loop-covered.indexes.items
     (vec_len c.args.indexes.now) (vec_len c.loop-covered.indexes) (vec_capacity c.args.indexes.now) (vec_capacity c.loop-covered.indexes) c.loop-covered.invariant c.loop-covered-test.false
+
+pub stored_index-requires-clause-entries : goal.stored_index-requires-clause-entries
+stored_index-requires-clause-entries g c = grind (arith, common_steps)

@@ -1,4 +1,5 @@
-use Rattle.std.proofs.Common.{length, refl, sym, ◌∙◌}
+use Rattle.std.proofs.Common.{length, refl, sym, ◌∙◌, arith}
+use Rattle.std.proofs.lemmas.Grind.{common_steps}
 use Rattle.std.proofs.lemmas.Slice.Eq.{bytes_eq-Decides}
 use Rattle.tl_witness.proofs.PlaceLaws.{shows_at}
 use Rattle.tl_witness.proofs.by_origin.place_by.Goals as goal
@@ -9,3 +10,6 @@ returns-then-eq-clause-found g c =
     let within = c.if-place-list.true in
     shows_at g.N.OfOrigin.origin_of c.args.list.now (length c.args.list.now) c.in-Some.place c.index-list-place.result c.args.origin.now
     refl within c.index-list-place.is (sym c.origin.ensures ∙ same)
+
+pub returns-then-eq-clause-room : goal.returns-then-eq-clause-room
+returns-then-eq-clause-room g c = grind (arith, common_steps)

@@ -1,4 +1,5 @@
-use Rattle.std.proofs.Common.{◌≡◌, length, refl, sym, true, false, ◌∙◌}
+use Rattle.std.proofs.Common.{◌≡◌, length, refl, sym, true, false, ◌∙◌, arith}
+use Rattle.std.proofs.lemmas.Grind.{common_steps}
 use Rattle.std.proofs.lemmas.Slice.Eq.{bytes_eq-Decides}
 use Rattle.tl_witness.proofs.PlaceLaws.{not_below, nowhere, shows_at}
 use Rattle.tl_witness.proofs.by_origin.place_of.Goals as goal
@@ -19,3 +20,9 @@ pub returns-clause-none : goal.returns-clause-none
 returns-clause-none g c =
     nowhere g.N.OfOrigin.origin_of c.args.list.now (length c.args.list.now) c.loop-i.i c.args.origin.now
     refl c.loop-i-test.false c.loop-i.invariant
+
+pub returns-then-eq-clause-none : goal.returns-then-eq-clause-none
+returns-then-eq-clause-none g c = grind (arith, common_steps)
+
+pub returns-then-eq-clause-room : goal.returns-then-eq-clause-room
+returns-then-eq-clause-room g c = grind (arith, common_steps)

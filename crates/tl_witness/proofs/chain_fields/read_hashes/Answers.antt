@@ -1,4 +1,5 @@
 use Rattle.std.proofs.Common.{◌<◌, length, ◌∙◌, arith}
+use Rattle.std.proofs.lemmas.Grind.{common_steps}
 use Rattle.tl_witness.proofs.HashFields.{goes_on, reads_more, all_read}
 use Rattle.tl_witness.proofs.chain_fields.read_hashes.Goals as goal
 
@@ -17,3 +18,6 @@ loop-left-preserved g c =
 pub returns : goal.returns
 returns g c = λ hashes rest is.
     c.from_vec.ensures ∙ all_read c.args.count c.args.text.now c.loop-left.left.now c.loop-left.hashes.items hashes rest c.loop-left.invariant (omega (arith, c.loop-left.hashes.ok.0)) is
+
+pub loop-left-init : goal.loop-left-init
+loop-left-init g c = grind (arith, common_steps)

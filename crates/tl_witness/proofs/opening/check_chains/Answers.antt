@@ -1,4 +1,5 @@
 use Rattle.std.proofs.Common.{◌≡◌, List, map, length, string_bytes, refl, sym, ap, subst, arith, All}
+use Rattle.std.proofs.lemmas.Grind.{common_steps}
 use Rattle.std.proofs.lemmas.List.{length-map}
 use Rattle.std.proofs.lemmas.List.Elements.{All-nil}
 use Rattle.tl_proof.specs.Acceptance.{Step, step_of}
@@ -44,3 +45,15 @@ pub returns-clause-ok : goal.returns-clause-ok
 returns-clause-ok g c =
     let whole = moved_all _ (λ x. saved_chain (string_bytes x.origin) x.chain) c.loop-origin.checked.items c.loop-origin.origin-iterator.rest.items _ (omega (arith, c.in-None.ensures.steps.0, c.loop-origin.invariant.4)) c.loop-origin.invariant.2 in
     (whole, subst (All (λ (d : SavedChain). IsChain g.T.TreeHash.digest_of d.steps)) whole c.loop-origin.invariant.3)
+
+pub loop-origin-preserved-derived : goal.loop-origin-preserved-derived
+loop-origin-preserved-derived g c = grind (arith, common_steps)
+
+pub returns-clause-err : goal.returns-clause-err
+returns-clause-err g c = grind (arith, common_steps)
+
+pub returns-in-Err-clause-ok : goal.returns-in-Err-clause-ok
+returns-in-Err-clause-ok g c = grind (arith, common_steps)
+
+pub returns-in-Err-push-clause-ok : goal.returns-in-Err-push-clause-ok
+returns-in-Err-push-clause-ok g c = grind (arith, common_steps)

@@ -1,4 +1,5 @@
 use Rattle.std.proofs.Common.{length, refl, ap, sym, subst, ◌∙◌, string_bytes, arith}
+use Rattle.std.proofs.lemmas.Grind.{common_steps}
 use Rattle.tl_witness.specs.ByOrigin.{Indexes, index_of}
 use Rattle.tl_witness.proofs.ChainLaws.{at_err}
 use Rattle.tl_witness.proofs.Moved.{moved, moved_all, shown_twice, some_left}
@@ -48,3 +49,21 @@ pub returns-clause-kept : goal.returns-clause-kept
 returns-clause-kept g c =
     let whole = moved_all _ _ c.loop-trust.yielded c.loop-trust.trust-iterator.rest.items _ (omega (arith, c.in-None.ensures.steps.0, c.loop-trust.invariant.4)) c.loop-trust.invariant.2 in
     enters _ _ _ _ _ c.loop-trust.invariant.3 whole
+
+pub loop-trust-init-derived : goal.loop-trust-init-derived
+loop-trust-init-derived g c = grind (arith, common_steps)
+
+pub loop-trust-preserved-derived : goal.loop-trust-preserved-derived
+loop-trust-preserved-derived g c = grind (arith, common_steps)
+
+pub returns-clause-memory : goal.returns-clause-memory
+returns-clause-memory g c = grind (arith, common_steps)
+
+pub returns-in_err-cosigner_name-clause-kept : goal.returns-in_err-cosigner_name-clause-kept
+returns-in_err-cosigner_name-clause-kept g c = grind (arith, common_steps)
+
+pub returns-in_err-push-clause-kept : goal.returns-in_err-push-clause-kept
+returns-in_err-push-clause-kept g c = grind (arith, common_steps)
+
+pub same-chain : goal.same-chain
+same-chain g c = grind (arith, common_steps)

@@ -1,4 +1,5 @@
 use Rattle.std.proofs.Common.{◌≡◌, ◌-◌, ◌∷◌, ℕ, List, length, drop, sym, ap, ◌∙◌, lit<, arith}
+use Rattle.std.proofs.lemmas.Grind.{common_steps}
 use Rattle.std.proofs.lemmas.Str.Pattern.{drop_at_char}
 use Rattle.tl_witness.proofs.ProofLines.{counts_none, counts_more, too_many, no_next, proof_of}
 use Rattle.tl_witness.proofs.request.cut_proof.Goals as goal
@@ -34,3 +35,6 @@ returns c =
     let one : starts.0 ≡ 1 = starts.1.ends in
     let empty : left ≡ 10 ∷ c.range_from.result.now = newline ∙ ap (λ (n : ℕ). 10 ∷ drop n left) one ∙ ap (λ (t : List ℕ). 10 ∷ t) (sym c.range_from.ensures.value) in
     proof_of c.args.text.now left c.range_from.result.now c.loop-left.count c.loop-left.invariant empty c.range_from.utf8
+
+pub loop-left-smaller : goal.loop-left-smaller
+loop-left-smaller c = grind (arith, common_steps)

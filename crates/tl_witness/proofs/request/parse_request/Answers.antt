@@ -1,4 +1,5 @@
 use Rattle.std.proofs.Common.{ℕ, List, ◌++◌, ◌∙◌, ap, sym, arith}
+use Rattle.std.proofs.lemmas.Grind.{common_steps}
 use Rattle.std.specs.Prelude.{codes}
 use Rattle.tl_witness.proofs.RequestLaws.{no_text, no_line, no_old, no_size, no_rest, made, request_of, parses_refused}
 use Rattle.tl_witness.proofs.request.parse_request.Goals as goal
@@ -27,3 +28,6 @@ returns-in_err-proof g c =
     let begins = c.in-Some-strip_prefix.ensures.cases.1.1 ∙ ap (λ (d : List ℕ). codes "old " ++ d) (sym c.in-Some-strip_prefix.ensures.cases.2) in
     let is = request_of c.args.body.now c.in-Ok.text.now c.in-Some.words.now c.in-Some.rest.now c.in-Some-strip_prefix.digits.now c.in-Some-parse_size.old has.0 c.in-Some-cut_proof.note.now c.in-Ok.ensures.cases.0 c.in-Some.ensures.1 begins c.in-Some-parse_size.ensures has.1 in
     parses_refused c.args.body.now (made c.in-Some-parse_size.old has.0 c.in-Some-cut_proof.note.now) c.from_residual.result c.from_residual.ensures.1 is (omega (arith, has.2, c.in_err-proof.ensures.refused))
+
+pub returns : goal.returns
+returns g c = grind (arith, common_steps)

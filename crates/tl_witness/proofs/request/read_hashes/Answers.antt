@@ -1,4 +1,5 @@
 use Rattle.std.proofs.Common.{◌<◌, ◌≤◌, length, refl, ◌∙◌, arith}
+use Rattle.std.proofs.lemmas.Grind.{common_steps}
 use Rattle.tl_witness.proofs.ProofLines.{reads_more, more_left, all_read}
 use Rattle.tl_witness.proofs.request.read_hashes.Goals as goal
 
@@ -21,3 +22,15 @@ loop-read-preserved g c =
 pub returns-clause-read : goal.returns-clause-read
 returns-clause-read g c = λ proof note is.
     c.from_vec.ensures ∙ all_read c.args.text.now c.loop-read.left.now note c.loop-read.hashes.items proof c.loop-read.invariant.0 is (rw c.in_default.is at c.next_hash.ensures)
+
+pub loop-read-init : goal.loop-read-init
+loop-read-init g c = grind (arith, common_steps)
+
+pub loop-read-smaller : goal.loop-read-smaller
+loop-read-smaller g c = grind (arith, common_steps)
+
+pub returns-clause-refused : goal.returns-clause-refused
+returns-clause-refused g c = grind (arith, common_steps)
+
+pub returns-in_err-hashes-clause-refused : goal.returns-in_err-hashes-clause-refused
+returns-in_err-hashes-clause-refused g c = grind (arith, common_steps)

@@ -1,4 +1,5 @@
-use Rattle.std.proofs.Common.{refl, ap, ◌∙◌, length, Some}
+use Rattle.std.proofs.Common.{refl, ap, ◌∙◌, length, Some, arith}
+use Rattle.std.proofs.lemmas.Grind.{common_steps}
 use Rattle.tl_command.specs.Mirror.{checkpoint_note, mirrored}
 use Rattle.tl_command.proofs.Wanted.{not_served, wanted_served, answers_some}
 use Rattle.tl_command.proofs.commands.build.answer_of.Goals as goal
@@ -20,3 +21,6 @@ returns g c =
     let has = wanted_served c.as_slice.result.now (length lines) (Some c.args.wanted) c.has_resource.result c.args.wanted same c.has_resource.ensures c.if-not-has_resource.false refl in
     answers_some g.row.A.Denot (checkpoint_note (g.K.LogSigner.log_key c.args.key.now) lines) _ lines (length lines) (Some c.args.wanted) c.args.wanted c.wanted_bytes.result refl refl refl
     has c.wanted_bytes.ensures.text c.wanted_bytes.ensures.fault
+
+pub wanted_bytes-requires-clause-few : goal.wanted_bytes-requires-clause-few
+wanted_bytes-requires-clause-few g c = grind (arith, common_steps)

@@ -1,4 +1,5 @@
 use Rattle.std.proofs.Common.{◌≡◌, Some, ◌<◌, ◌⊎◌, inl, inr, ◌∙◌, refl, arith, length, subst, vec_items, ℕ}
+use Rattle.std.proofs.lemmas.Grind.{common_steps}
 use Rattle.std.proofs.KnownBytes.{Keeps-refl}
 use Rattle.tl_device.specs.Device.{passage}
 use Rattle.tl_command.specs.Inner.Steps.{IsServed, WantedComes}
@@ -58,3 +59,6 @@ returns-then-is_of_no_entry g c =
     let none : 0 ≡ length lines = omega (arith, c.if-is_of_no_entry.ensures.0, c.count.ensures.count) in
     not_there key (Some c.args.wanted) _ (passage g.W.Write.contents c.args.writer.now c.args.writer.now) lines read (Keeps-refl (g.W.Write.contents c.args.writer.now.device), refl)
     (subst (λ (n : ℕ). ¬ (IsServed (mirrored n) (Some c.args.wanted))) none c.if-is_of_no_entry.ensures.1)
+
+pub answer_of-requires-after_bounds : goal.answer_of-requires-after_bounds
+answer_of-requires-after_bounds g c = grind (arith, common_steps)

@@ -1,4 +1,5 @@
 use Rattle.std.proofs.Common.{◌∙◌, ap, map, vec_items, length, arith}
+use Rattle.std.proofs.lemmas.Grind.{common_steps}
 use Rattle.std.proofs.lemmas.List.{length-map}
 use Rattle.tl_command.proofs.Asking.{lines_some}
 use Rattle.tl_command.proofs.Failing.{passed_on}
@@ -21,3 +22,6 @@ returns-in_err-finding g c =
     let found = rw c.in-Some.is at c.in_ok-lines.ensures.lines in
     passed_on (FindsInText c.args.text.now) c.from_residual-in_err-finding.result _ c.from_residual-in_err-finding.ensures.1
     (lines_some c.args.text.now (omega (arith, c.in_err-finding.ensures.memory, ap length (ap (map vec_items) c.as_slice.ensures.value ∙ found.0), length-map c.as_slice.result.now vec_items)))
+
+pub returns-in-Some-2 : goal.returns-in-Some-2
+returns-in-Some-2 g c = grind (arith, common_steps)

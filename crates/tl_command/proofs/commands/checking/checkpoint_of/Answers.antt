@@ -1,4 +1,5 @@
-use Rattle.std.proofs.Common.{refl, rules}
+use Rattle.std.proofs.Common.{refl, rules, arith}
+use Rattle.std.proofs.lemmas.Grind.{common_steps}
 use Rattle.tl_checkpoint.specs.Checkpoint.{checkpoint_text}
 use Rattle.tl_command.proofs.NoteBytes.{note_utf8}
 use Rattle.tl_command.proofs.NoCheckpoints.{opening_refused}
@@ -9,3 +10,6 @@ returns-in_default g c = (refl, λ head lines stated noted. c.in_default.ensures
 
 pub returns-in-Err : goal.returns-in-Err
 returns-in-Err g c = opening_refused _ c.args.bytes.now c.in-Ok.note.now _ c.in-Err.fault c.checkpoint_refusal.result c.checkpoint_refusal.ensures c.in-Err.ensures (search rules)
+
+pub returns-in-Ok-open_checkpoint : goal.returns-in-Ok-open_checkpoint
+returns-in-Ok-open_checkpoint g c = grind (arith, common_steps)

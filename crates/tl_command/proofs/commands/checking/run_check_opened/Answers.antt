@@ -1,4 +1,5 @@
-use Rattle.std.proofs.Common.{refl}
+use Rattle.std.proofs.Common.{refl, arith}
+use Rattle.std.proofs.lemmas.Grind.{common_steps}
 use Rattle.std.proofs.KnownBytes.{Keeps-refl}
 use Rattle.tl_device.specs.Device.{passage}
 use Rattle.tl_command.specs.CheckOpened.{RunsCheckOpened}
@@ -10,3 +11,6 @@ returns-in_err-key g c =
     passed_on (RunsCheckOpened c.args.text.now c.args.bytes.now _ (passage g.R.Read.remaining c.args.reader.now c.args.reader.now) (passage g.W.Write.contents c.args.writer.now c.args.writer.now))
     c.from_residual.result _ c.from_residual.ensures.1
     (key_fails c.args.text.now c.args.bytes.now _ (passage g.R.Read.remaining c.args.reader.now c.args.reader.now) (passage g.W.Write.contents c.args.writer.now c.args.writer.now) _ ((Keeps-refl (g.R.Read.remaining c.args.reader.now.device), refl), (Keeps-refl (g.W.Write.contents c.args.writer.now.device), refl)) c.in_err-key.ensures)
+
+pub into_dyn_box-requires-after_bounds : goal.into_dyn_box-requires-after_bounds
+into_dyn_box-requires-after_bounds g c = grind (arith, common_steps)

@@ -1,4 +1,5 @@
-use Rattle.std.proofs.Common.{inl, refl}
+use Rattle.std.proofs.Common.{inl, refl, arith}
+use Rattle.std.proofs.lemmas.Grind.{common_steps}
 use Rattle.std.proofs.KnownBytes.{Keeps-refl}
 use Rattle.tl_device.specs.Device.{passage}
 use Rattle.tl_command.specs.Head.{RunsHead}
@@ -40,3 +41,12 @@ returns g c = (
     written = c.in_ok-print_text.ensures.whole;
   },
 )
+
+pub checkpoint_of-requires-clause-origin : goal.checkpoint_of-requires-clause-origin
+checkpoint_of-requires-clause-origin g c = grind (arith, common_steps)
+
+pub checkpoint_of-requires-clause-size : goal.checkpoint_of-requires-clause-size
+checkpoint_of-requires-clause-size g c = grind (arith, common_steps)
+
+pub returns-then-not-is_one_line : goal.returns-then-not-is_one_line
+returns-then-not-is_one_line g c = grind (arith, common_steps)

@@ -1,4 +1,5 @@
-use Rattle.std.proofs.Common.{rules, ◌∙◌, refl}
+use Rattle.std.proofs.Common.{rules, ◌∙◌, refl, arith}
+use Rattle.std.proofs.lemmas.Grind.{common_steps}
 use Rattle.std.proofs.KnownBytes.{Keeps-refl}
 use Rattle.tl_device.specs.Device.{passage}
 use Rattle.tl_command.specs.Keygen.{GivesKey}
@@ -29,3 +30,6 @@ returns-in_err-texts g c =
     passed_on (GivesKey c.args.name.now g.K.KeyKind.KIND (passage g.W.Write.contents c.args.writer.now c.args.writer.now) (passage g.E.Write.contents c.args.errors.now c.args.errors.now))
     c.from_residual-in_err-texts.result _ c.from_residual-in_err-texts.ensures.1
     (c.in_ok-key.ensures.1, ((Keeps-refl (g.W.Write.contents c.args.writer.now.device), refl), (Keeps-refl (g.E.Write.contents c.args.errors.now.device), refl)))
+
+pub returns-then-is_err : goal.returns-then-is_err
+returns-then-is_err g c = grind (arith, common_steps)

@@ -1,4 +1,5 @@
 use Rattle.std.proofs.Common.{List, ℕ, length, ap, subst, arith}
+use Rattle.std.proofs.lemmas.Grind.{common_steps}
 use Rattle.std.proofs.lemmas.List.{take_rest, length-drop}
 use Rattle.tl_command.specs.Inner.Growing.{IsGrowing}
 use Rattle.tl_command.proofs.WholeLines.{part_more}
@@ -15,3 +16,9 @@ loop-at-preserved g c =
       size = omega (arith, so_far.size, taken.size);
       grows = λ input was. subst (λ (t : List ℕ). IsGrowing c.take_some.new.self t) (part_more input piece at c.in_ok-at.field-0) (taken.grows _ (so_far.grows input was));
     }
+
+pub loop-at-init : goal.loop-at-init
+loop-at-init g c = grind (arith, common_steps)
+
+pub returns-clause-grows : goal.returns-clause-grows
+returns-clause-grows g c = grind (arith, common_steps)

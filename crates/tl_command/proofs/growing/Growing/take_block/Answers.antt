@@ -1,4 +1,5 @@
 use Rattle.std.proofs.Common.{◌++◌, List, ℕ, length, ap, subst, arith}
+use Rattle.std.proofs.lemmas.Grind.{common_steps}
 use Rattle.std.proofs.lemmas.List.{take_all, take_rest, length-drop}
 use Rattle.tl_command.specs.Inner.Growing.{IsGrowing}
 use Rattle.tl_command.proofs.WholeLines.{part_more}
@@ -19,3 +20,9 @@ loop-at-preserved g c =
 pub returns-clause-grows : goal.returns-clause-grows
 returns-clause-grows g c = λ input was.
     subst (λ (t : List ℕ). IsGrowing c.loop-at.self (input ++ t)) (take_all c.loop-at.at c.args.block.now (omega (arith, c.loop-at-test.false))) (c.loop-at.invariant.grows input was)
+
+pub loop-at-init : goal.loop-at-init
+loop-at-init g c = grind (arith, common_steps)
+
+pub loop-at-smaller : goal.loop-at-smaller
+loop-at-smaller g c = grind (arith, common_steps)

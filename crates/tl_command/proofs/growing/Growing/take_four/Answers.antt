@@ -1,4 +1,5 @@
 use Rattle.std.proofs.Common.{◌≡◌, ◌∷◌, [], length, vec_items, sym, arith}
+use Rattle.std.proofs.lemmas.Grind.{common_steps}
 use Rattle.std.proofs.lemmas.Bool.Decides.{nat_tests}
 use Rattle.tl_command.proofs.GrowingLemmas.{empty_list}
 use Rattle.tl_command.proofs.WholeLines.{grown_lines, no_place}
@@ -14,3 +15,18 @@ returns-clause-grows g c = λ input was.
     let place = no_place c.args.self.now.too_long (sym c.if-is_some.ensures) in
     grown_lines c.args.self.now _ input c.args.piece.now (four.first.now ∷ four.second.now ∷ four.third.now ∷ four.fourth.now ∷ []) four.rest.now
     was c.in-Some.ensures place begun place begun c.in_ok-push_four.ensures.entries
+
+pub overflow_sub-result : goal.overflow_sub-result
+overflow_sub-result g c = grind (arith, common_steps)
+
+pub push_four-requires : goal.push_four-requires
+push_four-requires g c = grind (arith, common_steps)
+
+pub returns-clause-size : goal.returns-clause-size
+returns-clause-size g c = grind (arith, common_steps)
+
+pub returns-in_default-clause-grows : goal.returns-in_default-clause-grows
+returns-in_default-clause-grows g c = grind (arith, common_steps)
+
+pub returns-then-not-is_empty-clause-grows : goal.returns-then-not-is_empty-clause-grows
+returns-then-not-is_empty-clause-grows g c = grind (arith, common_steps)

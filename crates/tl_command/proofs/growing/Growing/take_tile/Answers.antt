@@ -1,4 +1,5 @@
 use Rattle.std.proofs.Common.{map, arith}
+use Rattle.std.proofs.lemmas.Grind.{common_steps}
 use Rattle.std.proofs.lemmas.List.{length-map}
 use Rattle.tl_command.proofs.WholeLines.{grown_lines, lines_within}
 use Rattle.tl_command.proofs.growing.Growing.take_tile.Goals as goal
@@ -21,3 +22,12 @@ returns-clause-grows g c = λ input was.
     let fills = c.fills_tiles.ensures c.if-not-fills_tiles.false in
     grown_lines c.args.self.now _ input c.args.piece.now (map (λ line. line.now) tile.lines) tile.rest.now
     was c.in-Some.ensures.begins fills.short fills.unbegun fills.short fills.unbegun c.in_ok-push_tile.ensures.entries
+
+pub overflow_sub-result : goal.overflow_sub-result
+overflow_sub-result g c = grind (arith, common_steps)
+
+pub returns-in_default-clause-grows : goal.returns-in_default-clause-grows
+returns-in_default-clause-grows g c = grind (arith, common_steps)
+
+pub returns-then-not-fills_tiles-clause-grows : goal.returns-then-not-fills_tiles-clause-grows
+returns-then-not-fills_tiles-clause-grows g c = grind (arith, common_steps)

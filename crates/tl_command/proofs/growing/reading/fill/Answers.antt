@@ -1,4 +1,5 @@
-use Rattle.std.proofs.Common.{◌-◌, length, sym, subst, rules, ◌∙◌}
+use Rattle.std.proofs.Common.{◌-◌, length, sym, subst, rules, ◌∙◌, arith}
+use Rattle.std.proofs.lemmas.Grind.{common_steps}
 use Rattle.std.proofs.KnownBytes.{Consumes-trans}
 use Rattle.std.specs.Io.KnownBytes.{Consumes}
 use Rattle.tl_command.proofs.Filling.{filled}
@@ -18,3 +19,9 @@ loop-at-preserved g c =
           (Consumes-trans _ _ _ _ _ so_far.consumed read.consumed);
       steady = read.steady ∙ so_far.steady;
     }
+
+pub returns-in-Some-eq0-clause-consumed : goal.returns-in-Some-eq0-clause-consumed
+returns-in-Some-eq0-clause-consumed g c = grind (arith, common_steps)
+
+pub returns-in-Some-eq0-clause-ended : goal.returns-in-Some-eq0-clause-ended
+returns-in-Some-eq0-clause-ended g c = grind (arith, common_steps)

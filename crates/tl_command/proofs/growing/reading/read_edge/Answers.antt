@@ -1,4 +1,5 @@
 use Rattle.std.proofs.Common.{◌≡◌, ◌++◌, ◌∙◌, [], List, ℕ, length, take, refl, ap, subst, arith}
+use Rattle.std.proofs.lemmas.Grind.{common_steps}
 use Rattle.std.proofs.KnownBytes.{Consumes-nil, Consumes-trans}
 use Rattle.std.proofs.lemmas.List.{length-append, length-take-le}
 use Rattle.tl_command.specs.Inner.Growing.{IsGrowing}
@@ -53,3 +54,18 @@ returns-then-total-le-MOST_INPUT g c =
       steady = read.steady ∙ c.loop-total.invariant.steady;
     })
     (c.finish.ensures input taken)
+
+pub finish-requires : goal.finish-requires
+finish-requires g c = grind (arith, common_steps)
+
+pub overflow_add-total : goal.overflow_add-total
+overflow_add-total g c = grind (arith, common_steps)
+
+pub returns-in_default : goal.returns-in_default
+returns-in_default g c = grind (arith, common_steps)
+
+pub slice_bounds-take_block-end : goal.slice_bounds-take_block-end
+slice_bounds-take_block-end g c = grind (arith, common_steps)
+
+pub take_block-requires-after_bounds : goal.take_block-requires-after_bounds
+take_block-requires-after_bounds g c = grind (arith, common_steps)

@@ -1,4 +1,5 @@
 use Rattle.std.proofs.Common.{◌≡◌, ◌++◌, ◌∙◌, [], List, ℕ, length, take, refl, ap, subst, arith}
+use Rattle.std.proofs.lemmas.Grind.{common_steps}
 use Rattle.std.specs.Prelude.{Err}
 use Rattle.std.proofs.KnownBytes.{Consumes-nil, Consumes-trans}
 use Rattle.std.proofs.lemmas.List.{length-append, length-take-le}
@@ -87,3 +88,27 @@ returns-in-Err g c =
       steady = read.steady ∙ c.loop-total.invariant.steady;
     })
     (c.in-Err.ensures input taken)
+
+pub finish-requires-clause-few : goal.finish-requires-clause-few
+finish-requires-clause-few g c = grind (arith, common_steps)
+
+pub finish-requires-clause-room : goal.finish-requires-clause-room
+finish-requires-clause-room g c = grind (arith, common_steps)
+
+pub finish-requires-then-total-le-MOST_INPUT : goal.finish-requires-then-total-le-MOST_INPUT
+finish-requires-then-total-le-MOST_INPUT g c = grind (arith, common_steps)
+
+pub overflow_add-total : goal.overflow_add-total
+overflow_add-total g c = grind (arith, common_steps)
+
+pub returns-in_default : goal.returns-in_default
+returns-in_default g c = grind (arith, common_steps)
+
+pub slice_bounds-piece-end : goal.slice_bounds-piece-end
+slice_bounds-piece-end g c = grind (arith, common_steps)
+
+pub take-requires-clause-room : goal.take-requires-clause-room
+take-requires-clause-room g c = grind (arith, common_steps)
+
+pub take_block-requires-after_bounds : goal.take_block-requires-after_bounds
+take_block-requires-after_bounds g c = grind (arith, common_steps)

@@ -1,4 +1,5 @@
 use Rattle.std.proofs.Common.{◌≡◌, ◌+◌, ◌-◌, ◌*◌, ◌≤◌, ◌∙◌, List, ℕ, ap, arith, drop, length, refl, subst, take}
+use Rattle.std.proofs.lemmas.Grind.{common_steps}
 use Rattle.std.proofs.lemmas.List.{length-drop, take_rest}
 use Rattle.tl_command.specs.Inner.Cuts.{AreWholeLines}
 use Rattle.tl_command.specs.Lines.{entries_of}
@@ -46,3 +47,9 @@ returns-in-None-clause-back c =
     let text = c.args.self.now.text.now in
     ap entries_of c.cut_behind-in-None.ensures.back
     ∙ no_back text c.args.count (few text c.tiles_end-at.result c.min-tiles.result _ c.args.count c.tiles_end-at.ensures.lines refl (omega (arith, c.min-tiles.ensures)) c.in-None.ensures.fewer)
+
+pub returns-in-None-clause-bytes : goal.returns-in-None-clause-bytes
+returns-in-None-clause-bytes c = grind (arith, common_steps)
+
+pub returns-in-Some-clause-bytes : goal.returns-in-Some-clause-bytes
+returns-in-Some-clause-bytes c = grind (arith, common_steps)

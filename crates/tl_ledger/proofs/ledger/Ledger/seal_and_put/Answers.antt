@@ -1,4 +1,5 @@
-use Rattle.std.proofs.Common.{◌∷◌, ◌++◌, [], List, map, vec_items, subst, sym}
+use Rattle.std.proofs.Common.{◌∷◌, ◌++◌, [], List, map, vec_items, subst, sym, arith}
+use Rattle.std.proofs.lemmas.Grind.{common_steps}
 use Rattle.sha2.specs.Sha256.{sha256}
 use Rattle.tl_publisher.specs.Histories.{Prefix}
 use Rattle.tl_archive.specs.Complete.{IsFor}
@@ -95,3 +96,24 @@ returns-clause-there g c = λ history log was.
 
 pub returns-clause-seen : goal.returns-clause-seen
 returns-clause-seen g c = last_seen (g.S.Shelf.kept c.mark_published.new.self) (g.S.Shelf.trace c.put_beside.new.shelf) (g.S.Shelf.trace c.mark_published.new.self) c.mark_published.ensures.trace
+
+pub put_beside-requires-clause-room : goal.put_beside-requires-clause-room
+put_beside-requires-clause-room g c = grind (arith, common_steps)
+
+pub put_beside-requires-clause-short : goal.put_beside-requires-clause-short
+put_beside-requires-clause-short g c = grind (arith, common_steps)
+
+pub returns-clause-marked : goal.returns-clause-marked
+returns-clause-marked g c = grind (arith, common_steps)
+
+pub returns-clause-place : goal.returns-clause-place
+returns-clause-place g c = grind (arith, common_steps)
+
+pub returns-clause-size : goal.returns-clause-size
+returns-clause-size g c = grind (arith, common_steps)
+
+pub returns-clause-unfailed : goal.returns-clause-unfailed
+returns-clause-unfailed g c = grind (arith, common_steps)
+
+pub same-edge-2 : goal.same-edge-2
+same-edge-2 g c = grind (arith, common_steps)

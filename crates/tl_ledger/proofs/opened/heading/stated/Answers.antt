@@ -1,4 +1,5 @@
 use Rattle.std.proofs.Common.{refl, arith}
+use Rattle.std.proofs.lemmas.Grind.{common_steps}
 use Rattle.tl_ledger.proofs.Naming.{of_note, of_other, of_too_many}
 use Rattle.tl_ledger.proofs.opened.heading.stated.Goals as goal
 
@@ -13,3 +14,9 @@ returns-then-checkpoint-gt-MOST_ENTRIES-clause-refused g c =
 pub returns-clause-states : goal.returns-clause-states
 returns-clause-states g c =
     of_note c.args.note.now _ _ c.as_str.result.now c.in-Ok.ensures c.as_str.ensures.value (c.if-not-is_named.ensures.0 refl) _ refl refl
+
+pub returns-clause-limit : goal.returns-clause-limit
+returns-clause-limit g c = grind (arith, common_steps)
+
+pub returns-in-Err : goal.returns-in-Err
+returns-in-Err g c = grind (arith, common_steps)

@@ -1,3 +1,5 @@
+use Rattle.std.proofs.Common.{arith}
+use Rattle.std.proofs.lemmas.Grind.{common_steps}
 use Rattle.tl_ledger.proofs.Reopening.{levels_on}
 use Rattle.tl_ledger.proofs.opened.reading.read_partials.Goals as goal
 
@@ -10,3 +12,12 @@ loop-level-preserved g c = record {
 
 pub returns-clause-held : goal.returns-clause-held
 returns-clause-held g c = c.in_ok-read_last.ensures.more.still c.loop-level.invariant.held
+
+pub loop-level-init : goal.loop-level-init
+loop-level-init g c = grind (arith, common_steps)
+
+pub returns-clause-all : goal.returns-clause-all
+returns-clause-all g c = grind (arith, common_steps)
+
+pub returns-clause-refused : goal.returns-clause-refused
+returns-clause-refused g c = grind (arith, common_steps)

@@ -1,4 +1,5 @@
-use Rattle.std.proofs.Common.{List, subst}
+use Rattle.std.proofs.Common.{List, subst, arith}
+use Rattle.std.proofs.lemmas.Grind.{common_steps}
 use Rattle.std.proofs.lemmas.List.{take_all}
 use Rattle.tl_ledger.specs.Inner.Reads.{LacksItem, items_of}
 use Rattle.tl_ledger.proofs.Reopening.{lacks_more, untrue}
@@ -10,3 +11,6 @@ loop-item-preserved g c =
 
 pub returns : goal.returns
 returns g c = subst (λ (xs : List _). LacksItem (items_of xs) c.args.resource.now) (take_all c.loop-item.item-index c.args.items.now c.loop-item-test.false) c.loop-item.invariant
+
+pub returns-then-is_same : goal.returns-then-is_same
+returns-then-is_same g c = grind (arith, common_steps)

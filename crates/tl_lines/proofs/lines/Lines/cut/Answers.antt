@@ -1,4 +1,5 @@
-use Rattle.std.proofs.Common.{◌∙◌, List, ℕ, [], true, ap, subst, length, drop}
+use Rattle.std.proofs.Common.{◌∙◌, List, ℕ, [], true, ap, subst, length, drop, arith}
+use Rattle.std.proofs.lemmas.Grind.{common_steps}
 use Rattle.std.specs.Option.{unwrap_or}
 use Rattle.tl_lines.specs.Lines.{Entry, TooLong, Uncut, one_more}
 use Rattle.tl_lines.specs.Inner.Cutting.{FindsNewline}
@@ -40,3 +41,9 @@ returns g c =
     cut_whole u c.finish.new.self c.unwrap_or-count.result (told c.finish.result) c.requires c.waiting.ensures.kept.plain ends more.0
     (c.finish.ensures.after ∙ ap (λ (x : Uncut). made (one_more x.number) (one_more x.entries) [] x.waiting x.in_tail) passed)
     (c.finish.ensures.line ∙ ap (λ (x : Uncut). Entry x.begun) passed)
+
+pub extend-requires-clause-plain : goal.extend-requires-clause-plain
+extend-requires-clause-plain g c = grind (arith, common_steps)
+
+pub pass-requires : goal.pass-requires
+pass-requires g c = grind (arith, common_steps)

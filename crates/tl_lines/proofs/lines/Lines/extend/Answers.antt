@@ -1,4 +1,5 @@
 use Rattle.std.proofs.Common.{◌≡◌, ◌+◌, ◌-◌, ◌≤◌, ◌++◌, ◌∙◌, false, ap, sym, subst, length, take, drop, arith}
+use Rattle.std.proofs.lemmas.Grind.{common_steps}
 use Rattle.std.proofs.lemmas.List.{length-append, length-take-le}
 use Rattle.std.proofs.lemmas.List.Elements.{All-append}
 use Rattle.tl_lines.specs.Lines.{HasNoNewline, Uncut}
@@ -53,3 +54,9 @@ returns g c =
           (waiting_after s.start s.end count s.block.items (within g c) ∙ ap (drop count) (shown g c))
           ∙ ap (λ (x : Uncut). made x.number x.entries (x.begun ++ take count u.waiting) (drop count u.waiting) x.in_tail) c.self.view_is,
     )
+
+pub overflow_add-len : goal.overflow_add-len
+overflow_add-len g c = grind (arith, common_steps)
+
+pub slice_bounds-part-end : goal.slice_bounds-part-end
+slice_bounds-part-end g c = grind (arith, common_steps)

@@ -1,4 +1,5 @@
-use Rattle.std.proofs.Common.{◌≡◌, ◌∙◌, List, ℕ, true, false, ap, sym, subst, length}
+use Rattle.std.proofs.Common.{◌≡◌, ◌∙◌, List, ℕ, true, false, ap, sym, subst, length, arith}
+use Rattle.std.proofs.lemmas.Grind.{common_steps}
 use Rattle.tl_lines.specs.Lines.{HasNoNewline, Uncut, one_more}
 use Rattle.tl_lines.specs.Inner.Cutting.{EndsAt}
 use Rattle.tl_lines.proofs.CuttingLemmas.{tail_found, tail_kept}
@@ -17,3 +18,12 @@ returns-in-None-clause-tells g c =
     let tail : u.in_tail ≡ true = sym (ap (λ (x : Uncut). x.in_tail) c.self.view_is) ∙ c.if-not-self.false in
     (tail_kept u c.pass-in-None.new.self (length c.waiting-count.result.now) tail (c.waiting.ensures.kept.left_out tail) (subst HasNoNewline c.waiting.ensures.value c.in-None.ensures)
     (ap (λ (w : List ℕ). length w) c.waiting-count.ensures.value) c.pass-in-None.ensures).0
+
+pub returns-in-None-clause-shorter : goal.returns-in-None-clause-shorter
+returns-in-None-clause-shorter g c = grind (arith, common_steps)
+
+pub returns-in-None-clause-tail : goal.returns-in-None-clause-tail
+returns-in-None-clause-tail g c = grind (arith, common_steps)
+
+pub returns-in-Some-clause-shorter : goal.returns-in-Some-clause-shorter
+returns-in-Some-clause-shorter g c = grind (arith, common_steps)

@@ -1,4 +1,5 @@
-use Rattle.std.proofs.Common.{◌≡◌, ◌++◌, List, ℕ, true, Some, None, sym, ap, subst, ◌∙◌}
+use Rattle.std.proofs.Common.{◌≡◌, ◌++◌, List, ℕ, true, Some, None, sym, ap, subst, ◌∙◌, arith}
+use Rattle.std.proofs.lemmas.Grind.{common_steps}
 use Rattle.tl_note.specs.Key.{IsKeyName}
 use Rattle.tl_note.proofs.LineLemmas.{dash, words_parts}
 use Rattle.tl_note.proofs.line.SigView.read.Goals as goal
@@ -24,3 +25,9 @@ returns-in_default-read_key_id c = λ s is e.
     let parts = words_parts c.args.line.now c.in-Some.words.now (Some (c.in-Some-split_once.name, c.in-Some-split_once.field)) s begins c.in-Some-split_once.ensures.cases is e in
     let none = rw c.in_default-read_key_id.is at c.read_key_id.ensures in
     none s is parts.1
+
+pub invariant_of-result : goal.invariant_of-result
+invariant_of-result c = grind (arith, common_steps)
+
+pub returns : goal.returns
+returns c = grind (arith, common_steps)

@@ -1,4 +1,5 @@
-use Rattle.std.proofs.Common.{◌≡◌, [], ◌∷◌, ◌++◌, drop, fold, refl, sym, ap, ◌∙◌, subst}
+use Rattle.std.proofs.Common.{◌≡◌, [], ◌∷◌, ◌++◌, drop, fold, refl, sym, ap, ◌∙◌, subst, arith}
+use Rattle.std.proofs.lemmas.Grind.{common_steps}
 use Rattle.left_right.specs.Sides.{view}
 use Rattle.sha2.specs.Sha256.{sha256}
 use Rattle.tl_publisher.specs.Histories.{Past}
@@ -40,3 +41,6 @@ invariant_of-board-2 g c =
 
 pub lay-writer-requires-clause-laid : goal.lay-writer-requires-clause-laid
 lay-writer-requires-clause-laid g c = (c.args.change, ap (λ (s : Step). s.change) c.new-step.ensures)
+
+pub invariant_of-board : goal.invariant_of-board
+invariant_of-board g c = grind (arith, common_steps)

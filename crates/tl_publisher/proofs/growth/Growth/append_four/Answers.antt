@@ -1,4 +1,5 @@
 use Rattle.std.proofs.Common.{◌++◌, ◌∷◌, [], sym, ap, ◌∙◌, subst, arith}
+use Rattle.std.proofs.lemmas.Grind.{common_steps}
 use Rattle.sha2.specs.Sha256.{sha256}
 use Rattle.tl_tile.specs.Bundle.{bundled_entry}
 use Rattle.tl_publisher.specs.Grown.{Grown, IsGrown}
@@ -26,3 +27,18 @@ returns-clause-grown g c start entries is =
     (omega (arith, own.edge.0, size, c.requires.within))
     pushed
     (λ i. before.waiting)
+
+pub push_four-requires : goal.push_four-requires
+push_four-requires g c = grind (arith, common_steps)
+
+pub push_reserved_entry-requires-2-clause-room : goal.push_reserved_entry-requires-2-clause-room
+push_reserved_entry-requires-2-clause-room g c = grind (arith, common_steps)
+
+pub push_reserved_entry-requires-3-clause-room : goal.push_reserved_entry-requires-3-clause-room
+push_reserved_entry-requires-3-clause-room g c = grind (arith, common_steps)
+
+pub push_reserved_entry-requires-4-clause-room : goal.push_reserved_entry-requires-4-clause-room
+push_reserved_entry-requires-4-clause-room g c = grind (arith, common_steps)
+
+pub returns-clause-size : goal.returns-clause-size
+returns-clause-size g c = grind (arith, common_steps)

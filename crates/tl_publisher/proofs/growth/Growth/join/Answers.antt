@@ -1,4 +1,5 @@
-use Rattle.std.proofs.Common.{sym, subst, length, ◌++◌}
+use Rattle.std.proofs.Common.{sym, subst, length, ◌++◌, arith}
+use Rattle.std.proofs.lemmas.Grind.{common_steps}
 use Rattle.sha2.specs.Sha256.{sha256}
 use Rattle.tl_publisher.specs.Grown.{Grown, IsGrown}
 use Rattle.tl_publisher.proofs.Joined.{grown_joined}
@@ -11,3 +12,6 @@ returns-clause-grown g c start entries more is next =
     let own : IsGrown sha256 start entries before = subst (IsGrown sha256 start entries) (sym c.self.view_is) is in
     let its : IsGrown sha256 (length entries) (entries ++ more) after = subst (IsGrown sha256 (length entries) (entries ++ more)) (sym c.next.view_is) next in
     grown_joined sha256 start entries more before after own its c.append.new.self.items c.in_ok-append.ensures.items
+
+pub returns-clause-size : goal.returns-clause-size
+returns-clause-size g c = grind (arith, common_steps)

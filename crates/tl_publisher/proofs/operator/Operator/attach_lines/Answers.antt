@@ -1,4 +1,5 @@
-use Rattle.std.proofs.Common.{◌≡◌, map, take, string_bytes, ap}
+use Rattle.std.proofs.Common.{◌≡◌, map, take, string_bytes, ap, arith}
+use Rattle.std.proofs.lemmas.Grind.{common_steps}
 use Rattle.std.specs.Prelude.{Some, option_map}
 use Rattle.std.specs.Global.{Global}
 use Rattle.tl_sequencer.specs.Log.{entries_of}
@@ -20,3 +21,12 @@ show-requires g c =
     let q : Prefix = record { entries = take c.args.self.now.run.grown (entries_of c.args.self.now.run.log); note = string_bytes c.in-Some.note } in
     let at : a.proposal ≡ Some q = ap (λ o. option_map (λ note. record { entries = take c.args.self.now.run.grown (entries_of c.args.self.now.run.log); note = string_bytes note }) o) c.in-Some.is in
     follows_under (last_of c.args.self.now.run.past.log) q c.in_ok-whole.whole.items (c.requires.proposed q at).next
+
+pub returns-clause-keys : goal.returns-clause-keys
+returns-clause-keys g c = grind (arith, common_steps)
+
+pub returns-in_default-clause-attached : goal.returns-in_default-clause-attached
+returns-in_default-clause-attached g c = grind (arith, common_steps)
+
+pub returns-in_err-published-clause-keys : goal.returns-in_err-published-clause-keys
+returns-in_err-published-clause-keys g c = grind (arith, common_steps)

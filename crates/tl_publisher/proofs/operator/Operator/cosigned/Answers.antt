@@ -1,4 +1,5 @@
 use Rattle.std.proofs.Common.{◌≡◌, ◌<◌, [], All, length, map, take, string_bytes, vec_items, sym, ap, subst, ◌∙◌, arith}
+use Rattle.std.proofs.lemmas.Grind.{common_steps}
 use Rattle.std.specs.Prelude.{option_map}
 use Rattle.std.specs.Global.{Global}
 use Rattle.sha2.specs.Sha256.{sha256}
@@ -43,3 +44,9 @@ returns g c q at same =
           (cosigns_note a q c.args.lines.now c.in_ok-lines.lines.items c.in_ok-found.found.items c.as_str-2.result.now (string_bytes c.in_ok-whole.whole) c.requires at c.in_ok-lines.ensures text first (omega (arith, c.len.ensures, c.if-len-self.false))
           (subst (λ n. HasBehind n c.in_ok-lines.lines.items c.in_ok-found.found.items (string_bytes c.in_ok-whole.whole)) (sym same) behind)),
     )
+
+pub overflow_cast-result : goal.overflow_cast-result
+overflow_cast-result g c = grind (arith, common_steps)
+
+pub text_of-requires-clause-origin : goal.text_of-requires-clause-origin
+text_of-requires-clause-origin g c = grind (arith, common_steps)

@@ -1,4 +1,5 @@
-use Rattle.std.proofs.Common.{refl, sym, subst, ◌∙◌, map, take, string_bytes, true≢false}
+use Rattle.std.proofs.Common.{refl, sym, subst, ◌∙◌, map, take, string_bytes, true≢false, arith}
+use Rattle.std.proofs.lemmas.Grind.{common_steps}
 use Rattle.std.specs.Prelude.{Err, option_map}
 use Rattle.std.specs.Global.{Global}
 use Rattle.tl_publisher.specs.Running.{Running}
@@ -72,3 +73,15 @@ returns-in_err-adopt-clause-same g c =
       past = r.past;
     } in
     same_err c.from_residual-in_err-adopt.result _ (subst (λ r. IsSame (of c.args.self.now.run) (of r)) (sym c.in_err-adopt.ensures.refused) (record { log = refl; proposal = refl; past = refl }))
+
+pub note_of-requires-clause-origin : goal.note_of-requires-clause-origin
+note_of-requires-clause-origin g c = grind (arith, common_steps)
+
+pub returns-clause-keys : goal.returns-clause-keys
+returns-clause-keys g c = grind (arith, common_steps)
+
+pub returns-then-is_published-clause-why : goal.returns-then-is_published-clause-why
+returns-then-is_published-clause-why g c = grind (arith, common_steps)
+
+pub same-next : goal.same-next
+same-next g c = grind (arith, common_steps)

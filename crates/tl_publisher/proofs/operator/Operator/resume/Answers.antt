@@ -1,4 +1,5 @@
-use Rattle.std.proofs.Common.{List, map, vec_items, sym, subst}
+use Rattle.std.proofs.Common.{List, map, vec_items, sym, subst, arith}
+use Rattle.std.proofs.lemmas.Grind.{common_steps}
 use Rattle.tl_note.specs.Key.{SigningKey}
 use Rattle.tl_sequencer.specs.Opened.{IsOpened}
 use Rattle.tl_publisher.specs.Signed.{AreSigners}
@@ -51,3 +52,54 @@ returns-in-Ok-begin-clause-resumed g c = (
     unpublished = c.in-Ok-begin.ensures.begun.unpublished;
   },
 )
+
+pub begin-requires-clause-origin : goal.begin-requires-clause-origin
+begin-requires-clause-origin g c = grind (arith, common_steps)
+
+pub open_from-requires-clause-fits : goal.open_from-requires-clause-fits
+open_from-requires-clause-fits g c = grind (arith, common_steps)
+
+pub open_from-requires-clause-short : goal.open_from-requires-clause-short
+open_from-requires-clause-short g c = grind (arith, common_steps)
+
+pub returns-in-Err-begin-clause-operating : goal.returns-in-Err-begin-clause-operating
+returns-in-Err-begin-clause-operating g c = grind (arith, common_steps)
+
+pub returns-in-Err-begin-clause-readers : goal.returns-in-Err-begin-clause-readers
+returns-in-Err-begin-clause-readers g c = grind (arith, common_steps)
+
+pub returns-in-Err-begin-clause-resumed : goal.returns-in-Err-begin-clause-resumed
+returns-in-Err-begin-clause-resumed g c = grind (arith, common_steps)
+
+pub returns-in-Err-clause-operating : goal.returns-in-Err-clause-operating
+returns-in-Err-clause-operating g c = grind (arith, common_steps)
+
+pub returns-in-Err-clause-readers : goal.returns-in-Err-clause-readers
+returns-in-Err-clause-readers g c = grind (arith, common_steps)
+
+pub returns-in-Err-clause-resumed : goal.returns-in-Err-clause-resumed
+returns-in-Err-clause-resumed g c = grind (arith, common_steps)
+
+pub returns-in-Ok-begin-clause-operating : goal.returns-in-Ok-begin-clause-operating
+returns-in-Ok-begin-clause-operating g c = grind (arith, common_steps)
+
+pub returns-in-Ok-begin-clause-readers : goal.returns-in-Ok-begin-clause-readers
+returns-in-Ok-begin-clause-readers g c = grind (arith, common_steps)
+
+pub returns-in-Ok-begin-clause-refused : goal.returns-in-Ok-begin-clause-refused
+returns-in-Ok-begin-clause-refused g c = grind (arith, common_steps)
+
+pub returns-in-Some-clause-operating : goal.returns-in-Some-clause-operating
+returns-in-Some-clause-operating g c = grind (arith, common_steps)
+
+pub returns-in-Some-clause-readers : goal.returns-in-Some-clause-readers
+returns-in-Some-clause-readers g c = grind (arith, common_steps)
+
+pub returns-in-Some-clause-resumed : goal.returns-in-Some-clause-resumed
+returns-in-Some-clause-resumed g c = grind (arith, common_steps)
+
+pub returns-in_err-base-clause-operating : goal.returns-in_err-base-clause-operating
+returns-in_err-base-clause-operating g c = grind (arith, common_steps)
+
+pub returns-in_err-base-clause-readers : goal.returns-in_err-base-clause-readers
+returns-in_err-base-clause-readers g c = grind (arith, common_steps)

@@ -1,4 +1,5 @@
 use Rattle.std.proofs.Common.{◌∷◌, ◌++◌, [], take, sym, ap, subst, ◌∙◌, arith}
+use Rattle.std.proofs.lemmas.Grind.{common_steps}
 use Rattle.std.proofs.lemmas.List.Elements.{All-take}
 use Rattle.tl_tile.specs.Bundle.{IsShortEntry}
 use Rattle.tl_sequencer.specs.Log.{entries_of}
@@ -37,3 +38,6 @@ invariant_of-self-2 g c =
     let published = c.in_ok-past.ensures.published in
     shown_running c.self.inside.log c.self.inside.growth c.settle.new.self c.self.inside.board c.show.new.self c.in_ok-change.change.face.note c.self.invariant c.settle.ensures.size c.settle.ensures.settled
     (published.0 ∙ ap (λ n. c.self.inside.board.past.log ++ record { entries = take n (entries_of c.self.inside.log); note = c.in_ok-change.change.face.note } ∷ []) c.size-size.ensures)
+
+pub invariant_of-self : goal.invariant_of-self
+invariant_of-self g c = grind (arith, common_steps)

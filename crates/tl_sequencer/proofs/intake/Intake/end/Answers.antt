@@ -1,4 +1,5 @@
-use Rattle.std.proofs.Common.{◌<◌, [], length, sym}
+use Rattle.std.proofs.Common.{◌<◌, [], length, sym, arith}
+use Rattle.std.proofs.lemmas.Grind.{common_steps}
 use Rattle.tl_sequencer.specs.Rings.{log_of}
 use Rattle.tl_sequencer.specs.Inner.Held.{taken_of, who_of}
 use Rattle.tl_sequencer.proofs.Logs.{Ends-closes, Ends-fits, same-rings, end-inside, given-is, refuses-log}
@@ -29,3 +30,15 @@ returns-in-Err-clause-why g c =
     let log = log_of [] (taken_of s.history.items) (who_of s.history.items) s.limit s.lanes.items in
     let inside : c.lane-lane.result < length s.lanes.items = end-inside s.lanes.items c.args.ended _ c.lane-lane.ensures (rw (← c.self.view_is) at c.requires) in
     rw (← c.self.view_is) (refuses-log log c.args.ended _ _ _ (room-log _ _ _ _ _ c.self.invariant) (rw (← c.lane-lane.ensures) (given-is log _ _ inside c.index_mut-ending.ensures.value)) c.in-Err.ensures.why)
+
+pub overflow_sub-room : goal.overflow_sub-room
+overflow_sub-room g c = grind (arith, common_steps)
+
+pub returns-in-Err-clause-rings : goal.returns-in-Err-clause-rings
+returns-in-Err-clause-rings g c = grind (arith, common_steps)
+
+pub returns-in-Err-clause-same : goal.returns-in-Err-clause-same
+returns-in-Err-clause-same g c = grind (arith, common_steps)
+
+pub returns-in-Ok-clause-drained : goal.returns-in-Ok-clause-drained
+returns-in-Ok-clause-drained g c = grind (arith, common_steps)

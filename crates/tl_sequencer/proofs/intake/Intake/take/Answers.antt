@@ -1,4 +1,5 @@
 use Rattle.std.proofs.Common.{[], arith}
+use Rattle.std.proofs.lemmas.Grind.{common_steps}
 use Rattle.tl_sequencer.proofs.Logs.{Gives-takes, same-rings}
 use Rattle.tl_sequencer.proofs.Held.{Gives-held, fits-log, same-held}
 use Rattle.tl_sequencer.proofs.intake.Intake.take.Goals as goal
@@ -16,3 +17,21 @@ returns-clause-rings g c = rw (← c.self.view_is) (same-rings c.self.inside.lan
 
 pub returns-clause-taken : goal.returns-clause-taken
 returns-clause-taken g c = rw (← c.self.view_is) (Gives-takes [] _ _ _ _ _ _ _ _ _ (omega arith) c.index_mut-from.ensures.value _ (fits-log _ _ _ _ _ c.self.invariant c.in-Ok.n (omega (arith, c.in-Ok.ensures.most))) c.in-Ok.ensures.taken)
+
+pub returns-clause-drained : goal.returns-clause-drained
+returns-clause-drained g c = grind (arith, common_steps)
+
+pub returns-clause-may : goal.returns-clause-may
+returns-clause-may g c = grind (arith, common_steps)
+
+pub returns-in_default-clause-rings : goal.returns-in_default-clause-rings
+returns-in_default-clause-rings g c = grind (arith, common_steps)
+
+pub returns-in_default-clause-same : goal.returns-in_default-clause-same
+returns-in_default-clause-same g c = grind (arith, common_steps)
+
+pub returns-in_default-clause-why : goal.returns-in_default-clause-why
+returns-in_default-clause-why g c = grind (arith, common_steps)
+
+pub returns-then-max-gt0-clause-why : goal.returns-then-max-gt0-clause-why
+returns-then-max-gt0-clause-why g c = grind (arith, common_steps)

@@ -2,6 +2,7 @@ use Rattle.std.proofs.lemmas.List.{length-map, get_or-map}
 use Rattle.std.proofs.lemmas.Option.{slice_get_within, get_or_from_slice_get}
 use Rattle.std.specs.List.{slice_get}
 use Rattle.std.proofs.Common.{map, Some, ℕ, ◌-◌, ◌+◌, ◌<◌, ◌≤◌, ◌≡◌, length, arith, sym, subst, ap, ◌∙◌}
+use Rattle.std.proofs.lemmas.Grind.{common_steps}
 use Rattle.tl_sequencer.specs.Log.{Lane, Log, IsEndOf, entries_of}
 use Rattle.tl_sequencer.specs.Rings.{log_of}
 use Rattle.tl_sequencer.proofs.Logs.{refuses-log, Ends-closes, Ends-fits, same-log, log-length, same-rings, given-is}
@@ -59,3 +60,6 @@ returns-clause-why g c = elim c.match-end.branch [
   | in-Ok w ↦ rw w.result-is tt
   | in-Err w ↦ rw (w.result-is, ← c.self.view_is) (refuses-log (before g c) c.args.ended _ _ _ (room g c) (rw (← c.lane-lane.ensures) (given-is (before g c) _ _ (inside g c) c.index_mut-ending.ensures.value)) w.in-Err.ensures.why)
 ]
+
+pub overflow_sub-room : goal.overflow_sub-room
+overflow_sub-room g c = grind (arith, common_steps)

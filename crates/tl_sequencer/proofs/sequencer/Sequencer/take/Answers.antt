@@ -1,4 +1,5 @@
 use Rattle.std.proofs.Common.{arith}
+use Rattle.std.proofs.lemmas.Grind.{common_steps}
 use Rattle.tl_sequencer.proofs.Logs.{Gives-takes, same-log, log-length, same-rings}
 use Rattle.tl_sequencer.proofs.Keeps.{Gives-kept, same-kept}
 use Rattle.tl_sequencer.proofs.sequencer.Sequencer.take.Goals as goal
@@ -24,3 +25,15 @@ returns-clause-same g c = elim c.match-take.branch [
 
 pub returns-clause-rings : goal.returns-clause-rings
 returns-clause-rings g c = rw (← c.self.view_is) (same-rings c.self.inside.lanes.items c.args.lane c.index_mut-from.result.now c.take.new.self c.index_mut-from.ensures.value c.take.ensures.ring)
+
+pub overflow_sub-room : goal.overflow_sub-room
+overflow_sub-room g c = grind (arith, common_steps)
+
+pub returns-clause-may : goal.returns-clause-may
+returns-clause-may g c = grind (arith, common_steps)
+
+pub returns-clause-why : goal.returns-clause-why
+returns-clause-why g c = grind (arith, common_steps)
+
+pub returns-then-max-gt0-clause-why : goal.returns-then-max-gt0-clause-why
+returns-then-max-gt0-clause-why g c = grind (arith, common_steps)

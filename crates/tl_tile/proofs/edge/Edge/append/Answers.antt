@@ -1,4 +1,5 @@
 use Rattle.std.proofs.Common.{◌++◌, ◌∷◌, ◌+◌, [], List, length, take, refl, ap, sym, ◌∙◌, arith}
+use Rattle.std.proofs.lemmas.Grind.{common_steps}
 use Rattle.tl_hash.specs.Bytes.{Bytes}
 use Rattle.tl_tile.specs.RightEdge.{filled_tiles}
 use Rattle.tl_tile.proofs.Adding.{edge-more}
@@ -38,3 +39,9 @@ returns-clause-named g c = c.in_ok-filled.ensures.named refl refl ∙ ap (λ e. 
 
 pub returns-clause-size : goal.returns-clause-size
 returns-clause-size g c = c.keep.ensures.size ∙ ap (λ e. e.size + 1) c.self.view_is
+
+pub invariant_of-self : goal.invariant_of-self
+invariant_of-self g c = grind (arith, common_steps)
+
+pub keep-requires-clause-small : goal.keep-requires-clause-small
+keep-requires-clause-small g c = grind (arith, common_steps)

@@ -1,4 +1,5 @@
 use Rattle.std.proofs.Common.{◌++◌, List, length, map, vec_items, ◌∙◌, sym, ap, subst, arith}
+use Rattle.std.proofs.lemmas.Grind.{common_steps}
 use Rattle.std.proofs.lemmas.List.{length-map}
 use Rattle.tl_hash.specs.Bytes.{Bytes}
 use Rattle.tl_tile.specs.Fetched.{texts_of}
@@ -22,3 +23,9 @@ returns-clause-tiles g c before is =
 pub returns-clause-size : goal.returns-clause-size
 returns-clause-size g c =
     ap (λ e. e.size) c.grown.view_is ∙ omega (arith, c.in_ok-append_each.ensures.size, c.in_ok-grown.ensures.size, length-map c.args.entries.now vec_items)
+
+pub returns-then-is_empty-clause-entries : goal.returns-then-is_empty-clause-entries
+returns-then-is_empty-clause-entries g c = grind (arith, common_steps)
+
+pub returns-then-is_empty-clause-tiles : goal.returns-then-is_empty-clause-tiles
+returns-then-is_empty-clause-tiles g c = grind (arith, common_steps)

@@ -1,4 +1,5 @@
 use Rattle.std.proofs.Common.{◌∙◌, ◌++◌, List, drop, map, take, take-add, vec_items, sym, ap, subst, length, arith}
+use Rattle.std.proofs.lemmas.Grind.{common_steps}
 use Rattle.std.proofs.lemmas.List.{map-append, take_rest, length-drop}
 use Rattle.tl_hash.specs.Bytes.{Bytes}
 use Rattle.tl_tile.specs.Fetched.{texts_of}
@@ -23,3 +24,9 @@ loop-at-preserved g c =
       within = omega (arith, was.within, more.within, ap length rest, length-drop at entries);
       adds = subst (λ (added : List Bytes). Adds H added c.args.self.now c.append_some.new.self (texts_of c.args.tiles.now.items) (texts_of c.append_some.new.tiles.items)) same (adds-then H _ _ _ _ _ _ _ _ was.adds more.adds);
     }
+
+pub append_some-requires-clause-small : goal.append_some-requires-clause-small
+append_some-requires-clause-small g c = grind (arith, common_steps)
+
+pub returns : goal.returns
+returns g c = grind (arith, common_steps)

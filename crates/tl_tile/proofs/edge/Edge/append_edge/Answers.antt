@@ -1,4 +1,5 @@
 use Rattle.std.proofs.Common.{length, get_or, sym, ap, ◌∙◌, arith}
+use Rattle.std.proofs.lemmas.Grind.{common_steps}
 use Rattle.tl_tile.proofs.JoinedEdges.{next_roots, tile-joined, all-joined}
 use Rattle.tl_tile.proofs.edge.Edge.append_edge.Goals as goal
 
@@ -34,3 +35,9 @@ pub returns-clause-size : goal.returns-clause-size
 returns-clause-size g c =
     let roots = next_roots c.args.next.now _ c.deref-root-items.result.now c.deref-root-items.ensures.value c.next.view_is c.next.invariant.0 c.requires.next_whole c.requires.next_small in
     omega (arith, c.loop-root.invariant.size, c.loop-root-test.false, c.loop-root.auto.root-index-end, ap length roots.0, roots.1, ap (λ e. e.size) c.self.view_is)
+
+pub push_root-requires-clause-room : goal.push_root-requires-clause-room
+push_root-requires-clause-room g c = grind (arith, common_steps)
+
+pub push_root-requires-clause-whole : goal.push_root-requires-clause-whole
+push_root-requires-clause-whole g c = grind (arith, common_steps)

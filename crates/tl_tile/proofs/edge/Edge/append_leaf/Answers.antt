@@ -1,4 +1,5 @@
 use Rattle.std.proofs.Common.{◌++◌, ◌∷◌, [], List, length, take, vec_items, refl, ap, sym, ◌∙◌, arith}
+use Rattle.std.proofs.lemmas.Grind.{common_steps}
 use Rattle.std.proofs.lemmas.List.{map-append}
 use Rattle.tl_hash.specs.Bytes.{Bytes}
 use Rattle.tl_tile.specs.RightEdge.{IsEdgeOf}
@@ -31,3 +32,18 @@ returns g c entry leaf =
     ∙ c.in_ok-filled.ensures.kept entries (entry ∷ []) (after entries is))
     (λ entries is. c.in_ok-filled.ensures.tiles refl refl entries (entry ∷ []) (after entries is))
     (ap texts_of c.in_ok-append.ensures.items ∙ map-append (λ t. (t.0, vec_items t.1)) before filled.tiles.items)
+
+pub invariant_of-self : goal.invariant_of-self
+invariant_of-self g c = grind (arith, common_steps)
+
+pub invariant_of-self-2 : goal.invariant_of-self-2
+invariant_of-self-2 g c = grind (arith, common_steps)
+
+pub invariant_of-self-in_err-append : goal.invariant_of-self-in_err-append
+invariant_of-self-in_err-append g c = grind (arith, common_steps)
+
+pub keep-requires-clause-room : goal.keep-requires-clause-room
+keep-requires-clause-room g c = grind (arith, common_steps)
+
+pub keep-requires-clause-small : goal.keep-requires-clause-small
+keep-requires-clause-small g c = grind (arith, common_steps)

@@ -1,4 +1,5 @@
-use Rattle.std.proofs.Common.{◌∷◌, [], ◌∙◌, List, map, vec_items, sym, ap, subst}
+use Rattle.std.proofs.Common.{◌∷◌, [], ◌∙◌, List, map, vec_items, sym, ap, subst, arith}
+use Rattle.std.proofs.lemmas.Grind.{common_steps}
 use Rattle.tl_hash.specs.Bytes.{Bytes}
 use Rattle.tl_tile.specs.Fetched.{texts_of}
 use Rattle.tl_tile.specs.Inner.Adds.{Adds}
@@ -12,3 +13,9 @@ returns-in-len4-up-clause-adds g c =
     (λ (added : List Bytes). Adds g.T.TreeHash.digest_of added c.args.self.now c.append_four.new.self (texts_of c.args.tiles.now.items) (texts_of c.append_four.new.tiles.items))
     ((λ i. c.deref.ensures.value i ∷ c.deref-in-len4-up.ensures.value i ∷ c.deref-in-len4-up-2.ensures.value i ∷ c.deref-in-len4-up-3.ensures.value i ∷ [])
     ∙ ap (map vec_items) (sym front)) c.in_ok-append_four.ensures
+
+pub returns-clause-adds : goal.returns-clause-adds
+returns-clause-adds g c = grind (arith, common_steps)
+
+pub returns-clause-within : goal.returns-clause-within
+returns-clause-within g c = grind (arith, common_steps)

@@ -1,4 +1,5 @@
 use Rattle.std.proofs.Common.{◌∙◌, List, [], ap, subst, sym, arith}
+use Rattle.std.proofs.lemmas.Grind.{common_steps}
 use Rattle.std.proofs.lemmas.List.{get_or_default}
 use Rattle.tl_hash.specs.Bytes.{Bytes}
 use Rattle.tl_tile.specs.RightEdge.{IsEdgeOf}
@@ -17,3 +18,18 @@ returns-clause-entries g c entries is =
     let three = c.push_leaf-3.ensures.entry _ c.args.third.now (get_or_default leaves 2 c.index-leaves-2.result [] (omega arith) ∙ are.c) two in
     let four = c.push_leaf-4.ensures.entry _ c.args.fourth.now (get_or_default leaves 3 c.index-leaves-3.result [] (omega arith) ∙ are.d) three in
     subst (λ (all : List Bytes). IsEdgeOf c.push_leaf-4.new.self H all) (four-pushed entries c.args.first.now c.args.second.now c.args.third.now c.args.fourth.now) four
+
+pub push_leaf-requires-2-clause-size : goal.push_leaf-requires-2-clause-size
+push_leaf-requires-2-clause-size g c = grind (arith, common_steps)
+
+pub push_leaf-requires-3-clause-size : goal.push_leaf-requires-3-clause-size
+push_leaf-requires-3-clause-size g c = grind (arith, common_steps)
+
+pub push_leaf-requires-4-clause-size : goal.push_leaf-requires-4-clause-size
+push_leaf-requires-4-clause-size g c = grind (arith, common_steps)
+
+pub push_leaf-requires-clause-size : goal.push_leaf-requires-clause-size
+push_leaf-requires-clause-size g c = grind (arith, common_steps)
+
+pub returns-clause-size : goal.returns-clause-size
+returns-clause-size g c = grind (arith, common_steps)

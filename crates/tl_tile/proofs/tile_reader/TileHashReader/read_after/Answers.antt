@@ -1,4 +1,5 @@
-use Rattle.std.proofs.Common.{◌<◌, ◌≤◌, All, Any, length, refl, ap, subst, ◌∙◌, rules}
+use Rattle.std.proofs.Common.{◌<◌, ◌≤◌, All, Any, length, refl, ap, subst, ◌∙◌, rules, arith}
+use Rattle.std.proofs.lemmas.Grind.{common_steps}
 use Rattle.std.specs.Prelude.{IfErr, IfOk, OnOk}
 use Rattle.std.proofs.lemmas.Result.{on_ok_weaker}
 use Rattle.tl_store.specs.Reader.{readable_count, AreReadable}
@@ -96,3 +97,18 @@ pub returns-then-is_empty-clause-adds : goal.returns-then-is_empty-clause-adds
 returns-then-is_empty-clause-adds g c =
     let self = c.args.self.now in
     adds-none (g.S.TileSource.may_answer self.source) g.T.TreeHash.digest_of self.size self.root (IsNeededFor self.size c.args.indexes.now) c.args.fetched.now
+
+pub read_numbers-requires-clause-asked : goal.read_numbers-requires-clause-asked
+read_numbers-requires-clause-asked g c = grind (arith, common_steps)
+
+pub read_numbers-requires-clause-passed : goal.read_numbers-requires-clause-passed
+read_numbers-requires-clause-passed g c = grind (arith, common_steps)
+
+pub returns-then-is_empty-clause-authentic : goal.returns-then-is_empty-clause-authentic
+returns-then-is_empty-clause-authentic g c = grind (arith, common_steps)
+
+pub returns-then-is_empty-clause-in_range : goal.returns-then-is_empty-clause-in_range
+returns-then-is_empty-clause-in_range g c = grind (arith, common_steps)
+
+pub returns-then-is_empty-clause-verified : goal.returns-then-is_empty-clause-verified
+returns-then-is_empty-clause-verified g c = grind (arith, common_steps)

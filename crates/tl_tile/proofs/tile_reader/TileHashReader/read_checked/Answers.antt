@@ -1,4 +1,5 @@
-use Rattle.std.proofs.Common.{inl, refl, sym, subst}
+use Rattle.std.proofs.Common.{inl, refl, sym, subst, arith}
+use Rattle.std.proofs.lemmas.Grind.{common_steps}
 use Rattle.tl_tile.specs.Fetching.{IsNeededFor}
 use Rattle.tl_tile.specs.TileReader.{GivesFaultAfter}
 use Rattle.tl_tile.specs.Verified.{HavePassed}
@@ -44,3 +45,6 @@ returns-in-Err-clause-faults g c =
     let self = c.args.self.now in
     subst (λ before. GivesFaultAfter g.T.TreeHash.digest_of (g.S.TileSource.may_lack self.source) before (record { size = self.size; root = self.root; indexes = c.args.indexes.now; fetched = c.read_after.new.fetched }) c.in-Err.fault)
     c.clear.ensures c.in-Err.ensures.faults
+
+pub returns-in-Ok-clause-in_range : goal.returns-in-Ok-clause-in_range
+returns-in-Ok-clause-in_range g c = grind (arith, common_steps)

@@ -1,4 +1,5 @@
 use Rattle.std.proofs.Common.{sym, ◌∙◌, arith}
+use Rattle.std.proofs.lemmas.Grind.{common_steps}
 use Rattle.tl_tile.proofs.Paths.{path-later, path-end}
 use Rattle.tl_tile.proofs.tile_reader.fetched.path_len.Goals as goal
 
@@ -13,3 +14,6 @@ loop-fetched-preserved g c = record {
   rest = path-later c.args.index c.loop-fetched.count c.args.tiles.now c.loop-fetched.fetched-index c.fetched-item.result c.loop-fetched-test.true c.fetched-item.is
       (sym c.is_on_path.ensures ∙ c.if-not-is_on_path.false) c.loop-fetched.invariant.rest;
 }
+
+pub returns : goal.returns
+returns g c = grind (arith, common_steps)

@@ -1,4 +1,5 @@
-use Rattle.std.proofs.Common.{refl, inl, map, subst, sym, ap, ◌∙◌, string_bytes}
+use Rattle.std.proofs.Common.{refl, inl, map, subst, sym, ap, ◌∙◌, string_bytes, arith}
+use Rattle.std.proofs.lemmas.Grind.{common_steps}
 use Rattle.tl_witness.specs.ByOrigin.{Indexes, index_of}
 use Rattle.tl_witness.proofs.ByOriginLaws.{all_known, first_not_known}
 use Rattle.tl_witness.proofs.Moved.{shown_twice}
@@ -70,3 +71,15 @@ returns-clause-ok g c =
     (trusted_to _ _ _ _ c.args.trusts.items c.args.chains.items (λ t. refl) (λ d. refl) listed)
     (names_to _ _ c.args.trusts.items (λ t. refl) named)
     c.in-Ok.ensures.ok.1 c.in-Ok.ensures.ok.0 c.in-Ok-enter.ensures.kept
+
+pub returns-clause-err : goal.returns-clause-err
+returns-clause-err g c = grind (arith, common_steps)
+
+pub returns-in-Err-check_chains-clause-ok : goal.returns-in-Err-check_chains-clause-ok
+returns-in-Err-check_chains-clause-ok g c = grind (arith, common_steps)
+
+pub returns-in-Some-first_bad_name-clause-ok : goal.returns-in-Some-first_bad_name-clause-ok
+returns-in-Some-first_bad_name-clause-ok g c = grind (arith, common_steps)
+
+pub returns-in_default-enter-clause-ok : goal.returns-in_default-enter-clause-ok
+returns-in_default-enter-clause-ok g c = grind (arith, common_steps)

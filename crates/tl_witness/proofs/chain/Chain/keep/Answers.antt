@@ -1,4 +1,5 @@
 use Rattle.std.proofs.Common.{map, refl, arith, rules}
+use Rattle.std.proofs.lemmas.Grind.{common_steps}
 use Rattle.std.proofs.lemmas.List.{map-append}
 use Rattle.tl_proof.specs.Acceptance.{step_of}
 use Rattle.tl_witness.specs.Chain.{Follows, first_head, last_head}
@@ -23,3 +24,33 @@ push_reserved-requires g c =
 pub returns-clause-kept : goal.returns-clause-kept
 returns-clause-kept g c =
     (search rules, rw (c.push_reserved.ensures.items, c.reserve.ensures.items, map-append, c.self.view_is) refl)
+
+pub invariant_of-self-then-is_err-2 : goal.invariant_of-self-then-is_err-2
+invariant_of-self-then-is_err-2 g c = grind (arith, common_steps)
+
+pub returns-clause-err : goal.returns-clause-err
+returns-clause-err g c = grind (arith, common_steps)
+
+pub returns-clause-failed : goal.returns-clause-failed
+returns-clause-failed g c = grind (arith, common_steps)
+
+pub returns-clause-no_memory : goal.returns-clause-no_memory
+returns-clause-no_memory g c = grind (arith, common_steps)
+
+pub returns-then-is_err-2-clause-err : goal.returns-then-is_err-2-clause-err
+returns-then-is_err-2-clause-err g c = grind (arith, common_steps)
+
+pub returns-then-is_err-2-clause-failed : goal.returns-then-is_err-2-clause-failed
+returns-then-is_err-2-clause-failed g c = grind (arith, common_steps)
+
+pub returns-then-is_err-2-clause-kept : goal.returns-then-is_err-2-clause-kept
+returns-then-is_err-2-clause-kept g c = grind (arith, common_steps)
+
+pub returns-then-is_err-clause-err : goal.returns-then-is_err-clause-err
+returns-then-is_err-clause-err g c = grind (arith, common_steps)
+
+pub returns-then-is_err-clause-failed : goal.returns-then-is_err-clause-failed
+returns-then-is_err-clause-failed g c = grind (arith, common_steps)
+
+pub returns-then-is_err-clause-no_memory : goal.returns-then-is_err-clause-no_memory
+returns-then-is_err-clause-no_memory g c = grind (arith, common_steps)

@@ -1,4 +1,5 @@
 use Rattle.std.proofs.Common.{◌≡◌, ◌∙◌, refl, sym, rules, arith, inr}
+use Rattle.std.proofs.lemmas.Grind.{common_steps}
 use Rattle.std.proofs.lemmas.Result.{IfOk-weaker}
 use Rattle.tl_witness.proofs.origin_state.Origin.settle.Goals as goal
 
@@ -16,3 +17,24 @@ returns-clause-ok g c =
         ),
       ),
     )) c.attest.ensures.ok
+
+pub attest-requires-clause-follows : goal.attest-requires-clause-follows
+attest-requires-clause-follows g c = grind (arith, common_steps)
+
+pub attest-requires-clause-least : goal.attest-requires-clause-least
+attest-requires-clause-least g c = grind (arith, common_steps)
+
+pub returns-clause-err : goal.returns-clause-err
+returns-clause-err g c = grind (arith, common_steps)
+
+pub returns-then-link-old-clause-err : goal.returns-then-link-old-clause-err
+returns-then-link-old-clause-err g c = grind (arith, common_steps)
+
+pub returns-then-link-old-clause-ok : goal.returns-then-link-old-clause-ok
+returns-then-link-old-clause-ok g c = grind (arith, common_steps)
+
+pub returns-then-not-accepts-clause-err : goal.returns-then-not-accepts-clause-err
+returns-then-not-accepts-clause-err g c = grind (arith, common_steps)
+
+pub returns-then-old-size-clause-err : goal.returns-then-old-size-clause-err
+returns-then-old-size-clause-err g c = grind (arith, common_steps)

@@ -1,4 +1,5 @@
 use Rattle.std.proofs.Common.{[], ◌∷◌, length, refl, arith, ap}
+use Rattle.std.proofs.lemmas.Grind.{common_steps}
 use Rattle.std.proofs.lemmas.List.{length-append}
 use Rattle.tl_witness.proofs.Moved.{moved, moved_all}
 use Rattle.tl_witness.proofs.SharedLaws.{later_all, later_push}
@@ -34,3 +35,12 @@ pub returns-clause-ok : goal.returns-clause-ok
 returns-clause-ok g c =
     let whole = moved_all _ _ c.loop-guarded.yielded c.loop-guarded.guarded-iterator.rest.items _ (omega (arith, c.in-None.ensures.steps.0, c.loop-guarded.invariant.4)) c.loop-guarded.invariant.2 in
     later_all g.T.TreeHash.digest_of _ _ _ whole c.loop-guarded.invariant.5
+
+pub loop-guarded-init-derived : goal.loop-guarded-init-derived
+loop-guarded-init-derived g c = grind (arith, common_steps)
+
+pub loop-guarded-preserved-derived : goal.loop-guarded-preserved-derived
+loop-guarded-preserved-derived g c = grind (arith, common_steps)
+
+pub returns-clause-err : goal.returns-clause-err
+returns-clause-err g c = grind (arith, common_steps)

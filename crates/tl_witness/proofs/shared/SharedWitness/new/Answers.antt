@@ -1,4 +1,5 @@
 use Rattle.std.proofs.Common.{[], ◌∷◌, length, refl, arith, ap}
+use Rattle.std.proofs.lemmas.Grind.{common_steps}
 use Rattle.std.proofs.lemmas.List.{length-append}
 use Rattle.tl_witness.proofs.Moved.{moved, moved_all}
 use Rattle.tl_witness.proofs.shared.SharedWitness.new.Goals as goal
@@ -31,3 +32,12 @@ loop-state-preserved g c =
 pub returns-clause-ok : goal.returns-clause-ok
 returns-clause-ok g c =
     moved_all _ _ c.loop-state.states.items c.loop-state.state-iterator.rest.items _ (omega (arith, c.in-None.ensures.steps.0, c.loop-state.invariant.4)) c.loop-state.invariant.2
+
+pub loop-state-init-derived : goal.loop-state-init-derived
+loop-state-init-derived g c = grind (arith, common_steps)
+
+pub loop-state-preserved-derived : goal.loop-state-preserved-derived
+loop-state-preserved-derived g c = grind (arith, common_steps)
+
+pub returns-clause-err : goal.returns-clause-err
+returns-clause-err g c = grind (arith, common_steps)

@@ -1,4 +1,5 @@
 use Rattle.std.proofs.Common.{◌≡◌, ℕ, List, subst, sym, arith, ◌∙◌, ap, length}
+use Rattle.std.proofs.lemmas.Grind.{common_steps}
 use Rattle.tl_tile.specs.declared.resource.Tile.{Tile}
 use Rattle.tl_tile.specs.Fetched.{tiles_of}
 use Rattle.tl_tile.specs.TileText.{full_tile}
@@ -68,3 +69,9 @@ returns-in_err-fetch_tile-clause-faults g c =
     rw (p.1, p.2)
     (fault-weaker g.T.TreeHash.digest_of (λ t. g.S.TileSource.may_lack c.args.self.now.source t × (t ≡ c.full_tile-tile.result)) (λ t. g.S.TileSource.may_lack c.args.self.now.source t × (t ≡ full_tile c.args.level c.args.index))
     c.args.self.now.size c.args.self.now.root c.fetch_tile.new.fetched c.in_err-fetch_tile.field-0.0 (λ t few. (few.0, few.1 ∙ c.full_tile-tile.ensures)) c.in_err-fetch_tile.ensures.faults)
+
+pub returns-clause-faults : goal.returns-clause-faults
+returns-clause-faults g c = grind (arith, common_steps)
+
+pub returns-then-not-same-clause-adds : goal.returns-then-not-same-clause-adds
+returns-then-not-same-clause-adds g c = grind (arith, common_steps)

@@ -1,4 +1,5 @@
-use Rattle.std.proofs.Common.{◌≡◌, inr, subst, sym, ◌∙◌}
+use Rattle.std.proofs.Common.{◌≡◌, inr, subst, sym, ◌∙◌, arith}
+use Rattle.std.proofs.lemmas.Grind.{common_steps}
 use Rattle.tl_tile.specs.SourceFaults.{GivesReadFault}
 use Rattle.tl_tile.proofs.Orders.{bad-length}
 use Rattle.tl_tile.proofs.tile_reader.checker.Checker.fetch_tile.Goals as goal
@@ -19,3 +20,6 @@ pub returns-clause-adds : goal.returns-clause-adds
 returns-clause-adds g c =
     let read = c.in-Ok.ensures.text in
     inr (read.0, read.1, (c.requires.of, read.2), c.requires.next)
+
+pub returns-clause-text : goal.returns-clause-text
+returns-clause-text g c = grind (arith, common_steps)

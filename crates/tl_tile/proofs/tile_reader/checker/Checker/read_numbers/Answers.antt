@@ -1,4 +1,5 @@
 use Rattle.std.proofs.Common.{◌*◌, ◌/◌, ◌%◌, ◌^◌, length, ap, arith}
+use Rattle.std.proofs.lemmas.Grind.{common_steps}
 use Rattle.std.proofs.lemmas.List.{length_push}
 use Rattle.tl_tile.proofs.Orders.{needed-partial, needed-more, over-needed, fault-weaker, found-later}
 use Rattle.tl_tile.specs.Fetched.{tiles_of}
@@ -59,3 +60,18 @@ returns-in_err-hash-clause-faults g c =
     (λ t. g.S.TileSource.may_lack c.args.self.now.source t × IsNeededFor c.args.self.now.size c.args.indexes.now t)
     c.args.self.now.size c.args.self.now.root c.read_subtree.new.fetched c.in_err-hash.field-0.0
     (λ t few. (few.0, over-needed c.args.self.now.size c.loop-index.index-index c.args.indexes.now subtree t c.loop-index-test.true c.subtree_of-subtree.ensures.number few.1)) c.in_err-hash.ensures.faults)
+
+pub returns-clause-adds : goal.returns-clause-adds
+returns-clause-adds g c = grind (arith, common_steps)
+
+pub returns-clause-count : goal.returns-clause-count
+returns-clause-count g c = grind (arith, common_steps)
+
+pub returns-clause-faults : goal.returns-clause-faults
+returns-clause-faults g c = grind (arith, common_steps)
+
+pub returns-clause-verified : goal.returns-clause-verified
+returns-clause-verified g c = grind (arith, common_steps)
+
+pub subtree_of-subtree-requires-clause-index : goal.subtree_of-subtree-requires-clause-index
+subtree_of-subtree-requires-clause-index g c = grind (arith, common_steps)

@@ -1,0 +1,9 @@
+use Rattle.std.proofs.Common.{arith}
+use Rattle.std.proofs.lemmas.Grind.{common_steps}
+use Rattle.tl_key.proofs.demonstration.demo_key.Goals as goal
+
+pub invariant_of-result : goal.invariant_of-result
+invariant_of-result g c = grind (arith, common_steps)
+
+pub returns-clause-key : goal.returns-clause-key
+returns-clause-key g c = grind (arith, common_steps)

@@ -1,0 +1,9 @@
+use Rattle.std.proofs.Common.{arith}
+use Rattle.std.proofs.lemmas.Grind.{common_steps}
+use Rattle.tl_tile.proofs.path.push_piece.Goals as goal
+
+pub returns : goal.returns
+returns g c = grind (arith, common_steps)
+
+pub returns-then-width-eq256 : goal.returns-then-width-eq256
+returns-then-width-eq256 g c = grind (arith, common_steps)
