@@ -5,12 +5,11 @@ ghost use Rattle.tl_folder.specs.FileCalls.{Does};
 ghost use Rattle.tl_folder.specs.Settling.{syncing, placing, naming, settling, WritesAside};
 ghost use Rattle.tl_folder.specs.Inner.Staged.{move_of};
 
+use crate::file_calls::FileCalls;
 use crate::look::check_plain;
 use crate::making::make_folders;
-use crate::system::SystemCalls;
-use crate::together::SyncsTogether;
+use crate::together::{ManyCalls, SyncsTogether};
 use std::alloc::Global;
-use std::fs::Files;
 use std::path::Path;
 use tl_device::DeviceFault;
 
@@ -22,12 +21,9 @@ pub(crate) struct Staged {
 }
 
 /// Has what each of the files has outlast a crash, one after another.
-pub(crate) fn sync_staged<H: Files>(
-    calls: &mut SystemCalls<H>,
-    staged: &[Staged],
-) -> Result<(), DeviceFault>
+pub(crate) fn sync_staged<C: FileCalls>(calls: &mut C, staged: &[Staged]) -> Result<(), DeviceFault>
     ensures { Does (map (λ file. syncing (move_of file)) staged.now)
-        calls.old calls.new result }
+        (C.calls calls.old) (C.calls calls.new) result }
 {
     for file in staged {
         calls.sync(file.beside.as_str())?;
@@ -36,9 +32,9 @@ pub(crate) fn sync_staged<H: Files>(
 }
 
 // Puts each of the files in its place.
-fn place_staged<H: Files>(calls: &mut SystemCalls<H>, staged: &[Staged]) -> Result<(), DeviceFault>
+fn place_staged<C: FileCalls>(calls: &mut C, staged: &[Staged]) -> Result<(), DeviceFault>
     ensures { Does (map (λ file. placing (move_of file)) staged.now)
-        calls.old calls.new result }
+        (C.calls calls.old) (C.calls calls.new) result }
 {
     for file in staged {
         calls.rename(file.beside.as_str(), file.place.as_str())?;
@@ -47,12 +43,12 @@ fn place_staged<H: Files>(calls: &mut SystemCalls<H>, staged: &[Staged]) -> Resu
 }
 
 /// Has the names in each of the folders outlast a crash, one after another.
-pub(crate) fn sync_folders<H: Files>(
-    calls: &mut SystemCalls<H>,
+pub(crate) fn sync_folders<C: FileCalls>(
+    calls: &mut C,
     folders: &[String],
 ) -> Result<(), DeviceFault>
     ensures { Does (map (λ folder. naming (string_bytes folder)) folders.now)
-        calls.old calls.new result }
+        (C.calls calls.old) (C.calls calls.new) result }
 {
     for folder in folders {
         calls.sync_folder(folder.as_str())?;
@@ -61,15 +57,15 @@ pub(crate) fn sync_folders<H: Files>(
 }
 
 /// Has the files outlast a crash, puts them in their places, and has the names in the folders outlast a crash.
-pub(crate) fn put_staged<H: Files, D: SyncsTogether>(
-    calls: &mut SystemCalls<H>,
+pub(crate) fn put_staged<C: ManyCalls, D: SyncsTogether>(
+    calls: &mut C,
     disk: &D,
     alloc: Global,
     staged: &[Staged],
     folders: &[String],
 ) -> Result<(), DeviceFault>
     ensures { Does (settling (map move_of staged.now) (map string_bytes folders.now))
-        calls.old calls.new result }
+        (C.calls calls.old) (C.calls calls.new) result }
 {
     calls.sync_files(disk, alloc, staged)?;
     place_staged(calls, staged)?;
@@ -77,12 +73,12 @@ pub(crate) fn put_staged<H: Files, D: SyncsTogether>(
 }
 
 /// Writes a new file, and makes the folders above it where they aren't there. Their names may be lost in a crash.
-pub(crate) fn write_in_folder<H: Files>(
-    calls: &mut SystemCalls<H>,
+pub(crate) fn write_in_folder<C: FileCalls>(
+    calls: &mut C,
     path: &str,
     bytes: &[u8],
 ) -> Result<(), DeviceFault>
-    ensures { WritesAside path.now bytes.now calls.old calls.new result }
+    ensures { WritesAside path.now bytes.now (C.calls calls.old) (C.calls calls.new) result }
 {
     check_plain(calls.symlink_metadata(path))?;
     match calls.write(path, bytes) {
