@@ -5,7 +5,6 @@ ghost use Rattle.tl_tile.specs.Path.{IsTile};
 ghost use Rattle.tl_folder.specs.Caches.{HavePassed};
 
 use crate::adding::add_file;
-use crate::file_calls::FileCalls;
 use crate::look::{is_folder_or_free, is_free};
 use crate::place::{beside, has_path, path_under};
 use crate::system::SystemCalls;
@@ -32,7 +31,7 @@ impl<'s, H: Files> Model for TileCache<'s, H> {
 }
 
 // Whether no link leads out of the cache's folder on the way to a place under it. (The folder itself may be a link.)
-fn stays_under<C: FileCalls>(calls: &C, folder: &str, place: &str) -> bool {
+fn stays_under<H: Files>(calls: &SystemCalls<H>, folder: &str, place: &str) -> bool {
     let Some(first) = Path::new(place).parent() else {
         return true;
     };
@@ -49,7 +48,7 @@ fn stays_under<C: FileCalls>(calls: &C, folder: &str, place: &str) -> bool {
 
 // Whether a file can be put at this place: nothing is there, also no link to nowhere, and no link is on the way. The
 // look and the writing are two calls: who may write into the folder can come between them.
-fn has_room<C: FileCalls>(calls: &C, folder: &str, place: &str) -> bool {
+fn has_room<H: Files>(calls: &SystemCalls<H>, folder: &str, place: &str) -> bool {
     is_free(calls.symlink_metadata(place)) && stays_under(calls, folder, place)
 }
 

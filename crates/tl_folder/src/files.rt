@@ -9,7 +9,6 @@ ghost use Rattle.tl_folder.specs.Places.{mark_path, mark_text, partials_path, pl
 ghost use Rattle.tl_folder.specs.Removing.{HasMoved, HasNotMoved};
 ghost use Rattle.tl_folder.specs.Inner.Staged.{move_of};
 
-use crate::file_calls::FileCalls;
 use crate::file_id::FileId;
 use crate::folders::{folder_of, note_folders};
 use crate::making::make_folders;
@@ -19,16 +18,18 @@ use crate::place::{beside, path_under};
 use crate::removing::{Going, remove_moved};
 use crate::resource::read_at;
 use crate::staged::{Staged, put_staged, write_in_folder};
-use crate::together::{ManyCalls, SyncsTogether};
+use crate::system::SystemCalls;
+use crate::together::SyncsTogether;
 use std::alloc::{AllocError, Allocator, Global};
+use std::fs::Files;
 use std::mem;
 use tl_device::DeviceFault;
 use tl_tile::Resource;
 
 /// The files under a folder.
 #[derive(Drop)]
-pub(crate) struct FolderFiles<C> {
-    pub(crate) calls: C,
+pub(crate) struct FolderFiles<H> {
+    pub(crate) calls: SystemCalls<H>,
     alloc: Global,
     root: String,
     // Which folder was at its path when it was opened.
@@ -44,9 +45,12 @@ pub(crate) struct FolderFiles<C> {
 }
 
 /// Has the name of a file or folder at this path outlast a crash.
-pub(crate) fn sync_parent<C: FileCalls>(calls: &mut C, path: &str) -> Result<(), DeviceFault>
+pub(crate) fn sync_parent<H: Files>(
+    calls: &mut SystemCalls<H>,
+    path: &str,
+) -> Result<(), DeviceFault>
     ensures { Does (naming_in (folder_of path.now))
-        (C.calls calls.old) (C.calls calls.new) result }
+        calls.old calls.new result }
 {
     match folder_of(path) {
         Some(folder) => calls.sync_folder(folder),
@@ -54,16 +58,16 @@ pub(crate) fn sync_parent<C: FileCalls>(calls: &mut C, path: &str) -> Result<(),
     }
 }
 
-impl<C: FileCalls + Drop> FolderFiles<C> {
+impl<H: Files + Drop> FolderFiles<H> {
     /// The files under this folder, which is made where it isn't there. The names in it outlast a crash: a process that
     /// was killed may have put a file there, and not synced that.
     pub(crate) fn open(
-        mut calls: C,
+        mut calls: SystemCalls<H>,
         alloc: Global,
         root: &str,
-    ) -> Result<FolderFiles<C>, DeviceFault>
+    ) -> Result<FolderFiles<H>, DeviceFault>
         ensures calls { IfOk result
-            (λ files. OpensFolder root.now (C.calls calls) (C.calls files.calls)) }
+            (λ files. OpensFolder root.now calls files.calls) }
         ensures unstaged { IfOk result (λ files. vec_items files.staged ≡ []) }
     {
         make_folders(&mut calls, root, true)?;
@@ -114,7 +118,7 @@ impl<C: FileCalls + Drop> FolderFiles<C> {
     pub(crate) fn stage(&mut self, resource: &Resource, bytes: &[u8]) -> Result<(), DeviceFault>
         requires { IsResource resource.now }
         ensures calls { WritesAside (new_path (place_of (string_bytes self.old.root) resource.now)) bytes.now
-            (C.calls self.old.calls) (C.calls self.new.calls) result }
+            self.old.calls self.new.calls result }
         ensures staged { OnOk result (map move_of (vec_items self.new.staged)
             ≡ map move_of (vec_items self.old.staged)
             ++ move_to (place_of (string_bytes self.old.root) resource.now) ∷ []) }
@@ -165,11 +169,11 @@ impl<C: FileCalls + Drop> FolderFiles<C> {
     /// though not what it had in it, at another path. After a failure every call fails.
     pub(crate) fn remove(&mut self, going: &Going) -> Result<(), DeviceFault>
         ensures moved { OnOk result (HasMoved (string_bytes going.now.partials)
-            (string_bytes going.now.removed) (C.calls self.old.calls) (C.calls self.new.calls)
+            (string_bytes going.now.removed) self.old.calls self.new.calls
             ⊎ HasNotMoved (string_bytes going.now.partials) (string_bytes going.now.removed)
-            (C.calls self.old.calls) (C.calls self.new.calls)) }
+            self.old.calls self.new.calls) }
         ensures failed { OnErr result (HasNotMoved (string_bytes going.now.partials)
-            (string_bytes going.now.removed) (C.calls self.old.calls) (C.calls self.new.calls)) }
+            (string_bytes going.now.removed) self.old.calls self.new.calls) }
         ensures staged { map move_of (vec_items self.new.staged)
             ≡ map move_of (vec_items self.old.staged) }
         ensures root { string_bytes self.new.root ≡ string_bytes self.old.root }
@@ -203,7 +207,7 @@ impl<C: FileCalls + Drop> FolderFiles<C> {
     /// was written.
     pub(crate) fn mark(&mut self, size: u64) -> Result<(), DeviceFault>
         ensures calls { Takes (marking (string_bytes self.old.root) (mark_text size))
-            (C.calls self.old.calls) (C.calls self.new.calls) result }
+            self.old.calls self.new.calls result }
         ensures staged { map move_of (vec_items self.new.staged)
             ≡ map move_of (vec_items self.old.staged) }
         ensures root { string_bytes self.new.root ≡ string_bytes self.old.root }
@@ -231,14 +235,14 @@ impl<C: FileCalls + Drop> FolderFiles<C> {
     }
 }
 
-impl<C: ManyCalls + Drop> FolderFiles<C> {
+impl<H: Files + Drop> FolderFiles<H> {
     /// Puts all files that were written beside their places there. It waits for the disk: what it wrote outlasts a
     /// crash. `Moved`: another folder is at its path than the one that was opened, and nothing was put there. After a
     /// failure every call fails.
     pub(crate) fn settle<D: SyncsTogether>(&mut self, disk: &D) -> Result<(), DeviceFault>
         ensures calls { Takes (settling (map move_of (vec_items self.old.staged))
             (map string_bytes (vec_items self.old.changed)))
-            (C.calls self.old.calls) (C.calls self.new.calls) result }
+            self.old.calls self.new.calls result }
         ensures covered { AreCovered (string_bytes self.old.root)
             (map string_bytes (vec_items self.old.changed)) (map move_of (vec_items self.old.staged)) }
         ensures root { string_bytes self.new.root ≡ string_bytes self.old.root }

@@ -8,7 +8,6 @@ mod cache;
 mod call_log;
 mod call_outcome;
 mod disk;
-mod file_calls;
 mod file_id;
 mod files;
 mod folders;

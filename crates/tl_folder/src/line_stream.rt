@@ -5,7 +5,6 @@ ghost use Rattle.tl_device.specs.Device.{passage};
 ghost use Rattle.tl_folder.specs.FileCalls.{done};
 ghost use Rattle.tl_folder.specs.Lines.{CutsLines, MeasuresLines, opening};
 
-use crate::file_calls::FileCalls;
 use crate::files::sync_parent;
 use crate::lines::{DurableAppend, whole_front};
 use crate::lock::LockedFile;
@@ -55,14 +54,14 @@ pub struct LineStream<'f, H: Files> {
 
 // Cuts off a last line without a newline from the file that is locked, whose bytes the reader gives, and has the rest and
 // the name outlast a crash. It tells how many bytes are left.
-fn cut_lines<C: FileCalls<File = OpenedFile<File>>, R: Read>(
-    calls: &mut C,
+fn cut_lines<H: Files<File = File>, R: Read>(
+    calls: &mut SystemCalls<H>,
     path: &str,
     locked: &LockedFile,
     reader: &mut Counted<R>,
 ) -> Result<u64, DeviceFault>
     ensures { CutsLines path.now (passage R.remaining reader.old reader.new)
-        (C.calls calls.old) (C.calls calls.new) result }
+        calls.old calls.new result }
 {
     let length = whole_length(reader)?;
     calls.cut(&locked.file, path, length)?;

@@ -5,7 +5,6 @@ ghost use Rattle.tl_folder.specs.FileCalls.{Takes};
 ghost use Rattle.tl_folder.specs.Lines.{IsWholeFront, AppendsSome};
 ghost use Rattle.tl_folder.specs.Settling.{new_path, replacing};
 
-use crate::file_calls::FileCalls;
 use crate::lock::LockedFile;
 use crate::place::beside;
 use crate::record::note_bytes;
@@ -37,7 +36,7 @@ impl<'f, H: Files> Model for DurableAppend<'f, H> {
 
     ghost Value = { seen.Appended };
 
-    ghost view = { λ s. record { path = s.path.now; written = noted s.written; calls = s.calls.log; fault = s.fault } };
+    ghost view = { λ s. record { path = s.path.now; written = noted s.written; calls = s.calls; fault = s.fault } };
 }
 
 impl<'f, H: Files> DurableAppend<'f, H> {
@@ -46,7 +45,7 @@ impl<'f, H: Files> DurableAppend<'f, H> {
         ensures { result ≡ record {
           path = path.now;
           written = [];
-          calls = calls.entry.log;
+          calls = calls.entry;
           fault = None;
         } }
     {
@@ -83,14 +82,14 @@ impl<'f, H: Files> DurableAppend<'f, H> {
 }
 
 // Appends some of the bytes to the file that is at this path, and has them outlast a crash.
-fn append_some<C: FileCalls<File = OpenedFile<File>>>(
-    calls: &mut C,
+fn append_some<H: Files<File = File>>(
+    calls: &mut SystemCalls<H>,
     path: &str,
     locked: &mut LockedFile,
     bytes: &[u8],
 ) -> Result<usize, DeviceFault>
     ensures count { IfOk result (λ n. n ≤ length bytes.now) }
-    ensures calls { AppendsSome path.now bytes.now (C.calls calls.old) (C.calls calls.new) result }
+    ensures calls { AppendsSome path.now bytes.now calls.old calls.new result }
 {
     locked.check_at(calls.symlink_metadata(path))?;
     let count = calls.append(&mut locked.file, path, bytes)?;

@@ -8,7 +8,6 @@ ghost use Rattle.tl_folder.specs.Step as step;
 ghost use Rattle.tl_folder.specs.FileCalls.{Begun};
 ghost use Rattle.tl_folder.specs.Inner.Making.{MakesFolders};
 
-use crate::file_calls::FileCalls;
 use crate::file_id::FileId;
 use crate::look::check_plain;
 use crate::making::make_folders;
@@ -30,12 +29,12 @@ pub(crate) struct LockedFile {
 impl LockedFile {
     /// Opens the file at this path in this way, and locks it. `Busy`: another process has it. `NotPlain`: something
     /// else than a plain file is there, as a link.
-    pub(crate) fn open<C: FileCalls<File = OpenedFile<File>>>(
-        calls: &mut C,
+    pub(crate) fn open<H: Files<File = File>>(
+        calls: &mut SystemCalls<H>,
         how: &OpenOptions,
         path: &str,
     ) -> Result<LockedFile, DeviceFault>
-        ensures { Begun (step.Create path.now ∷ []) (C.calls calls.old) (C.calls calls.new) result }
+        ensures { Begun (step.Create path.now ∷ []) calls.old calls.new result }
     {
         check_plain(calls.symlink_metadata(path))?;
         let file = calls.create(how, path)?;
@@ -87,13 +86,13 @@ impl FolderLock {
 }
 
 // Locks the folder at this path, which is made where it isn't there.
-fn lock_by<C: FileCalls<File = OpenedFile<File>>>(
-    calls: &mut C,
+fn lock_by<H: Files<File = File>>(
+    calls: &mut SystemCalls<H>,
     path: &str,
 ) -> Result<FolderLock, DeviceFault>
     ensures place { IfOk result (λ lock. lock.place ≡ path.now) }
     ensures calls { MakesFolders true path.now
-        (C.calls calls.old) (C.calls calls.new) result }
+        calls.old calls.new result }
 {
     make_folders(calls, path, true)?;
     let folder = calls.open_folder(path)?;

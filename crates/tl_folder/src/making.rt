@@ -4,19 +4,20 @@ ghost use Rattle.tl_folder.specs.FileCalls.{Does};
 ghost use Rattle.tl_folder.specs.Settling.{naming_if};
 ghost use Rattle.tl_folder.specs.Inner.Making.{AsksOne, MakesFolders};
 
-use crate::file_calls::FileCalls;
 use crate::files::sync_parent;
 use crate::look::is_folder;
+use crate::system::SystemCalls;
+use std::fs::Files;
 use std::path::Path;
 use tl_device::DeviceFault;
 
 /// Has the name of a file or folder at this path outlast a crash, where names are to.
-pub(crate) fn name_if<C: FileCalls>(
-    calls: &mut C,
+pub(crate) fn name_if<H: Files>(
+    calls: &mut SystemCalls<H>,
     path: &str,
     are_named: bool,
 ) -> Result<(), DeviceFault>
-    ensures { Does (naming_if are_named path.now) (C.calls calls.old) (C.calls calls.new) result }
+    ensures { Does (naming_if are_named path.now) calls.old calls.new result }
 {
     if are_named {
         sync_parent(calls, path)
@@ -26,8 +27,12 @@ pub(crate) fn name_if<C: FileCalls>(
 }
 
 // Makes the folder at this path where none is there. Whether one is there then: none is where that above it isn't.
-fn ask_for<C: FileCalls>(calls: &mut C, path: &str, are_named: bool) -> Result<bool, DeviceFault>
-    ensures { AsksOne are_named path.now (C.calls calls.old) (C.calls calls.new) result }
+fn ask_for<H: Files>(
+    calls: &mut SystemCalls<H>,
+    path: &str,
+    are_named: bool,
+) -> Result<bool, DeviceFault>
+    ensures { AsksOne are_named path.now calls.old calls.new result }
 {
     match calls.make_folder(path) {
         Ok(()) => {
@@ -47,12 +52,12 @@ fn ask_for<C: FileCalls>(calls: &mut C, path: &str, are_named: bool) -> Result<b
 /// Makes the folder at this path, and those above it, where they aren't there. Where `are_named`, the name of each that
 /// was made is synced in the folder above it, before anything else is asked.
 #[tactic(auto, using(crate::proofs::Above::fewer_above))]
-pub(crate) fn make_folders<C: FileCalls>(
-    calls: &mut C,
+pub(crate) fn make_folders<H: Files>(
+    calls: &mut SystemCalls<H>,
     path: &str,
     are_named: bool,
 ) -> Result<(), DeviceFault>
-    ensures { MakesFolders are_named path.now (C.calls calls.old) (C.calls calls.new) result }
+    ensures { MakesFolders are_named path.now calls.old calls.new result }
 {
     if ask_for(calls, path, are_named)? {
         return Ok(());

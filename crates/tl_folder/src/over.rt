@@ -3,14 +3,19 @@
 ghost use Rattle.tl_folder.specs.FileCalls.{Does, Takes};
 ghost use Rattle.tl_folder.specs.Inner.Over.{putting, syncing_if};
 
-use crate::file_calls::FileCalls;
 use crate::look::check_plain;
 use crate::making::name_if;
+use crate::system::SystemCalls;
+use std::fs::Files;
 use tl_device::DeviceFault;
 
 // Has what a file has outlast a crash, where it is to.
-fn sync_if<C: FileCalls>(calls: &mut C, path: &str, is_lasting: bool) -> Result<(), DeviceFault>
-    ensures { Does (syncing_if is_lasting path.now) (C.calls calls.old) (C.calls calls.new) result }
+fn sync_if<H: Files>(
+    calls: &mut SystemCalls<H>,
+    path: &str,
+    is_lasting: bool,
+) -> Result<(), DeviceFault>
+    ensures { Does (syncing_if is_lasting path.now) calls.old calls.new result }
 {
     if is_lasting { calls.sync(path) } else { Ok(()) }
 }
@@ -18,15 +23,15 @@ fn sync_if<C: FileCalls>(calls: &mut C, path: &str, is_lasting: bool) -> Result<
 /// Writes bytes beside the place of a file and then puts them there. Where they are to last, it puts them there once
 /// they outlast a crash, and then has the name outlast one. `NotPlain`: beside it is something else than a plain file,
 /// as a link, and nothing was written.
-pub(crate) fn put_over<C: FileCalls>(
-    calls: &mut C,
+pub(crate) fn put_over<H: Files>(
+    calls: &mut SystemCalls<H>,
     aside: &str,
     place: &str,
     bytes: &[u8],
     is_lasting: bool,
 ) -> Result<(), DeviceFault>
     ensures { Takes (putting is_lasting aside.now place.now bytes.now)
-        (C.calls calls.old) (C.calls calls.new) result }
+        calls.old calls.new result }
 {
     check_plain(calls.symlink_metadata(aside))?;
     calls.write(aside, bytes)?;

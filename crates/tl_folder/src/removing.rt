@@ -3,8 +3,9 @@
 ghost use Rattle.std.specs.Prelude.{◌≡◌, ◌⊎◌, ◌↔◌, true, false, IfErr, IsOk, OnOk, OnErr};
 ghost use Rattle.tl_folder.specs.Removing.{HasMoved, HasNotMoved};
 
-use crate::file_calls::FileCalls;
+use crate::system::SystemCalls;
 use std::alloc::Global;
+use std::fs::Files;
 use tl_device::DeviceFault;
 
 /// The folder of the partial ones of a full tile or bundle, and where it is moved before it is removed.
@@ -29,16 +30,16 @@ fn was_there(outcome: Result<(), DeviceFault>) -> Result<bool, DeviceFault>
 
 /// Moves a folder to the second path, if it is there, and removes it there, which a crash may undo, or a failure leave
 /// undone. So a folder that is at the second path is removed first; where that fails, the move does.
-pub(crate) fn remove_moved<C: FileCalls>(
-    calls: &mut C,
+pub(crate) fn remove_moved<H: Files>(
+    calls: &mut SystemCalls<H>,
     alloc: Global,
     from: &str,
     to: &str,
 ) -> Result<(), DeviceFault>
-    ensures moved { OnOk result (HasMoved from.now to.now (C.calls calls.old) (C.calls calls.new)
-        ⊎ HasNotMoved from.now to.now (C.calls calls.old) (C.calls calls.new)) }
+    ensures moved { OnOk result (HasMoved from.now to.now calls.old calls.new
+        ⊎ HasNotMoved from.now to.now calls.old calls.new) }
     ensures failed { OnErr result
-        (HasNotMoved from.now to.now (C.calls calls.old) (C.calls calls.new)) }
+        (HasNotMoved from.now to.now calls.old calls.new) }
 {
     let _ = calls.remove_folder(alloc, to);
     if was_there(calls.move_away(from, to))? {

@@ -4,7 +4,6 @@ ghost use Rattle.std.specs.Prelude.{◌≤◌, IfOk, IfSome, length};
 ghost use Rattle.tl_tile.specs.Path.{IsResource};
 ghost use Rattle.tl_folder.specs.Limits.{most_bytes};
 
-use crate::file_calls::FileCalls;
 use crate::limit::most_bytes;
 use crate::place::path_under;
 use crate::system::SystemCalls;
@@ -15,8 +14,8 @@ use tl_tile::Resource;
 
 /// The bytes of the plain file of a resource at this place, at most `most_bytes`; `None` where nothing is there. A link
 /// is followed, or it counts as no plain file.
-pub(crate) fn read_at<C: FileCalls, A: Allocator>(
-    calls: &C,
+pub(crate) fn read_at<H: Files, A: Allocator>(
+    calls: &SystemCalls<H>,
     alloc: A,
     place: &str,
     resource: &Resource,

@@ -25,7 +25,7 @@ use tl_tile::Resource;
 #[derive(Drop)]
 pub struct FolderShelf<D, H> {
     disk: D,
-    files: FolderFiles<SystemCalls<H>>,
+    files: FolderFiles<H>,
     calls: Record,
     failures: u64,
     place: Log<(), u8>,
@@ -46,7 +46,7 @@ impl<D, H> Model for FolderShelf<D, H> {
       failures = s.failures;
       root = string_bytes s.files.root;
       moves = map move_of (vec_items s.files.staged);
-      made = s.files.calls.log;
+      made = s.files.calls;
       place = noted s.place;
       published = s.published;
     } };

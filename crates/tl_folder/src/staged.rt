@@ -5,11 +5,12 @@ ghost use Rattle.tl_folder.specs.FileCalls.{Does};
 ghost use Rattle.tl_folder.specs.Settling.{syncing, placing, naming, settling, WritesAside};
 ghost use Rattle.tl_folder.specs.Inner.Staged.{move_of};
 
-use crate::file_calls::FileCalls;
 use crate::look::check_plain;
 use crate::making::make_folders;
-use crate::together::{ManyCalls, SyncsTogether};
+use crate::system::SystemCalls;
+use crate::together::SyncsTogether;
 use std::alloc::Global;
+use std::fs::Files;
 use std::path::Path;
 use tl_device::DeviceFault;
 
@@ -21,9 +22,12 @@ pub(crate) struct Staged {
 }
 
 /// Has what each of the files has outlast a crash, one after another.
-pub(crate) fn sync_staged<C: FileCalls>(calls: &mut C, staged: &[Staged]) -> Result<(), DeviceFault>
+pub(crate) fn sync_staged<H: Files>(
+    calls: &mut SystemCalls<H>,
+    staged: &[Staged],
+) -> Result<(), DeviceFault>
     ensures { Does (map (λ file. syncing (move_of file)) staged.now)
-        (C.calls calls.old) (C.calls calls.new) result }
+        calls.old calls.new result }
 {
     for file in staged {
         calls.sync(file.beside.as_str())?;
@@ -32,9 +36,9 @@ pub(crate) fn sync_staged<C: FileCalls>(calls: &mut C, staged: &[Staged]) -> Res
 }
 
 // Puts each of the files in its place.
-fn place_staged<C: FileCalls>(calls: &mut C, staged: &[Staged]) -> Result<(), DeviceFault>
+fn place_staged<H: Files>(calls: &mut SystemCalls<H>, staged: &[Staged]) -> Result<(), DeviceFault>
     ensures { Does (map (λ file. placing (move_of file)) staged.now)
-        (C.calls calls.old) (C.calls calls.new) result }
+        calls.old calls.new result }
 {
     for file in staged {
         calls.rename(file.beside.as_str(), file.place.as_str())?;
@@ -43,12 +47,12 @@ fn place_staged<C: FileCalls>(calls: &mut C, staged: &[Staged]) -> Result<(), De
 }
 
 /// Has the names in each of the folders outlast a crash, one after another.
-pub(crate) fn sync_folders<C: FileCalls>(
-    calls: &mut C,
+pub(crate) fn sync_folders<H: Files>(
+    calls: &mut SystemCalls<H>,
     folders: &[String],
 ) -> Result<(), DeviceFault>
     ensures { Does (map (λ folder. naming (string_bytes folder)) folders.now)
-        (C.calls calls.old) (C.calls calls.new) result }
+        calls.old calls.new result }
 {
     for folder in folders {
         calls.sync_folder(folder.as_str())?;
@@ -57,15 +61,15 @@ pub(crate) fn sync_folders<C: FileCalls>(
 }
 
 /// Has the files outlast a crash, puts them in their places, and has the names in the folders outlast a crash.
-pub(crate) fn put_staged<C: ManyCalls, D: SyncsTogether>(
-    calls: &mut C,
+pub(crate) fn put_staged<H: Files, D: SyncsTogether>(
+    calls: &mut SystemCalls<H>,
     disk: &D,
     alloc: Global,
     staged: &[Staged],
     folders: &[String],
 ) -> Result<(), DeviceFault>
     ensures { Does (settling (map move_of staged.now) (map string_bytes folders.now))
-        (C.calls calls.old) (C.calls calls.new) result }
+        calls.old calls.new result }
 {
     calls.sync_files(disk, alloc, staged)?;
     place_staged(calls, staged)?;
@@ -73,12 +77,12 @@ pub(crate) fn put_staged<C: ManyCalls, D: SyncsTogether>(
 }
 
 /// Writes a new file, and makes the folders above it where they aren't there. Their names may be lost in a crash.
-pub(crate) fn write_in_folder<C: FileCalls>(
-    calls: &mut C,
+pub(crate) fn write_in_folder<H: Files>(
+    calls: &mut SystemCalls<H>,
     path: &str,
     bytes: &[u8],
 ) -> Result<(), DeviceFault>
-    ensures { WritesAside path.now bytes.now (C.calls calls.old) (C.calls calls.new) result }
+    ensures { WritesAside path.now bytes.now calls.old calls.new result }
 {
     check_plain(calls.symlink_metadata(path))?;
     match calls.write(path, bytes) {

@@ -5,7 +5,6 @@ ghost use Rattle.tl_folder.specs.Step as step;
 ghost use Rattle.tl_folder.specs.FileCalls.{Takes, done};
 ghost use Rattle.tl_folder.specs.Settling.{lock_path_of, new_path, replacing};
 
-use crate::file_calls::FileCalls;
 use crate::lock::LockedFile;
 use crate::look::check_plain;
 use crate::over::put_over;
@@ -38,21 +37,21 @@ impl<'s, H: Files> Model for AtomicFile<'s, H> {
 
     ghost Value = { seen.Replaced };
 
-    ghost view = { λ f. record { path = f.path.now; bytes = noted f.last; calls = f.calls.log } };
+    ghost view = { λ f. record { path = f.path.now; bytes = noted f.last; calls = f.calls } };
 
     ghost invariant = { λ f. string_bytes f.beside ≡ new_path f.path.now };
 }
 
 /// Writes bytes beside the place of a file and then puts them there, once they outlast a crash, and then has the name
 /// outlast one. `NotPlain`: in one of the two places is something else than a plain file, and nothing was written.
-pub(crate) fn replace_by<C: FileCalls>(
-    calls: &mut C,
+pub(crate) fn replace_by<H: Files>(
+    calls: &mut SystemCalls<H>,
     beside: &str,
     path: &str,
     bytes: &[u8],
 ) -> Result<(), DeviceFault>
     ensures { Takes (replacing beside.now path.now bytes.now)
-        (C.calls calls.old) (C.calls calls.new) result }
+        calls.old calls.new result }
 {
     check_plain(calls.symlink_metadata(path))?;
     put_over(calls, beside, path, bytes, true)

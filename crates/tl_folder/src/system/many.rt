@@ -8,7 +8,7 @@ ghost use Rattle.tl_folder.specs.Inner.Staged.{move_of};
 use crate::call_log::{Asked, CallLog};
 use crate::staged::{Staged, sync_folders, sync_staged};
 use crate::system::SystemCalls;
-use crate::together::{ManyCalls, SyncKind, SyncOutcome, SyncsTogether};
+use crate::together::{SyncKind, SyncOutcome, SyncsTogether};
 use std::alloc::{AllocError, Global};
 use std::fs::Files;
 use tl_device::DeviceFault;
@@ -95,25 +95,32 @@ fn note_folders(
 // A sync changes nothing but what it is of. So one that was made and isn't noted, as it came after one that failed, only
 // makes surer what the notes say may be lost; one that failed spoils only a file beside its place, which is written anew
 // before it is ever put there; and after a failure every call of the folder fails.
-impl<H: Files> ManyCalls for SystemCalls<H> {
-    fn sync_files<D: SyncsTogether>(
+impl<H: Files> SystemCalls<H> {
+    /// Has what each of the files has outlast a crash.
+    pub(crate) fn sync_files<D: SyncsTogether>(
         &mut self,
         disk: &D,
         alloc: Global,
         staged: &[Staged],
-    ) -> Result<(), DeviceFault> {
+    ) -> Result<(), DeviceFault>
+        ensures { Does (map (λ file. syncing (move_of file)) staged.now) self.old self.new result }
+    {
         match outcomes_of_files(&self.files, disk, alloc, staged) {
             Ok(outcomes) => note_files(&mut self.log, staged, outcomes.as_slice()),
             Err(_) => sync_staged(self, staged),
         }
     }
 
-    fn sync_folders<D: SyncsTogether>(
+    /// Has the names in each of the folders outlast a crash.
+    pub(crate) fn sync_folders<D: SyncsTogether>(
         &mut self,
         disk: &D,
         alloc: Global,
         folders: &[String],
-    ) -> Result<(), DeviceFault> {
+    ) -> Result<(), DeviceFault>
+        ensures { Does (map (λ folder. naming (string_bytes folder)) folders.now)
+            self.old self.new result }
+    {
         match outcomes_of(
             &self.files,
             disk,

@@ -1,4 +1,5 @@
 use Rattle.std.proofs.Common.{◌+◌, [], ◌∷◌, ◌++◌, length, sym, arith}
+use Rattle.std.proofs.lemmas.Grind.{common_steps}
 use Rattle.std.specs.Prelude.{◌≢◌}
 use Rattle.std.proofs.lemmas.Bool.{eqb-false, eqb-true}
 use Rattle.tl_tile.proofs.BundleLemmas.{has_read_none, has_read_more, all_read}
@@ -24,3 +25,6 @@ returns c =
     let so_far = c.loop-rest.invariant in
     let all = all_read c.args.bytes.now so_far.0 so_far.1 c.loop-rest.rest.now so_far.2 (eqb-true (length c.loop-rest.rest.now) 0 (sym c.loop-rest-test.ensures)) in
     (so_far.1, all.0.short, all.1)
+
+pub loop-rest-smaller : goal.loop-rest-smaller
+loop-rest-smaller c = grind (arith, common_steps)

@@ -1,4 +1,5 @@
-use Rattle.std.proofs.Common.{◌≡◌, List, ℕ, ◌++◌, Ok, Err, sym, ap, ◌∙◌}
+use Rattle.std.proofs.Common.{◌≡◌, List, ℕ, ◌++◌, Ok, Err, sym, ap, ◌∙◌, arith}
+use Rattle.std.proofs.lemmas.Grind.{common_steps}
 use Rattle.std.specs.Prelude.{IfErr, Result}
 use Rattle.tl_text.specs.Text.{HasNoControl, IsSize}
 use Rattle.tl_tile.specs.Bundle.{AreShortEntries, bundle_text}
@@ -34,3 +35,6 @@ returns-in_err-entries-clause-memory g c =
 pub returns-in_err-token-clause-memory : goal.returns-in_err-token-clause-memory
 returns-in_err-token-clause-memory g c =
     anyhow c.from_residual.result _ (commit_there c.args.bytes.now c.in-Some.start c.in-Some.token.now c.in-Some.rest.now c.in-Some.ensures.0 c.in-Some.ensures.1 c.in-Some.ensures.2 c.if-not-are_entries.ensures)
+
+pub returns-then-not-are_entries-clause-memory : goal.returns-then-not-are_entries-clause-memory
+returns-then-not-are_entries-clause-memory g c = grind (arith, common_steps)

@@ -1,4 +1,5 @@
 use Rattle.std.proofs.Common.{◌+◌, length, map, vec_items, sym, arith}
+use Rattle.std.proofs.lemmas.Grind.{common_steps}
 use Rattle.std.specs.Prelude.{◌≢◌}
 use Rattle.std.proofs.lemmas.Bool.{eqb-false}
 use Rattle.tl_tile.proofs.BundleLemmas.{has_read_one}
@@ -18,3 +19,9 @@ loop-rest-preserved g c =
       has_read_one c.args.bytes.now so_far.0 c.loop-rest.entries.items c.push.new.self.items c.in_ok-entry.entry c.loop-rest.rest.now c.in-Some.entry.now c.in-Some.after.now
           so_far.1 c.in-Some.ensures.0 c.in-Some.ensures.1 c.in_ok-entry.ensures.items c.in_ok-push.ensures.items,
     )
+
+pub loop-rest-smaller : goal.loop-rest-smaller
+loop-rest-smaller g c = grind (arith, common_steps)
+
+pub returns : goal.returns
+returns g c = grind (arith, common_steps)

@@ -1,4 +1,5 @@
 use Rattle.std.proofs.Common.{All, arith, inr, map, refl, subst, sym}
+use Rattle.std.proofs.lemmas.Grind.{common_steps}
 use Rattle.tl_note.specs.Note.{IsSignature}
 use Rattle.tl_cosign.proofs.Others.{cosigns, none_own, others_all, others_more}
 use Rattle.tl_cosign.proofs.asking.own_line.Goals as goal
@@ -20,3 +21,15 @@ returns-then-branch-clause-line g c =
     let each = subst (All IsSignature) (sym c.deref-line-items.ensures.value) c.in-Ok.ensures.each in
     let lawful = subst IsSignature (sym c.line-item.is) (each c.loop-line.line-index c.line-item.result (omega (arith, c.loop-line-test.true))) in
     cosigns _ c.args.text.now c.line-item.result c.args.keys.now _ lawful c.in_ok-text_of.ensures (rw (c.if-branch.true) at c.in_ok-is_own.ensures)
+
+pub returns-clause-line : goal.returns-clause-line
+returns-clause-line g c = grind (arith, common_steps)
+
+pub returns-in-Err-OutOfMemory-clause-none : goal.returns-in-Err-OutOfMemory-clause-none
+returns-in-Err-OutOfMemory-clause-none g c = grind (arith, common_steps)
+
+pub returns-in_err-text_of-clause-none : goal.returns-in_err-text_of-clause-none
+returns-in_err-text_of-clause-none g c = grind (arith, common_steps)
+
+pub returns-then-branch-clause-none : goal.returns-then-branch-clause-none
+returns-then-branch-clause-none g c = grind (arith, common_steps)

@@ -1,4 +1,5 @@
-use Rattle.std.proofs.Common.{codes, refl, subst, sym, ◌∙◌}
+use Rattle.std.proofs.Common.{codes, refl, subst, sym, ◌∙◌, arith}
+use Rattle.std.proofs.lemmas.Grind.{common_steps}
 use Rattle.std.proofs.lemmas.Bool.{both_ways}
 use Rattle.std.proofs.lemmas.Str.Pattern.{contains_text}
 use Rattle.tl_source.specs.Url.{IsNoUrl}
@@ -19,3 +20,6 @@ returns-in_default-clause-refused g c =
       subst HasScheme c.as_str-from.ensures.value (tells.0 c.if-not-contains.false),
       subst IsNoUrl c.as_str-from.ensures.value c.in_default.ensures,
     )
+
+pub returns-clause-found : goal.returns-clause-found
+returns-clause-found g c = grind (arith, common_steps)

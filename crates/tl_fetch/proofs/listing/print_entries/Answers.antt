@@ -1,4 +1,5 @@
 use Rattle.std.proofs.Common.{arith, refl, subst, ◌∙◌, ◌/◌}
+use Rattle.std.proofs.lemmas.Grind.{common_steps}
 use Rattle.tl_client.proofs.LeafReads.{none_passed}
 use Rattle.tl_fetch.specs.Entries.{RefusesBundle}
 use Rattle.tl_fetch.specs.Printed.{FailsPrinting}
@@ -33,3 +34,24 @@ loop-next-init g c = (
   none_passed c.args.head.now.size c.args.head.now.root c.new-kept.result c.new-kept.ensures,
   c.new-ahead.ensures.window,
 )
+
+pub loop-next-smaller : goal.loop-next-smaller
+loop-next-smaller g c = grind (arith, common_steps)
+
+pub returns-clause-part : goal.returns-clause-part
+returns-clause-part g c = grind (arith, common_steps)
+
+pub returns-clause-printed : goal.returns-clause-printed
+returns-clause-printed g c = grind (arith, common_steps)
+
+pub returns-clause-refused : goal.returns-clause-refused
+returns-clause-refused g c = grind (arith, common_steps)
+
+pub returns-then-from-head-clause-part : goal.returns-then-from-head-clause-part
+returns-then-from-head-clause-part g c = grind (arith, common_steps)
+
+pub returns-then-from-head-clause-refused : goal.returns-then-from-head-clause-refused
+returns-then-from-head-clause-refused g c = grind (arith, common_steps)
+
+pub same-kept : goal.same-kept
+same-kept g c = grind (arith, common_steps)

@@ -1,4 +1,5 @@
-use Rattle.std.proofs.Common.{◌∷◌, [], List, ℕ, ap}
+use Rattle.std.proofs.Common.{◌∷◌, [], List, ℕ, ap, arith}
+use Rattle.std.proofs.lemmas.Grind.{common_steps}
 use Rattle.tl_fetch.proofs.LogKeyLemmas.{both_same, one_told}
 use Rattle.tl_fetch.proofs.log_keys.log_keys.Goals as goal
 
@@ -12,3 +13,12 @@ check_keys-requires-2 c =
     let key = c.in_ok-key.key in
     let other = c.in_ok-other.other in
     (key.name, key ∷ other ∷ [], c.in_ok-other.ensures.read, both_same _ key.key _ other.key c.public_key-2.ensures c.public_key-3.ensures)
+
+pub returns-clause-told : goal.returns-clause-told
+returns-clause-told c = grind (arith, common_steps)
+
+pub returns-in_default-clause-told : goal.returns-in_default-clause-told
+returns-in_default-clause-told c = grind (arith, common_steps)
+
+pub same-key-2 : goal.same-key-2
+same-key-2 c = grind (arith, common_steps)

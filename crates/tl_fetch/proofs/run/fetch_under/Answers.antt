@@ -1,4 +1,5 @@
-use Rattle.std.proofs.Common.{inl, refl, sym}
+use Rattle.std.proofs.Common.{inl, refl, sym, arith}
+use Rattle.std.proofs.lemmas.Grind.{common_steps}
 use Rattle.std.specs.Prelude.{option_map}
 use Rattle.tl_fetch.specs.Fetching.{grounds_of}
 use Rattle.tl_fetch.specs.Inner.Judging.{two_of}
@@ -32,3 +33,20 @@ returns-clause-refused g c =
     (are_two _ _ last _ _ _ _ _ c.as_deref.ensures.value (sym c.as_str.ensures.value) c.in-Ok.ensures.had c.in-Ok.ensures.known c.in-Ok.ensures.trusted)
     c.in_default.ensures.grown (record { bytes = refl; failed = refl }) c.in_default.ensures.silent
     c.in-Err-print_and_keep.ensures.fair c.in-Err-print_and_keep.ensures.part c.in-Err-print_and_keep.ensures.refused
+pub print_and_keep-requires-clause-known : goal.print_and_keep-requires-clause-known
+print_and_keep-requires-clause-known g c = grind (arith, common_steps)
+
+pub print_and_keep-requires-clause-trusted : goal.print_and_keep-requires-clause-trusted
+print_and_keep-requires-clause-trusted g c = grind (arith, common_steps)
+
+pub returns-clause-fetched : goal.returns-clause-fetched
+returns-clause-fetched g c = grind (arith, common_steps)
+
+pub returns-in-Err-clause-fetched : goal.returns-in-Err-clause-fetched
+returns-in-Err-clause-fetched g c = grind (arith, common_steps)
+
+pub returns-in-Err-judge-clause-fetched : goal.returns-in-Err-judge-clause-fetched
+returns-in-Err-judge-clause-fetched g c = grind (arith, common_steps)
+
+pub returns-in-Ok-print_and_keep-clause-refused : goal.returns-in-Ok-print_and_keep-clause-refused
+returns-in-Ok-print_and_keep-clause-refused g c = grind (arith, common_steps)

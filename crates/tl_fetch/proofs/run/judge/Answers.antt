@@ -1,4 +1,5 @@
-use Rattle.std.proofs.Common.{inl, inr}
+use Rattle.std.proofs.Common.{inl, inr, arith}
+use Rattle.std.proofs.lemmas.Grind.{common_steps}
 use Rattle.std.specs.Prelude.{option_map}
 use Rattle.tl_fetch.specs.Faults.{after_client}
 use Rattle.tl_fetch.specs.Inner.Judging.{two_of}
@@ -14,3 +15,6 @@ returns-in-Err-print_evidence-clause-refused g c =
       (after_client c.in-Err.fault, accusation (g.S.ResourceSource.may_answer c.args.source.now) (g.S.ResourceSource.may_lack c.args.source.now) two c.in-Err.fault c.if-not-is_accusation.ensures c.in-Err.ensures.refused),
       c.in-Err-print_evidence.ensures.part,
     ))
+
+pub returns-then-not-is_accusation-clause-refused : goal.returns-then-not-is_accusation-clause-refused
+returns-then-not-is_accusation-clause-refused g c = grind (arith, common_steps)

@@ -1,4 +1,5 @@
 use Rattle.std.proofs.Common.{◌<◌, ◌++◌, ◌∷◌, [], ◌+◌, ℕ, List, Contains, ap, arith, subst, sym, string_bytes, vec_items, ◌∙◌}
+use Rattle.std.proofs.lemmas.Grind.{common_steps}
 use Rattle.std.proofs.lemmas.List.{length-map}
 use Rattle.tl_hash.specs.Bytes.{Bytes}
 use Rattle.tl_fetch.proofs.KeyLemmas.{HaveOwnSoFar, own_first, own_next}
@@ -25,3 +26,6 @@ loop-place-init c =
     let told = c.requires in
     subst (λ (ks : List Bytes). HaveOwnSoFar c.args.options.now c.args.log.now ks 0) (sym (c.in_ok-extend_from_slice.ensures.items ∙ ap (λ (xs : List Bytes). xs ++ c.args.log.now) c.new-known.ensures.items))
     (own_first c.args.options.now c.args.log.now told.0 told.1 told.2 told.3)
+
+pub returns-clause-own : goal.returns-clause-own
+returns-clause-own c = grind (arith, common_steps)

@@ -1,4 +1,5 @@
-use Rattle.std.proofs.Common.{inl, refl, true}
+use Rattle.std.proofs.Common.{inl, refl, true, arith}
+use Rattle.std.proofs.lemmas.Grind.{common_steps}
 use Rattle.std.proofs.lemmas.Result.{err_from_is_err_and}
 use Rattle.tl_folder.proofs.Beginnings.{is_err_at}
 use Rattle.tl_folder.proofs.Makings.{one_up, asked_stops}
@@ -16,3 +17,15 @@ returns-in_err-lock-clause-calls g c =
 
 pub returns-then-not-is_told-clause-calls : goal.returns-then-not-is_told-clause-calls
 returns-then-not-is_told-clause-calls g c = (_, one_up c.in_ok-make_folders.ensures.1 c.in_ok-make_folders.ensures.2, inl refl)
+
+pub returns-clause-place : goal.returns-clause-place
+returns-clause-place g c = grind (arith, common_steps)
+
+pub returns-in_err-folder-clause-place : goal.returns-in_err-folder-clause-place
+returns-in_err-folder-clause-place g c = grind (arith, common_steps)
+
+pub returns-in_err-lock-clause-place : goal.returns-in_err-lock-clause-place
+returns-in_err-lock-clause-place g c = grind (arith, common_steps)
+
+pub returns-then-not-is_told-clause-place : goal.returns-then-not-is_told-clause-place
+returns-then-not-is_told-clause-place g c = grind (arith, common_steps)

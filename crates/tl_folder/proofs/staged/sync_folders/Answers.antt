@@ -1,4 +1,5 @@
-use Rattle.std.proofs.Common.{ap, is_ok, string_bytes}
+use Rattle.std.proofs.Common.{ap, is_ok, string_bytes, arith}
+use Rattle.std.proofs.lemmas.Grind.{common_steps}
 use Rattle.std.proofs.lemmas.Result.{err_from_is_err_and}
 use Rattle.tl_folder.specs.Step.{Path}
 use Rattle.tl_folder.specs.Step as step
@@ -16,3 +17,6 @@ pub loop-folder-preserved : goal.loop-folder-preserved
 loop-folder-preserved g c =
     goes_on (λ folder. naming (string_bytes folder)) c.args.folders.now c.loop-folder.folder-index c.folder-item.result _ _ _ _ _
     c.loop-folder-test.true c.folder-item.is c.loop-folder.invariant c.sync_folder.ensures (ap (λ (p : Path). step.SyncFolder p) c.as_str.ensures.value) (ap is_ok c.in_ok-sync_folder.was)
+
+pub returns : goal.returns
+returns g c = grind (arith, common_steps)

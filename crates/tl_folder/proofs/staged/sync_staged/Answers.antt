@@ -1,4 +1,5 @@
-use Rattle.std.proofs.Common.{ap, is_ok}
+use Rattle.std.proofs.Common.{ap, is_ok, arith}
+use Rattle.std.proofs.lemmas.Grind.{common_steps}
 use Rattle.std.proofs.lemmas.Result.{err_from_is_err_and}
 use Rattle.tl_folder.specs.Step.{Path}
 use Rattle.tl_folder.specs.Step as step
@@ -17,3 +18,6 @@ pub loop-file-preserved : goal.loop-file-preserved
 loop-file-preserved g c =
     goes_on (λ file. syncing (move_of file)) c.args.staged.now c.loop-file.file-index c.file-item.result _ _ _ _ _
     c.loop-file-test.true c.file-item.is c.loop-file.invariant c.sync.ensures (ap (λ (p : Path). step.Sync p) c.as_str.ensures.value) (ap is_ok c.in_ok-sync.was)
+
+pub returns : goal.returns
+returns g c = grind (arith, common_steps)

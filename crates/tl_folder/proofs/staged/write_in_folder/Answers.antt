@@ -1,4 +1,5 @@
-use Rattle.std.proofs.Common.{◌≡◌, None, Some}
+use Rattle.std.proofs.Common.{◌≡◌, None, Some, arith}
+use Rattle.std.proofs.lemmas.Grind.{common_steps}
 use Rattle.std.proofs.lemmas.Result.{err_from_is_err_and}
 use Rattle.std.specs.Path.{path_parent}
 use Rattle.tl_folder.proofs.Beginnings.{is_err_at}
@@ -21,3 +22,12 @@ pub returns : goal.returns
 returns g c =
     let above : path_parent c.args.path.now ≡ Some c.as_str.result.now = cc (c.in-Some.ensures, c.as_str.ensures, c.new.ensures) in
     then_written c.args.path.now c.as_str.result.now c.args.bytes.now _ _ _ _ c.write-2.result above c.in-Err-NotThere.ensures c.in_ok-make_folders.ensures c.write-2.ensures
+
+pub returns-in-Err : goal.returns-in-Err
+returns-in-Err g c = grind (arith, common_steps)
+
+pub returns-in-Ok : goal.returns-in-Ok
+returns-in-Ok g c = grind (arith, common_steps)
+
+pub returns-in_err-check_plain : goal.returns-in_err-check_plain
+returns-in_err-check_plain g c = grind (arith, common_steps)

@@ -1,4 +1,5 @@
-use Rattle.std.proofs.Common.{rules}
+use Rattle.std.proofs.Common.{rules, arith}
+use Rattle.std.proofs.lemmas.Grind.{common_steps}
 use Rattle.tl_proof.specs.Acceptance.{step_of}
 use Rattle.tl_logs.specs.ReadState.{head_shown}
 use Rattle.tl_logs.proofs.WholeLaws.{all_written, line_at}
@@ -11,3 +12,6 @@ write_chain_line-requires g c =
 
 pub returns-clause-text : goal.returns-clause-text
 returns-clause-text g c = all_written (λ o. head_shown o) c.args.heads.now c.loop-head.head-index _ (search rules) c.loop-head.invariant
+
+pub loop-head-preserved : goal.loop-head-preserved
+loop-head-preserved g c = grind (arith, common_steps)

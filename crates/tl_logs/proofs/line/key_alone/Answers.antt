@@ -1,4 +1,5 @@
-use Rattle.std.proofs.Common.{refl}
+use Rattle.std.proofs.Common.{refl, arith}
+use Rattle.std.proofs.lemmas.Grind.{common_steps}
 use Rattle.tl_logs.proofs.LineLaws.{alone_refused}
 use Rattle.tl_logs.proofs.line.key_alone.Goals as goal
 
@@ -7,3 +8,6 @@ returns-in-Err g c = alone_refused g.row.A.Denot c.args.text.now c.in-Err.fault 
 
 pub returns-in_default : goal.returns-in_default
 returns-in_default g c = (record { origin = c.in-Ok.key.name; key = c.in-Ok.key }, (c.in-Ok.ensures, refl))
+
+pub returns : goal.returns
+returns g c = grind (arith, common_steps)

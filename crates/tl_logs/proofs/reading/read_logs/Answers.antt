@@ -1,4 +1,5 @@
 use Rattle.std.proofs.Common.{arith}
+use Rattle.std.proofs.lemmas.Grind.{common_steps}
 use Rattle.tl_logs.specs.ReadLogs.{logs_shown}
 use Rattle.tl_logs.specs.Inner.ByOrigin.{index_of}
 use Rattle.tl_logs.proofs.IndexLaws.{indexes_none}
@@ -22,3 +23,6 @@ loop-left-preserved g c = (
 
 pub loop-left-smaller : goal.loop-left-smaller
 loop-left-smaller g c = omega (arith, shorter c.loop-left.left.now c.cut_line.result.0.now c.cut_line.result.1.now c.loop-left-test.ensures c.cut_line.ensures)
+
+pub returns : goal.returns
+returns g c = grind (arith, common_steps)

@@ -1,4 +1,5 @@
 use Rattle.std.proofs.Common.{◌∙◌, ap, arith, length, map, string_bytes}
+use Rattle.std.proofs.lemmas.Grind.{common_steps}
 use Rattle.std.specs.Prelude.{None}
 use Rattle.std.proofs.lemmas.List.{length-map}
 use Rattle.tl_witness.specs.ChainLine.{chain_text}
@@ -20,3 +21,6 @@ pub returns : goal.returns
 returns g c =
     lines_refused g.T.TreeHash.digest_of (counts_of c.all.result) _ (heads_shown c.in-Ok.heads.items) c.all.ensures c.in-Ok.ensures.heads
     (omega (arith, c.in-Err-whole_lines.ensures.memory, ap length c.as_slice.ensures.value, length-map c.in-Ok.heads.items (λ o. head_shown o)))
+
+pub whole_lines-requires : goal.whole_lines-requires
+whole_lines-requires g c = grind (arith, common_steps)

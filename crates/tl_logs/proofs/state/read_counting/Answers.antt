@@ -1,4 +1,5 @@
-use Rattle.std.proofs.Common.{rules}
+use Rattle.std.proofs.Common.{rules, arith}
+use Rattle.std.proofs.lemmas.Grind.{common_steps}
 use Rattle.tl_logs.specs.Inner.Counting.{counts_of}
 use Rattle.tl_logs.specs.ReadState.{heads_shown}
 use Rattle.tl_logs.proofs.StateLaws.{come_more, come_none, come_refused, come_small, ends_ill, ends_well}
@@ -32,3 +33,12 @@ loop-count-preserved g c =
     come_more g.T.TreeHash.digest_of (counts_of c.args.counting.now) _ _ _ _ _ _ c.loop-count.count c.loop-count.reading c.loop-count.invariant c.in-Some.some c.read_some.new.buf
     c.in-Some.ensures.bound c.in-Some.ensures.consumed c.in-Some.ensures.steady c.take_block.new.self
     (c.in-Ok.ensures c.loop-count.invariant.input small c.loop-count.invariant.read)
+
+pub returns-in-Err-clause-heads : goal.returns-in-Err-clause-heads
+returns-in-Err-clause-heads g c = grind (arith, common_steps)
+
+pub returns-in_default-clause-heads : goal.returns-in_default-clause-heads
+returns-in_default-clause-heads g c = grind (arith, common_steps)
+
+pub returns-in_default-clause-refused : goal.returns-in_default-clause-refused
+returns-in_default-clause-refused g c = grind (arith, common_steps)

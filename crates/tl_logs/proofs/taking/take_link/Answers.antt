@@ -1,4 +1,5 @@
 use Rattle.std.proofs.Common.{arith, inl}
+use Rattle.std.proofs.lemmas.Grind.{common_steps}
 use Rattle.tl_proof.specs.Acceptance.{step_of}
 use Rattle.tl_logs.specs.Inner.ByOrigin.{index_of}
 use Rattle.tl_logs.specs.ReadState.{head_shown}
@@ -37,3 +38,27 @@ returns-in_ok-add-in-None-clause-indexed g c =
     rw (c.push_reserved.ensures.items, c.in_ok-reserve-in-None.ensures.items)
     (index_grows (λ o. head_shown o) c.args.heads.now.items (index_of c.args.index.now) c.args.origin.now c.requires (index_of c.add.new.self) c.len.result _
     (omega (arith, c.len.ensures, c.args.heads.now.ok.0)) c.in_ok-from_str-in-None.ensures.ok c.in_ok-add-in-None.ensures.added)
+
+pub push_reserved-requires : goal.push_reserved-requires
+push_reserved-requires g c = grind (arith, common_steps)
+
+pub returns-in_err-add-in-None-clause-indexed : goal.returns-in_err-add-in-None-clause-indexed
+returns-in_err-add-in-None-clause-indexed g c = grind (arith, common_steps)
+
+pub returns-in_err-from_str-in-None-clause-indexed : goal.returns-in_err-from_str-in-None-clause-indexed
+returns-in_err-from_str-in-None-clause-indexed g c = grind (arith, common_steps)
+
+pub returns-in_err-from_str-in-None-clause-taken : goal.returns-in_err-from_str-in-None-clause-taken
+returns-in_err-from_str-in-None-clause-taken g c = grind (arith, common_steps)
+
+pub returns-in_err-reserve-in-None-clause-indexed : goal.returns-in_err-reserve-in-None-clause-indexed
+returns-in_err-reserve-in-None-clause-indexed g c = grind (arith, common_steps)
+
+pub returns-in_err-reserve-in-None-clause-taken : goal.returns-in_err-reserve-in-None-clause-taken
+returns-in_err-reserve-in-None-clause-taken g c = grind (arith, common_steps)
+
+pub returns-in_ok-add-in-None-clause-taken : goal.returns-in_ok-add-in-None-clause-taken
+returns-in_ok-add-in-None-clause-taken g c = grind (arith, common_steps)
+
+pub returns-then-not-is_first-clause-taken : goal.returns-then-not-is_first-clause-taken
+returns-then-not-is_first-clause-taken g c = grind (arith, common_steps)

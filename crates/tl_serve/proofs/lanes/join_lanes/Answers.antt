@@ -1,4 +1,5 @@
 use Rattle.std.proofs.Common.{All, subst, sym, ap, length, arith}
+use Rattle.std.proofs.lemmas.Grind.{common_steps}
 use Rattle.std.proofs.lemmas.List.Elements.{All-push, All-head, All-tail}
 use Rattle.tl_sequencer.specs.Log.{IsEndOf, IsSenderOf}
 use Rattle.tl_serve.proofs.Ends.{end_of}
@@ -31,3 +32,6 @@ loop-thread-preserved g c =
           ),
       omega (arith, step, c.in-Some.ensures.steps.1, c.loop-thread.invariant.1),
     )
+
+pub loop-thread-preserved-derived : goal.loop-thread-preserved-derived
+loop-thread-preserved-derived g c = grind (arith, common_steps)

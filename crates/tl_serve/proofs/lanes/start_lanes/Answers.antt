@@ -1,4 +1,5 @@
 use Rattle.std.proofs.Common.{All, subst, sym, ap, length, arith}
+use Rattle.std.proofs.lemmas.Grind.{common_steps}
 use Rattle.std.proofs.lemmas.List.Elements.{All-push, All-head, All-tail}
 use Rattle.tl_sequencer.specs.Log.{IsSenderOf}
 use Rattle.tl_serve.proofs.lanes.start_lanes.Goals as goal
@@ -16,3 +17,6 @@ loop-lane-preserved g c =
           ),
       omega (arith, step, c.in-Some.ensures.steps.1, c.loop-lane.invariant.1),
     )
+
+pub loop-lane-preserved-derived : goal.loop-lane-preserved-derived
+loop-lane-preserved-derived g c = grind (arith, common_steps)

@@ -1,4 +1,5 @@
 use Rattle.std.proofs.Common.{◌<◌, ap, refl, length, vec_items, arith}
+use Rattle.std.proofs.lemmas.Grind.{common_steps}
 use Rattle.tl_serve.specs.declared.lanes.Sending.{Sending}
 use Rattle.tl_serve.proofs.Lists.{first_list, one_paired, one_sent}
 use Rattle.tl_serve.proofs.opening.lanes_of.Goals as goal
@@ -23,3 +24,12 @@ loop-submitter-preserved c =
       len = omega (arith, so_far.len, count, step.1);
       lists_len = omega (arith, so_far.lists_len, ap length next.0, next.1);
     }
+
+pub loop-submitter-init : goal.loop-submitter-init
+loop-submitter-init c = grind (arith, common_steps)
+
+pub returns-clause-entries : goal.returns-clause-entries
+returns-clause-entries c = grind (arith, common_steps)
+
+pub returns-clause-submitters : goal.returns-clause-submitters
+returns-clause-submitters c = grind (arith, common_steps)

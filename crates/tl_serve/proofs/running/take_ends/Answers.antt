@@ -1,4 +1,5 @@
 use Rattle.std.proofs.Common.{All, subst, ap, length, arith, ◌∙◌}
+use Rattle.std.proofs.lemmas.Grind.{common_steps}
 use Rattle.std.proofs.lemmas.List.Elements.{All-head, All-tail}
 use Rattle.tl_sequencer.specs.Log.{IsEndOf}
 use Rattle.tl_serve.specs.Inner.Live.{TakesRest}
@@ -39,3 +40,12 @@ returns-clause-taken g c =
     onward_ends TakesRest c.args.ends.items c.loop-ended.ended-iterator.rest.items
     (g.O.LiveLog.log c.args.log.now) (g.O.LiveLog.log c.loop-ended.log) c.loop-ended.count c.loop-ended.invariant.3
     (none_left c.loop-ended.ended-iterator.rest.items c.loop-ended.ended-iterator.rest.len c.loop-ended.invariant.2 c.in-None.ensures.steps.0)
+
+pub loop-ended-preserved-derived : goal.loop-ended-preserved-derived
+loop-ended-preserved-derived g c = grind (arith, common_steps)
+
+pub returns-clause-kept : goal.returns-clause-kept
+returns-clause-kept g c = grind (arith, common_steps)
+
+pub returns-in-Err-clause-kept : goal.returns-in-Err-clause-kept
+returns-in-Err-clause-kept g c = grind (arith, common_steps)

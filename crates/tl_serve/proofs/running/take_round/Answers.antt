@@ -1,4 +1,5 @@
-use Rattle.std.proofs.Common.{◌-◌, ◌+◌, ◌∙◌}
+use Rattle.std.proofs.Common.{◌-◌, ◌+◌, ◌∙◌, arith}
+use Rattle.std.proofs.lemmas.Grind.{common_steps}
 use Rattle.std.specs.List.{range_with_len}
 use Rattle.tl_serve.specs.Inner.Live.{TakesIn}
 use Rattle.tl_serve.proofs.InTurn.{lanes_end, lanes_next, onward_ends, onward_fails, onward_next}
@@ -29,3 +30,6 @@ returns-clause-taken g c =
     onward_ends (λ lane. TakesIn lane c.args.most) (range_with_len 0 c.args.lanes) (range_with_len c.loop-lane.lane (c.args.lanes - c.loop-lane.lane))
     (g.O.LiveLog.log c.args.log.now) (g.O.LiveLog.log c.loop-lane.log) c.loop-lane.count c.loop-lane.invariant.1
     (lanes_end c.loop-lane.lane c.args.lanes c.loop-lane-test.false)
+
+pub returns-in-Err-clause-kept : goal.returns-in-Err-clause-kept
+returns-in-Err-clause-kept g c = grind (arith, common_steps)

@@ -1,4 +1,5 @@
 use Rattle.std.proofs.Common.{[], ◌≤◌, ◌∙◌, arith, length}
+use Rattle.std.proofs.lemmas.Grind.{common_steps}
 use Rattle.tl_server.proofs.BodyLemmas.{copied, copied_length, cut_body, no_bytes, whole_body}
 use Rattle.tl_device.proofs.ReadLemmas.{gave_none}
 use Rattle.tl_server.proofs.body.read_body.Goals as goal
@@ -27,3 +28,6 @@ returns-in-Cut g c =
     let fits : c.min-len.result ≤ length c.as_mut_slice-buf.result.now = omega (arith, c.min-len.ensures, slice, long) in
     cut_body _ _ _ _ c.min-len.result _ c.min-len.ensures (copied _ _ _ _ within c.copy_from_slice.ensures.after) c.in-Cut.ensures
     (copied_length _ _ _ _ _ within fits c.copy_from_slice.ensures.after (slice ∙ long))
+
+pub copy_from_slice-requires : goal.copy_from_slice-requires
+copy_from_slice-requires g c = grind (arith, common_steps)

@@ -1,4 +1,5 @@
-use Rattle.std.proofs.Common.{refl}
+use Rattle.std.proofs.Common.{refl, arith}
+use Rattle.std.proofs.lemmas.Grind.{common_steps}
 use Rattle.tl_server.specs.Log.{LogAnswers}
 use Rattle.tl_server.proofs.ServeLemmas.{headless_serves, headed_serves}
 use Rattle.tl_server.proofs.log.serve_log.Goals as goal
@@ -10,3 +11,6 @@ pub returns-in-Head : goal.returns-in-Head
 returns-in-Head g c =
     headed_serves _ (LogAnswers _ _ _) _ _ c.read_head.new.buf c.read_head.new.headers c.in-Head.len c.in-Head.spans _ _ c.answer_log.result
     c.of.ensures c.of-in-Head.ensures c.in-Head.ensures c.answer_log.ensures
+
+pub returns-in-Nothing : goal.returns-in-Nothing
+returns-in-Nothing g c = grind (arith, common_steps)

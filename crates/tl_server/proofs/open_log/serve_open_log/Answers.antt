@@ -1,4 +1,5 @@
-use Rattle.std.proofs.Common.{refl, rules}
+use Rattle.std.proofs.Common.{refl, rules, arith}
+use Rattle.std.proofs.lemmas.Grind.{common_steps}
 use Rattle.tl_server.specs.Adding.{LooksOnce}
 use Rattle.tl_server.specs.Answer.{bare}
 use Rattle.tl_server.proofs.OpenLemmas.{headless_open, open_after, open_posted, other_page, sent_takes}
@@ -23,3 +24,8 @@ returns-else-not-is_text g c =
     open_after _ _ _ _ _ _ _ _ _ _ buf headers len spans c.answer_posted.result c.in-Head.ensures
     (λ rest course is. open_posted LooksOnce (g.T.Teller.tells _ _) _ _ _ _ buf headers len spans c.in-Head.ensures _ c.posted_of-posted.result rest course c.of-target.ensures (search rules) c.posted_of-posted.ensures is)
     c.answer_posted.ensures
+pub posted_of-posted-requires-clause-within : goal.posted_of-posted-requires-clause-within
+posted_of-posted-requires-clause-within g c = grind (arith, common_steps)
+
+pub returns-in-Nothing : goal.returns-in-Nothing
+returns-in-Nothing g c = grind (arith, common_steps)

@@ -1,4 +1,5 @@
-use Rattle.std.proofs.Common.{refl, rules}
+use Rattle.std.proofs.Common.{refl, rules, arith}
+use Rattle.std.proofs.lemmas.Grind.{common_steps}
 use Rattle.tl_server.specs.Witness.{Replies}
 use Rattle.tl_server.proofs.ServeLemmas.{headless_serves}
 use Rattle.tl_server.proofs.WitnessLemmas.{other_target, serves_after, witness_posted}
@@ -19,3 +20,9 @@ returns-else-not-is_text g c =
     let spans = c.in-Head.spans in
     serves_after _ _ _ _ _ _ _ _ _ _ buf headers len spans c.answer_posted.result c.in-Head.ensures
     (λ rest answer is. witness_posted _ (Replies _ _ _ _ _) _ buf headers len spans c.in-Head.ensures _ c.posted_of-posted.result rest answer c.of.ensures (search rules) c.posted_of-posted.ensures is) c.answer_posted.ensures
+
+pub posted_of-posted-requires-clause-within : goal.posted_of-posted-requires-clause-within
+posted_of-posted-requires-clause-within g c = grind (arith, common_steps)
+
+pub returns-in-Nothing : goal.returns-in-Nothing
+returns-in-Nothing g c = grind (arith, common_steps)

@@ -1,4 +1,5 @@
-use Rattle.std.proofs.Common.{ℕ, ◌≤◌, length, subst, ◌∙◌}
+use Rattle.std.proofs.Common.{ℕ, ◌≤◌, length, subst, ◌∙◌, arith}
+use Rattle.std.proofs.lemmas.Grind.{common_steps}
 use Rattle.tl_source.proofs.Askings.{asked}
 use Rattle.tl_get.proofs.Fits.{gets_fits}
 use Rattle.tl_source.proofs.asking.ask.Goals as goal
@@ -10,3 +11,6 @@ returns-in-Ok-clause-short g c =
 pub returns-clause-refused : goal.returns-clause-refused
 returns-clause-refused g c = λ other.
     asked _ _ _ _ _ _ _ _ _ c.front_of.ensures (c.as_str.ensures.value ∙ c.in_ok-target.ensures) c.most_bytes-most.ensures c.in-Err.ensures
+
+pub returns-in-Ok-clause-body : goal.returns-in-Ok-clause-body
+returns-in-Ok-clause-body g c = grind (arith, common_steps)

@@ -1,4 +1,5 @@
 use Rattle.std.proofs.Common.{arith, Some, None}
+use Rattle.std.proofs.lemmas.Grind.{common_steps}
 use Rattle.std.proofs.lemmas.Str.Pattern.{find_char}
 use Rattle.tl_source.proofs.Cuts.{lacks_all, lacks_before}
 use Rattle.tl_source.proofs.url.cut_at.Goals as goal
@@ -10,3 +11,9 @@ returns-in-Some-clause-front c =
 
 pub returns-in-None-clause-front : goal.returns-in-None-clause-front
 returns-in-None-clause-front c = lacks_all c.args.mark c.args.text.now (find_char c.args.mark c.args.text.now None c.in-None.ensures.cases c.requires)
+
+pub returns-in-Some-clause-joined : goal.returns-in-Some-clause-joined
+returns-in-Some-clause-joined c = grind (arith, common_steps)
+
+pub returns-in-Some-clause-rest : goal.returns-in-Some-clause-rest
+returns-in-Some-clause-rest c = grind (arith, common_steps)

@@ -1,4 +1,5 @@
 use Rattle.std.proofs.Common.{arith, Some, None}
+use Rattle.std.proofs.lemmas.Grind.{common_steps}
 use Rattle.std.proofs.lemmas.Bool.Decides.{nat_tests}
 use Rattle.std.proofs.lemmas.Str.Pattern.{strip_prefix_char}
 use Rattle.tl_source.proofs.Hosts.{no_port, large_port}
@@ -14,3 +15,6 @@ returns-else-port c =
     large_port c.args.text.now c.in-Some.digits.now c.in-Some-parse_size.port
     (strip_prefix_char 58 c.args.text.now (Some c.in-Some.digits) c.in-Some.ensures.cases (omega arith))
     c.in-Some-parse_size.ensures.1 c.in-Some-parse_size.ensures.0 (omega (arith, c.if-port.false))
+
+pub returns-then-port : goal.returns-then-port
+returns-then-port c = grind (arith, common_steps)

@@ -1,4 +1,5 @@
-use Rattle.std.proofs.Common.{Some, ap, map, option_map, string_bytes, vec_items, subst, List, refl}
+use Rattle.std.proofs.Common.{Some, ap, map, option_map, string_bytes, vec_items, subst, List, refl, arith}
+use Rattle.std.proofs.lemmas.Grind.{common_steps}
 use Rattle.std.specs.Prelude.{All}
 use Rattle.tl_bucket.specs.Buckets.{NoteWasThere}
 use Rattle.tl_bucket.specs.Inner.Puts.{IsThere, item_of}
@@ -25,3 +26,9 @@ returns g c =
     (subst (λ n. NoteWasThere c.self.inside.client etag (option_map vec_items n) after) c.in-Some-take.ensures.value
     (noted c.self.inside.client etag (option_map (λ t. t.now) c.as_deref-etag.result) c.in-Some-take.note.items c.as_slice-2.result.now after c.as_deref-etag.ensures.value c.as_slice-2.ensures.value c.in_ok-etag.ensures))
     refl (ap (map item_of) c.clear-2.ensures.items) (ap (option_map vec_items) c.take.ensures.after)
+
+pub as_deref-etag-requires : goal.as_deref-etag-requires
+as_deref-etag-requires g c = grind (arith, common_steps)
+
+pub put_note-requires : goal.put_note-requires
+put_note-requires g c = grind (arith, common_steps)

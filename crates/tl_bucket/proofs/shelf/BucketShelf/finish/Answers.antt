@@ -1,4 +1,5 @@
 use Rattle.std.proofs.Common.{◌≡◌, refl, subst, ◌∙◌, arith, rules}
+use Rattle.std.proofs.lemmas.Grind.{common_steps}
 use Rattle.tl_put.specs.Objects.{Place}
 use Rattle.tl_bucket.specs.Finishing.{FinishesSome}
 use Rattle.tl_bucket.proofs.Finishes.{HasFinished, between, ended, none_finished, none_put, one_more, part_more}
@@ -43,3 +44,18 @@ returns-clause-finishes g c =
     ended g.D.CrashOutcome.held g.D.CrashOutcome.reached (g.K.LogSigner.log_key c.args.key.now) c.args.self.now.objects.at c.size.result c.in-Ok.first c.loop-number.number c.args.self.now.objects.claims.number
     c.args.self.now c.loop-number.self c.check_size.new.self c.args.ledger.now c.loop-number.ledger c.check_size.result
     c.size.ensures last c.in-Ok.ensures all c.check_size.ensures.events
+
+pub returns-clause-even : goal.returns-clause-even
+returns-clause-even g c = grind (arith, common_steps)
+
+pub returns-clause-place : goal.returns-clause-place
+returns-clause-place g c = grind (arith, common_steps)
+
+pub returns-in-Err-clause-place : goal.returns-in-Err-clause-place
+returns-in-Err-clause-place g c = grind (arith, common_steps)
+
+pub returns-in-Err-finish_one-clause-even : goal.returns-in-Err-finish_one-clause-even
+returns-in-Err-finish_one-clause-even g c = grind (arith, common_steps)
+
+pub returns-in-Err-finish_one-clause-place : goal.returns-in-Err-finish_one-clause-place
+returns-in-Err-finish_one-clause-place g c = grind (arith, common_steps)

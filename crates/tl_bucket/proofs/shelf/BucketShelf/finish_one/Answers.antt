@@ -1,4 +1,5 @@
-use Rattle.std.proofs.Common.{length, map, vec_items, ap, sym, ◌∙◌}
+use Rattle.std.proofs.Common.{length, map, vec_items, ap, sym, ◌∙◌, arith}
+use Rattle.std.proofs.lemmas.Grind.{common_steps}
 use Rattle.std.proofs.lemmas.List.{length-map}
 use Rattle.tl_bucket.proofs.Finishes.{is_batch, none_put, one_done, one_failed}
 use Rattle.tl_bucket.proofs.shelf.BucketShelf.finish_one.Goals as goal
@@ -24,3 +25,9 @@ returns-clause-finishes g c =
     let read = is_batch c.args.client.now c.args.number c.args.ledger.now.edge.size taken.0 batch taken.1 (taken.2 ∙ c.size.ensures) (taken.3 ∙ ap (λ v. map vec_items v) (sym c.as_slice.ensures.value)) in
     one_failed g.D.CrashOutcome.held g.D.CrashOutcome.reached (g.K.LogSigner.log_key c.args.key.now) c.args.client.now c.args.number c.args.self.now c.take_entries.new.self c.append_batch.new.shelf
     c.args.ledger.now c.append_batch.new.ledger batch c.take_entries.ensures.events read c.in-Err-append_batch.ensures.part
+
+pub returns-clause-place : goal.returns-clause-place
+returns-clause-place g c = grind (arith, common_steps)
+
+pub returns-in-Ok-append_batch-clause-place : goal.returns-in-Ok-append_batch-clause-place
+returns-in-Ok-append_batch-clause-place g c = grind (arith, common_steps)

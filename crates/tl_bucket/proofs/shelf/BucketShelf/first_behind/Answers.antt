@@ -1,4 +1,5 @@
 use Rattle.std.proofs.Common.{◌-◌, ◌∙◌, ap, subst, map, vec_items, refl, arith}
+use Rattle.std.proofs.lemmas.Grind.{common_steps}
 use Rattle.tl_put.specs.Objects.{Place}
 use Rattle.tl_bucket.specs.Buckets.{Bucketed}
 use Rattle.tl_bucket.specs.Commits.{Commit}
@@ -16,3 +17,12 @@ loop-preserved g c =
       below = omega (arith, c.loop.invariant.below);
       behind = one_behind c.args.self.now.objects.at c.args.size c.args.self.now.objects.claims.number c.loop.number (c.loop.number - 1) commit refl c.if-number-le1.false read c.if-commit-size.false c.loop.invariant.behind;
     }
+
+pub loop-init : goal.loop-init
+loop-init g c = grind (arith, common_steps)
+
+pub returns-then-commit-size : goal.returns-then-commit-size
+returns-then-commit-size g c = grind (arith, common_steps)
+
+pub returns-then-number-le1 : goal.returns-then-number-le1
+returns-then-number-le1 g c = grind (arith, common_steps)

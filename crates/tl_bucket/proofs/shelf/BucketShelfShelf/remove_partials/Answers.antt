@@ -1,4 +1,5 @@
-use Rattle.std.proofs.Common.{ap}
+use Rattle.std.proofs.Common.{ap, arith}
+use Rattle.std.proofs.lemmas.Grind.{common_steps}
 use Rattle.tl_folder.proofs.Calls.{now_unremoved, each_now}
 use Rattle.tl_bucket.specs.Buckets.{Bucketed}
 use Rattle.tl_bucket.proofs.shelf.BucketShelfShelf.remove_partials.Goals as goal
@@ -8,3 +9,6 @@ returns-clause-removed g c = now_unremoved g.D.CrashOutcome.reached _ _ _ c.args
 
 pub returns-clause-trace : goal.returns-clause-trace
 returns-clause-trace g c = each_now g.D.CrashOutcome.reached _ _ _ _ _ (ap (λ (b : Bucketed). b.events) c.self.view_is) c.note.ensures
+
+pub returns-clause-failed : goal.returns-clause-failed
+returns-clause-failed g c = grind (arith, common_steps)

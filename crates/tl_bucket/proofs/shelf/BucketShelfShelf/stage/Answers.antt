@@ -1,4 +1,5 @@
-use Rattle.std.proofs.Common.{ap}
+use Rattle.std.proofs.Common.{ap, arith}
+use Rattle.std.proofs.lemmas.Grind.{common_steps}
 use Rattle.tl_folder.proofs.Calls.{now_staged, now_failed, each_now}
 use Rattle.tl_bucket.specs.Buckets.{Bucketed}
 use Rattle.tl_bucket.proofs.shelf.BucketShelfShelf.stage.Goals as goal
@@ -14,3 +15,9 @@ returns-in-Err-clause-unstaged g c = now_failed g.D.CrashOutcome.reached _ _ _ _
 
 pub returns-in-Err-clause-trace : goal.returns-in-Err-clause-trace
 returns-in-Err-clause-trace g c = each_now g.D.CrashOutcome.reached _ _ _ _ _ (ap (λ (b : Bucketed). b.events) c.self.view_is) c.note-in-Err.ensures
+
+pub returns-in-Err-clause-failed : goal.returns-in-Err-clause-failed
+returns-in-Err-clause-failed g c = grind (arith, common_steps)
+
+pub returns-in-Ok-clause-keeps : goal.returns-in-Ok-clause-keeps
+returns-in-Ok-clause-keeps g c = grind (arith, common_steps)

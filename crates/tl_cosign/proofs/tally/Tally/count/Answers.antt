@@ -1,4 +1,5 @@
 use Rattle.std.proofs.Common.{arith, ◌∙◌, sym}
+use Rattle.std.proofs.lemmas.Grind.{common_steps}
 use Rattle.tl_cosign.proofs.GivenLines.{counted_more, counted_same}
 use Rattle.tl_cosign.proofs.tally.Tally.count.Goals.{then-is_some, else-is_some}
 use Rattle.tl_cosign.proofs.tally.Tally.count.Goals as goal
@@ -15,3 +16,6 @@ loop-line-preserved c =
           let so = counted_same c.args.self.now.lines.items c.loop-line.line-index c.line-item.result (omega (arith, within)) is (sym c.is_some.ensures ∙ w.if-is_some.false) in
           (omega (arith, so, w.count-is, c.loop-line.invariant), omega (arith, w.count-is, c.loop-line.invariant))
     ]
+
+pub returns : goal.returns
+returns c = grind (arith, common_steps)

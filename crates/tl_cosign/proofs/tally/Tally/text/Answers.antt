@@ -1,4 +1,5 @@
 use Rattle.std.proofs.Common.{arith, ℕ, List, ◌∙◌, ◌++◌, ap, string_bytes, sym}
+use Rattle.std.proofs.lemmas.Grind.{common_steps}
 use Rattle.tl_cosign.proofs.GivenLines.{joined_more, joined_same}
 use Rattle.tl_cosign.proofs.tally.Tally.text.Goals.{in-Some+in_ok-push_str, in_default}
 use Rattle.tl_cosign.proofs.tally.Tally.text.Goals as goal
@@ -15,3 +16,6 @@ loop-line-preserved c =
           let so = joined_same c.args.self.now.lines.items c.loop-line.line-index c.line-item.result (omega (arith, within)) is w.in_default.is in
           ap string_bytes w.text-is ∙ (c.loop-line.invariant ∙ sym so)
     ]
+
+pub returns : goal.returns
+returns c = grind (arith, common_steps)

@@ -1,4 +1,5 @@
-use Rattle.std.proofs.Common.{string_bytes, subst, sym}
+use Rattle.std.proofs.Common.{string_bytes, subst, sym, arith}
+use Rattle.std.proofs.lemmas.Grind.{common_steps}
 use Rattle.tl_source.specs.Sources.{origin_of}
 use Rattle.tl_fetch.specs.Command.{IsOriginOf}
 use Rattle.tl_fetch.proofs.FeedLemmas.{bad_texts, feed_renamed, no_address}
@@ -13,3 +14,6 @@ pub returns : goal.returns
 returns g c =
     let options = c.args.options.now in
     feed_renamed _ options (origin_of c.new-source.result) _ _ _ (subst (λ s. IsOriginOf (string_bytes options.log.from) (origin_of s)) (sym c.new-source.ensures) c.in-Ok-source_of.ensures.found) c.with_lack.ensures c.feed_with_state-outcome.ensures
+
+pub returns-in-Err-source_of : goal.returns-in-Err-source_of
+returns-in-Err-source_of g c = grind (arith, common_steps)

@@ -1,4 +1,5 @@
-use Rattle.std.proofs.Common.{inl, refl, sym}
+use Rattle.std.proofs.Common.{inl, refl, sym, arith}
+use Rattle.std.proofs.lemmas.Grind.{common_steps}
 use Rattle.std.specs.Prelude.{option_map}
 use Rattle.tl_fetch.specs.Fetching.{grounds_of}
 use Rattle.tl_fetch.specs.Inner.Judging.{two_of}
@@ -36,3 +37,15 @@ returns-clause-refused g c =
     (are_two _ _ last _ _ _ _ _ c.as_deref.ensures.value (sym c.as_str.ensures.value) c.in-Ok.ensures.had c.in-Ok.ensures.known c.in-Ok.ensures.trusted)
     c.in_default.ensures.grown (record { bytes = refl; failed = refl }) c.in_default.ensures.silent
     c.in-Err-keep_and_feed.ensures.fair c.in-Err-keep_and_feed.ensures.part c.in-Err-keep_and_feed.ensures.refused
+
+pub keep_and_feed-requires-clause-known : goal.keep_and_feed-requires-clause-known
+keep_and_feed-requires-clause-known g c = grind (arith, common_steps)
+
+pub keep_and_feed-requires-clause-trusted : goal.keep_and_feed-requires-clause-trusted
+keep_and_feed-requires-clause-trusted g c = grind (arith, common_steps)
+
+pub returns-clause-fed : goal.returns-clause-fed
+returns-clause-fed g c = grind (arith, common_steps)
+
+pub returns-in-Ok-keep_and_feed-clause-refused : goal.returns-in-Ok-keep_and_feed-clause-refused
+returns-in-Ok-keep_and_feed-clause-refused g c = grind (arith, common_steps)

@@ -1,4 +1,5 @@
 use Rattle.std.proofs.Common.{◌≡◌, ◌<◌, ◌+◌, ◌++◌, ◌∷◌, ◌∙◌, [], ℕ, List, ap, arith, get_or, inr, length, refl, string_bytes, subst, sym, take}
+use Rattle.std.proofs.lemmas.Grind.{common_steps}
 use Rattle.std.specs.List.{AllZip}
 use Rattle.std.proofs.lemmas.List.{take_more}
 use Rattle.std.proofs.lemmas.Slice.Zip.{all_zipped_more}
@@ -28,3 +29,6 @@ loop-text-preserved c =
     subst (λ (urls : List Url). AllZip (λ text u. IsAddressOf (string_bytes text) u) (take (c.loop-text.text-index + 1) texts) urls) (sym c.in_ok-push.ensures.items)
     (one_more (λ text u. IsAddressOf (string_bytes text) u) texts c.loop-text.text-index c.text-item.result c.loop-text.urls.items url
     (omega (arith, c.loop-text-test.true)) c.text-item.is (subst (λ (text : Bytes). IsAddressOf text url) c.as_str.ensures.value c.in-Some.ensures) c.loop-text.invariant)
+
+pub returns-clause-read : goal.returns-clause-read
+returns-clause-read c = grind (arith, common_steps)

@@ -1,3 +1,5 @@
+use Rattle.std.proofs.Common.{arith}
+use Rattle.std.proofs.lemmas.Grind.{common_steps}
 use Rattle.tl_folder.proofs.Calls.{now_marked, now_failed, each_now, same_events}
 use Rattle.tl_folder.proofs.shelf.FolderShelfShelf.mark_published.Goals as goal
 
@@ -12,3 +14,12 @@ returns-in-Err-clause-kept g c = now_failed g.D.CrashOutcome.reached _ _ _ _ _ (
 
 pub returns-in-Err-clause-trace : goal.returns-in-Err-clause-trace
 returns-in-Err-clause-trace g c = each_now g.D.CrashOutcome.reached _ _ _ _ _ (same_events _ _ _ _ _ _ _ _ c.self.view_is) c.note-in-Err.ensures
+
+pub returns-in-Err-clause-failed : goal.returns-in-Err-clause-failed
+returns-in-Err-clause-failed g c = grind (arith, common_steps)
+
+pub returns-in-Err-clause-made : goal.returns-in-Err-clause-made
+returns-in-Err-clause-made g c = grind (arith, common_steps)
+
+pub returns-in-Ok-clause-unfailed : goal.returns-in-Ok-clause-unfailed
+returns-in-Ok-clause-unfailed g c = grind (arith, common_steps)

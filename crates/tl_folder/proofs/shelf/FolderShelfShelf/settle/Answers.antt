@@ -1,3 +1,5 @@
+use Rattle.std.proofs.Common.{arith}
+use Rattle.std.proofs.lemmas.Grind.{common_steps}
 use Rattle.tl_folder.proofs.Calls.{now_settled, now_cut, each_now, same_events, settled_calls, cut_calls}
 use Rattle.tl_folder.proofs.shelf.FolderShelfShelf.settle.Goals as goal
 
@@ -21,3 +23,9 @@ returns-in-Ok-clause-made g c = settled_calls _ _ _ _ _ _ _ _ _ _ c.self.view_is
 
 pub returns-in-Err-clause-made : goal.returns-in-Err-clause-made
 returns-in-Err-clause-made g c = cut_calls _ _ _ _ _ _ _ _ _ _ c.self.view_is c.in-Err.ensures.covered c.in-Err.ensures.calls
+
+pub returns-in-Err-clause-failed : goal.returns-in-Err-clause-failed
+returns-in-Err-clause-failed g c = grind (arith, common_steps)
+
+pub returns-in-Ok-clause-unfailed : goal.returns-in-Ok-clause-unfailed
+returns-in-Ok-clause-unfailed g c = grind (arith, common_steps)

@@ -1,4 +1,5 @@
-use Rattle.std.proofs.Common.{◌∙◌, ap, subst, sym, refl, List, ℕ, Ok}
+use Rattle.std.proofs.Common.{◌∙◌, ap, subst, sym, refl, List, ℕ, Ok, arith}
+use Rattle.std.proofs.lemmas.Grind.{common_steps}
 use Rattle.tl_proof.specs.Acceptance.{step_of}
 use Rattle.tl_witness.specs.ReadChain.{IsLineOf}
 use Rattle.tl_logs.specs.ReadState.{heads_shown}
@@ -33,3 +34,9 @@ returns g c = rw (← c.self.view_is, c.clear.ensures.items)
     (ap (λ (s : SoFar). s.line) c.self-2.view_is ∙ c.in-Ok-keep.ensures.line) c.saturating_add-self-inside.ensures
     (subst (λ (s : SoFar). KeepsLink g.T.TreeHash.digest_of (counts_of c.args.counting.now) c.as_str.result.now (step_of c.in-Ok.read.1)
     (so_far (heads_shown c.self.inside.heads.items) c.self.inside.line c.push.new.self.items) s (Ok tt)) (sym c.self-2.view_is) c.in-Ok-keep.ensures.kept))
+
+pub returns-in-Err-OutOfMemory : goal.returns-in-Err-OutOfMemory
+returns-in-Err-OutOfMemory g c = grind (arith, common_steps)
+
+pub returns-in_err-push : goal.returns-in_err-push
+returns-in_err-push g c = grind (arith, common_steps)

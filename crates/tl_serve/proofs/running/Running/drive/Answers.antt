@@ -1,4 +1,5 @@
-use Rattle.std.proofs.Common.{◌∙◌}
+use Rattle.std.proofs.Common.{◌∙◌, arith}
+use Rattle.std.proofs.lemmas.Grind.{common_steps}
 use Rattle.tl_serve.proofs.Driven.{driven_ends, driven_long, driven_next}
 use Rattle.tl_serve.proofs.running.Running.drive.Goals as goal
 
@@ -27,3 +28,9 @@ loop-preserved g c = (
       (record { running = c.carry_out.new.self; feed = c.carry_out.new.feed; out = c.carry_out.new.out })
       c.loop.counter c.in-Some.event c.loop.invariant.1 c.in-Some.ensures.carried c.after-heart.ensures,
 )
+
+pub loop-init : goal.loop-init
+loop-init g c = grind (arith, common_steps)
+
+pub returns-in_default-clause-kept : goal.returns-in_default-clause-kept
+returns-in_default-clause-kept g c = grind (arith, common_steps)

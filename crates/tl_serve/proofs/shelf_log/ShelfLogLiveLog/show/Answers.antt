@@ -1,4 +1,5 @@
 use Rattle.std.proofs.Common.{List, Some, false, ap, arith, length, subst, sym, vec_items, ◌∙◌}
+use Rattle.std.proofs.lemmas.Grind.{common_steps}
 use Rattle.std.proofs.lemmas.List.{length-map}
 use Rattle.tl_hash.specs.Bytes.{Bytes}
 use Rattle.tl_sequencer.specs.Log.{rings_of}
@@ -78,3 +79,9 @@ returns-in-Err-clause-kept g c = record {
         quorum = q;
       })) c.append-outcome.ensures.quorum;
 }
+
+pub returns-in-Err-clause-shown : goal.returns-in-Err-clause-shown
+returns-in-Err-clause-shown g c = grind (arith, common_steps)
+
+pub returns-in-Ok-clause-shown : goal.returns-in-Ok-clause-shown
+returns-in-Ok-clause-shown g c = grind (arith, common_steps)

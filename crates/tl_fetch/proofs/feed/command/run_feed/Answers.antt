@@ -1,0 +1,6 @@
+use Rattle.std.proofs.Common.{arith}
+use Rattle.std.proofs.lemmas.Grind.{common_steps}
+use Rattle.tl_fetch.proofs.feed.command.run_feed.Goals as goal
+
+pub returns-in_err-keys : goal.returns-in_err-keys
+returns-in_err-keys g c = grind (arith, common_steps)
