@@ -16,7 +16,7 @@ use Rattle.tl_command.specs.Open.{RunsOpen}
 use Rattle.tl_command.specs.Mirror.{LogKey}
 use Rattle.tl_command.specs.ProofCommands.{ChecksBy}
 use Rattle.tl_command.specs.ProofText.{Proof}
-use Rattle.tl_command.specs.Run.{Output, ReadingFails, Runs, most_input}
+use Rattle.tl_command.specs.Run.{Output, ReadingFails, ReadsEntries, Runs, most_input}
 use Rattle.tl_command.specs.Signed.{RunsSigned}
 use Rattle.tl_command.specs.Inner.Answers.{AnswersAuditText}
 use Rattle.tl_command.specs.Inner.Checks.{FindsInText}
@@ -62,6 +62,33 @@ unread Comes i o (WrongSignature place) fails none = absurd fails
 unread Comes i o Unverified fails none = absurd fails
 unread Comes i o (Device place why) fails none = absurd fails
 unread Comes i o BadKeyFile fails none = absurd fails
+
+-- the entries can't be read, since the input can't
+pub entries_unread : (A : Type 0) (most : ℕ) (p : Passage) (fault : RunFault) → ReadingFails most p fault → ReadsEntries {A = A} most p (Err fault)
+entries_unread A most p Refused fails = absurd fails
+entries_unread A most p Read fails = fails
+entries_unread A most p Write fails = absurd fails
+entries_unread A most p TooLarge fails = fails
+entries_unread A most p (EntryTooLong place) fails = absurd fails
+entries_unread A most p BadOrigin fails = absurd fails
+entries_unread A most p BadIndex fails = absurd fails
+entries_unread A most p BadOld fails = absurd fails
+entries_unread A most p BadPath fails = absurd fails
+entries_unread A most p NotThere fails = absurd fails
+entries_unread A most p Malformed fails = absurd fails
+entries_unread A most p (Chain place) fails = absurd fails
+entries_unread A most p Sign fails = absurd fails
+entries_unread A most p Operator fails = absurd fails
+entries_unread A most p Listen fails = absurd fails
+entries_unread A most p Accept fails = absurd fails
+entries_unread A most p OutOfMemory fails = fails
+entries_unread A most p BadName fails = absurd fails
+entries_unread A most p BadKey fails = absurd fails
+entries_unread A most p (BadCheckpoint place) fails = absurd fails
+entries_unread A most p (WrongSignature place) fails = absurd fails
+entries_unread A most p Unverified fails = absurd fails
+entries_unread A most p (Device place why) fails = absurd fails
+entries_unread A most p BadKeyFile fails = absurd fails
 
 -- no audit is read from it
 pub audit_fails : (A : Type 0) (H : Digest) (i o : Passage) (input : List ℕ) (fault : RunFault) → ReadWhole i most_input input → IsUnwritten o → AnswersAuditText {A = A} H input (Err fault)

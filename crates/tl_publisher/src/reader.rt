@@ -6,7 +6,7 @@ ghost use Rattle.tl_publisher.specs.Boards as boards;
 ghost use Rattle.tl_publisher.specs.Histories.{StartsWith, Grew, last_of};
 ghost use Rattle.tl_publisher.specs.Rules.{knows};
 ghost use Rattle.tl_publisher.specs.Stages as stages;
-ghost use Rattle.tl_publisher.specs.Answers.{AnswersBytes, AnswersHead, AnswersLatest, Sees, head_and_note};
+ghost use Rattle.tl_publisher.specs.Answers.{AnswersBytes, AnswersHead, Sees};
 
 use crate::board_copy::BoardCopy;
 use crate::fault::GetFault;
@@ -62,26 +62,6 @@ pub(crate) fn bytes_of<A: Allocator, B: Allocator>(
 {
     match copy.found(resource) {
         Some(bytes) => Ok(Some(Vec::from_slice(alloc, bytes)?)),
-        None => Ok(None),
-    }
-}
-
-// Size, root and note of what a board shows.
-fn latest_of<A: Allocator, B: Allocator>(
-    copy: &BoardCopy<A>,
-    alloc: B,
-) -> Result<Option<(Head, Vec<u8, B>)>, AllocError>
-    requires { stages.IsShown sha256 (stages.visible copy.now) }
-    ensures latest { IfOk result
-        (λ r. option_map head_and_note r ≡ boards.latest_if sha256 (last_of copy.now.past.log)) }
-    ensures memory { IfErr result
-        (λ _. IsSome (boards.latest_if sha256 (last_of copy.now.past.log))) }
-{
-    let Some(head) = copy.head() else {
-        return Ok(None);
-    };
-    match bytes_of(copy, alloc, Resource::Checkpoint)? {
-        Some(note) => Ok(Some((head, note))),
         None => Ok(None),
     }
 }
@@ -144,37 +124,6 @@ fn look_ahead<A: Allocator>(
     }
 }
 
-// One look at size, root and note.
-fn look_at_latest<A: Allocator, B: Allocator>(
-    reader: BoardReader<A>,
-    alloc: B,
-) -> (BoardReader<A>, Result<Option<(Head, Vec<u8, B>)>, GetFault>)
-    ensures { AnswersLatest
-        (boards.latest_if sha256 (last_of result.0.log)) reader result.0 result.1 }
-{
-    let BoardReader { reader, past } = reader;
-    let mut past = past;
-    match reader.enter_as::<Look>() {
-        Ok(reading) => {
-            let copy = reading.get();
-            let follows = follow(&mut past, copy);
-            let latest = latest_of(copy, alloc);
-            let reader = BoardReader {
-                reader: reading.leave(),
-                past,
-            };
-            if !follows {
-                return (reader, Err(GetFault::Gone));
-            }
-            match latest {
-                Ok(latest) => (reader, Ok(latest)),
-                Err(_) => (reader, Err(GetFault::OutOfMemory)),
-            }
-        }
-        Err(reader) => (BoardReader { reader, past }, Err(GetFault::Gone)),
-    }
-}
-
 impl<A: Allocator> BoardReader<A> {
     pub(crate) fn new(reader: CopyReader<A>, past: Past) -> BoardReader<A>
         requires { view reader.place ≡ knows past.book }
@@ -201,15 +150,6 @@ impl<A: Allocator> BoardReader<A> {
             (boards.head_if sha256 (last_of self.new.log)) self.old self.new result }
     {
         replace_with(self, (), look_ahead)
-    }
-
-    /// Size and root of the last publication together with its note: those of one publication, whatever is published
-    /// meanwhile.
-    pub fn latest<B: Allocator>(&mut self, alloc: B) -> Result<Option<(Head, Vec<u8, B>)>, GetFault>
-        ensures { AnswersLatest
-            (boards.latest_if sha256 (last_of self.new.log)) self.old self.new result }
-    {
-        replace_with(self, alloc, look_at_latest)
     }
 
     /// From now on it sees at least that publication.
