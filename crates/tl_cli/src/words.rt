@@ -101,7 +101,7 @@ enum Named {
 }
 
 // The commands in the order in which help lists them.
-const COMMANDS: [Named; 13] = [
+const COMMANDS: &[Named] = &[
     Named::Head,
     Named::Build,
     Named::Append,
@@ -140,7 +140,7 @@ fn words_of(command: Named) -> &'static Words {
 fn with_commands<'a>(alloc: Global) -> Result<Command<'a>, AllocError> {
     let mut program = program(alloc);
     for command in COMMANDS {
-        program = program.subcommand(command_of(alloc, words_of(command))?)?;
+        program = program.subcommand(command_of(alloc, words_of(*command))?)?;
     }
     Ok(program)
 }

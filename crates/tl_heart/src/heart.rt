@@ -5,8 +5,10 @@ ghost use Rattle.tl_heart.specs.declared.heart.Doing.TheVariants as doing;
 ghost use Rattle.tl_heart.specs.Order.{Begins, telling};
 ghost use Rattle.tl_heart.specs.Heart.{after, after_done, after_failure, after_nothing, is_waiting, next_due, next_taking, now_doing, step_of, with_taken, without_new};
 
+use std::alloc::AllocError;
+
 /// What came of a step, or came meanwhile.
-#[derive(Clone, Copy, Debug, PartialEq, Eq)]
+#[derive(Debug)]
 pub enum Event<F> {
     /// What was to be done is done: so many entries were taken in, or the log is closed with so many. Where it was to
     /// wait, something may have come.
@@ -25,8 +27,22 @@ pub enum Event<F> {
     Failed(F),
 }
 
+impl<F: Copy> Clone for Event<F> {
+    ghost use Rattle.std.specs.Prelude.{◌≡◌};
+
+    ghost is_clone = { λ event copy. copy ≡ event };
+
+    ghost is_infallible = { λ _. Unit {0} };
+
+    fn clone(&self) -> Result<Event<F>, AllocError> {
+        Ok(*self)
+    }
+}
+
+impl<F: Copy> Copy for Event<F> {}
+
 /// What is to be done next.
-#[derive(Clone, Copy, Debug, PartialEq, Eq)]
+#[derive(Debug)]
 pub enum Step<F> {
     /// Wait for what comes.
     Wait,
@@ -52,8 +68,22 @@ pub enum Step<F> {
     End(Result<(), F>),
 }
 
+impl<F: Copy> Clone for Step<F> {
+    ghost use Rattle.std.specs.Prelude.{◌≡◌};
+
+    ghost is_clone = { λ step copy. copy ≡ step };
+
+    ghost is_infallible = { λ _. Unit {0} };
+
+    fn clone(&self) -> Result<Step<F>, AllocError> {
+        Ok(*self)
+    }
+}
+
+impl<F: Copy> Copy for Step<F> {}
+
 /// What is being done.
-#[derive(Clone, Copy, Debug, PartialEq, Eq)]
+#[derive(Debug)]
 pub enum Doing<F> {
     /// It waits.
     Waiting,
@@ -81,8 +111,22 @@ pub enum Doing<F> {
     Ended(Result<(), F>),
 }
 
+impl<F: Copy> Clone for Doing<F> {
+    ghost use Rattle.std.specs.Prelude.{◌≡◌};
+
+    ghost is_clone = { λ doing copy. copy ≡ doing };
+
+    ghost is_infallible = { λ _. Unit {0} };
+
+    fn clone(&self) -> Result<Doing<F>, AllocError> {
+        Ok(*self)
+    }
+}
+
+impl<F: Copy> Copy for Doing<F> {}
+
 /// A running log, as far as it decides what is to be done next.
-#[derive(Clone, Copy, Debug, PartialEq, Eq)]
+#[derive(Debug)]
 pub struct Heart<F> {
     /// What is being done.
     pub doing: Doing<F>,
@@ -95,6 +139,20 @@ pub struct Heart<F> {
     /// Whether fewer entries wait for more until a publication is due; else they are published once no more wait.
     pub gathers: bool,
 }
+
+impl<F: Copy> Clone for Heart<F> {
+    ghost use Rattle.std.specs.Prelude.{◌≡◌};
+
+    ghost is_clone = { λ heart copy. copy ≡ heart };
+
+    ghost is_infallible = { λ _. Unit {0} };
+
+    fn clone(&self) -> Result<Heart<F>, AllocError> {
+        Ok(*self)
+    }
+}
+
+impl<F: Copy> Copy for Heart<F> {}
 
 impl<F: Copy> Heart<F> {
     /// A log that is served: it was published, which is told first, and publishes what comes: each `batch` entries at

@@ -1,7 +1,7 @@
 //! The words of a log in a bucket.
 
 use super::WordsFault;
-use super::given::{text_if_given, usage_error};
+use super::given::{is_given, text_if_given, text_of};
 use super::table::{Kind, Word, Words};
 use crate::own_bucket::BucketOptions;
 use clap::ArgMatches;
@@ -29,30 +29,26 @@ fn is_address(text: &str) -> bool {
     }
 }
 
-/// The bucket that is given, if one is.
-pub(super) fn bucket_if_given(
-    alloc: Global,
-    row: &Words,
-    options: &ArgMatches<'_>,
-) -> Result<Option<BucketOptions>, WordsFault> {
-    let address = text_if_given(alloc, options, "bucket")?;
-    let region = text_if_given(alloc, options, "region")?;
-    let credentials = text_if_given(alloc, options, "credentials")?;
-    let Some(address) = address else {
-        if region.is_some() || credentials.is_some() {
-            return Err(usage_error(alloc, row, OF_A_BUCKET));
-        }
-        return Ok(None);
+/// What is said where the words of a bucket don't go together, or name none.
+pub(super) fn bucket_refusal(options: &ArgMatches<'_>) -> Option<&'static str> {
+    let Some(address) = options.get_str("bucket") else {
+        let of_a_bucket = is_given(options, "region") || is_given(options, "credentials");
+        return of_a_bucket.then_some(OF_A_BUCKET);
     };
-    let Some(region) = region else {
-        return Err(usage_error(alloc, row, OF_A_BUCKET));
-    };
-    if !is_address(address.as_str()) {
-        return Err(usage_error(alloc, row, NO_ADDRESS));
+    if !is_given(options, "region") {
+        return Some(OF_A_BUCKET);
     }
-    Ok(Some(BucketOptions {
-        address,
-        region,
-        credentials,
-    }))
+    (!is_address(address)).then_some(NO_ADDRESS)
+}
+
+/// The bucket that is given.
+pub(super) fn bucket_of(
+    alloc: Global,
+    options: &ArgMatches<'_>,
+) -> Result<BucketOptions, WordsFault> {
+    Ok(BucketOptions {
+        address: text_of(alloc, options, "bucket")?,
+        region: text_of(alloc, options, "region")?,
+        credentials: text_if_given(alloc, options, "credentials")?,
+    })
 }

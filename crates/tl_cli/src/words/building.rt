@@ -1,12 +1,13 @@
 //! The words of the commands that build a log, as a mirror and in a folder.
 
-use super::bucket::{BUCKET, bucket_if_given};
-use super::given::{log_key_if_one, text_if_given, text_of, usage_error};
+use super::bucket::{BUCKET, bucket_of, bucket_refusal};
+use super::given::{
+    NamedLog, has_log_key, is_given, named_log, text_if_given, text_of, usage_error,
+};
 use super::table::{Kind, Word, Words};
 use super::{EITHER_KEY, WordsFault, texts};
 use crate::in_bucket::AppendToOptions;
 use crate::job::Job;
-use crate::own_bucket::BucketOptions;
 use clap::ArgMatches;
 use std::alloc::Global;
 use tl_append::AppendOptions;
@@ -76,124 +77,149 @@ pub(super) fn append() -> &'static Words {
     &APPEND
 }
 
-// The job that appends to a log in a bucket. There partial tiles stay.
-fn append_to(
-    alloc: Global,
-    bucket: BucketOptions,
-    origin: String,
-    key: LogKey,
+// How a log is appended to.
+#[derive(Drop)]
+struct Appending {
     batch: Option<u64>,
     is_new: bool,
-) -> Result<Job, WordsFault> {
-    let dir = String::from_str(alloc, bucket.address.as_str())?;
-    let append = AppendOptions {
+    allows_older: bool,
+    keeps_partials: bool,
+}
+
+// The options of an append to the log at this place.
+fn append_options(
+    alloc: Global,
+    options: &ArgMatches<'_>,
+    place: &str,
+    how: Appending,
+) -> Result<AppendOptions, WordsFault> {
+    let dir = text_of(alloc, options, place)?;
+    let NamedLog { origin, key } = named_log(alloc, options)?;
+    let Appending {
+        batch,
+        is_new,
+        allows_older,
+        keeps_partials,
+    } = how;
+    Ok(AppendOptions {
         dir,
         origin,
         key,
+        batch,
+        is_new,
+        allows_older,
+        keeps_partials,
+    })
+}
+
+// The job that appends to a log in a bucket. There partial tiles stay.
+fn append_to(
+    alloc: Global,
+    options: &ArgMatches<'_>,
+    batch: Option<u64>,
+    is_new: bool,
+) -> Result<Job, WordsFault> {
+    let how = Appending {
         batch: Some(batch.unwrap_or(BATCH)),
         is_new,
         allows_older: false,
         keeps_partials: true,
     };
+    let append = append_options(alloc, options, "bucket", how)?;
+    let bucket = bucket_of(alloc, options)?;
     Ok(Job::AppendTo(AppendToOptions { bucket, append }))
 }
 
-// The job of `build` into a bucket.
-fn build_to(
-    alloc: Global,
-    options: &ArgMatches<'_>,
-    bucket: BucketOptions,
-    key: LogKey,
-) -> Result<Job, WordsFault> {
-    let threads = options.get_one::<u16>("threads");
-    if threads.is_some() || options.get_str("get").is_some() {
-        return Err(usage_error(alloc, build(), OF_A_FOLDER));
+// What is said where words of `build` are given that don't go together.
+fn build_refusal(options: &ArgMatches<'_>) -> Option<&'static str> {
+    let has_threads = options.get_one::<u16>("threads").is_some();
+    let (has_get, has_dir) = (is_given(options, "get"), is_given(options, "dir"));
+    if !has_log_key(options) {
+        return Some(EITHER_KEY);
     }
-    if options.get_str("dir").is_some() {
-        return Err(usage_error(alloc, build(), EITHER_PLACE));
+    if let Some(why) = bucket_refusal(options) {
+        return Some(why);
     }
-    append_to(
-        alloc,
-        bucket,
-        text_of(alloc, options, "origin")?,
-        key,
-        None,
-        true,
-    )
+    match (is_given(options, "bucket"), has_dir) {
+        (true, _) if has_threads || has_get => Some(OF_A_FOLDER),
+        (true, true) => Some(EITHER_PLACE),
+        (false, true) if has_threads => Some(NO_THREADS),
+        (false, true) if has_get => Some(ONE_OUTPUT),
+        _ => None,
+    }
 }
 
-// The job of `build`: of the secret and the file of a key one is given, and not both a resource and a folder.
-pub(super) fn build_job(alloc: Global, options: &ArgMatches<'_>) -> Result<Job, WordsFault> {
-    let origin = text_of(alloc, options, "origin")?;
-    let get = text_if_given(alloc, options, "get")?;
-    let dir = text_if_given(alloc, options, "dir")?;
+// The job that prints a mirror.
+fn print_job(alloc: Global, options: &ArgMatches<'_>) -> Result<Job, WordsFault> {
     let threads = options.get_one::<u16>("threads");
-    let Some(key) = log_key_if_one(alloc, options)? else {
-        return Err(usage_error(alloc, build(), EITHER_KEY));
-    };
-    if let Some(bucket) = bucket_if_given(alloc, build(), options)? {
-        return build_to(alloc, options, bucket, key);
-    }
-    if threads.is_some() && dir.is_some() {
-        return Err(usage_error(alloc, build(), NO_THREADS));
-    }
-    match (get, dir, key) {
-        (None, Some(dir), key) => Ok(Job::Append(AppendOptions {
-            dir,
-            origin,
-            key,
-            batch: None,
-            is_new: true,
-            allows_older: false,
-            keeps_partials: false,
-        })),
-        (Some(_), Some(_), _) => Err(usage_error(alloc, build(), ONE_OUTPUT)),
-        (get, None, LogKey::Secret(secret)) => Ok(Job::Build(BuildOptions {
+    let get = text_if_given(alloc, options, "get")?;
+    let NamedLog { origin, key } = named_log(alloc, options)?;
+    match key {
+        LogKey::Secret(secret) => Ok(Job::Build(BuildOptions {
             origin,
             secret,
             get,
             threads,
         })),
-        (get, None, LogKey::File(key)) => {
-            Ok(Job::BuildSigned(SignedOptions {
-                origin,
-                key,
-                get,
-                threads,
-            }))
-        }
+        LogKey::File(key) => Ok(Job::BuildSigned(SignedOptions {
+            origin,
+            key,
+            get,
+            threads,
+        })),
+    }
+}
+
+// The job of `build`: of the secret and the file of a key one is given, and not both a resource and a folder.
+pub(super) fn build_job(alloc: Global, options: &ArgMatches<'_>) -> Result<Job, WordsFault> {
+    if let Some(why) = build_refusal(options) {
+        return Err(usage_error(alloc, build(), why));
+    }
+    if is_given(options, "bucket") {
+        return append_to(alloc, options, None, true);
+    }
+    if !is_given(options, "dir") {
+        return print_job(alloc, options);
+    }
+    let how = Appending {
+        batch: None,
+        is_new: true,
+        allows_older: false,
+        keeps_partials: false,
+    };
+    Ok(Job::Append(append_options(alloc, options, "dir", how)?))
+}
+
+// What is said where words of `append` are given that don't go together.
+fn append_refusal(options: &ArgMatches<'_>) -> Option<&'static str> {
+    let of_a_folder = options.get_flag("older") || options.get_flag("keep-partials");
+    if !has_log_key(options) {
+        return Some(EITHER_KEY);
+    }
+    if let Some(why) = bucket_refusal(options) {
+        return Some(why);
+    }
+    match (is_given(options, "bucket"), is_given(options, "dir")) {
+        (true, true) | (false, false) => Some(EITHER_PLACE),
+        (true, false) if of_a_folder => Some(OF_A_FOLDER),
+        _ => None,
     }
 }
 
 // The job of `append`, to a folder or to a bucket.
 pub(super) fn append_job(alloc: Global, options: &ArgMatches<'_>) -> Result<Job, WordsFault> {
-    let Some(key) = log_key_if_one(alloc, options)? else {
-        return Err(usage_error(alloc, append(), EITHER_KEY));
-    };
-    let origin = text_of(alloc, options, "origin")?;
-    let batch = options.get_one::<u64>("batch");
-    let allows_older = options.get_flag("older");
-    let keeps_partials = options.get_flag("keep-partials");
-    let dir = text_if_given(alloc, options, "dir")?;
-    if let Some(bucket) = bucket_if_given(alloc, append(), options)? {
-        if dir.is_some() {
-            return Err(usage_error(alloc, append(), EITHER_PLACE));
-        }
-        if allows_older || keeps_partials {
-            return Err(usage_error(alloc, append(), OF_A_FOLDER));
-        }
-        return append_to(alloc, bucket, origin, key, batch, false);
+    if let Some(why) = append_refusal(options) {
+        return Err(usage_error(alloc, append(), why));
     }
-    let Some(dir) = dir else {
-        return Err(usage_error(alloc, append(), EITHER_PLACE));
-    };
-    Ok(Job::Append(AppendOptions {
-        dir,
-        origin,
-        key,
+    let batch = options.get_one::<u64>("batch");
+    if is_given(options, "bucket") {
+        return append_to(alloc, options, batch, false);
+    }
+    let how = Appending {
         batch,
         is_new: false,
-        allows_older,
-        keeps_partials,
-    }))
+        allows_older: options.get_flag("older"),
+        keeps_partials: options.get_flag("keep-partials"),
+    };
+    Ok(Job::Append(append_options(alloc, options, "dir", how)?))
 }

@@ -1,13 +1,13 @@
 //! The words of the command `feed`.
 
-use super::fetching::{LogKeyTexts, count_names, log_keys, name_of, need_of};
-use super::given::{text_if_given, text_of, texts_of, usage_error};
+use super::fetching::{fetch_options, log_refusal, name_of};
+use super::given::{count_given, texts_of, usage_error};
 use super::table::{Kind, Word, Words};
-use super::{LOG_KEYS, TIMEOUT, WITNESS_KEY, WordsFault, texts};
+use super::{LOG_KEYS, WITNESS_KEY, WordsFault, texts};
 use crate::job::Job;
 use clap::ArgMatches;
 use std::alloc::Global;
-use tl_fetch::{FeedOptions, FetchOptions, FetchRequest};
+use tl_fetch::{FeedOptions, FetchRequest};
 
 // What is said where not each witness has its address.
 const PAIRS: &str =
@@ -35,38 +35,36 @@ pub(super) fn feed() -> &'static Words {
 }
 
 // Whether the key of the text at this place has another name than the one before it.
-fn is_next(texts: &[String], place: usize) -> bool {
-    let name = |place: usize| texts.get(place).map(|text| name_of(text.as_str()));
+fn is_next(texts: &[&str], place: usize) -> bool {
+    let name = |place: usize| texts.get(place).map(|text| name_of(text));
     place == 0 || name(place) != name(place - 1)
 }
 
-// How many witnesses have these keys, where those of one stand one after another.
-fn count_runs(texts: &[String]) -> usize {
+// How many witnesses have the keys that are given, where those of one stand one after another.
+fn count_runs(options: &ArgMatches<'_>) -> usize {
+    let Some(texts) = options.get_strs("witness") else {
+        return 0;
+    };
     (0..texts.len())
         .filter(|place| is_next(texts, *place))
         .count()
 }
 
+// What is said where words of `feed` are given that don't go together.
+fn feed_refusal(options: &ArgMatches<'_>) -> Option<&'static str> {
+    let count = count_given(options, "to");
+    if count == 0 || count != count_runs(options) {
+        return Some(PAIRS);
+    }
+    log_refusal(options)
+}
+
 // The job of `feed`: each witness has its address, and no more must cosign than there are.
 pub(super) fn feed_job(alloc: Global, options: &ArgMatches<'_>) -> Result<Job, WordsFault> {
-    let to = texts_of(alloc, options, "to")?;
-    let witnesses = texts_of(alloc, options, "witness")?;
-    if to.is_empty() || to.len() != count_runs(witnesses.as_slice()) {
-        return Err(usage_error(alloc, feed(), PAIRS));
+    if let Some(why) = feed_refusal(options) {
+        return Err(usage_error(alloc, feed(), why));
     }
-    let LogKeyTexts { key, other_key } = log_keys(alloc, feed(), options)?;
-    let need = need_of(alloc, feed(), options, count_names(witnesses.as_slice()))?;
-    let log = FetchOptions {
-        from: text_of(alloc, options, "from")?,
-        key,
-        other_key,
-        witnesses,
-        need,
-        state: text_if_given(alloc, options, "state")?,
-        cache: None,
-        timeout: options.get_one::<u64>("timeout").unwrap_or(TIMEOUT),
-        threads: None,
-        wanted: FetchRequest::Head,
-    };
+    let log = fetch_options(alloc, options, FetchRequest::Head)?;
+    let to = texts_of(alloc, options, "to")?;
     Ok(Job::Feed(FeedOptions { log, to }))
 }

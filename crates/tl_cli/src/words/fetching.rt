@@ -1,18 +1,18 @@
 //! The words of the command `fetch`.
 
-use super::given::{no_word, text_if_given, text_of, texts_of, usage_error};
+use super::given::{count_given, text_if_given, text_of, texts_of, usage_error};
 use super::table::{Kind, Word, Words};
 use super::{LOG_KEYS, TIMEOUT, WITNESS_KEY, WordsFault, texts};
 use crate::job::Job;
 use clap::ArgMatches;
-use std::alloc::Global;
+use std::alloc::{AllocError, Global};
 use tl_fetch::{FetchOptions, FetchRequest};
 
 // What is said where not one of the four is given.
 const ONE_WANTED: &str = "one of --head, --index, --all and --prove is given";
 
-// What is said where more cosignatures are needed than there are witnesses.
-const FEWER: &str = "--need is at most the number of witnesses";
+/// What is said where more cosignatures are needed than there are witnesses.
+pub(super) const FEWER: &str = "--need is at most the number of witnesses";
 
 const FETCH: Words = Words {
     name: "fetch",
@@ -61,26 +61,30 @@ fn wanted_if_one(options: &ArgMatches<'_>) -> Option<FetchRequest> {
 // What is said where a log is told to have more keys.
 const TWO_KEYS: &str = "--key is given once or twice";
 
-/// The texts of a log's keys.
+// The texts of a log's keys.
 #[derive(Drop)]
-pub(super) struct LogKeyTexts {
-    pub(super) key: String,
-    /// That of another one, if there are two.
-    pub(super) other_key: Option<String>,
+struct LogKeyTexts {
+    key: String,
+    // That of another one, if there are two.
+    other_key: Option<String>,
 }
 
-/// The texts of the log's keys, one or two.
-pub(super) fn log_keys(
-    alloc: Global,
-    row: &Words,
-    options: &ArgMatches<'_>,
-) -> Result<LogKeyTexts, WordsFault> {
-    let mut keys = texts_of(alloc, options, "key")?.into_iter();
-    match (keys.next(), keys.next(), keys.next()) {
-        (Some(key), other_key, None) => Ok(LogKeyTexts { key, other_key }),
-        (None, _, _) => Err(no_word(alloc)),
-        _ => Err(usage_error(alloc, row, TWO_KEYS)),
+// The text of the log's other key, if there are two.
+fn other_key(alloc: Global, options: &ArgMatches<'_>) -> Result<Option<String>, AllocError> {
+    let Some(texts) = options.get_strs("key") else {
+        return Ok(None);
+    };
+    match texts.get(1) {
+        Some(text) => Ok(Some(String::from_str(alloc, text)?)),
+        None => Ok(None),
     }
+}
+
+// The texts of the log's keys, of which it is known that they are one or two.
+fn log_keys(alloc: Global, options: &ArgMatches<'_>) -> Result<LogKeyTexts, WordsFault> {
+    let other_key = other_key(alloc, options)?;
+    let key = text_of(alloc, options, "key")?;
+    Ok(LogKeyTexts { key, other_key })
 }
 
 /// The name that the text of a verifier key begins with.
@@ -92,35 +96,75 @@ pub(super) fn name_of(text: &str) -> &str {
 }
 
 // Whether none of the texts before this place is of a key with the name of the one there.
-fn is_new(texts: &[String], place: usize) -> bool {
+fn is_new(texts: &[&str], place: usize) -> bool {
     let (before, behind) = texts.split_at(place.min(texts.len()));
     let Some(text) = behind.first() else {
         return false;
     };
-    let name = name_of(text.as_str());
-    !before
-        .iter()
-        .any(|earlier| name_of(earlier.as_str()) == name)
+    let name = name_of(text);
+    !before.iter().any(|earlier| name_of(earlier) == name)
 }
 
-/// How many witnesses have these keys: those with one name are one's.
-pub(super) fn count_names(texts: &[String]) -> u64 {
+// How many witnesses have the keys that are given: those with one name are one's.
+fn count_witnesses(options: &ArgMatches<'_>) -> u64 {
+    let Some(texts) = options.get_strs("witness") else {
+        return 0;
+    };
     let places = 0..texts.len();
     places.filter(|place| is_new(texts, *place)).count() as u64
 }
 
-/// How many of the witnesses must have cosigned: all, unless a number is given.
-pub(super) fn need_of(
-    alloc: Global,
-    row: &Words,
-    options: &ArgMatches<'_>,
-    all: u64,
-) -> Result<u64, WordsFault> {
-    let need = options.get_one::<u64>("need").unwrap_or(all);
-    if need > all {
-        return Err(usage_error(alloc, row, FEWER));
+// How many of the witnesses must have cosigned: all, unless a number is given.
+fn need_of(options: &ArgMatches<'_>) -> u64 {
+    match options.get_one::<u64>("need") {
+        Some(need) => need,
+        None => count_witnesses(options),
     }
-    Ok(need)
+}
+
+/// What is said where the keys of a log are more than two, or more of its witnesses must have cosigned than there are.
+pub(super) fn log_refusal(options: &ArgMatches<'_>) -> Option<&'static str> {
+    if count_given(options, "key") > 2 {
+        return Some(TWO_KEYS);
+    }
+    (need_of(options) > count_witnesses(options)).then_some(FEWER)
+}
+
+// The files of who fetches.
+#[derive(Drop)]
+struct OwnFiles {
+    state: Option<String>,
+    cache: Option<String>,
+}
+
+// The files of who fetches, as they are given.
+fn own_files(alloc: Global, options: &ArgMatches<'_>) -> Result<OwnFiles, AllocError> {
+    let state = text_if_given(alloc, options, "state")?;
+    let cache = text_if_given(alloc, options, "cache")?;
+    Ok(OwnFiles { state, cache })
+}
+
+/// The options of `fetch`, whose words go together.
+pub(super) fn fetch_options(
+    alloc: Global,
+    options: &ArgMatches<'_>,
+    wanted: FetchRequest,
+) -> Result<FetchOptions, WordsFault> {
+    let from = text_of(alloc, options, "from")?;
+    let LogKeyTexts { key, other_key } = log_keys(alloc, options)?;
+    let OwnFiles { state, cache } = own_files(alloc, options)?;
+    Ok(FetchOptions {
+        from,
+        key,
+        other_key,
+        witnesses: texts_of(alloc, options, "witness")?,
+        need: need_of(options),
+        state,
+        cache,
+        timeout: options.get_one::<u64>("timeout").unwrap_or(TIMEOUT),
+        threads: options.get_one::<u16>("threads"),
+        wanted,
+    })
 }
 
 // The job of `fetch`: one of the four is given, and no more cosignatures are needed than there are witnesses.
@@ -128,19 +172,8 @@ pub(super) fn fetch_job(alloc: Global, options: &ArgMatches<'_>) -> Result<Job, 
     let Some(wanted) = wanted_if_one(options) else {
         return Err(usage_error(alloc, fetch(), ONE_WANTED));
     };
-    let LogKeyTexts { key, other_key } = log_keys(alloc, fetch(), options)?;
-    let witnesses = texts_of(alloc, options, "witness")?;
-    let need = need_of(alloc, fetch(), options, count_names(witnesses.as_slice()))?;
-    Ok(Job::Fetch(FetchOptions {
-        from: text_of(alloc, options, "from")?,
-        key,
-        other_key,
-        witnesses,
-        need,
-        state: text_if_given(alloc, options, "state")?,
-        cache: text_if_given(alloc, options, "cache")?,
-        timeout: options.get_one::<u64>("timeout").unwrap_or(TIMEOUT),
-        threads: options.get_one::<u16>("threads"),
-        wanted,
-    }))
+    if let Some(why) = log_refusal(options) {
+        return Err(usage_error(alloc, fetch(), why));
+    }
+    Ok(Job::Fetch(fetch_options(alloc, options, wanted)?))
 }

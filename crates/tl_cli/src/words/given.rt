@@ -47,6 +47,14 @@ pub(super) fn text_if_given(
     }
 }
 
+/// How many texts stand behind a word that may be given several times.
+pub(super) fn count_given(options: &ArgMatches<'_>, name: &str) -> usize {
+    match options.get_strs(name) {
+        Some(texts) => texts.len(),
+        None => 0,
+    }
+}
+
 /// The texts behind a word that may be given several times, in order.
 pub(super) fn texts_of(
     alloc: Global,
@@ -75,16 +83,34 @@ pub(super) fn number_of(
     }
 }
 
-/// The key of a log: none unless one of the secret and the file is given.
-pub(super) fn log_key_if_one(
-    alloc: Global,
-    options: &ArgMatches<'_>,
-) -> Result<Option<LogKey>, AllocError> {
-    let secret = text_if_given(alloc, options, "secret")?;
-    let key = text_if_given(alloc, options, "key")?;
-    match (secret, key) {
-        (Some(secret), None) => Ok(Some(LogKey::Secret(secret))),
-        (None, Some(file)) => Ok(Some(LogKey::File(file))),
-        _ => Ok(None),
+/// Whether a text stands behind this word.
+pub(super) fn is_given(options: &ArgMatches<'_>, name: &str) -> bool {
+    options.get_str(name).is_some()
+}
+
+/// Whether either the secret of a log's key or its file is given.
+pub(super) fn has_log_key(options: &ArgMatches<'_>) -> bool {
+    is_given(options, "secret") != is_given(options, "key")
+}
+
+/// The name of a log, and its key.
+#[derive(Drop)]
+pub(super) struct NamedLog {
+    pub(super) origin: String,
+    pub(super) key: LogKey,
+}
+
+// The key of a log: that of the secret, where it is given, and else the one in the file.
+fn log_key(alloc: Global, options: &ArgMatches<'_>) -> Result<LogKey, WordsFault> {
+    if is_given(options, "secret") {
+        return Ok(LogKey::Secret(text_of(alloc, options, "secret")?));
     }
+    Ok(LogKey::File(text_of(alloc, options, "key")?))
+}
+
+/// The log that the words name, of which it is known that a key is given.
+pub(super) fn named_log(alloc: Global, options: &ArgMatches<'_>) -> Result<NamedLog, WordsFault> {
+    let key = log_key(alloc, options)?;
+    let origin = text_of(alloc, options, "origin")?;
+    Ok(NamedLog { origin, key })
 }

@@ -1,6 +1,6 @@
 //! The words of the commands on proofs, audits, notes and keys.
 
-use super::given::{text_if_given, usage_error};
+use super::given::{is_given, text_if_given, text_of, usage_error};
 use super::table::{Kind, Word, Words};
 use super::{LOG_KEY, WordsFault, texts};
 use crate::job::Job;
@@ -115,15 +115,13 @@ pub(super) fn audit() -> &'static Words {
 
 // The job of `check`: the checkpoint and the key are given both or not, and an entry with them.
 pub(super) fn checking_job(alloc: Global, options: &ArgMatches<'_>) -> Result<Job, WordsFault> {
-    let checkpoint = text_if_given(alloc, options, "checkpoint")?;
-    let key = text_if_given(alloc, options, "key")?;
-    let entry = text_if_given(alloc, options, "entry")?;
-    match (checkpoint, key, entry) {
-        (None, None, None) => Ok(Job::Check),
-        (Some(checkpoint), Some(key), entry) => Ok(Job::CheckUnder(CheckOptions {
-            checkpoint,
-            key,
-            entry,
+    let (has_checkpoint, has_key) = (is_given(options, "checkpoint"), is_given(options, "key"));
+    match (has_checkpoint, has_key, is_given(options, "entry")) {
+        (false, false, false) => Ok(Job::Check),
+        (true, true, _) => Ok(Job::CheckUnder(CheckOptions {
+            checkpoint: text_of(alloc, options, "checkpoint")?,
+            key: text_of(alloc, options, "key")?,
+            entry: text_if_given(alloc, options, "entry")?,
         })),
         _ => Err(usage_error(alloc, check(), TOGETHER)),
     }

@@ -1,14 +1,16 @@
 //! The words of the commands that serve.
 
-use super::bucket::{BUCKET, bucket_if_given};
+use super::bucket::{BUCKET, bucket_of, bucket_refusal};
 use super::building::LOG;
-use super::fetching::need_of;
-use super::given::{log_key_if_one, text_if_given, text_of, texts_of, usage_error};
+use super::fetching::FEWER;
+use super::given::{
+    NamedLog, count_given, has_log_key, is_given, named_log, no_word, text_if_given, text_of,
+    usage_error,
+};
 use super::table::{Kind, Word, Words};
 use super::{EITHER_KEY, LOG_KEY, TIMEOUT, WordsFault, texts};
 use crate::in_bucket::ServeFromOptions;
 use crate::job::Job;
-use crate::own_bucket::BucketOptions;
 use clap::ArgMatches;
 use std::alloc::{AllocError, Global};
 use tl_serve::{
@@ -148,33 +150,29 @@ fn listen_options(alloc: Global, options: &ArgMatches<'_>) -> Result<ListenOptio
     })
 }
 
-// For how many milliseconds entries wait for more: none unless an interval is given, or entries are posted.
-fn interval_of(alloc: Global, options: &ArgMatches<'_>) -> Result<u64, WordsFault> {
+// What is said where words of what comes while a log is served are given, and nothing comes.
+fn coming_refusal(options: &ArgMatches<'_>) -> Option<&'static str> {
     let takes_posts = options.get_flag("add");
-    match options.get_one::<u64>("interval") {
-        Some(_) if !takes_posts && !options.get_flag("follow") => {
-            Err(usage_error(alloc, serve(), OF_WHAT_COMES))
-        }
-        Some(interval) => Ok(interval),
-        None if takes_posts => Ok(INTERVAL),
-        None => Ok(0),
+    let has_interval = options.get_one::<u64>("interval").is_some();
+    if has_interval && !takes_posts && !options.get_flag("follow") {
+        return Some(OF_WHAT_COMES);
+    }
+    let has_remember = options.get_one::<u64>("remember").is_some();
+    (has_remember && !takes_posts).then_some(OF_POSTS)
+}
+
+// Whether each text names a witness: its key, and behind a `=` its address.
+fn are_pairs(options: &ArgMatches<'_>) -> bool {
+    match options.get_strs("witness") {
+        Some(texts) => texts.iter().all(|text| text.find("=http://").is_some()),
+        None => true,
     }
 }
 
-// How many entries are remembered, where entries are posted alone.
-fn remember_of(alloc: Global, options: &ArgMatches<'_>) -> Result<u64, WordsFault> {
-    let takes_posts = options.get_flag("add");
-    match options.get_one::<u64>("remember") {
-        Some(_) if !takes_posts => Err(usage_error(alloc, serve(), OF_POSTS)),
-        Some(remember) => Ok(remember),
-        None => Ok(REMEMBER),
-    }
-}
-
-// The witness that a text names: its key, and behind a `=` its address.
+// The witness that a text names.
 fn asked_of(alloc: Global, text: &str) -> Result<AskedWitness, WordsFault> {
     let Some(end) = text.find("=http://") else {
-        return Err(usage_error(alloc, serve(), NO_PAIR));
+        return Err(no_word(alloc));
     };
     Ok(AskedWitness {
         key: String::from_str(alloc, &text[..end])?,
@@ -185,8 +183,11 @@ fn asked_of(alloc: Global, text: &str) -> Result<AskedWitness, WordsFault> {
 // The witnesses that are asked.
 fn all_asked(alloc: Global, options: &ArgMatches<'_>) -> Result<Vec<AskedWitness>, WordsFault> {
     let mut asked = Vec::new(alloc);
-    for text in texts_of(alloc, options, "witness")? {
-        let witness = asked_of(alloc, text.as_str())?;
+    let Some(texts) = options.get_strs("witness") else {
+        return Ok(asked);
+    };
+    for text in texts {
+        let witness = asked_of(alloc, text)?;
         if asked.push(witness).is_err() {
             return Err(WordsFault::OutOfMemory);
         }
@@ -194,89 +195,122 @@ fn all_asked(alloc: Global, options: &ArgMatches<'_>) -> Result<Vec<AskedWitness
     Ok(asked)
 }
 
-// How many of so many witnesses must have cosigned what is shown: all, unless a number is given.
-fn must_cosign(alloc: Global, options: &ArgMatches<'_>, witnesses: u64) -> Result<u64, WordsFault> {
-    let given = options.get_one::<u64>("need");
-    match given {
-        Some(0) => Err(usage_error(alloc, serve(), OF_WITNESSES)),
-        Some(_) if witnesses == 0 => Err(usage_error(alloc, serve(), OF_WITNESSES)),
-        _ => need_of(alloc, serve(), options, witnesses),
+// How many of the witnesses must have cosigned what is shown: all, unless a number is given.
+fn must_cosign(options: &ArgMatches<'_>) -> u64 {
+    match options.get_one::<u64>("need") {
+        Some(need) => need,
+        None => count_given(options, "witness") as u64,
     }
 }
 
-// Where a log outlasts its server: in its folder, or in its bucket.
-fn place_of(
-    alloc: Global,
-    dir: Option<String>,
-    bucket: &Option<BucketOptions>,
-) -> Result<Option<String>, AllocError> {
-    match bucket {
-        Some(bucket) => Ok(Some(String::from_str(alloc, bucket.address.as_str())?)),
-        None => Ok(dir),
+// What is said where no witness is named by what is given, or so many need not cosign.
+fn witness_refusal(options: &ArgMatches<'_>) -> Option<&'static str> {
+    if !are_pairs(options) {
+        return Some(NO_PAIR);
     }
+    let (need, all) = (must_cosign(options), count_given(options, "witness") as u64);
+    if need > all && all > 0 {
+        return Some(FEWER);
+    }
+    let is_told = options.get_one::<u64>("need").is_some();
+    (is_told && (need == 0 || all == 0)).then_some(OF_WITNESSES)
 }
 
-// The job that serves a log in a bucket, where one is given.
-fn served(bucket: Option<BucketOptions>, serve: ServeOptions) -> Job {
-    match bucket {
-        Some(bucket) => Job::ServeFrom(ServeFromOptions { bucket, serve }),
-        None => Job::Serve(serve),
+// What is said where the places of a log don't go together, or what is of a folder is given without one.
+fn place_refusal(options: &ArgMatches<'_>) -> Option<&'static str> {
+    let (has_note, has_dir) = (is_given(options, "note"), is_given(options, "dir"));
+    let of_a_folder = options.get_flag("older") || options.get_flag("keep-partials");
+    if has_note && has_dir {
+        return Some(ONE_BASE);
     }
+    if let Some(why) = bucket_refusal(options) {
+        return Some(why);
+    }
+    if is_given(options, "bucket") && (has_note || has_dir) {
+        return Some(ONE_PLACE);
+    }
+    let has_witness = count_given(options, "witness") > 0;
+    (!has_dir && (of_a_folder || has_witness)).then_some(OF_A_FOLDER)
 }
 
-// The job of `serve`: not both a note and a folder are given, and what is of a folder with one alone.
-pub(super) fn serve_job(alloc: Global, options: &ArgMatches<'_>) -> Result<Job, WordsFault> {
-    let Some(key) = log_key_if_one(alloc, options)? else {
-        return Err(usage_error(alloc, serve(), EITHER_KEY));
-    };
-    let note = text_if_given(alloc, options, "note")?;
-    let dir = text_if_given(alloc, options, "dir")?;
-    if note.is_some() && dir.is_some() {
-        return Err(usage_error(alloc, serve(), ONE_BASE));
+// What is said where words of `serve` are given that don't go together.
+fn serve_refusal(options: &ArgMatches<'_>) -> Option<&'static str> {
+    if !has_log_key(options) {
+        return Some(EITHER_KEY);
     }
-    let (older, kept) = (options.get_flag("older"), options.get_flag("keep-partials"));
-    let witnesses = all_asked(alloc, options)?;
-    let bucket = bucket_if_given(alloc, serve(), options)?;
-    if bucket.is_some() && (note.is_some() || dir.is_some()) {
-        return Err(usage_error(alloc, serve(), ONE_PLACE));
-    }
-    if dir.is_none() && (older || kept || !witnesses.is_empty()) {
-        return Err(usage_error(alloc, serve(), OF_A_FOLDER));
-    }
-    let options = ServeOptions {
-        origin: text_of(alloc, options, "origin")?,
+    place_refusal(options)
+        .or(coming_refusal(options))
+        .or(witness_refusal(options))
+}
+
+// Where a log outlasts its server: in its bucket, or else in its folder, if one is given.
+fn place_of(alloc: Global, options: &ArgMatches<'_>) -> Result<Option<String>, AllocError> {
+    let is_in_bucket = is_given(options, "bucket");
+    let word = if is_in_bucket { "bucket" } else { "dir" };
+    text_if_given(alloc, options, word)
+}
+
+// The options of `serve`, whose words go together.
+fn serve_options(alloc: Global, options: &ArgMatches<'_>) -> Result<ServeOptions, WordsFault> {
+    let takes_posts = options.get_flag("add");
+    let unless_given = if takes_posts { INTERVAL } else { 0 };
+    let NamedLog { origin, key } = named_log(alloc, options)?;
+    Ok(ServeOptions {
+        origin,
         key,
         server: listen_options(alloc, options)?,
         lanes: options.get_one::<u64>("lanes").unwrap_or(LANES),
         capacity: options.get_one::<u64>("capacity").unwrap_or(CAPACITY),
         batch: options.get_one::<u64>("batch").unwrap_or(BATCH),
-        note,
-        dir: place_of(alloc, dir, &bucket)?,
+        note: text_if_given(alloc, options, "note")?,
+        dir: place_of(alloc, options)?,
         follow: options.get_flag("follow"),
-        takes_posts: options.get_flag("add"),
-        interval: interval_of(alloc, options)?,
-        remember: remember_of(alloc, options)?,
-        allows_older: older,
-        keeps_partials: kept,
-        need: must_cosign(alloc, options, witnesses.len() as u64)?,
-        witnesses,
-    };
-    Ok(served(bucket, options))
+        takes_posts,
+        interval: options.get_one::<u64>("interval").unwrap_or(unless_given),
+        remember: options.get_one::<u64>("remember").unwrap_or(REMEMBER),
+        allows_older: options.get_flag("older"),
+        keeps_partials: options.get_flag("keep-partials"),
+        witnesses: all_asked(alloc, options)?,
+        need: must_cosign(options),
+    })
+}
+
+// The job of `serve`: not both a note and a folder are given, and what is of a folder with one alone.
+pub(super) fn serve_job(alloc: Global, options: &ArgMatches<'_>) -> Result<Job, WordsFault> {
+    if let Some(why) = serve_refusal(options) {
+        return Err(usage_error(alloc, serve(), why));
+    }
+    let serve = serve_options(alloc, options)?;
+    if !is_given(options, "bucket") {
+        return Ok(Job::Serve(serve));
+    }
+    let bucket = bucket_of(alloc, options)?;
+    Ok(Job::ServeFrom(ServeFromOptions { bucket, serve }))
+}
+
+// The one log that a witness knows, by its key.
+fn one_log(alloc: Global, origin: &str, key: LogVerifierKey) -> Result<KnownLogs, AllocError> {
+    let origin = String::from_str(alloc, origin)?;
+    Ok(KnownLogs::One(origin, key))
 }
 
 // The logs that a witness knows: one by its name, and of the secret and the text of its key one; or those of a file.
 fn known_logs(alloc: Global, options: &ArgMatches<'_>) -> Result<KnownLogs, WordsFault> {
-    let origin = text_if_given(alloc, options, "origin")?;
-    let secret = text_if_given(alloc, options, "secret")?;
-    let key = text_if_given(alloc, options, "log-key")?;
-    let file = text_if_given(alloc, options, "logs")?;
-    match (origin, secret, key, file) {
-        (None, None, None, Some(file)) => Ok(KnownLogs::Listed(file)),
+    let (origin, file) = (options.get_str("origin"), options.get_str("logs"));
+    match (
+        origin,
+        options.get_str("secret"),
+        options.get_str("log-key"),
+        file,
+    ) {
+        (None, None, None, Some(file)) => Ok(KnownLogs::Listed(String::from_str(alloc, file)?)),
         (Some(origin), Some(secret), None, None) => {
-            Ok(KnownLogs::One(origin, LogVerifierKey::Secret(secret)))
+            let key = LogVerifierKey::Secret(String::from_str(alloc, secret)?);
+            Ok(one_log(alloc, origin, key)?)
         }
         (Some(origin), None, Some(text), None) => {
-            Ok(KnownLogs::One(origin, LogVerifierKey::Text(text)))
+            let key = LogVerifierKey::Text(String::from_str(alloc, text)?);
+            Ok(one_log(alloc, origin, key)?)
         }
         (Some(_), _, _, None) => Err(usage_error(alloc, witness(), ONE_LOG_KEY)),
         _ => Err(usage_error(alloc, witness(), ONE_OR_MANY)),
@@ -285,28 +319,28 @@ fn known_logs(alloc: Global, options: &ArgMatches<'_>) -> Result<KnownLogs, Word
 
 // The key of a witness: a name and its secret, or a file.
 fn cosigner_key(alloc: Global, options: &ArgMatches<'_>) -> Result<WitnessSignerKey, WordsFault> {
-    let name = text_if_given(alloc, options, "name")?;
-    let secret = text_if_given(alloc, options, "witness-secret")?;
-    let key = text_if_given(alloc, options, "key")?;
-    match (name, secret, key) {
-        (Some(name), Some(secret), None) => Ok(WitnessSignerKey::Secret(name, secret)),
-        (None, None, Some(file)) => Ok(WitnessSignerKey::File(file)),
+    let (name, secret) = (options.get_str("name"), options.get_str("witness-secret"));
+    match (name, secret, options.get_str("key")) {
+        (Some(name), Some(secret), None) => Ok(WitnessSignerKey::Secret(
+            String::from_str(alloc, name)?,
+            String::from_str(alloc, secret)?,
+        )),
+        (None, None, Some(file)) => Ok(WitnessSignerKey::File(String::from_str(alloc, file)?)),
         _ => Err(usage_error(alloc, witness(), ONE_WITNESS_KEY)),
     }
 }
 
 // The job of `witness`: a state that is compacted is given.
 pub(super) fn witness_job(alloc: Global, options: &ArgMatches<'_>) -> Result<Job, WordsFault> {
-    let state = text_if_given(alloc, options, "state")?;
     let compacts = options.get_flag("compact");
-    if compacts && state.is_none() {
+    if compacts && !is_given(options, "state") {
         return Err(usage_error(alloc, witness(), OF_A_STATE));
     }
     Ok(Job::Witness(WitnessOptions {
         logs: known_logs(alloc, options)?,
         key: cosigner_key(alloc, options)?,
         time: options.get_one::<u64>("time"),
-        state,
+        state: text_if_given(alloc, options, "state")?,
         compacts,
         server: listen_options(alloc, options)?,
     }))

@@ -48,35 +48,47 @@ pub(super) struct Words {
     pub(super) words: &'static [&'static [Word]],
 }
 
-// The parser of a number that isn't below the first and not above the second.
-fn between<'a>(arg: Arg<'a>, least: u64, most: u64) -> Arg<'a> {
-    arg.value_parser(ValueParser::unsigned(least, most))
+// Whether a word has to be given.
+fn is_required(kind: Kind) -> bool {
+    matches!(
+        kind,
+        Kind::RequiredText | Kind::RequiredTexts | Kind::RequiredPath | Kind::RequiredNumber
+    )
 }
 
-// The parser of a path.
-fn of_path<'a>(arg: Arg<'a>) -> Arg<'a> {
-    arg.value_parser(ValueParser::NonEmptyString)
+// What is done with a word where it is given.
+fn action_of(kind: Kind) -> ArgAction {
+    match kind {
+        Kind::Flag => ArgAction::SetTrue,
+        Kind::Texts | Kind::RequiredTexts => ArgAction::Append,
+        _ => ArgAction::Set,
+    }
+}
+
+// The parser of what stands behind a word.
+fn parser_of<'a>(kind: Kind) -> ValueParser<'a> {
+    match kind {
+        Kind::Path | Kind::RequiredPath => ValueParser::NonEmptyString,
+        Kind::Number(least, most) => ValueParser::unsigned(least, most),
+        Kind::RequiredNumber => ValueParser::unsigned(0, u64::MAX),
+        Kind::Short => ValueParser::signed(1, 65_535),
+        Kind::Few => ValueParser::signed(1, 64),
+        _ => ValueParser::String,
+    }
 }
 
 // A word as an argument.
 fn argument<'a>(alloc: Global, word: &Word) -> Arg<'a> {
-    let arg = Arg::new(alloc, word.name).long(word.name).help(word.help);
+    let arg = Arg::new(alloc, word.name)
+        .long(word.name)
+        .help(word.help)
+        .action(action_of(word.kind));
     if matches!(word.kind, Kind::Flag) {
-        return arg.action(ArgAction::SetTrue);
+        return arg;
     }
-    let arg = arg.value_name(word.value).action(ArgAction::Set);
-    match word.kind {
-        Kind::Flag | Kind::Text => arg,
-        Kind::RequiredText => arg.required(true),
-        Kind::Texts => arg.action(ArgAction::Append),
-        Kind::RequiredTexts => arg.action(ArgAction::Append).required(true),
-        Kind::Path => of_path(arg),
-        Kind::RequiredPath => of_path(arg).required(true),
-        Kind::Number(least, most) => between(arg, least, most),
-        Kind::RequiredNumber => between(arg, 0, u64::MAX).required(true),
-        Kind::Short => arg.value_parser(ValueParser::signed(1, 65_535)),
-        Kind::Few => arg.value_parser(ValueParser::signed(1, 64)),
-    }
+    arg.value_name(word.value)
+        .value_parser(parser_of(word.kind))
+        .required(is_required(word.kind))
 }
 
 // The command with these words, too.
