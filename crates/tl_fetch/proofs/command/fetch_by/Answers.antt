@@ -1,6 +1,7 @@
 use Rattle.std.proofs.Common.{arith}
 use Rattle.std.proofs.lemmas.Grind.{common_steps}
 use Rattle.tl_fetch.proofs.command.fetch_by.Goals as goal
+
 pub loop-place-preserved : goal.loop-place-preserved
 loop-place-preserved g c = grind (arith, common_steps)
 

@@ -33,6 +33,7 @@ returns-clause-refused g c =
     (are_two _ _ last _ _ _ _ _ c.as_deref.ensures.value (sym c.as_str.ensures.value) c.in-Ok.ensures.had c.in-Ok.ensures.known c.in-Ok.ensures.trusted)
     c.in_default.ensures.grown (record { bytes = refl; failed = refl }) c.in_default.ensures.silent
     c.in-Err-print_and_keep.ensures.fair c.in-Err-print_and_keep.ensures.part c.in-Err-print_and_keep.ensures.refused
+
 pub print_and_keep-requires-clause-known : goal.print_and_keep-requires-clause-known
 print_and_keep-requires-clause-known g c = grind (arith, common_steps)
 

@@ -1,6 +1,7 @@
 use Rattle.std.proofs.Common.{arith}
 use Rattle.std.proofs.lemmas.Grind.{common_steps}
 use Rattle.tl_serve.proofs.serve.serve_gated.Goals as goal
+
 pub returns : goal.returns
 returns g c = grind (arith, common_steps)
 

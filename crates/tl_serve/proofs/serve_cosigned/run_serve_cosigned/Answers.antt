@@ -10,5 +10,6 @@ loop-key-preserved g c = tt
 
 pub returns-clause-serves : goal.returns-clause-serves
 returns-clause-serves g c = inr (_, record { keys = c.in-Ok.ready.witnesses.items; spelled = c.in-Ok.ensures; need = refl }, c.serve_keyed.ensures.serves)
+
 pub shared_whole_as_slice-asker : goal.shared_whole_as_slice-asker
 shared_whole_as_slice-asker g c = grind (arith, common_steps)

@@ -1,6 +1,7 @@
 use Rattle.std.proofs.Common.{arith}
 use Rattle.std.proofs.lemmas.Grind.{common_steps}
 use Rattle.tl_serve.proofs.serving.run_threads.Goals as goal
+
 pub drive_rest-requires-clause-holds : goal.drive_rest-requires-clause-holds
 drive_rest-requires-clause-holds g c = grind (arith, common_steps)
 

@@ -24,6 +24,7 @@ returns-else-not-is_text g c =
     open_after _ _ _ _ _ _ _ _ _ _ buf headers len spans c.answer_posted.result c.in-Head.ensures
     (λ rest course is. open_posted LooksTwice (g.T.Teller.tells _ _) _ _ _ _ buf headers len spans c.in-Head.ensures _ c.posted_of-posted.result rest course c.of-target.ensures (search rules) c.posted_of-posted.ensures is)
     c.answer_posted.ensures
+
 pub posted_of-posted-requires-clause-within : goal.posted_of-posted-requires-clause-within
 posted_of-posted-requires-clause-within g c = grind (arith, common_steps)
 

@@ -1,6 +1,7 @@
 use Rattle.std.proofs.Common.{arith}
 use Rattle.std.proofs.lemmas.Grind.{common_steps}
 use Rattle.tl_fetch.proofs.feed.command.feed_by.Goals as goal
+
 pub feed_as_told-requires-2-clause-need : goal.feed_as_told-requires-2-clause-need
 feed_as_told-requires-2-clause-need g c = grind (arith, common_steps)
 

@@ -4,6 +4,7 @@ use Rattle.tl_fetch.proofs.feed.feeding.keep_and_feed.Goals as goal
 
 pub returns-in-Err-clause-refused : goal.returns-in-Err-clause-refused
 returns-in-Err-clause-refused g c = inr (inl c.in-Err.ensures.unfed)
+
 pub returns-clause-fair : goal.returns-clause-fair
 returns-clause-fair g c = grind (arith, common_steps)
 

@@ -8,6 +8,7 @@ pub serve_published-running-requires-clause-senders : goal.serve_published-runni
 serve_published-running-requires-clause-senders g c κs within =
     senders_of (λ l. l.submitter) c.in_ok-lanes.lanes.items c.args.submitters.items (g.O.RunningLog.state c.args.opened).log (g.O.RunningLog.state c.publish_first.new.log).log
     c.in_ok-lanes.ensures c.requires.senders (ap rings_of c.publish_first.ensures.same)
+
 pub publish_first-requires-clause-operating : goal.publish_first-requires-clause-operating
 publish_first-requires-clause-operating g c = grind (arith, common_steps)
 
