@@ -12,10 +12,13 @@ import subprocess
 import threading
 import time
 
-from readers import entries_in
-from serving import post
-from store import Client
-from tlog_test import EMPTY, checkpoint, leaf, lines_of, node, resources, sha
+from .keys import checkpoint
+from .logs import resources
+from .program import EMPTY
+from .readers import entries_in
+from .serving import post
+from .store import Client
+from .tree import leaf, lines_of, node, sha
 
 LOST = b'another operator has appended\n'
 
