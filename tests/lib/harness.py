@@ -9,6 +9,17 @@ import tempfile
 TOP = os.path.dirname(os.path.dirname(os.path.dirname(os.path.realpath(__file__))))
 
 
+def arguments(*defaults):
+    """The script's arguments, each of the kind of its default, which stands for one that isn't given; and behind them
+    whether the last word is `quick`, by which a script is asked for its short form."""
+    is_quick = sys.argv[-1] == 'quick'
+    words = sys.argv[1:len(sys.argv) - is_quick]
+    if len(words) > len(defaults):
+        sys.exit(f'{os.path.basename(sys.argv[0])}: at most {len(defaults)} arguments, and `quick` behind them')
+    given = [type(default)(word) for default, word in zip(defaults, words)]
+    return [*given, *defaults[len(given):], is_quick]
+
+
 class Rows:
     """Counts rows, and reports each that is wrong."""
 

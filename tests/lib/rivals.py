@@ -13,7 +13,7 @@ import threading
 import time
 
 from .keys import checkpoint
-from .logs import resources
+from .logs import paths
 from .program import EMPTY
 from .readers import entries_in
 from .serving import post
@@ -41,7 +41,7 @@ def roots(entries):
 def bundles_at(get, size):
     """The entries of a log of so many, from its bundles, which are got by their paths; none where one isn't there."""
     found = []
-    for number, path in enumerate(path for path in resources([b''] * size) if path.startswith('tile/entries/')):
+    for number, path in enumerate(path for path in paths(size) if path.startswith('tile/entries/')):
         content = get(path)
         some = 'Missing' if content is None else entries_in(content, min(256, size - number * 256))
         if isinstance(some, str):

@@ -26,11 +26,11 @@ def split(size):
 
 
 def root(leaves):
-    """The root over the hashes of entries."""
-    if len(leaves) < 2:
-        return leaves[0] if leaves else sha(b'')
-    left = split(len(leaves))
-    return node(root(leaves[:left]), root(leaves[left:]))
+    """The root over the hashes of entries, level by level: a last hash without another beside it goes up as it is."""
+    while len(leaves) > 1:
+        pairs = [node(leaves[place], leaves[place + 1]) for place in range(0, len(leaves) - 1, 2)]
+        leaves = [*pairs, *leaves[2 * len(pairs):]]
+    return leaves[0] if leaves else sha(b'')
 
 
 def path(leaves, index):
