@@ -13,6 +13,8 @@ import time
 from .harness import TOP
 
 EMPTY = {'PATH': os.environ.get('PATH', '/usr/bin:/bin')}
+# What `--version` prints of a program that nothing has proved, and what stands there otherwise.
+NOT_PROVED, PROVED = b'(not proved: compiled with ', b'(proved with '
 
 
 def program(name='tlog'):
@@ -31,8 +33,8 @@ class Program:
 
     def run(self, *words, given=b'', **others):
         """Runs it on an input: exit status, standard output and standard error."""
-        where = {'stdout': subprocess.PIPE, 'stderr': subprocess.PIPE, 'timeout': 60, **others}
-        done = subprocess.run([self.path, *words], input=given, env=EMPTY, **where)
+        how = {'stdout': subprocess.PIPE, 'stderr': subprocess.PIPE, 'timeout': 60, 'env': EMPTY, **others}
+        done = subprocess.run([self.path, *words], input=given, **how)
         return done.returncode, done.stdout, done.stderr
 
     def output(self, *words, given=b''):
@@ -50,8 +52,8 @@ class Server:
     """A server that listens. At the end of its `with` it is killed if it still runs."""
 
     def __init__(self, words, given, others):
-        where = {'stdout': subprocess.PIPE, 'stderr': subprocess.PIPE, 'stdin': subprocess.PIPE, **others}
-        self.process = subprocess.Popen(words, env=EMPTY, **where)
+        how = {**dict.fromkeys(('stdin', 'stdout', 'stderr'), subprocess.PIPE), 'env': EMPTY, **others}
+        self.process = subprocess.Popen(words, **how)
         self.told = b''
         if given is not None:
             with contextlib.suppress(BrokenPipeError):
