@@ -1,19 +1,22 @@
 """Cuts one module of LLVM's text into parts that are compiled side by side, and lose next to nothing by it.
 
-A function that is short stands in each part that calls it, so that it is inlined there. A longer one stands in one part,
-and the others declare it: parts are runs of the order in which functions are reached from `main`, so a caller is mostly
-beside what it calls. Constants stand in each part that names them, variables in the first."""
+A function that is short stands in each part that calls it, so that it is inlined there. A longer one, or one whose address
+is taken, which is one address in all parts, stands in one part, and the others declare it: parts are runs of the order in
+which functions are reached from `main`, so a caller is mostly beside what it calls. Constants stand in each part that names
+them, variables in the first."""
 import re
 
 # A function of at most so many lines is short.
 SHORT = 40
 
 NAME = re.compile(r'@("[^"]*"|[\w.$-]+)')
+# (a name that is called has a bracket behind it)
+ADDRESS = re.compile(r'@("[^"]*"|[\w.$-]++)(?!\()')
 FUNCTION = re.compile(r'^define .*?^}\n', re.M | re.S)
 VARIABLE = re.compile(r'^@("[^"]*"|[\w.$-]+) = (?:private |internal |hidden )*((?:unnamed_addr |local_unnamed_addr )?'
                       r'(?:constant|global) )(.*)\n', re.M)
 DECLARED = re.compile(r'^declare .*?@("[^"]*"|[\w.$-]+).*\n', re.M)
-TEXT = re.compile(r'c"[^"]*"')
+TEXT = re.compile(r'(?<= )c"[^"]*"')
 BRACKETS = dict(zip('[{<(', ']}>)'))
 
 
@@ -41,7 +44,8 @@ class Module:
             raise ValueError('a module of another shape')
         named = {**self.functions, **{name: TEXT.sub('', value) for name, (_, value) in self.variables.items()}}
         self.uses = {name: [it for it in dict.fromkeys(NAME.findall(text)) if it != name] for name, text in named.items()}
-        self.short = {name for name, text in self.functions.items() if text.count('\n') <= SHORT and name != 'main'}
+        taken = {name for text in named.values() for name in ADDRESS.findall(text)} | {'main'}
+        self.short = {name for name, text in self.functions.items() if text.count('\n') <= SHORT} - taken
 
     def reached(self):
         """The functions, each behind one that names it, as they are reached from `main`."""
