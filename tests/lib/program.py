@@ -48,6 +48,15 @@ class Program:
         return Server([self.path, *words, '--listen', '127.0.0.1:0'], given, others)
 
 
+class NeverTold(AssertionError):
+    """A server ended, or told nothing in time, before a text came on standard error: its status, what it told instead, and
+    what was waited for."""
+
+    def __init__(self, status, told, what):
+        super().__init__(f'status {status}, told {told!r} by {what}')
+        self.status, self.told = status, told
+
+
 class Server:
     """A server that listens. At the end of its `with` it is killed if it still runs."""
 
@@ -80,7 +89,7 @@ class Server:
             piece = os.read(self.process.stderr.fileno(), 65536) if ready else b''
             if not piece:
                 self.process.kill()
-                raise AssertionError(f'{self.process.args} told {self.told!r}, and not {pattern!r}')
+                raise NeverTold(self.process.wait(), self.told, f'{self.process.args}, and not {pattern!r}')
             self.told += piece
 
     def give(self, more):
