@@ -1,7 +1,7 @@
 -- Commands on a log in a bucket, from their parts.
-use Rattle.std.proofs.Common.{◌≡◌, true≢false, Err, [], None, ap, inl, inr, refl, string_bytes, subst, sym, ◌∙◌}
+use Rattle.std.proofs.Common.{◌≡◌, false, true≢false, Err, [], None, ap, inl, inr, refl, string_bytes, subst, sym, ◌∙◌}
 use Rattle.tl_bucket.specs.Buckets.{Bucketed, Objects, no_objects}
-use Rattle.tl_bucket.specs.Opened.{IsAtEnd, KnowsTag, RefusesPuts}
+use Rattle.tl_bucket.specs.Opened.{IsAtEnd, KnowsShown, RefusesPuts}
 use Rattle.tl_hash.specs.Bytes.{Bytes}
 use Rattle.tl_put.specs.Objects.{Place}
 use Rattle.tl_command.specs.declared.fault.RunFault.{RunFault}
@@ -24,9 +24,9 @@ is_refused (Err fault) fails = (fault, refl)
 
 -- a bucket that was opened by a client is that of the options which tell the client's place
 pub opened : (options : BucketOptions) (b : Bucketed) (p : Place) (token : Bytes) → IsPlaceOf (string_bytes options.address) p → p.credential.region ≡ string_bytes options.region
-    → IsKeyFor options p.credential.id p.credential.secret → IsToken token → b.objects ≡ no_objects p b.objects.claims b.objects.etag → RefusesPuts p → IsAtEnd p token b.objects.claims → KnowsTag p b.objects.etag
-    → b.place ≡ string_bytes options.address → b.events ≡ [] → b.published ≡ None → OpensBucket options b
-opened options b p token at region key drawn same refuses end tag named events unmarked =
+    → IsKeyFor options p.credential.id p.credential.secret → IsToken token → b.objects ≡ no_objects p b.objects.claims b.objects.shown → RefusesPuts p → IsAtEnd p token b.objects.claims → KnowsShown p b.objects.shown
+    → b.place ≡ string_bytes options.address → b.reads_anew ≡ false → b.events ≡ [] → b.published ≡ None → OpensBucket options b
+opened options b p token at region key drawn same refuses end known named reads events unmarked =
     let there : b.objects.at ≡ p = ap (λ (o : Objects). o.at) same in
     record {
       named = named;
@@ -37,8 +37,9 @@ opened options b p token at region key drawn same refuses end tag named events u
       token = token;
       drawn = drawn;
       end = subst (λ (q : Place). IsAtEnd q token b.objects.claims) (sym there) end;
-      waiting = same ∙ ap (λ (q : Place). no_objects q b.objects.claims b.objects.etag) (sym there);
-      etag = subst (λ (q : Place). KnowsTag q b.objects.etag) (sym there) tag;
+      waiting = same ∙ ap (λ (q : Place). no_objects q b.objects.claims b.objects.shown) (sym there);
+      shown = subst (λ (q : Place). KnowsShown q b.objects.shown) (sym there) known;
+      reads = reads;
       events = events;
       unmarked = unmarked;
     }
