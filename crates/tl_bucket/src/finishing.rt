@@ -50,8 +50,8 @@ impl<D: CrashOutcome + PutsTogether + Drop, H: Net<Stream = TcpStream> + Clock> 
             return false;
         };
         match size_told(note) {
-            Some(told) => told == self.objects.claims.start(),
-            None => false,
+            Some(told) if told == self.objects.claims.start() => true,
+            _ => false,
         }
     }
 

@@ -190,7 +190,7 @@ fn claims_behind<H: Net<Stream = TcpStream> + Clock>(
 }
 
 impl<'b, D: CrashOutcome + Drop, H: Net<Stream = TcpStream> + Clock> BucketShelf<'b, D, H> {
-    ghost use Rattle.std.specs.Prelude.{[]};
+    ghost use Rattle.std.specs.Prelude.{[], false};
 
     /// The bucket that the client reaches, by this address. The token is a line that tells the operator's commits from
     /// all others'. `NoConditions`: the store doesn't keep the conditions of puts. `ClockIsOff`: the machine's clock

@@ -127,8 +127,8 @@ impl<'b, D: CrashOutcome + Drop, H: Net<Stream = TcpStream> + Clock> BucketShelf
 
 impl<D: CrashOutcome + PutsTogether, H: Net<Stream = TcpStream> + Clock> Shelf
     for BucketShelf<'_, D, H> {
-    ghost use Rattle.std.specs.Prelude.{false, IfErr, IfOk};
-    ghost use Rattle.tl_tile.specs.declared.resource.Resource.TheVariants as resource;
+    ghost use Rattle.std.specs.Prelude.{false, true, IfErr, IfOk};
+    ghost use Rattle.tl_tile.specs.declared.resource.Resource.TheVariants.{Checkpoint};
     ghost use Rattle.tl_archive.specs.Partials.{IsFull};
     ghost use Rattle.tl_archive.specs.Shelves.{Stages, Unstages, Settles, Removes, LacksPartials, Fails};
     ghost use Rattle.tl_tile.specs.Path.{IsResource};
@@ -248,8 +248,10 @@ impl<D: CrashOutcome + PutsTogether, H: Net<Stream = TcpStream> + Clock> Shelf
         resource: &Resource,
     ) -> Result<Option<Vec<u8, A>>, ShelfFault>
         requires { IsResource resource.now }
+        ensures found { false ≡ true → IfOk result (λ found. option_map vec_items found
+            ≡ (bucket_kept D.held D.reached self.now).held resource.now) }
         ensures failed { IfErr result (λ fault. fault.resource ≡ Some resource.now) }
-        ensures shown { resource.now ≡ resource.Checkpoint → self.now.reads_anew ≡ false
+        ensures shown { resource.now ≡ Checkpoint → self.now.reads_anew ≡ false
             → IfOk result (λ found. option_map vec_items found
             ≡ option_map (λ shown. shown.note) self.now.objects.shown) }
     {

@@ -1,5 +1,5 @@
 -- Commands on a log in a bucket, from their parts.
-use Rattle.std.proofs.Common.{◌≡◌, false, true≢false, Err, [], None, ap, inl, inr, refl, string_bytes, subst, sym, ◌∙◌}
+use Rattle.std.proofs.Common.{◌≡◌, ◌⊎◌, ℕ, false, true≢false, Err, [], None, ap, inl, inr, refl, string_bytes, subst, sym, ◌∙◌}
 use Rattle.tl_bucket.specs.Buckets.{Bucketed, Objects, no_objects}
 use Rattle.tl_bucket.specs.Opened.{IsAtEnd, KnowsShown, RefusesPuts}
 use Rattle.tl_hash.specs.Bytes.{Bytes}
@@ -48,3 +48,8 @@ opened options b p token at region key drawn same refuses end known named reads 
 pub key_by : (options : BucketOptions) (id secret name hidden : Bytes) → name ≡ id → hidden ≡ secret → IsKeyFor options id secret → IsKeyFor options name hidden
 key_by options id secret name hidden named same key =
     subst (λ (n : Bytes). IsKeyFor options n hidden) (sym named) (subst (λ (h : Bytes). IsKeyFor options id h) (sym same) key)
+
+-- a log of as many entries as were told, or nothing was done
+pub started : (Left : Type 0) (size start committed : ℕ) → start ≡ committed → Left ⊎ (size ≡ start) → Left ⊎ (size ≡ committed)
+started Left size start committed same (inl left) = inl left
+started Left size start committed same (inr is) = inr (is ∙ same)
