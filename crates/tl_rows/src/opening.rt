@@ -98,7 +98,7 @@ fn open<R: Wait + Drop>(
         signers.push(Box::new(alloc, key)?)?;
     }
     if keys.ends_with("reluctant") {
-        signers.push(Box::new(alloc, Reluctant::new())?)?;
+        signers.push(Box::new(alloc, Reluctant::new(true))?)?;
     }
     if keys.ends_with("counting") {
         signers.push(Box::new(alloc, CountingKey::new(alloc, "counting", 7)?)?)?;

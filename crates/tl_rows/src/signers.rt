@@ -1,4 +1,4 @@
-//! The keys of logs: those that a word names, and one that refuses.
+//! The keys of logs: those that a word names, and one that gives no signature.
 
 use crate::words::{number_of, text_of};
 use std::alloc::{AllocError, Global};
@@ -6,16 +6,19 @@ use std::sync::atomic::{AtomicU64, Ordering};
 use tl_note::{SignFault, Signer};
 use tl_testing::LengthKey;
 
-/// A key that refuses once and then signs with one byte.
+/// A key that once refuses, or gives no byte, and then signs with one byte.
 #[derive(Drop)]
 pub(crate) struct Reluctant {
     asked: AtomicU64,
+    refuses: bool,
 }
 
 impl Reluctant {
-    pub(crate) fn new() -> Reluctant {
+    /// The key, which was not asked yet.
+    pub(crate) fn new(refuses: bool) -> Reluctant {
         Reluctant {
             asked: AtomicU64::new(0),
+            refuses,
         }
     }
 }
@@ -40,7 +43,11 @@ impl Signer for Reluctant {
 
     fn sign(&self, alloc: Global, _message: &[u8]) -> Result<Vec<u8>, SignFault> {
         if self.asked.fetch_add(1, Ordering::SeqCst) == 0 {
-            return Err(SignFault::Refused);
+            return if self.refuses {
+                Err(SignFault::Refused)
+            } else {
+                Ok(Vec::new(alloc))
+            };
         }
         Vec::from_slice(alloc, &[9]).map_err(|_| SignFault::OutOfMemory)
     }

@@ -159,7 +159,7 @@ fn reads<T: TreeHash>(alloc: Global, h: T, words: &mut Words<'_>, out: &mut Stri
     }
 }
 
-// The head, or a proof that is made from the tiles of a source.
+// The head, a tile, or a proof that is made from the tiles of a source, and how many tiles were fetched for it.
 fn proves(alloc: Global, call: &str, words: &mut Words<'_>, out: &mut String) -> Told {
     let trick = trick_of(words);
     let store = named_store(alloc, words.next())?;
@@ -169,10 +169,19 @@ fn proves(alloc: Global, call: &str, words: &mut Words<'_>, out: &mut String) ->
         Ok(reader) => reader,
         Err(fault) => return write!(out, "{fault:?}"),
     };
-    if call == "head" {
-        return put(out, tree_hash(alloc, Sha256Tree, size, &reader));
+    match call {
+        "head" => put(out, tree_hash(alloc, Sha256Tree, size, &reader))?,
+        "tile" => {
+            let tile = Tile {
+                level: (place % 256) as u32,
+                index: words.number(),
+                width: (words.number() % 512) as u32,
+            };
+            put(out, stored_bytes(alloc, tile, &reader))?;
+        }
+        _ => put(out, made(alloc, call == "record", size, place, &reader))?,
     }
-    put(out, made(alloc, call == "record", size, place, &reader))
+    write!(out, "\n{} fetched", fetches.get())
 }
 
 // Adds the numbers of all hashes at a size.
@@ -287,6 +296,7 @@ pub(crate) fn answer(alloc: Global, words: &mut Words<'_>, out: &mut String) -> 
         "told-first" => lies(alloc, true, words, out),
         "record" => proves(alloc, "record", words, out),
         "tree" => proves(alloc, "tree", words, out),
+        "tile" => proves(alloc, "tile", words, out),
         _ => proves(alloc, "head", words, out),
     }
 }
