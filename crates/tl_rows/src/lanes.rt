@@ -144,10 +144,10 @@ fn begin(
 {
     match opened {
         Ok((log, submitters)) => {
-            row.say_opened(out)?;
+            out.push_str("opened\n")?;
             run_steps(alloc, log, submitters, row.steps.as_slice(), out)
         }
-        Err(fault) => row.refuse(fault, out),
+        Err(fault) => write!(out, "{fault:?}\n"),
     }
 }
 

@@ -7,7 +7,7 @@
 //! a line at least, say what the rows are for.
 //!
 //! If memory is refused at a row or a step, the line `.. out of memory` is printed, and the row or the step is tried
-//! once more: what is printed behind that line is what is due without it.
+//! once more: what is printed is otherwise what is due without it.
 #![tactic(auto)]
 
 mod audits;
@@ -104,21 +104,19 @@ fn answer(alloc: Global, words: &mut Words<'_>, input: &[u8], out: &mut String) 
 // Writes the call of a row, and what comes of it, a line each.
 fn answer_row<R: Wait>(rt: &R, alloc: Global, row: &str, out: &mut String) -> Told {
     let (call, lines) = row.split_once('\n').unwrap_or((row, ""));
+    write!(out, "$ {call}\n")?;
     let input = input_of(alloc, lines)?;
+    let text = str::from_utf8(input.as_slice()).unwrap_or("");
     let mut words = Words { left: call };
     let family = words.next();
-    if family == "steps" || family == "witness" {
-        let row = Row {
-            call,
-            text: str::from_utf8(input.as_slice()).unwrap_or(""),
-            steps: steps_of(alloc, lines)?,
-        };
-        if family == "steps" {
-            return opening::answer(rt, alloc, &mut words, &row, out);
-        }
-        return witnesses::answer(rt, alloc, &mut words, &row, out);
+    if family == "steps" {
+        let steps = steps_of(alloc, lines)?;
+        return opening::answer(rt, alloc, &mut words, &Row { text, steps }, out);
     }
-    write!(out, "$ {call}\n")?;
+    if family == "witness" {
+        let steps = steps_of(alloc, lines)?;
+        return witnesses::answer(rt, alloc, &mut words, &Row { text, steps }, out);
+    }
     answer(alloc, &mut Words { left: call }, input.as_slice(), out)?;
     out.push('\n')
 }

@@ -60,14 +60,14 @@ fn begin<R: Wait + Drop, E: Debug + Drop>(
 {
     match opened {
         Ok((operator, submitters, mut readers)) => {
-            row.say_opened(out)?;
+            out.push_str("opened\n")?;
             let Some(reader) = readers.pop() else {
                 return Ok(());
             };
             let opened = (operator, submitters, reader);
             run_steps(alloc, opened, witnesses, row.steps.as_slice(), out)
         }
-        Err(fault) => row.refuse(fault, out),
+        Err(fault) => write!(out, "{fault:?}\n"),
     }
 }
 
@@ -202,6 +202,6 @@ pub(crate) fn answer<R: Wait>(
         ["lanes", lanes, capacity, limit, entry] => {
             open_lanes(alloc, row, [lanes, capacity, limit], Some(entry), out)
         }
-        _ => write!(out, "$ {}: no such log\n", row.call),
+        _ => out.push_str("no such log\n"),
     }
 }

@@ -251,13 +251,13 @@ pub(crate) fn answer<R: Wait>(
     }
     let saved = match read_chain(alloc, row.text.as_bytes()) {
         Ok(saved) => saved,
-        Err(fault) => return row.refuse(fault, out),
+        Err(fault) => return write!(out, "{fault:?}\n"),
     };
     let mut book = match Book::open(alloc, alloc, Sha256Tree, trusts, saved) {
         Ok(book) => book,
-        Err(fault) => return row.refuse(fault, out),
+        Err(fault) => return write!(out, "{fault:?}\n"),
     };
-    row.say_opened(out)?;
+    out.push_str("opened\n")?;
     let (mut saver, steps) = (KeepingSaver::new(alloc), row.steps.as_slice());
     if is_alone {
         return run_steps(rt, alloc, &mut book, &mut saver, steps, out);
