@@ -5,7 +5,8 @@ What isn't such a text is None, or a fault's name.
 import base64
 import re
 
-from tlog_test import CURVE, ORIGIN, PRIME, SeedKey, leaf, node, root, sha, sum_of, text
+from .keys import CURVE, ORIGIN, PRIME, SeedKey, sum_of
+from .tree import leaf, node, root, sha, text
 
 # White space of Unicode, plus, and what is below a space: not in a key's name.
 NAME = '[^\x00-\x20+\x85\xa0\u1680\u2000-\u200a\u2028\u2029\u202f\u205f\u3000]+'

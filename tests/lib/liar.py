@@ -5,7 +5,7 @@ import itertools
 import threading
 import time
 
-from tlog_test import read
+from .harness import read
 
 
 class Files(http.server.SimpleHTTPRequestHandler):

@@ -1,10 +1,10 @@
 #!/usr/bin/env -S python3 -B
 """Ceph's gateway, a store of the S3 kind, for tests: one monitor, one object server and one gateway at free ports of
 this machine, whose data are in memory. The folder has its settings, its logs and, in `credentials`, its user's key.
-  tests/gateway start FOLDER   starts it with buckets `logs` and `full`, whose logs all may read, and prints its address
-  tests/gateway kill FOLDER    kills the gateway alone, which keeps nothing itself
-  tests/gateway again FOLDER   starts the gateway again
-  tests/gateway stop FOLDER    ends it, and forgets all
+  tests/lib/gateway.py start FOLDER   starts it, with buckets `logs` and `full` whose logs all may read; prints its URL
+  tests/lib/gateway.py kill FOLDER    kills the gateway alone, which keeps nothing itself
+  tests/lib/gateway.py again FOLDER   starts the gateway again
+  tests/lib/gateway.py stop FOLDER    ends it, and forgets all
 The bucket `full` is of another user (`full-credentials`), who has room for 40 objects. It takes 140 MB of memory.
 """
 import contextlib
@@ -197,7 +197,7 @@ def start(folder):
 
 def main(words):
     if len(words) != 2 or words[0] not in ('start', 'kill', 'again', 'stop'):
-        sys.exit('gateway: tests/gateway start|kill|again|stop FOLDER')
+        sys.exit('gateway: tests/lib/gateway.py start|kill|again|stop FOLDER')
     lacking = [package for package in PACKAGES if not shutil.which(package)]
     if lacking:
         sys.exit(f'gateway: it isn\'t there: apt-get install -y --no-install-recommends {" ".join(lacking)}')

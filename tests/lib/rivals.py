@@ -12,10 +12,13 @@ import subprocess
 import threading
 import time
 
-from readers import entries_in
-from serving import post
-from store import Client
-from tlog_test import EMPTY, checkpoint, leaf, lines_of, node, resources, sha
+from .keys import checkpoint
+from .logs import paths
+from .program import EMPTY
+from .readers import entries_in
+from .serving import post
+from .store import Client
+from .tree import leaf, lines_of, node, sha
 
 LOST = b'another operator has appended\n'
 
@@ -38,7 +41,7 @@ def roots(entries):
 def bundles_at(get, size):
     """The entries of a log of so many, from its bundles, which are got by their paths; none where one isn't there."""
     found = []
-    for number, path in enumerate(path for path in resources([b''] * size) if path.startswith('tile/entries/')):
+    for number, path in enumerate(path for path in paths(size) if path.startswith('tile/entries/')):
         content = get(path)
         some = 'Missing' if content is None else entries_in(content, min(256, size - number * 256))
         if isinstance(some, str):

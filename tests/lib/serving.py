@@ -11,7 +11,9 @@ import struct
 import subprocess
 import time
 
-from tlog_test import ORIGIN, growth, note, only, root, text
+from .harness import only
+from .keys import ORIGIN, note
+from .tree import growth, root, text
 
 SECRET = ('--origin', ORIGIN, '--secret', 's')
 LOG = ('serve', *SECRET)

@@ -5,7 +5,7 @@ RFC 9110), with nothing of the program's own. It checks each signature and does 
 ever was under each key, and misbehaves where it is told to. Anybody may read logs. Beside it a client, whose requests
 are signed. Run by itself it serves the bucket `logs`, does each put after so many seconds (0), and prints what a client
 needs:
-  tests/store.py [PORT [SECONDS]]
+  tests/lib/store.py [PORT [SECONDS]]
 """
 import calendar
 import collections

@@ -3,9 +3,11 @@ as rows of a call and its answer, in which texts stand as JSON writes them."""
 import json
 import re
 
-from readers import (checkpoint_in, decoded, entries_in, note_in, opened, resource_in, signature_lines, signer_in,
-                     verifier_in)
-from tlog_test import ORIGIN, SeedKey, bundle, checkpoint, text
+from .keys import ORIGIN, SeedKey, checkpoint
+from .logs import bundle
+from .readers import (checkpoint_in, decoded, entries_in, note_in, opened, resource_in, signature_lines, signer_in,
+                      verifier_in)
+from .tree import text
 
 KEYS = [SeedKey(bytes([place]) * 32, name) for place, name in enumerate((ORIGIN, 'w.example', 'clef-\u00e9'))]
 SIGNED = {}
