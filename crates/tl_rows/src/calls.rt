@@ -59,7 +59,7 @@ pub(crate) fn attach<R: Wait + Drop>(
     }
 }
 
-/// Requires so many of the witnesses that are next, or tells why not and how many came back.
+/// Requires so many of the witnesses that are next, or reports why not and how many came back.
 pub(crate) fn require<R: Wait + Drop>(
     operator: &mut Operator<R>,
     witnesses: &mut Witnesses,
@@ -79,8 +79,8 @@ pub(crate) fn require<R: Wait + Drop>(
     }
 }
 
-/// Ends a lane: how many entries were left of it, or why not and the lane that comes back. With that the end is tried
-/// once more if memory was refused.
+/// Ends a lane: how many entries were left of it, or why not and the lane that comes back. If an allocation fails, the end
+/// that comes back is put once more.
 pub(crate) fn end<R: Wait + Drop>(
     operator: &mut Operator<R>,
     lanes: &mut Vec<Sender>,

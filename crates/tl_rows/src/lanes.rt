@@ -11,8 +11,8 @@ use tl_sequencer::{OpenFault, Sequencer, TakeFault, open, open_from};
 
 type Log = Sequencer<Global, Global>;
 
-// Ends a lane: how many entries that took, or why not and the lane that comes back. With that the end is tried once
-// more if memory was refused.
+// Ends a lane: how many entries that took, or why not and the lane that comes back. If an allocation fails, the end that
+// comes back is put once more.
 fn end(log: &mut Log, submitters: &mut Vec<Sender>, lane: u32, step: &mut Step<'_>) -> Told
     requires { AreSenders log.old submitters.old.items }
     ensures rings { rings_of log.new ≡ rings_of log.old }
@@ -49,7 +49,7 @@ fn take(log: &mut Log, lane: u32, most: u64, step: &mut Step<'_>) -> Told
     }
 }
 
-// Tells what is asked of a log.
+// Reports what is asked of a log.
 fn ask(log: &Log, words: &[&str], step: &mut Step<'_>) -> Told {
     match words {
         ["len"] => step.tell(log.len()),
@@ -78,7 +78,7 @@ fn do_step(alloc: Global, log: &mut Log, submitters: &mut Vec<Sender>, step: &mu
     }
 }
 
-// Does the steps of a log, each once more if memory is refused.
+// Does the steps of a log, each once more if an allocation fails.
 fn run_steps(
     alloc: Global,
     log: Log,
@@ -102,7 +102,7 @@ fn run_steps(
     Ok(())
 }
 
-// Opens a log that begins with this entry, once more with the list that comes back if memory is refused.
+// Opens a log that begins with this entry. If an allocation fails, it is opened once more with the list that comes back.
 fn opened_from(
     alloc: Global,
     entry: Vec<u8>,
@@ -133,7 +133,7 @@ fn opened_from(
     }
 }
 
-// Does the steps of a row with a log that was opened, or tells why it was not.
+// Does the steps of a row with a log that was opened, or reports why it was not.
 fn begin(
     alloc: Global,
     opened: Result<(Log, Vec<Sender>), OpenFault>,

@@ -24,7 +24,7 @@ fn resource_of(words: &[&str]) -> Resource {
     }
 }
 
-// Tells the size that was found.
+// Reports the size that was found.
 fn tell_size(found: Result<Option<Head>, GetFault>, step: &mut Step<'_>) -> Told {
     match found {
         Ok(Some(head)) => step.tell(head.size),
@@ -33,7 +33,7 @@ fn tell_size(found: Result<Option<Head>, GetFault>, step: &mut Step<'_>) -> Told
     }
 }
 
-// Tells what was found: its bytes, how many they are, or the text.
+// Reports what was found: its bytes, how many they are, or the text.
 fn tell_found(kind: &str, found: Result<Option<Vec<u8>>, GetFault>, step: &mut Step<'_>) -> Told {
     let bytes = match &found {
         Ok(Some(bytes)) => bytes.as_slice(),

@@ -6,8 +6,8 @@
 //! of a log (`steps`) or of a witness (`witness`). Other lines, and what stands before the first row, of which there is
 //! a line at least, say what the rows are for.
 //!
-//! If memory is refused at a row or a step, the line `.. out of memory` is printed, and the row or the step is tried
-//! once more: what is printed is otherwise what is due without it.
+//! If an allocation fails in a row or a step, the line `.. out of memory` is printed, and the row or the step is tried
+//! once more: with that line left out, the output is the same as if none had failed.
 #![tactic(auto)]
 
 mod audits;
@@ -121,7 +121,7 @@ fn answer_row<R: Wait>(rt: &R, alloc: Global, row: &str, out: &mut String) -> To
     out.push('\n')
 }
 
-// Whether memory was refused in the place of an answer.
+// Whether an allocation failed in the place of an answer.
 fn lacks_memory(answered: Told, out: &str) -> bool {
     answered.is_err() || out.contains("OutOfMemory")
 }

@@ -46,7 +46,7 @@ const KEY: &str = "example.com/log:01020304";
 // An operator, what sends to its lanes, and its readers.
 type Opened<R> = (Operator<R>, Vec<Sender>, Vec<BoardReader<Global>>);
 
-// Does the steps of a row with a log that was opened, or tells why it was not.
+// Does the steps of a row with a log that was opened, or reports why it was not.
 fn begin<R: Wait + Drop, E: Debug + Drop>(
     alloc: Global,
     opened: Result<Opened<R>, E>,

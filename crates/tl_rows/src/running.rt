@@ -80,7 +80,7 @@ fn do_step<R: Wait + Drop>(
     }
 }
 
-/// Does the steps of a log, each once more if memory is refused.
+/// Does the steps of a log, each once more if an allocation fails.
 pub(crate) fn run_steps<R: Wait + Drop>(
     alloc: Global,
     opened: (Operator<R>, Vec<Sender>, BoardReader<Global>),

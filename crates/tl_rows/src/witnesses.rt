@@ -37,7 +37,7 @@ trait Asked {
     // The reply to a request.
     fn reply<R: Wait>(&mut self, rt: &R, body: &str, saver: &mut KeepingSaver) -> Replied;
 
-    // Tells links of an origin: all of them, or a part. A book has no parts.
+    // Reports links of an origin: all of them, or a part. A book has no parts.
     fn tell_links<R: Wait>(
         &self,
         rt: &R,
@@ -50,7 +50,7 @@ trait Asked {
     fn reached<R: Wait>(&self, rt: &R, origin: &str) -> Option<(u64, Hash)>;
 }
 
-// Tells how many links there are, and each on a line.
+// Reports how many links there are, and each on a line.
 fn tell_all(links: Option<&[Link<Global>]>, step: &mut Step<'_>) -> Told {
     let Some(links) = links else {
         return step.say("None");
@@ -132,7 +132,7 @@ fn add<R: Wait, W: Asked>(
     step.tell((reply.status, text))
 }
 
-// Tells the size and the root that were reached.
+// Reports the size and the root that were reached.
 fn tell_head(head: Option<(u64, Hash)>, step: &mut Step<'_>) -> Told {
     let Some((size, root)) = head else {
         return step.say("None");
@@ -168,7 +168,7 @@ fn do_step<R: Wait, W: Asked>(
     }
 }
 
-// Does steps, each once more if memory is refused.
+// Does steps, each once more if an allocation fails.
 fn run_steps<R: Wait, W: Asked>(
     rt: &R,
     alloc: Global,

@@ -6,10 +6,10 @@ use std::fmt::Debug;
 use tl_hash::Hash;
 use tl_testing::vectors::{entries, numbered};
 
-/// Whether an answer was written: it isn't where memory is refused.
+/// Whether an answer was written: it isn't if an allocation fails.
 pub(crate) type Told = Result<(), AllocError>;
 
-/// What is printed if memory is refused: what is tried again comes behind it.
+/// What is printed if an allocation fails: what is tried again comes behind it.
 pub(crate) const NO_MEMORY: &str = ".. out of memory\n";
 
 /// A row with steps: its input, and its steps.
@@ -189,7 +189,7 @@ pub(crate) fn unknown(out: &mut String) -> Told {
     out.push_str("no such call")
 }
 
-/// A step of a row, and where what comes of it is written.
+/// A step of a row, and the text that what comes of it is written to.
 #[derive(Drop)]
 pub(crate) struct Step<'s> {
     pub(crate) line: &'s str,
@@ -217,7 +217,7 @@ impl Step<'_> {
         self.out.push('\n')
     }
 
-    /// Writes that memory was refused. It fails in a row with a key that counts, which is tried again as a whole.
+    /// Writes that an allocation failed. It fails in a row with a key that counts, which is tried again as a whole.
     pub(crate) fn say_refused(&mut self) -> Told {
         if self.out.contains("counting") {
             return Err(AllocError);
