@@ -38,8 +38,8 @@ impl Gate for Meeting {
     }
 }
 
-// Quiet options of `serve` with the demonstration key of the secret `s`, of a log of two lanes in memory, at any address,
-// where it answers no connection.
+// Quiet options of `serve` with the demonstration key of the secret `s`, of a log of two lanes in memory, at any
+// address, at which it answers no connection.
 fn serve_options(alloc: Global) -> Result<ServeOptions, AllocError> {
     let server = ListenOptions {
         listen: String::from_str(alloc, "127.0.0.1:0")?,

@@ -79,8 +79,8 @@ pub(crate) fn require<R: Wait + Drop>(
     }
 }
 
-/// Ends a lane: how many entries were left of it, or why not and the lane that comes back. If an allocation fails, the end
-/// that comes back is put once more.
+/// Ends a lane: how many entries were left of it, or why not and the lane that comes back. If an allocation fails, the
+/// end that comes back is put once more.
 pub(crate) fn end<R: Wait + Drop>(
     operator: &mut Operator<R>,
     lanes: &mut Vec<Sender>,

@@ -1,5 +1,5 @@
-//! Rows of a request over HTTP by GET: the body of the response or its fault, and how many bytes were written. The words
-//! are the limit of the body, the host and the target, both in hexadecimal.
+//! Rows of a request over HTTP by GET: the body of the response or its fault, and how many bytes were written. The
+//! words are the limit of the body, the host and the target, both in hexadecimal.
 
 use crate::words::{Told, Words, bytes_of, put};
 use std::alloc::Global;

@@ -1,6 +1,6 @@
 //! Rows of the keys of notes and of witnesses: their texts, and what they sign and verify.
 
-use crate::words::{Shown, Told, Words, bytes_of, key_of, put, put_hash, put_hex};
+use crate::words::{Told, Words, bytes_of, key_of, put_hash, put_hex};
 use std::alloc::{AllocError, Global};
 use std::str;
 use tl_key::{
@@ -9,26 +9,46 @@ use tl_key::{
 };
 use tl_note::{Signer, Verifier};
 
-/// Its name, its identifier, its public key and its text.
-impl<K: KeyKind> Shown for VerifierKey<K, Global> {
-    fn show(&self, out: &mut String) -> Told {
-        let text = write_verifier_key(*out.allocator(), self)?;
-        let (name, id) = (Verifier::name(self), Verifier::key_id(self));
-        write!(out, "{name:?} {id:08x} ")?;
-        put_hex(out, self.public_key().as_slice())?;
-        write!(out, " {text}")
+// Writes a verifier's key: its name, its identifier, its public key and its text.
+fn put_verifier<K: KeyKind>(alloc: Global, key: &VerifierKey<K, Global>, out: &mut String) -> Told {
+    let text = write_verifier_key(alloc, key)?;
+    let (name, id) = (Verifier::name(key), Verifier::key_id(key));
+    write!(out, "{name:?} {id:08x} ")?;
+    put_hex(out, key.public_key().as_slice())?;
+    write!(out, " {text}")
+}
+
+// The same of an answer, or its fault.
+fn put_verifier_or<K: KeyKind>(
+    alloc: Global,
+    answer: Result<VerifierKey<K, Global>, KeyFault>,
+    out: &mut String,
+) -> Told {
+    match answer {
+        Ok(key) => put_verifier(alloc, &key, out),
+        Err(fault) => write!(out, "{fault:?}"),
     }
 }
 
-/// Its name, its identifier, its text and its verifier's.
-impl<K: KeyKind> Shown for SignerKey<K, Global> {
-    fn show(&self, out: &mut String) -> Told {
-        let alloc = *out.allocator();
-        let text = write_signer_key(alloc, self)?;
-        let (name, id) = (Signer::name(self), Signer::key_id(self));
-        write!(out, "{name:?} {id:08x} {text} ")?;
-        let text = write_verifier_key(alloc, &self.verifier(alloc)?)?;
-        out.push_str(text.as_str())
+// Writes a signer's key: its name, its identifier, its text and its verifier's.
+fn put_signer<K: KeyKind>(alloc: Global, key: &SignerKey<K, Global>, out: &mut String) -> Told {
+    let text = write_signer_key(alloc, key)?;
+    let (name, id) = (Signer::name(key), Signer::key_id(key));
+    write!(out, "{name:?} {id:08x} {text} ")?;
+    let verifier = key.verifier(alloc)?;
+    let text = write_verifier_key(alloc, &verifier)?;
+    out.push_str(text.as_str())
+}
+
+// The same of an answer, or its fault.
+fn put_signer_or<K: KeyKind>(
+    alloc: Global,
+    answer: Result<SignerKey<K, Global>, KeyFault>,
+    out: &mut String,
+) -> Told {
+    match answer {
+        Ok(key) => put_signer(alloc, &key, out),
+        Err(fault) => write!(out, "{fault:?}"),
     }
 }
 
@@ -110,13 +130,12 @@ fn answer_of<K: KeyKind>(
     let call = words.next();
     let word = words.next();
     match call {
-        "verifier" => put(out, read_verifier_key::<K, Global>(alloc, text)),
-        "signer" => put(out, read_signer_key::<K, Global>(alloc, text)),
-        "new-verifier" => put(
-            out,
-            VerifierKey::<K, Global>::new(alloc, text, &key_of(word)),
-        ),
-        "new-signer" => put(out, SignerKey::<K, Global>::new(alloc, text, &key_of(word))),
+        "verifier" => put_verifier_or::<K>(alloc, read_verifier_key(alloc, text), out),
+        "signer" => put_signer_or::<K>(alloc, read_signer_key(alloc, text), out),
+        "new-verifier" => {
+            put_verifier_or::<K>(alloc, VerifierKey::new(alloc, text, &key_of(word)), out)
+        }
+        "new-signer" => put_signer_or::<K>(alloc, SignerKey::new(alloc, text, &key_of(word)), out),
         "sign" => signed::<K>(alloc, text, bytes_of(alloc, word)?.as_slice(), out),
         _ => verified::<K>(alloc, text, bytes_of(alloc, word)?.as_slice(), words, out),
     }

@@ -11,8 +11,8 @@ use tl_sequencer::{OpenFault, Sequencer, TakeFault, open, open_from};
 
 type Log = Sequencer<Global, Global>;
 
-// Ends a lane: how many entries that took, or why not and the lane that comes back. If an allocation fails, the end that
-// comes back is put once more.
+// Ends a lane: how many entries that took, or why not and the lane that comes back. If an allocation fails, the end
+// that comes back is put once more.
 fn end(log: &mut Log, submitters: &mut Vec<Sender>, lane: u32, step: &mut Step<'_>) -> Told
     requires { AreSenders log.old submitters.old.items }
     ensures rings { rings_of log.new ≡ rings_of log.old }
@@ -102,7 +102,8 @@ fn run_steps(
     Ok(())
 }
 
-// Opens a log that begins with this entry. If an allocation fails, it is opened once more with the list that comes back.
+// Opens a log that begins with this entry. If an allocation fails, it is opened once more with the list that comes
+// back.
 fn opened_from(
     alloc: Global,
     entry: Vec<u8>,

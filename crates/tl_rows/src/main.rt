@@ -38,7 +38,6 @@ mod words;
 
 use crate::words::{NO_MEMORY, Row, Told, Words, bytes_of};
 use std::alloc::{AllocError, Global};
-use std::sync::Wait;
 use std::{io, str};
 
 // More bytes than any row prints, so that no answer is lost for want of memory.
@@ -101,23 +100,35 @@ fn answer(alloc: Global, words: &mut Words<'_>, input: &[u8], out: &mut String) 
     }
 }
 
+// Does the steps of a log or of a witness.
+fn answer_steps(
+    rt: &HostRuntime,
+    alloc: Global,
+    words: &mut Words<'_>,
+    text: &str,
+    lines: &str,
+    out: &mut String,
+) -> Told {
+    let steps = steps_of(alloc, lines)?;
+    let row = Row { text, steps };
+    match words.next() {
+        "steps" => opening::answer(rt, alloc, words, &row, out),
+        _ => witnesses::answer(rt, alloc, words, &row, out),
+    }
+}
+
 // Writes the call of a row, and what comes of it, a line each.
-fn answer_row<R: Wait>(rt: &R, alloc: Global, row: &str, out: &mut String) -> Told {
+fn answer_row(rt: &HostRuntime, alloc: Global, row: &str, out: &mut String) -> Told {
     let (call, lines) = row.split_once('\n').unwrap_or((row, ""));
     write!(out, "$ {call}\n")?;
     let input = input_of(alloc, lines)?;
-    let text = str::from_utf8(input.as_slice()).unwrap_or("");
-    let mut words = Words { left: call };
-    let family = words.next();
-    if family == "steps" {
-        let steps = steps_of(alloc, lines)?;
-        return opening::answer(rt, alloc, &mut words, &Row { text, steps }, out);
+    let input = input.as_slice();
+    let words = &mut Words { left: call };
+    if call.starts_with("steps ") || call.starts_with("witness ") {
+        let text = str::from_utf8(input).unwrap_or("");
+        return answer_steps(rt, alloc, words, text, lines, out);
     }
-    if family == "witness" {
-        let steps = steps_of(alloc, lines)?;
-        return witnesses::answer(rt, alloc, &mut words, &Row { text, steps }, out);
-    }
-    answer(alloc, &mut Words { left: call }, input.as_slice(), out)?;
+    answer(alloc, words, input, out)?;
     out.push('\n')
 }
 
@@ -127,7 +138,7 @@ fn lacks_memory(answered: Told, out: &str) -> bool {
 }
 
 // Prints the rows of a script.
-fn print_rows<R: Print + Wait>(rt: &R, alloc: Global, script: &str) -> io::Result<()> {
+fn print_rows(rt: &HostRuntime, alloc: Global, script: &str) -> io::Result<()> {
     let mut out = String::with_capacity(alloc, ROOM)?;
     for row in script.split("\n$ ").skip(1) {
         out.clear();

@@ -2,7 +2,7 @@
 //!
 //! | A log is opened by | |
 //! |---|---|
-//! | `$ steps log LANES CAPACITY LIMIT` | of `example.com/log`, with one reader, signed by the length key of that name |
+//! | `$ steps log LANES CAPACITY LIMIT` | of `example.com/log`, with one reader, signed by its length key |
 //! | `$ steps open ORIGIN SIGNERS LANES CAPACITY LIMIT READERS` | with these keys, and `reluctant` or `counting` |
 //! | `$ steps resume ORIGIN SIGNERS VERIFIERS LANES CAPACITY LIMIT BUNDLE..` | that goes on from a note and bundles |
 //! | `$ steps lanes LANES CAPACITY LIMIT [ENTRY]` | a sequencer alone, which may begin with an entry |
@@ -166,8 +166,8 @@ fn resume<R: Wait + Drop>(
 }
 
 /// Opens the log of a row, and does its steps.
-pub(crate) fn answer<R: Wait>(
-    rt: &R,
+pub(crate) fn answer(
+    rt: &HostRuntime,
     alloc: Global,
     words: &mut Words<'_>,
     row: &Row<'_>,

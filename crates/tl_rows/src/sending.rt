@@ -65,8 +65,8 @@ pub(crate) fn taken_out(submitters: &mut Vec<Sender>, lane: u32) -> Option<Sende
     }
 }
 
-/// Sends the entry that a word gives, so many times, to a lane. What is sent is made before, so that nothing was sent if
-/// an allocation fails.
+/// Sends the entry that a word gives, so many times, to a lane. What is sent is made before, so that nothing was sent
+/// if an allocation fails.
 pub(crate) fn send(
     alloc: Global,
     submitters: &mut Vec<Sender>,

@@ -1,6 +1,6 @@
-//! Rows of witnesses that are asked to cosign. The words are `alone` (a book) or `shared`, `length` or `counting` for the
-//! keys that cosign, and the origins, each `ORIGIN;LOG;COSIGNER` with the length key of the log and the name of the key
-//! that cosigns, as `NAME:ID`. The input has the lines of the links that were saved.
+//! Rows of witnesses that are asked to cosign. The words are `alone` (a book) or `shared`, `length` or `counting` for
+//! the keys that cosign, and the origins, each `ORIGIN;LOG;COSIGNER` with the length key of the log and the key that
+//! cosigns, as `NAME:ID`. The input has the lines of the links that were saved.
 //!
 //! | A step | |
 //! |---|---|
@@ -16,7 +16,6 @@
 use crate::words::{Row, Step, Told, Words, number_of, put_hash, text_of, words_of};
 use std::alloc::{AllocError, Global};
 use std::str;
-use std::sync::Wait;
 use tl_hash::{Hash, Sha256Tree};
 use tl_note::{Signer, Verifier};
 use tl_proof::Link;
@@ -35,19 +34,13 @@ type Part = (u64, u64);
 // Who is asked: a book, or a witness that may be shared.
 trait Asked {
     // The reply to a request.
-    fn reply<R: Wait>(&mut self, rt: &R, body: &str, saver: &mut KeepingSaver) -> Replied;
+    fn reply(&mut self, body: &str, saver: &mut KeepingSaver) -> Replied;
 
     // Reports links of an origin: all of them, or a part. A book has no parts.
-    fn tell_links<R: Wait>(
-        &self,
-        rt: &R,
-        origin: &str,
-        part: Option<Part>,
-        step: &mut Step<'_>,
-    ) -> Told;
+    fn tell_links(&self, origin: &str, part: Option<Part>, step: &mut Step<'_>) -> Told;
 
     // The size and the root that an origin has reached. A book doesn't say.
-    fn reached<R: Wait>(&self, rt: &R, origin: &str) -> Option<(u64, Hash)>;
+    fn reached(&self, origin: &str) -> Option<(u64, Hash)>;
 }
 
 // Reports how many links there are, and each on a line.
@@ -69,40 +62,35 @@ fn tell_all(links: Option<&[Link<Global>]>, step: &mut Step<'_>) -> Told {
 }
 
 impl Asked for Book<Sha256Tree, Global> {
-    fn reply<R: Wait>(&mut self, _rt: &R, body: &str, saver: &mut KeepingSaver) -> Replied {
+    fn reply(&mut self, body: &str, saver: &mut KeepingSaver) -> Replied {
         self.try_add(body.as_bytes(), TIME, saver)
     }
 
-    fn tell_links<R: Wait>(
-        &self,
-        _rt: &R,
-        origin: &str,
-        _part: Option<Part>,
-        step: &mut Step<'_>,
-    ) -> Told {
+    fn tell_links(&self, origin: &str, _part: Option<Part>, step: &mut Step<'_>) -> Told {
         tell_all(self.chain(origin), step)
     }
 
-    fn reached<R: Wait>(&self, _rt: &R, _origin: &str) -> Option<(u64, Hash)> {
+    fn reached(&self, _origin: &str) -> Option<(u64, Hash)> {
         None
     }
 }
 
-impl Asked for SharedWitness<Sha256Tree, Global> {
-    fn reply<R: Wait>(&mut self, rt: &R, body: &str, saver: &mut KeepingSaver) -> Replied {
-        self.try_add(rt, body.as_bytes(), TIME, saver)
+// A witness that may be shared, and what waits for its locks.
+#[derive(Drop)]
+struct Shared<'r> {
+    rt: &'r HostRuntime,
+    witness: SharedWitness<Sha256Tree, Global>,
+}
+
+impl Asked for Shared<'_> {
+    fn reply(&mut self, body: &str, saver: &mut KeepingSaver) -> Replied {
+        self.witness.try_add(self.rt, body.as_bytes(), TIME, saver)
     }
 
-    fn tell_links<R: Wait>(
-        &self,
-        rt: &R,
-        origin: &str,
-        part: Option<Part>,
-        step: &mut Step<'_>,
-    ) -> Told {
+    fn tell_links(&self, origin: &str, part: Option<Part>, step: &mut Step<'_>) -> Told {
         let found = match part {
-            Some((from, most)) => self.links(rt, origin, from, most)?,
-            None => self.chain(rt, origin)?,
+            Some((from, most)) => self.witness.links(self.rt, origin, from, most)?,
+            None => self.witness.chain(self.rt, origin)?,
         };
         match found {
             Some(links) => tell_all(Some(links.as_slice()), step),
@@ -110,21 +98,15 @@ impl Asked for SharedWitness<Sha256Tree, Global> {
         }
     }
 
-    fn reached<R: Wait>(&self, rt: &R, origin: &str) -> Option<(u64, Hash)> {
-        self.head(rt, origin)
+    fn reached(&self, origin: &str) -> Option<(u64, Hash)> {
+        self.witness.head(self.rt, origin)
     }
 }
 
 // Puts a request: the status and the body of the reply.
-fn add<R: Wait, W: Asked>(
-    rt: &R,
-    asked: &mut W,
-    saver: &mut KeepingSaver,
-    body: &str,
-    step: &mut Step<'_>,
-) -> Told {
+fn add<W: Asked>(asked: &mut W, saver: &mut KeepingSaver, body: &str, step: &mut Step<'_>) -> Told {
     saver.lacks_memory = false;
-    let reply = asked.reply(rt, body, saver)?;
+    let reply = asked.reply(body, saver)?;
     if saver.lacks_memory {
         return Err(AllocError);
     }
@@ -143,8 +125,7 @@ fn tell_head(head: Option<(u64, Hash)>, step: &mut Step<'_>) -> Told {
 }
 
 // Does a step.
-fn do_step<R: Wait, W: Asked>(
-    rt: &R,
+fn do_step<W: Asked>(
     alloc: Global,
     asked: &mut W,
     saver: &mut KeepingSaver,
@@ -155,22 +136,21 @@ fn do_step<R: Wait, W: Asked>(
     match words.as_slice() {
         ["add" | "unsaved", body] => {
             let body = text_of(alloc, body)?;
-            add(rt, asked, saver, body.as_str(), step)
+            add(asked, saver, body.as_str(), step)
         }
-        ["links", origin] => asked.tell_links(rt, origin, None, step),
+        ["links", origin] => asked.tell_links(origin, None, step),
         ["links", origin, from, most] => {
             let part = (number_of(from), number_of(most));
-            asked.tell_links(rt, origin, Some(part), step)
+            asked.tell_links(origin, Some(part), step)
         }
-        ["head", origin] => tell_head(asked.reached(rt, origin), step),
+        ["head", origin] => tell_head(asked.reached(origin), step),
         ["saved"] => write!(step.out, "{}:\n{}", step.line, saver.lines),
         _ => step.say("no such step"),
     }
 }
 
 // Does steps, each once more if an allocation fails.
-fn run_steps<R: Wait, W: Asked>(
-    rt: &R,
+fn run_steps<W: Asked>(
     alloc: Global,
     asked: &mut W,
     saver: &mut KeepingSaver,
@@ -182,9 +162,9 @@ fn run_steps<R: Wait, W: Asked>(
             line,
             out: &mut *out,
         };
-        if do_step(rt, alloc, asked, saver, &mut step).is_err() {
+        if do_step(alloc, asked, saver, &mut step).is_err() {
             step.say_refused()?;
-            do_step(rt, alloc, asked, saver, &mut step)?;
+            do_step(alloc, asked, saver, &mut step)?;
         }
     }
     Ok(())
@@ -221,8 +201,8 @@ fn parties_of<'a>(alloc: Global, words: &'a str) -> Result<Vec<Party<'a>>, Alloc
 }
 
 /// Opens the witness of a row, and does its steps.
-pub(crate) fn answer<R: Wait>(
-    rt: &R,
+pub(crate) fn answer(
+    rt: &HostRuntime,
     alloc: Global,
     words: &mut Words<'_>,
     row: &Row<'_>,
@@ -260,19 +240,13 @@ pub(crate) fn answer<R: Wait>(
     out.push_str("opened\n")?;
     let (mut saver, steps) = (KeepingSaver::new(alloc), row.steps.as_slice());
     if is_alone {
-        return run_steps(rt, alloc, &mut book, &mut saver, steps, out);
+        return run_steps(alloc, &mut book, &mut saver, steps, out);
     }
-    let mut witness = SharedWitness::new(book).map_err(|_| AllocError)?;
+    let witness = SharedWitness::new(book).map_err(|_| AllocError)?;
+    let mut shared = Shared { rt, witness };
     let count = steps.iter().take_while(|step| **step != "book").count();
     let (front, rest) = (steps.get(..count), steps.get(count.saturating_add(1)..));
-    run_steps(
-        rt,
-        alloc,
-        &mut witness,
-        &mut saver,
-        front.unwrap_or(&[]),
-        out,
-    )?;
-    let mut book = witness.into_book(rt).map_err(|_| AllocError)?;
-    run_steps(rt, alloc, &mut book, &mut saver, rest.unwrap_or(&[]), out)
+    run_steps(alloc, &mut shared, &mut saver, front.unwrap_or(&[]), out)?;
+    let mut book = shared.witness.into_book(rt).map_err(|_| AllocError)?;
+    run_steps(alloc, &mut book, &mut saver, rest.unwrap_or(&[]), out)
 }
