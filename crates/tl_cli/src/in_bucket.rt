@@ -72,7 +72,8 @@ fn finish_and_append<
         Ok(()) => {}
         Err(fault) => return after_bucket(&shelf, Err(fault)),
     }
-    let (mut found, start) = (Found::new(alloc), Some(shelf.committed()));
+    let start = Some(shelf.committed());
+    let mut found = Found::new(alloc);
     let outcome = run_append(
         rt,
         alloc,
