@@ -1,5 +1,5 @@
 -- A run of the command `append`: it goes on from the log on a shelf.
-use Rattle.std.specs.Prelude.{◌≡◌, ◌<◌, ◌⊎◌, ℕ, ◌-◌, ◌^◌, max, length, Option, Some, None, List, [], ◌∷◌, ◌++◌, Contains, Result, Ok, Err, string_bytes}
+use Rattle.std.specs.Prelude.{◌≡◌, ◌<◌, ◌⊎◌, ⊤, ℕ, ◌-◌, ◌^◌, max, length, Option, Some, None, List, [], ◌∷◌, ◌++◌, Contains, Result, Ok, Err, string_bytes}
 use Rattle.std.specs.List.{All, flat_map}
 use Rattle.sha2.specs.Sha256.{sha256}
 use Rattle.tl_hash.specs.Bytes.{Bytes, Digest}
@@ -124,6 +124,11 @@ pub record Stays (v : Visit) (i : Passage) : Type 0 where
   pub kept : v.after ≡ v.before
   pub trace : v.sees ≡ v.saw
   pub unread : IsUnread i
+
+-- a log of so many entries may be gone on from, where it is to have just this number, if one is given
+abbrev pub IsStart : Option ℕ → ℕ → Type 0
+IsStart None size = ⊤
+IsStart (Some start) size = size ≡ start
 
 -- how a log of this name goes on, under the key that is given, in batches of this size
 abbrev pub GoesOn : GivenKey → Bytes → ℕ → Found → Visit → Passage → Passage → Result (Unit {0}) RunFault → Type 0

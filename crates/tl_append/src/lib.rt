@@ -4,7 +4,8 @@
 //! ```
 //! let mut found = Found::new(alloc);
 //! run_append(
-//!     &rt, alloc, &options, Joining::AtHand, &mut shelf, &store, &mut found, &mut reader, &mut writer,
+//!     &rt, alloc, &options, None, Joining::AtHand, &mut shelf, &store, &mut found, &mut reader,
+//!     &mut writer,
 //! )?; // prints `2 n5+..`
 //! let sealer = Cosigners::new(asker, quorum); // or `AsSigned`, where nobody has to cosign
 //! let mut cosigned = SealedShelf::new(shelf, store, sealer, false);
@@ -35,7 +36,7 @@ pub use cosigners::{AsksCosigners, ChecksCosigned, LogQuorum};
 pub use faults::line_fault;
 pub use keys::{LogKeys, LogOpeningKey, LogSigningKey, keys_of};
 pub use log_shelf::{LogShelf, OpenedLog};
-pub use opening::open_ledger;
+pub use opening::{check_start, open_ledger};
 pub use options::{AppendOptions, Batching, Joining};
 pub use proposal::{NoProposals, ProposalStore};
 pub use running::run_append;

@@ -9,6 +9,7 @@ ghost use Rattle.tl_ledger.specs.Opening.{IsOfNote, Opens, found_size};
 ghost use Rattle.tl_append.specs.Keys.{opening_key_of};
 ghost use Rattle.tl_append.specs.Inner.Proposals.{IsNewer};
 ghost use Rattle.tl_append.specs.Proposing.{HasProposal, IsNoOlder, IsProposed, IsThere};
+ghost use Rattle.tl_append.specs.Running.{IsStart};
 
 use crate::faults::{outrun, unopened, unproposed};
 use crate::keys::LogOpeningKey;
@@ -19,7 +20,7 @@ use std::snapshot::Snapshot;
 use tl_archive::Shelf;
 use tl_checkpoint::open_checkpoint;
 use tl_command::{Place, RunFault};
-use tl_ledger::{Found, Ledger, is_named};
+use tl_ledger::{Found, Ledger, MarkFault, is_named};
 use tl_note::Verifier;
 
 // The number of entries of the checkpoint that a proposal is of, which has to be the log's.
@@ -154,6 +155,16 @@ fn open_by<S: Shelf, P: ProposalStore>(
     match open_newest(alloc, verifiers, shelf, store, found) {
         Ok(opened) => Ok(opened),
         Err(fault) => Err(fault),
+    }
+}
+
+/// Checks that a log has just so many entries, where a number is given. `Older`: it has another one.
+pub fn check_start(ledger: &Ledger<Global>, start: Option<u64>) -> Result<(), RunFault>
+    ensures { OnOk result (IsStart start ledger.now.edge.size) }
+{
+    match start {
+        Some(start) if start != ledger.size() => Err(outrun(MarkFault::Older(start))),
+        _ => Ok(()),
     }
 }
 

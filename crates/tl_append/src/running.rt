@@ -9,13 +9,14 @@ ghost use Rattle.tl_command.specs.Mirror.{LogKey};
 ghost use Rattle.tl_command.specs.Origins.{RefusesOrigin};
 ghost use Rattle.tl_append.specs.Keys.{log_key_of, opening_key_of};
 ghost use Rattle.tl_append.specs.Proposing.{HasProposal};
-ghost use Rattle.tl_append.specs.Running.{GoesOn, HasOwnProposal, IsLogKey, MarksLast, Stays, batch_size, visit};
+ghost use Rattle.tl_append.specs.Running.{GoesOn, HasOwnProposal, IsLogKey, IsStart, MarksLast, Stays};
+ghost use Rattle.tl_append.specs.Running.{batch_size, visit};
 ghost use Rattle.tl_append.specs.Inner.Under.{GoesOnUnder};
 
 use crate::appending::append_lines;
 use crate::faults::taken;
 use crate::keys::{LogKeys, keys_of};
-use crate::opening::open_ledger;
+use crate::opening::{check_start, open_ledger};
 use crate::options::{AppendOptions, Batching, Joining};
 use crate::proposal::ProposalStore;
 use std::alloc::Global;
@@ -32,6 +33,7 @@ fn append_under<S: Shelf, P: ProposalStore, R: Read, W: Write>(
     alloc: Global,
     keys: LogKeys,
     options: &AppendOptions,
+    start: Option<u64>,
     joining: Joining,
     shelf: &mut S,
     store: &P,
@@ -54,6 +56,8 @@ fn append_under<S: Shelf, P: ProposalStore, R: Read, W: Write>(
     ensures newest { Stays (visit S.kept S.trace shelf.old shelf.new)
         (passage R.remaining reader.old reader.new) ⊎ HasProposal (P.may_have store.now)
         (opening_key_of keys.verifier ∷ []) (found_size found.new.head) }
+    ensures start { Stays (visit S.kept S.trace shelf.old shelf.new)
+        (passage R.remaining reader.old reader.new) ⊎ IsStart start (found_size found.new.head) }
     ensures place { S.place shelf.new ≡ S.place shelf.old }
 {
     let LogKeys { signer, verifier } = keys;
@@ -63,6 +67,10 @@ fn append_under<S: Shelf, P: ProposalStore, R: Read, W: Write>(
         Err(fault) => return Err(fault),
     };
     let mut ledger = opened.ledger;
+    match check_start(&ledger, start) {
+        Ok(()) => {}
+        Err(fault) => return Err(fault),
+    }
     let is_first = found.head.is_none();
     if options.is_new && !is_first {
         return Err(taken());
@@ -81,12 +89,14 @@ fn append_under<S: Shelf, P: ProposalStore, R: Read, W: Write>(
 
 /// Appends the lines of the input to the log on the shelf, which begins one where it has none: it is published after so
 /// many entries as the options say, and at the end, and each time a line with size and root is printed. It goes on from
-/// the checkpoint that was there or the proposal of the store, as `open_ledger` does; `found` holds what was read.
-/// `Taken`: there is a log, and none is to be. `Older`: more entries were published.
+/// the checkpoint that was there or the proposal of the store, as `open_ledger` does, which is to have `start` entries
+/// where that is given; `found` holds what was read. `Taken`: there is a log, and none is to be. `Older`: more entries
+/// were published, or it hasn't got so many.
 pub fn run_append<H: Files, S: Shelf, P: ProposalStore, R: Read, W: Write>(
     rt: &H,
     alloc: Global,
     options: &AppendOptions,
+    start: Option<u64>,
     joining: Joining,
     shelf: &mut S,
     store: &P,
@@ -112,6 +122,8 @@ pub fn run_append<H: Files, S: Shelf, P: ProposalStore, R: Read, W: Write>(
     ensures newest { Stays (visit S.kept S.trace shelf.old shelf.new)
         (passage R.remaining reader.old reader.new) ⊎ HasOwnProposal options.now.key
         (string_bytes options.now.origin) (P.may_have store.now) (found_size found.new.head) }
+    ensures start { Stays (visit S.kept S.trace shelf.old shelf.new)
+        (passage R.remaining reader.old reader.new) ⊎ IsStart start (found_size found.new.head) }
     ensures place { S.place shelf.new ≡ S.place shelf.old }
 {
     let origin = options.origin.as_str();
@@ -123,7 +135,7 @@ pub fn run_append<H: Files, S: Shelf, P: ProposalStore, R: Read, W: Write>(
         Err(fault) => return Err(fault),
     };
     match append_under(
-        alloc, keys, options, joining, shelf, store, found, reader, writer,
+        alloc, keys, options, start, joining, shelf, store, found, reader, writer,
     ) {
         Ok(()) => Ok(()),
         Err(fault) => Err(fault),

@@ -1,19 +1,9 @@
 //! Loops to measure, one word each. The scripts in `bench/` run them beside the program.
 #![tactic(auto)]
 
-mod chains;
-mod plain;
-mod proving;
-mod publishing;
-mod reading;
 mod rings;
 mod signing;
-mod together;
 
-use chains::chains;
-use proving::proofs;
-use publishing::publish;
-use reading::tiles;
 use rings::sequencer;
 use sha2::{Digest, Sha256};
 use signing::keys;
@@ -59,28 +49,8 @@ fn sha256(rt: &impl Print, words: &[String]) -> io::Result<bool> {
     Ok(true)
 }
 
-// Proofs over a small log and a large one.
-fn both_sizes<R: Clock + Print>(rt: &R, alloc: Global) -> io::Result<bool> {
-    Ok(proofs(rt, alloc, 1_000)? && proofs(rt, alloc, 1_000_000)?)
-}
-
-// A log that is published each time it has so many entries more.
-fn published<R: Threads + Wait + Clock + Print + Copy + Drop>(
-    rt: &R,
-    alloc: Global,
-    words: &[String],
-) -> io::Result<bool> {
-    let Some(batch) = words.first() else {
-        return Ok(false);
-    };
-    let Ok(batch) = batch.parse::<u64>() else {
-        return Ok(false);
-    };
-    Ok(publish(rt, alloc, batch)?.is_some())
-}
-
 // Measures the loop of a word. Whether it is one, and was measured to its end.
-fn measured<R: Threads + Wait + Clock + Print + Copy + Send + Drop + 'static>(
+fn measured<R: Threads + Wait + Clock + Print + Copy + Send + 'static>(
     rt: &R,
     alloc: Global,
     word: &str,
@@ -89,10 +59,6 @@ fn measured<R: Threads + Wait + Clock + Print + Copy + Send + Drop + 'static>(
     match word {
         "sha256" => sha256(rt, rest),
         "sequencer" => sequencer(rt, alloc),
-        "proofs" => both_sizes(rt, alloc),
-        "tiles" => tiles(rt, alloc),
-        "publish" => published(rt, alloc, rest),
-        "chains" => chains(rt, alloc),
         "keys" => keys(rt),
         _ => Ok(false),
     }
@@ -110,9 +76,7 @@ fn main(rt: HostRuntime) -> ExitCode {
     match measured(&rt, rt.alloc(), word, rest) {
         Ok(true) => ExitCode::SUCCESS,
         Ok(false) => {
-            let _ = rt.eprintln(
-                "usage: tl_bench sha256 COUNT LENGTH .. | sequencer | proofs | tiles | publish COUNT | chains | keys",
-            );
+            let _ = rt.eprintln("usage: tl_bench sha256 COUNT LENGTH .. | sequencer | keys");
             ExitCode::from(2)
         }
         Err(_) => ExitCode::from(3),

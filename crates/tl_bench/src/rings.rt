@@ -1,6 +1,5 @@
 //! Entries a second through the rings of a sequencer, beside the same through one lock.
 
-use crate::proving::rate;
 use std::alloc::{AllocError, Global};
 use std::sync::{Arc, Mutex, Wait};
 use std::thread::Threads;
@@ -25,6 +24,14 @@ const BATCH: u64 = 256;
 // More entries than are sent, so that the log is never full.
 const LIMIT: u64 = 4_294_967_295;
 
+// How many entries a second that is, if the time is long enough to tell.
+fn rate(took: Duration) -> u128 {
+    match took.as_micros() {
+        0 => 0,
+        micros => u128::from(ENTRIES) * 1_000_000 / micros,
+    }
+}
+
 // Sends an entry when there is room for it.
 fn send_when_free(submitter: &mut Submitter<Global, Global>, entry: Vec<u8>) {
     let mut entry = entry;
@@ -37,14 +44,10 @@ fn send_when_free(submitter: &mut Submitter<Global, Global>, entry: Vec<u8>) {
     }
 }
 
-/// What the thread of a lane does: it sends so many entries.
-pub fn send_each(
-    alloc: Global,
-    submitter: Submitter<Global, Global>,
-    count: u64,
-) -> Result<(), AllocError> {
+// What the thread of a lane does: it sends its entries.
+fn send_each(alloc: Global, submitter: Submitter<Global, Global>) -> Result<(), AllocError> {
     let mut submitter = submitter;
-    for _ in 0..count {
+    for _ in 0..EACH {
         let entry = vec![in alloc; 7; BYTES]?;
         send_when_free(&mut submitter, entry);
     }
@@ -78,7 +81,7 @@ fn through_rings<R: Threads + Clock>(rt: &R, alloc: Global) -> io::Result<Option
     let start = Instant::now(rt)?;
     let mut threads = Vec::new(alloc);
     for submitter in submitters {
-        threads.push(thread::spawn(rt, move || send_each(alloc, submitter, EACH))?)?;
+        threads.push(thread::spawn(rt, move || send_each(alloc, submitter))?)?;
     }
     let whole = take_each(&mut log);
     let took = start.elapsed(rt)?;
@@ -130,11 +133,8 @@ pub fn sequencer<R: Threads + Wait + Clock + Print + Copy + Send + 'static>(
     let Some(took) = through_rings(rt, alloc)? else {
         return Ok(false);
     };
-    println!(rt; "sequencer: rings {} entries a second", rate(ENTRIES, took))?;
+    println!(rt; "sequencer: rings {} entries a second", rate(took))?;
     let took = through_lock(rt, alloc)?;
-    println!(rt;
-        "sequencer: one lock {} entries a second",
-        rate(ENTRIES, took)
-    )?;
+    println!(rt; "sequencer: one lock {} entries a second", rate(took))?;
     Ok(true)
 }

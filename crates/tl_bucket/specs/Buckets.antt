@@ -1,5 +1,5 @@
 -- A bucket as a shelf: what its calls made of what it had.
-use Rattle.std.specs.Prelude.{◌≡◌, ℕ, List, [], ◌∷◌, ◌++◌, Option, Some, None}
+use Rattle.std.specs.Prelude.{◌≡◌, ℕ, Bool, List, [], ◌∷◌, ◌++◌, Option, Some, None}
 use Rattle.tl_archive.specs.Shelves.{Held, Item, Kept}
 use Rattle.tl_folder.specs.Events.{Event}
 use Rattle.tl_folder.specs.Folders.{Reached, after_calls, after_each, at_first}
@@ -13,23 +13,29 @@ use Rattle.tl_bucket.specs.Answered.{IsBare, WasThereWith}
 use Rattle.tl_bucket.specs.Claims.{Adds, Claims, CommitsEntries}
 use Rattle.tl_bucket.specs.Shelved.{WereThere, content_at}
 
+-- a checkpoint that is there: its note, and the entity tag that was told with it
+pub record Shown : Type 0 where
+  pub note : Bytes
+  pub etag : Bytes
+
 -- the objects of a log: the bucket in which they are; the tiles and bundles that wait, and the note that does; what is
--- claimed for them; and the entity tag of the checkpoint that is there, if one is
+-- claimed for them; and the checkpoint that is there, if one is
 pub record Objects : Type 0 where
   pub at : Place
   pub waiting : List Item
   pub note : Option Bytes
   pub claims : Claims
-  pub etag : Option Bytes
+  pub shown : Option Shown
 
 -- nothing waits yet
-abbrev pub no_objects : Place → Claims → Option Bytes → Objects
-no_objects at claims etag = record { at = at; waiting = []; note = None; claims = claims; etag = etag }
+abbrev pub no_objects : Place → Claims → Option Shown → Objects
+no_objects at claims shown = record { at = at; waiting = []; note = None; claims = claims; shown = shown }
 
--- a bucket as a shelf: its objects; the address by which it was opened; what came of its calls so far, how many of them
--- failed, and how many entries it marked as published, last
+-- a bucket as a shelf: its objects; whether the checkpoint is read anew each time; the address by which it was opened;
+-- what came of its calls so far, how many of them failed, and how many entries it marked as published, last
 pub record Bucketed : Type 0 where
   pub objects : Objects
+  pub reads_anew : Bool
   pub place : Bytes
   pub events : List Event
   pub failures : ℕ
@@ -43,23 +49,24 @@ bucket_kept held reached b = after_calls reached 0 b.events (at_first held)
 abbrev pub bucket_trace : Held → Reached → Bucketed → List Kept
 bucket_trace held reached b = after_each reached 0 b.events (at_first held)
 
--- when a checkpoint is to be put: where the one that is there has this entity tag, or where none is there
-abbrev pub IsReplacing : Option Bytes → Condition → Type 0
+-- when a checkpoint is to be put: where the one that is there has the entity tag of this one, or where none is there
+abbrev pub IsReplacing : Option Shown → Condition → Type 0
 IsReplacing None c = c ≡ condition.Absent
-IsReplacing (Some etag) c = (value : _) × (c ≡ condition.Matches value) × (value.now ≡ etag)
+IsReplacing (Some shown) c = (value : _) × (c ≡ condition.Matches value) × (value.now ≡ shown.etag)
 
--- a checkpoint was put, where one is to be, and this is the entity tag of the one that is there then
-abbrev pub NoteWasThere : Place → Option Bytes → Option Bytes → Option Bytes → Type 0
+-- a checkpoint was put, where one is to be, and this is the one that is there then
+abbrev pub NoteWasThere : Place → Option Shown → Option Bytes → Option Shown → Type 0
 NoteWasThere p before None after = after ≡ before
-NoteWasThere p before (Some note) after = (c : Condition) × IsReplacing before c
-    × ((etag : Bytes) × WasThereWith p (content_at (resource.Checkpoint, note)) c (Some etag) × ((tag : Bytes) × IsBare etag tag × (after ≡ Some tag)))
+NoteWasThere p before (Some note) after =
+    (c : Condition) × IsReplacing before c × ((etag : Bytes) × WasThereWith p (content_at (resource.Checkpoint, note)) c (Some etag)
+    × ((tag : Bytes) × IsBare etag tag × (after ≡ Some (record { note = note; etag = tag }))))
 
 -- all that waited was put: the entries that the bundles add are committed, if there are any, the tiles and bundles were
 -- there, and the checkpoint was put in the place of the one that was known. Nothing waits any more
 pub record SettlesObjects (before after : Objects) : Type 0 where
   pub committed : CommitsEntries before.at before.claims after.claims
   pub tiles : WereThere before.at before.waiting
-  pub checkpoint : NoteWasThere before.at before.etag before.note after.etag
+  pub checkpoint : NoteWasThere before.at before.shown before.note after.shown
   pub at : after.at ≡ before.at
   pub waiting : after.waiting ≡ []
   pub note : after.note ≡ None

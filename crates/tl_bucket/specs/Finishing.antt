@@ -1,5 +1,5 @@
 -- Commits that are finished: what they append is put and shown.
-use Rattle.std.specs.Prelude.{◌≡◌, ◌⊎◌, ℕ, ◌+◌, ◌-◌, ◌<◌, ◌≤◌, ⊤, List, [], ◌∷◌, ◌++◌, length, Result, Ok, Err}
+use Rattle.std.specs.Prelude.{◌≡◌, ◌⊎◌, ℕ, ◌+◌, ◌-◌, ◌<◌, ◌≤◌, ⊤, List, [], ◌∷◌, ◌++◌, length, Option, Some, Result, Ok, Err}
 use Rattle.tl_append.specs.Appending.{Appends, AppendsThen, Course, course, joined}
 use Rattle.tl_append.specs.Running.{AreLogKeys, Grows, OfFound, visit}
 use Rattle.tl_archive.specs.Shelves.{Held}
@@ -7,15 +7,12 @@ use Rattle.tl_command.specs.Mirror.{LogKey}
 use Rattle.tl_command.specs.declared.fault.RunFault.{RunFault}
 use Rattle.tl_command.specs.declared.keys.LogKey.{LogKey as GivenKey}
 use Rattle.tl_folder.specs.Folders.{Reached}
-use Rattle.tl_folder.specs.Places.{place_of}
 use Rattle.tl_hash.specs.Bytes.{Bytes}
 use Rattle.tl_ledger.specs.Opening.{Found, IsOfSigned, found_size}
 use Rattle.tl_ledger.specs.Standing.{Ledger}
 use Rattle.tl_note.specs.Key.{Key}
 use Rattle.tl_put.specs.Objects.{Place}
-use Rattle.tl_tile.specs.declared.resource.Resource.TheVariants as resource
-use Rattle.tl_bucket.specs.Answered.{WasRead}
-use Rattle.tl_bucket.specs.Buckets.{Bucketed, bucket_kept, bucket_trace}
+use Rattle.tl_bucket.specs.Buckets.{Bucketed, Shown, bucket_kept, bucket_trace}
 use Rattle.tl_bucket.specs.Commits.{Commit}
 use Rattle.tl_bucket.specs.Opened.{WasReadAs}
 use Rattle.tl_bucket.specs.Operators.{TellsSize}
@@ -64,13 +61,13 @@ abbrev pub Finishes : {T E : Type 0} → LogKey → Place → ℕ → Course →
 Finishes key p end c (Ok done) = (first : ℕ) × IsFirstBehind p c.was.edge.size end first × FinishesAll key p end first c
 Finishes key p end c (Err fault) = (first : ℕ) × FinishesSome key p first c
 
--- a checkpoint was there that tells this size
-abbrev pub ShowsSize : Place → ℕ → Type 0
-ShowsSize p size = (note : Bytes) × WasRead p (place_of [] resource.Checkpoint) note × TellsSize note size
+-- the checkpoint that is there tells this size
+abbrev pub ShowsSize : Option Shown → ℕ → Type 0
+ShowsSize shown size = (there : Shown) × (shown ≡ Some there) × TellsSize there.note size
 
 -- a log was opened as far as a checkpoint goes that the key of this name opens, which is given, and the commits behind
--- that were finished under it: what was appended came behind each log with the size and the root that were found, at
--- rest in the bucket, or inputs collide
+-- that were finished under it, so that it has all that commits append: what was appended came behind each log with the
+-- size and the root that were found, at rest in the bucket, or inputs collide
 pub record OpensAndFinishes (held : Held) (reached : Reached) (key : GivenKey) (name : Bytes) (before after : Bucketed) (result : Result (Unit {0}) RunFault) : Type 0 where
   pub own : LogKey
   pub opener : Key
@@ -82,6 +79,7 @@ pub record OpensAndFinishes (held : Held) (reached : Reached) (key : GivenKey) (
   pub sized : was.edge.size ≡ found_size found.head
   pub finishes : Finishes own before.objects.at before.objects.claims.number
       (course (bucket_kept held reached) (bucket_trace held reached) before after was is) result
+  pub even : result ≡ Ok tt → is.edge.size ≡ after.objects.claims.start
   pub grows : (batches : List (List Bytes)) (rest : List Bytes)
       → AppendsThen own batches rest (course (bucket_kept held reached) (bucket_trace held reached) before after was is)
       → OfFound found (bucket_kept held reached before)
@@ -91,6 +89,6 @@ pub record OpensAndFinishes (held : Held) (reached : Reached) (key : GivenKey) (
 -- they are finished
 abbrev pub FinishesLog : Held → Reached → GivenKey → Bytes → Bucketed → Bucketed → Result (Unit {0}) RunFault → Type 0
 FinishesLog held reached key name before after result =
-    (ShowsSize before.objects.at before.objects.claims.start × (after ≡ before) × (result ≡ Ok tt))
+    (ShowsSize before.objects.shown before.objects.claims.start × (after ≡ before) × (result ≡ Ok tt))
     ⊎ (((fault : RunFault) × (result ≡ Err fault)) × (after.events ≡ before.events))
     ⊎ OpensAndFinishes held reached key name before after result

@@ -7,6 +7,7 @@ use Rattle.tl_put.specs.declared.object.PutAnswer.TheVariants.{Refused}
 use Rattle.tl_folder.specs.Places.{place_of}
 use Rattle.tl_tile.specs.declared.resource.Resource.TheVariants as resource
 use Rattle.tl_bucket.specs.Answered.{IsBare, WasMissing, WasPut, WasRead, WasReadWith}
+use Rattle.tl_bucket.specs.Buckets.{Shown}
 use Rattle.tl_bucket.specs.Claims.{Claims, no_claims}
 use Rattle.tl_bucket.specs.Commits.{Commit, IsCommit}
 use Rattle.tl_bucket.specs.Shelved.{commit_path}
@@ -44,8 +45,8 @@ pub record IsAtEnd (p : Place) (token : Bytes) (claims : Claims) : Type 0 where
   pub ends : EndsAt p last size
   pub next : claims ≡ no_claims (last + 1) size token None
 
--- the checkpoint that was found has this entity tag, as it is given to If-Match; or there was none
-abbrev pub KnowsTag : Place → Option Bytes → Type 0
-KnowsTag p None = WasMissing p (place_of [] resource.Checkpoint)
-KnowsTag p (Some tag) =
-    (note etag : Bytes) × WasReadWith p (place_of [] resource.Checkpoint) note (Some etag) × IsBare etag tag
+-- one answer gave the checkpoint, its note and its entity tag, which is as it is given to If-Match; or there was none
+abbrev pub KnowsShown : Place → Option Shown → Type 0
+KnowsShown p None = WasMissing p (place_of [] resource.Checkpoint)
+KnowsShown p (Some shown) =
+    (etag : Bytes) × WasReadWith p (place_of [] resource.Checkpoint) shown.note (Some etag) × IsBare etag shown.etag

@@ -14,7 +14,7 @@ ghost use Rattle.tl_tile.specs.Bundle.{AreShortEntries};
 use crate::client::{Client, Connection};
 use crate::commit::Commit;
 use crate::fault::BucketFault;
-use crate::noting::told_size;
+use crate::noting::size_told;
 use crate::opening::{has_commit, read_numbered};
 use crate::shelf::BucketShelf;
 use crate::together::PutsTogether;
@@ -43,13 +43,15 @@ impl<D: CrashOutcome + PutsTogether + Drop, H: Net<Stream = TcpStream> + Clock> 
     }
 
     // Whether the checkpoint that is there tells all that is committed.
-    fn shows_all(&self) -> Result<bool, BucketFault>
-        ensures { IfOk result (λ all. IsTrue all
-            → ShowsSize self.now.objects.at self.now.objects.claims.start) }
+    fn shows_all(&self) -> bool
+        ensures { IsTrue result → ShowsSize self.now.objects.shown self.now.objects.claims.start }
     {
-        match told_size(&self.objects.client, &mut Connection::new())? {
-            Some(told) if told == self.objects.claims.start() => Ok(true),
-            _ => Ok(false),
+        let Some(note) = self.objects.note_shown() else {
+            return false;
+        };
+        match size_told(note) {
+            Some(told) if told == self.objects.claims.start() => true,
+            _ => false,
         }
     }
 
@@ -209,10 +211,8 @@ pub fn finish_log<
         Ok(keys) => keys,
         Err(fault) => return Err(fault),
     };
-    match shelf.shows_all() {
-        Ok(true) => return Ok(()),
-        Ok(false) => {}
-        Err(fault) => return Err(shelf.failed(fault)),
+    if shelf.shows_all() {
+        return Ok(());
     }
     let mut found = Found::new(alloc);
     let opened = match open_ledger(alloc, verifier, true, shelf, &NoProposals, &mut found) {

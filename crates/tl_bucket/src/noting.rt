@@ -3,9 +3,8 @@
 ghost use Rattle.std.specs.Prelude.{◌≡◌, [], Some, All, IfOk, IfSome, option_map, string_bytes};
 ghost use Rattle.tl_bucket.specs.Answered.{IsBare, WasRead, WasReadWith};
 ghost use Rattle.tl_bucket.specs.Buckets.{IsReplacing, NoteWasThere};
-ghost use Rattle.tl_bucket.specs.Finishing.{ShowsSize};
-ghost use Rattle.tl_bucket.specs.Inner.Puts.{IsThere};
-ghost use Rattle.tl_bucket.specs.Opened.{KnowsTag};
+ghost use Rattle.tl_bucket.specs.Inner.Puts.{IsThere, shown_of};
+ghost use Rattle.tl_bucket.specs.Opened.{KnowsShown};
 ghost use Rattle.tl_bucket.specs.Operators.{TellsSize};
 ghost use Rattle.tl_folder.specs.Places.{place_of};
 ghost use Rattle.tl_get.specs.Post.{value_bytes};
@@ -13,7 +12,7 @@ ghost use Rattle.tl_hash.specs.Bytes.{Bytes};
 ghost use Rattle.tl_tile.specs.Path.{IsResource};
 ghost use Rattle.tl_tile.specs.declared.resource.Resource.TheVariants as resource;
 
-use crate::asking::{MOST_BYTES, PutOutcome};
+use crate::asking::{Found, MOST_BYTES, PutOutcome};
 use crate::client::{Client, Connection};
 use crate::commit::{cut_line, read_size};
 use crate::fault::BucketFault;
@@ -69,21 +68,33 @@ fn own_tag(alloc: Global, etag: &Option<Vec<u8>>) -> Result<String, BucketFault>
     }
 }
 
-/// The entity tag of the checkpoint that is there, as If-Match is given it, if there is one.
-pub(crate) fn find_tag<H: Net<Stream = TcpStream> + Clock>(
-    client: &Client<'_, H>,
-    connection: &mut Connection,
-) -> Result<Option<String>, BucketFault>
-    ensures { IfOk result (λ tag. KnowsTag client.now (option_map string_bytes tag)) }
-{
-    match connection.find(client, CHECKPOINT, MOST_BYTES)? {
-        Some(found) => Ok(Some(own_tag(client.alloc, &found.etag)?)),
-        None => Ok(None),
-    }
+/// A checkpoint that is there.
+#[derive(Drop)]
+pub(crate) struct Shown {
+    /// Its note.
+    pub(crate) note: Vec<u8>,
+    /// Its entity tag, as If-Match is given it.
+    pub(crate) etag: String,
 }
 
-// How many entries the second line of a note tells (C2SP tlog-checkpoint).
-fn size_told(note: &[u8]) -> Option<u64>
+/// The checkpoint that is there, if there is one: its note and its entity tag are of one answer.
+pub(crate) fn find_shown<H: Net<Stream = TcpStream> + Clock>(
+    client: &Client<'_, H>,
+    connection: &mut Connection,
+) -> Result<Option<Shown>, BucketFault>
+    ensures { IfOk result (λ shown. KnowsShown client.now (option_map shown_of shown)) }
+{
+    let most = most_bytes(&Resource::Checkpoint) as usize;
+    let Some(found) = connection.find(client, CHECKPOINT, most)? else {
+        return Ok(None);
+    };
+    let Found { body, etag } = found;
+    let etag = own_tag(client.alloc, &etag)?;
+    Ok(Some(Shown { note: body, etag }))
+}
+
+/// How many entries the second line of a note tells (C2SP tlog-checkpoint).
+pub(crate) fn size_told(note: &[u8]) -> Option<u64>
     ensures { IfSome result (TellsSize note.now) }
 {
     let Some((_, rest)) = cut_line(note) else {
@@ -95,25 +106,12 @@ fn size_told(note: &[u8]) -> Option<u64>
     read_size(number)
 }
 
-/// How many entries the checkpoint tells that is there; `None` where there is none, or it tells no number.
-pub(crate) fn told_size<H: Net<Stream = TcpStream> + Clock>(
-    client: &Client<'_, H>,
-    connection: &mut Connection,
-) -> Result<Option<u64>, BucketFault>
-    ensures { IfOk result (λ told. IfSome told (ShowsSize client.now)) }
-{
-    match connection.find(client, CHECKPOINT, MOST_BYTES)? {
-        Some(found) => Ok(size_told(found.body.as_slice())),
-        None => Ok(None),
-    }
-}
-
 // When a checkpoint is to be put.
-fn replacing(etag: Option<&str>) -> Condition<'_>
-    ensures { IsReplacing (option_map (λ t. t.now) etag.entry) result }
+fn replacing(shown: &Option<Shown>) -> Condition<'_>
+    ensures { IsReplacing (option_map shown_of shown.now) result }
 {
-    match etag {
-        Some(etag) => Condition::Matches(etag),
+    match shown {
+        Some(shown) => Condition::Matches(shown.etag.as_str()),
         None => Condition::Absent,
     }
 }
@@ -134,21 +132,21 @@ fn tag_of_note<H: Net<Stream = TcpStream> + Clock>(
     }
 }
 
-/// Puts the checkpoint, once these tiles and bundles are there, in the place of the one with this entity tag, or where
-/// none is, and gives the tag of the new one. `Outrun`: another one is there.
+/// Puts the checkpoint, once these tiles and bundles are there, in the place of the one that was shown, or where none
+/// is, and gives the tag of the new one. `Outrun`: another one is there.
 pub(crate) fn put_note<H: Net<Stream = TcpStream> + Clock>(
     client: &Client<'_, H>,
     connection: &mut Connection,
     _staged: &[Staged],
     note: &[u8],
-    etag: Option<&str>,
+    shown: &Option<Shown>,
 ) -> Result<String, BucketFault>
     requires there { All (IsThere client.now) _staged.now }
-    ensures { IfOk result (λ tag. NoteWasThere client.now (option_map (λ t. t.now) etag.entry)
-        (Some note.now) (Some (string_bytes tag))) }
+    ensures { IfOk result (λ tag. NoteWasThere client.now (option_map shown_of shown.now)
+        (Some note.now) (Some (record { note = note.now; etag = string_bytes tag }))) }
 {
     let object = object_of(&Resource::Checkpoint, CHECKPOINT, note);
-    let PutOutcome::Done(tag) = connection.put(client, &object, replacing(etag))? else {
+    let PutOutcome::Done(tag) = connection.put(client, &object, replacing(shown))? else {
         return Err(BucketFault::Outrun);
     };
     match own_tag(client.alloc, &tag) {

@@ -1,13 +1,13 @@
 //! The objects of a log in a bucket, and those that wait to be put.
 
-ghost use Rattle.std.specs.Prelude.{◌≡◌, [], ◌∷◌, ◌++◌, IfOk, OnOk, OnErr, option_map, string_bytes};
+ghost use Rattle.std.specs.Prelude.{◌≡◌, [], ◌∷◌, ◌++◌, IfOk, OnOk, OnErr, option_map};
 ghost use Rattle.tl_bucket.specs.Buckets.{KeepsBytes, SettlesObjects, no_objects};
-ghost use Rattle.tl_bucket.specs.Inner.Puts.{item_of};
+ghost use Rattle.tl_bucket.specs.Inner.Puts.{item_of, shown_of};
 
 use crate::claims::Claims;
 use crate::client::{Client, Connection};
 use crate::fault::BucketFault;
-use crate::noting::put_note;
+use crate::noting::{Shown, put_note};
 use crate::staged::Staged;
 use crate::together::PutsTogether;
 use crate::workers::Workers;
@@ -29,13 +29,13 @@ pub(crate) struct Objects<'b, H> {
     workers: Workers,
     staged: Vec<Staged>,
     note: Option<Vec<u8>>,
-    etag: Option<String>,
+    shown: Option<Shown>,
 }
 
 impl<'b, H> Model for Objects<'b, H> {
-    ghost use Rattle.std.specs.Prelude.{map, option_map, string_bytes, vec_items};
+    ghost use Rattle.std.specs.Prelude.{map, option_map, vec_items};
     ghost use Rattle.tl_bucket.specs.Buckets as seen;
-    ghost use Rattle.tl_bucket.specs.Inner.Puts.{item_of};
+    ghost use Rattle.tl_bucket.specs.Inner.Puts.{item_of, shown_of};
 
     ghost Value = { seen.Objects };
 
@@ -44,14 +44,14 @@ impl<'b, H> Model for Objects<'b, H> {
       waiting = map item_of (vec_items o.staged);
       note = option_map vec_items o.note;
       claims = o.claims;
-      etag = option_map string_bytes o.etag;
+      shown = option_map shown_of o.shown;
     } };
 }
 
 impl<'b, H: Net<Stream = TcpStream> + Clock> Objects<'b, H> {
-    /// Nothing waits. The log goes as far as the claims do, and its checkpoint has this entity tag, if there is one.
-    pub(crate) fn new(client: Client<'b, H>, claims: Claims, etag: Option<String>) -> Objects<'b, H>
-        ensures { result ≡ no_objects client.entry claims (option_map string_bytes etag) }
+    /// Nothing waits. The log goes as far as the claims do, and this is its checkpoint, if there is one.
+    pub(crate) fn new(client: Client<'b, H>, claims: Claims, shown: Option<Shown>) -> Objects<'b, H>
+        ensures { result ≡ no_objects client.entry claims (option_map shown_of shown) }
     {
         let alloc = client.alloc;
         Objects {
@@ -63,7 +63,18 @@ impl<'b, H: Net<Stream = TcpStream> + Clock> Objects<'b, H> {
             workers: Workers::new(alloc),
             staged: Vec::new(alloc),
             note: None,
-            etag,
+            shown,
+        }
+    }
+
+    /// The note of the checkpoint that was there, if one was.
+    pub(crate) fn note_shown(&self) -> Option<&[u8]>
+        ensures { option_map (λ note. note.now) result
+            ≡ option_map (λ shown. shown.note) self.now.shown }
+    {
+        match &self.shown {
+            Some(shown) => Some(shown.note.as_slice()),
+            None => None,
         }
     }
 
@@ -126,11 +137,11 @@ impl<'b, H: Net<Stream = TcpStream> + Clock> Objects<'b, H> {
             self.staged.clear();
             return Ok(());
         };
-        let (connection, etag) = (&mut self.connection, self.etag.as_deref());
+        let (connection, shown) = (&mut self.connection, &self.shown);
         let staged = self.staged.as_slice();
-        let etag = put_note(&self.client, connection, staged, note.as_slice(), etag)?;
+        let etag = put_note(&self.client, connection, staged, note.as_slice(), shown)?;
         self.staged.clear();
-        self.etag = Some(etag);
+        self.shown = Some(Shown { note, etag });
         Ok(())
     }
 

@@ -5,7 +5,7 @@ ghost use Rattle.tl_bucket.specs.Answered.{WasPut};
 ghost use Rattle.tl_bucket.specs.Buckets.{no_objects};
 ghost use Rattle.tl_bucket.specs.Claims.{no_claims};
 ghost use Rattle.tl_bucket.specs.Opened.{EndsAt, HasCommit, IsAtEnd, IsLastFound, LacksCommit};
-ghost use Rattle.tl_bucket.specs.Opened.{KnowsTag, RefusesPuts, WasReadAs};
+ghost use Rattle.tl_bucket.specs.Opened.{KnowsShown, RefusesPuts, WasReadAs};
 ghost use Rattle.tl_put.specs.Objects.{Content};
 ghost use Rattle.tl_put.specs.declared.object.PutAnswer.TheVariants.{Refused};
 ghost use Rattle.tl_bucket.specs.Inner.Searches.{AreBounds};
@@ -15,7 +15,7 @@ use crate::claims::{Claims, find_commit};
 use crate::client::{Client, Connection};
 use crate::commit::{Commit, CommitFault, read_commit};
 use crate::fault::BucketFault;
-use crate::noting::find_tag;
+use crate::noting::find_shown;
 use crate::shelf::BucketShelf;
 use std::alloc::Global;
 use std::net::{Net, TcpStream};
@@ -190,7 +190,7 @@ fn claims_behind<H: Net<Stream = TcpStream> + Clock>(
 }
 
 impl<'b, D: CrashOutcome + Drop, H: Net<Stream = TcpStream> + Clock> BucketShelf<'b, D, H> {
-    ghost use Rattle.std.specs.Prelude.{[]};
+    ghost use Rattle.std.specs.Prelude.{[], false};
 
     /// The bucket that the client reaches, by this address. The token is a line that tells the operator's commits from
     /// all others'. `NoConditions`: the store doesn't keep the conditions of puts. `ClockIsOff`: the machine's clock
@@ -205,17 +205,18 @@ impl<'b, D: CrashOutcome + Drop, H: Net<Stream = TcpStream> + Clock> BucketShelf
         ensures end { IfOk result (λ shelf.
             IsAtEnd client.entry (string_bytes token) shelf.objects.claims) }
         ensures waiting { IfOk result (λ shelf. shelf.objects
-            ≡ no_objects client.entry shelf.objects.claims shelf.objects.etag) }
-        ensures etag { IfOk result (λ shelf. KnowsTag client.entry shelf.objects.etag) }
+            ≡ no_objects client.entry shelf.objects.claims shelf.objects.shown) }
+        ensures shown { IfOk result (λ shelf. KnowsShown client.entry shelf.objects.shown) }
         ensures place { IfOk result (λ shelf. shelf.place ≡ address.now) }
         ensures events { IfOk result (λ shelf. shelf.events ≡ []) }
+        ensures reads { IfOk result (λ shelf. shelf.reads_anew ≡ false) }
         ensures unmarked { IfOk result (λ shelf. shelf.published ≡ None) }
     {
         let mut connection = Connection::new();
         check_conditions(&client, &mut connection, token.as_bytes())?;
         let claims = claims_behind(&client, &mut connection, token)?;
-        let etag = find_tag(&client, &mut connection)?;
-        Ok(BucketShelf::new(disk, client, address, claims, etag))
+        let shown = find_shown(&client, &mut connection)?;
+        Ok(BucketShelf::new(disk, client, address, claims, shown, false))
     }
 
     /// The bucket that the client reaches, by this address, to be read alone: what is staged would be refused by any
@@ -225,6 +226,6 @@ impl<'b, D: CrashOutcome + Drop, H: Net<Stream = TcpStream> + Clock> BucketShelf
         ensures place { result.place ≡ address.now }
     {
         let claims = Claims::new(client.alloc, 1, 0, Vec::new(client.alloc));
-        BucketShelf::new(disk, client, address, claims, None)
+        BucketShelf::new(disk, client, address, claims, None, true)
     }
 }

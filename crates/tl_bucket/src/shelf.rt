@@ -1,13 +1,14 @@
 //! A shelf in a bucket. What is staged waits in memory; the shelf settles by a commit, the tiles and bundles side by
 //! side, and the checkpoint.
 
-ghost use Rattle.std.specs.Prelude.{◌≡◌, [], ◌∷◌, ◌++◌, OnOk, OnErr, Some, None, option_map, string_bytes};
+ghost use Rattle.std.specs.Prelude.{◌≡◌, [], ◌∷◌, ◌++◌, OnOk, OnErr, Some, None, IfOk, option_map, vec_items};
 ghost use Rattle.tl_bucket.specs.Buckets.{SettlesObjects, bucket_kept, bucket_trace, no_objects};
+ghost use Rattle.tl_bucket.specs.Inner.Puts.{shown_of};
 
 use crate::claims::Claims;
 use crate::client::Client;
 use crate::fault::BucketFault;
-use crate::noting::read_object;
+use crate::noting::{Shown, read_object};
 use crate::objects::Objects;
 use crate::record::{Record, note_of};
 use crate::together::PutsTogether;
@@ -23,11 +24,13 @@ use tl_tile::Resource;
 
 /// A bucket with a log in the layout of C2SP tlog-tiles: the path of each resource is that of its object. Where a
 /// settling fails, each later call fails with its fault: what of it is there isn't known then, and another start finds
-/// out. Nothing is ever removed.
+/// out. Nothing is ever removed. The checkpoint that it reads is the one that was there when it was opened, or that it
+/// put since: a store may answer with an older one later.
 #[derive(Drop)]
 pub struct BucketShelf<'b, D, H> {
     disk: D,
     pub(crate) objects: Objects<'b, H>,
+    reads_anew: bool,
     calls: Record,
     failures: u64,
     place: Log<(), u8>,
@@ -42,6 +45,7 @@ impl<'b, D, H> Model for BucketShelf<'b, D, H> {
 
     ghost view = { λ s. record {
       objects = s.objects;
+      reads_anew = s.reads_anew;
       place = noted s.place;
       events = s.calls;
       failures = s.failures;
@@ -59,30 +63,51 @@ fn fault_over(resource: Option<Resource>, fault: BucketFault) -> ShelfFault
     }
 }
 
+// A copy of these bytes, if there are some.
+fn copy_of<A: Allocator>(alloc: A, bytes: Option<&[u8]>) -> Result<Option<Vec<u8, A>>, BucketFault>
+    ensures { IfOk result (λ copy.
+        option_map vec_items copy ≡ option_map (λ text. text.now) bytes.entry) }
+{
+    match bytes {
+        Some(bytes) => Ok(Some(Vec::from_slice(alloc, bytes)?)),
+        None => Ok(None),
+    }
+}
+
 impl<'b, D: CrashOutcome + Drop, H: Net<Stream = TcpStream> + Clock> BucketShelf<'b, D, H> {
-    /// The bucket that the client reaches, by this address, with a log as far as the claims go, whose checkpoint has
-    /// this entity tag, if there is one.
+    /// The bucket that the client reaches, by this address, with a log as far as the claims go, whose checkpoint this
+    /// is, if there is one. It may be read anew each time.
     pub(crate) fn new(
         disk: D,
         client: Client<'b, H>,
         address: &str,
         claims: Claims,
-        etag: Option<String>,
+        shown: Option<Shown>,
+        reads_anew: bool,
     ) -> BucketShelf<'b, D, H>
         ensures objects { result.objects
-            ≡ no_objects client.entry claims (option_map string_bytes etag) }
+            ≡ no_objects client.entry claims (option_map shown_of shown) }
+        ensures reads { result.reads_anew ≡ reads_anew }
         ensures place { result.place ≡ address.now }
         ensures events { result.events ≡ [] }
         ensures unmarked { result.published ≡ None }
     {
         BucketShelf {
             disk,
-            objects: Objects::new(client, claims, etag),
+            objects: Objects::new(client, claims, shown),
+            reads_anew,
             calls: Record::new(),
             failures: 0,
             place: note_of(address.as_bytes()),
             published: None,
         }
+    }
+
+    /// How many entries commits append.
+    pub fn committed(&self) -> u64
+        ensures { result ≡ self.now.objects.claims.start }
+    {
+        self.objects.claims.start()
     }
 
     /// Why a settling failed, if one did.
@@ -102,7 +127,8 @@ impl<'b, D: CrashOutcome + Drop, H: Net<Stream = TcpStream> + Clock> BucketShelf
 
 impl<D: CrashOutcome + PutsTogether, H: Net<Stream = TcpStream> + Clock> Shelf
     for BucketShelf<'_, D, H> {
-    ghost use Rattle.std.specs.Prelude.{false};
+    ghost use Rattle.std.specs.Prelude.{false, true, IfErr, IfOk};
+    ghost use Rattle.tl_tile.specs.declared.resource.Resource.TheVariants.{Checkpoint};
     ghost use Rattle.tl_archive.specs.Partials.{IsFull};
     ghost use Rattle.tl_archive.specs.Shelves.{Stages, Unstages, Settles, Removes, LacksPartials, Fails};
     ghost use Rattle.tl_tile.specs.Path.{IsResource};
@@ -220,8 +246,20 @@ impl<D: CrashOutcome + PutsTogether, H: Net<Stream = TcpStream> + Clock> Shelf
         &self,
         alloc: A,
         resource: &Resource,
-    ) -> Result<Option<Vec<u8, A>>, ShelfFault> {
-        match read_object(alloc, &self.objects.client, resource) {
+    ) -> Result<Option<Vec<u8, A>>, ShelfFault>
+        requires { IsResource resource.now }
+        ensures found { false ≡ true → IfOk result (λ found. option_map vec_items found
+            ≡ (bucket_kept D.held D.reached self.now).held resource.now) }
+        ensures failed { IfErr result (λ fault. fault.resource ≡ Some resource.now) }
+        ensures shown { resource.now ≡ Checkpoint → self.now.reads_anew ≡ false
+            → IfOk result (λ found. option_map vec_items found
+            ≡ option_map (λ shown. shown.note) self.now.objects.shown) }
+    {
+        let found = match resource {
+            Resource::Checkpoint if !self.reads_anew => copy_of(alloc, self.objects.note_shown()),
+            _ => read_object(alloc, &self.objects.client, resource),
+        };
+        match found {
             Ok(found) => Ok(found),
             Err(fault) => Err(fault_over(Some(*resource), fault)),
         }

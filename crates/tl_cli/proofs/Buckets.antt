@@ -1,7 +1,7 @@
 -- Commands on a log in a bucket, from their parts.
-use Rattle.std.proofs.Common.{◌≡◌, true≢false, Err, [], None, ap, inl, inr, refl, string_bytes, subst, sym, ◌∙◌}
+use Rattle.std.proofs.Common.{◌≡◌, ◌⊎◌, ℕ, false, true≢false, Err, [], None, ap, inl, inr, refl, string_bytes, subst, sym, ◌∙◌}
 use Rattle.tl_bucket.specs.Buckets.{Bucketed, Objects, no_objects}
-use Rattle.tl_bucket.specs.Opened.{IsAtEnd, KnowsTag, RefusesPuts}
+use Rattle.tl_bucket.specs.Opened.{IsAtEnd, KnowsShown, RefusesPuts}
 use Rattle.tl_hash.specs.Bytes.{Bytes}
 use Rattle.tl_put.specs.Objects.{Place}
 use Rattle.tl_command.specs.declared.fault.RunFault.{RunFault}
@@ -24,9 +24,9 @@ is_refused (Err fault) fails = (fault, refl)
 
 -- a bucket that was opened by a client is that of the options which tell the client's place
 pub opened : (options : BucketOptions) (b : Bucketed) (p : Place) (token : Bytes) → IsPlaceOf (string_bytes options.address) p → p.credential.region ≡ string_bytes options.region
-    → IsKeyFor options p.credential.id p.credential.secret → IsToken token → b.objects ≡ no_objects p b.objects.claims b.objects.etag → RefusesPuts p → IsAtEnd p token b.objects.claims → KnowsTag p b.objects.etag
-    → b.place ≡ string_bytes options.address → b.events ≡ [] → b.published ≡ None → OpensBucket options b
-opened options b p token at region key drawn same refuses end tag named events unmarked =
+    → IsKeyFor options p.credential.id p.credential.secret → IsToken token → b.objects ≡ no_objects p b.objects.claims b.objects.shown → RefusesPuts p → IsAtEnd p token b.objects.claims → KnowsShown p b.objects.shown
+    → b.place ≡ string_bytes options.address → b.reads_anew ≡ false → b.events ≡ [] → b.published ≡ None → OpensBucket options b
+opened options b p token at region key drawn same refuses end known named reads events unmarked =
     let there : b.objects.at ≡ p = ap (λ (o : Objects). o.at) same in
     record {
       named = named;
@@ -37,8 +37,9 @@ opened options b p token at region key drawn same refuses end tag named events u
       token = token;
       drawn = drawn;
       end = subst (λ (q : Place). IsAtEnd q token b.objects.claims) (sym there) end;
-      waiting = same ∙ ap (λ (q : Place). no_objects q b.objects.claims b.objects.etag) (sym there);
-      etag = subst (λ (q : Place). KnowsTag q b.objects.etag) (sym there) tag;
+      waiting = same ∙ ap (λ (q : Place). no_objects q b.objects.claims b.objects.shown) (sym there);
+      shown = subst (λ (q : Place). KnowsShown q b.objects.shown) (sym there) known;
+      reads = reads;
       events = events;
       unmarked = unmarked;
     }
@@ -47,3 +48,8 @@ opened options b p token at region key drawn same refuses end tag named events u
 pub key_by : (options : BucketOptions) (id secret name hidden : Bytes) → name ≡ id → hidden ≡ secret → IsKeyFor options id secret → IsKeyFor options name hidden
 key_by options id secret name hidden named same key =
     subst (λ (n : Bytes). IsKeyFor options n hidden) (sym named) (subst (λ (h : Bytes). IsKeyFor options id h) (sym same) key)
+
+-- a log of as many entries as were told, or nothing was done
+pub started : (Left : Type 0) (size start committed : ℕ) → start ≡ committed → Left ⊎ (size ≡ start) → Left ⊎ (size ≡ committed)
+started Left size start committed same (inl left) = inl left
+started Left size start committed same (inr is) = inr (is ∙ same)

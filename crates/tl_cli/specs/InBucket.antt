@@ -1,21 +1,21 @@
 -- Commands on a log in a bucket.
-use Rattle.std.specs.Prelude.{◌≡◌, ◌⊎◌, ℕ, [], ◌∷◌, ◌++◌, length, Option, Some, None, Result, Ok, Err, string_bytes}
+use Rattle.std.specs.Prelude.{◌≡◌, ◌⊎◌, ℕ, [], ◌∷◌, ◌++◌, false, length, Option, Some, None, Result, Ok, Err, string_bytes}
 use Rattle.hex.specs.Hex.{encode_lower}
 use Rattle.tl_archive.specs.Shelves.{Held}
-use Rattle.tl_append.specs.Running.{GoesOn, batch_size, visit}
+use Rattle.tl_append.specs.Running.{GoesOn, Stays, batch_size, visit}
 use Rattle.tl_append.specs.declared.options.AppendOptions.{AppendOptions}
 use Rattle.tl_bucket.specs.Buckets.{Bucketed, bucket_kept, bucket_trace, no_objects}
 use Rattle.tl_bucket.specs.Finishing.{FinishesLog}
-use Rattle.tl_bucket.specs.Opened.{IsAtEnd, KnowsTag, RefusesPuts}
+use Rattle.tl_bucket.specs.Opened.{IsAtEnd, KnowsShown, RefusesPuts}
 use Rattle.tl_bucket.specs.declared.fault.BucketFault.{BucketFault}
 use Rattle.tl_command.specs.CheckOpened.{IsIdle}
 use Rattle.tl_command.specs.declared.fault.RunFault.{RunFault}
 use Rattle.tl_device.specs.Device.{Passage, IsUnread}
 use Rattle.tl_folder.specs.Folders.{Reached}
 use Rattle.tl_hash.specs.Bytes.{Bytes}
-use Rattle.tl_ledger.specs.Opening.{Found}
+use Rattle.tl_ledger.specs.Opening.{Found, found_size}
 use Rattle.tl_put.specs.Objects.{Place}
-use Rattle.tl_serve.specs.Serving.{Serves}
+use Rattle.tl_serve.specs.Serving.{IsLeft, Serves}
 use Rattle.tl_serve.specs.declared.options.ServeOptions.{ServeOptions}
 use Rattle.tl_source.specs.Url.{IsUrl}
 use Rattle.tl_text.specs.Text.{IsOneLine, line}
@@ -65,13 +65,14 @@ pub record OpensBucket (options : BucketOptions) (b : Bucketed) : Type 0 where
   pub token : Bytes
   pub drawn : IsToken token
   pub end : IsAtEnd b.objects.at token b.objects.claims
-  pub waiting : b.objects ≡ no_objects b.objects.at b.objects.claims b.objects.etag
-  pub etag : KnowsTag b.objects.at b.objects.etag
+  pub waiting : b.objects ≡ no_objects b.objects.at b.objects.claims b.objects.shown
+  pub shown : KnowsShown b.objects.at b.objects.shown
+  pub reads : b.reads_anew ≡ false
   pub events : b.events ≡ []
   pub unmarked : b.published ≡ None
 
 -- what others began was finished in a bucket that was opened, and then the log went on from what was found there, as
--- one in a folder does
+-- one in a folder does, unless nothing was read or written: it has as many entries as the commits append
 pub record GoesOnThere (held : Held) (reached : Reached) (opened : Bucketed) (options : AppendOptions) (i o : Passage) (result : Result (Unit {0}) CommandFault) : Type 0 where
   pub before : Bucketed
   pub finished : FinishesLog held reached options.key (string_bytes options.origin) opened before (Ok tt)
@@ -79,6 +80,8 @@ pub record GoesOnThere (held : Held) (reached : Reached) (opened : Bucketed) (op
   pub place : after.place ≡ opened.place
   pub found : Found
   pub outcome : Result (Unit {0}) RunFault
+  pub start : Stays (visit (bucket_kept held reached) (bucket_trace held reached) before after) i
+      ⊎ (found_size found.head ≡ before.objects.claims.start)
   pub goes_on : GoesOn options.key (string_bytes options.origin) (batch_size options.batch) found
       (visit (bucket_kept held reached) (bucket_trace held reached) before after) i o outcome
   pub ends : EndsInBucket outcome result
@@ -101,6 +104,8 @@ pub record ServesBucket (held : Held) (reached : Reached) (opened : Bucketed) (o
   pub place : after.place ≡ opened.place
   pub found : Found
   pub outcome : Result (Unit {0}) RunFault
+  pub start : IsLeft (visit (bucket_kept held reached) (bucket_trace held reached) before after)
+      ⊎ (found_size found.head ≡ before.objects.claims.start)
   pub serves : Serves options.key (string_bytes options.origin) nobody found
       (visit (bucket_kept held reached) (bucket_trace held reached) before after) outcome
   pub ends : EndsInBucket outcome result

@@ -1,11 +1,12 @@
 //! Commands on a log in a bucket.
 
-ghost use Rattle.std.specs.Prelude.{◌≡◌, string_bytes};
+ghost use Rattle.std.specs.Prelude.{◌≡◌, ◌⊎◌, string_bytes};
 ghost use Rattle.tl_append.specs.Running.{visit};
 ghost use Rattle.tl_bucket.specs.Buckets.{bucket_kept, bucket_trace};
 ghost use Rattle.tl_cli.specs.Lasting.{nobody};
 ghost use Rattle.tl_device.specs.Device.{passage};
-ghost use Rattle.tl_serve.specs.Serving.{Serves};
+ghost use Rattle.tl_ledger.specs.Opening.{found_size};
+ghost use Rattle.tl_serve.specs.Serving.{IsLeft, Serves};
 ghost use Rattle.tl_cli.specs.InBucket.{AppendsThere, AppendsTo, ServesFrom, ServesThere};
 
 use crate::fault::CommandFault;
@@ -71,11 +72,13 @@ fn finish_and_append<
         Ok(()) => {}
         Err(fault) => return after_bucket(&shelf, Err(fault)),
     }
+    let start = Some(shelf.committed());
     let mut found = Found::new(alloc);
     let outcome = run_append(
         rt,
         alloc,
         options,
+        start,
         Joining::Never,
         &mut shelf,
         &NoProposals,
@@ -86,8 +89,9 @@ fn finish_and_append<
     after_bucket(&shelf, outcome)
 }
 
-/// Appends the lines of the input to the log in a bucket. What other operators began is finished first. The bucket's
-/// own faults are told; `Outrun`: another operator has appended meanwhile.
+/// Appends the lines of the input to the log in a bucket. What other operators began is finished first, and the log is
+/// gone on from only where it has just the entries that commits append. The bucket's own faults are told; `Outrun`:
+/// another operator has appended meanwhile.
 pub(crate) fn append_to<
     D: CrashOutcome + PutsTogether + Drop,
     H: Net<Stream = TcpStream> + Clock + Files<File = File> + RandomSource + Env,
@@ -153,11 +157,14 @@ fn serve_sealed<
     ensures serves { Serves options.now.key (string_bytes options.now.origin) nobody found.new
         (visit (bucket_kept D.held D.reached) (bucket_trace D.held D.reached) shelf.entry
         result.shelf) result.outcome }
+    ensures start { IsLeft (visit (bucket_kept D.held D.reached) (bucket_trace D.held D.reached)
+        shelf.entry result.shelf) ⊎ (found_size found.new.head ≡ shelf.entry.objects.claims.start) }
     ensures place { result.shelf.place ≡ shelf.entry.place }
 {
+    let start = Some(shelf.committed());
     let sealed = SealedShelf::new(shelf, NoProposals, AsSigned, true);
     let Served { shelf, outcome } = run_serve_shelf(
-        rt, alloc, options, sealed, shown, found, input, reader, errors,
+        rt, alloc, options, start, sealed, shown, found, input, reader, errors,
     );
     let shelf = shelf.into_shelf();
     Served { shelf, outcome }

@@ -75,7 +75,7 @@ pub(crate) fn append<
     let store = ReadProposal { rt, path };
     let joining = joining_of(rt);
     let outcome = run_append(
-        rt, alloc, options, joining, &mut shelf, &store, &mut found, reader, writer,
+        rt, alloc, options, None, joining, &mut shelf, &store, &mut found, reader, writer,
     );
     *folder = Some(OwnFolder { lock, shelf, found });
     outcome

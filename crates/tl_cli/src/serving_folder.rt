@@ -69,7 +69,7 @@ fn serve_signed<
     let store = ReadProposal { rt, path };
     let signed = SealedShelf::new(shelf, store, AsSigned, options.keeps_partials);
     let Served { shelf, outcome } = run_serve_shelf(
-        rt, alloc, options, signed, shown, found, input, reader, errors,
+        rt, alloc, options, None, signed, shown, found, input, reader, errors,
     );
     let shelf = shelf.into_shelf();
     Served { shelf, outcome }

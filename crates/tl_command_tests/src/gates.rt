@@ -1,13 +1,13 @@
 //! Lanes that wait for one another before they send.
 
-use crate::options::serve_options;
 use std::alloc::{AllocError, Global};
 use std::net::{Net, TcpListener, TcpStream};
 use std::sync::Arc;
 use std::sync::atomic::{AtomicBool, AtomicU64, Ordering};
 use std::thread;
+use tl_command::LogKey;
 use tl_device::Counted;
-use tl_serve::{Gate, Host, serve_gated};
+use tl_serve::{Gate, Host, ListenOptions, ServeOptions, serve_gated};
 
 // How often a lane looks for the other.
 const TURNS: u64 = 10_000_000;
@@ -38,6 +38,38 @@ impl Gate for Meeting {
     }
 }
 
+// Quiet options of `serve` with the demonstration key of the secret `s`, of a log of two lanes in memory, at any
+// address, at which it answers no connection.
+fn serve_options(alloc: Global) -> Result<ServeOptions, AllocError> {
+    let server = ListenOptions {
+        listen: String::from_str(alloc, "127.0.0.1:0")?,
+        connections: Some(0),
+        threads: Some(2),
+        timeout: 10,
+        clients: 1024,
+        quiet: true,
+    };
+    let key = LogKey::Secret(String::from_str(alloc, "s")?);
+    Ok(ServeOptions {
+        origin: String::from_str(alloc, "example.com/log")?,
+        key,
+        server,
+        lanes: 2,
+        capacity: 256,
+        batch: 100,
+        note: None,
+        dir: None,
+        follow: false,
+        takes_posts: false,
+        interval: 0,
+        remember: 0,
+        allows_older: false,
+        keeps_partials: false,
+        witnesses: Vec::new(alloc),
+        need: 0,
+    })
+}
+
 // Serves a log of two lanes that meet. Whether both saw the other, and the log ended well.
 fn is_met<H: Host + Net<Listener = TcpListener, Stream = TcpStream>>(
     rt: &H,
@@ -50,8 +82,7 @@ fn is_met<H: Host + Net<Listener = TcpListener, Stream = TcpStream>>(
     };
     let meeting = Arc::new(alloc, meeting)?;
     let gate = Arc::try_clone(&meeting)?;
-    let mut options = serve_options(alloc, None)?;
-    options.lanes = 2;
+    let options = serve_options(alloc)?;
     let mut reader = Counted::new(b"a\nb\n".as_slice());
     let mut log = Counted::new(Vec::new(alloc));
     let ended = serve_gated(rt, alloc, &options, None, &mut reader, &mut log, gate);

@@ -1,22 +1,10 @@
-//! Commands, servers and a client whose growths are refused in turn, whose devices fail at each call, or whose digest
-//! is weak. What the program itself shows is in the scripts of `tests/`. It has tests alone.
+//! What no row and no script shows of commands: lanes of a server that meet, the seed of a new key, and an audit that
+//! finds a collision. It has tests alone.
 #![tactic(auto)]
 
 #[cfg(test)]
-mod appended;
-#[cfg(test)]
-mod devices;
-#[cfg(test)]
-mod failing;
+mod audits;
 #[cfg(test)]
 mod gates;
 #[cfg(test)]
-mod keys;
-#[cfg(test)]
-mod logs;
-#[cfg(test)]
-mod options;
-#[cfg(test)]
-mod responses;
-#[cfg(test)]
-mod runs;
+mod seeds;

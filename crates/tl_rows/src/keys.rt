@@ -1,10 +1,10 @@
 //! Rows of the keys of notes and of witnesses: their texts, and what they sign and verify.
 
-use crate::words::{Told, Words, bytes_of, key_of, put_hex};
+use crate::words::{Told, Words, bytes_of, key_of, put_hash, put_hex};
 use std::alloc::{AllocError, Global};
 use std::str;
 use tl_key::{
-    Cosignature, KeyFault, KeyKind, Note, SignerKey, VerifierKey, read_signer_key,
+    Cosignature, KeyFault, KeyKind, Note, SignerKey, VerifierKey, hmac, read_signer_key,
     read_verifier_key, write_signer_key, write_verifier_key,
 };
 use tl_note::{Signer, Verifier};
@@ -81,11 +81,14 @@ fn verified<K: KeyKind>(
 }
 
 // Whether these bytes are no text of a key of notes.
-fn is_malformed(alloc: Global, bytes: &[u8]) -> bool {
+fn is_malformed(alloc: Global, bytes: &[u8]) -> Result<bool, AllocError> {
     let text = str::from_utf8(bytes).unwrap_or("");
     let verifier: Result<VerifierKey<Note, Global>, KeyFault> = read_verifier_key(alloc, text);
     let signer: Result<SignerKey<Note, Global>, KeyFault> = read_signer_key(alloc, text);
-    verifier.err() == Some(KeyFault::Malformed) && signer.err() == Some(KeyFault::Malformed)
+    match (verifier.err(), signer.err()) {
+        (Some(KeyFault::OutOfMemory), _) | (_, Some(KeyFault::OutOfMemory)) => Err(AllocError),
+        faults => Ok(faults == (Some(KeyFault::Malformed), Some(KeyFault::Malformed))),
+    }
 }
 
 // How many texts are no key's, of those with another character at this place, none, or one more before it.
@@ -100,7 +103,7 @@ fn malformed_at(alloc: Global, text: &str, place: usize) -> Result<u64, AllocErr
                 _ => changed[place] = other,
             }
         }
-        if is_malformed(alloc, changed.as_slice()) {
+        if is_malformed(alloc, changed.as_slice())? {
             count = count.saturating_add(1);
         }
     }
@@ -143,6 +146,11 @@ pub(crate) fn answer(alloc: Global, words: &mut Words<'_>, text: &str, out: &mut
     match words.next() {
         "note" => answer_of::<Note>(alloc, words, text, out),
         "cosigner" => answer_of::<Cosignature>(alloc, words, text, out),
+        "hmac" => {
+            let secret = bytes_of(alloc, words.next())?;
+            let message = bytes_of(alloc, words.next())?;
+            put_hash(out, hmac(secret.as_slice(), message.as_slice()))
+        }
         _ => malformed(alloc, text, out),
     }
 }

@@ -2,29 +2,46 @@
 //! answers are stored beside, so that the gate compares them.
 //!
 //! A line `$ family call ..` begins a row and names the call. Each line `< ..` after it is a line of the row's input,
-//! a line `<- ..` a piece of it with no newline, and a line `<x ..` bytes of it in hexadecimal. Other lines, and what
-//! stands before the first row, of which there is a line at least, say what the rows are for.
+//! a line `<- ..` a piece of it with no newline, and a line `<x ..` bytes of it in hexadecimal. A line `> ..` is a step
+//! of a log (`steps`) or of a witness (`witness`). Other lines, and what stands before the first row, of which there is
+//! a line at least, say what the rows are for.
+//!
+//! If an allocation fails in a row or a step, the line `.. out of memory` is printed, and the row or the step is tried
+//! once more: with that line left out, the output is the same as if none had failed.
 #![tactic(auto)]
 
 mod audits;
+mod calls;
 mod checkpoints;
+mod closed;
 mod edges;
 mod equals;
+mod gets;
 mod keys;
+mod lanes;
+mod looks;
 mod notes;
 mod objects;
+mod opening;
 mod proofs;
 mod requests;
+mod running;
+mod sending;
 mod signatures;
+mod signers;
 mod sources;
 mod stores;
 mod tiles;
 mod trees;
+mod witnesses;
 mod words;
 
-use crate::words::{Told, Words, bytes_of};
+use crate::words::{NO_MEMORY, Row, Told, Words, bytes_of};
 use std::alloc::{AllocError, Global};
 use std::{io, str};
+
+// More bytes than any row prints, so that no answer is lost for want of memory.
+const ROOM: usize = 65_536;
 
 // Adds what a line of the script holds to the input of a row.
 fn add_line(alloc: Global, input: &mut Vec<u8>, line: &str) -> Told {
@@ -50,16 +67,27 @@ fn input_of(alloc: Global, lines: &str) -> Result<Vec<u8>, AllocError> {
     Ok(input)
 }
 
-// Writes what a call answers to a text.
-fn answer(alloc: Global, call: &str, text: &str, out: &mut String) -> Told {
-    let mut words = Words { left: call };
-    let words = &mut words;
+// The steps that the lines of a row hold.
+fn steps_of<'a>(alloc: Global, lines: &'a str) -> Result<Vec<&'a str>, AllocError> {
+    let mut steps = Vec::new(alloc);
+    for line in lines.split('\n') {
+        if let Some(step) = line.strip_prefix("> ") {
+            steps.push(step)?;
+        }
+    }
+    Ok(steps)
+}
+
+// Writes what a call without steps answers to its input.
+fn answer(alloc: Global, words: &mut Words<'_>, input: &[u8], out: &mut String) -> Told {
+    let text = str::from_utf8(input).unwrap_or("");
     match words.next() {
         "audit" => audits::answer(alloc, words, text, out),
         "checkpoint" => checkpoints::answer(alloc, words, text, out),
         "ed25519" => signatures::answer(alloc, words, out),
         "edge" => edges::answer(alloc, words, out),
         "equal" => equals::answer(alloc, words, out),
+        "get" => gets::answer(alloc, words, input, out),
         "key" => keys::answer(alloc, words, text, out),
         "note" => notes::answer(alloc, words, text, out),
         "object" => objects::answer(alloc, words, text, out),
@@ -72,25 +100,54 @@ fn answer(alloc: Global, call: &str, text: &str, out: &mut String) -> Told {
     }
 }
 
-// The call of a row, and what it answers, a line each.
-fn answered(alloc: Global, row: &str) -> Result<String, AllocError> {
+// Does the steps of a log or of a witness.
+fn answer_steps(
+    rt: &HostRuntime,
+    alloc: Global,
+    words: &mut Words<'_>,
+    text: &str,
+    lines: &str,
+    out: &mut String,
+) -> Told {
+    let steps = steps_of(alloc, lines)?;
+    let row = Row { text, steps };
+    match words.next() {
+        "steps" => opening::answer(rt, alloc, words, &row, out),
+        _ => witnesses::answer(rt, alloc, words, &row, out),
+    }
+}
+
+// Writes the call of a row, and what comes of it, a line each.
+fn answer_row(rt: &HostRuntime, alloc: Global, row: &str, out: &mut String) -> Told {
     let (call, lines) = row.split_once('\n').unwrap_or((row, ""));
-    let mut out = format!(in alloc; "$ {call}\n")?;
+    write!(out, "$ {call}\n")?;
     let input = input_of(alloc, lines)?;
-    answer(
-        alloc,
-        call,
-        str::from_utf8(input.as_slice()).unwrap_or(""),
-        &mut out,
-    )?;
-    Ok(out)
+    let input = input.as_slice();
+    let words = &mut Words { left: call };
+    if call.starts_with("steps ") || call.starts_with("witness ") {
+        let text = str::from_utf8(input).unwrap_or("");
+        return answer_steps(rt, alloc, words, text, lines, out);
+    }
+    answer(alloc, words, input, out)?;
+    out.push('\n')
+}
+
+// Whether an allocation failed in the place of an answer.
+fn lacks_memory(answered: Told, out: &str) -> bool {
+    answered.is_err() || out.contains("OutOfMemory")
 }
 
 // Prints the rows of a script.
-fn print_rows<P: Print>(rt: &P, alloc: Global, script: &str) -> io::Result<()> {
+fn print_rows(rt: &HostRuntime, alloc: Global, script: &str) -> io::Result<()> {
+    let mut out = String::with_capacity(alloc, ROOM)?;
     for row in script.split("\n$ ").skip(1) {
-        let text = answered(alloc, row)?;
-        println!(rt; "{text}")?;
+        out.clear();
+        if lacks_memory(answer_row(rt, alloc, row, &mut out), out.as_str()) {
+            print!(rt; "{NO_MEMORY}")?;
+            out.clear();
+            answer_row(rt, alloc, row, &mut out)?;
+        }
+        print!(rt; "{out}")?;
     }
     Ok(())
 }

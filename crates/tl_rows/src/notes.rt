@@ -1,10 +1,11 @@
 //! Rows of notes: read, opened and signed.
 
+use crate::signers::Reluctant;
 use crate::words::{Shown, Told, Words, bytes_of, put, put_hex};
 use std::alloc::Global;
 use tl_key::{KeyFault, NoteSigner, NoteVerifier, read_signer_key, read_verifier_key};
 use tl_note::{
-    NoteView, OpenedNote, SigView, Signer, Verifier, is_key_name, open_note, parse_note,
+    NoteFault, NoteView, OpenedNote, SigView, Signer, Verifier, is_key_name, open_note, parse_note,
     parse_signatures, sign_note, write_signature_line,
 };
 use tl_testing::LengthKey;
@@ -69,15 +70,19 @@ fn open_keyed(alloc: Global, note: &str, text: &str, out: &mut String) -> Told {
     }
 }
 
-// The note that length keys make of a text.
+// The note that length keys make of a text, among them keys that give no signature.
 fn sign_length(alloc: Global, text: &str, names: &str, out: &mut String) -> Told {
     if names.is_empty() {
         return put(out, sign_note(alloc, alloc, text, &[]));
     }
     let mut signers: Vec<Box<dyn Signer>> = Vec::new(alloc);
     for name in names.split(',') {
-        let key = LengthKey::new(alloc, name, LENGTH_ID)?;
-        signers.push(Box::new(alloc, key)?)?;
+        if name == "refuses" || name == "is-silent" {
+            signers.push(Box::new(alloc, Reluctant::new(name == "refuses"))?)?;
+        } else {
+            let key = LengthKey::new(alloc, name, LENGTH_ID)?;
+            signers.push(Box::new(alloc, key)?)?;
+        }
     }
     put(out, sign_note(alloc, alloc, text, signers.as_slice()))
 }
@@ -129,6 +134,7 @@ pub(crate) fn answer(alloc: Global, words: &mut Words<'_>, text: &str, out: &mut
         "parse" => put(out, parse_note(alloc, text)),
         "signatures" => put(out, parse_signatures(alloc, text)),
         "name" => write!(out, "{}", is_key_name(text)),
+        "fault" => write!(out, "{}", NoteFault::Sign(words.number() as usize)),
         "line" => line(alloc, words, out),
         "open" => opened(alloc, words, text, out),
         _ => signed(alloc, words, text, out),

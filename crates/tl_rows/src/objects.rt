@@ -3,12 +3,12 @@
 
 use crate::requests::KEY;
 use crate::words::{Told, Words, bytes_of};
-use std::alloc::{Allocator, Global};
+use std::alloc::{AllocError, Global};
 use std::str;
 use tl_device::Counted;
+use tl_get::GetFault;
 use tl_put::{Bucket, Condition, GetReply, Object, ObjectFault, PutReply, get_object, put_object};
 use tl_sigv4::Moment;
-use tl_testing::Refusing;
 
 // The bucket of the rows.
 const BUCKET: Bucket<'static> = Bucket {
@@ -19,6 +19,9 @@ const BUCKET: Bucket<'static> = Bucket {
 
 // The most bytes of an object that is got.
 const MOST: usize = 32;
+
+// More bytes than any request has, so that no write fails for want of memory.
+const ROOM: usize = 4_096;
 
 // A text of bytes that are one.
 fn text_of(bytes: &[u8]) -> &str {
@@ -42,6 +45,9 @@ fn put_put(outcome: &Result<PutReply<Global>, ObjectFault>, out: &mut String) ->
             write!(out, "{:?}", reply.answer)?;
             put_rest(&reply.etag, reply.stays_open, reply.body.as_slice(), out)
         }
+        Err(ObjectFault::OutOfMemory | ObjectFault::Get(GetFault::OutOfMemory)) => {
+            Err(AllocError)
+        }
         Err(fault) => write!(out, "{fault}"),
     }
 }
@@ -52,6 +58,9 @@ fn put_got(outcome: &Result<GetReply<Global>, ObjectFault>, out: &mut String) ->
         Ok(reply) => {
             write!(out, "{:?}", reply.answer)?;
             put_rest(&reply.etag, reply.stays_open, reply.body.as_slice(), out)
+        }
+        Err(ObjectFault::OutOfMemory | ObjectFault::Get(GetFault::OutOfMemory)) => {
+            Err(AllocError)
         }
         Err(fault) => write!(out, "{fault}"),
     }
@@ -68,7 +77,7 @@ fn put_written(written: &[u8], out: &mut String) -> Told {
 // Writes what a get of the object with this path answers to a response.
 fn get(alloc: Global, moment: &Moment, path: &str, response: &[u8], out: &mut String) -> Told {
     let mut reader = Counted::new(response);
-    let mut writer = Counted::new(Vec::new(alloc));
+    let mut writer = Counted::new(Vec::with_capacity(alloc, ROOM)?);
     let got = get_object(alloc, &mut reader, &mut writer, &BUCKET, moment, path, MOST);
     put_got(&got, out)?;
     put_written(writer.into_inner().as_slice(), out)
@@ -93,7 +102,7 @@ fn put(
     out: &mut String,
 ) -> Told {
     let mut reader = Counted::new(response);
-    let mut writer = Counted::new(Vec::new(alloc));
+    let mut writer = Counted::new(Vec::with_capacity(alloc, ROOM)?);
     let done = put_object(
         alloc,
         &mut reader,
@@ -105,49 +114,6 @@ fn put(
     );
     put_put(&done, out)?;
     put_written(writer.into_inner().as_slice(), out)
-}
-
-// Whether a put has memory for its answer.
-fn has_memory<A: Allocator + Copy>(
-    alloc: A,
-    moment: &Moment,
-    object: &Object<'_>,
-    response: &[u8],
-) -> bool {
-    let mut reader = Counted::new(response);
-    let mut writer = Counted::new(Vec::new(alloc));
-    let condition = Condition::Absent;
-    put_object(
-        alloc,
-        &mut reader,
-        &mut writer,
-        &BUCKET,
-        moment,
-        object,
-        condition,
-    )
-    .is_ok()
-}
-
-// Writes how often a put fails, where each request for memory is refused in turn.
-fn put_refused(
-    alloc: Global,
-    moment: &Moment,
-    object: &Object<'_>,
-    response: &[u8],
-    out: &mut String,
-) -> Told {
-    let mut failed = 0u64;
-    for turn in 1..200u64 {
-        let heap = Refusing::at(alloc, turn);
-        if !has_memory(&heap, moment, object, response) {
-            failed = failed.saturating_add(1);
-        }
-        if !heap.refused() {
-            return write!(out, "fails at {failed} of {} requests for memory", turn - 1);
-        }
-    }
-    out.push_str("too many requests for memory")
 }
 
 // The rows of objects.
@@ -170,17 +136,14 @@ fn answer_at(
         cache_control: "max-age=604800, immutable",
         body: body.as_slice(),
     };
-    match call {
-        "refused" => put_refused(alloc, moment, &object, response, out),
-        _ => put(
-            alloc,
-            moment,
-            &object,
-            condition_of(words.left),
-            response,
-            out,
-        ),
-    }
+    put(
+        alloc,
+        moment,
+        &object,
+        condition_of(words.left),
+        response,
+        out,
+    )
 }
 
 /// Writes what a call answers.

@@ -192,15 +192,20 @@ fn checked(alloc: Global, is_record: bool, words: &mut Words<'_>, out: &mut Stri
 }
 
 // How many of the proofs of the first entries of a store are those that are made one by one.
-fn same<R: HashReader>(alloc: Global, proofs: &[Vec<Hash>], size: u64, reader: &R) -> u64 {
+fn same<R: HashReader>(
+    alloc: Global,
+    proofs: &[Vec<Hash>],
+    size: u64,
+    reader: &R,
+) -> Result<u64, ProveFault> {
     let mut count = 0u64;
     for (place, proof) in proofs.iter().enumerate() {
-        let one = prove_record(alloc, Sha256Tree, size, place as u64, reader);
-        if one.is_ok_and(|one| one.as_slice() == proof.as_slice()) {
+        let one = prove_record(alloc, Sha256Tree, size, place as u64, reader)?;
+        if one.as_slice() == proof.as_slice() {
             count = count.saturating_add(1);
         }
     }
-    count
+    Ok(count)
 }
 
 // How many proofs that are made together are those that are made one by one.
@@ -213,8 +218,10 @@ fn together(alloc: Global, words: &mut Words<'_>, out: &mut String) -> Told {
     }
     match prove_records(alloc, Sha256Tree, size, places.as_slice(), &store) {
         Ok(proofs) => {
-            let count = same(alloc, proofs.as_slice(), size, &store);
-            write!(out, "{count} of {} proofs", proofs.len())
+            match same(alloc, proofs.as_slice(), size, &store) {
+                Ok(count) => write!(out, "{count} of {} proofs", proofs.len()),
+                Err(fault) => write!(out, "{fault:?}"),
+            }
         }
         Err(fault) => write!(out, "{fault:?}"),
     }

@@ -1,12 +1,11 @@
 //! Rows of requests that are signed as AWS Signature Version 4 says, under the key of AWS's examples; and of moments.
 
 use crate::words::{Told, Words, bytes_of, put_hash};
-use std::alloc::{AllocError, Allocator, Global};
+use std::alloc::{AllocError, Global};
 use tl_sigv4::{
     Credential, Field, Moment, Request, authorization, canonical_request, is_canonical,
     payload_digest, signing_key, string_to_sign,
 };
-use tl_testing::Refusing;
 
 /// The key of the published examples.
 pub(crate) const KEY: Credential<'static> = Credential {
@@ -57,34 +56,6 @@ fn put_signed(alloc: Global, request: &Request<'_>, moment: &Moment, out: &mut S
     write!(out, "{canonical}\n\n{text}\n\n{value}")
 }
 
-// Whether memory was had for a digest, and for a signature if the fields have their canonical form.
-fn sign<A: Allocator + Copy>(
-    alloc: A,
-    request: &Request<'_>,
-    moment: &Moment,
-) -> Result<(), AllocError> {
-    payload_digest(alloc, b"")?;
-    if is_canonical(request.fields) {
-        authorization(alloc, request, &KEY, moment)?;
-    }
-    Ok(())
-}
-
-// Writes how often it fails, where each request for memory is refused in turn.
-fn put_refused(alloc: Global, request: &Request<'_>, moment: &Moment, out: &mut String) -> Told {
-    let mut failed = 0u64;
-    for turn in 1..100u64 {
-        let heap = Refusing::at(alloc, turn);
-        if sign(&heap, request, moment).is_err() {
-            failed = failed.saturating_add(1);
-        }
-        if !heap.refused() {
-            return write!(out, "fails at {failed} of {} requests for memory", turn - 1);
-        }
-    }
-    out.push_str("too many requests for memory")
-}
-
 // The rows of requests.
 fn answer_at(
     alloc: Global,
@@ -109,7 +80,6 @@ fn answer_at(
     };
     match call {
         "canonical" => write!(out, "{}", is_canonical(request.fields)),
-        "refused" => put_refused(alloc, &request, moment, out),
         _ => put_signed(alloc, &request, moment, out),
     }
 }

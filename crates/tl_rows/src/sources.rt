@@ -136,12 +136,13 @@ fn read<T: TreeHash>(
     let mut fetched = FetchedTiles::new(alloc);
     let checked = reader.read_checked(alloc, numbers, &mut fetched);
     let count = fetches.get();
-    let is_same = are_same(&checked, &reader.read(alloc, numbers));
+    let again = reader.read(alloc, numbers);
+    let is_same = are_same(&checked, &again);
     put(out, checked)?;
     put_fetched(out, fetched.as_slice())?;
     write!(out, "\n{count} fetched")?;
     if !is_same {
-        out.push_str("\nanother answer of read")?;
+        write!(out, "\nanother answer of read, {:?}", again.err())?;
     }
     Ok(())
 }
@@ -159,7 +160,7 @@ fn reads<T: TreeHash>(alloc: Global, h: T, words: &mut Words<'_>, out: &mut Stri
     }
 }
 
-// The head, or a proof that is made from the tiles of a source.
+// The head, a tile, or a proof that is made from the tiles of a source, and how many tiles were fetched for it.
 fn proves(alloc: Global, call: &str, words: &mut Words<'_>, out: &mut String) -> Told {
     let trick = trick_of(words);
     let store = named_store(alloc, words.next())?;
@@ -169,10 +170,19 @@ fn proves(alloc: Global, call: &str, words: &mut Words<'_>, out: &mut String) ->
         Ok(reader) => reader,
         Err(fault) => return write!(out, "{fault:?}"),
     };
-    if call == "head" {
-        return put(out, tree_hash(alloc, Sha256Tree, size, &reader));
+    match call {
+        "head" => put(out, tree_hash(alloc, Sha256Tree, size, &reader))?,
+        "tile" => {
+            let tile = Tile {
+                level: (place % 256) as u32,
+                index: words.number(),
+                width: (words.number() % 512) as u32,
+            };
+            put(out, stored_bytes(alloc, tile, &reader))?;
+        }
+        _ => put(out, made(alloc, call == "record", size, place, &reader))?,
     }
-    put(out, made(alloc, call == "record", size, place, &reader))
+    write!(out, "\n{} fetched", fetches.get())
 }
 
 // Adds the numbers of all hashes at a size.
@@ -204,20 +214,31 @@ const HONEST: Trick<'static> = Trick {
 fn are_read(alloc: Global, store: &Store, size: u64, numbers: &[u64]) -> Result<bool, ReadFault> {
     let fetches = Cell::new(0);
     let reader = reader_of(alloc, Sha256Tree, store, size, HONEST, &fetches)?;
-    Ok(are_same(&reader.read(alloc, numbers), &store.read(alloc, numbers)))
+    let hashes = reader.read(alloc, numbers)?;
+    Ok(hashes.as_slice() == store.read(alloc, numbers)?.as_slice())
 }
 
 // Whether a changed bit of a tile is told where these hashes are read.
-fn is_told(alloc: Global, store: &Store, size: u64, tile: Tile, numbers: &[u64]) -> bool {
+fn is_told(
+    alloc: Global,
+    store: &Store,
+    size: u64,
+    tile: Tile,
+    numbers: &[u64],
+) -> Result<bool, AllocError> {
     let trick = Trick {
         name: "changes-last",
         tile: Some(tile),
     };
     let fetches = Cell::new(0);
     let Ok(reader) = reader_of(alloc, Sha256Tree, store, size, trick, &fetches) else {
-        return false;
+        return Err(AllocError);
     };
-    matches!(reader.read(alloc, numbers), Err(ReadFault::BadTile { .. }))
+    match reader.read(alloc, numbers) {
+        Err(ReadFault::OutOfMemory) => Err(AllocError),
+        Err(ReadFault::BadTile { .. }) => Ok(true),
+        _ => Ok(false),
+    }
 }
 
 // The number of the first hash of a tile of the three lowest levels.
@@ -244,7 +265,7 @@ fn told(alloc: Global, store: &Store, size: u64, is_first: bool) -> Result<(u64,
             } else {
                 numbers.as_slice()
             };
-            if is_told(alloc, store, size, tile, asked) {
+            if is_told(alloc, store, size, tile, asked)? {
                 count.0 = count.0.saturating_add(1);
             }
             count.1 = count.1.saturating_add(1);
@@ -259,8 +280,10 @@ fn honest(alloc: Global, words: &mut Words<'_>, out: &mut String) -> Told {
     let store = named_store(alloc, words.next())?;
     let size = words.number();
     let numbers = all_numbers(alloc, size, words.number().max(1))?;
-    let are_read = are_read(alloc, &store, size, numbers.as_slice()).unwrap_or(false);
-    write!(out, "{are_read} of {} hashes", numbers.len())
+    match are_read(alloc, &store, size, numbers.as_slice()) {
+        Ok(are_read) => write!(out, "{are_read} of {} hashes", numbers.len()),
+        Err(fault) => write!(out, "{fault:?}"),
+    }
 }
 
 // How many lies about tiles are told.
@@ -287,6 +310,7 @@ pub(crate) fn answer(alloc: Global, words: &mut Words<'_>, out: &mut String) -> 
         "told-first" => lies(alloc, true, words, out),
         "record" => proves(alloc, "record", words, out),
         "tree" => proves(alloc, "tree", words, out),
+        "tile" => proves(alloc, "tile", words, out),
         _ => proves(alloc, "head", words, out),
     }
 }

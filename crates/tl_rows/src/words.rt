@@ -1,4 +1,4 @@
-//! The words of a call, and how answers are written.
+//! The words of a call or a step, and how answers are written.
 
 use hex::{FromHex, FromHexError};
 use std::alloc::{AllocError, Global};
@@ -6,8 +6,18 @@ use std::fmt::Debug;
 use tl_hash::Hash;
 use tl_testing::vectors::{entries, numbered};
 
-/// Whether an answer was written: it isn't where memory is refused.
+/// Whether an answer was written: it isn't if an allocation fails.
 pub(crate) type Told = Result<(), AllocError>;
+
+/// What is printed if an allocation fails: what is tried again comes behind it.
+pub(crate) const NO_MEMORY: &str = ".. out of memory\n";
+
+/// A row with steps: its input, and its steps.
+#[derive(Drop)]
+pub(crate) struct Row<'a> {
+    pub(crate) text: &'a str,
+    pub(crate) steps: Vec<&'a str>,
+}
 
 /// The words of a call that are left, with single spaces between.
 #[derive(Clone, Copy)]
@@ -61,13 +71,51 @@ pub(crate) fn number_of(word: &str) -> u64 {
     word.parse::<u64>().unwrap_or(0)
 }
 
-/// The bytes that a word gives in hexadecimal, and none of any other word.
-pub(crate) fn bytes_of(alloc: Global, word: &str) -> Result<Vec<u8>, AllocError> {
-    match hex::decode(alloc, word) {
-        Ok(bytes) => Ok(bytes),
-        Err(FromHexError::OutOfMemory) => Err(AllocError),
-        Err(_) => Ok(Vec::new(alloc)),
+/// The same below 2^32.
+pub(crate) fn small_of(word: &str) -> u32 {
+    word.parse::<u32>().unwrap_or(0)
+}
+
+/// The words between single spaces.
+pub(crate) fn words_of<'a>(alloc: Global, line: &'a str) -> Result<Vec<&'a str>, AllocError> {
+    line.split(' ').collect::<Vec<&str>>(alloc)
+}
+
+// Adds what a part of a word gives in hexadecimal, so many times if it says so.
+fn add_part(alloc: Global, bytes: &mut Vec<u8>, part: &str) -> Told {
+    let (digits, count) = part.split_once('*').unwrap_or((part, "1"));
+    let piece = match hex::decode(alloc, digits) {
+        Ok(piece) => piece,
+        Err(FromHexError::OutOfMemory) => return Err(AllocError),
+        Err(_) => return Ok(()),
+    };
+    for _ in 0..number_of(count) {
+        bytes.extend_from_slice(piece.as_slice())?;
     }
+    Ok(())
+}
+
+/// The bytes that a word gives: parts in hexadecimal with `+` between, and `*COUNT` behind one that is there so many
+/// times. A part that isn't hexadecimal gives none.
+pub(crate) fn bytes_of(alloc: Global, word: &str) -> Result<Vec<u8>, AllocError> {
+    let mut bytes = Vec::new(alloc);
+    for part in word.split('+') {
+        add_part(alloc, &mut bytes, part)?;
+    }
+    Ok(bytes)
+}
+
+/// A text in which `|` stands for a newline and `_` for a space.
+pub(crate) fn text_of(alloc: Global, word: &str) -> Result<String, AllocError> {
+    let mut text = String::new(alloc);
+    for letter in word.chars() {
+        text.push(match letter {
+            '|' => '\n',
+            '_' => ' ',
+            other => other,
+        })?;
+    }
+    Ok(text)
 }
 
 /// The 32 bytes that a word gives in hexadecimal, and zeros of any other word.
@@ -139,6 +187,43 @@ pub(crate) fn put_bytes(out: &mut String, bytes: &[u8]) -> Told {
 /// Writes what is answered where a call has no such row.
 pub(crate) fn unknown(out: &mut String) -> Told {
     out.push_str("no such call")
+}
+
+/// A step of a row, and the text that what comes of it is written to.
+#[derive(Drop)]
+pub(crate) struct Step<'s> {
+    pub(crate) line: &'s str,
+    pub(crate) out: &'s mut String,
+}
+
+impl Step<'_> {
+    /// Writes the step and what came of it.
+    pub(crate) fn tell<T: Debug + Drop>(&mut self, answer: T) -> Told {
+        write!(self.out, "{}: {answer:?}\n", self.line)
+    }
+
+    /// Writes the step and a fixed answer to it.
+    pub(crate) fn say(&mut self, answer: &str) -> Told {
+        write!(self.out, "{}: {answer}\n", self.line)
+    }
+
+    /// Writes the step and bytes in hexadecimal, if there are some.
+    pub(crate) fn tell_hex(&mut self, bytes: Option<&[u8]>) -> Told {
+        let Some(bytes) = bytes else {
+            return self.say("None");
+        };
+        write!(self.out, "{}: ", self.line)?;
+        put_hex(self.out, bytes)?;
+        self.out.push('\n')
+    }
+
+    /// Writes that an allocation failed. It fails in a row with a key that counts, which is tried again as a whole.
+    pub(crate) fn say_refused(&mut self) -> Told {
+        if self.out.contains("counting") {
+            return Err(AllocError);
+        }
+        self.out.push_str(NO_MEMORY)
+    }
 }
 
 /// What is written of an answer that has no fault.

@@ -6,7 +6,7 @@ use crate::news::News;
 use crate::pages::Pages;
 use mio::{Events, Poll, Token};
 use slab::Slab;
-use std::alloc::{AllocError, Global};
+use std::alloc::Global;
 use std::net;
 use std::net::Net;
 use std::sync::Wait;
@@ -106,15 +106,12 @@ impl<'d, H> Guests<'d, H> {
             .is_ok()
     }
 
-    // Those that wait for the place of an entry, where the log has this size.
-    fn published_below(&self, size: u64) -> Result<Vec<usize>, AllocError> {
-        let mut keys = Vec::new(self.house.alloc);
-        for (key, guest) in self.guests.iter() {
-            if guest.is_published(size) {
-                keys.push(key)?;
-            }
+    // Whether a connection waits for the place of an entry that is below this size.
+    fn is_published(&self, key: usize, size: u64) -> bool {
+        match self.guests.get(key) {
+            Some(guest) => guest.is_published(size),
+            None => false,
         }
-        Ok(keys)
     }
 
     // Holds a connection that has to wait. Whether it can.
@@ -197,12 +194,11 @@ impl<'d, H: Clock + Net + Wait> Guests<'d, H> {
         if size == self.published {
             return;
         }
-        let Ok(keys) = self.published_below(size) else {
-            return;
-        };
         self.published = size;
-        for key in keys {
-            self.go_on(key, pages);
+        for key in 0..self.guests.capacity() {
+            if self.is_published(key, size) {
+                self.go_on(key, pages);
+            }
         }
     }
 

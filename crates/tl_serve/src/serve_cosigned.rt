@@ -153,7 +153,7 @@ fn serve_in<
     let cosigned = SealedShelf::new(shelf, store, Cosigners::new(proposer, quorum), keeps);
     let mut told = Counted::new(SharedWriter { rt, out });
     let Served { shelf, outcome } = run_serve_shelf(
-        rt, alloc, options, cosigned, shown, &mut found, input, reader, &mut told,
+        rt, alloc, options, None, cosigned, shown, &mut found, input, reader, &mut told,
     );
     ballot.end(rt);
     let shelf = shelf.into_shelf();

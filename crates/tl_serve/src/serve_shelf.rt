@@ -1,15 +1,15 @@
 //! The command `serve` on a shelf: a running log over HTTP that outlasts its server.
 
-ghost use Rattle.std.specs.Prelude.{◌≡◌, ◌∷◌, [], All, IfOk, OnOk, string_bytes};
+ghost use Rattle.std.specs.Prelude.{◌≡◌, ◌⊎◌, ◌∷◌, [], All, IfOk, OnOk, string_bytes};
 ghost use Rattle.sha2.specs.Sha256.{sha256};
 ghost use Rattle.tl_device.specs.Device.{passage};
 ghost use Rattle.tl_note.specs.Key.{IsKeyName};
 ghost use Rattle.tl_sequencer.specs.Log.{IsSenderOf};
-ghost use Rattle.tl_ledger.specs.Opening.{Opens};
+ghost use Rattle.tl_ledger.specs.Opening.{Opens, found_size};
 ghost use Rattle.tl_command.specs.Origins.{RefusesOrigin};
 ghost use Rattle.tl_append.specs.Keys.{log_key_of, opening_key_of};
-ghost use Rattle.tl_append.specs.Running.{visit};
-ghost use Rattle.tl_serve.specs.Serving.{Serves};
+ghost use Rattle.tl_append.specs.Running.{IsStart, visit};
+ghost use Rattle.tl_serve.specs.Serving.{IsLeft, Serves};
 ghost use Rattle.tl_serve.specs.Inner.Shelved.{IsClosed, ServesUnder};
 
 use crate::gate::OpenGate;
@@ -27,7 +27,7 @@ use std::alloc::{AllocError, Global};
 use std::io::{Read, Write};
 use std::net::{Net, TcpListener, TcpStream};
 use std::os::fd::RawFd;
-use tl_append::{LogKeys, LogOpeningKey, LogShelf, OpenedLog, keys_of};
+use tl_append::{LogKeys, LogOpeningKey, LogShelf, OpenedLog, check_start, keys_of};
 use tl_archive::Shelf;
 use tl_command::RunFault;
 use tl_device::Counted;
@@ -94,11 +94,13 @@ fn open_log<S: LogShelf + Drop, P: Drop, R: Read>(
     alloc: Global,
     options: &ServeOptions,
     verifier: LogOpeningKey,
+    start: Option<u64>,
     shelf: &mut S,
     shown: Vec<P>,
     found: &mut Found<Global>,
     reader: &mut Counted<R>,
 ) -> Result<Opened<P>, RunFault>
+    ensures start { OnOk result (IsStart start (found_size found.new.head)) }
     ensures opens { IfOk result (λ o.
         Opens sha256 (opening_key_of verifier ∷ []) found.new o.log.ledger) }
     ensures left { (S.kept shelf.new ≡ S.kept shelf.old) × (S.trace shelf.new ≡ S.trace shelf.old) }
@@ -112,6 +114,10 @@ fn open_log<S: LogShelf + Drop, P: Drop, R: Read>(
         Ok(log) => log,
         Err(fault) => return Err(fault),
     };
+    match check_start(&log.ledger, start) {
+        Ok(()) => {}
+        Err(fault) => return Err(fault),
+    }
     let plan = match read_plan(alloc, options, 0, reader) {
         Ok(plan) => plan,
         Err(fault) => return Err(fault),
@@ -174,6 +180,7 @@ fn serve_under<
 >(
     server: &Server<'_, H, OpenGate>,
     keys: LogKeys,
+    start: Option<u64>,
     shelf: S,
     shown: Vec<P>,
     found: &mut Found<Global>,
@@ -183,12 +190,16 @@ fn serve_under<
     requires name { IsKeyName (log_key_of keys.signer).name }
     ensures serves { ServesUnder (log_key_of keys.signer) (S.quorum shelf) found.new
         (visit S.kept S.trace shelf result.shelf) result.outcome }
+    ensures start { IsLeft (visit S.kept S.trace shelf result.shelf)
+        ⊎ IsStart start (found_size found.new.head) }
     ensures place { S.place result.shelf ≡ S.place shelf }
 {
     let LogKeys { signer, verifier } = keys;
     let (alloc, options) = (server.alloc, server.options);
     let mut shelf = shelf;
-    let opened = match open_log(alloc, options, verifier, &mut shelf, shown, found, reader) {
+    let opened = match open_log(
+        alloc, options, verifier, start, &mut shelf, shown, found, reader,
+    ) {
         Ok(opened) => opened,
         Err(fault) => {
             let outcome = Err(fault);
@@ -222,6 +233,7 @@ fn serve_under<
 /// published, and told once it outlasts a crash. A thread for each of `shown`, which are to be of the same shelf
 /// (`threads_of` tells how many), answers by `tl_server::serve_shelf` with what is there. Where the shelf fails, the
 /// server ends. Memory has what waits to be put. The shelf is given back; `found` has what was read of it. It may wait.
+/// `Older`: the log hasn't got `start` entries, where that is given.
 pub fn run_serve_shelf<
     H: Host + Net<Listener = TcpListener, Stream = TcpStream>,
     S: LogShelf + Drop,
@@ -232,6 +244,7 @@ pub fn run_serve_shelf<
     rt: &H,
     alloc: Global,
     options: &ServeOptions,
+    start: Option<u64>,
     shelf: S,
     shown: Vec<P>,
     found: &mut Found<Global>,
@@ -243,6 +256,8 @@ pub fn run_serve_shelf<
         (passage R.remaining reader.old reader.new) result.outcome }
     ensures serves { Serves options.now.key (string_bytes options.now.origin) (S.quorum shelf)
         found.new (visit S.kept S.trace shelf result.shelf) result.outcome }
+    ensures start { IsLeft (visit S.kept S.trace shelf result.shelf)
+        ⊎ IsStart start (found_size found.new.head) }
     ensures place { S.place result.shelf ≡ S.place shelf }
 {
     let origin = options.origin.as_str();
@@ -264,5 +279,5 @@ pub fn run_serve_shelf<
         input,
         gate: &OpenGate,
     };
-    serve_under(&server, keys, shelf, shown, found, reader, out)
+    serve_under(&server, keys, start, shelf, shown, found, reader, out)
 }

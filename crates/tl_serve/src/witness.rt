@@ -167,6 +167,7 @@ fn answer_in<
     queue: &'s LineQueue<'o, O>,
     news: &'s News,
 ) -> Result<(), RunFault> {
+    let mut threads: u64 = 0;
     for _ in 0..u64::MAX {
         let Some(poll) = door.next_poll(rt) else {
             break;
@@ -177,6 +178,10 @@ fn answer_in<
             news.end_answering();
             break;
         }
+        threads = threads.saturating_add(1);
+    }
+    if threads == 0 {
+        return Err(RunFault::OutOfMemory);
     }
     let outcome = match news.wait(rt) {
         Event::Failed(fault) => Err(fault),

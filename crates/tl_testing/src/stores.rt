@@ -2,7 +2,7 @@
 
 use std::alloc::{AllocError, Allocator, Global};
 use tl_hash::TreeHash;
-use tl_store::{HashStore, ReadFault};
+use tl_store::{HashReader, HashStore, ReadFault};
 use tl_tile::{Tile, tile_bytes};
 
 // More entries than any test has.
@@ -21,12 +21,12 @@ pub fn store_of<T: TreeHash>(
     Ok(store)
 }
 
-/// The bytes of a tile of the three lowest levels by a store, where the tile's index is below 1,000 and its width from
-/// 1 to 256; `OutOfRange` of any other tile.
-pub fn stored_bytes<T: TreeHash, A: Allocator + Copy>(
+/// The bytes of a tile of the three lowest levels by a reader of hashes, where the tile's index is below 1,000 and its
+/// width from 1 to 256; `OutOfRange` of any other tile.
+pub fn stored_bytes<R: HashReader, A: Allocator + Copy>(
     alloc: A,
     tile: Tile,
-    store: &HashStore<T, Global>,
+    reader: &R,
 ) -> Result<Vec<u8, A>, ReadFault> {
     let Tile {
         level,
@@ -54,5 +54,5 @@ pub fn stored_bytes<T: TreeHash, A: Allocator + Copy>(
         },
         _ => return Err(ReadFault::OutOfRange),
     };
-    tile_bytes(alloc, lawful, store)
+    tile_bytes(alloc, lawful, reader)
 }

@@ -1,16 +1,12 @@
-//! What a row of `tl_rows` can't show: growths refused in turn, threads, sources that fail, how often is read. It has
-//! tests alone.
+//! What no row can show: threads over one ring, readers beside an operator, and a witness that is asked by two at once.
+//! It has tests alone.
 #![tactic(auto)]
 
 #[cfg(test)]
-mod edges;
+mod logs;
 #[cfg(test)]
-mod notes;
+mod races;
 #[cfg(test)]
-mod readers;
+mod rings;
 #[cfg(test)]
-mod refused;
-#[cfg(test)]
-mod sequencer;
-#[cfg(test)]
-mod stores;
+mod threads;

@@ -1,7 +1,9 @@
-use Rattle.std.proofs.Common.{◌∷◌, [], inr, refl, arith}
+use Rattle.std.proofs.Common.{◌≡◌, ◌∷◌, [], inr, refl, subst, arith}
+use Rattle.std.specs.Prelude.{Result, OnOk}
 use Rattle.std.proofs.lemmas.Grind.{common_steps}
 use Rattle.tl_append.specs.Keys.{log_key_of, opening_key_of}
 use Rattle.tl_append.proofs.Runs.{grows_then, key_name}
+use Rattle.tl_command.specs.declared.fault.RunFault.{RunFault}
 use Rattle.tl_bucket.specs.Buckets.{bucket_kept, bucket_trace}
 use Rattle.tl_bucket.proofs.finishing.finish_log.Goals as goal
 
@@ -25,6 +27,7 @@ returns-clause-finishes g c =
       signed = opens.signed;
       sized = opens.sized;
       finishes = c.finish.ensures.finishes;
+      even = λ well. subst (λ (r : Result (Unit {0}) RunFault). OnOk r (c.finish.new.ledger.edge.size ≡ c.finish.new.self.objects.claims.start)) well c.finish.ensures.even;
       grows = λ batches rest appends. grows_then own (opener ∷ []) c.open_ledger.new.found (kept c.args.shelf.now) (kept c.finish.new.self) (trace c.args.shelf.now) (trace c.finish.new.self)
           c.in-Ok-open_ledger.opened.ledger c.finish.new.ledger opens batches rest appends;
     }))
@@ -43,18 +46,6 @@ returns-in-Err-open_ledger-clause-finishes g c = grind (arith, common_steps)
 
 pub returns-in-Err-open_ledger-clause-place : goal.returns-in-Err-open_ledger-clause-place
 returns-in-Err-open_ledger-clause-place g c = grind (arith, common_steps)
-
-pub returns-in-Err-shows_all-clause-finishes : goal.returns-in-Err-shows_all-clause-finishes
-returns-in-Err-shows_all-clause-finishes g c = grind (arith, common_steps)
-
-pub returns-in-Err-shows_all-clause-place : goal.returns-in-Err-shows_all-clause-place
-returns-in-Err-shows_all-clause-place g c = grind (arith, common_steps)
-
-pub returns-in-Ok-true-clause-finishes : goal.returns-in-Ok-true-clause-finishes
-returns-in-Ok-true-clause-finishes g c = grind (arith, common_steps)
-
-pub returns-in-Ok-true-clause-place : goal.returns-in-Ok-true-clause-place
-returns-in-Ok-true-clause-place g c = grind (arith, common_steps)
 
 pub returns-then-not-is_key_name-clause-finishes : goal.returns-then-not-is_key_name-clause-finishes
 returns-then-not-is_key_name-clause-finishes g c = grind (arith, common_steps)

@@ -1,7 +1,8 @@
 use Rattle.std.proofs.Common.{Ok, inl, inr, rules, subst, ◌∙◌}
 use Rattle.tl_bucket.specs.Finishing.{FinishesLog}
 use Rattle.tl_hash.specs.Bytes.{Bytes}
-use Rattle.tl_cli.proofs.Buckets.{refused}
+use Rattle.tl_ledger.specs.Opening.{found_size}
+use Rattle.tl_cli.proofs.Buckets.{refused, started}
 use Rattle.tl_cli.proofs.in_bucket.finish_and_append.Goals as goal
 
 pub returns-in-Err : goal.returns-in-Err
@@ -15,6 +16,7 @@ returns g c = inr (record {
   place = c.run_append-outcome.ensures.place ∙ c.finish_log.ensures.place;
   found = c.run_append-outcome.new.found;
   outcome = c.run_append-outcome.result;
+  start = started _ (found_size c.run_append-outcome.new.found.head) c.committed.result c.finish_log.new.shelf.objects.claims.start c.committed.ensures c.run_append-outcome.ensures.start;
   goes_on = c.run_append-outcome.ensures.goes_on;
   ends = c.after_bucket-2.ensures;
 })

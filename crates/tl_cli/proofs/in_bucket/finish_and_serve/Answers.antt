@@ -15,6 +15,7 @@ returns g c = inr (record {
   place = c.serve_sealed-shelf.ensures.place ∙ c.finish_log.ensures.place;
   found = c.serve_sealed-shelf.new.found;
   outcome = c.serve_sealed-shelf.result.outcome;
+  start = c.serve_sealed-shelf.ensures.start;
   serves = c.serve_sealed-shelf.ensures.serves;
   ends = c.after_bucket-2.ensures;
 })

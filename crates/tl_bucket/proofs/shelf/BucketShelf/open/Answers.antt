@@ -5,8 +5,8 @@ use Rattle.tl_bucket.proofs.shelf.BucketShelf.open.Goals as goal
 pub returns-clause-end : goal.returns-clause-end
 returns-clause-end g c = grind (arith, common_steps)
 
-pub returns-clause-etag : goal.returns-clause-etag
-returns-clause-etag g c = grind (arith, common_steps)
+pub returns-clause-shown : goal.returns-clause-shown
+returns-clause-shown g c = grind (arith, common_steps)
 
 pub returns-clause-events : goal.returns-clause-events
 returns-clause-events g c = grind (arith, common_steps)
@@ -26,8 +26,8 @@ returns-clause-waiting g c = grind (arith, common_steps)
 pub returns-in_err-check_conditions-clause-end : goal.returns-in_err-check_conditions-clause-end
 returns-in_err-check_conditions-clause-end g c = grind (arith, common_steps)
 
-pub returns-in_err-check_conditions-clause-etag : goal.returns-in_err-check_conditions-clause-etag
-returns-in_err-check_conditions-clause-etag g c = grind (arith, common_steps)
+pub returns-in_err-check_conditions-clause-shown : goal.returns-in_err-check_conditions-clause-shown
+returns-in_err-check_conditions-clause-shown g c = grind (arith, common_steps)
 
 pub returns-in_err-check_conditions-clause-events : goal.returns-in_err-check_conditions-clause-events
 returns-in_err-check_conditions-clause-events g c = grind (arith, common_steps)

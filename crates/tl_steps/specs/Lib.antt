@@ -1,2 +1,0 @@
--- The definitions of scripts of steps.
-pub mod Inner
