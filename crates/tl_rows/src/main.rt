@@ -38,6 +38,7 @@ mod words;
 
 use crate::words::{NO_MEMORY, Row, Told, Words, bytes_of};
 use std::alloc::{AllocError, Global};
+use std::sync::Wait;
 use std::{io, str};
 
 // More bytes than any row prints, so that no answer is lost for want of memory.
@@ -101,8 +102,8 @@ fn answer(alloc: Global, words: &mut Words<'_>, input: &[u8], out: &mut String) 
 }
 
 // Does the steps of a log or of a witness.
-fn answer_steps(
-    rt: &HostRuntime,
+fn answer_steps<R: Wait>(
+    rt: &R,
     alloc: Global,
     words: &mut Words<'_>,
     text: &str,
@@ -118,7 +119,7 @@ fn answer_steps(
 }
 
 // Writes the call of a row, and what comes of it, a line each.
-fn answer_row(rt: &HostRuntime, alloc: Global, row: &str, out: &mut String) -> Told {
+fn answer_row<R: Wait>(rt: &R, alloc: Global, row: &str, out: &mut String) -> Told {
     let (call, lines) = row.split_once('\n').unwrap_or((row, ""));
     write!(out, "$ {call}\n")?;
     let input = input_of(alloc, lines)?;
@@ -138,7 +139,7 @@ fn lacks_memory(answered: Told, out: &str) -> bool {
 }
 
 // Prints the rows of a script.
-fn print_rows(rt: &HostRuntime, alloc: Global, script: &str) -> io::Result<()> {
+fn print_rows<R: Print + Wait>(rt: &R, alloc: Global, script: &str) -> io::Result<()> {
     let mut out = String::with_capacity(alloc, ROOM)?;
     for row in script.split("\n$ ").skip(1) {
         out.clear();

@@ -166,8 +166,8 @@ fn resume<R: Wait + Drop>(
 }
 
 /// Opens the log of a row, and does its steps.
-pub(crate) fn answer(
-    rt: &HostRuntime,
+pub(crate) fn answer<R: Wait>(
+    rt: &R,
     alloc: Global,
     words: &mut Words<'_>,
     row: &Row<'_>,

@@ -16,6 +16,7 @@
 use crate::words::{Row, Step, Told, Words, number_of, put_hash, text_of, words_of};
 use std::alloc::{AllocError, Global};
 use std::str;
+use std::sync::Wait;
 use tl_hash::{Hash, Sha256Tree};
 use tl_note::{Signer, Verifier};
 use tl_proof::Link;
@@ -77,12 +78,12 @@ impl Asked for Book<Sha256Tree, Global> {
 
 // A witness that may be shared, and what waits for its locks.
 #[derive(Drop)]
-struct Shared<'r> {
-    rt: &'r HostRuntime,
+struct Shared<'r, R> {
+    rt: &'r R,
     witness: SharedWitness<Sha256Tree, Global>,
 }
 
-impl Asked for Shared<'_> {
+impl<R: Wait> Asked for Shared<'_, R> {
     fn reply(&mut self, body: &str, saver: &mut KeepingSaver) -> Replied {
         self.witness.try_add(self.rt, body.as_bytes(), TIME, saver)
     }
@@ -201,8 +202,8 @@ fn parties_of<'a>(alloc: Global, words: &'a str) -> Result<Vec<Party<'a>>, Alloc
 }
 
 /// Opens the witness of a row, and does its steps.
-pub(crate) fn answer(
-    rt: &HostRuntime,
+pub(crate) fn answer<R: Wait>(
+    rt: &R,
     alloc: Global,
     words: &mut Words<'_>,
     row: &Row<'_>,
