@@ -18,24 +18,9 @@ from .program import EMPTY
 from .readers import entries_in
 from .serving import post
 from .store import Client
-from .tree import leaf, lines_of, node, sha
+from .tree import lines_of, roots
 
 LOST = b'another operator has appended\n'
-
-
-def roots(entries):
-    """The root over the first entries, for each number of them."""
-    found, peaks = [sha(b'')], []
-    for number, entry in enumerate(entries, 1):
-        hash, height = leaf(entry), number
-        while height % 2 == 0:
-            hash, height = node(peaks.pop(), hash), height // 2
-        peaks.append(hash)
-        top = peaks[-1]
-        for peak in reversed(peaks[:-1]):
-            top = node(peak, top)
-        found.append(top)
-    return found
 
 
 def bundles_at(get, size):

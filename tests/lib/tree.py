@@ -33,6 +33,21 @@ def root(leaves):
     return leaves[0] if leaves else sha(b'')
 
 
+def roots(entries):
+    """The root over the first entries, for each number of them."""
+    found, peaks = [sha(b'')], []
+    for number, entry in enumerate(entries, 1):
+        hash, height = leaf(entry), number
+        while height % 2 == 0:
+            hash, height = node(peaks.pop(), hash), height // 2
+        peaks.append(hash)
+        top = peaks[-1]
+        for peak in reversed(peaks[:-1]):
+            top = node(peak, top)
+        found.append(top)
+    return found
+
+
 def path(leaves, index):
     """The inclusion proof of an entry."""
     if len(leaves) < 2:
