@@ -80,6 +80,28 @@ fn do_step<R: Wait + Drop>(
     }
 }
 
+// Does a step, once more if an allocation fails.
+fn do_step_again<R: Wait + Drop>(
+    alloc: Global,
+    operator: &mut Operator<R>,
+    lanes: &mut Vec<Sender>,
+    reader: &mut BoardReader<Global>,
+    witnesses: &mut Witnesses,
+    step: &mut Step<'_>,
+) -> Told
+    requires operating { IsOperating (⟦<Operator<R> as RunningLog>⟧.state operator.old) }
+    requires own { AreSenders (⟦<Operator<R> as RunningLog>⟧.state operator.old).log lanes.old.items }
+    ensures operating { IsOperating (⟦<Operator<R> as RunningLog>⟧.state operator.new) }
+    ensures own { AreSenders (⟦<Operator<R> as RunningLog>⟧.state operator.new).log lanes.new.items }
+{
+    match do_step(alloc, operator, lanes, reader, witnesses, step) {
+        Ok(()) => return Ok(()),
+        Err(_) => {}
+    }
+    step.say_refused()?;
+    do_step(alloc, operator, lanes, reader, witnesses, step)
+}
+
 /// Does the steps of a log, each once more if an allocation fails.
 pub(crate) fn run_steps<R: Wait + Drop>(
     alloc: Global,
@@ -119,26 +141,14 @@ pub(crate) fn run_steps<R: Wait + Drop>(
             line,
             out: &mut *out,
         };
-        if do_step(
+        do_step_again(
             alloc,
             &mut log,
             &mut lanes,
             &mut reader,
             &mut keys,
             &mut step,
-        )
-        .is_err()
-        {
-            step.say_refused()?;
-            do_step(
-                alloc,
-                &mut log,
-                &mut lanes,
-                &mut reader,
-                &mut keys,
-                &mut step,
-            )?;
-        }
+        )?;
     }
     Ok(())
 }
