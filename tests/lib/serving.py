@@ -189,6 +189,14 @@ def stop(links):
             link.shutdown(socket.SHUT_WR)
 
 
+def kept_port(held):
+    """A port that the system gives to nobody else until `held` ends: a socket is bound to it, and doesn't listen."""
+    link = held.enter_context(socket.socket())
+    link.setsockopt(socket.SOL_SOCKET, socket.SO_REUSEADDR, 1)
+    link.bind(('127.0.0.1', 0))
+    return link.getsockname()[1]
+
+
 def drop(link):
     """Closes a connection by a reset."""
     link.setsockopt(socket.SOL_SOCKET, socket.SO_LINGER, struct.pack('ii', 1, 0))

@@ -146,11 +146,16 @@ class Store:
         self.served = threading.Semaphore(served) if served else contextlib.nullcontext()
         self.objects, self.past, self.asked, self.rules = {}, [], [], []
         self.heeds, self.shift, self.room, self.full, self.weather = {'if-match', 'if-none-match'}, 0, None, 403, None
-        self.listener, self.links, self.port, self.count, self.busy, self.most, self.spoilt = None, set(), 0, 0, 0, 0, 0
+        self.held, self.listener, self.links, self.port, self.count, self.busy, self.most, self.spoilt = None, None, set(), 0, 0, 0, 0, 0
 
     def start(self):
+        if self.held is None:
+            # (bound and not listening: nobody else is given the port while the store is stopped)
+            self.held = socket.socket()
+            self.held.setsockopt(socket.SOL_SOCKET, socket.SO_REUSEADDR, 1)
+            self.held.bind(('127.0.0.1', self.port))
+            self.port = self.held.getsockname()[1]
         self.listener = socket.create_server(('127.0.0.1', self.port), backlog=128)
-        self.port = self.listener.getsockname()[1]
         threading.Thread(target=self.accept, args=(self.listener,), daemon=True).start()
 
     def stop(self):
