@@ -1,2 +1,0 @@
--- The definitions of rows of steps.
-pub mod Inner
