@@ -81,7 +81,7 @@ fn do_step<R: Wait + Drop>(
 }
 
 // Does a step, once more if an allocation fails.
-fn do_step_again<R: Wait + Drop>(
+fn do_at_last<R: Wait + Drop>(
     alloc: Global,
     operator: &mut Operator<R>,
     lanes: &mut Vec<Sender>,
@@ -91,12 +91,12 @@ fn do_step_again<R: Wait + Drop>(
 ) -> Told
     requires operating { IsOperating (⟦<Operator<R> as RunningLog>⟧.state operator.old) }
     requires own { AreSenders (⟦<Operator<R> as RunningLog>⟧.state operator.old).log lanes.old.items }
-    ensures operating { IsOperating (⟦<Operator<R> as RunningLog>⟧.state operator.new) }
+    ensures kept { IsKept (⟦<Operator<R> as RunningLog>⟧.state operator.old)
+        (⟦<Operator<R> as RunningLog>⟧.state operator.new) }
     ensures own { AreSenders (⟦<Operator<R> as RunningLog>⟧.state operator.new).log lanes.new.items }
 {
-    match do_step(alloc, operator, lanes, reader, witnesses, step) {
-        Ok(()) => return Ok(()),
-        Err(_) => {}
+    if do_step(alloc, operator, lanes, reader, witnesses, step).is_ok() {
+        return Ok(());
     }
     step.say_refused()?;
     do_step(alloc, operator, lanes, reader, witnesses, step)
@@ -141,7 +141,7 @@ pub(crate) fn run_steps<R: Wait + Drop>(
             line,
             out: &mut *out,
         };
-        do_step_again(
+        do_at_last(
             alloc,
             &mut log,
             &mut lanes,

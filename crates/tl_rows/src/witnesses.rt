@@ -1,15 +1,15 @@
-//! Rows of witnesses that are asked to cosign. The words are `alone` (a book) or `shared`, `length` or `counting` for
-//! the keys that cosign, and the origins, each `ORIGIN;LOG;COSIGNER` with the length key of the log and the key that
-//! cosigns, as `NAME:ID`. The input has the lines of the links that were saved.
+//! Rows of a witness that is asked to cosign. The words are `length` or `counting` for the keys that cosign, and the
+//! origins, each `ORIGIN;LOG;COSIGNER` with the length key of the log and the key that cosigns, as `NAME:ID`. The input
+//! has the lines of the links that were saved.
 //!
 //! | A step | |
 //! |---|---|
 //! | `add BODY` | a request: the status and the body of the reply |
 //! | `unsaved BODY` | the same with a saver that fails |
 //! | `links ORIGIN`, `links ORIGIN FROM MOST` | the links of an origin, or some: the size, the root and the proof |
-//! | `head ORIGIN` | the size and the root that it has reached, of a shared witness |
+//! | `head ORIGIN` | the size and the root that it has reached |
 //! | `saved` | the lines that were saved |
-//! | `book` | a shared witness is made a book, which does the steps behind it |
+//! | `book` | the links of each origin, as a book that the witness is made has them; then the book is shared again |
 //!
 //! In a body `|` stands for a newline and `_` for a space.
 
@@ -26,22 +26,11 @@ use tl_witness::{Book, Reply, SharedWitness, Trust, read_chain};
 // The time of each request, in seconds since the Unix epoch.
 const TIME: u64 = 1_700_000_000;
 
-// What a request came to.
-type Replied = Result<Reply<Global>, AllocError>;
-
-// So many links from a place on.
-type Part = (u64, u64);
-
-// Who is asked: a book, or a witness that may be shared.
-trait Asked {
-    // The reply to a request.
-    fn reply(&mut self, body: &str, saver: &mut KeepingSaver) -> Replied;
-
-    // Reports links of an origin: all of them, or a part. A book has no parts.
-    fn tell_links(&self, origin: &str, part: Option<Part>, step: &mut Step<'_>) -> Told;
-
-    // The size and the root that an origin has reached. A book doesn't say.
-    fn reached(&self, origin: &str) -> Option<(u64, Hash)>;
+// A witness, and what waits for its locks.
+#[derive(Drop)]
+struct Shared<'r, R> {
+    rt: &'r R,
+    witness: SharedWitness<Sha256Tree, Global>,
 }
 
 // Reports how many links there are, and each on a line.
@@ -62,33 +51,14 @@ fn tell_all(links: Option<&[Link<Global>]>, step: &mut Step<'_>) -> Told {
     Ok(())
 }
 
-impl Asked for Book<Sha256Tree, Global> {
-    fn reply(&mut self, body: &str, saver: &mut KeepingSaver) -> Replied {
-        self.try_add(body.as_bytes(), TIME, saver)
-    }
-
-    fn tell_links(&self, origin: &str, _part: Option<Part>, step: &mut Step<'_>) -> Told {
-        tell_all(self.chain(origin), step)
-    }
-
-    fn reached(&self, _origin: &str) -> Option<(u64, Hash)> {
-        None
-    }
-}
-
-// A witness that may be shared, and what waits for its locks.
-#[derive(Drop)]
-struct Shared<'r, R> {
-    rt: &'r R,
-    witness: SharedWitness<Sha256Tree, Global>,
-}
-
-impl<R: Wait> Asked for Shared<'_, R> {
-    fn reply(&mut self, body: &str, saver: &mut KeepingSaver) -> Replied {
+impl<R: Wait> Shared<'_, R> {
+    // The reply to a request.
+    fn reply(&self, body: &str, saver: &mut KeepingSaver) -> Result<Reply<Global>, AllocError> {
         self.witness.try_add(self.rt, body.as_bytes(), TIME, saver)
     }
 
-    fn tell_links(&self, origin: &str, part: Option<Part>, step: &mut Step<'_>) -> Told {
+    // Reports links of an origin: all of them, or so many from a place on.
+    fn tell_links(&self, origin: &str, part: Option<(u64, u64)>, step: &mut Step<'_>) -> Told {
         let found = match part {
             Some((from, most)) => self.witness.links(self.rt, origin, from, most)?,
             None => self.witness.chain(self.rt, origin)?,
@@ -99,13 +69,38 @@ impl<R: Wait> Asked for Shared<'_, R> {
         }
     }
 
-    fn reached(&self, origin: &str) -> Option<(u64, Hash)> {
-        self.witness.head(self.rt, origin)
+    // Reports the size and the root that an origin has reached.
+    fn tell_head(&self, origin: &str, step: &mut Step<'_>) -> Told {
+        let Some((size, root)) = self.witness.head(self.rt, origin) else {
+            return step.say("None");
+        };
+        write!(step.out, "{}: {size} ", step.line)?;
+        put_hash(step.out, root)?;
+        step.out.push('\n')
     }
 }
 
+// Reports the links of each origin that words name, as a book has them.
+fn tell_book(book: &Book<Sha256Tree, Global>, words: &str, out: &mut String) -> Told {
+    out.push_str("book:\n")?;
+    for word in words.split(' ') {
+        let (origin, _keys) = word.split_once(';').unwrap_or((word, ""));
+        let mut step = Step {
+            line: origin,
+            out: &mut *out,
+        };
+        tell_all(book.chain(origin), &mut step)?;
+    }
+    Ok(())
+}
+
 // Puts a request: the status and the body of the reply.
-fn add<W: Asked>(asked: &mut W, saver: &mut KeepingSaver, body: &str, step: &mut Step<'_>) -> Told {
+fn add<R: Wait>(
+    asked: &Shared<'_, R>,
+    saver: &mut KeepingSaver,
+    body: &str,
+    step: &mut Step<'_>,
+) -> Told {
     saver.lacks_memory = false;
     let reply = asked.reply(body, saver)?;
     if saver.lacks_memory {
@@ -115,20 +110,10 @@ fn add<W: Asked>(asked: &mut W, saver: &mut KeepingSaver, body: &str, step: &mut
     step.tell((reply.status, text))
 }
 
-// Reports the size and the root that were reached.
-fn tell_head(head: Option<(u64, Hash)>, step: &mut Step<'_>) -> Told {
-    let Some((size, root)) = head else {
-        return step.say("None");
-    };
-    write!(step.out, "{}: {size} ", step.line)?;
-    put_hash(step.out, root)?;
-    step.out.push('\n')
-}
-
 // Does a step.
-fn do_step<W: Asked>(
+fn do_step<R: Wait>(
     alloc: Global,
-    asked: &mut W,
+    asked: &Shared<'_, R>,
     saver: &mut KeepingSaver,
     step: &mut Step<'_>,
 ) -> Told {
@@ -144,16 +129,16 @@ fn do_step<W: Asked>(
             let part = (number_of(from), number_of(most));
             asked.tell_links(origin, Some(part), step)
         }
-        ["head", origin] => tell_head(asked.reached(origin), step),
+        ["head", origin] => asked.tell_head(origin, step),
         ["saved"] => write!(step.out, "{}:\n{}", step.line, saver.lines),
         _ => step.say("no such step"),
     }
 }
 
 // Does steps, each once more if an allocation fails.
-fn run_steps<W: Asked>(
+fn run_steps<R: Wait>(
     alloc: Global,
-    asked: &mut W,
+    asked: &Shared<'_, R>,
     saver: &mut KeepingSaver,
     steps: &[&str],
     out: &mut String,
@@ -209,7 +194,7 @@ pub(crate) fn answer<R: Wait>(
     row: &Row<'_>,
     out: &mut String,
 ) -> Told {
-    let (is_alone, is_counting) = (words.next() == "alone", words.next() == "counting");
+    let is_counting = words.next() == "counting";
     let mut trusts = Vec::new(alloc);
     for Party {
         origin,
@@ -234,20 +219,22 @@ pub(crate) fn answer<R: Wait>(
         Ok(saved) => saved,
         Err(fault) => return write!(out, "{fault:?}\n"),
     };
-    let mut book = match Book::open(alloc, alloc, Sha256Tree, trusts, saved) {
+    let book = match Book::open(alloc, alloc, Sha256Tree, trusts, saved) {
         Ok(book) => book,
         Err(fault) => return write!(out, "{fault:?}\n"),
     };
     out.push_str("opened\n")?;
     let (mut saver, steps) = (KeepingSaver::new(alloc), row.steps.as_slice());
-    if is_alone {
-        return run_steps(alloc, &mut book, &mut saver, steps, out);
-    }
     let witness = SharedWitness::new(book).map_err(|_| AllocError)?;
-    let mut shared = Shared { rt, witness };
+    let shared = Shared { rt, witness };
     let count = steps.iter().take_while(|step| **step != "book").count();
     let (front, rest) = (steps.get(..count), steps.get(count.saturating_add(1)..));
-    run_steps(alloc, &mut shared, &mut saver, front.unwrap_or(&[]), out)?;
-    let mut book = shared.witness.into_book(rt).map_err(|_| AllocError)?;
-    run_steps(alloc, &mut book, &mut saver, rest.unwrap_or(&[]), out)
+    run_steps(alloc, &shared, &mut saver, front.unwrap_or(&[]), out)?;
+    let Some(rest) = rest else {
+        return Ok(());
+    };
+    let book = shared.witness.into_book(rt).map_err(|_| AllocError)?;
+    tell_book(&book, words.left, out)?;
+    let witness = SharedWitness::new(book).map_err(|_| AllocError)?;
+    run_steps(alloc, &Shared { rt, witness }, &mut saver, rest, out)
 }
