@@ -1,0 +1,2 @@
+-- The definitions of rows of steps.
+pub mod Inner
