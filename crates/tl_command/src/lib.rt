@@ -46,5 +46,5 @@ pub use entries::read_entries;
 pub use fault::{RunFault, exit_of, fault_line};
 pub use keys::{LogKey, read_file, read_log_key, read_private_key};
 pub use place::Place;
-pub use proof_text::{InclusionProof, inclusion_bytes};
+pub use proof_text::{ConsistencyProof, InclusionProof, consistency_bytes, inclusion_bytes};
 pub use streams::{MOST_INPUT, print_text, read_input};

@@ -2,8 +2,7 @@
 
 ghost use Rattle.std.specs.Prelude.{◌≡◌, ◌≢◌, ◌<◌, ◌∷◌, ◌++◌, length, map, vec_items, IfOk, IfSome, OnErr, OnOk, MatchOption};
 ghost use Rattle.tl_command.specs.ProofText.{Inclusion, IsInclusion, inclusion_lines, Consistency, IsConsistency, consistency_lines, inclusion_text, consistency_text};
-ghost use Rattle.tl_command.specs.Inner.Shown.{consistency_shown};
-ghost use Rattle.tl_command.specs.ProofShown.{inclusion_shown};
+ghost use Rattle.tl_command.specs.ProofShown.{consistency_shown, inclusion_shown};
 ghost use Rattle.std.specs.List.{flat_map};
 ghost use Rattle.tl_text.specs.Text.{line, number_text, base64_text};
 ghost use Rattle.tl_command.specs.Lines.{lines_text};
@@ -31,12 +30,17 @@ pub struct InclusionProof<A: Allocator> {
 
 /// A consistency proof, and the two trees that it is about.
 #[derive(Drop)]
-pub(crate) struct ConsistencyProof<A: Allocator> {
-    pub(crate) old: u64,
-    pub(crate) old_root: Hash,
-    pub(crate) size: u64,
-    pub(crate) root: Hash,
-    pub(crate) proof: Vec<Hash, A>,
+pub struct ConsistencyProof<A: Allocator> {
+    /// The number of the old entries.
+    pub old: u64,
+    /// The root of their tree.
+    pub old_root: Hash,
+    /// The number of entries.
+    pub size: u64,
+    /// The root of the tree.
+    pub root: Hash,
+    /// The hashes of the proof.
+    pub proof: Vec<Hash, A>,
 }
 
 // The lines of a proof's text: its kind, four of what it is about, and those after them.
@@ -208,8 +212,9 @@ pub fn inclusion_bytes<A: Allocator + Copy, B: Allocator>(
     Ok(out)
 }
 
-/// The text of a consistency proof. It fails only where a growth was refused.
-pub(crate) fn consistency_bytes<A: Allocator + Copy, B: Allocator>(
+/// The text of a consistency proof (RFC 6962, section 2.1.2), as `tlog check` reads it: a line `consistency`, lines of
+/// the two trees, and its hashes, one a line. It fails only where a growth was refused.
+pub fn consistency_bytes<A: Allocator + Copy, B: Allocator>(
     alloc: A,
     p: &ConsistencyProof<B>,
 ) -> Result<Vec<u8, A>, AllocError>
