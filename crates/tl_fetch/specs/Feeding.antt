@@ -49,4 +49,4 @@ abbrev pub RefusesFeed : Grounds → Policy → FetchFault → Passage → Type 
 RefusesFeed grounds policy fault o =
     (LacksTrust grounds (alone policy) fault × IsNoAccusation fault × IsUnwritten o)
     ⊎ ((two : Two) × AreTwo grounds.has (alone policy) two
-    × (RefusesTwo grounds two fault o ⊎ RefusesFed grounds policy two fault o))
+    × (RefusesTwo grounds.answers grounds.lacks two fault o ⊎ RefusesFed grounds policy two fault o))

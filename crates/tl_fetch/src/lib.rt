@@ -14,6 +14,7 @@ mod entry;
 mod fault;
 mod faults;
 mod feed;
+mod judging;
 mod kept;
 mod law;
 mod listing;
