@@ -11,7 +11,7 @@ use Rattle.tl_proof.proofs.Consistency.{consistency_proof-some}
 use Rattle.tl_proof.proofs.Equations.{inclusion_proof-left, inclusion_proof-right, subproof-whole, subproof-left, subproof-right}
 use Rattle.tl_command.specs.ProofText.{Inclusion, Consistency}
 use Rattle.tl_command.specs.ProofCommands.{inclusion_of, consistency_of}
-use Rattle.tl_command.specs.Inner.Shown.{consistency_shown}
+use Rattle.tl_command.specs.ProofShown.{consistency_shown}
 use Rattle.tl_command.specs.Inner.Subproofs.{subproof_of}
 use Rattle.tl_command.specs.ProofShown.{inclusion_shown}
 use Rattle.tl_command.specs.declared.proof_text.InclusionProof.{InclusionProof}

@@ -1,8 +1,13 @@
--- Inclusion proofs as the values that are written and read.
+-- Proofs as the values that are written and read.
 use Rattle.std.specs.Prelude.{vec_items}
+use Rattle.tl_command.specs.declared.proof_text.ConsistencyProof.{ConsistencyProof}
 use Rattle.tl_command.specs.declared.proof_text.InclusionProof.{InclusionProof}
-use Rattle.tl_command.specs.ProofText.{Inclusion}
+use Rattle.tl_command.specs.ProofText.{Consistency, Inclusion}
 
--- what a proof says, whatever memory its hashes are in
+-- what an inclusion proof says, whatever memory its hashes are in
 abbrev pub inclusion_shown : {A : Type 0} → InclusionProof A → Inclusion
 inclusion_shown p = record { index = p.index; size = p.size; leaf = p.leaf; root = p.root; proof = vec_items p.proof }
+
+-- what a consistency proof says, likewise
+abbrev pub consistency_shown : {A : Type 0} → ConsistencyProof A → Consistency
+consistency_shown p = record { old = p.old; old_root = p.old_root; size = p.size; root = p.root; proof = vec_items p.proof }

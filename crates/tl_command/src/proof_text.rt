@@ -2,8 +2,7 @@
 
 ghost use Rattle.std.specs.Prelude.{◌≡◌, ◌≢◌, ◌<◌, ◌∷◌, ◌++◌, length, map, vec_items, IfOk, IfSome, OnErr, OnOk, MatchOption};
 ghost use Rattle.tl_command.specs.ProofText.{Inclusion, IsInclusion, inclusion_lines, Consistency, IsConsistency, consistency_lines, inclusion_text, consistency_text};
-ghost use Rattle.tl_command.specs.Inner.Shown.{consistency_shown};
-ghost use Rattle.tl_command.specs.ProofShown.{inclusion_shown};
+ghost use Rattle.tl_command.specs.ProofShown.{consistency_shown, inclusion_shown};
 ghost use Rattle.std.specs.List.{flat_map};
 ghost use Rattle.tl_text.specs.Text.{line, number_text, base64_text};
 ghost use Rattle.tl_command.specs.Lines.{lines_text};
@@ -31,12 +30,17 @@ pub struct InclusionProof<A: Allocator> {
 
 /// A consistency proof, and the two trees that it is about.
 #[derive(Drop)]
-pub(crate) struct ConsistencyProof<A: Allocator> {
-    pub(crate) old: u64,
-    pub(crate) old_root: Hash,
-    pub(crate) size: u64,
-    pub(crate) root: Hash,
-    pub(crate) proof: Vec<Hash, A>,
+pub struct ConsistencyProof<A: Allocator> {
+    /// The number of entries of the old tree.
+    pub old: u64,
+    /// Its root.
+    pub old_root: Hash,
+    /// The number of entries of the new tree.
+    pub size: u64,
+    /// Its root.
+    pub root: Hash,
+    /// The hashes of the proof, in the order of RFC 6962, section 2.1.2.
+    pub proof: Vec<Hash, A>,
 }
 
 // The lines of a proof's text: its kind, four of what it is about, and those after them.
@@ -104,8 +108,9 @@ pub(crate) fn read_inclusion<A: Allocator + Copy, B: Allocator>(
     }))
 }
 
-/// The consistency proof of which these are the lines.
-pub(crate) fn read_consistency<A: Allocator + Copy, B: Allocator>(
+/// Returns the consistency proof of which these are the lines, without their newlines, or None if they are those of
+/// none. It fails only if allocation fails.
+pub fn read_consistency<A: Allocator + Copy, B: Allocator>(
     alloc: A,
     lines: &[Vec<u8, B>],
 ) -> Result<Option<ConsistencyProof<A>>, AllocError>
@@ -208,8 +213,9 @@ pub fn inclusion_bytes<A: Allocator + Copy, B: Allocator>(
     Ok(out)
 }
 
-/// The text of a consistency proof. It fails only where a growth was refused.
-pub(crate) fn consistency_bytes<A: Allocator + Copy, B: Allocator>(
+/// Returns the text of a consistency proof (RFC 6962, section 2.1.2), as `tlog check` reads it: a line `consistency`,
+/// lines of what it is about, and its hashes, one a line. It fails only if allocation fails.
+pub fn consistency_bytes<A: Allocator + Copy, B: Allocator>(
     alloc: A,
     p: &ConsistencyProof<B>,
 ) -> Result<Vec<u8, A>, AllocError>

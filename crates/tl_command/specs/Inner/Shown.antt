@@ -1,11 +1,9 @@
--- Texts of consistency proofs and audits, as the values that were read.
+-- Texts of audits, as the values that were read.
 use Rattle.std.specs.Prelude.{length, All, map, vec_items}
 use Rattle.tl_hash.specs.Bytes.{IsHash}
 use Rattle.tl_text.specs.Text.{IsSize}
 use Rattle.tl_command.specs.declared.audit_text.AuditParts.{AuditParts}
 use Rattle.tl_command.specs.AuditText.{Audit}
-use Rattle.tl_command.specs.declared.proof_text.ConsistencyProof.{ConsistencyProof}
-use Rattle.tl_command.specs.ProofText.{Consistency}
 
 -- what is read of a text, whatever memory its entries and hashes are in
 abbrev pub audit_shown : {A B : Type 0} → AuditParts A B → Audit
@@ -16,7 +14,3 @@ pub record IsAuditRead (a : Audit) : Type 0 where
   pub old_count : IsSize (length a.old)
   pub new_count : IsSize (length a.new)
   pub proof : All IsHash a.proof
-
--- what a consistency proof says, whatever memory its hashes are in
-abbrev pub consistency_shown : {A : Type 0} → ConsistencyProof A → Consistency
-consistency_shown p = record { old = p.old; old_root = p.old_root; size = p.size; root = p.root; proof = vec_items p.proof }

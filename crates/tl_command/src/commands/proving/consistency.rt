@@ -1,7 +1,7 @@
 //! The consistency proof for the first lines, by the recursion of RFC 6962, section 2.1.2.
 
 ghost use Rattle.std.specs.Prelude.{◌≡◌, ◌<◌, ◌≤◌, [], ◌∷◌, ◌++◌, length, vec_items, if◌then◌else◌, IfOk};
-ghost use Rattle.tl_command.specs.Inner.Shown.{consistency_shown};
+ghost use Rattle.tl_command.specs.ProofShown.{consistency_shown};
 ghost use Rattle.tl_command.specs.Inner.Subproofs.{subproof_of};
 ghost use Rattle.tl_command.specs.ProofCommands.{consistency_of};
 

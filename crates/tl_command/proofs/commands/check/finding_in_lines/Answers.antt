@@ -1,7 +1,7 @@
 use Rattle.std.proofs.Common.{arith}
 use Rattle.std.proofs.lemmas.Grind.{common_steps}
 use Rattle.tl_command.specs.ProofText.{Included, Consistent}
-use Rattle.tl_command.specs.Inner.Shown.{consistency_shown}
+use Rattle.tl_command.specs.ProofShown.{consistency_shown}
 use Rattle.tl_command.specs.ProofShown.{inclusion_shown}
 use Rattle.tl_command.proofs.commands.check.finding_in_lines.Goals as goal
 

@@ -1,5 +1,5 @@
 use Rattle.std.proofs.Common.{arith, refl}
-use Rattle.tl_command.specs.Inner.Shown.{consistency_shown}
+use Rattle.tl_command.specs.ProofShown.{consistency_shown}
 use Rattle.tl_command.proofs.SplitProofs.{growth-all, growth-in_left, growth-in_right}
 use Rattle.tl_command.proofs.commands.proving.consistency.+subproof_over.Goals as goal
 
