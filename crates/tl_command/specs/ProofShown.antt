@@ -8,6 +8,6 @@ use Rattle.tl_command.specs.ProofText.{Consistency, Inclusion}
 abbrev pub inclusion_shown : {A : Type 0} → InclusionProof A → Inclusion
 inclusion_shown p = record { index = p.index; size = p.size; leaf = p.leaf; root = p.root; proof = vec_items p.proof }
 
--- what a consistency proof says, whatever memory its hashes are in
+-- what a consistency proof says, likewise
 abbrev pub consistency_shown : {A : Type 0} → ConsistencyProof A → Consistency
 consistency_shown p = record { old = p.old; old_root = p.old_root; size = p.size; root = p.root; proof = vec_items p.proof }

@@ -37,7 +37,7 @@ pub use commands::build::log_signer::{HmacLogSigner, LogSigner};
 pub use commands::build::signed::{SignedOptions, run_build_signed};
 pub use commands::build::{BuildOptions, run_build};
 pub use commands::check::{run_check, run_check_about};
-pub use commands::checking::{CheckOptions, run_check_opened};
+pub use commands::checking::{CheckOptions, GivenEntry, run_check_opened};
 pub use commands::head::{HeadOptions, checkpoint_of, run_head};
 pub use commands::keygen::{KeygenOptions, run_keygen};
 pub use commands::opening::{note_refusal, run_open};
@@ -45,6 +45,9 @@ pub use commands::proving::{run_consistency, run_inclusion};
 pub use entries::read_entries;
 pub use fault::{RunFault, exit_of, fault_line};
 pub use keys::{LogKey, read_file, read_log_key, read_private_key};
+pub use lines::lines_of;
 pub use place::Place;
-pub use proof_text::{ConsistencyProof, InclusionProof, consistency_bytes, inclusion_bytes};
+pub use proof_text::{
+    ConsistencyProof, InclusionProof, consistency_bytes, inclusion_bytes, read_consistency,
+};
 pub use streams::{MOST_INPUT, print_text, read_input};

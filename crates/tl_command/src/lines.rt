@@ -23,8 +23,9 @@ fn is_lines(text: &[u8]) -> bool
     }
 }
 
-/// The lines of a text, without their newlines; None where the last one has no newline.
-pub(crate) fn lines_of<A: Allocator + Copy>(
+/// Returns the lines of a text, without their newlines, or None if the last one has no newline. It fails only if
+/// allocation fails.
+pub fn lines_of<A: Allocator + Copy>(
     alloc: A,
     text: &[u8],
 ) -> Result<Option<Vec<Vec<u8, A>, A>>, AllocError>

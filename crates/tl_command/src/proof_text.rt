@@ -31,15 +31,15 @@ pub struct InclusionProof<A: Allocator> {
 /// A consistency proof, and the two trees that it is about.
 #[derive(Drop)]
 pub struct ConsistencyProof<A: Allocator> {
-    /// The number of the old entries.
+    /// The number of entries of the old tree.
     pub old: u64,
-    /// The root of their tree.
+    /// Its root.
     pub old_root: Hash,
-    /// The number of entries.
+    /// The number of entries of the new tree.
     pub size: u64,
-    /// The root of the tree.
+    /// Its root.
     pub root: Hash,
-    /// The hashes of the proof.
+    /// The hashes of the proof, in the order of RFC 6962, section 2.1.2.
     pub proof: Vec<Hash, A>,
 }
 
@@ -108,8 +108,9 @@ pub(crate) fn read_inclusion<A: Allocator + Copy, B: Allocator>(
     }))
 }
 
-/// The consistency proof of which these are the lines.
-pub(crate) fn read_consistency<A: Allocator + Copy, B: Allocator>(
+/// Returns the consistency proof of which these are the lines, without their newlines, or None if they are those of
+/// none. It fails only if allocation fails.
+pub fn read_consistency<A: Allocator + Copy, B: Allocator>(
     alloc: A,
     lines: &[Vec<u8, B>],
 ) -> Result<Option<ConsistencyProof<A>>, AllocError>
@@ -212,8 +213,8 @@ pub fn inclusion_bytes<A: Allocator + Copy, B: Allocator>(
     Ok(out)
 }
 
-/// The text of a consistency proof (RFC 6962, section 2.1.2), as `tlog check` reads it: a line `consistency`, lines of
-/// the two trees, and its hashes, one a line. It fails only where a growth was refused.
+/// Returns the text of a consistency proof (RFC 6962, section 2.1.2), as `tlog check` reads it: a line `consistency`,
+/// lines of what it is about, and its hashes, one a line. It fails only if allocation fails.
 pub fn consistency_bytes<A: Allocator + Copy, B: Allocator>(
     alloc: A,
     p: &ConsistencyProof<B>,

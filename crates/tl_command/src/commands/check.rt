@@ -3,8 +3,7 @@
 ghost use Rattle.std.specs.Prelude.{◌≡◌, ◌≢◌, ◌<◌, ◌↔◌, length, map, option_map, vec_items, IsTrue, IfOk, OnErr, MatchOption};
 ghost use Rattle.tl_device.specs.Device.{passage};
 ghost use Rattle.tl_command.specs.ProofText.{Proof, Included, Consistent, IsProof, proof_lines};
-ghost use Rattle.tl_command.specs.ProofShown.{consistency_shown};
-ghost use Rattle.tl_command.specs.ProofShown.{inclusion_shown};
+ghost use Rattle.tl_command.specs.ProofShown.{consistency_shown, inclusion_shown};
 ghost use Rattle.tl_command.specs.ProofCommands.{CheckAboutComes, CheckComes};
 ghost use Rattle.tl_command.specs.Inner.Checks.{FindsInText, HasFinding, IsFinding, IsFindingAbout, PrintsAnswer};
 ghost use Rattle.tl_command.specs.Run.{Runs};

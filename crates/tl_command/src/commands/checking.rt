@@ -20,6 +20,15 @@ use tl_checkpoint::{Checkpoint, OpenCheckpointFault, open_checkpoint};
 use tl_device::Counted;
 use tl_note::{NoteFault, Verifier};
 
+/// An entry, as the words of a command give it.
+#[derive(Drop)]
+pub enum GivenEntry {
+    /// The bytes of this text.
+    Text(String),
+    /// The bytes of the file at this path.
+    File(String),
+}
+
 /// The options of `check` against a signed checkpoint.
 #[derive(Drop)]
 pub struct CheckOptions {
@@ -28,7 +37,7 @@ pub struct CheckOptions {
     /// The text of the log's verifier key.
     pub key: String,
     /// The entry that an inclusion proof is to show; without it any.
-    pub entry: Option<String>,
+    pub entry: Option<GivenEntry>,
 }
 
 // Why bytes are no signed checkpoint that opens.
