@@ -1,9 +1,7 @@
--- Evidence that a log signed two checkpoints of which the tree of neither begins with the other's (RFC 6962, section
--- 2.1.2), and why none is had.
-use Rattle.std.specs.Prelude.{◌≡◌, ◌≢◌, ◌⊎◌, ◌++◌, ℕ, List, [], length, take}
+-- Evidence that a log forked, as it is printed, and why none is had (RFC 6962, section 2.1.2).
+use Rattle.std.specs.Prelude.{◌≡◌, ◌≢◌, ◌⊎◌, ◌++◌, ℕ, [], Some}
 use Rattle.sha2.specs.Sha256.{sha256}
 use Rattle.tl_hash.specs.Bytes.{Bytes}
-use Rattle.tl_hash.specs.Tree.{tree_hash}
 use Rattle.tl_hash.specs.declared.head.Head.{Head}
 use Rattle.tl_store.specs.Head.{GivesHeadFault}
 use Rattle.tl_store.specs.declared.reader.ReadFault.{ReadFault}
@@ -11,40 +9,29 @@ use Rattle.tl_tile.specs.Path.{IsTile}
 use Rattle.tl_tile.specs.SourceFaults.{MayGive}
 use Rattle.tl_tile.specs.declared.resource.Resource.{Resource}
 use Rattle.tl_tile.specs.declared.resource.Resource.TheVariants as resource
-use Rattle.tl_proof.specs.Acceptance.{AcceptsConsistency}
 use Rattle.tl_client.specs.Faults.{after_read}
 use Rattle.tl_client.specs.Refused.{IsFork, RefusesGrowth}
 use Rattle.tl_client.specs.declared.fault.ClientFault.{ClientFault}
 use Rattle.tl_client.specs.declared.fault.ClientFault.TheVariants as client
-use Rattle.tl_command.specs.ProofText.{Consistency, consistency_text}
+use Rattle.tl_fork.specs.Evidence.{IsEvidence}
+use Rattle.tl_fetch.specs.Trusting.{Policy, Two}
 
--- a consistency proof that is accepted from a root at this size to the larger tree
-pub record LeadsTo (old : ℕ) (larger : Head) (p : Consistency) : Type 0 where
-  pub old_is : p.old ≡ old
-  pub size_is : p.size ≡ larger.size
-  pub root_is : p.root ≡ larger.root
-  pub accepted : AcceptsConsistency sha256 p.proof p.size p.root p.old p.old_root
-
--- what shows, beside their notes, that the smaller tree doesn't begin the larger one: of one size nothing more than two
--- roots; else the text of such a proof from another root than the smaller tree has
-abbrev pub IsShownBy : Head → Head → Bytes → Type 0
-IsShownBy smaller larger shown =
-    ((smaller.size ≡ larger.size) × (smaller.root ≢ larger.root) × (shown ≡ []))
-    ⊎ ((p : Consistency) × LeadsTo smaller.size larger p × (p.old_root ≢ smaller.root) × (shown ≡ consistency_text p))
-
--- the same of two trees, whichever is smaller
-abbrev pub AreApart : Head → Head → Bytes → Type 0
-AreApart old new shown = IsShownBy old new shown ⊎ IsShownBy new old shown
-
--- both notes, the one that was trusted last first, and what shows that
+-- both notes, the one that was trusted last first, and behind them what shows that they disagree
 abbrev pub evidence_text : Bytes → Bytes → Bytes → Bytes
 evidence_text last note shown = last ++ (note ++ shown)
 
--- an honest log: the trees of both are over one list and the beginning of it
-pub record AreHonest (smaller larger : Head) (all : List Bytes) : Type 0 where
-  pub sized : length all ≡ larger.size
-  pub rooted : tree_hash sha256 all ≡ larger.root
-  pub begins : tree_hash sha256 (take smaller.size all) ≡ smaller.root
+-- the text is evidence that the log forked, by these two notes
+pub record IsEvidenceOf (policy : Policy) (two : Two) (text : Bytes) : Type 0 where
+  pub last : Bytes
+  pub had : two.last ≡ Some last
+  pub shown : Bytes
+  pub is : text ≡ evidence_text last two.note shown
+  pub evidence : IsEvidence policy.trust.keys policy.origin text
+
+-- a checkpoint of no entries with another root than that of none: no log has it
+pub record IsOfNoLog (head : Head) : Type 0 where
+  pub empty : head.size ≡ 0
+  pub other : head.root ≢ sha256 []
 
 -- ---- why none is had
 

@@ -10,10 +10,10 @@ use Rattle.tl_fetch.specs.declared.options.FetchRequest.{FetchRequest}
 use Rattle.tl_fetch.specs.declared.options.FetchRequest.TheVariants as wanted
 use Rattle.tl_client.specs.declared.fault.ClientFault.{ClientFault}
 use Rattle.tl_hash.specs.declared.head.Head.{Head}
-use Rattle.tl_fetch.specs.Evidence.{AreApart, RefusesComparison, evidence_text}
+use Rattle.tl_fetch.specs.Evidence.{IsEvidenceOf, IsOfNoLog, RefusesComparison}
 use Rattle.tl_fetch.specs.Faults.{IsNoAccusation, after_client, bad_checkpoint}
 use Rattle.tl_fetch.specs.Opening.{RefusesCheckpoint, RefusesState}
-use Rattle.tl_fetch.specs.Trusting.{Policy, IsKnown, IsNoteOf, IsGrown}
+use Rattle.tl_fetch.specs.Trusting.{Policy, AreTwo, IsGrown, IsKnown, Two}
 use Rattle.tl_fetch.specs.Printed.{IsWanted, IsBegun, PrintedSome, PrintedWhole, RefusesWanted}
 
 -- what a reader of a log stands on, and doesn't trust: which texts the source may answer for a resource, and which
@@ -26,19 +26,6 @@ pub record Grounds : Type 1 where
 
 abbrev pub grounds_of : (Resource → Bytes → Type 0) → (Resource → Type 0) → (Option Bytes → Type 0) → (FetchFault → Type 0) → Grounds
 grounds_of answers lacks has fails = record { answers = answers; lacks = lacks; has = has; fails = fails }
-
--- two checkpoints of a log: the note that was trusted last, if there is one, and the one that is trusted now
-pub record Two : Type 0 where
-  pub last : Option Bytes
-  pub old : Head
-  pub note : Bytes
-  pub new : Head
-
--- they are what a state that may have this has, and what is trusted under the policy
-pub record AreTwo (may_have : Option Bytes → Type 0) (policy : Policy) (c : Two) : Type 0 where
-  pub had : may_have c.last
-  pub known : IsKnown policy c.last c.old
-  pub trusted : IsNoteOf policy c.note c.new
 
 -- how far all entries were printed: the note that was trusted then, if there is one, and its head, from which the log
 -- goes on
@@ -88,14 +75,13 @@ abbrev pub LacksTrust : Grounds → Policy → FetchFault → Type 0
 LacksTrust grounds policy fault =
     LacksLast grounds.fails grounds.has policy fault ⊎ RefusesCheckpoint grounds.answers grounds.lacks policy fault
 
--- the log is accused, and evidence was printed, or some of it until the writer failed; or, where no note was trusted
--- before, nobody is accused, and the new note is no checkpoint
-abbrev pub IsAccusation : Two → FetchFault → Passage → Type 0
-IsAccusation two fault o =
-    ((last : Bytes) × (two.last ≡ Some last) × ((shown : Bytes) × AreApart two.old two.new shown
-    × (((fault ≡ Forked) × PrintedWhole (λ text. text ≡ evidence_text last two.note shown) o)
-    ⊎ ((fault ≡ Run Write) × PrintedSome (λ text. text ≡ evidence_text last two.note shown) o))))
-    ⊎ ((two.last ≡ None) × ((shown : Bytes) × AreApart two.old two.new shown) × (fault ≡ Run bad_checkpoint) × IsUnwritten o)
+-- the log is accused by evidence, and that was printed, or some of it until the writer failed; or, where no note was
+-- trusted before, the new one is of no log, and nobody is accused
+abbrev pub IsAccusation : Policy → Two → FetchFault → Passage → Type 0
+IsAccusation policy two fault o =
+    ((fault ≡ Forked) × PrintedWhole (IsEvidenceOf policy two) o)
+    ⊎ (((fault ≡ Run Write) × ((text : Bytes) × IsEvidenceOf policy two text × PrintedSome (λ t. t ≡ text) o))
+    ⊎ ((two.last ≡ None) × IsOfNoLog two.new × (fault ≡ Run bad_checkpoint) × IsUnwritten o))
 
 -- nobody is accused: the new checkpoint is smaller and shown to be older, or not compared with the other; or it can't be
 -- judged, for the reason of a check
@@ -110,8 +96,9 @@ IsUnaccused answers lacks two fault =
     × ((why : ClientFault) × RefusesComparison answers lacks two.old two.new why × (fault ≡ after_client why))
 
 -- one of two checkpoints doesn't go on from the other
-abbrev pub RefusesTwo : (Resource → Bytes → Type 0) → (Resource → Type 0) → Two → FetchFault → Passage → Type 0
-RefusesTwo answers lacks two fault o = IsAccusation two fault o ⊎ (IsUnaccused answers lacks two fault × IsUnwritten o)
+abbrev pub RefusesTwo : Grounds → Policy → Two → FetchFault → Passage → Type 0
+RefusesTwo grounds policy two fault o =
+    IsAccusation policy two fault o ⊎ (IsUnaccused grounds.answers grounds.lacks two fault × IsUnwritten o)
 
 -- the log goes on from what was known, and what is wanted isn't printed whole, or a note isn't kept
 pub record FailsGrown (grounds : Grounds) (fails : FetchFault → Type 0) (policy : Policy) (what : FetchRequest) (known : ℕ) (head : Head) (fault : FetchFault) (o : Passage) : Type 0 where
@@ -129,7 +116,7 @@ abbrev pub RefusesGrown : Grounds → Grounds → Policy → FetchRequest → Tw
 RefusesGrown grounds marks policy wanted.All two fault o =
     (LacksLast marks.fails marks.has policy fault × IsNoAccusation fault × IsUnwritten o)
     ⊎ ((last : Option Bytes) × (old : Head) × marks.has last × IsKnown policy last old
-    × (RefusesTwo grounds.answers grounds.lacks (since two last old) fault o
+    × (RefusesTwo grounds policy (since two last old) fault o
     ⊎ (IsGrown old two.new
     × FailsGrown grounds (λ f. grounds.fails f ⊎ marks.fails f) policy wanted.All (first_wanted last old two.old) two.new fault o)))
 RefusesGrown grounds marks policy what two fault o =
@@ -141,5 +128,5 @@ abbrev pub RefusesFetch : Grounds → Grounds → Policy → FetchRequest → Fe
 RefusesFetch grounds marks policy what fault o =
     (LacksTrust grounds policy fault × IsNoAccusation fault × IsUnwritten o)
     ⊎ ((two : Two) × AreTwo grounds.has policy two
-    × (RefusesTwo grounds.answers grounds.lacks two fault o
+    × (RefusesTwo grounds policy two fault o
     ⊎ (IsGrown two.old two.new × RefusesGrown grounds marks policy what two fault o)))

@@ -1,13 +1,15 @@
 //! Whether the tree of one of two checkpoints begins with the other's, and evidence where it doesn't.
 
-ghost use Rattle.std.specs.Prelude.{◌≡◌, ◌++◌, ◌↔◌, ◌<◌, ◌≤◌, IfErr, IfOk, IsTrue, MatchOption, OnErr, OnOk, option_map, vec_items};
+ghost use Rattle.std.specs.Prelude.{◌≡◌, ◌++◌, ◌↔◌, ◌<◌, ◌≤◌, ◌^◌, All, IfErr, IfOk, IsTrue, MatchOption, OnErr, OnOk, option_map, vec_items};
+ghost use Rattle.tl_hash.specs.Bytes.{IsHash};
 ghost use Rattle.tl_client.specs.Refused.{RefusesGrowth};
 ghost use Rattle.tl_client.specs.declared.fault.ClientFault.TheVariants as client;
 ghost use Rattle.tl_command.specs.ProofShown.{consistency_shown};
+ghost use Rattle.tl_command.specs.ProofText.{IsConsistency};
 ghost use Rattle.tl_device.specs.Device.{IsUnwritten, passage};
-ghost use Rattle.tl_fetch.specs.Evidence.{AreApart, IsShownBy, LacksProof, LeadsTo, RefusesComparison, evidence_text};
-ghost use Rattle.tl_fetch.specs.Fetching.{IsAccusation, RefusesTwo};
-ghost use Rattle.tl_fetch.specs.Inner.Judging.{two_of};
+ghost use Rattle.tl_fork.specs.Evidence.{Disagree};
+ghost use Rattle.tl_fetch.specs.Evidence.{LacksProof, RefusesComparison, evidence_text};
+ghost use Rattle.tl_fetch.specs.Inner.Judging.{Accuses, JudgesTwo, LeadsTo, bare, two_of};
 ghost use Rattle.tl_fetch.specs.Printed.{PrintedSome, PrintedWhole};
 ghost use Rattle.tl_fetch.specs.Trusting.{IsGrown};
 
@@ -19,7 +21,7 @@ use std::io::Write;
 use tl_client::{ClientFault, Head, ResourceSource, Tiles, prove_growth};
 use tl_command::{ConsistencyProof, RunFault, consistency_bytes, print_text};
 use tl_device::Counted;
-use tl_hash::Sha256Tree;
+use tl_hash::{Hash, Sha256Tree};
 use tl_store::tree_hash;
 use tl_tile::{FetchedTiles, TileHashReader};
 
@@ -88,6 +90,26 @@ fn proof_from<S: ResourceSource>(
     })
 }
 
+// Shows that each of these is a hash. It changes nothing.
+fn are_hashes(hashes: &[Hash])
+    ensures { All IsHash hashes.now }
+{
+    for hash in hashes {
+        let _ = hash.as_bytes();
+    }
+}
+
+// Shows that a consistency proof between sizes in range has a text. It changes nothing.
+fn has_text(proof: &ConsistencyProof<Global>)
+    requires order { proof.now.old ≤ proof.now.size }
+    requires limit { proof.now.size ≤ 2 ^ 62 }
+    ensures { IsConsistency (consistency_shown proof.now) }
+{
+    let _ = proof.old_root.as_bytes();
+    let _ = proof.root.as_bytes();
+    are_hashes(proof.proof.as_slice());
+}
+
 // The text of a consistency proof from another root than the smaller tree has, or none where that is its root.
 fn text_apart<S: ResourceSource>(
     alloc: Global,
@@ -95,8 +117,10 @@ fn text_apart<S: ResourceSource>(
     smaller: &Head,
     larger: &Head,
 ) -> Result<Option<Vec<u8>>, ClientFault>
+    requires order { smaller.now.size ≤ larger.now.size }
+    requires limit { larger.now.size ≤ 2 ^ 62 }
     ensures found { IfOk result (λ found. MatchOption found (IsGrown smaller.now larger.now)
-        (λ text. IsShownBy smaller.now larger.now (vec_items text))) }
+        (λ text. Disagree (bare smaller.now) (bare larger.now) (vec_items text))) }
     ensures refused { IfErr result (LacksProof
         (S.may_answer source.now) (S.may_lack source.now) smaller.now.size larger.now) }
 {
@@ -104,6 +128,7 @@ fn text_apart<S: ResourceSource>(
     if proof.old_root == smaller.root {
         return Ok(None);
     }
+    has_text(&proof);
     let text = consistency_bytes(alloc, &proof)?;
     Ok(Some(text))
 }
@@ -124,7 +149,7 @@ fn difference<S: ResourceSource, O: Observer>(
     observer: &mut O,
 ) -> Result<Option<Vec<u8>>, ClientFault>
     ensures found { IfOk result (λ found. MatchOption found (IsGrown smaller.now larger.now)
-        (λ text. IsShownBy smaller.now larger.now (vec_items text))) }
+        (λ text. Disagree (bare smaller.now) (bare larger.now) (vec_items text))) }
     ensures refused { IfErr result (RefusesComparison
         (S.may_answer source.now) (S.may_lack source.now) smaller.now larger.now) }
 {
@@ -176,8 +201,8 @@ fn print_evidence<W: Write>(
 // Prints that the log forked, and tells it. Without a note that was trusted last it is a checkpoint of no entries with
 // another root than that of none, and nobody is accused.
 fn accuse<W: Write>(step: &Update<'_>, shown: &[u8], writer: &mut Counted<W>) -> FetchFault
-    requires { AreApart step.now.old.now step.now.new.now shown.now }
-    ensures refused { IsAccusation (two_of (option_map (λ s. s.now) step.now.last)
+    requires { Disagree (bare step.now.old.now) (bare step.now.new.now) shown.now }
+    ensures { Accuses (two_of (option_map (λ s. s.now) step.now.last)
         step.now.old.now step.now.note.now step.now.new.now) result
         (passage W.contents writer.old writer.new) }
 {
@@ -199,7 +224,7 @@ fn judge_older<S: ResourceSource, O: Observer, W: Write>(
     writer: &mut Counted<W>,
 ) -> FetchFault
     requires { step.now.new.now.size < step.now.old.now.size }
-    ensures { RefusesTwo (S.may_answer source.now) (S.may_lack source.now) (two_of (option_map
+    ensures { JudgesTwo (S.may_answer source.now) (S.may_lack source.now) (two_of (option_map
         (λ s. s.now) step.now.last) step.now.old.now step.now.note.now step.now.new.now) result
         (passage W.contents writer.old writer.new) }
 {
@@ -230,7 +255,7 @@ pub(crate) fn judge<S: ResourceSource, O: Observer, W: Write>(
 ) -> Result<(), FetchFault>
     ensures grown { OnOk result (IsGrown step.now.old.now step.now.new.now) }
     ensures silent { OnOk result (IsUnwritten (passage W.contents writer.old writer.new)) }
-    ensures refused { IfErr result (λ fault. RefusesTwo (S.may_answer source.now)
+    ensures refused { IfErr result (λ fault. JudgesTwo (S.may_answer source.now)
         (S.may_lack source.now) (two_of (option_map (λ s. s.now)
         step.now.last) step.now.old.now step.now.note.now step.now.new.now) fault
         (passage W.contents writer.old writer.new)) }

@@ -4,8 +4,8 @@ ghost use Rattle.std.specs.Prelude.{◌≡◌, ◌≢◌, ◌⊎◌, ℕ, IfErr,
 ghost use Rattle.tl_device.specs.Device.{IsUnwritten, passage};
 ghost use Rattle.tl_fetch.specs.Entries.{AreLinesBetween};
 ghost use Rattle.tl_fetch.specs.Faults.{IsNoAccusation};
-ghost use Rattle.tl_fetch.specs.Fetching.{HasFetched, HasPrinted, RefusesFetch, RefusesGrown, RefusesTwo, first_wanted, grounds_of};
-ghost use Rattle.tl_fetch.specs.Inner.Judging.{two_of};
+ghost use Rattle.tl_fetch.specs.Fetching.{HasFetched, HasPrinted, RefusesFetch, RefusesGrown, first_wanted, grounds_of};
+ghost use Rattle.tl_fetch.specs.Inner.Judging.{JudgesTwo, two_of};
 ghost use Rattle.tl_fetch.specs.Printed.{IsBegun, IsWanted, PrintedSome, PrintedWhole, RefusesAll, RefusesWanted};
 ghost use Rattle.tl_fetch.specs.Trusting.{IsGrown, IsKnown, IsNoteOf, policy_of};
 
@@ -176,7 +176,7 @@ fn judge_marked<S: ResourceSource, O: Observer, W: Write>(
     requires { IsGrown known.now since.now.new.now }
     ensures grown { OnOk result (IsGrown since.now.old.now since.now.new.now) }
     ensures silent { OnOk result (IsUnwritten (passage W.contents writer.old writer.new)) }
-    ensures refused { IfErr result (λ fault. RefusesTwo (S.may_answer source.now)
+    ensures refused { IfErr result (λ fault. JudgesTwo (S.may_answer source.now)
         (S.may_lack source.now) (two_of (option_map (λ s. s.now)
         since.now.last) since.now.old.now since.now.note.now since.now.new.now) fault
         (passage W.contents writer.old writer.new)) }

@@ -5,10 +5,10 @@ ghost use Rattle.tl_hash.specs.Bytes.{Bytes};
 ghost use Rattle.tl_device.specs.Device.{passage};
 ghost use Rattle.tl_fetch.specs.Faults.{IsNoAccusation};
 ghost use Rattle.tl_fetch.specs.Feeding.{HasFed, IsFedNote, IsUnfed, RefusesFeed};
-ghost use Rattle.tl_fetch.specs.Fetching.{AreTwo, Two, grounds_of};
+ghost use Rattle.tl_fetch.specs.Fetching.{grounds_of};
 ghost use Rattle.tl_fetch.specs.Inner.Witnesses.{AreOfOne, IsOfAnother};
 ghost use Rattle.tl_fetch.specs.Printed.{PrintedSome, PrintedWhole};
-ghost use Rattle.tl_fetch.specs.Trusting.{IsGrown, IsKnown, IsNoteOf, alone, policy_of};
+ghost use Rattle.tl_fetch.specs.Trusting.{AreTwo, IsGrown, IsKnown, IsNoteOf, Two, alone, policy_of};
 
 use crate::fault::FetchFault;
 use crate::faults::BAD_CHECKPOINT;
