@@ -42,7 +42,7 @@ pub use observer::Observer;
 pub use opening::{open_trusted, trusted_head};
 pub use options::{FetchOptions, FetchRequest};
 pub use policy::Policy;
-pub use printing::{print_entry, print_head, print_proof};
+pub use printing::{print_entry, print_head, print_proof, print_raw};
 pub use run::fetch_under;
 pub use state::{NoState, TrustStore};
 pub use state_file::FileState;

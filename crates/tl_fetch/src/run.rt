@@ -16,7 +16,7 @@ use crate::observer::Observer;
 use crate::opening::{trusted_last, trusted_two};
 use crate::options::FetchRequest;
 use crate::policy::Policy;
-use crate::printing::{print_entry, print_head, print_proof};
+use crate::printing::{print_entry, print_head, print_proof, print_raw};
 use crate::state::TrustStore;
 use std::alloc::Global;
 use std::io::Write;
@@ -53,6 +53,7 @@ fn print_asked<S: ResourceSource + AsksHost, H: HostClient, O: Observer, W: Writ
     match asked.wanted {
         FetchRequest::Head => print_head(alloc, policy.origin, head, writer),
         FetchRequest::Entry(index) => print_entry(alloc, source, head, index, observer, writer),
+        FetchRequest::Raw(index) => print_raw(alloc, source, head, index, observer, writer),
         FetchRequest::All => {
             print_entries(alloc, source, requests, head, asked.known, observer, writer)
         }
