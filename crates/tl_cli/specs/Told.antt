@@ -6,11 +6,11 @@ use Rattle.tl_tile.specs.Path.{IsResource}
 use Rattle.tl_tile.specs.declared.resource.Resource.{Resource}
 use Rattle.tl_device.specs.Device.{Passage, IsUnwritten, WroteWhole, WrotePart}
 use Rattle.tl_device.specs.Faults.{device_words}
-use Rattle.tl_command.specs.Faults.{fault_text, place_words}
+use Rattle.tl_command.specs.Faults.{fault_text, nothing_words, place_words}
 use Rattle.tl_command.specs.declared.place.Place.{Place}
 use Rattle.tl_command.specs.declared.place.Place.TheVariants as place
 use Rattle.tl_command.specs.declared.fault.RunFault.{RunFault}
-use Rattle.tl_command.specs.declared.fault.RunFault.TheVariants.{Device, BadCheckpoint, BadKeyFile}
+use Rattle.tl_command.specs.declared.fault.RunFault.TheVariants.{Device, BadCheckpoint, BadKeyFile, NothingThere}
 use Rattle.tl_fetch.specs.FaultWords.{fetch_text}
 use Rattle.tl_fetch.specs.declared.fault.FetchFault.TheVariants as fetch
 use Rattle.tl_source.specs.Asking.{IsTarget}
@@ -125,6 +125,7 @@ abbrev pub IsLineOfRun : Job → RunFault → Bytes → Type 0
 IsLineOfRun job (Device place why) text = IsLineAt (base_of job place) place (device_words why) text
 IsLineOfRun job (BadCheckpoint place) text = IsLineAt (base_of job place) place (codes "bad checkpoint") text
 IsLineOfRun job BadKeyFile text = IsLineAt (file_of job) place.File (codes "bad key") text
+IsLineOfRun job (NothingThere place) text = IsLineAt (base_of job place) place (nothing_words place) text
 IsLineOfRun job other text = text ≡ line_or_none (fault_text other)
 
 -- the line of a fault over the file of the logs

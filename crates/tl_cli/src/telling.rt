@@ -4,6 +4,7 @@ ghost use Rattle.std.specs.Prelude.{◌≡◌, ◌++◌, IfOk, None, codes, opti
 ghost use Rattle.tl_text.specs.Text.{line};
 ghost use Rattle.tl_device.specs.Device.{passage};
 ghost use Rattle.tl_bucket.specs.FaultWords.{bucket_words};
+ghost use Rattle.tl_command.specs.Faults.{nothing_words};
 ghost use Rattle.tl_command.specs.declared.place.Place.TheVariants.{Log};
 ghost use Rattle.tl_cli.specs.Told.{IsLineAt, IsLineOf, IsLineOfRun, IsLineOfWitness, IsWhere, TellsFault, Wrote, base_of, credentials_line, credentials_of, file_of, key_file, line_or_none, listed_file, log_of, logs_file, logs_line, resource_of, source_of, state_of, witness_file};
 
@@ -208,6 +209,19 @@ fn whole_line<A: Allocator + Copy>(
     Ok(line)
 }
 
+// The line that reports that nothing is there that could be gone on from.
+fn nothing_line<A: Allocator + Copy>(
+    alloc: A,
+    job: &Job,
+    place: Place,
+) -> Result<String<A>, AllocError>
+    ensures { IfOk result
+        (λ text. IsLineAt (base_of job.now place) place (nothing_words place) (string_bytes text)) }
+{
+    let words = format!(in alloc; "no {place} there (use --new to begin one)")?;
+    place_line(alloc, job, place, words.as_str())
+}
+
 // What is told of a fault that other commands have, too: its line, if it has one.
 fn run_line<A: Allocator + Copy>(
     alloc: A,
@@ -223,6 +237,7 @@ fn run_line<A: Allocator + Copy>(
         }
         RunFault::BadCheckpoint(place) => place_line(alloc, job, *place, "bad checkpoint"),
         RunFault::BadKeyFile => place_line(alloc, job, Place::File, "bad key"),
+        RunFault::NothingThere(place) => nothing_line(alloc, job, *place),
         _ => whole_line(alloc, fault_line(alloc, fault)?),
     }
 }

@@ -8,7 +8,7 @@ use Rattle.tl_device.specs.declared.fault.DeviceFault.TheVariants as device
 use Rattle.tl_command.specs.declared.place.Place.{Place}
 use Rattle.tl_command.specs.declared.place.Place.TheVariants.{File, State, Log, Source}
 use Rattle.tl_command.specs.declared.fault.RunFault.{RunFault}
-use Rattle.tl_command.specs.declared.fault.RunFault.TheVariants.{Refused, Read, Write, TooLarge, EntryTooLong, BadOrigin, BadIndex, BadOld, BadPath, NotThere, Malformed, Chain, Sign, Operator, Listen, Accept, OutOfMemory, BadName, BadKey, BadCheckpoint, WrongSignature, Unverified, Device, BadKeyFile}
+use Rattle.tl_command.specs.declared.fault.RunFault.TheVariants.{Refused, Read, Write, TooLarge, EntryTooLong, BadOrigin, BadIndex, BadOld, BadPath, NotThere, Malformed, Chain, Sign, Operator, Listen, Accept, OutOfMemory, BadName, BadKey, BadCheckpoint, WrongSignature, Unverified, Device, BadKeyFile, NothingThere}
 
 -- a place, where no options tell more of it
 abbrev pub place_words : Place → Bytes
@@ -16,6 +16,10 @@ place_words File = codes "file"
 place_words State = codes "state"
 place_words (Log resource) = codes "log"
 place_words (Source resource) = codes "source"
+
+-- that nothing is there that could be gone on from
+abbrev pub nothing_words : Place → Bytes
+nothing_words place = codes "no " ++ place_words place ++ codes " there (use --new to begin one)"
 
 -- what it says
 abbrev pub fault_words : RunFault → Bytes
@@ -43,6 +47,7 @@ fault_words (WrongSignature place) = codes "signature " ++ number_text place ++ 
 fault_words Unverified = codes "no known signature"
 fault_words (Device place fault) = place_words place ++ codes ": " ++ device_words fault
 fault_words BadKeyFile = codes "file: bad key"
+fault_words (NothingThere place) = place_words place ++ codes ": " ++ nothing_words place
 
 -- what a fault of a device is told as
 abbrev pub after_device : Place → DeviceFault → RunFault

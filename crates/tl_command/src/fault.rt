@@ -60,6 +60,8 @@ pub enum RunFault {
     Device(Place, DeviceFault),
     /// The file of a key has none of the type asked for.
     BadKeyFile,
+    /// Nothing is there that could be gone on from.
+    NothingThere(Place),
 }
 
 impl RunFault {
@@ -105,6 +107,9 @@ impl Display for RunFault {
             RunFault::Unverified => "no known signature",
             RunFault::Device(place, fault) => return write!(f, "{place}: {fault}"),
             RunFault::BadKeyFile => "file: bad key",
+            RunFault::NothingThere(place) => {
+                return write!(f, "{place}: no {place} there (use --new to begin one)");
+            }
         };
         f.write_str(words)
     }
