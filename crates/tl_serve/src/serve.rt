@@ -6,6 +6,7 @@ ghost use Rattle.tl_publisher.specs.Operating.{IsOperating};
 ghost use Rattle.tl_sequencer.specs.Log.{IsSenderOf, rings_of};
 ghost use Rattle.tl_command.specs.Origins.{RefusesOrigin};
 
+use crate::entrance::Entrance;
 use crate::gate::{Gate, OpenGate};
 use crate::host::Host;
 use crate::live_log::MOST_ENTRIES;
@@ -213,6 +214,7 @@ pub fn serve_gated<
         return Err(RunFault::BadOrigin);
     }
     let gate: &G = &gate;
+    let entrance = Entrance::open(rt, &options.server)?;
     let LogKeys { signer, verifier } = keys_of(rt, alloc, origin, &options.key)?;
     let opens: [Box<dyn Verifier>; 1] = [Box::new(alloc, verifier)?];
     let mut signers: Vec<Box<dyn Signer>> = Vec::new(alloc);
@@ -221,6 +223,7 @@ pub fn serve_gated<
         rt,
         alloc,
         options,
+        entrance: &entrance,
         input,
         gate,
     };

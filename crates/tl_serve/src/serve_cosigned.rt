@@ -1,14 +1,15 @@
 //! The command `serve` on a shelf, where witnesses must have cosigned what is shown.
 
-ghost use Rattle.std.specs.Prelude.{◌≡◌, Err, IfOk, map, string_bytes, vec_items};
+ghost use Rattle.std.specs.Prelude.{◌≡◌, ◌⊎◌, Err, IfOk, map, string_bytes, vec_items};
 ghost use Rattle.tl_device.specs.Device.{passage};
 ghost use Rattle.tl_command.specs.Origins.{RefusesOrigin};
-ghost use Rattle.tl_append.specs.Running.{visit};
+ghost use Rattle.tl_append.specs.Running.{BeginsAsAsked, visit};
 ghost use Rattle.tl_serve.specs.Asking.{AreKeysOf, ServesCosigned};
-ghost use Rattle.tl_serve.specs.Serving.{Serves};
+ghost use Rattle.tl_serve.specs.Serving.{IsLeft, Serves};
 
 use crate::asked::{keys_of_asked, urls_of_asked};
 use crate::cosigners::{Asking, AsksInRounds, Proposer, start_asking};
+use crate::entrance::Entrance;
 use crate::host::Host;
 use crate::options::ServeOptions;
 use crate::serve_shelf::{Served, run_serve_shelf};
@@ -115,6 +116,7 @@ fn serve_in<
     rt: &'s H,
     alloc: Global,
     options: &'s ServeOptions,
+    entrance: &'s Entrance,
     ballot: &'s Ballot,
     asker: &'s A,
     quorum: C,
@@ -126,6 +128,8 @@ fn serve_in<
     ensures serves { Serves options.now.key (string_bytes options.now.origin)
         (C.quorum quorum) result.found
         (visit S.kept S.trace log.shelf result.served.shelf) result.served.outcome }
+    ensures fresh { IsLeft (visit S.kept S.trace log.shelf result.served.shelf)
+        ⊎ BeginsAsAsked options.now.is_new result.found.head }
     ensures place { S.place result.served.shelf ≡ S.place log.shelf }
 {
     let CosignedLog {
@@ -153,7 +157,7 @@ fn serve_in<
     let cosigned = SealedShelf::new(shelf, store, Cosigners::new(proposer, quorum), keeps);
     let mut told = Counted::new(SharedWriter { rt, out });
     let Served { shelf, outcome } = run_serve_shelf(
-        rt, alloc, options, None, cosigned, shown, &mut found, input, reader, &mut told,
+        rt, alloc, options, entrance, None, cosigned, shown, &mut found, input, reader, &mut told,
     );
     ballot.end(rt);
     let shelf = shelf.into_shelf();
@@ -175,6 +179,7 @@ fn serve_asked<
     rt: &H,
     alloc: Global,
     options: &ServeOptions,
+    entrance: &Entrance,
     ballot: &Ballot,
     asker: &A,
     quorum: C,
@@ -186,6 +191,8 @@ fn serve_asked<
     ensures serves { Serves options.now.key (string_bytes options.now.origin)
         (C.quorum quorum) result.found
         (visit S.kept S.trace log.shelf result.served.shelf) result.served.outcome }
+    ensures fresh { IsLeft (visit S.kept S.trace log.shelf result.served.shelf)
+        ⊎ BeginsAsAsked options.now.is_new result.found.head }
     ensures place { S.place result.served.shelf ≡ S.place log.shelf }
 {
     thread::scope(
@@ -196,10 +203,12 @@ fn serve_asked<
                 (C.quorum quorum) result.found
                 (visit S.kept S.trace log.shelf result.served.shelf)
                 result.served.outcome }
+            ensures fresh { IsLeft (visit S.kept S.trace log.shelf result.served.shelf)
+                ⊎ BeginsAsAsked options.entry.now.is_new result.found.head }
             ensures place { S.place result.served.shelf ≡ S.place log.shelf }
         {
             serve_in(
-                scope, rt, alloc, options, ballot, asker, quorum, log, input, reader, out,
+                scope, rt, alloc, options, entrance, ballot, asker, quorum, log, input, reader, out,
             )
         },
     )
@@ -217,6 +226,7 @@ fn serve_keyed<
 >(
     asker: &'x Asking<'x, H>,
     options: &'x ServeOptions,
+    entrance: &'x Entrance,
     log: CosignedLog<S, T, P>,
     found: &mut Found<Global>,
     input: Option<RawFd>,
@@ -227,13 +237,15 @@ fn serve_keyed<
       witnesses = map (λ w. key w) asker.now.witnesses.now;
       need = options.now.need;
     }) found.new (visit S.kept S.trace log.shelf result.shelf) result.outcome }
+    ensures fresh { IsLeft (visit S.kept S.trace log.shelf result.shelf)
+        ⊎ BeginsAsAsked options.now.is_new found.new.head }
     ensures place { S.place result.shelf ≡ S.place log.shelf }
 {
     let (rt, alloc, ballot) = (asker.rt, asker.alloc, asker.ballot);
     let quorum = LogQuorum::new(asker.log, asker.witnesses, options.need);
     let out = Mutex::new(&mut *out);
     let ended = serve_asked(
-        rt, alloc, options, ballot, asker, quorum, log, input, reader, &out,
+        rt, alloc, options, entrance, ballot, asker, quorum, log, input, reader, &out,
     );
     *found = ended.found;
     ended.served
@@ -254,6 +266,7 @@ pub fn run_serve_cosigned<
     rt: &H,
     alloc: Global,
     options: &ServeOptions,
+    entrance: &Entrance,
     log: CosignedLog<S, T, P>,
     found: &mut Found<Global>,
     input: Option<RawFd>,
@@ -262,6 +275,8 @@ pub fn run_serve_cosigned<
 ) -> Served<S>
     ensures serves { ServesCosigned options.now found.new
         (visit S.kept S.trace log.shelf result.shelf) result.outcome }
+    ensures fresh { IsLeft (visit S.kept S.trace log.shelf result.shelf)
+        ⊎ BeginsAsAsked options.now.is_new found.new.head }
     ensures place { S.place result.shelf ≡ S.place log.shelf }
 {
     let ready = match prepare(rt, alloc, options) {
@@ -294,5 +309,5 @@ pub fn run_serve_cosigned<
         urls: ready.urls.as_slice(),
         limit: Duration::from_secs(options.server.timeout),
     };
-    serve_keyed(&asker, options, log, found, input, reader, out)
+    serve_keyed(&asker, options, entrance, log, found, input, reader, out)
 }

@@ -8,10 +8,11 @@ ghost use Rattle.tl_sequencer.specs.Log.{IsSenderOf};
 ghost use Rattle.tl_ledger.specs.Opening.{Opens, found_size};
 ghost use Rattle.tl_command.specs.Origins.{RefusesOrigin};
 ghost use Rattle.tl_append.specs.Keys.{log_key_of, opening_key_of};
-ghost use Rattle.tl_append.specs.Running.{IsStart, visit};
+ghost use Rattle.tl_append.specs.Running.{BeginsAsAsked, IsStart, visit};
 ghost use Rattle.tl_serve.specs.Serving.{IsLeft, Serves};
 ghost use Rattle.tl_serve.specs.Inner.Shelved.{IsClosed, ServesUnder};
 
+use crate::entrance::Entrance;
 use crate::gate::OpenGate;
 use crate::host::Host;
 use crate::lanes::Sending;
@@ -27,7 +28,9 @@ use std::alloc::{AllocError, Global};
 use std::io::{Read, Write};
 use std::net::{Net, TcpListener, TcpStream};
 use std::os::fd::RawFd;
-use tl_append::{LogKeys, LogOpeningKey, LogShelf, OpenedLog, check_start, keys_of};
+use tl_append::{
+    LogKeys, LogOpeningKey, LogShelf, OpenedLog, check_asked, check_start, keys_of,
+};
 use tl_archive::Shelf;
 use tl_command::RunFault;
 use tl_device::Counted;
@@ -101,6 +104,7 @@ fn open_log<S: LogShelf + Drop, P: Drop, R: Read>(
     reader: &mut Counted<R>,
 ) -> Result<Opened<P>, RunFault>
     ensures start { OnOk result (IsStart start (found_size found.new.head)) }
+    ensures fresh { OnOk result (BeginsAsAsked options.now.is_new found.new.head) }
     ensures opens { IfOk result (λ o.
         Opens sha256 (opening_key_of verifier ∷ []) found.new o.log.ledger) }
     ensures left { (S.kept shelf.new ≡ S.kept shelf.old) × (S.trace shelf.new ≡ S.trace shelf.old) }
@@ -115,6 +119,10 @@ fn open_log<S: LogShelf + Drop, P: Drop, R: Read>(
         Err(fault) => return Err(fault),
     };
     match check_start(&log.ledger, start) {
+        Ok(()) => {}
+        Err(fault) => return Err(fault),
+    }
+    match check_asked(found, options.is_new) {
         Ok(()) => {}
         Err(fault) => return Err(fault),
     }
@@ -192,6 +200,8 @@ fn serve_under<
         (visit S.kept S.trace shelf result.shelf) result.outcome }
     ensures start { IsLeft (visit S.kept S.trace shelf result.shelf)
         ⊎ IsStart start (found_size found.new.head) }
+    ensures fresh { IsLeft (visit S.kept S.trace shelf result.shelf)
+        ⊎ BeginsAsAsked server.now.options.now.is_new found.new.head }
     ensures place { S.place result.shelf ≡ S.place shelf }
 {
     let LogKeys { signer, verifier } = keys;
@@ -229,11 +239,11 @@ fn serve_under<
     Served { shelf, outcome }
 }
 
-/// As `run_serve`, but the log is on a shelf, and goes on from what is there: what its lanes give is put behind it,
-/// published, and told once it outlasts a crash. A thread for each of `shown`, which are to be of the same shelf
-/// (`threads_of` tells how many), answers by `tl_server::serve_shelf` with what is there. Where the shelf fails, the
-/// server ends. Memory has what waits to be put. The shelf is given back; `found` has what was read of it. It may wait.
-/// `Older`: the log hasn't got `start` entries, where that is given.
+/// As `run_serve`, but the log is on a shelf, where it begins or goes on, and answers at this entrance: what its lanes
+/// give is put behind it, published, and told once it outlasts a crash. A thread for each of `shown`, which are to be of
+/// the same shelf (`threads_of` tells how many), answers with what is there. The server ends if the shelf fails. The
+/// shelf is given back; `found` has what was read of it. It may wait. `NothingThere`, `Taken`: there was no log, or there
+/// was one where one is to begin. `Older`: it hasn't got `start` entries.
 pub fn run_serve_shelf<
     H: Host + Net<Listener = TcpListener, Stream = TcpStream>,
     S: LogShelf + Drop,
@@ -244,6 +254,7 @@ pub fn run_serve_shelf<
     rt: &H,
     alloc: Global,
     options: &ServeOptions,
+    entrance: &Entrance,
     start: Option<u64>,
     shelf: S,
     shown: Vec<P>,
@@ -258,6 +269,8 @@ pub fn run_serve_shelf<
         found.new (visit S.kept S.trace shelf result.shelf) result.outcome }
     ensures start { IsLeft (visit S.kept S.trace shelf result.shelf)
         ⊎ IsStart start (found_size found.new.head) }
+    ensures fresh { IsLeft (visit S.kept S.trace shelf result.shelf)
+        ⊎ BeginsAsAsked options.now.is_new found.new.head }
     ensures place { S.place result.shelf ≡ S.place shelf }
 {
     let origin = options.origin.as_str();
@@ -276,6 +289,7 @@ pub fn run_serve_shelf<
         rt,
         alloc,
         options,
+        entrance,
         input,
         gate: &OpenGate,
     };

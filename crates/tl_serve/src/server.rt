@@ -7,6 +7,7 @@ ghost use Rattle.tl_serve.specs.Inner.Running.{StaysRunning};
 use crate::awaited::Awaited;
 use crate::desk::Desk;
 use crate::door::Door;
+use crate::entrance::Entrance;
 use crate::following::Followed;
 use crate::gate::Gate;
 use crate::host::Host;
@@ -38,6 +39,8 @@ pub(crate) struct Server<'s, H, G> {
     pub(crate) rt: &'s H,
     pub(crate) alloc: Global,
     pub(crate) options: &'s ServeOptions,
+    // Where it answers.
+    pub(crate) entrance: &'s Entrance,
     // The descriptor of the input, if there is one to wait for.
     pub(crate) input: Option<RawFd>,
     pub(crate) gate: &'s G,
@@ -97,7 +100,7 @@ impl<H: Host + Net<Listener = TcpListener, Stream = TcpStream>, G: Gate> Server<
     fn open_door<L: Write>(&self, threads: usize, log: &mut Counted<L>) -> Result<Door, RunFault> {
         let threads = u32::try_from(threads).unwrap_or(u32::MAX);
         let server = &self.options.server;
-        let door = Door::open(self.rt, self.alloc, server, threads, log)?;
+        let door = Door::open(self.rt, self.alloc, server, self.entrance, threads, log)?;
         if self.options.dir.is_none() && !server.quiet {
             tell_in_memory(log)?;
         }
