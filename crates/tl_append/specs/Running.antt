@@ -1,9 +1,8 @@
 -- A run of the command `append`: it goes on from the log on a shelf.
-use Rattle.std.specs.Prelude.{◌≡◌, ◌<◌, ◌⊎◌, ⊤, ℕ, Bool, true, false, ◌-◌, ◌^◌, max, length, Option, Some, None, List, [], ◌∷◌, ◌++◌, Contains, Result, Ok, Err, string_bytes}
+use Rattle.std.specs.Prelude.{◌≡◌, ◌<◌, ◌⊎◌, ⊤, ℕ, ◌-◌, ◌^◌, max, length, Option, Some, None, List, [], ◌∷◌, ◌++◌, Contains, Result, Ok, Err, string_bytes}
 use Rattle.std.specs.List.{All, flat_map}
 use Rattle.sha2.specs.Sha256.{sha256}
 use Rattle.tl_hash.specs.Bytes.{Bytes, Digest}
-use Rattle.tl_hash.specs.declared.head.Head.{Head}
 use Rattle.tl_device.specs.Device.{Passage, HasFailed, IsUnread, WroteWhole}
 use Rattle.tl_note.specs.Key.{Key}
 use Rattle.tl_key.specs.DemoKey.{demo_verifier_key}
@@ -136,8 +135,3 @@ abbrev pub GoesOn : GivenKey → Bytes → ℕ → Found → Visit → Passage �
 GoesOn key name size found v i o (Ok done) = (own : LogKey) × IsLogKey key name own × GoesOnWhole own size found v i o
 GoesOn key name size found v i o (Err fault) =
     Stays v i ⊎ ((own : LogKey) × IsLogKey key name own × GoesOnPart own found v i)
-
--- a log begins, so that there was none; or there was one, which is gone on from
-abbrev pub BeginsAsAsked : Bool → Option Head → Type 0
-BeginsAsAsked true head = head ≡ None
-BeginsAsAsked false head = (h : Head) × (head ≡ Some h)

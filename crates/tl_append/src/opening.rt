@@ -1,6 +1,6 @@
 //! Opening the log on a shelf under the key of its operator.
 
-ghost use Rattle.std.specs.Prelude.{◌≡◌, ◌⊎◌, ◌∷◌, [], true, false, map, option_map, string_bytes, not, IfOk, OnErr, OnOk, None, Some};
+ghost use Rattle.std.specs.Prelude.{◌≡◌, ◌⊎◌, ◌∷◌, [], true, false, map, option_map, string_bytes, IfOk, OnOk, None, Some};
 ghost use Rattle.sha2.specs.Sha256.{sha256};
 ghost use Rattle.tl_hash.specs.declared.head.Head.{Head as HeadValue};
 ghost use Rattle.tl_tile.specs.declared.resource.Resource.TheVariants as resource;
@@ -9,9 +9,9 @@ ghost use Rattle.tl_ledger.specs.Opening.{IsOfNote, Opens, found_size};
 ghost use Rattle.tl_append.specs.Keys.{opening_key_of};
 ghost use Rattle.tl_append.specs.Inner.Proposals.{IsNewer};
 ghost use Rattle.tl_append.specs.Proposing.{HasProposal, IsNoOlder, IsProposed, IsThere};
-ghost use Rattle.tl_append.specs.Running.{BeginsAsAsked, IsStart};
+ghost use Rattle.tl_append.specs.Running.{IsStart};
 
-use crate::faults::{outrun, taken, unopened, unproposed};
+use crate::faults::{outrun, unopened, unproposed};
 use crate::keys::LogOpeningKey;
 use crate::log_shelf::OpenedLog;
 use crate::proposal::ProposalStore;
@@ -164,19 +164,6 @@ pub fn check_start(ledger: &Ledger<Global>, start: Option<u64>) -> Result<(), Ru
 {
     match start {
         Some(start) if start != ledger.size() => Err(outrun(MarkFault::Older(start))),
-        _ => Ok(()),
-    }
-}
-
-/// Checks that there was no log where one begins, and else that there was one. `Taken`: there was one. `NothingThere`:
-/// there was none.
-pub fn check_asked(found: &Found<Global>, is_new: bool) -> Result<(), RunFault>
-    ensures asked { OnOk result (BeginsAsAsked is_new found.now.head) }
-    ensures refused { OnErr result (BeginsAsAsked (not is_new) found.now.head) }
-{
-    match found.head {
-        Some(_) if is_new => Err(taken()),
-        None if !is_new => Err(RunFault::NothingThere(Place::Log(None))),
         _ => Ok(()),
     }
 }
