@@ -33,7 +33,7 @@ mod shedding;
 pub use appending::append_lines;
 pub use batch::append_batch;
 pub use cosigners::{AsksCosigners, ChecksCosigned, LogQuorum};
-pub use faults::line_fault;
+pub use faults::{check_begins, line_fault};
 pub use keys::{LogKeys, LogOpeningKey, LogSigningKey, keys_of};
 pub use log_shelf::{LogShelf, OpenedLog};
 pub use opening::{check_start, open_ledger};
