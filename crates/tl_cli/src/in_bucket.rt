@@ -113,7 +113,7 @@ pub(crate) fn append_to<
         return Err(CommandFault::Run(RunFault::BadOrigin));
     }
     let key = access_key(rt, alloc, bucket)?;
-    let shelf = open_bucket(disk, rt, alloc, bucket, &key)?;
+    let shelf = open_bucket(disk, rt, alloc, bucket, &key, append.is_new)?;
     finish_and_append(rt, alloc, append, shelf, reader, writer)
 }
 
@@ -234,7 +234,7 @@ pub(crate) fn serve_from<
     }
     let entrance = Entrance::open(rt, &serve.server)?;
     let key = access_key(rt, alloc, bucket)?;
-    let shelf = open_bucket(disk, rt, alloc, bucket, &key)?;
+    let shelf = open_bucket(disk, rt, alloc, bucket, &key, serve.is_new)?;
     let threads = threads_of(rt, serve.server.threads);
     let shown = shown_of(disk, rt, alloc, bucket, &key, threads as usize)?;
     finish_and_serve(

@@ -8,7 +8,7 @@ use std::fs::{File, Files};
 use std::marker::Model;
 use tl_command::{Place, RunFault};
 use tl_device::DeviceFault;
-use tl_folder::{CrashOutcome, FolderLock, FolderShelf, lock_folder};
+use tl_folder::{CrashOutcome, FolderLock, FolderShelf, has_log, lock_folder};
 use tl_ledger::Found;
 
 /// The folder of a log, where no other process works as long as this lasts, and what was read of the log that was found
@@ -31,6 +31,22 @@ impl<D, H> Model for OwnFolder<D, H> {
 // That the folder of a log failed.
 fn folder_fault(fault: DeviceFault) -> RunFault {
     RunFault::of_device(Place::Log(None), fault)
+}
+
+/// Checks, before anything is made, that no log is in the folder at this path where one begins, and else that one is.
+/// `Taken`: one is there. `NothingThere`: none is.
+pub(crate) fn check_folder<H: Files>(
+    rt: &H,
+    alloc: Global,
+    dir: &str,
+    is_new: bool,
+) -> Result<(), RunFault> {
+    match (has_log(rt, alloc, dir), is_new) {
+        (Ok(true), true) => Err(folder_fault(DeviceFault::Taken)),
+        (Ok(false), false) => Err(RunFault::NothingThere(Place::Log(None))),
+        (Ok(_), _) => Ok(()),
+        (Err(fault), _) => Err(folder_fault(fault)),
+    }
 }
 
 /// The folder of a log as a shelf. It is made where it isn't there.

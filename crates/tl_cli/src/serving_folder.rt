@@ -207,7 +207,7 @@ pub(crate) fn serve_at<
         Ok(entrance) => entrance,
         Err(fault) => return Err(fault),
     };
-    match check_folder(rt, dir, options.is_new) {
+    match check_folder(rt, alloc, dir, options.is_new) {
         Ok(()) => {}
         Err(fault) => return Err(fault),
     }
