@@ -23,7 +23,8 @@ use tl_folder::{CrashOutcome, FolderShelf};
 use tl_ledger::Found;
 use tl_note::is_key_name;
 use tl_serve::{
-    CosignedLog, Entrance, Host, ServeOptions, Served, run_serve_cosigned, run_serve_shelf, threads_of,
+    CosignedLog, Entrance, Host, ServeOptions, Served, Site, run_serve_cosigned, run_serve_shelf,
+    threads_of,
 };
 
 // So many shelves of the folder at this path, for threads that read there.
@@ -53,12 +54,11 @@ fn serve_signed<
     rt: &H,
     alloc: Global,
     options: &ServeOptions,
-    entrance: &Entrance,
+    site: &Site<'_>,
     path: &str,
     shelf: FolderShelf<D, H>,
     shown: Vec<FolderShelf<D, H>>,
     found: &mut Found<Global>,
-    input: Option<RawFd>,
     reader: &mut Counted<R>,
     errors: &mut Counted<E>,
 ) -> Served<FolderShelf<D, H>>
@@ -70,7 +70,7 @@ fn serve_signed<
     let store = ReadProposal { rt, path };
     let signed = SealedShelf::new(shelf, store, AsSigned, options.keeps_partials);
     let Served { shelf, outcome } = run_serve_shelf(
-        rt, alloc, options, entrance, None, signed, shown, found, input, reader, errors,
+        rt, alloc, options, site, None, signed, shown, found, reader, errors,
     );
     let shelf = shelf.into_shelf();
     Served { shelf, outcome }
@@ -89,13 +89,12 @@ fn serve_cosigned<
     rt: &H,
     alloc: Global,
     options: &ServeOptions,
-    entrance: &Entrance,
+    site: &Site<'_>,
     dir: &str,
     path: &str,
     shelf: FolderShelf<D, H>,
     shown: Vec<FolderShelf<D, H>>,
     found: &mut Found<Global>,
-    input: Option<RawFd>,
     reader: &mut Counted<R>,
     errors: &mut Counted<E>,
 ) -> Served<FolderShelf<D, H>>
@@ -125,7 +124,7 @@ fn serve_cosigned<
         asked,
     };
     run_serve_cosigned(
-        rt, alloc, options, entrance, log, found, input, reader, errors,
+        rt, alloc, options, site, log, found, reader, errors,
     )
 }
 
@@ -142,12 +141,11 @@ fn serve_folder<
     rt: &H,
     alloc: Global,
     options: &ServeOptions,
-    entrance: &Entrance,
+    site: &Site<'_>,
     dir: &str,
     shelf: FolderShelf<D, H>,
     shown: Vec<FolderShelf<D, H>>,
     found: &mut Found<Global>,
-    input: Option<RawFd>,
     reader: &mut Counted<R>,
     errors: &mut Counted<E>,
 ) -> Served<FolderShelf<D, H>>
@@ -166,11 +164,11 @@ fn serve_folder<
     let path = path.as_str();
     if options.need == 0 {
         serve_signed(
-            rt, alloc, options, entrance, path, shelf, shown, found, input, reader, errors,
+            rt, alloc, options, site, path, shelf, shown, found, reader, errors,
         )
     } else {
         serve_cosigned(
-            disk, rt, alloc, options, entrance, dir, path, shelf, shown, found, input, reader, errors,
+            disk, rt, alloc, options, site, dir, path, shelf, shown, found, reader, errors,
         )
     }
 }
@@ -207,6 +205,7 @@ pub(crate) fn serve_at<
         Ok(entrance) => entrance,
         Err(fault) => return Err(fault),
     };
+    let site = Site::new(&entrance, input);
     match check_folder(rt, alloc, dir, options.is_new) {
         Ok(()) => {}
         Err(fault) => return Err(fault),
@@ -226,7 +225,7 @@ pub(crate) fn serve_at<
         mut found,
     } = own;
     let Served { shelf, outcome } = serve_folder(
-        disk, rt, alloc, options, &entrance, dir, shelf, shown, &mut found, input, reader, errors,
+        disk, rt, alloc, options, &site, dir, shelf, shown, &mut found, reader, errors,
     );
     *folder = Some(OwnFolder { lock, shelf, found });
     outcome

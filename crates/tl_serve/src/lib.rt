@@ -50,7 +50,7 @@ mod witness;
 mod witness_fault;
 mod written;
 
-pub use entrance::Entrance;
+pub use entrance::{Entrance, Site};
 pub use gate::Gate;
 pub use host::Host;
 pub use options::{

@@ -6,7 +6,7 @@ ghost use Rattle.tl_publisher.specs.Operating.{IsOperating};
 ghost use Rattle.tl_sequencer.specs.Log.{IsSenderOf, rings_of};
 ghost use Rattle.tl_command.specs.Origins.{RefusesOrigin};
 
-use crate::entrance::Entrance;
+use crate::entrance::{Entrance, Site};
 use crate::gate::{Gate, OpenGate};
 use crate::host::Host;
 use crate::live_log::MOST_ENTRIES;
@@ -120,6 +120,7 @@ impl<H: Host + Net<Listener = TcpListener, Stream = TcpStream>, G: Gate> Server<
         let log = MemoryLog { operator, board };
         let base = Base {
             size: before,
+            is_due: false,
             remembered: self.remembered(),
         };
         let Ran { running, heart } = self.serve_published(
@@ -223,8 +224,7 @@ pub fn serve_gated<
         rt,
         alloc,
         options,
-        entrance: &entrance,
-        input,
+        site: &Site::new(&entrance, input),
         gate,
     };
     match &options.note {

@@ -12,7 +12,7 @@ ghost use Rattle.tl_append.specs.Running.{BeginsAsAsked, IsStart, visit};
 ghost use Rattle.tl_serve.specs.Serving.{IsLeft, Serves};
 ghost use Rattle.tl_serve.specs.Inner.Shelved.{IsClosed, ServesUnder};
 
-use crate::entrance::Entrance;
+use crate::entrance::Site;
 use crate::gate::OpenGate;
 use crate::host::Host;
 use crate::lanes::Sending;
@@ -27,7 +27,6 @@ use crate::shelf_log::ShelfLog;
 use std::alloc::{AllocError, Global};
 use std::io::{Read, Write};
 use std::net::{Net, TcpListener, TcpStream};
-use std::os::fd::RawFd;
 use tl_append::{
     LogKeys, LogOpeningKey, LogShelf, OpenedLog, check_begins, check_start, keys_of,
 };
@@ -167,15 +166,20 @@ fn close<S: LogShelf + Drop, L: Write>(
     tell_end(alloc, heart, size, is_quiet, out)
 }
 
-// What a log of so many entries on a shelf has, of which the last are remembered, if any are.
+// What a log of so many entries on a shelf has, which may be due: the last of them are remembered, if any are.
 fn base_of<H: Host + Net<Listener = TcpListener, Stream = TcpStream>, S: Shelf>(
     server: &Server<'_, H, OpenGate>,
     shelf: &S,
     size: u64,
+    is_due: bool,
 ) -> Base {
     let mut remembered = server.remembered();
     remembered.put_last(shelf, size);
-    Base { size, remembered }
+    Base {
+        size,
+        is_due,
+        remembered,
+    }
 }
 
 // Serves the log on a shelf under these keys.
@@ -224,9 +228,10 @@ fn serve_under<
         lines,
     } = opened;
     let OpenedLog { ledger, is_due } = log;
-    let base = base_of(server, shelf.shelf(), ledger.size());
+    let is_later = is_due && options.need > 0;
+    let base = base_of(server, shelf.shelf(), ledger.size(), is_later);
     let mut log = ShelfLog::new(alloc, signer, shelf, ledger, intake, is_due);
-    if let Err(fault) = log.show() {
+    if let Err(fault) = log.show_first(is_later) {
         let (shelf, outcome) = (log.into_shelf(), Err(fault));
         return Served { shelf, outcome };
     }
@@ -239,7 +244,7 @@ fn serve_under<
     Served { shelf, outcome }
 }
 
-/// As `run_serve`, but the log is on a shelf, where it begins or goes on, and answers at this entrance: what its lanes
+/// As `run_serve`, but the log is on a shelf, where it begins or goes on, and is served at this site: what its lanes
 /// give is put behind it, published, and told once it outlasts a crash. A thread for each of `shown`, which are to be of
 /// the same shelf (`threads_of` tells how many), answers with what is there. The server ends if the shelf fails. The
 /// shelf is given back; `found` has what was read of it. It may wait. `NothingThere`, `Taken`: there was no log, or there
@@ -254,12 +259,11 @@ pub fn run_serve_shelf<
     rt: &H,
     alloc: Global,
     options: &ServeOptions,
-    entrance: &Entrance,
+    site: &Site<'_>,
     start: Option<u64>,
     shelf: S,
     shown: Vec<P>,
     found: &mut Found<Global>,
-    input: Option<RawFd>,
     reader: &mut Counted<R>,
     out: &mut Counted<L>,
 ) -> Served<S>
@@ -289,8 +293,7 @@ pub fn run_serve_shelf<
         rt,
         alloc,
         options,
-        entrance,
-        input,
+        site,
         gate: &OpenGate,
     };
     serve_under(&server, keys, start, shelf, shown, found, reader, out)

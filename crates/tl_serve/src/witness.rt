@@ -227,7 +227,7 @@ fn serve_all<
     log: &mut Counted<L>,
 ) -> Result<(), RunFault> {
     let threads = threads_of(rt, options.server.threads);
-    let news = News::new(rt, alloc, None, None)?;
+    let news = News::new(rt, alloc, None, None, None)?;
     let door = Door::open(rt, alloc, &options.server, entrance, threads, log)?;
     let queue = LineQueue::new(alloc, &mut *writer)?;
     answer_all(rt, alloc, options.time, &door, witness, &queue, &news)
