@@ -1,17 +1,15 @@
 //! What the faults of lines, of a ledger and of its shelf are told as.
 
-ghost use Rattle.std.specs.Prelude.{◌≡◌, OnOk, Some, is_some};
+ghost use Rattle.std.specs.Prelude.{◌≡◌, Some};
 ghost use Rattle.tl_command.specs.Faults.{after_device};
 ghost use Rattle.tl_command.specs.declared.place.Place.TheVariants.{Log};
-ghost use Rattle.tl_append.specs.Faults.{after_lines, begin_outcome};
-ghost use Rattle.tl_append.specs.Running.{BeginsAsAsked};
+ghost use Rattle.tl_append.specs.Faults.{after_lines};
 ghost use Rattle.tl_append.specs.Inner.Faults.{after_ledger, after_mark, after_open, after_proposal, after_shelf};
 
 use tl_archive::ShelfFault;
 use tl_checkpoint::OpenCheckpointFault;
 use tl_command::{Place, RunFault};
 use tl_device::DeviceFault;
-use tl_hash::Head;
 use tl_ledger::{LedgerFault, MarkFault, OpenFault};
 use tl_lines::LineFault;
 use tl_tile::Resource;
@@ -86,18 +84,5 @@ pub(crate) fn outrun(fault: MarkFault) -> RunFault
     match fault {
         MarkFault::Shelf(fault) => unkept(fault),
         MarkFault::Older(_) => unfit(Resource::Checkpoint, DeviceFault::Older),
-    }
-}
-
-/// Checks that a log begins as it is asked to: if it is new, none was found, and else one was. `Taken`: there is one,
-/// and none is to be. `NothingThere`: there is none that could be gone on from.
-pub fn check_begins(is_new: bool, found: &Option<Head>) -> Result<(), RunFault>
-    ensures asked { OnOk result (BeginsAsAsked is_new found.now) }
-    ensures outcome { result ≡ begin_outcome is_new (is_some found.now) }
-{
-    match found {
-        Some(_) if is_new => Err(unfit(Resource::Checkpoint, DeviceFault::Taken)),
-        None if !is_new => Err(RunFault::NothingThere(Place::Log(None))),
-        _ => Ok(()),
     }
 }

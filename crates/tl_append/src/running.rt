@@ -14,9 +14,8 @@ ghost use Rattle.tl_append.specs.Running.{MarksLast, Stays, batch_size, visit};
 ghost use Rattle.tl_append.specs.Inner.Under.{GoesOnUnder};
 
 use crate::appending::append_lines;
-use crate::faults::check_begins;
 use crate::keys::{LogKeys, keys_of};
-use crate::opening::{check_start, open_ledger};
+use crate::opening::{check_asked, check_start, open_ledger};
 use crate::options::{AppendOptions, Batching, Joining};
 use crate::proposal::ProposalStore;
 use std::alloc::Global;
@@ -71,7 +70,7 @@ fn append_under<S: Shelf, P: ProposalStore, R: Read, W: Write>(
         Ok(()) => {}
         Err(fault) => return Err(fault),
     }
-    match check_begins(options.is_new, &found.head) {
+    match check_asked(found, options.is_new) {
         Ok(()) => {}
         Err(fault) => return Err(fault),
     }

@@ -7,7 +7,7 @@ ghost use Rattle.tl_command.specs.Origins.{RefusesOrigin};
 ghost use Rattle.tl_cli.specs.Inner.Compacting.{CompactsFile};
 ghost use Rattle.tl_cli.specs.Lasting.{AppendsIn, ServesIn, SparesStreams};
 
-use crate::own_folder::{OwnFolder, own_folder};
+use crate::own_folder::{OwnFolder, check_log, own_folder};
 use crate::proposal_file::{ReadProposal, proposal_path};
 use crate::serving_folder::serve_at;
 use std::alloc::Global;
@@ -34,8 +34,8 @@ fn joining_of<H: Files>(rt: &H) -> Joining {
     }
 }
 
-/// Appends the lines of the input to the log in a folder, where no other process works meanwhile. The folder is then in
-/// `folder`, where it could be opened.
+/// Appends the lines of the input to the log in a folder, where no other process works meanwhile, or begins one, if the
+/// options say so. The folder is then in `folder`, if it could be opened.
 pub(crate) fn append<
     D: CrashOutcome + Drop,
     H: Files<File = File> + Copy + Drop,
@@ -59,15 +59,20 @@ pub(crate) fn append<
     if !is_key_name(options.origin.as_str()) {
         return Err(RunFault::BadOrigin);
     }
+    let dir = options.dir.as_str();
+    match check_log(rt, alloc, dir, options.is_new) {
+        Ok(()) => {}
+        Err(fault) => return Err(fault),
+    }
     let OwnFolder {
         lock,
         mut shelf,
         mut found,
-    } = match own_folder(disk, rt, alloc, options.dir.as_str()) {
+    } = match own_folder(disk, rt, alloc, dir) {
         Ok(own) => own,
         Err(fault) => return Err(fault),
     };
-    let path = match proposal_path(alloc, options.dir.as_str()) {
+    let path = match proposal_path(alloc, dir) {
         Ok(path) => path,
         Err(_) => return Err(RunFault::OutOfMemory),
     };

@@ -170,7 +170,7 @@ pub(crate) fn client_of<'b, H>(
     Ok(Client::new(rt, alloc, url, credential))
 }
 
-/// The bucket of a log as a shelf, where one begins, or else there is one.
+/// The bucket of a log as a shelf. If it is new, none may be there yet, and else there has to be one.
 pub(crate) fn open_bucket<
     'b,
     D: CrashOutcome + Drop,
@@ -184,7 +184,7 @@ pub(crate) fn open_bucket<
     is_new: bool,
 ) -> Result<BucketShelf<'b, D, H>, CommandFault>
     requires { IsKeyFor options.now (string_bytes key.now.id) (string_bytes key.now.secret) }
-    ensures { IfOk result (OpensBucket options.entry.now) }
+    ensures { IfOk result (OpensBucket options.entry.now is_new) }
 {
     let token = new_token(rt, alloc)?;
     let client = client_of(rt, alloc, options, key)?;

@@ -33,19 +33,21 @@ fn folder_fault(fault: DeviceFault) -> RunFault {
     RunFault::of_device(Place::Log(None), fault)
 }
 
-/// Checks, before anything is made, that no log is in the folder at this path where one begins, and else that one is.
-/// `Taken`: one is there. `NothingThere`: none is.
-pub(crate) fn check_folder<H: Files>(
+/// Checks that a log is in the folder at this path, if none begins there: nothing is made or locked before.
+/// `NothingThere`: there is none.
+pub(crate) fn check_log<H: Files>(
     rt: &H,
     alloc: Global,
     dir: &str,
     is_new: bool,
 ) -> Result<(), RunFault> {
-    match (has_log(rt, alloc, dir), is_new) {
-        (Ok(true), true) => Err(folder_fault(DeviceFault::Taken)),
-        (Ok(false), false) => Err(RunFault::NothingThere(Place::Log(None))),
-        (Ok(_), _) => Ok(()),
-        (Err(fault), _) => Err(folder_fault(fault)),
+    if is_new {
+        return Ok(());
+    }
+    match has_log(rt, alloc, dir) {
+        Ok(true) => Ok(()),
+        Ok(false) => Err(RunFault::NothingThere(Place::Log(None))),
+        Err(fault) => Err(folder_fault(fault)),
     }
 }
 

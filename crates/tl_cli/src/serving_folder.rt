@@ -9,7 +9,7 @@ ghost use Rattle.tl_serve.specs.Asking.{ServesCosigned};
 ghost use Rattle.tl_serve.specs.Serving.{Serves};
 ghost use Rattle.tl_cli.specs.Lasting.{ServesAt, ServesBy, nobody};
 
-use crate::own_folder::{OwnFolder, check_folder, open_folder, own_folder};
+use crate::own_folder::{OwnFolder, check_log, open_folder, own_folder};
 use crate::proposal_file::{ProposalFile, ReadProposal, proposal_path};
 use std::alloc::Global;
 use std::fs::{File, Files};
@@ -206,7 +206,7 @@ pub(crate) fn serve_at<
         Err(fault) => return Err(fault),
     };
     let site = Site::new(&entrance, input);
-    match check_folder(rt, alloc, dir, options.is_new) {
+    match check_log(rt, alloc, dir, options.is_new) {
         Ok(()) => {}
         Err(fault) => return Err(fault),
     }

@@ -7,8 +7,8 @@ use Rattle.tl_append.proofs.running.append_under.Goals as goal
 pub returns-in-Err-clause-goes_on : goal.returns-in-Err-clause-goes_on
 returns-in-Err-clause-goes_on g c = inl (stayed (g.S.Shelf.kept c.args.shelf.now) (g.S.Shelf.trace c.args.shelf.now) (g.R.Read.remaining c.args.reader.now.device) c.args.reader.now.failed)
 
-pub returns-in-Err-check_begins-clause-goes_on : goal.returns-in-Err-check_begins-clause-goes_on
-returns-in-Err-check_begins-clause-goes_on g c = inl (stayed (g.S.Shelf.kept c.args.shelf.now) (g.S.Shelf.trace c.args.shelf.now) (g.R.Read.remaining c.args.reader.now.device) c.args.reader.now.failed)
+pub returns-in-Err-check_asked-clause-goes_on : goal.returns-in-Err-check_asked-clause-goes_on
+returns-in-Err-check_asked-clause-goes_on g c = inl (stayed (g.S.Shelf.kept c.args.shelf.now) (g.S.Shelf.trace c.args.shelf.now) (g.R.Read.remaining c.args.reader.now.device) c.args.reader.now.failed)
 
 pub returns-in-Ok-append_lines-clause-goes_on : goal.returns-in-Ok-append_lines-clause-goes_on
 returns-in-Ok-append_lines-clause-goes_on g c =
@@ -23,14 +23,14 @@ returns-clause-goes_on g c =
 pub returns-in-Err-clause-left : goal.returns-in-Err-clause-left
 returns-in-Err-clause-left g c = inr (stayed (g.S.Shelf.kept c.args.shelf.now) (g.S.Shelf.trace c.args.shelf.now) (g.R.Read.remaining c.args.reader.now.device) c.args.reader.now.failed)
 
-pub returns-in-Err-check_begins-clause-left : goal.returns-in-Err-check_begins-clause-left
-returns-in-Err-check_begins-clause-left g c = inr (stayed (g.S.Shelf.kept c.args.shelf.now) (g.S.Shelf.trace c.args.shelf.now) (g.R.Read.remaining c.args.reader.now.device) c.args.reader.now.failed)
+pub returns-in-Err-check_asked-clause-left : goal.returns-in-Err-check_asked-clause-left
+returns-in-Err-check_asked-clause-left g c = inr (stayed (g.S.Shelf.kept c.args.shelf.now) (g.S.Shelf.trace c.args.shelf.now) (g.R.Read.remaining c.args.reader.now.device) c.args.reader.now.failed)
 
 pub returns-in-Err-clause-newest : goal.returns-in-Err-clause-newest
 returns-in-Err-clause-newest g c = inl (stayed (g.S.Shelf.kept c.args.shelf.now) (g.S.Shelf.trace c.args.shelf.now) (g.R.Read.remaining c.args.reader.now.device) c.args.reader.now.failed)
 
-pub returns-in-Err-check_begins-clause-newest : goal.returns-in-Err-check_begins-clause-newest
-returns-in-Err-check_begins-clause-newest g c = inl (stayed (g.S.Shelf.kept c.args.shelf.now) (g.S.Shelf.trace c.args.shelf.now) (g.R.Read.remaining c.args.reader.now.device) c.args.reader.now.failed)
+pub returns-in-Err-check_asked-clause-newest : goal.returns-in-Err-check_asked-clause-newest
+returns-in-Err-check_asked-clause-newest g c = inl (stayed (g.S.Shelf.kept c.args.shelf.now) (g.S.Shelf.trace c.args.shelf.now) (g.R.Read.remaining c.args.reader.now.device) c.args.reader.now.failed)
 
 pub returns-in-Ok-append_lines-clause-newest : goal.returns-in-Ok-append_lines-clause-newest
 returns-in-Ok-append_lines-clause-newest g c = inr c.in-Ok.ensures.newest
