@@ -230,7 +230,10 @@ pub(crate) fn serve_from<
     if !is_key_name(serve.origin.as_str()) {
         return Err(CommandFault::Run(RunFault::BadOrigin));
     }
-    let entrance = Entrance::open(rt, &serve.server)?;
+    let entrance = match Entrance::open(rt, &serve.server) {
+        Ok(entrance) => entrance,
+        Err(fault) => return Err(CommandFault::Run(fault)),
+    };
     let site = Site::new(&entrance, input);
     let key = access_key(rt, alloc, bucket)?;
     let shelf = open_bucket(disk, rt, alloc, bucket, &key, serve.is_new)?;

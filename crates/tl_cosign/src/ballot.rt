@@ -18,8 +18,8 @@ pub struct Ballot {
     urged: AtomicU64,
 }
 
-// How long who pauses doesn't look whether it was urged.
-const PAUSE: Duration = Duration::from_secs(1);
+// For how many seconds who pauses doesn't look whether it was urged.
+const PAUSE: u64 = 1;
 
 impl Ballot {
     /// A ballot of so many witnesses, before its first round. It fails only where a growth was refused.
@@ -110,10 +110,10 @@ impl Ballot {
 
     // Waits a second, or until the round with this number is closed, or the ballot has ended: whether neither is so.
     fn pause_once<R: Wait + Clock>(&self, rt: &R, number: u64) -> bool {
-        let tally = self.tally.lock(rt);
+        let (tally, time) = (self.tally.lock(rt), Duration::from_secs(PAUSE));
         let (tally, _) = self
             .changed
-            .wait_timeout_while(rt, tally, PAUSE, |tally| tally.stays(number));
+            .wait_timeout_while(rt, tally, time, |tally| tally.stays(number));
         tally.stays(number)
     }
 

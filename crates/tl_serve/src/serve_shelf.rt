@@ -28,7 +28,7 @@ use std::alloc::{AllocError, Global};
 use std::io::{Read, Write};
 use std::net::{Net, TcpListener, TcpStream};
 use tl_append::{
-    LogKeys, LogOpeningKey, LogShelf, OpenedLog, check_begins, check_start, keys_of,
+    LogKeys, LogOpeningKey, LogShelf, OpenedLog, check_asked, check_start, keys_of,
 };
 use tl_archive::Shelf;
 use tl_command::RunFault;
@@ -121,7 +121,7 @@ fn open_log<S: LogShelf + Drop, P: Drop, R: Read>(
         Ok(()) => {}
         Err(fault) => return Err(fault),
     }
-    match check_begins(options.is_new, &found.head) {
+    match check_asked(found, options.is_new) {
         Ok(()) => {}
         Err(fault) => return Err(fault),
     }
