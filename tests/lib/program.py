@@ -25,14 +25,31 @@ def program(name='tlog'):
     return os.path.realpath(path)
 
 
+# What shows that a log is in a folder, or was.
+MARKS = 'checkpoint', 'proposal', 'published'
+
+
+def beginning(words, cwd=None):
+    """The words of a run, with `--new` if they are of `append` or `serve` and no log is in their folder, or of `witness`
+    and its state isn't there."""
+    words = list(words)
+    named = {'append': '--dir', 'serve': '--dir', 'witness': '--state'}.get(words[0]) if words else None
+    if named not in words[:-1] or '--new' in words:
+        return words
+    place = os.path.join(cwd or '', words[words.index(named) + 1])
+    places = [place] if named == '--state' else [f'{place}/{name}' for name in MARKS]
+    return words if any(map(os.path.lexists, places)) else [words[0], '--new', *words[1:]]
+
+
 class Program:
-    """The program `tlog`."""
+    """The program `tlog`. A run begins a log or a state where the one that it names isn't there, unless `begins` is false."""
 
     def __init__(self):
         self.path = program()
 
-    def run(self, *words, given=b'', **others):
+    def run(self, *words, given=b'', begins=True, **others):
         """Runs it on an input: exit status, standard output and standard error."""
+        words = beginning(words, others.get('cwd')) if begins else words
         how = {'stdout': subprocess.PIPE, 'stderr': subprocess.PIPE, 'timeout': 60, 'env': EMPTY, **others}
         done = subprocess.run([self.path, *words], input=given, **how)
         return done.returncode, done.stdout, done.stderr
@@ -45,7 +62,7 @@ class Program:
 
     def start(self, *words, given=b'', **others):
         """Starts a server on an input, and returns it once it listens."""
-        return Server([self.path, *words, '--listen', '127.0.0.1:0'], given, others)
+        return Server([self.path, *beginning(words, others.get('cwd')), '--listen', '127.0.0.1:0'], given, others)
 
 
 class NeverTold(AssertionError):

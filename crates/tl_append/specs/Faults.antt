@@ -1,6 +1,10 @@
--- What a fault of reading lines is told as.
+-- What a fault of reading lines is told as, and a log that isn't begun as it is asked to.
+use Rattle.std.specs.Prelude.{Bool, true, false, None, Some, Result, Ok, Err}
 use Rattle.tl_command.specs.declared.fault.RunFault.{RunFault}
 use Rattle.tl_command.specs.declared.fault.RunFault.TheVariants as run
+use Rattle.tl_command.specs.declared.place.Place.TheVariants.{Log}
+use Rattle.tl_device.specs.declared.fault.DeviceFault.TheVariants as device
+use Rattle.tl_tile.specs.declared.resource.Resource.TheVariants as resource
 use Rattle.tl_lines.specs.declared.fault.LineFault.{LineFault}
 use Rattle.tl_lines.specs.declared.fault.LineFault.TheVariants as lines
 
@@ -11,3 +15,10 @@ after_lines lines.TooFew = run.Malformed
 after_lines (lines.TooLong number) = run.EntryTooLong number
 after_lines lines.Endless = run.TooLarge
 after_lines lines.OutOfMemory = run.OutOfMemory
+
+-- whether a log may be there: the first tells whether one is to begin, the second whether one is there
+abbrev pub begin_outcome : Bool → Bool → Result (Unit {0}) RunFault
+begin_outcome true true = Err (run.Device (Log (Some resource.Checkpoint)) device.Taken)
+begin_outcome true false = Ok tt
+begin_outcome false true = Ok tt
+begin_outcome false false = Err (run.NothingThere (Log None))

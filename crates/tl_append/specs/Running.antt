@@ -1,8 +1,9 @@
 -- A run of the command `append`: it goes on from the log on a shelf.
-use Rattle.std.specs.Prelude.{◌≡◌, ◌<◌, ◌⊎◌, ⊤, ℕ, ◌-◌, ◌^◌, max, length, Option, Some, None, List, [], ◌∷◌, ◌++◌, Contains, Result, Ok, Err, string_bytes}
+use Rattle.std.specs.Prelude.{◌≡◌, ◌<◌, ◌⊎◌, ⊤, ℕ, ◌-◌, ◌^◌, Bool, true, false, max, length, Option, Some, None, List, [], ◌∷◌, ◌++◌, Contains, Result, Ok, Err, string_bytes}
 use Rattle.std.specs.List.{All, flat_map}
 use Rattle.sha2.specs.Sha256.{sha256}
 use Rattle.tl_hash.specs.Bytes.{Bytes, Digest}
+use Rattle.tl_hash.specs.declared.head.Head.{Head}
 use Rattle.tl_device.specs.Device.{Passage, HasFailed, IsUnread, WroteWhole}
 use Rattle.tl_note.specs.Key.{Key}
 use Rattle.tl_key.specs.DemoKey.{demo_verifier_key}
@@ -129,6 +130,11 @@ pub record Stays (v : Visit) (i : Passage) : Type 0 where
 abbrev pub IsStart : Option ℕ → ℕ → Type 0
 IsStart None size = ⊤
 IsStart (Some start) size = size ≡ start
+
+-- a log begins if it is asked to, so that none was found; else one was found, which is gone on from
+abbrev pub BeginsAsAsked : Bool → Option Head → Type 0
+BeginsAsAsked true found = found ≡ None
+BeginsAsAsked false found = (head : Head) × (found ≡ Some head)
 
 -- how a log of this name goes on, under the key that is given, in batches of this size
 abbrev pub GoesOn : GivenKey → Bytes → ℕ → Found → Visit → Passage → Passage → Result (Unit {0}) RunFault → Type 0

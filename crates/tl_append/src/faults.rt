@@ -4,7 +4,7 @@ ghost use Rattle.std.specs.Prelude.{◌≡◌, Some};
 ghost use Rattle.tl_command.specs.Faults.{after_device};
 ghost use Rattle.tl_command.specs.declared.place.Place.TheVariants.{Log};
 ghost use Rattle.tl_append.specs.Faults.{after_lines};
-ghost use Rattle.tl_append.specs.Inner.Faults.{after_ledger, after_mark, after_open, after_proposal, after_shelf, is_taken};
+ghost use Rattle.tl_append.specs.Inner.Faults.{after_ledger, after_mark, after_open, after_proposal, after_shelf};
 
 use tl_archive::ShelfFault;
 use tl_checkpoint::OpenCheckpointFault;
@@ -85,11 +85,4 @@ pub(crate) fn outrun(fault: MarkFault) -> RunFault
         MarkFault::Shelf(fault) => unkept(fault),
         MarkFault::Older(_) => unfit(Resource::Checkpoint, DeviceFault::Older),
     }
-}
-
-/// What a command ends with where there is a log, and none is to be.
-pub(crate) fn taken() -> RunFault
-    ensures { result ≡ is_taken }
-{
-    unfit(Resource::Checkpoint, DeviceFault::Taken)
 }

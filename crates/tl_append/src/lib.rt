@@ -36,7 +36,7 @@ pub use cosigners::{AsksCosigners, ChecksCosigned, LogQuorum};
 pub use faults::line_fault;
 pub use keys::{LogKeys, LogOpeningKey, LogSigningKey, keys_of};
 pub use log_shelf::{LogShelf, OpenedLog};
-pub use opening::{check_start, open_ledger};
+pub use opening::{check_asked, check_start, open_ledger};
 pub use options::{AppendOptions, Batching, Joining};
 pub use proposal::{NoProposals, ProposalStore};
 pub use running::run_append;

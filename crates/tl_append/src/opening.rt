@@ -1,6 +1,6 @@
 //! Opening the log on a shelf under the key of its operator.
 
-ghost use Rattle.std.specs.Prelude.{◌≡◌, ◌⊎◌, ◌∷◌, [], true, false, map, option_map, string_bytes, IfOk, OnOk, None, Some};
+ghost use Rattle.std.specs.Prelude.{◌≡◌, ◌⊎◌, ◌∷◌, [], true, false, map, option_map, string_bytes, is_some, IfOk, OnOk, None, Some};
 ghost use Rattle.sha2.specs.Sha256.{sha256};
 ghost use Rattle.tl_hash.specs.declared.head.Head.{Head as HeadValue};
 ghost use Rattle.tl_tile.specs.declared.resource.Resource.TheVariants as resource;
@@ -9,7 +9,8 @@ ghost use Rattle.tl_ledger.specs.Opening.{IsOfNote, Opens, found_size};
 ghost use Rattle.tl_append.specs.Keys.{opening_key_of};
 ghost use Rattle.tl_append.specs.Inner.Proposals.{IsNewer};
 ghost use Rattle.tl_append.specs.Proposing.{HasProposal, IsNoOlder, IsProposed, IsThere};
-ghost use Rattle.tl_append.specs.Running.{IsStart};
+ghost use Rattle.tl_append.specs.Faults.{begin_outcome};
+ghost use Rattle.tl_append.specs.Running.{BeginsAsAsked, IsStart};
 
 use crate::faults::{outrun, unopened, unproposed};
 use crate::keys::LogOpeningKey;
@@ -20,8 +21,10 @@ use std::snapshot::Snapshot;
 use tl_archive::Shelf;
 use tl_checkpoint::open_checkpoint;
 use tl_command::{Place, RunFault};
+use tl_device::DeviceFault;
 use tl_ledger::{Found, Ledger, MarkFault, is_named};
 use tl_note::Verifier;
+use tl_tile::Resource;
 
 // The number of entries of the checkpoint that a proposal is of, which has to be the log's.
 fn proposed_size(
@@ -164,6 +167,22 @@ pub fn check_start(ledger: &Ledger<Global>, start: Option<u64>) -> Result<(), Ru
 {
     match start {
         Some(start) if start != ledger.size() => Err(outrun(MarkFault::Older(start))),
+        _ => Ok(()),
+    }
+}
+
+/// Checks that a log begins as it is asked to, by what was found: if it is new there was none, and else there was one.
+/// `Taken`: there was one, and none was to be. `NothingThere`: there was none that could be gone on from.
+pub fn check_asked(found: &Found<Global>, is_new: bool) -> Result<(), RunFault>
+    ensures asked { OnOk result (BeginsAsAsked is_new found.now.head) }
+    ensures outcome { result ≡ begin_outcome is_new (is_some found.now.head) }
+{
+    match found.head {
+        Some(_) if is_new => {
+            let place = Place::Log(Some(Resource::Checkpoint));
+            Err(RunFault::Device(place, DeviceFault::Taken))
+        }
+        None if !is_new => Err(RunFault::NothingThere(Place::Log(None))),
         _ => Ok(()),
     }
 }

@@ -38,7 +38,7 @@ pub struct AppendOptions {
     pub key: LogKey,
     /// After how many entries it is published, at least 1; without it at the end alone.
     pub batch: Option<u64>,
-    /// Whether the folder may have no log yet.
+    /// Whether a log begins, so that none may be there; else there is one, and it is gone on from.
     pub is_new: bool,
     /// Whether the log may go on from a checkpoint of fewer entries than were published.
     pub allows_older: bool,

@@ -1,6 +1,6 @@
 //! A run of the command `append`.
 
-ghost use Rattle.std.specs.Prelude.{◌≡◌, ◌⊎◌, ◌∷◌, [], true, false, string_bytes, OnErr, OnOk, None};
+ghost use Rattle.std.specs.Prelude.{◌≡◌, ◌⊎◌, ◌∷◌, [], true, false, string_bytes, OnErr, OnOk};
 ghost use Rattle.tl_device.specs.Device.{passage};
 ghost use Rattle.tl_note.specs.Key.{IsKeyName};
 ghost use Rattle.tl_ledger.specs.Marks.{IsWithin};
@@ -9,14 +9,13 @@ ghost use Rattle.tl_command.specs.Mirror.{LogKey};
 ghost use Rattle.tl_command.specs.Origins.{RefusesOrigin};
 ghost use Rattle.tl_append.specs.Keys.{log_key_of, opening_key_of};
 ghost use Rattle.tl_append.specs.Proposing.{HasProposal};
-ghost use Rattle.tl_append.specs.Running.{GoesOn, HasOwnProposal, IsLogKey, IsStart, MarksLast, Stays};
-ghost use Rattle.tl_append.specs.Running.{batch_size, visit};
+ghost use Rattle.tl_append.specs.Running.{BeginsAsAsked, GoesOn, HasOwnProposal, IsLogKey, IsStart};
+ghost use Rattle.tl_append.specs.Running.{MarksLast, Stays, batch_size, visit};
 ghost use Rattle.tl_append.specs.Inner.Under.{GoesOnUnder};
 
 use crate::appending::append_lines;
-use crate::faults::taken;
 use crate::keys::{LogKeys, keys_of};
-use crate::opening::{check_start, open_ledger};
+use crate::opening::{check_asked, check_start, open_ledger};
 use crate::options::{AppendOptions, Batching, Joining};
 use crate::proposal::ProposalStore;
 use std::alloc::Global;
@@ -47,8 +46,8 @@ fn append_under<S: Shelf, P: ProposalStore, R: Read, W: Write>(
         (passage W.contents writer.old writer.new) result }
     ensures marked { OnOk result (MarksLast (log_key_of keys.signer) found.new
         (visit S.kept S.trace shelf.old shelf.new) (S.published shelf.new)) }
-    ensures fresh { options.now.is_new ≡ true → OnOk result (found.new.head ≡ None) }
-    ensures left { options.now.is_new ≡ true → OnErr result ((found.new.head ≡ None)
+    ensures fresh { OnOk result (BeginsAsAsked options.now.is_new found.new.head) }
+    ensures left { OnErr result (BeginsAsAsked options.now.is_new found.new.head
         ⊎ Stays (visit S.kept S.trace shelf.old shelf.new)
         (passage R.remaining reader.old reader.new)) }
     ensures within { options.now.allows_older ≡ false → S.is_honest ≡ true
@@ -71,9 +70,9 @@ fn append_under<S: Shelf, P: ProposalStore, R: Read, W: Write>(
         Ok(()) => {}
         Err(fault) => return Err(fault),
     }
-    let is_first = found.head.is_none();
-    if options.is_new && !is_first {
-        return Err(taken());
+    match check_asked(found, options.is_new) {
+        Ok(()) => {}
+        Err(fault) => return Err(fault),
     }
     let size = options.batch_size();
     let batching = Batching {
@@ -87,11 +86,11 @@ fn append_under<S: Shelf, P: ProposalStore, R: Read, W: Write>(
     }
 }
 
-/// Appends the lines of the input to the log on the shelf, which begins one where it has none: it is published after so
-/// many entries as the options say, and at the end, and each time a line with size and root is printed. It goes on from
-/// the checkpoint that was there or the proposal of the store, as `open_ledger` does, which is to have `start` entries
-/// where that is given; `found` holds what was read. `Taken`: there is a log, and none is to be. `Older`: more entries
-/// were published, or it hasn't got so many.
+/// Appends the lines of the input to the log on the shelf, or to a new one: it is published after so many entries as the
+/// options say, and at the end, and each time a line with size and root is printed. It goes on from the checkpoint that
+/// was there or the proposal of the store, as `open_ledger` does, which is to have `start` entries where that is given;
+/// `found` holds what was read. `Taken`: there is a log, and none is to be. `NothingThere`: there is none, and none is
+/// to begin. `Older`: more entries were published, or it hasn't got so many.
 pub fn run_append<H: Files, S: Shelf, P: ProposalStore, R: Read, W: Write>(
     rt: &H,
     alloc: Global,
@@ -113,8 +112,8 @@ pub fn run_append<H: Files, S: Shelf, P: ProposalStore, R: Read, W: Write>(
     ensures marked { OnOk result ((own : LogKey)
         × IsLogKey options.now.key (string_bytes options.now.origin) own × MarksLast own found.new
         (visit S.kept S.trace shelf.old shelf.new) (S.published shelf.new)) }
-    ensures fresh { options.now.is_new ≡ true → OnOk result (found.new.head ≡ None) }
-    ensures left { options.now.is_new ≡ true → OnErr result ((found.new.head ≡ None)
+    ensures fresh { OnOk result (BeginsAsAsked options.now.is_new found.new.head) }
+    ensures left { OnErr result (BeginsAsAsked options.now.is_new found.new.head
         ⊎ Stays (visit S.kept S.trace shelf.old shelf.new)
         (passage R.remaining reader.old reader.new)) }
     ensures within { options.now.allows_older ≡ false → S.is_honest ≡ true

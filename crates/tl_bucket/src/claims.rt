@@ -116,6 +116,11 @@ impl Claims {
         }
     }
 
+    /// What tells whose commits they are.
+    pub(crate) fn token(&self) -> &[u8] {
+        self.token.as_slice()
+    }
+
     /// The number of the next commit.
     pub(crate) fn number(&self) -> u64
         ensures { result ≡ self.now.number }

@@ -24,6 +24,8 @@ pub enum BucketFault {
     Outrun,
     /// A commit that is there has other bytes than one has, or doesn't go on where the log is.
     BadCommit(u64),
+    /// No log is there that could be gone on from.
+    NothingThere,
 }
 
 impl BucketFault {
@@ -73,6 +75,7 @@ impl BucketFault {
             BucketFault::NoConditions => DeviceFault::System,
             BucketFault::Outrun => DeviceFault::Busy,
             BucketFault::BadCommit(_) => DeviceFault::Damaged,
+            BucketFault::NothingThere => DeviceFault::NotThere,
         }
     }
 }
@@ -114,6 +117,7 @@ impl Display for BucketFault {
             BucketFault::NoConditions => "the store takes no conditional puts",
             BucketFault::Outrun => "another operator has appended",
             BucketFault::BadCommit(number) => return write!(f, "commit {number} is damaged"),
+            BucketFault::NothingThere => "no log there (use --new to begin one)",
         };
         f.write_str(words)
     }

@@ -4,7 +4,7 @@
 //!
 //! ```
 //! let client = Client::new(&rt, alloc, url, credential);
-//! let mut shelf = BucketShelf::open(disk, client, address, token)?;
+//! let mut shelf = BucketShelf::open(disk, client, address, token, false)?;
 //! finish_log(&rt, alloc, origin, &key, &mut shelf)?; // what was begun before
 //! // now it is a shelf as a folder is: run_append, SealedShelf
 //! ```

@@ -1,13 +1,14 @@
 //! A bucket that is opened: whether its store keeps conditions, and how far its log goes.
 
-ghost use Rattle.std.specs.Prelude.{◌≡◌, None, IfOk, OnOk, MatchBool, map, string_bytes, vec_items};
+ghost use Rattle.std.specs.Prelude.{◌≡◌, ◌↔◌, None, IfOk, IsTrue, OnOk, MatchBool, map, option_map, string_bytes, vec_items};
 ghost use Rattle.tl_bucket.specs.Answered.{WasPut};
 ghost use Rattle.tl_bucket.specs.Buckets.{no_objects};
 ghost use Rattle.tl_bucket.specs.Claims.{no_claims};
-ghost use Rattle.tl_bucket.specs.Opened.{EndsAt, HasCommit, IsAtEnd, IsLastFound, LacksCommit};
-ghost use Rattle.tl_bucket.specs.Opened.{KnowsShown, RefusesPuts, WasReadAs};
+ghost use Rattle.tl_bucket.specs.Opened.{BeginsThere, EndsAt, HasCommit, HasLog, IsAtEnd};
+ghost use Rattle.tl_bucket.specs.Opened.{IsLastFound, KnowsShown, LacksCommit, RefusesPuts, WasReadAs};
 ghost use Rattle.tl_put.specs.Objects.{Content};
 ghost use Rattle.tl_put.specs.declared.object.PutAnswer.TheVariants.{Refused};
+ghost use Rattle.tl_bucket.specs.Inner.Puts.{shown_of};
 ghost use Rattle.tl_bucket.specs.Inner.Searches.{AreBounds};
 
 use crate::asking::PutOutcome;
@@ -15,7 +16,7 @@ use crate::claims::{Claims, find_commit};
 use crate::client::{Client, Connection};
 use crate::commit::{Commit, CommitFault, read_commit};
 use crate::fault::BucketFault;
-use crate::noting::find_shown;
+use crate::noting::{Shown, find_shown};
 use crate::shelf::BucketShelf;
 use std::alloc::Global;
 use std::net::{Net, TcpStream};
@@ -189,18 +190,42 @@ fn claims_behind<H: Net<Stream = TcpStream> + Clock>(
     }
 }
 
+// Whether a log is there, by the commits and the checkpoint that were found.
+fn has_log(claims: &Claims, shown: &Option<Shown>) -> bool
+    ensures { IsTrue result ↔ HasLog claims.now (option_map shown_of shown.now) }
+{
+    claims.number() > 1 || shown.is_some()
+}
+
+// Checks that a log begins as it is asked to. `Taken`: there is one, and none is to be. `NothingThere`: there is none that
+// could be gone on from.
+fn check_begins(is_new: bool, claims: &Claims, shown: &Option<Shown>) -> Result<(), BucketFault>
+    ensures { OnOk result (BeginsThere is_new claims.now (option_map shown_of shown.now)) }
+{
+    match (is_new, has_log(claims, shown)) {
+        (true, true) => Err(BucketFault::Device(DeviceFault::Taken)),
+        (false, false) => Err(BucketFault::NothingThere),
+        _ => Ok(()),
+    }
+}
+
 impl<'b, D: CrashOutcome + Drop, H: Net<Stream = TcpStream> + Clock> BucketShelf<'b, D, H> {
     ghost use Rattle.std.specs.Prelude.{[], false};
 
     /// The bucket that the client reaches, by this address. The token is a line that tells the operator's commits from
-    /// all others'. `NoConditions`: the store doesn't keep the conditions of puts. `ClockIsOff`: the machine's clock
-    /// isn't the store's.
+    /// all others'. `Taken`: a log is to begin, and one is there. `NothingThere`: none is to begin, and none is there.
+    /// `NoConditions`: the store doesn't keep the conditions of puts. `ClockIsOff`: the machine's clock isn't the
+    /// store's. Nothing of a log is put; to see whether a store keeps conditions takes puts of `probe`, once a log may
+    /// begin or be gone on from.
     pub fn open(
         disk: D,
         client: Client<'b, H>,
         address: &str,
         token: String,
+        is_new: bool,
     ) -> Result<BucketShelf<'b, D, H>, BucketFault>
+        ensures begins { IfOk result
+            (λ shelf. BeginsThere is_new shelf.objects.claims shelf.objects.shown) }
         ensures refuses { OnOk result (RefusesPuts client.entry) }
         ensures end { IfOk result (λ shelf.
             IsAtEnd client.entry (string_bytes token) shelf.objects.claims) }
@@ -213,9 +238,10 @@ impl<'b, D: CrashOutcome + Drop, H: Net<Stream = TcpStream> + Clock> BucketShelf
         ensures unmarked { IfOk result (λ shelf. shelf.published ≡ None) }
     {
         let mut connection = Connection::new();
-        check_conditions(&client, &mut connection, token.as_bytes())?;
         let claims = claims_behind(&client, &mut connection, token)?;
         let shown = find_shown(&client, &mut connection)?;
+        check_begins(is_new, &claims, &shown)?;
+        check_conditions(&client, &mut connection, claims.token())?;
         Ok(BucketShelf::new(disk, client, address, claims, shown, false))
     }
 

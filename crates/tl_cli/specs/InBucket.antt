@@ -1,12 +1,12 @@
 -- Commands on a log in a bucket.
-use Rattle.std.specs.Prelude.{◌≡◌, ◌⊎◌, ℕ, [], ◌∷◌, ◌++◌, false, length, Option, Some, None, Result, Ok, Err, string_bytes}
+use Rattle.std.specs.Prelude.{◌≡◌, ◌⊎◌, ℕ, [], ◌∷◌, ◌++◌, Bool, false, length, Option, Some, None, OnOk, Result, Ok, Err, string_bytes}
 use Rattle.hex.specs.Hex.{encode_lower}
 use Rattle.tl_archive.specs.Shelves.{Held}
-use Rattle.tl_append.specs.Running.{GoesOn, Stays, batch_size, visit}
+use Rattle.tl_append.specs.Running.{BeginsAsAsked, GoesOn, Stays, batch_size, visit}
 use Rattle.tl_append.specs.declared.options.AppendOptions.{AppendOptions}
 use Rattle.tl_bucket.specs.Buckets.{Bucketed, bucket_kept, bucket_trace, no_objects}
 use Rattle.tl_bucket.specs.Finishing.{FinishesLog}
-use Rattle.tl_bucket.specs.Opened.{IsAtEnd, KnowsShown, RefusesPuts}
+use Rattle.tl_bucket.specs.Opened.{BeginsThere, IsAtEnd, KnowsShown, RefusesPuts}
 use Rattle.tl_bucket.specs.declared.fault.BucketFault.{BucketFault}
 use Rattle.tl_command.specs.CheckOpened.{IsIdle}
 use Rattle.tl_command.specs.declared.fault.RunFault.{RunFault}
@@ -54,9 +54,10 @@ abbrev pub IsPlaceOf : Bytes → Place → Type 0
 IsPlaceOf address p = (text host : Bytes) × (port : ℕ) × ((address ≡ text) ⊎ (address ≡ text ++ 47 ∷ []))
     × IsUrl text p.host host port p.prefix
 
--- the bucket that the options name was opened: nothing waits and nothing was done yet; its store refused puts whose
--- conditions didn't hold, and what is appended next comes behind the last commit that was found
-pub record OpensBucket (options : BucketOptions) (b : Bucketed) : Type 0 where
+-- the bucket that the options name was opened: nothing waits and nothing was done yet; a log begins there if it is asked
+-- to, and else there is one; its store refused puts whose conditions didn't hold, and what is appended next comes behind
+-- the last commit that was found
+pub record OpensBucket (options : BucketOptions) (new : Bool) (b : Bucketed) : Type 0 where
   pub named : b.place ≡ string_bytes options.address
   pub at : IsPlaceOf (string_bytes options.address) b.objects.at
   pub region : b.objects.at.credential.region ≡ string_bytes options.region
@@ -67,6 +68,7 @@ pub record OpensBucket (options : BucketOptions) (b : Bucketed) : Type 0 where
   pub end : IsAtEnd b.objects.at token b.objects.claims
   pub waiting : b.objects ≡ no_objects b.objects.at b.objects.claims b.objects.shown
   pub shown : KnowsShown b.objects.at b.objects.shown
+  pub begins : BeginsThere new b.objects.claims b.objects.shown
   pub reads : b.reads_anew ≡ false
   pub events : b.events ≡ []
   pub unmarked : b.published ≡ None
@@ -84,6 +86,7 @@ pub record GoesOnThere (held : Held) (reached : Reached) (opened : Bucketed) (op
       ⊎ (found_size found.head ≡ before.objects.claims.start)
   pub goes_on : GoesOn options.key (string_bytes options.origin) (batch_size options.batch) found
       (visit (bucket_kept held reached) (bucket_trace held reached) before after) i o outcome
+  pub begins : OnOk outcome (BeginsAsAsked options.is_new found.head)
   pub ends : EndsInBucket outcome result
 
 -- `append` in a bucket that was opened; or it could not be finished, and nothing was read or written here
@@ -94,7 +97,7 @@ AppendsThere held reached opened options i o result =
 -- in the bucket that the options name; or it could not be opened
 abbrev pub AppendsTo : Held → Reached → AppendToOptions → Passage → Passage → Result (Unit {0}) CommandFault → Type 0
 AppendsTo held reached options i o result = (IsRefused result × IsIdle i o)
-    ⊎ ((opened : Bucketed) × OpensBucket options.bucket opened × AppendsThere held reached opened options.append i o result)
+    ⊎ ((opened : Bucketed) × OpensBucket options.bucket options.append.is_new opened × AppendsThere held reached opened options.append i o result)
 
 -- the same of a log that is served
 pub record ServesBucket (held : Held) (reached : Reached) (opened : Bucketed) (options : ServeOptions) (result : Result (Unit {0}) CommandFault) : Type 0 where
@@ -117,4 +120,4 @@ ServesThere held reached opened options i result = (IsRefused result × IsUnread
 -- in the bucket that the options name
 abbrev pub ServesFrom : Held → Reached → ServeFromOptions → Passage → Result (Unit {0}) CommandFault → Type 0
 ServesFrom held reached options i result = (IsRefused result × IsUnread i)
-    ⊎ ((opened : Bucketed) × OpensBucket options.bucket opened × ServesThere held reached opened options.serve i result)
+    ⊎ ((opened : Bucketed) × OpensBucket options.bucket options.serve.is_new opened × ServesThere held reached opened options.serve i result)

@@ -1,5 +1,5 @@
 -- Commands on a log in a folder: the folder that their options name, and what becomes of it.
-use Rattle.std.specs.Prelude.{◌≡◌, ◌<◌, [], Option, Some, None, IfSome, Result, Ok, Err, string_bytes}
+use Rattle.std.specs.Prelude.{◌≡◌, ◌<◌, [], Option, Some, None, IfSome, OnOk, Result, Ok, Err, string_bytes}
 use Rattle.tl_device.specs.Device.{Passage, IsUnread}
 use Rattle.tl_archive.specs.Shelves.{Held}
 use Rattle.tl_ledger.specs.Opening.{Found}
@@ -7,7 +7,7 @@ use Rattle.tl_folder.specs.Step.{Path}
 use Rattle.tl_folder.specs.Folders.{Calls, Reached, at_first, kept_by, traced_by}
 use Rattle.tl_command.specs.CheckOpened.{IsIdle}
 use Rattle.tl_command.specs.declared.fault.RunFault.{RunFault}
-use Rattle.tl_append.specs.Running.{GoesOn, Visit, batch_size}
+use Rattle.tl_append.specs.Running.{BeginsAsAsked, GoesOn, Visit, batch_size}
 use Rattle.tl_append.specs.declared.options.AppendOptions.{AppendOptions}
 use Rattle.tl_append.specs.Cosigning.{Quorum}
 use Rattle.tl_serve.specs.Asking.{ServesCosigned}
@@ -30,13 +30,14 @@ IsAt path folder = (folder.locked ≡ path) × (folder.shelf.place ≡ path)
 abbrev pub since_opened : Held → Reached → Calls → Visit
 since_opened held reached shelf = record { before = at_first held; after = kept_by held reached shelf; saw = []; sees = traced_by held reached shelf }
 
--- `append`: the folder that the options name was locked and opened, and became this; or it could not be, and nothing
--- was read or written
+-- `append`: the folder that the options name was locked and opened, a log began there if it was asked to and else was
+-- gone on from, and it became this; or it could not be, and nothing was read or written
 abbrev pub AppendsIn : Held → Reached → AppendOptions → Passage → Passage → Option Folder → Result (Unit {0}) RunFault → Type 0
 AppendsIn held reached options i o None (Ok done) = ⊥
 AppendsIn held reached options i o None (Err fault) = IsIdle i o
 AppendsIn held reached options i o (Some folder) result =
     IsAt (string_bytes options.dir) folder
+    × OnOk result (BeginsAsAsked options.is_new folder.found.head)
     × GoesOn options.key (string_bytes options.origin) (batch_size options.batch) folder.found (since_opened held reached folder.shelf) i o result
 
 -- nobody need cosign what is shown

@@ -28,7 +28,7 @@ use tl_device::Counted;
 use tl_folder::CrashOutcome;
 use tl_ledger::Found;
 use tl_note::is_key_name;
-use tl_serve::{Host, ServeOptions, Served, run_serve_shelf, threads_of};
+use tl_serve::{Entrance, Host, ServeOptions, Served, Site, run_serve_shelf, threads_of};
 
 /// The options of `append`, and of `build`, into a bucket.
 #[derive(Drop)]
@@ -113,7 +113,7 @@ pub(crate) fn append_to<
         return Err(CommandFault::Run(RunFault::BadOrigin));
     }
     let key = access_key(rt, alloc, bucket)?;
-    let shelf = open_bucket(disk, rt, alloc, bucket, &key)?;
+    let shelf = open_bucket(disk, rt, alloc, bucket, &key, append.is_new)?;
     finish_and_append(rt, alloc, append, shelf, reader, writer)
 }
 
@@ -147,10 +147,10 @@ fn serve_sealed<
     rt: &H,
     alloc: Global,
     options: &ServeOptions,
+    site: &Site<'_>,
     shelf: BucketShelf<'b, D, H>,
     shown: Vec<BucketShelf<'b, D, H>>,
     found: &mut Found<Global>,
-    input: Option<RawFd>,
     reader: &mut Counted<R>,
     errors: &mut Counted<E>,
 ) -> Served<BucketShelf<'b, D, H>>
@@ -164,7 +164,7 @@ fn serve_sealed<
     let start = Some(shelf.committed());
     let sealed = SealedShelf::new(shelf, NoProposals, AsSigned, true);
     let Served { shelf, outcome } = run_serve_shelf(
-        rt, alloc, options, start, sealed, shown, found, input, reader, errors,
+        rt, alloc, options, site, start, sealed, shown, found, reader, errors,
     );
     let shelf = shelf.into_shelf();
     Served { shelf, outcome }
@@ -183,9 +183,9 @@ fn finish_and_serve<
     rt: &H,
     alloc: Global,
     options: &ServeOptions,
+    site: &Site<'_>,
     shelf: BucketShelf<'b, D, H>,
     shown: Vec<BucketShelf<'b, D, H>>,
-    input: Option<RawFd>,
     reader: &mut Counted<R>,
     errors: &mut Counted<E>,
 ) -> Result<(), CommandFault>
@@ -200,7 +200,7 @@ fn finish_and_serve<
     }
     let mut found = Found::new(alloc);
     let Served { shelf, outcome } = serve_sealed(
-        rt, alloc, options, shelf, shown, &mut found, input, reader, errors,
+        rt, alloc, options, site, shelf, shown, &mut found, reader, errors,
     );
     after_bucket(&shelf, outcome)
 }
@@ -230,9 +230,16 @@ pub(crate) fn serve_from<
     if !is_key_name(serve.origin.as_str()) {
         return Err(CommandFault::Run(RunFault::BadOrigin));
     }
+    let entrance = match Entrance::open(rt, &serve.server) {
+        Ok(entrance) => entrance,
+        Err(fault) => return Err(CommandFault::Run(fault)),
+    };
+    let site = Site::new(&entrance, input);
     let key = access_key(rt, alloc, bucket)?;
-    let shelf = open_bucket(disk, rt, alloc, bucket, &key)?;
+    let shelf = open_bucket(disk, rt, alloc, bucket, &key, serve.is_new)?;
     let threads = threads_of(rt, serve.server.threads);
     let shown = shown_of(disk, rt, alloc, bucket, &key, threads as usize)?;
-    finish_and_serve(rt, alloc, serve, shelf, shown, input, reader, errors)
+    finish_and_serve(
+        rt, alloc, serve, &site, shelf, shown, reader, errors,
+    )
 }

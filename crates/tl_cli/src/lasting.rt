@@ -7,7 +7,7 @@ ghost use Rattle.tl_command.specs.Origins.{RefusesOrigin};
 ghost use Rattle.tl_cli.specs.Inner.Compacting.{CompactsFile};
 ghost use Rattle.tl_cli.specs.Lasting.{AppendsIn, ServesIn, SparesStreams};
 
-use crate::own_folder::{OwnFolder, own_folder};
+use crate::own_folder::{OwnFolder, check_log, own_folder};
 use crate::proposal_file::{ReadProposal, proposal_path};
 use crate::serving_folder::serve_at;
 use std::alloc::Global;
@@ -23,7 +23,7 @@ use tl_hash::Sha256Tree;
 use tl_logs::compact_state;
 use tl_note::is_key_name;
 use tl_serve::{
-    Host, KnownLogs, ServeOptions, WitnessFault, WitnessOptions, run_serve, run_witness,
+    Entrance, Host, KnownLogs, ServeOptions, WitnessFault, WitnessOptions, run_serve, run_witness,
 };
 
 // How the batches of standard input are joined: no read of a plain file waits for who writes there.
@@ -34,8 +34,8 @@ fn joining_of<H: Files>(rt: &H) -> Joining {
     }
 }
 
-/// Appends the lines of the input to the log in a folder, where no other process works meanwhile. The folder is then in
-/// `folder`, where it could be opened.
+/// Appends the lines of the input to the log in a folder, where no other process works meanwhile, or begins one, if the
+/// options say so. The folder is then in `folder`, if it could be opened.
 pub(crate) fn append<
     D: CrashOutcome + Drop,
     H: Files<File = File> + Copy + Drop,
@@ -59,15 +59,20 @@ pub(crate) fn append<
     if !is_key_name(options.origin.as_str()) {
         return Err(RunFault::BadOrigin);
     }
+    let dir = options.dir.as_str();
+    match check_log(rt, alloc, dir, options.is_new) {
+        Ok(()) => {}
+        Err(fault) => return Err(fault),
+    }
     let OwnFolder {
         lock,
         mut shelf,
         mut found,
-    } = match own_folder(disk, rt, alloc, options.dir.as_str()) {
+    } = match own_folder(disk, rt, alloc, dir) {
         Ok(own) => own,
         Err(fault) => return Err(fault),
     };
-    let path = match proposal_path(alloc, options.dir.as_str()) {
+    let path = match proposal_path(alloc, dir) {
         Ok(path) => path,
         Err(_) => return Err(RunFault::OutOfMemory),
     };
@@ -170,6 +175,19 @@ fn compact<H: Files<File = File>, E: Write>(
     Ok(())
 }
 
+// Checks, before anything is made, that there is no file at this path where a state begins, and else that there is one.
+fn check_state<H: Files>(rt: &H, path: &str, is_new: bool) -> Result<(), WitnessFault> {
+    match (rt.symlink_metadata(path), is_new) {
+        (Ok(_), true) => Err(state_fault(DeviceFault::Taken)),
+        (Ok(_), false) => Ok(()),
+        (Err(error), is_new) => match DeviceFault::from(error) {
+            DeviceFault::NotThere if is_new => Ok(()),
+            DeviceFault::NotThere => Err(WitnessFault::Run(RunFault::NothingThere(Place::State))),
+            fault => Err(state_fault(fault)),
+        },
+    }
+}
+
 // Serves a witness whose lines are those of the file at this path.
 fn witness_at<
     H: Host
@@ -180,9 +198,14 @@ fn witness_at<
     rt: &H,
     alloc: Global,
     options: &WitnessOptions,
+    entrance: &Entrance,
     path: &str,
     errors: &mut Counted<E>,
 ) -> Result<(), WitnessFault> {
+    match check_state(rt, path, options.is_new) {
+        Ok(()) => {}
+        Err(fault) => return Err(fault),
+    }
     if options.compacts {
         compact(rt, alloc, path, options.server.quiet, errors)?;
     }
@@ -191,7 +214,9 @@ fn witness_at<
         Err(fault) => return Err(state_fault(fault)),
     };
     let (mut reader, mut writer) = (Counted::new(lines), Counted::new(end));
-    let outcome = run_witness(rt, alloc, options, &mut reader, &mut writer, errors);
+    let outcome = run_witness(
+        rt, alloc, options, entrance, &mut reader, &mut writer, errors,
+    );
     match (outcome, writer.into_inner().fault()) {
         (Err(WitnessFault::Run(RunFault::Write)), Some(fault)) => Err(state_fault(fault)),
         (outcome, _) => outcome,
@@ -220,11 +245,15 @@ pub(crate) fn witness<
     ensures spares { SparesStreams options.now (passage R.remaining reader.old reader.new)
         (passage W.contents writer.old writer.new) }
 {
-    let Some(path) = &options.state else {
-        return run_witness(rt, alloc, options, reader, writer, errors);
-    };
     if !may_serve(&options.logs) {
         return Err(WitnessFault::Run(RunFault::BadOrigin));
     }
-    witness_at(rt, alloc, options, path, errors)
+    let entrance = match Entrance::open(rt, &options.server) {
+        Ok(entrance) => entrance,
+        Err(fault) => return Err(WitnessFault::Run(fault)),
+    };
+    match &options.state {
+        Some(path) => witness_at(rt, alloc, options, &entrance, path, errors),
+        None => run_witness(rt, alloc, options, &entrance, reader, writer, errors),
+    }
 }

@@ -170,7 +170,7 @@ pub(crate) fn client_of<'b, H>(
     Ok(Client::new(rt, alloc, url, credential))
 }
 
-/// The bucket of a log as a shelf.
+/// The bucket of a log as a shelf. If it is new, none may be there yet, and else there has to be one.
 pub(crate) fn open_bucket<
     'b,
     D: CrashOutcome + Drop,
@@ -181,13 +181,14 @@ pub(crate) fn open_bucket<
     alloc: Global,
     options: &'b BucketOptions,
     key: &'b AccessKey,
+    is_new: bool,
 ) -> Result<BucketShelf<'b, D, H>, CommandFault>
     requires { IsKeyFor options.now (string_bytes key.now.id) (string_bytes key.now.secret) }
-    ensures { IfOk result (OpensBucket options.entry.now) }
+    ensures { IfOk result (OpensBucket options.entry.now is_new) }
 {
     let token = new_token(rt, alloc)?;
     let client = client_of(rt, alloc, options, key)?;
-    match BucketShelf::open(disk, client, options.address.as_str(), token) {
+    match BucketShelf::open(disk, client, options.address.as_str(), token, is_new) {
         Ok(shelf) => Ok(shelf),
         Err(fault) => Err(CommandFault::Bucket(fault)),
     }

@@ -8,7 +8,7 @@ use std::fs::{File, Files};
 use std::marker::Model;
 use tl_command::{Place, RunFault};
 use tl_device::DeviceFault;
-use tl_folder::{CrashOutcome, FolderLock, FolderShelf, lock_folder};
+use tl_folder::{CrashOutcome, FolderLock, FolderShelf, has_log, lock_folder};
 use tl_ledger::Found;
 
 /// The folder of a log, where no other process works as long as this lasts, and what was read of the log that was found
@@ -31,6 +31,24 @@ impl<D, H> Model for OwnFolder<D, H> {
 // That the folder of a log failed.
 fn folder_fault(fault: DeviceFault) -> RunFault {
     RunFault::of_device(Place::Log(None), fault)
+}
+
+/// Checks that a log is in the folder at this path, if none begins there: nothing is made or locked before.
+/// `NothingThere`: there is none.
+pub(crate) fn check_log<H: Files>(
+    rt: &H,
+    alloc: Global,
+    dir: &str,
+    is_new: bool,
+) -> Result<(), RunFault> {
+    if is_new {
+        return Ok(());
+    }
+    match has_log(rt, alloc, dir) {
+        Ok(true) => Ok(()),
+        Ok(false) => Err(RunFault::NothingThere(Place::Log(None))),
+        Err(fault) => Err(folder_fault(fault)),
+    }
 }
 
 /// The folder of a log as a shelf. It is made where it isn't there.

@@ -9,7 +9,7 @@ ghost use Rattle.tl_serve.specs.Asking.{ServesCosigned};
 ghost use Rattle.tl_serve.specs.Serving.{Serves};
 ghost use Rattle.tl_cli.specs.Lasting.{ServesAt, ServesBy, nobody};
 
-use crate::own_folder::{OwnFolder, open_folder, own_folder};
+use crate::own_folder::{OwnFolder, check_log, open_folder, own_folder};
 use crate::proposal_file::{ProposalFile, ReadProposal, proposal_path};
 use std::alloc::Global;
 use std::fs::{File, Files};
@@ -23,7 +23,8 @@ use tl_folder::{CrashOutcome, FolderShelf};
 use tl_ledger::Found;
 use tl_note::is_key_name;
 use tl_serve::{
-    CosignedLog, Host, ServeOptions, Served, run_serve_cosigned, run_serve_shelf, threads_of,
+    CosignedLog, Entrance, Host, ServeOptions, Served, Site, run_serve_cosigned, run_serve_shelf,
+    threads_of,
 };
 
 // So many shelves of the folder at this path, for threads that read there.
@@ -53,11 +54,11 @@ fn serve_signed<
     rt: &H,
     alloc: Global,
     options: &ServeOptions,
+    site: &Site<'_>,
     path: &str,
     shelf: FolderShelf<D, H>,
     shown: Vec<FolderShelf<D, H>>,
     found: &mut Found<Global>,
-    input: Option<RawFd>,
     reader: &mut Counted<R>,
     errors: &mut Counted<E>,
 ) -> Served<FolderShelf<D, H>>
@@ -69,7 +70,7 @@ fn serve_signed<
     let store = ReadProposal { rt, path };
     let signed = SealedShelf::new(shelf, store, AsSigned, options.keeps_partials);
     let Served { shelf, outcome } = run_serve_shelf(
-        rt, alloc, options, None, signed, shown, found, input, reader, errors,
+        rt, alloc, options, site, None, signed, shown, found, reader, errors,
     );
     let shelf = shelf.into_shelf();
     Served { shelf, outcome }
@@ -88,12 +89,12 @@ fn serve_cosigned<
     rt: &H,
     alloc: Global,
     options: &ServeOptions,
+    site: &Site<'_>,
     dir: &str,
     path: &str,
     shelf: FolderShelf<D, H>,
     shown: Vec<FolderShelf<D, H>>,
     found: &mut Found<Global>,
-    input: Option<RawFd>,
     reader: &mut Counted<R>,
     errors: &mut Counted<E>,
 ) -> Served<FolderShelf<D, H>>
@@ -122,7 +123,9 @@ fn serve_cosigned<
         shown,
         asked,
     };
-    run_serve_cosigned(rt, alloc, options, log, found, input, reader, errors)
+    run_serve_cosigned(
+        rt, alloc, options, site, log, found, reader, errors,
+    )
 }
 
 // Serves the log in a folder by its options.
@@ -138,11 +141,11 @@ fn serve_folder<
     rt: &H,
     alloc: Global,
     options: &ServeOptions,
+    site: &Site<'_>,
     dir: &str,
     shelf: FolderShelf<D, H>,
     shown: Vec<FolderShelf<D, H>>,
     found: &mut Found<Global>,
-    input: Option<RawFd>,
     reader: &mut Counted<R>,
     errors: &mut Counted<E>,
 ) -> Served<FolderShelf<D, H>>
@@ -161,11 +164,11 @@ fn serve_folder<
     let path = path.as_str();
     if options.need == 0 {
         serve_signed(
-            rt, alloc, options, path, shelf, shown, found, input, reader, errors,
+            rt, alloc, options, site, path, shelf, shown, found, reader, errors,
         )
     } else {
         serve_cosigned(
-            disk, rt, alloc, options, dir, path, shelf, shown, found, input, reader, errors,
+            disk, rt, alloc, options, site, dir, path, shelf, shown, found, reader, errors,
         )
     }
 }
@@ -198,6 +201,15 @@ pub(crate) fn serve_at<
     if !is_key_name(options.origin.as_str()) {
         return Err(RunFault::BadOrigin);
     }
+    let entrance = match Entrance::open(rt, &options.server) {
+        Ok(entrance) => entrance,
+        Err(fault) => return Err(fault),
+    };
+    let site = Site::new(&entrance, input);
+    match check_log(rt, alloc, dir, options.is_new) {
+        Ok(()) => {}
+        Err(fault) => return Err(fault),
+    }
     let own = match own_folder(disk, rt, alloc, dir) {
         Ok(own) => own,
         Err(fault) => return Err(fault),
@@ -213,7 +225,7 @@ pub(crate) fn serve_at<
         mut found,
     } = own;
     let Served { shelf, outcome } = serve_folder(
-        disk, rt, alloc, options, dir, shelf, shown, &mut found, input, reader, errors,
+        disk, rt, alloc, options, &site, dir, shelf, shown, &mut found, reader, errors,
     );
     *folder = Some(OwnFolder { lock, shelf, found });
     outcome

@@ -59,6 +59,7 @@ fn serve_options(alloc: Global) -> Result<ServeOptions, AllocError> {
         batch: 100,
         note: None,
         dir: None,
+        is_new: false,
         follow: false,
         takes_posts: false,
         interval: 0,

@@ -3,6 +3,7 @@
 use crate::tally::{BallotEvent, Round, Tally};
 use crate::unasked::Unasked;
 use std::alloc::{AllocError, Global};
+use std::sync::atomic::{AtomicU64, Ordering};
 use std::sync::{Arc, Condvar, Mutex, Wait};
 use std::time::{Clock, Duration};
 
@@ -13,7 +14,12 @@ pub struct Ballot {
     alloc: Global,
     tally: Mutex<Tally>,
     changed: Condvar,
+    // How often who asks was urged.
+    urged: AtomicU64,
 }
+
+// For how many seconds who pauses doesn't look whether it was urged.
+const PAUSE: u64 = 1;
 
 impl Ballot {
     /// A ballot of so many witnesses, before its first round. It fails only where a growth was refused.
@@ -23,7 +29,18 @@ impl Ballot {
             alloc,
             tally,
             changed: Condvar::new(),
+            urged: AtomicU64::new(0),
         })
+    }
+
+    /// Has those that pause ask again within a second, since something waits for the round that is open.
+    pub fn urge(&self) {
+        self.urged.fetch_add(1, Ordering::SeqCst);
+    }
+
+    /// How often who asks was urged.
+    pub(crate) fn urged(&self) -> u64 {
+        self.urged.load(Ordering::SeqCst)
     }
 
     /// Opens a new round, of this note: its number. The lines of the last one are forgotten, and those that ask begin
@@ -91,13 +108,30 @@ impl Ballot {
         self.changed.notify_all();
     }
 
-    /// Waits so long, or until the round with this number is closed, or the ballot has ended: whether it goes on. It
-    /// may wait.
-    pub(crate) fn pause<R: Wait + Clock>(&self, rt: &R, number: u64, time: Duration) -> bool {
-        let tally = self.tally.lock(rt);
+    // Waits a second, or until the round with this number is closed, or the ballot has ended: whether neither is so.
+    fn pause_once<R: Wait + Clock>(&self, rt: &R, number: u64) -> bool {
+        let (tally, time) = (self.tally.lock(rt), Duration::from_secs(PAUSE));
         let (tally, _) = self
             .changed
             .wait_timeout_while(rt, tally, time, |tally| tally.stays(number));
+        tally.stays(number)
+    }
+
+    /// Waits so many seconds, or until the round with this number is closed, or the ballot has ended, or, after a
+    /// second, who asks was urged once more than so often: whether the ballot goes on. It may wait.
+    pub(crate) fn pause<R: Wait + Clock>(
+        &self,
+        rt: &R,
+        number: u64,
+        seconds: u64,
+        urged: u64,
+    ) -> bool {
+        for _ in 0..seconds {
+            if !self.pause_once(rt, number) || self.urged() != urged {
+                break;
+            }
+        }
+        let tally = self.tally.lock(rt);
         !tally.has_ended()
     }
 }

@@ -10,7 +10,7 @@ use crate::proposed::{AsksWitness, LogKeys, Proposed};
 use crate::unasked::Unasked;
 use std::alloc::Global;
 use std::sync::Wait;
-use std::time::{Clock, Duration};
+use std::time::Clock;
 use tl_ask::AskFault;
 use tl_checkpoint::{OpenCheckpointFault, open_checkpoint};
 use tl_client::{Head, ResourceSource};
@@ -54,9 +54,10 @@ fn line_by<S: ResourceSource, Q: AsksWitness>(
 }
 
 /// Asks the witness at this place, which has these keys, in each round of the ballot for the line by which it cosigns
-/// the note, until the ballot ends. After a fault it is asked again: once another round opens, or 1 second later, 2, 4, up to 60, as long
-/// as that round is open. Who waits is told the first fault of those in a row for one reason, and each of a round that
-/// stays open. A note that the log didn't sign is passed over. It may wait.
+/// the note, until the ballot ends. After a fault it is asked again: once another round opens, or 1 second later, 2, 4,
+/// up to 60, as long as that round is open, or a second later if the ballot is urged. Who waits is told the first fault
+/// of those in a row for one reason, and each of a round that stays open. A note that the log didn't sign is passed
+/// over. It may wait.
 pub fn ask_in_rounds<R: Wait + Clock, S: ResourceSource, Q: AsksWitness>(
     rt: &R,
     alloc: Global,
@@ -73,7 +74,7 @@ pub fn ask_in_rounds<R: Wait + Clock, S: ResourceSource, Q: AsksWitness>(
         let Some(round) = ballot.next(rt, place, after) else {
             return;
         };
-        let note = round.note.as_str();
+        let (note, urged) = (round.note.as_str(), ballot.urged());
         match line_by(alloc, source, log, note, &mut known, asker, keys) {
             Ok(Some(line)) => {
                 ballot.put_line(rt, place, round.number, line);
@@ -86,7 +87,7 @@ pub fn ask_in_rounds<R: Wait + Clock, S: ResourceSource, Q: AsksWitness>(
                     ballot.put_unasked(rt, place, why);
                 }
                 last = Some(failure);
-                if !ballot.pause(rt, round.number, Duration::from_secs(failure.pause)) {
+                if !ballot.pause(rt, round.number, failure.pause, urged) {
                     return;
                 }
             }

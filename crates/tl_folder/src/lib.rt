@@ -28,6 +28,7 @@ mod shelf;
 pub mod shelf_law;
 mod staged;
 mod system;
+mod there;
 mod together;
 mod whole;
 
@@ -42,5 +43,6 @@ pub use place::{has_path, path_under};
 pub use resource::read_resource;
 pub use shelf::FolderShelf;
 pub use system::sync_at;
+pub use there::has_log;
 pub use together::{SyncKind, SyncOutcome, SyncsTogether};
 pub use whole::AtomicFile;

@@ -76,7 +76,8 @@ pub(crate) fn put_staged<H: Files, D: SyncsTogether>(
     calls.sync_folders(disk, alloc, folders)
 }
 
-/// Writes a new file, and makes the folders above it where they aren't there. Their names may be lost in a crash.
+/// Writes a new file that everybody may read, and makes the folders above it where they aren't there. Their names may be
+/// lost in a crash.
 pub(crate) fn write_in_folder<H: Files>(
     calls: &mut SystemCalls<H>,
     path: &str,
@@ -85,14 +86,14 @@ pub(crate) fn write_in_folder<H: Files>(
     ensures { WritesAside path.now bytes.now calls.old calls.new result }
 {
     check_plain(calls.symlink_metadata(path))?;
-    match calls.write(path, bytes) {
+    match calls.write_shown(path, bytes) {
         Ok(()) => return Ok(()),
         Err(DeviceFault::NotThere) => {}
         Err(fault) => return Err(fault),
     }
     let Some(folder) = Path::new(path).parent() else {
-        return calls.write(path, bytes);
+        return calls.write_shown(path, bytes);
     };
     make_folders(calls, folder.as_str(), false)?;
-    calls.write(path, bytes)
+    calls.write_shown(path, bytes)
 }

@@ -10,11 +10,16 @@ use crate::call_log::CallLog;
 use crate::folders::folder_of;
 use crate::look::{open_folder, open_plain};
 use crate::together::{SyncKind, SyncOutcome};
-use std::fs::{File, Files, Metadata, OpenFile, TryLockError, rename};
+use std::fs::{File, Files, Metadata, OpenFile, Permissions, TryLockError, create_dir, rename};
 use std::io;
 use std::io::Write;
 use std::marker::Model;
+use std::os::unix::fs::PermissionsExt;
 use tl_device::DeviceFault;
+
+// Everybody may read what a log shows, and its owner alone may write it.
+const SHOWN_FILE: u32 = 0o644;
+const SHOWN_FOLDER: u32 = 0o755;
 
 /// The system, by this handle, and the calls that were made. Contracts see the calls.
 #[derive(Drop)]
@@ -72,6 +77,22 @@ impl OpenedFile<File> {
 fn write_file<H: Files>(files: &H, path: &str, bytes: &[u8]) -> Result<(), DeviceFault> {
     let mut file = File::create(files, path)?;
     file.write_all(bytes)?;
+    Ok(())
+}
+
+// The same, of a file that everybody may read, whatever the process allows new files. A mode that the system doesn't
+// set stays as it is, and nothing fails.
+fn write_shown_file<H: Files>(files: &H, path: &str, bytes: &[u8]) -> Result<(), DeviceFault> {
+    let mut file = File::create(files, path)?;
+    let _ = file.set_permissions(Permissions::from_mode(SHOWN_FILE));
+    file.write_all(bytes)?;
+    Ok(())
+}
+
+// Makes a folder in which everybody may read. A mode that the system doesn't set stays as it is, and nothing fails.
+fn make_shown_folder<H: Files>(files: &H, path: &str) -> Result<(), DeviceFault> {
+    create_dir(files, path)?;
+    let _ = files.set_permissions(path, Permissions::from_mode(SHOWN_FOLDER));
     Ok(())
 }
 

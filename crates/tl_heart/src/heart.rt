@@ -2,7 +2,7 @@
 
 ghost use Rattle.std.specs.Prelude.{◌≡◌, false, true};
 ghost use Rattle.tl_heart.specs.declared.heart.Doing.TheVariants as doing;
-ghost use Rattle.tl_heart.specs.Order.{Begins, telling};
+ghost use Rattle.tl_heart.specs.Order.{Begins, publication, telling};
 ghost use Rattle.tl_heart.specs.Heart.{after, after_done, after_failure, after_nothing, is_waiting, next_due, next_taking, now_doing, step_of, with_taken, without_new};
 
 use std::alloc::AllocError;
@@ -170,6 +170,27 @@ impl<F: Copy> Heart<F> {
         Heart {
             doing: Doing::Telling(false),
             has_new: false,
+            left: batch,
+            batch,
+            gathers,
+        }
+    }
+
+    /// A log that is served and owes a publication, as what was there isn't shown: it waits until that is due, and
+    /// publishes as the other does.
+    pub fn owing(batch: u64, gathers: bool) -> Heart<F>
+        ensures value { result ≡ record {
+          doing = doing.Waiting;
+          has_new = true;
+          left = batch;
+          batch = batch;
+          gathers = gathers;
+        } }
+        ensures begins { Begins result publication }
+    {
+        Heart {
+            doing: Doing::Waiting,
+            has_new: true,
             left: batch,
             batch,
             gathers,

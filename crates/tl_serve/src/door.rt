@@ -1,12 +1,13 @@
 //! The door of a server, through which connections come to its threads.
 
+use crate::entrance::Entrance;
 use crate::options::ListenOptions;
 use mio::unix::SourceFd;
 use mio::{Interest, Poll, Token, Waker};
 use std::alloc::Global;
 use std::io;
 use std::io::{ErrorKind, Write};
-use std::net::{Net, SocketAddr, TcpListener, TcpStream};
+use std::net::{Net, TcpListener, TcpStream};
 use std::os::fd::AsRawFd;
 use std::sync::atomic::{AtomicBool, AtomicU64, Ordering};
 use std::sync::{Mutex, Wait};
@@ -97,32 +98,22 @@ fn watch_all<H: Net>(
     Ok((polls, wakers))
 }
 
-// A listener at this address, which never waits, and where it is.
-fn listen<H: Net<Listener = TcpListener, Stream = TcpStream>>(
-    rt: &H,
-    address: &str,
-) -> io::Result<(TcpListener, SocketAddr)> {
-    let listener = TcpListener::bind(rt, address)?;
-    let address = listener.local_addr()?;
-    listener.set_nonblocking(true)?;
-    Ok((listener, address))
-}
-
 impl Door {
-    /// Listens at the address of the options, where so many threads are to answer, and tells where. `Listen`: the
-    /// address is refused. `Accept`: the system refuses to watch it.
-    pub(crate) fn open<H: Net<Listener = TcpListener, Stream = TcpStream>, L: Write>(
+    /// Opens the door at this entrance, where so many threads are to answer, and tells where it is. `Accept`: the
+    /// system refuses to watch it.
+    pub(crate) fn open<H: Net, L: Write>(
         rt: &H,
         alloc: Global,
         options: &ListenOptions,
+        entrance: &Entrance,
         threads: u32,
         log: &mut Counted<L>,
     ) -> Result<Door, RunFault> {
-        let Ok((listener, address)) = listen(rt, options.listen.as_str()) else {
-            return Err(RunFault::Listen);
+        let Ok(listener) = entrance.listener.try_clone() else {
+            return Err(RunFault::Accept);
         };
         let (polls, wakers) = watch_all(rt, alloc, &listener, threads)?;
-        let line = format!(in alloc; "listening {address}\n")?;
+        let line = format!(in alloc; "listening {}\n", entrance.address)?;
         print_text(log, line.as_bytes())?;
         Ok(Door {
             listener,

@@ -20,6 +20,9 @@ const BLOCK: usize = 8192;
 // The longest answer that is on its way whole once it was written: it fits the first packets of a connection.
 const SHORT: usize = 14_000;
 
+// How many milliseconds an answer has that an entry isn't published.
+const LAST: u64 = 1000;
+
 // How often in turn something that nobody reads any more is read away.
 const MOST_LEFT: u32 = 256;
 
@@ -39,6 +42,8 @@ pub(crate) struct Guest {
     pub(crate) is_writing: bool,
     // Whether all was written, and the client is waited for.
     is_leaving: bool,
+    // Whether it is answered though it isn't known where its entry is.
+    is_late: bool,
 }
 
 /// What connections are answered with: the system, memory, and what the threads tell each other.
@@ -72,6 +77,7 @@ impl Guest {
             came,
             is_writing: false,
             is_leaving: false,
+            is_late: false,
         }
     }
 
@@ -80,10 +86,15 @@ impl Guest {
         self.answer.is_some()
     }
 
+    /// Whether it waits for the place of an entry.
+    pub(crate) fn is_waiting(&self) -> bool {
+        self.answer.is_none() && self.receipt.is_some()
+    }
+
     /// Whether it waits for the place of an entry that is below this size.
     pub(crate) fn is_published(&self, size: u64) -> bool {
         match &self.receipt {
-            Some(receipt) => self.answer.is_none() && receipt.index_below(size).is_some(),
+            Some(receipt) => self.is_waiting() && receipt.index_below(size).is_some(),
             None => false,
         }
     }
@@ -97,6 +108,15 @@ impl Guest {
             limit
         };
         self.came.saturating_add(time)
+    }
+
+    /// When something is to be done with it, whatever comes: its time is over, or an entry that it waits for isn't
+    /// published in time. Then there is a second left for the answer, or half of the time where that is less.
+    pub(crate) fn due(&self, limit: u64) -> u64 {
+        if self.is_waiting() {
+            return self.came.saturating_add(limit - LAST.min(limit / 2));
+        }
+        self.deadline(limit)
     }
 
     // Takes what came, until enough did to try an answer.
@@ -150,6 +170,7 @@ impl Guest {
             rt: house.rt,
             news: house.news,
             receipt: self.receipt.take(),
+            is_late: self.is_late,
         };
         let outcome = pages.answer(house.alloc, &mut reader, &mut writer, &mut turn);
         let asked = reader.into_inner().asked();
@@ -262,6 +283,16 @@ impl Guest {
             }
         }
         Next::Leave
+    }
+
+    /// Answers that its entry isn't published, unless it is.
+    pub(crate) fn give_up<H: Wait, P: Pages>(
+        &mut self,
+        house: &House<'_, H>,
+        pages: &mut P,
+    ) -> Next {
+        self.is_late = true;
+        self.go_on(house, pages)
     }
 
     /// Whether it waits for room to write, and not for something to read.

@@ -32,7 +32,7 @@ pub(crate) struct Guests<'d, H> {
     poll: Poll,
     guests: Slab<Guest>,
     start: Instant,
-    // The time, and when the next connection may have to be let go, in milliseconds from the start.
+    // The time, and when something may have to be done with a connection, in milliseconds from the start.
     now: u64,
     due: u64,
     // When all are let go, once the door is closed.
@@ -119,7 +119,7 @@ impl<'d, H> Guests<'d, H> {
         let mut guest = guest;
         let (key, interest) = (self.guests.vacant_key(), guest.interest());
         guest.is_writing = guest.wants_to_write();
-        let due = guest.deadline(self.door.limit());
+        let due = guest.due(self.door.limit());
         let is_watched = self
             .poll
             .registry()
@@ -150,26 +150,55 @@ impl<'d, H> Guests<'d, H> {
         self.due = self.next_due();
     }
 
-    // When the time of the first of them is over.
+    // When something is to be done with the first of them.
     fn next_due(&self) -> u64 {
         let mut due = u64::MAX;
         for (_, guest) in self.guests.iter() {
-            due = due.min(guest.deadline(self.door.limit()));
+            due = due.min(guest.due(self.door.limit()));
         }
         due
     }
 }
 
 impl<'d, H: Clock + Net + Wait> Guests<'d, H> {
+    // Has a connection wait, or leave, by what came of going on with it.
+    fn settle(&mut self, key: usize, next: Next) {
+        if next == Next::Leave || !self.watch(key) {
+            let _ = self.guests.try_remove(key);
+            self.door.let_go(1);
+        } else if let Some(guest) = self.guests.get(key) {
+            self.due = self.due.min(guest.due(self.door.limit()));
+        }
+    }
+
     // Goes on with a connection of which something was told.
     fn go_on<P: Pages>(&mut self, key: usize, pages: &mut P) {
         let next = match self.guests.get_mut(key) {
             Some(guest) => guest.go_on(&self.house, pages),
             None => return,
         };
-        if next == Next::Leave || !self.watch(key) {
-            let _ = self.guests.try_remove(key);
-            self.door.let_go(1);
+        self.settle(key, next);
+    }
+
+    // Answers a connection that its entry isn't published, if it waits for that no longer.
+    fn give_up<P: Pages>(&mut self, key: usize, pages: &mut P) {
+        let (now, limit, is_closed) = (self.now, self.door.limit(), self.door.is_closed());
+        let Some(guest) = self.guests.get_mut(key) else {
+            return;
+        };
+        if guest.is_waiting() && (is_closed || now >= guest.due(limit)) {
+            let next = guest.give_up(&self.house, pages);
+            self.settle(key, next);
+        }
+    }
+
+    // Answers all connections whose entries aren't published in time, or won't be, as the door is closed.
+    fn give_up_late<P: Pages>(&mut self, pages: &mut P) {
+        if self.now < self.due && !self.door.is_closed() {
+            return;
+        }
+        for key in 0..self.guests.capacity() {
+            self.give_up(key, pages);
         }
     }
 
@@ -265,6 +294,7 @@ impl<'d, H: Clock + Net + Wait> Guests<'d, H> {
             self.look_at_clock();
             self.go_on_with(&events, &mut pages);
             self.go_on_published(&mut pages);
+            self.give_up_late(&mut pages);
             self.let_go();
         }
         Ok(())

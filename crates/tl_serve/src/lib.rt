@@ -14,6 +14,7 @@ mod cosigner;
 mod cosigners;
 mod desk;
 mod door;
+mod entrance;
 mod following;
 mod gate;
 mod guest;
@@ -49,6 +50,7 @@ mod witness;
 mod witness_fault;
 mod written;
 
+pub use entrance::{Entrance, Site};
 pub use gate::Gate;
 pub use host::Host;
 pub use options::{

@@ -6,9 +6,10 @@ use mio::Waker;
 use std::alloc::Global;
 use std::net::Net;
 use std::sync::atomic::{AtomicBool, AtomicU64, Ordering};
-use std::sync::{Mutex, Wait};
+use std::sync::{Arc, Mutex, Wait};
 use std::time::Duration;
 use tl_command::RunFault;
+use tl_cosign::Ballot;
 use tl_heart::Event;
 
 /// What happens beside the thread that carries steps out.
@@ -20,6 +21,8 @@ pub(crate) struct News {
     following: Option<Waker>,
     // Where connections hand entries in, if they may.
     desk: Option<Desk>,
+    // Who asks witnesses about what the log proposes, if they are asked.
+    ballot: Option<Arc<Ballot>>,
     // Whether entries were sent since they were last looked for.
     has_entries: AtomicBool,
     // Whether the input ended since that was last looked for.
@@ -37,12 +40,13 @@ pub(crate) struct News {
 
 impl News {
     /// Nothing yet. `following` wakes the thread that follows the input, if one does; at the desk, if there is one,
-    /// connections hand entries in. `Read`: the system refuses.
+    /// connections hand entries in; by the ballot, if there is one, witnesses are asked. `Read`: the system refuses.
     pub(crate) fn new<H: Net>(
         rt: &H,
         alloc: Global,
         following: Option<Waker>,
         desk: Option<Desk>,
+        ballot: Option<Arc<Ballot>>,
     ) -> Result<News, RunFault> {
         let (watch, waker) = Watch::new(rt, alloc)?;
         Ok(News {
@@ -50,6 +54,7 @@ impl News {
             waker,
             following,
             desk,
+            ballot,
             has_entries: AtomicBool::new(false),
             has_ended: AtomicBool::new(false),
             too_long: Mutex::new(Vec::new(alloc)),
@@ -122,8 +127,16 @@ impl News {
         self.is_stopped.load(Ordering::SeqCst)
     }
 
+    /// Something came that waits for witnesses, if they are asked about what is proposed: that is done again soon.
+    pub(crate) fn urge(&self) {
+        if let Some(ballot) = &self.ballot {
+            ballot.urge();
+        }
+    }
+
     /// Entries were sent.
     pub(crate) fn tell_entries(&self) {
+        self.urge();
         if !self.has_entries.swap(true, Ordering::SeqCst) {
             self.wake();
         }

@@ -25,14 +25,20 @@ pub(crate) struct NewsFeed<'n, H> {
 }
 
 impl<'n, H: Wait + Clock> NewsFeed<'n, H> {
-    /// Nothing yet. What was taken in waits for so many milliseconds.
-    pub(crate) fn new(rt: &'n H, news: &'n News, door: &'n Door, interval: u64) -> NewsFeed<'n, H> {
+    /// Nothing yet. What was taken in waits for so many milliseconds, and for none what is due at first.
+    pub(crate) fn new(
+        rt: &'n H,
+        news: &'n News,
+        door: &'n Door,
+        interval: u64,
+        is_due: bool,
+    ) -> NewsFeed<'n, H> {
         NewsFeed {
             rt,
             news,
             door,
             interval: Duration::from_millis(interval),
-            published: None,
+            published: if is_due { Some(0) } else { None },
             since: None,
         }
     }

@@ -74,6 +74,8 @@ pub struct ServeOptions {
     pub note: Option<String>,
     /// The folder of the log; without it, the log is in memory.
     pub dir: Option<String>,
+    /// Whether a log begins in the folder, so that none may be there; else there is one, and it is gone on from.
+    pub is_new: bool,
     /// Whether lines are published as they come.
     pub follow: bool,
     /// Whether entries are taken that are posted, and answered with their places.
@@ -103,6 +105,8 @@ pub struct WitnessOptions {
     pub time: Option<u64>,
     /// The file of what it cosigned; without it, standard input and output.
     pub state: Option<String>,
+    /// Whether that file is made, so that none may be there; else there is one, and it is gone on from.
+    pub is_new: bool,
     /// Whether that file is compacted first: of each origin its last link alone is kept.
     pub compacts: bool,
     /// Where and how long it listens.

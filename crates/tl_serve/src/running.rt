@@ -3,8 +3,8 @@
 ghost use Rattle.std.specs.Prelude.{◌≡◌, ◌-◌, All};
 ghost use Rattle.tl_sequencer.specs.Log.{IsEndOf};
 ghost use Rattle.tl_device.specs.Device.{passage};
-ghost use Rattle.tl_heart.specs.Order.{Begins, telling};
-ghost use Rattle.tl_serve.specs.Inner.Carrying.{Carries, CountsEnds, CountsRound, Drives, ShowsTaken, TellsHead, TellsInputEnded, count_event, taken_after, told_event};
+ghost use Rattle.tl_heart.specs.Order.{Begins};
+ghost use Rattle.tl_serve.specs.Inner.Carrying.{Carries, CountsEnds, CountsRound, Drives, ShowsTaken, TellsHead, TellsInputEnded, count_event, owed_first, taken_after, told_event};
 ghost use Rattle.tl_serve.specs.Inner.Rounds.{TakesEnds, TakesRound};
 ghost use Rattle.tl_serve.specs.Inner.Running.{StaysRunning};
 ghost use Rattle.tl_serve.specs.Inner.Telling.{TellsRest};
@@ -62,6 +62,8 @@ pub(crate) struct Running<O> {
     pub(crate) rounds: Rounds,
     pub(crate) taken: u64,
     pub(crate) published: u64,
+    /// Whether it was due at first: entries that were there before aren't shown.
+    pub(crate) was_due: bool,
 }
 
 // What came of a call that counts nothing.
@@ -117,26 +119,33 @@ fn take_ends<O: LiveLog>(log: &mut O, ends: Vec<Ended<Global, Global>>) -> Resul
 }
 
 impl<O: LiveLog> Running<O> {
-    /// A log of which nothing is taken yet.
-    pub(crate) fn new(log: O, rounds: Rounds) -> Running<O>
+    /// A log of which nothing is taken yet, which may be due.
+    pub(crate) fn new(log: O, rounds: Rounds, is_due: bool) -> Running<O>
         ensures log { result.log ≡ log }
         ensures rounds { result.rounds ≡ rounds }
         ensures none { (result.taken ≡ 0) × (result.published ≡ 0) }
+        ensures due { result.was_due ≡ is_due }
     {
         Running {
             log,
             rounds,
             taken: 0,
             published: 0,
+            was_due: is_due,
         }
     }
 
-    /// What a log that is served does first.
+    /// What a log that is served does first: it publishes what is due, or else tells what was published.
     pub(crate) fn begin(&self) -> Heart<RunFault>
-        ensures begins { Begins result telling }
+        ensures begins { Begins result (owed_first self.now.was_due) }
         ensures batch { (result.batch ≡ self.now.rounds.batch) × (result.left ≡ self.now.rounds.batch) }
     {
-        Heart::serving(self.rounds.batch, self.rounds.gathers)
+        let Rounds { batch, gathers, .. } = self.rounds;
+        if self.was_due {
+            Heart::owing(batch, gathers)
+        } else {
+            Heart::serving(batch, gathers)
+        }
     }
 
     // Counts entries that were taken.

@@ -6,6 +6,7 @@ ghost use Rattle.tl_publisher.specs.Operating.{IsOperating};
 ghost use Rattle.tl_sequencer.specs.Log.{IsSenderOf, rings_of};
 ghost use Rattle.tl_command.specs.Origins.{RefusesOrigin};
 
+use crate::entrance::{Entrance, Site};
 use crate::gate::{Gate, OpenGate};
 use crate::host::Host;
 use crate::live_log::MOST_ENTRIES;
@@ -119,6 +120,7 @@ impl<H: Host + Net<Listener = TcpListener, Stream = TcpStream>, G: Gate> Server<
         let log = MemoryLog { operator, board };
         let base = Base {
             size: before,
+            is_due: false,
             remembered: self.remembered(),
         };
         let Ran { running, heart } = self.serve_published(
@@ -213,6 +215,7 @@ pub fn serve_gated<
         return Err(RunFault::BadOrigin);
     }
     let gate: &G = &gate;
+    let entrance = Entrance::open(rt, &options.server)?;
     let LogKeys { signer, verifier } = keys_of(rt, alloc, origin, &options.key)?;
     let opens: [Box<dyn Verifier>; 1] = [Box::new(alloc, verifier)?];
     let mut signers: Vec<Box<dyn Signer>> = Vec::new(alloc);
@@ -221,7 +224,7 @@ pub fn serve_gated<
         rt,
         alloc,
         options,
-        input,
+        site: &Site::new(&entrance, input),
         gate,
     };
     match &options.note {

@@ -1,14 +1,15 @@
 //! The command `serve` on a shelf, where witnesses must have cosigned what is shown.
 
-ghost use Rattle.std.specs.Prelude.{◌≡◌, Err, IfOk, map, string_bytes, vec_items};
+ghost use Rattle.std.specs.Prelude.{◌≡◌, ◌⊎◌, Err, IfOk, map, string_bytes, vec_items};
 ghost use Rattle.tl_device.specs.Device.{passage};
 ghost use Rattle.tl_command.specs.Origins.{RefusesOrigin};
-ghost use Rattle.tl_append.specs.Running.{visit};
+ghost use Rattle.tl_append.specs.Running.{BeginsAsAsked, visit};
 ghost use Rattle.tl_serve.specs.Asking.{AreKeysOf, ServesCosigned};
-ghost use Rattle.tl_serve.specs.Serving.{Serves};
+ghost use Rattle.tl_serve.specs.Serving.{IsLeft, Serves};
 
 use crate::asked::{keys_of_asked, urls_of_asked};
 use crate::cosigners::{Asking, AsksInRounds, Proposer, start_asking};
+use crate::entrance::Site;
 use crate::host::Host;
 use crate::options::ServeOptions;
 use crate::serve_shelf::{Served, run_serve_shelf};
@@ -16,8 +17,7 @@ use crate::shared_writer::SharedWriter;
 use std::alloc::Global;
 use std::io::{Read, Write};
 use std::net::{Net, TcpListener, TcpStream};
-use std::os::fd::RawFd;
-use std::sync::Mutex;
+use std::sync::{Arc, Mutex};
 use std::thread;
 use std::thread::Scope;
 use std::time::Duration;
@@ -61,7 +61,7 @@ struct Ready<'o> {
     log: LogOpeningKey,
     witnesses: Vec<CosignerVerifier<Global>>,
     urls: Vec<Url<'o>>,
-    ballot: Ballot,
+    ballot: Arc<Ballot>,
 }
 
 // The same, read.
@@ -76,7 +76,7 @@ fn prepare<'o, H: Host>(
     let asked = options.witnesses.as_slice();
     let witnesses = keys_of_asked(alloc, asked)?;
     let urls = urls_of_asked(alloc, asked)?;
-    let ballot = Ballot::new(alloc, asked.len())?;
+    let ballot = Arc::new(alloc, Ballot::new(alloc, asked.len())?)?;
     let LogKeys { verifier, .. } = keys_of(rt, alloc, options.origin.as_str(), &options.key)?;
     Ok(Ready {
         log: verifier,
@@ -115,17 +115,19 @@ fn serve_in<
     rt: &'s H,
     alloc: Global,
     options: &'s ServeOptions,
+    site: &'s Site<'s>,
     ballot: &'s Ballot,
     asker: &'s A,
     quorum: C,
     log: CosignedLog<S, T, P>,
-    input: Option<RawFd>,
     reader: &mut Counted<R>,
     out: &'s Mutex<&mut Counted<L>>,
 ) -> Ended<S>
     ensures serves { Serves options.now.key (string_bytes options.now.origin)
         (C.quorum quorum) result.found
         (visit S.kept S.trace log.shelf result.served.shelf) result.served.outcome }
+    ensures fresh { IsLeft (visit S.kept S.trace log.shelf result.served.shelf)
+        ⊎ BeginsAsAsked options.now.is_new result.found.head }
     ensures place { S.place result.served.shelf ≡ S.place log.shelf }
 {
     let CosignedLog {
@@ -153,7 +155,7 @@ fn serve_in<
     let cosigned = SealedShelf::new(shelf, store, Cosigners::new(proposer, quorum), keeps);
     let mut told = Counted::new(SharedWriter { rt, out });
     let Served { shelf, outcome } = run_serve_shelf(
-        rt, alloc, options, None, cosigned, shown, &mut found, input, reader, &mut told,
+        rt, alloc, options, site, None, cosigned, shown, &mut found, reader, &mut told,
     );
     ballot.end(rt);
     let shelf = shelf.into_shelf();
@@ -175,17 +177,19 @@ fn serve_asked<
     rt: &H,
     alloc: Global,
     options: &ServeOptions,
+    site: &Site<'_>,
     ballot: &Ballot,
     asker: &A,
     quorum: C,
     log: CosignedLog<S, T, P>,
-    input: Option<RawFd>,
     reader: &mut Counted<R>,
     out: &Mutex<&mut Counted<L>>,
 ) -> Ended<S>
     ensures serves { Serves options.now.key (string_bytes options.now.origin)
         (C.quorum quorum) result.found
         (visit S.kept S.trace log.shelf result.served.shelf) result.served.outcome }
+    ensures fresh { IsLeft (visit S.kept S.trace log.shelf result.served.shelf)
+        ⊎ BeginsAsAsked options.now.is_new result.found.head }
     ensures place { S.place result.served.shelf ≡ S.place log.shelf }
 {
     thread::scope(
@@ -196,10 +200,12 @@ fn serve_asked<
                 (C.quorum quorum) result.found
                 (visit S.kept S.trace log.shelf result.served.shelf)
                 result.served.outcome }
+            ensures fresh { IsLeft (visit S.kept S.trace log.shelf result.served.shelf)
+                ⊎ BeginsAsAsked options.entry.now.is_new result.found.head }
             ensures place { S.place result.served.shelf ≡ S.place log.shelf }
         {
             serve_in(
-                scope, rt, alloc, options, ballot, asker, quorum, log, input, reader, out,
+                scope, rt, alloc, options, site, ballot, asker, quorum, log, reader, out,
             )
         },
     )
@@ -217,9 +223,9 @@ fn serve_keyed<
 >(
     asker: &'x Asking<'x, H>,
     options: &'x ServeOptions,
+    site: &Site<'_>,
     log: CosignedLog<S, T, P>,
     found: &mut Found<Global>,
-    input: Option<RawFd>,
     reader: &mut Counted<R>,
     out: &mut Counted<L>,
 ) -> Served<S>
@@ -227,13 +233,15 @@ fn serve_keyed<
       witnesses = map (λ w. key w) asker.now.witnesses.now;
       need = options.now.need;
     }) found.new (visit S.kept S.trace log.shelf result.shelf) result.outcome }
+    ensures fresh { IsLeft (visit S.kept S.trace log.shelf result.shelf)
+        ⊎ BeginsAsAsked options.now.is_new found.new.head }
     ensures place { S.place result.shelf ≡ S.place log.shelf }
 {
     let (rt, alloc, ballot) = (asker.rt, asker.alloc, asker.ballot);
     let quorum = LogQuorum::new(asker.log, asker.witnesses, options.need);
     let out = Mutex::new(&mut *out);
     let ended = serve_asked(
-        rt, alloc, options, ballot, asker, quorum, log, input, reader, &out,
+        rt, alloc, options, site, ballot, asker, quorum, log, reader, &out,
     );
     *found = ended.found;
     ended.served
@@ -241,8 +249,8 @@ fn serve_keyed<
 
 /// As `run_serve_shelf`, but each checkpoint is shown once so many of the witnesses that the options name have cosigned
 /// it (C2SP tlog-witness, tlog-cosignature): it is kept as a proposal, and a thread for each witness asks, with proofs
-/// from a shelf of its own. Why one gave no cosignature is told on `out`, and it is asked again after a pause. Nothing
-/// is shown meanwhile. `BadKey`: a text is of no witness's key, or two have one name; `Malformed`: one is no address.
+/// from a shelf of its own. Why one gave no cosignature is told on `out`, and it is asked again after a pause. Meanwhile
+/// readers are shown what was shown before. `BadKey`: a text is of no witness's key, or two have one name; `Malformed`: one is no address.
 pub fn run_serve_cosigned<
     H: Host + Net<Listener = TcpListener, Stream = TcpStream>,
     S: Shelf + Drop,
@@ -254,14 +262,16 @@ pub fn run_serve_cosigned<
     rt: &H,
     alloc: Global,
     options: &ServeOptions,
+    site: &Site<'_>,
     log: CosignedLog<S, T, P>,
     found: &mut Found<Global>,
-    input: Option<RawFd>,
     reader: &mut Counted<R>,
     out: &mut Counted<L>,
 ) -> Served<S>
     ensures serves { ServesCosigned options.now found.new
         (visit S.kept S.trace log.shelf result.shelf) result.outcome }
+    ensures fresh { IsLeft (visit S.kept S.trace log.shelf result.shelf)
+        ⊎ BeginsAsAsked options.now.is_new found.new.head }
     ensures place { S.place result.shelf ≡ S.place log.shelf }
 {
     let ready = match prepare(rt, alloc, options) {
@@ -284,6 +294,10 @@ pub fn run_serve_cosigned<
     if !have_distinct_names(witnesses.as_slice()) {
         return given_back(log, RunFault::BadKey);
     }
+    let site = Site {
+        ballot: Some(&ready.ballot),
+        ..*site
+    };
     let asker = Asking {
         rt,
         alloc,
@@ -294,5 +308,5 @@ pub fn run_serve_cosigned<
         urls: ready.urls.as_slice(),
         limit: Duration::from_secs(options.server.timeout),
     };
-    serve_keyed(&asker, options, log, found, input, reader, out)
+    serve_keyed(&asker, options, &site, log, found, reader, out)
 }

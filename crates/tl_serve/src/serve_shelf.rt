@@ -8,10 +8,11 @@ ghost use Rattle.tl_sequencer.specs.Log.{IsSenderOf};
 ghost use Rattle.tl_ledger.specs.Opening.{Opens, found_size};
 ghost use Rattle.tl_command.specs.Origins.{RefusesOrigin};
 ghost use Rattle.tl_append.specs.Keys.{log_key_of, opening_key_of};
-ghost use Rattle.tl_append.specs.Running.{IsStart, visit};
+ghost use Rattle.tl_append.specs.Running.{BeginsAsAsked, IsStart, visit};
 ghost use Rattle.tl_serve.specs.Serving.{IsLeft, Serves};
 ghost use Rattle.tl_serve.specs.Inner.Shelved.{IsClosed, ServesUnder};
 
+use crate::entrance::Site;
 use crate::gate::OpenGate;
 use crate::host::Host;
 use crate::lanes::Sending;
@@ -26,8 +27,9 @@ use crate::shelf_log::ShelfLog;
 use std::alloc::{AllocError, Global};
 use std::io::{Read, Write};
 use std::net::{Net, TcpListener, TcpStream};
-use std::os::fd::RawFd;
-use tl_append::{LogKeys, LogOpeningKey, LogShelf, OpenedLog, check_start, keys_of};
+use tl_append::{
+    LogKeys, LogOpeningKey, LogShelf, OpenedLog, check_asked, check_start, keys_of,
+};
 use tl_archive::Shelf;
 use tl_command::RunFault;
 use tl_device::Counted;
@@ -101,6 +103,7 @@ fn open_log<S: LogShelf + Drop, P: Drop, R: Read>(
     reader: &mut Counted<R>,
 ) -> Result<Opened<P>, RunFault>
     ensures start { OnOk result (IsStart start (found_size found.new.head)) }
+    ensures fresh { OnOk result (BeginsAsAsked options.now.is_new found.new.head) }
     ensures opens { IfOk result (λ o.
         Opens sha256 (opening_key_of verifier ∷ []) found.new o.log.ledger) }
     ensures left { (S.kept shelf.new ≡ S.kept shelf.old) × (S.trace shelf.new ≡ S.trace shelf.old) }
@@ -115,6 +118,10 @@ fn open_log<S: LogShelf + Drop, P: Drop, R: Read>(
         Err(fault) => return Err(fault),
     };
     match check_start(&log.ledger, start) {
+        Ok(()) => {}
+        Err(fault) => return Err(fault),
+    }
+    match check_asked(found, options.is_new) {
         Ok(()) => {}
         Err(fault) => return Err(fault),
     }
@@ -159,15 +166,20 @@ fn close<S: LogShelf + Drop, L: Write>(
     tell_end(alloc, heart, size, is_quiet, out)
 }
 
-// What a log of so many entries on a shelf has, of which the last are remembered, if any are.
+// What a log of so many entries on a shelf has, which may be due: the last of them are remembered, if any are.
 fn base_of<H: Host + Net<Listener = TcpListener, Stream = TcpStream>, S: Shelf>(
     server: &Server<'_, H, OpenGate>,
     shelf: &S,
     size: u64,
+    is_due: bool,
 ) -> Base {
     let mut remembered = server.remembered();
     remembered.put_last(shelf, size);
-    Base { size, remembered }
+    Base {
+        size,
+        is_due,
+        remembered,
+    }
 }
 
 // Serves the log on a shelf under these keys.
@@ -192,6 +204,8 @@ fn serve_under<
         (visit S.kept S.trace shelf result.shelf) result.outcome }
     ensures start { IsLeft (visit S.kept S.trace shelf result.shelf)
         ⊎ IsStart start (found_size found.new.head) }
+    ensures fresh { IsLeft (visit S.kept S.trace shelf result.shelf)
+        ⊎ BeginsAsAsked server.now.options.now.is_new found.new.head }
     ensures place { S.place result.shelf ≡ S.place shelf }
 {
     let LogKeys { signer, verifier } = keys;
@@ -214,9 +228,10 @@ fn serve_under<
         lines,
     } = opened;
     let OpenedLog { ledger, is_due } = log;
-    let base = base_of(server, shelf.shelf(), ledger.size());
+    let is_later = is_due && options.need > 0;
+    let base = base_of(server, shelf.shelf(), ledger.size(), is_later);
     let mut log = ShelfLog::new(alloc, signer, shelf, ledger, intake, is_due);
-    if let Err(fault) = log.show() {
+    if let Err(fault) = log.show_first(is_later) {
         let (shelf, outcome) = (log.into_shelf(), Err(fault));
         return Served { shelf, outcome };
     }
@@ -229,11 +244,11 @@ fn serve_under<
     Served { shelf, outcome }
 }
 
-/// As `run_serve`, but the log is on a shelf, and goes on from what is there: what its lanes give is put behind it,
-/// published, and told once it outlasts a crash. A thread for each of `shown`, which are to be of the same shelf
-/// (`threads_of` tells how many), answers by `tl_server::serve_shelf` with what is there. Where the shelf fails, the
-/// server ends. Memory has what waits to be put. The shelf is given back; `found` has what was read of it. It may wait.
-/// `Older`: the log hasn't got `start` entries, where that is given.
+/// As `run_serve`, but the log is on a shelf, where it begins or goes on, and is served at this site: what its lanes
+/// give is put behind it, published, and told once it outlasts a crash. A thread for each of `shown`, which are to be of
+/// the same shelf (`threads_of` tells how many), answers with what is there. The server ends if the shelf fails. The
+/// shelf is given back; `found` has what was read of it. It may wait. `NothingThere`, `Taken`: there was no log, or there
+/// was one where one is to begin. `Older`: it hasn't got `start` entries.
 pub fn run_serve_shelf<
     H: Host + Net<Listener = TcpListener, Stream = TcpStream>,
     S: LogShelf + Drop,
@@ -244,11 +259,11 @@ pub fn run_serve_shelf<
     rt: &H,
     alloc: Global,
     options: &ServeOptions,
+    site: &Site<'_>,
     start: Option<u64>,
     shelf: S,
     shown: Vec<P>,
     found: &mut Found<Global>,
-    input: Option<RawFd>,
     reader: &mut Counted<R>,
     out: &mut Counted<L>,
 ) -> Served<S>
@@ -258,6 +273,8 @@ pub fn run_serve_shelf<
         found.new (visit S.kept S.trace shelf result.shelf) result.outcome }
     ensures start { IsLeft (visit S.kept S.trace shelf result.shelf)
         ⊎ IsStart start (found_size found.new.head) }
+    ensures fresh { IsLeft (visit S.kept S.trace shelf result.shelf)
+        ⊎ BeginsAsAsked options.now.is_new found.new.head }
     ensures place { S.place result.shelf ≡ S.place shelf }
 {
     let origin = options.origin.as_str();
@@ -276,7 +293,7 @@ pub fn run_serve_shelf<
         rt,
         alloc,
         options,
-        input,
+        site,
         gate: &OpenGate,
     };
     serve_under(&server, keys, start, shelf, shown, found, reader, out)

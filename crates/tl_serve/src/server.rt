@@ -7,6 +7,7 @@ ghost use Rattle.tl_serve.specs.Inner.Running.{StaysRunning};
 use crate::awaited::Awaited;
 use crate::desk::Desk;
 use crate::door::Door;
+use crate::entrance::Site;
 use crate::following::Followed;
 use crate::gate::Gate;
 use crate::host::Host;
@@ -24,7 +25,7 @@ use mio::Waker;
 use std::alloc::Global;
 use std::io::{Read, Write};
 use std::net::{Net, TcpListener, TcpStream};
-use std::os::fd::RawFd;
+use std::sync::Arc;
 use tl_command::RunFault;
 use tl_device::Counted;
 use tl_lines::Lines;
@@ -38,15 +39,16 @@ pub(crate) struct Server<'s, H, G> {
     pub(crate) rt: &'s H,
     pub(crate) alloc: Global,
     pub(crate) options: &'s ServeOptions,
-    // The descriptor of the input, if there is one to wait for.
-    pub(crate) input: Option<RawFd>,
+    pub(crate) site: &'s Site<'s>,
     pub(crate) gate: &'s G,
 }
 
-/// What a log has that is to be served: so many entries, of which some are remembered.
+/// What a log has that is to be served: so many entries, of which some are remembered. Where it is due, the last of
+/// them aren't shown yet.
 #[derive(Drop)]
 pub(crate) struct Base {
     pub(crate) size: u64,
+    pub(crate) is_due: bool,
     pub(crate) remembered: Remembered,
 }
 
@@ -97,7 +99,7 @@ impl<H: Host + Net<Listener = TcpListener, Stream = TcpStream>, G: Gate> Server<
     fn open_door<L: Write>(&self, threads: usize, log: &mut Counted<L>) -> Result<Door, RunFault> {
         let threads = u32::try_from(threads).unwrap_or(u32::MAX);
         let server = &self.options.server;
-        let door = Door::open(self.rt, self.alloc, server, threads, log)?;
+        let door = Door::open(self.rt, self.alloc, server, self.site.entrance, threads, log)?;
         if self.options.dir.is_none() && !server.quiet {
             tell_in_memory(log)?;
         }
@@ -113,7 +115,7 @@ impl<H: Host + Net<Listener = TcpListener, Stream = TcpStream>, G: Gate> Server<
         if !self.options.follow {
             return Ok((None, None));
         }
-        let (input, waker) = Awaited::new(self.rt, self.alloc, self.input)?;
+        let (input, waker) = Awaited::new(self.rt, self.alloc, self.site.input)?;
         let before = lines.entries();
         let followed = Followed {
             lines,
@@ -131,8 +133,13 @@ impl<H: Host + Net<Listener = TcpListener, Stream = TcpStream>, G: Gate> Server<
         }
         let lane = u32::try_from(lanes).unwrap_or(u32::MAX).saturating_sub(1);
         let room = usize::try_from(self.options.capacity).unwrap_or(usize::MAX);
-        let Base { size, remembered } = base;
-        let desk = Desk::new(self.rt, self.alloc, lane, room, size, remembered)?;
+        let Base {
+            size,
+            is_due,
+            remembered,
+        } = base;
+        let shown = if is_due { 0 } else { size };
+        let desk = Desk::new(self.rt, self.alloc, lane, room, shown, remembered)?;
         Ok(Some(desk))
     }
 
@@ -148,7 +155,11 @@ impl<H: Host + Net<Listener = TcpListener, Stream = TcpStream>, G: Gate> Server<
     ) -> Result<Prepared<'r, R>, RunFault> {
         let (followed, following) = self.follow(lines, reader)?;
         let desk = self.open_desk(base, lanes)?;
-        let news = News::new(self.rt, self.alloc, following, desk)?;
+        let ballot = match self.site.ballot {
+            Some(ballot) => Some(Arc::try_clone(ballot)?),
+            None => None,
+        };
+        let news = News::new(self.rt, self.alloc, following, desk, ballot)?;
         let door = self.open_door(threads, out)?;
         Ok(Prepared {
             followed,
@@ -167,7 +178,7 @@ impl<H: Host + Net<Listener = TcpListener, Stream = TcpStream>, G: Gate> Server<
         Remembered::new(self.rt, self.alloc, most)
     }
 
-    /// Serves a log that was published once, and hands it back.
+    /// Serves a log that was published, or is due, and hands it back.
     pub(crate) fn serve_published<O: LiveLog, P: Pages + Send, R: Read + Send, L: Write>(
         &self,
         log: O,
@@ -183,7 +194,7 @@ impl<H: Host + Net<Listener = TcpListener, Stream = TcpStream>, G: Gate> Server<
         ensures { StaysRunning O.holds O.log O.begun log result.running.log }
     {
         let count = lanes.len();
-        let running = Running::new(log, self.rounds(base.size, count));
+        let running = Running::new(log, self.rounds(base.size, count), base.is_due);
         let Prepared {
             followed,
             news,

@@ -195,7 +195,7 @@ fn run_threads<
 {
     let (rt, alloc, door, news) = (common.rt, common.alloc, common.door, common.news);
     let gate = common.gate;
-    let mut feed = NewsFeed::new(rt, news, door, common.interval);
+    let mut feed = NewsFeed::new(rt, news, door, common.interval, running.was_due);
     let sending = start_sending(scope, rt, alloc, lanes, followed, gate, news)?;
     let answering = start_answering(scope, rt, alloc, door, pages, news)?;
     let heart = running.drive(alloc, running.begin(), &mut feed, out);

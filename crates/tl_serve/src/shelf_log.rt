@@ -3,6 +3,7 @@
 ghost use Rattle.std.specs.Prelude.{◌≡◌, ◌≢◌, [], Some, false, IfOk};
 ghost use Rattle.tl_note.specs.Key.{IsKeyName};
 ghost use Rattle.tl_append.specs.Keys.{log_key_of};
+ghost use Rattle.tl_serve.specs.Inner.Running.{StaysRunning};
 ghost use Rattle.tl_serve.specs.Inner.Shelved.{IsClosed};
 
 use crate::live_log::{LiveLog, refusal};
@@ -94,6 +95,21 @@ impl<S: LogShelf + Drop> ShelfLog<S> {
         match self.intake.completed() {
             Ok(_taken) if !self.is_due => Ok(self.ledger.size()),
             _ => Err(RunFault::Operator),
+        }
+    }
+
+    /// Shows what is due, unless that is to be done while the log is served.
+    pub(crate) fn show_first(&mut self, is_later: bool) -> Result<(), RunFault>
+        requires { ⟦<ShelfLog<S> as LiveLog>⟧.holds self.old }
+        ensures { StaysRunning ⟦<ShelfLog<S> as LiveLog>⟧.holds ⟦<ShelfLog<S> as LiveLog>⟧.log
+            ⟦<ShelfLog<S> as LiveLog>⟧.begun self.old self.new }
+    {
+        if is_later {
+            return Ok(());
+        }
+        match self.show() {
+            Ok(_) => Ok(()),
+            Err(fault) => Err(fault),
         }
     }
 

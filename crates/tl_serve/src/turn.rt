@@ -14,6 +14,8 @@ pub(crate) struct Turn<'t, H> {
     pub(crate) news: &'t News,
     // That of what it handed in, if it did.
     pub(crate) receipt: Option<Arc<Receipt>>,
+    // Whether it has waited for its place long enough.
+    pub(crate) is_late: bool,
 }
 
 impl<H: Wait> Turn<'_, H> {
@@ -25,6 +27,7 @@ impl<H: Wait> Turn<'_, H> {
         let size = desk.published();
         match receipt.index_below(size) {
             Some(index) => Told::At { index, size },
+            None if self.is_late => Told::Refused,
             None => Told::Later,
         }
     }
@@ -41,6 +44,7 @@ impl<H: Wait> Teller for Turn<'_, H> {
         if self.news.is_stopped() {
             return Told::Refused;
         }
+        self.news.urge();
         match desk.hand_in(self.rt, entry) {
             Ok(receipt) => {
                 self.receipt = Some(receipt);

@@ -12,6 +12,7 @@ ghost use Rattle.tl_serve.specs.Knowing.{RefusesLog};
 use crate::answering::answer;
 use crate::cosigner::Own;
 use crate::door::Door;
+use crate::entrance::Entrance;
 use crate::host::Host;
 use crate::listed::run_listed;
 use crate::news::News;
@@ -220,13 +221,14 @@ fn serve_all<
     rt: &H,
     alloc: Global,
     options: &WitnessOptions,
+    entrance: &Entrance,
     witness: &W,
     writer: &mut Counted<O>,
     log: &mut Counted<L>,
 ) -> Result<(), RunFault> {
     let threads = threads_of(rt, options.server.threads);
-    let news = News::new(rt, alloc, None, None)?;
-    let door = Door::open(rt, alloc, &options.server, threads, log)?;
+    let news = News::new(rt, alloc, None, None, None)?;
+    let door = Door::open(rt, alloc, &options.server, entrance, threads, log)?;
     let queue = LineQueue::new(alloc, &mut *writer)?;
     answer_all(rt, alloc, options.time, &door, witness, &queue, &news)
 }
@@ -240,6 +242,7 @@ pub(crate) fn serve_trusted<
     rt: &H,
     alloc: Global,
     options: &WitnessOptions,
+    entrance: &Entrance,
     trusts: Vec<Trust<Global>>,
     chains: Vec<(String, Vec<Link<Global>>)>,
     writer: &mut Counted<O>,
@@ -252,7 +255,7 @@ pub(crate) fn serve_trusted<
     let Ok(witness) = SharedWitness::new(book) else {
         return Err(RunFault::OutOfMemory);
     };
-    serve_all(rt, alloc, options, &witness, writer, log)
+    serve_all(rt, alloc, options, entrance, &witness, writer, log)
 }
 
 // Whom a witness trusts that knows one log by this key and cosigns by that one.
@@ -341,6 +344,7 @@ fn run_one<
     rt: &H,
     alloc: Global,
     options: &WitnessOptions,
+    entrance: &Entrance,
     origin: &str,
     key: &LogVerifierKey,
     reader: &mut Counted<R>,
@@ -365,10 +369,10 @@ fn run_one<
         Own::Private(key) => Box::new(alloc, key)?,
     };
     let trusts = trust_of(alloc, origin, verifier, cosigner)?;
-    serve_trusted(rt, alloc, options, trusts, chains, writer, log)
+    serve_trusted(rt, alloc, options, entrance, trusts, chains, writer, log)
 }
 
-/// Serves a witness over HTTP: reads the lines that an earlier run printed, tells the address, then answers
+/// Serves a witness over HTTP, at this entrance: reads the lines that an earlier run printed, tells the address, then answers
 /// connections, each by `tl_server::serve_witness`, and ends after as many as the options say, or once something fails.
 /// A line for each checkpoint that it cosigns anew is printed before the answer; where that fails, it ends. Lines of
 /// logs that a file doesn't name are passed over. It may wait.
@@ -381,6 +385,7 @@ pub fn run_witness<
     rt: &H,
     alloc: Global,
     options: &WitnessOptions,
+    entrance: &Entrance,
     reader: &mut Counted<R>,
     writer: &mut Counted<O>,
     log: &mut Counted<L>,
@@ -389,8 +394,10 @@ pub fn run_witness<
 {
     match &options.logs {
         KnownLogs::One(origin, key) => after_run(run_one(
-            rt, alloc, options, origin, key, reader, writer, log,
+            rt, alloc, options, entrance, origin, key, reader, writer, log,
         )),
-        KnownLogs::Listed(path) => run_listed(rt, alloc, options, path, reader, writer, log),
+        KnownLogs::Listed(path) => {
+            run_listed(rt, alloc, options, entrance, path, reader, writer, log)
+        }
     }
 }

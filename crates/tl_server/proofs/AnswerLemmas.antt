@@ -1,6 +1,6 @@
 -- The pieces of an answer are its text.
 use Rattle.std.proofs.Common.{◌≡◌, ◌∙◌, ap, ℕ, List, [], ◌∷◌, ◌++◌, append_assoc, length, codes, decimal, refl}
-use Rattle.tl_server.specs.Answer.{answer_text, phrase, crlf, field_line, type_line}
+use Rattle.tl_server.specs.Answer.{answer_text, phrase, crlf, field_line, retry_line, type_line}
 use Rattle.tl_device.specs.Pieces.{pieces_text}
 use Rattle.tl_server.specs.Inner.Sending.{answer_pieces, beside}
 
@@ -17,10 +17,10 @@ type_in_pieces kind (b ∷ body) r = three (codes "Content-Type: ") kind crlf r
 
 pub answer_in_pieces : (status : ℕ) (allow kind body : List ℕ)
     → answer_text (record { status = status; allow = allow; kind = kind; body = body })
-    ≡ pieces_text (λ p. p) (answer_pieces (decimal status) (phrase status) allow kind (decimal (length body)) body)
+    ≡ pieces_text (λ p. p) (answer_pieces (decimal status) (phrase status) allow (retry_line status) kind (decimal (length body)) body)
 unfolding answer_text
 answer_in_pieces status allow kind body =
     let rest : List ℕ = codes "Content-Length: " ++ (decimal (length body) ++ (codes "\r\nConnection: close\r\n\r\n" ++ (body ++ []))) in
     ap (λ (r : List ℕ). codes "HTTP/1.1 " ++ (decimal status ++ (codes " " ++ (phrase status ++ (crlf ++ r)))))
-    (allow_in_pieces allow (type_line kind body ++ rest)
-    ∙ ap (λ (r : List ℕ). beside allow (codes "Allow: ") ++ (allow ++ (beside allow crlf ++ r))) (type_in_pieces kind body rest))
+    (allow_in_pieces allow (retry_line status ++ (type_line kind body ++ rest))
+    ∙ ap (λ (r : List ℕ). beside allow (codes "Allow: ") ++ (allow ++ (beside allow crlf ++ (retry_line status ++ r)))) (type_in_pieces kind body rest))

@@ -10,7 +10,7 @@ use Rattle.tl_tile.specs.Needed.{bundle_width}
 use Rattle.tl_tile.specs.declared.resource.Resource.{Resource}
 use Rattle.tl_tile.specs.declared.resource.Resource.TheVariants as resource
 use Rattle.tl_witness.specs.Cases.{Unless, UnlessSome}
-use Rattle.tl_server.specs.Answer.{Answer, bare, not_allowed, plain_text, octets}
+use Rattle.tl_server.specs.Answer.{Answer, bare, busy, not_allowed, plain_text, octets}
 use Rattle.tl_server.specs.Exchange.{Begun}
 use Rattle.tl_server.specs.Head.{IsSized, HasBody}
 use Rattle.tl_server.specs.Log.{ResourceAnswers, LooksUp, ReadsShelf}
@@ -83,7 +83,7 @@ abbrev pub ToldAnswers
     : Type 0 → (Resource → Answer → Type 0) → (ℕ → ℕ → ℕ → Answer → Type 0)
     → Bytes → Told → Course → Type 0
 ToldAnswers Unseen Gives Looks entry told.Later c = Unseen × (c ≡ Postpone)
-ToldAnswers Unseen Gives Looks entry told.Refused c = Unseen × (c ≡ Reply (bare 503))
+ToldAnswers Unseen Gives Looks entry told.Refused c = Unseen × (c ≡ Reply busy)
 ToldAnswers Unseen Gives Looks entry told.NoMemory c = Unseen × (c ≡ Reply (bare 500))
 ToldAnswers Unseen Gives Looks entry (told.At index size) c = PlaceAnswers Unseen Gives Looks index size entry c
 
@@ -95,7 +95,7 @@ ToldAnswers Unseen Gives Looks entry (told.At index size) c = PlaceAnswers Unsee
 --     500  it has some, and memory for them was refused
 --     400  the input ends before it
 --     --   it is told that its place isn't known yet
---     503  it is told that the log takes nothing now
+--     503  it is told that the log takes nothing now, or hasn't published the entry in time
 --     500  it is told that memory was refused
 --     500  it is told an index that isn't below the size told with it: misplaced
 --     200  it is told an index, and the pages gave a bundle that has the entry there

@@ -42,6 +42,10 @@ abbrev pub field_line : Bytes → Bytes → Bytes
 field_line name [] = []
 field_line name (b ∷ value) = name ++ (b ∷ value) ++ crlf
 
+-- the field of a 503 that tells after how many seconds to ask again (RFC 9110, section 10.2.3)
+abbrev pub retry_line : ℕ → Bytes
+retry_line status = if status == 503 then codes "Retry-After: 1" ++ crlf else []
+
 -- the type of a body, left out where there is no body
 abbrev pub type_line : Bytes → Bytes → Bytes
 type_line kind [] = []
@@ -57,11 +61,16 @@ octets = codes "application/octet-stream"
 abbrev pub log_size : Bytes
 log_size = codes "text/x.tlog.size"
 
+-- the answer where an entry isn't published: nothing is taken now, or it took too long
+abbrev pub busy : Answer
+busy = record { status = 503; allow = []; kind = plain_text; body = codes "not published yet: post it again\n" }
+
 -- the bytes of an answer, piece by piece: the status line, the fields, an empty line, the body
 unfoldable pub answer_text : Answer → Bytes
 answer_text a = flat_map (λ piece. piece) (
     codes "HTTP/1.1 " ∷ decimal a.status ∷ codes " " ∷ phrase a.status ∷ crlf
     ∷ field_line (codes "Allow: ") a.allow
+    ∷ retry_line a.status
     ∷ type_line a.kind a.body
     ∷ codes "Content-Length: " ∷ decimal (length a.body) ∷ crlf
     ∷ codes "Connection: close" ∷ crlf

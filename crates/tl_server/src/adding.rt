@@ -5,7 +5,7 @@
 pub enum Told {
     /// Its place isn't known yet: the request is to be answered later.
     Later,
-    /// The log takes nothing now.
+    /// The log takes nothing now, or hasn't published it in time.
     Refused,
     /// Memory was refused.
     NoMemory,

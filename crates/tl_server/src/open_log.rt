@@ -17,7 +17,7 @@ use crate::look::look_on_board;
 use crate::method::is_text;
 use crate::posted::{Posted, posted_of};
 use crate::receive::{Received, receive};
-use crate::sending::{refuse, refuse_post};
+use crate::sending::{refuse, refuse_busy, refuse_post};
 use httparse::spans::EMPTY_HEADER_SPAN;
 use std::alloc::Allocator;
 use std::io::{Read, Write};
@@ -41,7 +41,7 @@ fn answer_told<A: Allocator, B: Allocator, O: Write>(
 {
     let (index, size) = match told {
         Told::Later => return Ok(Outcome::Later),
-        Told::Refused => return outcome_of(refuse(writer, 503)),
+        Told::Refused => return outcome_of(refuse_busy(writer)),
         Told::NoMemory => return outcome_of(refuse(writer, 500)),
         Told::At { index, size } => (index, size),
     };
@@ -83,7 +83,7 @@ fn answer_posted<A: Allocator + Copy, B: Allocator, T: Teller, I: Read, O: Write
 
 /// Answers one request to a log that takes entries: as `serve_log`, and `POST /add` with the index of the entry in its
 /// body, where the board has it there: 405 for another method, 400 without one `Content-Length` (RFC 9112, section 6),
-/// 413 above 65,535 bytes, 400 where the input ends before them, 503 where the log takes nothing, 500 where memory was
+/// 413 above 65,535 bytes, 400 where the input ends before them, 503 where it isn't published, 500 where memory was
 /// refused or the entry isn't there. Where its place isn't known yet nothing is written: call again with the same
 /// bytes.
 pub fn serve_open_log<A: Allocator + Copy, B: Allocator, T: Teller, I: Read, O: Write>(

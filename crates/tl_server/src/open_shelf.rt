@@ -17,7 +17,7 @@ use crate::method::is_text;
 use crate::open_log::MOST_ENTRY;
 use crate::posted::{Posted, posted_of};
 use crate::receive::{Received, receive};
-use crate::sending::{refuse, refuse_post};
+use crate::sending::{refuse, refuse_busy, refuse_post};
 use crate::shelf::answer_shelf;
 use httparse::spans::EMPTY_HEADER_SPAN;
 use std::alloc::Allocator;
@@ -39,7 +39,7 @@ fn answer_told<A: Allocator + Copy, S: Shelf, O: Write>(
 {
     let (index, size) = match told {
         Told::Later => return Ok(Outcome::Later),
-        Told::Refused => return outcome_of(refuse(writer, 503)),
+        Told::Refused => return outcome_of(refuse_busy(writer)),
         Told::NoMemory => return outcome_of(refuse(writer, 500)),
         Told::At { index, size } => (index, size),
     };

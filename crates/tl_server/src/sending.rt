@@ -2,7 +2,7 @@
 
 ghost use Rattle.std.specs.Prelude.{◌≡◌, ◌<◌, ◌≤◌, ◌++◌, ◌∷◌, [], List, ℕ, OnOk, OnErr, IfOk, length};
 ghost use Rattle.tl_device.specs.Device.{passage, WroteWhole, WrotePart};
-ghost use Rattle.tl_server.specs.Answer.{phrase, bare, not_allowed};
+ghost use Rattle.tl_server.specs.Answer.{phrase, bare, busy, not_allowed, retry_line};
 ghost use Rattle.tl_server.specs.Serve.{Sends};
 ghost use Rattle.tl_device.specs.Pieces.{pieces_text};
 ghost use Rattle.tl_server.specs.Inner.Sending.{beside, answer_pieces, refusal};
@@ -41,20 +41,34 @@ fn beside<'a>(list: &[u8], text: &'a [u8]) -> &'a [u8]
     }
 }
 
+// The field that tells when to ask again, which a 503 has.
+fn retry_of(status: u16) -> &'static [u8]
+    ensures { result.now ≡ retry_line status }
+{
+    if status == 503 {
+        b"Retry-After: 1\r\n"
+    } else {
+        b""
+    }
+}
+
 // The texts of an answer, one after another.
 fn put_texts<'a, W: Write>(
     writer: &mut Counted<W>,
     status: &'a [u8],
     reason: &'a [u8],
     allow: &'a [u8],
+    retry: &'a [u8],
     kind: &'a [u8],
     size: &'a [u8],
     body: &'a [u8],
 ) -> Result<(), WriteFault>
     ensures whole { OnOk result (WroteWhole (passage W.contents writer.old writer.new) (pieces_text
-        (λ p. p) (answer_pieces status.now reason.now allow.now kind.now size.now body.now))) }
+        (λ p. p)
+        (answer_pieces status.now reason.now allow.now retry.now kind.now size.now body.now))) }
     ensures part { OnErr result (WrotePart (passage W.contents writer.old writer.new) (pieces_text
-        (λ p. p) (answer_pieces status.now reason.now allow.now kind.now size.now body.now))) }
+        (λ p. p)
+        (answer_pieces status.now reason.now allow.now retry.now kind.now size.now body.now))) }
 {
     let version: &'a [u8] = b"HTTP/1.1 ";
     let space: &'a [u8] = b" ";
@@ -66,9 +80,9 @@ fn put_texts<'a, W: Write>(
     let kind_end: &'a [u8] = beside(body, line_end);
     let size_name: &'a [u8] = b"Content-Length: ";
     let close: &'a [u8] = b"\r\nConnection: close\r\n\r\n";
-    let pieces: [&'a [u8]; 15] = [
-        version, status, space, reason, line_end, allow_name, allow, allow_end, kind_name,
-        kind_text, kind_end, size_name, size, close, body,
+    let pieces: [&'a [u8]; 16] = [
+        version, status, space, reason, line_end, allow_name, allow, allow_end, retry,
+        kind_name, kind_text, kind_end, size_name, size, close, body,
     ];
     write_pieces(writer, &pieces)
 }
@@ -90,7 +104,10 @@ pub(crate) fn send<W: Write>(
     let status_text = status_digits.format(status).as_bytes();
     let size_text = size_digits.format(body.len()).as_bytes();
     let reason = phrase_of(status).as_bytes();
-    put_texts(writer, status_text, reason, allow, kind, size_text, body)?;
+    let retry = retry_of(status);
+    put_texts(
+        writer, status_text, reason, allow, retry, kind, size_text, body,
+    )?;
     Ok(Some(status))
 }
 
@@ -102,6 +119,14 @@ pub(crate) fn refuse<W: Write>(
     ensures { Sends (bare status) (passage W.contents writer.old writer.new) result }
 {
     send(writer, status, b"", b"", b"")
+}
+
+/// Writes the answer where an entry isn't published: nothing is taken now, or it took too long.
+pub(crate) fn refuse_busy<W: Write>(writer: &mut Counted<W>) -> Result<Option<u16>, ServeFault>
+    ensures { Sends busy (passage W.contents writer.old writer.new) result }
+{
+    let text = b"not published yet: post it again\n";
+    send(writer, 503, b"", b"text/plain; charset=utf-8", text)
 }
 
 /// Writes the answer to a method that isn't the one allowed.

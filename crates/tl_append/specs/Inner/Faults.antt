@@ -44,7 +44,3 @@ after_proposal fault = run.BadCheckpoint (Log None)
 abbrev pub after_mark : MarkFault → RunFault
 after_mark (mark.Shelf fault) = after_shelf fault
 after_mark (mark.Older size) = after_device (Log (Some resource.Checkpoint)) device.Older
-
--- where there is a log, and none is to be
-abbrev pub is_taken : RunFault
-is_taken = after_device (Log (Some resource.Checkpoint)) device.Taken

@@ -64,6 +64,7 @@ const APPEND: Words = Words {
         LOG,
         words![
             "dir" "DIR" Kind::Path => "The folder of the log";
+            "new" "" Kind::Flag => "Begin a log, where none may be yet";
             "batch" "N" Kind::Number(1, 0xFFFF_FFFF) => "Publish after each N entries, too";
             "older" "" Kind::Flag => "Go on from a checkpoint that is older than one that was there";
             "keep-partials" "" Kind::Flag => "Leave partial tiles that full ones have replaced";
@@ -212,12 +213,13 @@ pub(super) fn append_job(alloc: Global, options: &ArgMatches<'_>) -> Result<Job,
         return Err(usage_error(alloc, append(), why));
     }
     let batch = options.get_one::<u64>("batch");
+    let is_new = options.get_flag("new");
     if is_given(options, "bucket") {
-        return append_to(alloc, options, batch, false);
+        return append_to(alloc, options, batch, is_new);
     }
     let how = Appending {
         batch,
-        is_new: false,
+        is_new,
         allows_older: options.get_flag("older"),
         keeps_partials: options.get_flag("keep-partials"),
     };

@@ -64,7 +64,13 @@ const ONE_OR_MANY: &str = "either --origin, with one key of the log, or --logs i
 const ONE_WITNESS_KEY: &str = "either --name and --witness-secret or --key is given";
 
 // What is said where a state is to be compacted, and none is given.
-const OF_A_STATE: &str = "--compact is given with --state alone";
+const OF_A_STATE: &str = "--new and --compact are given with --state alone";
+
+// What is said where a state begins and is to be compacted.
+const NOTHING_TO_COMPACT: &str = "--new and --compact are not given together";
+
+// What is said where a log begins that is neither in a folder nor in a bucket.
+const OF_A_PLACE: &str = "--new is given with --dir or --bucket alone";
 
 // The words that the servers share.
 const SERVER: &[Word] = words![
@@ -88,8 +94,10 @@ const SERVE: Words = Words {
             "batch" "N" Kind::Number(1, 65_536) => "How many entries of a lane are taken at once";
             "note" "NOTE" Kind::Text => "The signed checkpoint that the log goes on from";
             "dir" "DIR" Kind::Path => "The folder of the log, which goes on from what is there";
+            "new" "" Kind::Flag => "Begin a log in the folder or bucket, where there is none yet";
             "follow" "" Kind::Flag => "Publish lines as they come";
-            "add" "" Kind::Flag => "Take entries that are posted, and answer with their places";
+            "add" "" Kind::Flag
+                => "Take entries that are posted, and answer with their places; lines as they come";
             "interval" "MS" Kind::Number(0, 86_400_000)
                 => "How many milliseconds entries wait for more before they are published";
             "remember" "N" Kind::Number(0, 16_777_216)
@@ -127,6 +135,7 @@ const WITNESS: Words = Words {
                 => "The seconds since 1970 to cosign with, in place of the machine's clock";
             "state" "FILE" Kind::Path
                 => "The file of what it cosigned, in place of standard input and output";
+            "new" "" Kind::Flag => "Make that file, where there is none yet";
             "compact" "" Kind::Flag => "Keep the last line of each log in that file alone, first";
         ],
         SERVER,
@@ -229,6 +238,9 @@ fn place_refusal(options: &ArgMatches<'_>) -> Option<&'static str> {
     if is_given(options, "bucket") && (has_note || has_dir) {
         return Some(ONE_PLACE);
     }
+    if options.get_flag("new") && !has_dir && !is_given(options, "bucket") {
+        return Some(OF_A_PLACE);
+    }
     let has_witness = count_given(options, "witness") > 0;
     (!has_dir && (of_a_folder || has_witness)).then_some(OF_A_FOLDER)
 }
@@ -250,6 +262,12 @@ fn place_of(alloc: Global, options: &ArgMatches<'_>) -> Result<Option<String>, A
     text_if_given(alloc, options, word)
 }
 
+// Whether lines are published as they come: so they are where entries are posted, unless several lanes are asked for.
+fn is_followed(options: &ArgMatches<'_>) -> bool {
+    let has_one_lane = options.get_one::<u64>("lanes").unwrap_or(LANES) == 1;
+    options.get_flag("follow") || (options.get_flag("add") && has_one_lane)
+}
+
 // The options of `serve`, whose words go together.
 fn serve_options(alloc: Global, options: &ArgMatches<'_>) -> Result<ServeOptions, WordsFault> {
     let takes_posts = options.get_flag("add");
@@ -264,7 +282,8 @@ fn serve_options(alloc: Global, options: &ArgMatches<'_>) -> Result<ServeOptions
         batch: options.get_one::<u64>("batch").unwrap_or(BATCH),
         note: text_if_given(alloc, options, "note")?,
         dir: place_of(alloc, options)?,
-        follow: options.get_flag("follow"),
+        is_new: options.get_flag("new"),
+        follow: is_followed(options),
         takes_posts,
         interval: options.get_one::<u64>("interval").unwrap_or(unless_given),
         remember: options.get_one::<u64>("remember").unwrap_or(REMEMBER),
@@ -330,18 +349,27 @@ fn cosigner_key(alloc: Global, options: &ArgMatches<'_>) -> Result<WitnessSigner
     }
 }
 
-// The job of `witness`: a state that is compacted is given.
+// What is said where words of a witness's state don't go together.
+fn state_refusal(options: &ArgMatches<'_>) -> Option<&'static str> {
+    let (is_new, compacts) = (options.get_flag("new"), options.get_flag("compact"));
+    if (is_new || compacts) && !is_given(options, "state") {
+        return Some(OF_A_STATE);
+    }
+    (is_new && compacts).then_some(NOTHING_TO_COMPACT)
+}
+
+// The job of `witness`: a state that begins or is compacted is given.
 pub(super) fn witness_job(alloc: Global, options: &ArgMatches<'_>) -> Result<Job, WordsFault> {
-    let compacts = options.get_flag("compact");
-    if compacts && !is_given(options, "state") {
-        return Err(usage_error(alloc, witness(), OF_A_STATE));
+    if let Some(why) = state_refusal(options) {
+        return Err(usage_error(alloc, witness(), why));
     }
     Ok(Job::Witness(WitnessOptions {
         logs: known_logs(alloc, options)?,
         key: cosigner_key(alloc, options)?,
         time: options.get_one::<u64>("time"),
         state: text_if_given(alloc, options, "state")?,
-        compacts,
+        is_new: options.get_flag("new"),
+        compacts: options.get_flag("compact"),
         server: listen_options(alloc, options)?,
     }))
 }

@@ -28,8 +28,8 @@ standard error.";
 pub(super) const APPEND: &str =
     "Input: entries, one a line, each of at most 65,535 bytes. A last line without a newline
 counts if it isn't empty. The input has no limit.
-Appends them to the log in the folder, which begins one where it has none: its files are the log's resources (C2SP
-tlog-tiles), which any web server can serve. It is published after each N entries of --batch, and at the end: the tiles
+Appends them to the log in the folder, which has to be there: with --new a log begins, and none may be there yet. Its
+files are the log's resources (C2SP tlog-tiles), which any web server can serve. It is published after each N entries of --batch, and at the end: the tiles
 and bundles are written first and the checkpoint after them, so that a crash at any moment leaves a checkpoint with all
 that it needs. Run again, it goes on from there; where the folder says that more entries were published than its
 checkpoint has, only with --older, which says that nobody has seen what came after. A partial tile or bundle is removed
@@ -41,9 +41,9 @@ environment, AWS_ACCESS_KEY_ID and AWS_SECRET_ACCESS_KEY. It is published after 
 left out, and nothing is removed. Several may append to one bucket: entries are committed first, and who comes second
 ends ('another operator has appended') and can be started again. What another one began is finished first.
 Output: 'SIZE ROOT' for each publication, once it outlasts a crash. The checkpoint is signed as by 'tlog build'.
-Exit status: 0 done; 1 refused (a bad key, a bad origin, a bad checkpoint, an older one, a bundle not there, an entry
-too long, in use, the operator refused, signing failed, out of memory); 2 wrong arguments or a call for help; 3 a read
-or a write failed. A refusal is one line 'tlog: ..' on standard error.";
+Exit status: 0 done; 1 refused (no log there, or one with --new, a bad key, a bad origin, a bad checkpoint, an older
+one, a bundle not there, an entry too long, in use, the operator refused, signing failed, out of memory); 2 wrong
+arguments or a call for help; 3 a read or a write failed. A refusal is one line 'tlog: ..' on standard error.";
 
 pub(super) const INCLUSION: &str = "Input: the entries of the log, one a line, as for 'tlog head'.
 Output: lines 'inclusion', 'index I', 'size N', 'leaf HASH', 'root HASH', and the hashes of the proof (RFC 6962,

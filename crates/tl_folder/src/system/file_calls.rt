@@ -7,11 +7,11 @@ ghost use Rattle.tl_folder.specs.Step as step;
 use crate::call_log::Asked;
 use crate::look::{open_folder, open_plain};
 use crate::system::{
-    OpenedFile, SystemCalls, append_to, move_folder, or_fault, sync_file, sync_names, write_file,
-    write_new_file,
+    OpenedFile, SystemCalls, append_to, make_shown_folder, move_folder, or_fault, sync_file,
+    sync_names, write_file, write_new_file, write_shown_file,
 };
 use std::alloc::{Allocator, Global};
-use std::fs::{Files, Metadata, OpenFile, OpenOptions, create_dir, remove_file, rename};
+use std::fs::{Files, Metadata, OpenFile, OpenOptions, remove_file, rename};
 use std::io;
 use tl_device::{Counted, DeviceFault, read_whole};
 
@@ -22,6 +22,16 @@ impl<H: Files> SystemCalls<H> {
             ≡ self.old ++ (step.Write path.now bytes.now, is_ok result) ∷ [] }
     {
         let outcome = write_file(&self.files, path, bytes);
+        self.log.note(Asked::Write, path, bytes, outcome.is_ok());
+        outcome
+    }
+
+    /// The same, of a file that everybody may read and its owner may write (mode 0644), if the system sets modes.
+    pub(crate) fn write_shown(&mut self, path: &str, bytes: &[u8]) -> Result<(), DeviceFault>
+        ensures { self.new
+            ≡ self.old ++ (step.Write path.now bytes.now, is_ok result) ∷ [] }
+    {
+        let outcome = write_shown_file(&self.files, path, bytes);
         self.log.note(Asked::Write, path, bytes, outcome.is_ok());
         outcome
     }
@@ -76,12 +86,13 @@ impl<H: Files> SystemCalls<H> {
         outcome
     }
 
-    /// Makes a folder at the path. `NotThere`: the folder above it isn't there. `Taken`: something is at the path.
+    /// Makes a folder at the path, in which everybody may read (mode 0755), if the system sets modes. `NotThere`: the
+    /// folder above it isn't there. `Taken`: something is at the path.
     pub(crate) fn make_folder(&mut self, path: &str) -> Result<(), DeviceFault>
         ensures { self.new
             ≡ self.old ++ (step.MakeFolder path.now, is_ok result) ∷ [] }
     {
-        let outcome = or_fault(create_dir(&self.files, path));
+        let outcome = make_shown_folder(&self.files, path);
         self.log.note(Asked::MakeFolder, path, &[], outcome.is_ok());
         outcome
     }

@@ -11,7 +11,7 @@ use Rattle.tl_heart.specs.declared.heart.Step.{Step}
 use Rattle.tl_heart.specs.declared.heart.Step.TheVariants as step
 use Rattle.tl_heart.specs.declared.heart.Heart.{Heart}
 use Rattle.tl_heart.specs.Heart.{after, step_of}
-use Rattle.tl_heart.specs.Order.{after_all}
+use Rattle.tl_heart.specs.Order.{Owed, after_all, publication, telling}
 use Rattle.tl_sequencer.specs.Log.{End, Log}
 use Rattle.tl_command.specs.declared.fault.RunFault.{RunFault}
 use Rattle.tl_serve.specs.declared.running.Running.{Running}
@@ -33,6 +33,11 @@ abbrev pub shown_event : Result Bool RunFault → Event RunFault
 shown_event (Ok true) = event.Done 0
 shown_event (Ok false) = event.NothingNew
 shown_event (Err fault) = event.Failed fault
+
+-- what a log owes that begins to be served: to publish what is due, or else to tell what was published
+abbrev pub owed_first : Bool → Owed
+owed_first true = publication
+owed_first false = telling
 
 -- how many entries were taken in all, once a call took some; a sum above 2^64 - 1 is told as that
 abbrev pub taken_after : ℕ → Result ℕ RunFault → ℕ

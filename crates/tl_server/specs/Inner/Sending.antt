@@ -9,10 +9,11 @@ beside [] text = []
 beside (b ∷ list) text = text
 
 -- an answer's bytes in pieces
-abbrev pub answer_pieces : Bytes → Bytes → Bytes → Bytes → Bytes → Bytes → List Bytes
-answer_pieces status reason allow kind size body =
+abbrev pub answer_pieces : Bytes → Bytes → Bytes → Bytes → Bytes → Bytes → Bytes → List Bytes
+answer_pieces status reason allow retry kind size body =
     codes "HTTP/1.1 " ∷ status ∷ codes " " ∷ reason ∷ crlf
     ∷ beside allow (codes "Allow: ") ∷ allow ∷ beside allow crlf
+    ∷ retry
     ∷ beside body (codes "Content-Type: ") ∷ beside body kind ∷ beside body crlf
     ∷ codes "Content-Length: " ∷ size ∷ codes "\r\nConnection: close\r\n\r\n" ∷ body ∷ []
 

@@ -7,8 +7,8 @@ use Rattle.tl_append.proofs.running.append_under.Goals as goal
 pub returns-in-Err-clause-goes_on : goal.returns-in-Err-clause-goes_on
 returns-in-Err-clause-goes_on g c = inl (stayed (g.S.Shelf.kept c.args.shelf.now) (g.S.Shelf.trace c.args.shelf.now) (g.R.Read.remaining c.args.reader.now.device) c.args.reader.now.failed)
 
-pub returns-then-not-is_first-clause-goes_on : goal.returns-then-not-is_first-clause-goes_on
-returns-then-not-is_first-clause-goes_on g c = inl (stayed (g.S.Shelf.kept c.args.shelf.now) (g.S.Shelf.trace c.args.shelf.now) (g.R.Read.remaining c.args.reader.now.device) c.args.reader.now.failed)
+pub returns-in-Err-check_asked-clause-goes_on : goal.returns-in-Err-check_asked-clause-goes_on
+returns-in-Err-check_asked-clause-goes_on g c = inl (stayed (g.S.Shelf.kept c.args.shelf.now) (g.S.Shelf.trace c.args.shelf.now) (g.R.Read.remaining c.args.reader.now.device) c.args.reader.now.failed)
 
 pub returns-in-Ok-append_lines-clause-goes_on : goal.returns-in-Ok-append_lines-clause-goes_on
 returns-in-Ok-append_lines-clause-goes_on g c =
@@ -21,16 +21,16 @@ returns-clause-goes_on g c =
     (passage g.R.Read.remaining c.args.reader.now c.append_lines.new.reader) c.in-Err-append_lines.ensures.some)
 
 pub returns-in-Err-clause-left : goal.returns-in-Err-clause-left
-returns-in-Err-clause-left g c = λ new. inr (stayed (g.S.Shelf.kept c.args.shelf.now) (g.S.Shelf.trace c.args.shelf.now) (g.R.Read.remaining c.args.reader.now.device) c.args.reader.now.failed)
+returns-in-Err-clause-left g c = inr (stayed (g.S.Shelf.kept c.args.shelf.now) (g.S.Shelf.trace c.args.shelf.now) (g.R.Read.remaining c.args.reader.now.device) c.args.reader.now.failed)
 
-pub returns-then-not-is_first-clause-left : goal.returns-then-not-is_first-clause-left
-returns-then-not-is_first-clause-left g c = λ new. inr (stayed (g.S.Shelf.kept c.args.shelf.now) (g.S.Shelf.trace c.args.shelf.now) (g.R.Read.remaining c.args.reader.now.device) c.args.reader.now.failed)
+pub returns-in-Err-check_asked-clause-left : goal.returns-in-Err-check_asked-clause-left
+returns-in-Err-check_asked-clause-left g c = inr (stayed (g.S.Shelf.kept c.args.shelf.now) (g.S.Shelf.trace c.args.shelf.now) (g.R.Read.remaining c.args.reader.now.device) c.args.reader.now.failed)
 
 pub returns-in-Err-clause-newest : goal.returns-in-Err-clause-newest
 returns-in-Err-clause-newest g c = inl (stayed (g.S.Shelf.kept c.args.shelf.now) (g.S.Shelf.trace c.args.shelf.now) (g.R.Read.remaining c.args.reader.now.device) c.args.reader.now.failed)
 
-pub returns-then-not-is_first-clause-newest : goal.returns-then-not-is_first-clause-newest
-returns-then-not-is_first-clause-newest g c = inl (stayed (g.S.Shelf.kept c.args.shelf.now) (g.S.Shelf.trace c.args.shelf.now) (g.R.Read.remaining c.args.reader.now.device) c.args.reader.now.failed)
+pub returns-in-Err-check_asked-clause-newest : goal.returns-in-Err-check_asked-clause-newest
+returns-in-Err-check_asked-clause-newest g c = inl (stayed (g.S.Shelf.kept c.args.shelf.now) (g.S.Shelf.trace c.args.shelf.now) (g.R.Read.remaining c.args.reader.now.device) c.args.reader.now.failed)
 
 pub returns-in-Ok-append_lines-clause-newest : goal.returns-in-Ok-append_lines-clause-newest
 returns-in-Ok-append_lines-clause-newest g c = inr c.in-Ok.ensures.newest

@@ -28,10 +28,10 @@ returns-in-Err-append_under-clause-goes_on g c =
     under_part c.args.options.now.key _ _ (log_key_of c.in-Ok.keys.signer) _ _ _ c.as_str-origin.ensures.value c.in-Ok.ensures.signer c.in-Err-append_under.ensures.goes_on
 
 pub returns-then-not-is_key_name-clause-left : goal.returns-then-not-is_key_name-clause-left
-returns-then-not-is_key_name-clause-left g c = λ new. inr (stayed (g.S.Shelf.kept c.args.shelf.now) (g.S.Shelf.trace c.args.shelf.now) (g.R.Read.remaining c.args.reader.now.device) c.args.reader.now.failed)
+returns-then-not-is_key_name-clause-left g c = inr (stayed (g.S.Shelf.kept c.args.shelf.now) (g.S.Shelf.trace c.args.shelf.now) (g.R.Read.remaining c.args.reader.now.device) c.args.reader.now.failed)
 
 pub returns-in-Err-clause-left : goal.returns-in-Err-clause-left
-returns-in-Err-clause-left g c = λ new. inr (stayed (g.S.Shelf.kept c.args.shelf.now) (g.S.Shelf.trace c.args.shelf.now) (g.R.Read.remaining c.args.reader.now.device) c.args.reader.now.failed)
+returns-in-Err-clause-left g c = inr (stayed (g.S.Shelf.kept c.args.shelf.now) (g.S.Shelf.trace c.args.shelf.now) (g.R.Read.remaining c.args.reader.now.device) c.args.reader.now.failed)
 
 pub returns-then-not-is_key_name-clause-newest : goal.returns-then-not-is_key_name-clause-newest
 returns-then-not-is_key_name-clause-newest g c = inl (stayed (g.S.Shelf.kept c.args.shelf.now) (g.S.Shelf.trace c.args.shelf.now) (g.R.Read.remaining c.args.reader.now.device) c.args.reader.now.failed)

@@ -9,7 +9,7 @@ use Rattle.tl_folder.proofs.staged.write_in_folder.Goals as goal
 pub returns-in_default : goal.returns-in_default
 returns-in_default g c =
     let none : path_parent c.args.path.now ≡ None = cc (c.in_default.ensures, c.new.ensures) in
-    again_written c.args.path.now c.args.bytes.now _ _ _ c.write-in_default.result none c.in-Err-NotThere.ensures c.write-in_default.ensures
+    again_written c.args.path.now c.args.bytes.now _ _ _ c.write_shown-in_default.result none c.in-Err-NotThere.ensures c.write_shown-in_default.ensures
 
 pub returns-in_err-make_folders : goal.returns-in_err-make_folders
 returns-in_err-make_folders g c =
@@ -21,7 +21,7 @@ returns-in_err-make_folders g c =
 pub returns : goal.returns
 returns g c =
     let above : path_parent c.args.path.now ≡ Some c.as_str.result.now = cc (c.in-Some.ensures, c.as_str.ensures, c.new.ensures) in
-    then_written c.args.path.now c.as_str.result.now c.args.bytes.now _ _ _ _ c.write-2.result above c.in-Err-NotThere.ensures c.in_ok-make_folders.ensures c.write-2.ensures
+    then_written c.args.path.now c.as_str.result.now c.args.bytes.now _ _ _ _ c.write_shown-2.result above c.in-Err-NotThere.ensures c.in_ok-make_folders.ensures c.write_shown-2.ensures
 
 pub returns-in-Err : goal.returns-in-Err
 returns-in-Err g c = grind (arith, common_steps)

@@ -1,6 +1,6 @@
 use Rattle.std.proofs.Common.{arith, inl, refl}
 use Rattle.tl_server.specs.Adding.{Misplace, Postpone, Reply}
-use Rattle.tl_server.specs.Answer.{bare}
+use Rattle.tl_server.specs.Answer.{bare, busy}
 use Rattle.tl_server.proofs.OpenLemmas.{sent_takes, unwritten}
 use Rattle.tl_server.proofs.PlaceLemmas.{looked_on_shelf}
 use Rattle.tl_server.proofs.open_shelf.answer_told.Goals as goal
@@ -11,9 +11,9 @@ returns-in-Later g c = rw c.in-Later.is (record { course = Postpone; decided = (
 pub returns-in-Refused : goal.returns-in-Refused
 returns-in-Refused g c =
     rw c.in-Refused.is (record {
-      course = Reply (bare 503);
+      course = Reply busy;
       decided = (tt, refl);
-      takes = sent_takes (bare 503) _ c.refuse.result c.outcome_of.result c.refuse.ensures c.outcome_of.ensures;
+      takes = sent_takes busy _ c.refuse_busy.result c.outcome_of.result c.refuse_busy.ensures c.outcome_of.ensures;
     })
 
 pub returns-in-NoMemory : goal.returns-in-NoMemory
@@ -21,7 +21,7 @@ returns-in-NoMemory g c =
     rw c.in-NoMemory.is (record {
       course = Reply (bare 500);
       decided = (tt, refl);
-      takes = sent_takes (bare 500) _ c.refuse-in-NoMemory.result c.outcome_of-in-NoMemory.result c.refuse-in-NoMemory.ensures c.outcome_of-in-NoMemory.ensures;
+      takes = sent_takes (bare 500) _ c.refuse.result c.outcome_of-in-NoMemory.result c.refuse.ensures c.outcome_of-in-NoMemory.ensures;
     })
 
 pub returns-then-index-size : goal.returns-then-index-size

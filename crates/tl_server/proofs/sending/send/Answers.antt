@@ -14,6 +14,7 @@ returns g c = (
         c.format-2.ensures.text,
         c.as_bytes-reason.ensures.value,
         c.phrase_of.ensures,
+        c.retry_of-retry.ensures,
       ) at c.in_ok-put_texts.ensures.whole),
 )
 
@@ -28,4 +29,5 @@ returns-in_err-put_texts g c =
       c.format-2.ensures.text,
       c.as_bytes-reason.ensures.value,
       c.phrase_of.ensures,
+      c.retry_of-retry.ensures,
     ) at c.in_err-put_texts.ensures.part))
