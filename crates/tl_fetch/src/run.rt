@@ -150,9 +150,10 @@ fn print_and_keep<
         (K.may_fail state.old fault ⊎ C.may_fail printed.old fault) ⊎ RefusesAll
         (S.may_answer source.now) (S.may_lack source.now) step.now.new.now from fault) }
 {
+    let note = step.note;
     print_entries(alloc, source, requests, step.new, from, observer, writer)?;
-    state.keep(policy, step.last, step.note)?;
-    printed.keep(policy, since.last, step.note)
+    state.keep(policy, step.last, note)?;
+    printed.keep(policy, since.last, note)
 }
 
 // From which entry on all are printed: behind those of the log up to which they were, or else those that were known.
