@@ -1,17 +1,27 @@
 -- Two checkpoints that were judged, and evidence by their notes.
-use Rattle.std.proofs.Common.{◌≡◌, ◌∙◌, ◌++◌, ℕ, inl, inr, [], Option, Some, None, refl, sym, ap, subst, arith}
+use Rattle.std.proofs.Common.{◌≡◌, ◌∙◌, ◌++◌, ◌+◌, ℕ, length, take, inl, inr, [], Option, Some, None, Result, Ok, Err, IfErr, refl, sym, ap, subst, arith}
 use Rattle.sha2.specs.Sha256.{sha256}
 use Rattle.tl_hash.specs.Bytes.{Bytes}
 use Rattle.tl_hash.specs.declared.head.Head.{Head}
-use Rattle.tl_device.specs.Device.{Passage}
+use Rattle.std.proofs.KnownBytes.{Appends-trans}
+use Rattle.std.specs.Io.KnownBytes.{Appends, Keeps}
+use Rattle.std.proofs.Math.Seq.{take-append_seam}
+use Rattle.tl_device.specs.Device.{Passage, WroteWhole}
 use Rattle.tl_proof.specs.Acceptance.{AcceptsConsistency}
 use Rattle.tl_checkpoint.specs.Checkpoint as checkpoint
+use Rattle.tl_tile.specs.declared.resource.Resource.{Resource}
+use Rattle.tl_client.specs.Refused.{IsFork, RefusesGrowth}
+use Rattle.tl_client.specs.declared.fault.ClientFault.{ClientFault}
+use Rattle.tl_client.specs.declared.fault.ClientFault.TheVariants as client
 use Rattle.tl_command.specs.ProofText.{Consistency, IsConsistency, consistency_text}
 use Rattle.tl_fork.specs.Evidence.{Disagree, LeadsElsewhere}
 use Rattle.tl_fetch.specs.declared.fault.FetchFault.{FetchFault}
-use Rattle.tl_fetch.specs.Evidence.{IsEvidenceOf, IsOfNoLog, evidence_text}
+use Rattle.tl_fetch.specs.Evidence.{IsEvidenceOf, IsOfNoLog, LacksProof, RefusesComparison, evidence_text}
 use Rattle.tl_fetch.specs.Fetching.{Grounds, IsAccusation, RefusesTwo}
 use Rattle.tl_fetch.specs.Inner.Judging.{Accuses, JudgesTwo, LeadsTo, bare}
+use Rattle.tl_fetch.specs.Printed.{PrintedSome, PrintedWhole}
+use Rattle.tl_fetch.proofs.ListingLemmas.{part_after}
+use Rattle.tl_fetch.proofs.Passages.{GoesOn, joined}
 use Rattle.tl_fetch.specs.Trusting.{IsGrown, IsKnown, IsNoteOf, Policy, Two, alone}
 
 -- a proof to the larger tree from the smaller one's root, and from another one
@@ -37,6 +47,16 @@ pub apart_back : (a b : Head) (shown : Bytes) → Disagree (bare a) (bare b) sho
 apart_back a b shown (inl (none, two)) = inl (none, record { size = sym two.size; roots = λ e. two.roots (sym e) })
 apart_back a b shown (inr (p, lawful, is, inl leads)) = inr (p, lawful, is, inr leads)
 apart_back a b shown (inr (p, lawful, is, inr leads)) = inr (p, lawful, is, inl leads)
+
+-- a growth that is refused as a fork, and what would show it isn't had
+pub fork_at : (answers : Resource → Bytes → Type 0) (lacks : Resource → Type 0) (smaller larger : Head) (fault : ClientFault) → fault ≡ client.Forked
+    → RefusesGrowth answers lacks smaller larger fault → IsFork sha256 smaller larger
+fork_at answers lacks smaller larger fault is refused = subst (λ (f : ClientFault). RefusesGrowth answers lacks smaller larger f) is refused
+
+pub not_compared : {X : Type 0} (answers : Resource → Bytes → Type 0) (lacks : Resource → Type 0) (smaller larger : Head) (r : Result X ClientFault) → IsFork sha256 smaller larger
+    → IfErr r (LacksProof answers lacks smaller.size larger) → IfErr r (RefusesComparison answers lacks smaller larger)
+not_compared answers lacks smaller larger (Ok x) fork refused = tt
+not_compared answers lacks smaller larger (Err why) fork refused = inr (fork, refused)
 
 -- ---- by checkpoints of these sizes and roots
 
@@ -134,3 +154,43 @@ pub judged : (grounds : Grounds) (policy : Policy) (two : Two) (fault : FetchFau
     → JudgesTwo grounds.answers grounds.lacks two fault o → RefusesTwo grounds policy two fault o
 judged grounds policy two fault o known new (inl accuses) = inl (accused policy two fault o known new accuses)
 judged grounds policy two fault o known new (inr unaccused) = inr unaccused
+
+-- ---- what is printed of evidence
+
+appends_keeps : (a b c : Option Bytes) (bs : Bytes) → Appends a b bs → Keeps b c → Appends a c bs
+appends_keeps None b c bs p k = tt
+appends_keeps (Some x) None c bs p k = absurd p
+appends_keeps (Some x) (Some y) None bs p k = absurd k
+appends_keeps (Some x) (Some y) (Some z) bs p k = k ∙ p
+
+after_first : (o p : Passage) (second text : Bytes) → GoesOn o p → Appends p.old p.new text → text ≡ second → Appends o.new p.new second
+after_first o p second text on wrote is =
+    subst (λ (b : Option Bytes). Appends b p.new second) (sym on.bytes) (subst (Appends p.old p.new) is wrote)
+
+pub whole_after : (first second a b : Bytes) (o p : Passage) → GoesOn o p → WroteWhole o first → first ≡ a → second ≡ b → PrintedWhole (λ t. t ≡ second) p
+    → PrintedWhole (λ t. t ≡ a ++ b) (joined o p)
+whole_after first second a b o p on whole first_is second_is (text, is, wrote) = (
+  first ++ second,
+  ap (λ (t : Bytes). t ++ second) first_is ∙ ap (λ (t : Bytes). a ++ t) second_is,
+  record {
+    appended = Appends-trans o.old o.new p.new first second whole.appended (after_first o p second text on wrote.appended is);
+    steady = wrote.steady ∙ sym on.failed ∙ whole.steady;
+  },
+)
+
+pub some_after : (first second a b : Bytes) (o p : Passage) → GoesOn o p → WroteWhole o first → first ≡ a → second ≡ b → PrintedSome (λ t. t ≡ second) p
+    → PrintedSome (λ t. t ≡ a ++ b) (joined o p)
+some_after first second a b o p on whole first_is second_is (inl still) = inr (
+  first ++ second,
+  ap (λ (t : Bytes). t ++ second) first_is ∙ ap (λ (t : Bytes). a ++ t) second_is,
+  length first,
+  subst (Appends o.old p.new) (sym (take-append_seam first second))
+      (appends_keeps o.old o.new p.new first whole.appended (subst (λ (k : Option Bytes). Keeps k p.new) (sym on.bytes) still.0)),
+)
+some_after first second a b o p on whole first_is second_is (inr (text, is, count, part)) = inr (
+  first ++ second,
+  ap (λ (t : Bytes). t ++ second) first_is ∙ ap (λ (t : Bytes). a ++ t) second_is,
+  length first + count,
+  part_after o.old o.new p.new first second count whole.appended
+      (after_first o p (take count second) (take count text) on part (ap (take count) is)),
+)

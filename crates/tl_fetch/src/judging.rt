@@ -178,7 +178,10 @@ fn print_two<W: Write>(
     ensures fault { IfErr result (λ fault. fault ≡ RunFault.Write) }
 {
     print_text(writer, first)?;
-    print_text(writer, second)
+    match print_text(writer, second) {
+        Ok(()) => Ok(()),
+        Err(fault) => Err(fault),
+    }
 }
 
 // Prints evidence: two notes, and what shows that the log forked.
@@ -195,7 +198,10 @@ fn print_evidence<W: Write>(
     ensures fault { IfErr result (λ fault. fault ≡ RunFault.Write) }
 {
     print_text(writer, last.as_bytes())?;
-    print_two(note.as_bytes(), shown, writer)
+    match print_two(note.as_bytes(), shown, writer) {
+        Ok(()) => Ok(()),
+        Err(fault) => Err(fault),
+    }
 }
 
 // Prints that the log forked, and tells it. Without a note that was trusted last it is a checkpoint of no entries with
