@@ -11,7 +11,7 @@ use Rattle.tl_serve.specs.declared.witness_fault.WitnessFault.TheVariants as why
 use Rattle.tl_bucket.specs.declared.fault.BucketFault.{BucketFault}
 use Rattle.tl_bucket.specs.declared.fault.BucketFault.TheVariants as bucket
 use Rattle.tl_cli.specs.declared.fault.CommandFault.{CommandFault}
-use Rattle.tl_cli.specs.declared.fault.CommandFault.TheVariants.{Run, Fetch, Witness, Bucket, Credentials}
+use Rattle.tl_cli.specs.declared.fault.CommandFault.TheVariants.{Run, Fetch, Witness, Bucket, Credentials, KeyFile}
 
 -- how a command ended that is neither `fetch` nor `witness`, how `fetch` ended, and how `witness` did
 abbrev pub by_run : Result (Unit {0}) RunFault → Result (Unit {0}) CommandFault
@@ -45,6 +45,7 @@ command_status (Witness fault) = witness_status fault
 command_status (Bucket fault) = bucket_status fault
 command_status (Credentials None) = 1
 command_status (Credentials (Some why)) = device_status why
+command_status (KeyFile which why) = device_status why
 
 -- the exit status: 0 where all was done, and else that of the fault
 abbrev pub status_of : Result (Unit {0}) CommandFault → ℕ

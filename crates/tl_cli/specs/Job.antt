@@ -10,7 +10,7 @@ use Rattle.tl_command.specs.ProofCommands.{InclusionComes, ConsistencyComes, Che
 use Rattle.tl_command.specs.AuditCommand.{AuditComes}
 use Rattle.tl_command.specs.declared.fault.RunFault.{RunFault}
 use Rattle.tl_cli.specs.declared.job.Job.{Job}
-use Rattle.tl_cli.specs.declared.job.Job.TheVariants.{Head, Build, BuildSigned, Append, AppendTo, Inclusion, Consistency, Check, CheckUnder, Keygen, Open, Audit, Serve, ServeFrom, Witness, Fetch, Feed, Version}
+use Rattle.tl_cli.specs.declared.job.Job.TheVariants.{Head, Build, BuildSigned, Append, AppendTo, Inclusion, Consistency, Check, CheckUnder, CheckFork, Keygen, KeygenTo, Open, Audit, Serve, ServeFrom, Witness, Fetch, Feed, Version, Help}
 use Rattle.tl_command.specs.Mirror.{demo_log_key}
 use Rattle.tl_command.specs.Build.{RunsBuild}
 use Rattle.tl_command.specs.Signed.{RunsSigned}
@@ -31,7 +31,10 @@ use Rattle.tl_cli.specs.Ending.{by_fetch, by_run, by_witness, status_of}
 use Rattle.tl_cli.specs.InBucket.{AppendsTo, ServesFrom}
 use Rattle.tl_cli.specs.Lasting.{Folder, AppendsIn, ServesIn, SparesStreams}
 use Rattle.tl_cli.specs.Told.{Tells}
-use Rattle.tl_cli.specs.Version.{PrintsVersion}
+use Rattle.tl_cli.specs.Version.{PrintsText, PrintsVersion}
+use Rattle.tl_fork.specs.ForkCommand.{RunsFork}
+use Rattle.tl_command.specs.declared.commands.checking.GivenEntry.{GivenEntry}
+use Rattle.tl_command.specs.declared.commands.checking.GivenEntry.TheVariants.{Text, File}
 
 -- the result is such a fault
 abbrev pub IsUnopened : Result (Unit {0}) RunFault → Type 0
@@ -42,6 +45,12 @@ IsUnopened (Err fault) = IsFileFault fault
 abbrev pub ChecksFile : Bytes → Option Bytes → Passage → Passage → Result (Unit {0}) RunFault → Type 0
 ChecksFile key entry i o result =
     ((bytes : Bytes) × RunsCheckOpened key bytes entry i o result) ⊎ (IsUnopened result × IsIdle i o)
+
+-- a run against it about the entry that is given: none, a text, or the bytes of a file
+abbrev pub ChecksGiven : Bytes → Option GivenEntry → Passage → Passage → Result (Unit {0}) RunFault → Type 0
+ChecksGiven key None i o result = ChecksFile key None i o result
+ChecksGiven key (Some (Text entry)) i o result = ChecksFile key (Some (string_bytes entry)) i o result
+ChecksGiven key (Some (File path)) i o result = (entry : Bytes) × ChecksFile key (Some entry) i o result
 
 -- a run signed by the demonstration key of an origin and a secret
 abbrev pub BuildsDemo : Bytes → Bytes → Option Bytes → Passage → Passage → Result (Unit {0}) RunFault → Type 0
@@ -84,9 +93,11 @@ RunsJob held reached (Inclusion options) folder i o e result = IsRun (Runs (Incl
 RunsJob held reached (Consistency options) folder i o e result = IsRun (Runs (ConsistencyComes options.old) i o) result × IsUnwritten e
 RunsJob held reached Check folder i o e result = IsRun (Runs CheckComes i o) result × IsUnwritten e
 RunsJob held reached (CheckUnder options) folder i o e result =
-    IsRun (ChecksFile (string_bytes options.key) (option_map string_bytes options.entry) i o) result × IsUnwritten e
+    IsRun (ChecksGiven (string_bytes options.key) options.entry i o) result × IsUnwritten e
+RunsJob held reached (CheckFork key) folder i o e result = IsRun (RunsFork (string_bytes key) i o) result × IsUnwritten e
 RunsJob held reached (Keygen options) folder i o e result =
     IsRun (GivesKey (string_bytes options.name) (key_kind options.is_cosigner) o e) result × IsUnread i
+RunsJob held reached (KeygenTo options) folder i o e result = IsUnread i × IsUnwritten o × IsUnwritten e
 RunsJob held reached (Open key) folder i o e result = IsRun (RunsOpen (string_bytes key) i o) result × IsUnwritten e
 RunsJob held reached Audit folder i o e result = IsRun (Runs (AuditComes sha256) i o) result × IsUnwritten e
 RunsJob held reached (Serve options) folder i o e result =
@@ -98,6 +109,8 @@ RunsJob held reached (Witness options) folder i o e result =
 RunsJob held reached (Fetch options) folder i o e result = IsFetched (RunsFetch options o) result × IsUnread i
 RunsJob held reached (Feed options) folder i o e result = IsFetched (RunsFeed options o) result × IsUnread i
 RunsJob held reached Version folder i o e result = IsRun (PrintsVersion o) result × IsUnread i × IsUnwritten e
+RunsJob held reached (Help text) folder i o e result =
+    IsRun (PrintsText (string_bytes text) o) result × IsUnread i × IsUnwritten e
 
 -- the job's command ran, its fault was told, and the exit status says how it ended. In between standard error held
 -- these bytes, or had failed
@@ -114,6 +127,9 @@ pub record EndsJob (held : Held) (reached : Reached) (job : Job) (i o e : Passag
 abbrev pub EndsBefore : Passage → Passage → ℕ → ℕ → Type 0
 EndsBefore i o wanted status = IsUnread i × IsUnwritten o × (status ≡ wanted)
 
--- the words name a job, whose command ran; or they name none, and the status is 2; or memory was refused, and it is 1
+-- the words name a job, whose command ran; or they name none, and the status is 2; or the file of a public key wasn't
+-- read, and it is 3; or that has no text, or allocation failed, and it is 1
 abbrev pub EndsWords : Held → Reached → Passage → Passage → Passage → ℕ → Type 0
-EndsWords held reached i o e status = ((job : Job) × EndsJob held reached job i o e status) ⊎ (EndsBefore i o 2 status ⊎ EndsBefore i o 1 status)
+EndsWords held reached i o e status =
+    ((job : Job) × EndsJob held reached job i o e status)
+    ⊎ (EndsBefore i o 2 status ⊎ (EndsBefore i o 3 status ⊎ EndsBefore i o 1 status))

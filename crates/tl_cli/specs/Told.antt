@@ -26,8 +26,10 @@ use Rattle.tl_logs.specs.FaultWords.{logs_words}
 use Rattle.tl_bucket.specs.FaultWords.{bucket_words}
 use Rattle.tl_device.specs.declared.fault.DeviceFault.{DeviceFault}
 use Rattle.tl_cli.specs.declared.job.Job.{Job}
-use Rattle.tl_cli.specs.declared.job.Job.TheVariants.{BuildSigned, Append, AppendTo, CheckUnder, Serve, ServeFrom, Witness, Fetch, Feed}
+use Rattle.tl_cli.specs.declared.job.Job.TheVariants.{BuildSigned, Append, AppendTo, CheckUnder, KeygenTo, Serve, ServeFrom, Witness, Fetch, Feed}
 use Rattle.tl_cli.specs.declared.fault.CommandFault.{CommandFault}
+use Rattle.tl_cli.specs.declared.fault.KeyFile.{KeyFile}
+use Rattle.tl_cli.specs.declared.fault.KeyFile.TheVariants.{Private, Public}
 use Rattle.tl_cli.specs.declared.fault.CommandFault.TheVariants as fault
 
 -- ---- what the options of a job name
@@ -87,6 +89,16 @@ abbrev pub credentials_of : Job → Option Bytes
 credentials_of (AppendTo options) = option_map string_bytes options.bucket.credentials
 credentials_of (ServeFrom options) = option_map string_bytes options.bucket.credentials
 credentials_of job = None
+
+-- the file of a new private key, and that of its verifier key
+abbrev pub new_key_of : Job → Option Bytes
+new_key_of (KeygenTo options) = Some (string_bytes options.out)
+new_key_of job = None
+
+abbrev pub key_path : Option Bytes → KeyFile → Bytes
+key_path None which = codes "file"
+key_path (Some out) Private = out
+key_path (Some out) Public = out ++ codes ".pub"
 
 -- what they name for a place, and the resource under it that the place is, if it is one
 abbrev pub base_of : Job → Place → Option Bytes
@@ -153,6 +165,8 @@ IsLineOf job (fault.Fetch other) text = text ≡ line_or_none (fetch_text other)
 IsLineOf job (fault.Witness other) text = IsLineOfWitness job other text
 IsLineOf job (fault.Bucket why) text = IsLineAt (log_of job) (place.Log None) (bucket_words why) text
 IsLineOf job (fault.Credentials why) text = text ≡ credentials_line (credentials_of job) why
+IsLineOf job (fault.KeyFile which why) text =
+    text ≡ line (codes "tlog: " ++ key_path (new_key_of job) which ++ codes ": " ++ device_words why)
 
 -- a text was written to standard error, or a part of it where that failed
 abbrev pub Wrote : Bytes → Passage → Type 0

@@ -10,8 +10,12 @@ use Rattle.tl_command.specs.declared.fault.RunFault.TheVariants.{Write}
 abbrev pub version_line : Bytes
 version_line = line (codes "tlog 0.1.0 (proved with rattle-kit-13f logic dac8208d650f15bf)")
 
--- printing it
+-- a text is printed
+abbrev pub PrintsText : Bytes → Passage → Result (Unit {0}) RunFault → Type 0
+PrintsText text o (Ok done) = WroteWhole o text
+PrintsText text o (Err Write) = WrotePart o text
+PrintsText text o (Err fault) = ⊥
+
+-- the version is printed
 abbrev pub PrintsVersion : Passage → Result (Unit {0}) RunFault → Type 0
-PrintsVersion o (Ok done) = WroteWhole o version_line
-PrintsVersion o (Err Write) = WrotePart o version_line
-PrintsVersion o (Err fault) = ⊥
+PrintsVersion o result = PrintsText version_line o result

@@ -25,6 +25,17 @@ pub enum CommandFault {
     Bucket(BucketFault),
     /// The key that signs requests to a bucket isn't there: why its file isn't read, if it isn't.
     Credentials(Option<DeviceFault>),
+    /// The file of a new key can't be made or written.
+    KeyFile(KeyFile, DeviceFault),
+}
+
+/// One of the two files of a new key.
+#[derive(Clone, Copy, Debug, PartialEq, Eq)]
+pub enum KeyFile {
+    /// That of the private key.
+    Private,
+    /// That of the verifier key.
+    Public,
 }
 
 // The exit status of a fault of `witness`.
@@ -46,7 +57,9 @@ pub(crate) fn command_exit_of(fault: &CommandFault) -> u8
         CommandFault::Run(fault) => exit_of(fault),
         CommandFault::Fetch(fault) => fetch_exit_of(fault),
         CommandFault::Witness(fault) => witness_exit_of(fault),
-        CommandFault::Bucket(BucketFault::Device(why)) | CommandFault::Credentials(Some(why)) => {
+        CommandFault::Bucket(BucketFault::Device(why))
+        | CommandFault::Credentials(Some(why))
+        | CommandFault::KeyFile(_, why) => {
             exit_of(&RunFault::Device(Place::File, *why))
         }
         CommandFault::Bucket(_) | CommandFault::Credentials(None) => 1,

@@ -24,6 +24,15 @@ pub struct ConsistencyOptions {
     pub threads: Option<u16>,
 }
 
+/// The options of `keygen` into files.
+#[derive(Drop)]
+pub struct KeyFileOptions {
+    /// The key's name and its type.
+    pub key: KeygenOptions,
+    /// The file of the private key; that of the verifier key has `.pub` behind it.
+    pub out: String,
+}
+
 /// A command of the program, with its options.
 #[derive(Drop)]
 pub enum Job {
@@ -45,8 +54,15 @@ pub enum Job {
     Check,
     /// Say whether it is accepted and about a signed checkpoint.
     CheckUnder(CheckOptions),
+    /// Say whether standard input is evidence that a log forked.
+    CheckFork {
+        /// The text of the log's verifier key.
+        key: String,
+    },
     /// Make a key.
     Keygen(KeygenOptions),
+    /// Make a key in two files.
+    KeygenTo(KeyFileOptions),
     /// Print the text of the note on standard input, if it opens.
     Open {
         /// The text of the log's verifier key.
@@ -66,4 +82,9 @@ pub enum Job {
     Feed(FeedOptions),
     /// Print the program's version.
     Version,
+    /// Print a text on how to call the program.
+    Help {
+        /// The text.
+        text: String,
+    },
 }

@@ -11,6 +11,8 @@
 mod fault;
 mod in_bucket;
 mod job;
+mod key_files;
+mod key_texts;
 mod lasting;
 mod own_bucket;
 mod own_folder;
@@ -22,9 +24,9 @@ mod telling;
 mod version;
 mod words;
 
-pub use fault::CommandFault;
+pub use fault::{CommandFault, KeyFile};
 pub use in_bucket::{AppendToOptions, ServeFromOptions};
-pub use job::{ConsistencyOptions, InclusionOptions, Job};
+pub use job::{ConsistencyOptions, InclusionOptions, Job, KeyFileOptions};
 pub use own_bucket::BucketOptions;
 pub use own_folder::OwnFolder;
 pub use running::{end_early, end_run, run_job, run_words};

@@ -4,7 +4,7 @@ ghost use Rattle.std.specs.Prelude.{◌≡◌, codes, option_map, string_bytes};
 ghost use Rattle.tl_text.specs.Text.{line};
 ghost use Rattle.tl_device.specs.Device.{passage};
 ghost use Rattle.tl_command.specs.Head.{RunsHead};
-ghost use Rattle.tl_cli.specs.Job.{BuildsDemo, BuildsSigned, ChecksFile, EndsWords, RunsJob, key_kind};
+ghost use Rattle.tl_cli.specs.Job.{BuildsDemo, BuildsSigned, ChecksGiven, EndsWords, RunsJob, key_kind};
 ghost use Rattle.tl_command.specs.Keygen.{GivesKey};
 ghost use Rattle.tl_command.specs.ProofCommands.{InclusionComes, ConsistencyComes};
 ghost use Rattle.tl_command.specs.Run.{Runs};
@@ -14,11 +14,13 @@ ghost use Rattle.tl_cli.specs.Told.{Tells};
 use crate::fault::{CommandFault, after_fetch, after_run, after_witness, command_exit_of};
 use crate::in_bucket::{append_to, serve_from};
 use crate::job::{ConsistencyOptions, InclusionOptions, Job};
+use crate::key_files::keygen_to;
+use crate::key_texts::{KeyTextFault, end_unread, with_key_texts};
 use crate::lasting::{append, serve, witness};
 use crate::own_folder::OwnFolder;
 use crate::streams::Streams;
 use crate::telling::tell;
-use crate::version::print_version;
+use crate::version::{print_version, print_whole};
 use crate::words::{WordsFault, read_words};
 use std::alloc::{Allocator, Global};
 use std::env::Env;
@@ -29,13 +31,14 @@ use std::random::RandomSource;
 use std::thread::{Threads, available_parallelism};
 use tl_bucket::PutsTogether;
 use tl_command::{
-    BuildOptions, CheckOptions, HeadOptions, HmacLogSigner, KeygenOptions, RunFault, SignedOptions,
+    BuildOptions, CheckOptions, GivenEntry, HeadOptions, HmacLogSigner, KeygenOptions, RunFault, SignedOptions,
     read_file, run_audit, run_build, run_build_signed, run_check, run_check_opened,
     run_consistency, run_head, run_inclusion, run_keygen, run_open,
 };
 use tl_device::{Counted, write_whole};
 use tl_fetch::{run_feed, run_fetch};
 use tl_folder::CrashOutcome;
+use tl_fork::run_check_fork;
 use tl_hash::Sha256Tree;
 use tl_key::{Cosignature, Note};
 use tl_serve::Host;
@@ -178,24 +181,28 @@ fn check_under<H: Files, R: Read, W: Write>(
     reader: &mut Counted<R>,
     writer: &mut Counted<W>,
 ) -> Result<(), RunFault>
-    ensures { ChecksFile (string_bytes options.now.key)
-        (option_map string_bytes options.now.entry) (passage R.remaining reader.old reader.new)
+    ensures { ChecksGiven (string_bytes options.now.key) options.now.entry
+        (passage R.remaining reader.old reader.new)
         (passage W.contents writer.old writer.new) result }
 {
     let bytes = match read_file(rt, alloc, options.checkpoint.as_str()) {
         Ok(bytes) => bytes,
         Err(fault) => return Err(fault),
     };
-    let entry = options.entry.as_deref();
-    let entry = entry.map(|entry| entry.as_bytes());
-    run_check_opened(
-        alloc,
-        options.key.as_str(),
-        bytes.as_slice(),
-        entry,
-        reader,
-        writer,
-    )
+    let (key, bytes) = (options.key.as_str(), bytes.as_slice());
+    match &options.entry {
+        None => run_check_opened(alloc, key, bytes, None, reader, writer),
+        Some(GivenEntry::Text(entry)) => {
+            run_check_opened(alloc, key, bytes, Some(entry.as_bytes()), reader, writer)
+        }
+        Some(GivenEntry::File(path)) => {
+            let entry = match read_file(rt, alloc, path.as_str()) {
+                Ok(entry) => entry,
+                Err(fault) => return Err(fault),
+            };
+            run_check_opened(alloc, key, bytes, Some(entry.as_slice()), reader, writer)
+        }
+    }
 }
 
 /// Runs the command of a job with its options: each job its own command, which reads the reader and writes the writer.
@@ -238,7 +245,9 @@ pub fn run_job<
         Job::Consistency(options) => after_run(consistency(rt, alloc, *options, reader, writer)),
         Job::Check => after_run(run_check(alloc, reader, writer)),
         Job::CheckUnder(options) => after_run(check_under(rt, alloc, options, reader, writer)),
+        Job::CheckFork { key } => after_run(run_check_fork(alloc, key, reader, writer)),
         Job::Keygen(options) => after_run(key(rt, alloc, options, writer, errors)),
+        Job::KeygenTo(options) => keygen_to(rt, alloc, &options.key, options.out.as_str()),
         Job::Open { key } => after_run(run_open(alloc, key, reader, writer)),
         Job::Audit => after_run(run_audit(alloc, Sha256Tree, reader, writer)),
         Job::Serve(options) => {
@@ -253,12 +262,13 @@ pub fn run_job<
         }
         Job::Feed(options) => after_fetch(run_feed(rt, alloc, options, writer, errors)),
         Job::Version => after_run(print_version(writer)),
+        Job::Help { text } => after_run(print_whole(text, writer)),
     }
 }
 
-/// Runs the command that the words name, the program's own name first, and answers the exit status. Where the words
-/// name none, the text on how to call the program is written to `errors`, the status is 2, and nothing is read or
-/// written else.
+/// Runs the command that the words name, the program's own name first, and returns the exit status. If the words name
+/// none, the text on how to call the program is written to `errors`, the status is 2, and nothing is read or written
+/// else. `@FILE` in the place of a public key stands for the text of that file; if it can't be read, that is reported.
 pub fn run_words<
     D: CrashOutcome + PutsTogether + Copy + Send + Drop,
     H: Host
@@ -283,7 +293,14 @@ pub fn run_words<
         (passage W.contents writer.old writer.new) (passage E.contents errors.old errors.new)
         result }
 {
-    match read_words(alloc, words) {
+    let words = match with_key_texts(rt, alloc, words) {
+        Ok(words) => words,
+        Err(KeyTextFault::Unread(path, fault)) => {
+            return end_unread(alloc, path.as_str(), &fault, errors);
+        }
+        Err(KeyTextFault::OutOfMemory) => return end_early(errors),
+    };
+    match read_words(alloc, words.as_slice()) {
         Ok(job) => {
             let mut folder = None;
             let outcome = run_job(

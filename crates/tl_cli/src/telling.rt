@@ -3,12 +3,13 @@
 ghost use Rattle.std.specs.Prelude.{◌≡◌, ◌++◌, IfOk, None, codes, option_map, string_bytes};
 ghost use Rattle.tl_text.specs.Text.{line};
 ghost use Rattle.tl_device.specs.Device.{passage};
+ghost use Rattle.tl_device.specs.Faults.{device_words};
 ghost use Rattle.tl_bucket.specs.FaultWords.{bucket_words};
 ghost use Rattle.tl_command.specs.Faults.{nothing_words};
 ghost use Rattle.tl_command.specs.declared.place.Place.TheVariants.{Log};
-ghost use Rattle.tl_cli.specs.Told.{IsLineAt, IsLineOf, IsLineOfRun, IsLineOfWitness, IsWhere, TellsFault, Wrote, base_of, credentials_line, credentials_of, file_of, key_file, line_or_none, listed_file, log_of, logs_file, logs_line, resource_of, source_of, state_of, witness_file};
+ghost use Rattle.tl_cli.specs.Told.{IsLineAt, IsLineOf, IsLineOfRun, IsLineOfWitness, IsWhere, TellsFault, Wrote, base_of, credentials_line, credentials_of, file_of, key_file, key_path, line_or_none, listed_file, log_of, logs_file, logs_line, new_key_of, resource_of, source_of, state_of, witness_file};
 
-use crate::fault::CommandFault;
+use crate::fault::{CommandFault, KeyFile};
 use crate::job::Job;
 use std::alloc::{AllocError, Allocator};
 use std::io::Write;
@@ -305,6 +306,39 @@ fn credentials_line<A: Allocator + Copy>(
     line_at(alloc, path, words.as_str())
 }
 
+// The file of a new private key that the options name.
+fn new_key_of(job: &Job) -> Option<&str>
+    ensures { option_map (λ s. s.now) result ≡ new_key_of job.now }
+{
+    match job {
+        Job::KeygenTo(options) => Some(options.out.as_str()),
+        _ => None,
+    }
+}
+
+// The line of a fault over a file of a new key.
+fn key_line<A: Allocator + Copy>(
+    alloc: A,
+    job: &Job,
+    which: KeyFile,
+    why: &DeviceFault,
+) -> Result<String<A>, AllocError>
+    ensures { IfOk result (λ text. string_bytes text ≡ line (codes "tlog: "
+        ++ key_path (new_key_of job.now) which ++ codes ": " ++ device_words why.now)) }
+{
+    let words = format!(in alloc; "{why}")?;
+    let Some(out) = new_key_of(job) else {
+        return line_at(alloc, "file", words.as_str());
+    };
+    match which {
+        KeyFile::Private => line_at(alloc, out, words.as_str()),
+        KeyFile::Public => {
+            let path = format!(in alloc; "{out}.pub")?;
+            line_at(alloc, path.as_str(), words.as_str())
+        }
+    }
+}
+
 // What is told of a fault of a job: its line, if it has one.
 fn line_of<A: Allocator + Copy>(
     alloc: A,
@@ -320,6 +354,7 @@ fn line_of<A: Allocator + Copy>(
         CommandFault::Witness(fault) => witness_line(alloc, job, fault),
         CommandFault::Bucket(why) => bucket_line(alloc, job, why),
         CommandFault::Credentials(why) => credentials_line(alloc, job, why),
+        CommandFault::KeyFile(which, why) => key_line(alloc, job, *which, why),
     }
 }
 

@@ -5,7 +5,7 @@ use clap::error::ErrorKind;
 use clap::{ArgMatches, Command, Error as ClapError};
 use std::alloc::{AllocError, Global};
 use thiserror::Error;
-use tl_command::{HeadOptions, KeygenOptions};
+use tl_command::HeadOptions;
 
 // The words of a command, one a row: its name, what help calls its value, what stands behind it, and its help.
 macro_rules! words {
@@ -163,10 +163,7 @@ fn job_of(alloc: Global, command: &str, options: &ArgMatches<'_>) -> Result<Job,
             threads: options.get_one::<u16>("threads"),
         })),
         "check" => proving::checking_job(alloc, options),
-        "keygen" => Ok(Job::Keygen(KeygenOptions {
-            name: given::text_of(alloc, options, "name")?,
-            is_cosigner: options.get_flag("cosigner"),
-        })),
+        "keygen" => proving::keygen_job(alloc, options),
         "open" => Ok(Job::Open {
             key: given::text_of(alloc, options, "key")?,
         }),
@@ -179,9 +176,38 @@ fn job_of(alloc: Global, command: &str, options: &ArgMatches<'_>) -> Result<Job,
     }
 }
 
-/// The job that the words ask for, the first of which is the program's name; `--version` is a job, too. Words that are
-/// no command of the program with its options, and a call for help, are `Usage`.
+// The words that ask for the help of what `help` names: the program's name, the others, and `--help`.
+fn help_words(alloc: Global, words: &[String]) -> Result<Vec<String>, AllocError> {
+    let mut asked = Vec::new(alloc);
+    asked.push(String::from_str(alloc, "tlog")?)?;
+    for word in words {
+        asked.push(String::from_str(alloc, word.as_str())?)?;
+    }
+    asked.push(String::from_str(alloc, "--help")?)?;
+    Ok(asked)
+}
+
+// The job of `help`, with the names of a command.
+fn help_job(alloc: Global, names: &[String]) -> Result<Job, WordsFault> {
+    let asked = help_words(alloc, names)?;
+    match with_commands(alloc)?.try_get_matches_from(asked.as_slice()) {
+        Err(error) if matches!(error.kind(), ErrorKind::DisplayHelp) => {
+            let text = error.to_string(alloc)?;
+            Ok(Job::Help { text })
+        }
+        Err(error) => Err(fault_of(alloc, error)),
+        Ok(_) => Err(given::no_word(alloc)),
+    }
+}
+
+/// The job that the words ask for, the first of which is the program's name; `--version` is a job, and so is `help`,
+/// with the name of a command or without. Words that are no command of the program with its options, and `--help`, are
+/// `Usage`.
 pub fn read_words(alloc: Global, words: &[String]) -> Result<Job, WordsFault> {
+    match words {
+        [_, first, names @ ..] if first.as_str() == "help" => return help_job(alloc, names),
+        _ => {}
+    }
     let program = with_commands(alloc)?;
     let matches = match program.try_get_matches_from(words) {
         Ok(matches) => matches,

@@ -21,7 +21,7 @@ use Rattle.tl_fetch.specs.declared.fault.FetchFault.{FetchFault}
 use Rattle.tl_fetch.specs.declared.fault.FetchFault.TheVariants.{Run, BadAddress, OtherKey, BadWitness, SharedKey, Unavailable}
 use Rattle.tl_fetch.specs.declared.options.FetchOptions.{FetchOptions}
 use Rattle.tl_fetch.specs.Trusting.{Policy}
-use Rattle.tl_fetch.specs.Fetching.{Grounds, HasFetched, RefusesFetch, grounds_of}
+use Rattle.tl_fetch.specs.Fetching.{Grounds, HasFetched, RefusesFetch, Store, grounds_of}
 
 -- ---- whose checkpoints are trusted
 
@@ -92,6 +92,11 @@ abbrev pub may_have : {A : Type 0} → Option A → Option Bytes → Type 0
 may_have None had = had ≡ None
 may_have (Some path) had = Unit {0}
 
+-- what is seen of the file of a state, and of the one beside it that says how far all entries were printed: not what
+-- is kept there
+abbrev pub file_of : {A : Type 0} → Option A → Store
+file_of state = record { may_have = may_have state; has_kept = λ note. Unit {0} }
+
 -- a file of a state fails: the device, memory, or what is there is no text
 abbrev pub IsStateFault : FetchFault → Type 0
 IsStateFault (Run (Device State why)) = Unit {0}
@@ -130,11 +135,11 @@ RefusesRun policy options told o =
     ((told ≡ BadAddress) × HasScheme (string_bytes options.from) × IsNoUrl (string_bytes options.from) × IsUnwritten o)
     ⊎ ((origin : Origin) × IsOriginOf (string_bytes options.from) origin
     × ((fault : FetchFault) × IsToldAs fault told
-    × RefusesFetch (run_grounds origin options) policy options.wanted fault o))
+    × RefusesFetch (run_grounds origin options) (run_grounds origin options) policy options.wanted fault o))
 
 -- a run under a policy
 abbrev pub RunsUnder : Policy → FetchOptions → Passage → Result (Unit {0}) FetchFault → Type 0
-RunsUnder policy options o (Ok done) = HasFetched (may_have options.state) (λ note. Unit {0}) policy options.wanted o
+RunsUnder policy options o (Ok done) = HasFetched (file_of options.state) (file_of options.state) policy options.wanted o
 RunsUnder policy options o (Err fault) = RefusesRun policy options fault o
 
 -- reading the log's keys fails: a text is of no key, or memory ran out

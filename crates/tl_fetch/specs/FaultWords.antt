@@ -1,10 +1,10 @@
 -- What a fault of the command `fetch` prints, and its exit status.
-use Rattle.std.specs.Prelude.{ℕ, ◌++◌, codes, Option, Some}
+use Rattle.std.specs.Prelude.{ℕ, ◌++◌, true, false, codes, Option, Some}
 use Rattle.tl_hash.specs.Bytes.{Bytes}
 use Rattle.tl_text.specs.Text.{number_text}
 use Rattle.tl_command.specs.Faults.{exit_status, fault_text, fault_words}
 use Rattle.tl_fetch.specs.declared.fault.FetchFault.{FetchFault}
-use Rattle.tl_fetch.specs.declared.fault.FetchFault.TheVariants.{Run, BadAddress, OtherKey, BadWitness, SharedKey, Unavailable, OtherLog, TooFew, BadTile, BadBundle, BadEntry, Shrunk, Forked}
+use Rattle.tl_fetch.specs.declared.fault.FetchFault.TheVariants.{Run, BadAddress, OtherKey, BadWitness, SharedKey, Unavailable, OtherLog, TooFew, BadTile, BadBundle, BadEntry, Older, Forked}
 
 -- what it says
 abbrev pub fetch_words : FetchFault → Bytes
@@ -20,7 +20,9 @@ fetch_words (BadTile level index width) =
     codes "tile " ++ number_text level ++ codes " " ++ number_text index ++ codes " " ++ number_text width ++ codes " wrong"
 fetch_words (BadBundle index) = codes "entry bundle " ++ number_text index ++ codes " malformed"
 fetch_words (BadEntry index) = codes "entry " ++ number_text index ++ codes " wrong"
-fetch_words Shrunk = codes "log shrank"
+fetch_words (Older size of true) = codes "older checkpoint: " ++ number_text size ++ codes " of " ++ number_text of
+fetch_words (Older size of false) =
+    codes "older checkpoint: " ++ number_text size ++ codes " of " ++ number_text of ++ codes " (not compared)"
 fetch_words Forked = codes "log forked"
 
 -- the line on standard error, without its newline, if there is one
@@ -28,10 +30,11 @@ abbrev pub fetch_text : FetchFault → Option Bytes
 fetch_text (Run fault) = fault_text fault
 fetch_text fault = Some (codes "tlog: " ++ fetch_words fault)
 
--- the exit status: 4 where the log shrank or forked, 3 where a device failed or a source didn't answer, else 1
+-- the exit status: 4 where the log forked, 3 where a device failed, a source didn't answer or has an older checkpoint,
+-- else 1
 abbrev pub fetch_status : FetchFault → ℕ
 fetch_status (Run fault) = exit_status fault
 fetch_status Unavailable = 3
-fetch_status Shrunk = 4
+fetch_status (Older size of compared) = 3
 fetch_status Forked = 4
 fetch_status _ = 1

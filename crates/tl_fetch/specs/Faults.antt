@@ -13,15 +13,15 @@ use Rattle.tl_command.specs.declared.fault.RunFault.TheVariants as run
 use Rattle.tl_fetch.specs.declared.fault.FetchFault.{FetchFault}
 use Rattle.tl_fetch.specs.declared.fault.FetchFault.TheVariants as fetch
 
--- a check that refuses
+-- a check that refuses; that a growth is refused is told by evidence alone
 abbrev pub after_client : ClientFault → FetchFault
 after_client client.Range = fetch.Run run.BadIndex
 after_client client.Unavailable = fetch.Unavailable
 after_client (client.BadTile level index width) = fetch.BadTile level index width
 after_client (client.BadBundle bundle) = fetch.BadBundle bundle
 after_client (client.BadEntry index) = fetch.BadEntry index
-after_client client.Shrunk = fetch.Shrunk
-after_client client.Forked = fetch.Forked
+after_client client.Shrunk = fetch.Unavailable
+after_client client.Forked = fetch.Unavailable
 after_client client.OutOfMemory = fetch.Run run.OutOfMemory
 
 -- what the source has for the checkpoint is none
@@ -40,8 +40,7 @@ after_head (head.NoCheckpoint fault) = fetch.Run bad_checkpoint
 after_head (head.TooFew count) = fetch.TooFew count
 after_head head.OutOfMemory = fetch.Run run.OutOfMemory
 
--- a fault that doesn't say that the log shrank or forked
+-- a fault that doesn't say that the log forked
 abbrev pub IsNoAccusation : FetchFault → Type 0
-IsNoAccusation fetch.Shrunk = ⊥
 IsNoAccusation fetch.Forked = ⊥
 IsNoAccusation fault = Unit {0}

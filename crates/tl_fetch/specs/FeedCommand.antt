@@ -12,8 +12,8 @@ use Rattle.tl_fetch.specs.declared.options.FetchOptions.{FetchOptions}
 use Rattle.tl_fetch.specs.declared.feed.command.FeedOptions.{FeedOptions}
 use Rattle.tl_fetch.specs.Command.{HasScheme, IsKeyFault, IsOriginOf, IsPolicyOf, IsToldAs, grounds_over, may_have}
 use Rattle.tl_fetch.specs.Feeding.{HasFed, RefusesFeed}
-use Rattle.tl_fetch.specs.Fetching.{AreTwo, Grounds, Two}
-use Rattle.tl_fetch.specs.Trusting.{Policy, alone}
+use Rattle.tl_fetch.specs.Fetching.{Grounds}
+use Rattle.tl_fetch.specs.Trusting.{AreTwo, Policy, Two, alone}
 
 -- the text that the log is read from has a scheme and is no address, or that of a witness is none; or memory ran out
 abbrev pub IsAddressFault : FeedOptions → FetchFault → Type 0

@@ -7,10 +7,10 @@ use Rattle.tl_command.specs.declared.fault.RunFault.TheVariants.{OutOfMemory, Wr
 use Rattle.tl_fetch.specs.declared.fault.FetchFault.{FetchFault}
 use Rattle.tl_fetch.specs.declared.fault.FetchFault.TheVariants.{Run}
 use Rattle.tl_fetch.specs.Faults.{IsNoAccusation, bad_checkpoint}
-use Rattle.tl_fetch.specs.Fetching.{AreTwo, Grounds, LacksTrust, RefusesTwo, Two}
+use Rattle.tl_fetch.specs.Fetching.{Grounds, LacksTrust, RefusesTwo}
 use Rattle.tl_fetch.specs.Opening.{RefusesNote}
 use Rattle.tl_fetch.specs.Printed.{PrintedSome, PrintedWhole}
-use Rattle.tl_fetch.specs.Trusting.{Policy, IsGrown, IsNoteOf, alone}
+use Rattle.tl_fetch.specs.Trusting.{AreTwo, IsGrown, IsNoteOf, Policy, Two, alone}
 
 -- ---- what is printed
 
@@ -49,4 +49,4 @@ abbrev pub RefusesFeed : Grounds → Policy → FetchFault → Passage → Type 
 RefusesFeed grounds policy fault o =
     (LacksTrust grounds (alone policy) fault × IsNoAccusation fault × IsUnwritten o)
     ⊎ ((two : Two) × AreTwo grounds.has (alone policy) two
-    × (RefusesTwo grounds two fault o ⊎ RefusesFed grounds policy two fault o))
+    × (RefusesTwo grounds (alone policy) two fault o ⊎ RefusesFed grounds policy two fault o))

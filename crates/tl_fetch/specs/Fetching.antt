@@ -1,19 +1,19 @@
 -- What comes of fetching from a log that isn't trusted.
-use Rattle.std.specs.Prelude.{◌≡◌, ◌⊎◌, ◌++◌, ◌<◌, Option, Some, None}
-use Rattle.sha2.specs.Sha256.{sha256}
+use Rattle.std.specs.Prelude.{◌≡◌, ◌⊎◌, ◌<◌, ◌≤◌, ℕ, true, false, Option, Some, None}
 use Rattle.tl_hash.specs.Bytes.{Bytes}
 use Rattle.tl_device.specs.Device.{Passage, IsUnwritten}
 use Rattle.tl_tile.specs.declared.resource.Resource.{Resource}
 use Rattle.tl_command.specs.declared.fault.RunFault.TheVariants.{Write}
 use Rattle.tl_fetch.specs.declared.fault.FetchFault.{FetchFault}
-use Rattle.tl_fetch.specs.declared.fault.FetchFault.TheVariants.{Run, Shrunk, Forked}
+use Rattle.tl_fetch.specs.declared.fault.FetchFault.TheVariants.{Run, Older, Forked}
 use Rattle.tl_fetch.specs.declared.options.FetchRequest.{FetchRequest}
-use Rattle.tl_client.specs.Refused.{IsFork, RefusesGrowth}
+use Rattle.tl_fetch.specs.declared.options.FetchRequest.TheVariants as wanted
 use Rattle.tl_client.specs.declared.fault.ClientFault.{ClientFault}
 use Rattle.tl_hash.specs.declared.head.Head.{Head}
-use Rattle.tl_fetch.specs.Faults.{IsNoAccusation, after_client}
+use Rattle.tl_fetch.specs.Evidence.{IsEvidenceOf, IsOfNoLog, RefusesComparison}
+use Rattle.tl_fetch.specs.Faults.{IsNoAccusation, after_client, bad_checkpoint}
 use Rattle.tl_fetch.specs.Opening.{RefusesCheckpoint, RefusesState}
-use Rattle.tl_fetch.specs.Trusting.{Policy, IsKnown, IsNoteOf, IsGrown}
+use Rattle.tl_fetch.specs.Trusting.{Policy, AreTwo, IsGrown, IsKnown, Two}
 use Rattle.tl_fetch.specs.Printed.{IsWanted, IsBegun, PrintedSome, PrintedWhole, RefusesWanted}
 
 -- what a reader of a log stands on, and doesn't trust: which texts the source may answer for a resource, and which
@@ -27,68 +27,106 @@ pub record Grounds : Type 1 where
 abbrev pub grounds_of : (Resource → Bytes → Type 0) → (Resource → Type 0) → (Option Bytes → Type 0) → (FetchFault → Type 0) → Grounds
 grounds_of answers lacks has fails = record { answers = answers; lacks = lacks; has = has; fails = fails }
 
--- two checkpoints of a log: the note that was trusted last, if there is one, and the one that is trusted now
-pub record Two : Type 0 where
-  pub last : Option Bytes
-  pub old : Head
-  pub note : Bytes
-  pub new : Head
+-- how far all entries were printed: the note that was trusted then, if there is one, and its head, from which the log
+-- goes on
+pub record IsMarked (may_have : Option Bytes → Type 0) (policy : Policy) (new : Head) (last : Option Bytes) (old : Head) : Type 0 where
+  pub had : may_have last
+  pub known : IsKnown policy last old
+  pub grown : IsGrown old new
 
--- they are what a state that may have this has, and what is trusted under the policy
-pub record AreTwo (may_have : Option Bytes → Type 0) (policy : Policy) (c : Two) : Type 0 where
-  pub had : may_have c.last
-  pub known : IsKnown policy c.last c.old
-  pub trusted : IsNoteOf policy c.note c.new
+-- the first entry that is printed where all are wanted: the one behind those that were printed, and without a note of
+-- these the one behind those of the state
+abbrev pub first_wanted : Option Bytes → Head → Head → ℕ
+first_wanted None marked known = known.size
+first_wanted (Some note) marked known = marked.size
 
--- both notes, which are evidence where the log shrank or forked
-abbrev pub evidence_text : Option Bytes → Bytes → Bytes
-evidence_text None note = note
-evidence_text (Some last) note = last ++ note
+-- what is wanted was printed; where it is all entries, from the first that wasn't yet, and the new note is kept as that
+-- of what was printed
+abbrev pub HasPrinted : (Option Bytes → Type 0) → (Bytes → Type 0) → Policy → Two → FetchRequest → Passage → Type 0
+HasPrinted may_have has_kept policy two wanted.All o =
+    (last : Option Bytes) × (old : Head) × IsMarked may_have policy two.new last old
+    × PrintedWhole (IsWanted policy.origin (first_wanted last old two.old) two.new wanted.All) o
+    × has_kept two.note
+HasPrinted may_have has_kept policy two what o =
+    PrintedWhole (IsWanted policy.origin two.old.size two.new what) o
+
+-- who keeps a note: which one it may have had, and which it has kept
+pub record Store : Type 1 where
+  pub may_have : Option Bytes → Type 0
+  pub has_kept : Bytes → Type 0
 
 -- what is wanted was printed of a log that is trusted, and that goes on from what was known; and its note is what the
 -- state has kept
-pub record HasFetched (may_have : Option Bytes → Type 0) (has_kept : Bytes → Type 0) (policy : Policy) (what : FetchRequest) (o : Passage) : Type 0 where
+pub record HasFetched (state marks : Store) (policy : Policy) (what : FetchRequest) (o : Passage) : Type 0 where
   pub two : Two
-  pub are : AreTwo may_have policy two
+  pub are : AreTwo state.may_have policy two
   pub grown : IsGrown two.old two.new
-  pub printed : PrintedWhole (IsWanted policy.origin two.old.size two.new what) o
-  pub kept : has_kept two.note
+  pub printed : HasPrinted marks.may_have marks.has_kept policy two what o
+  pub kept : state.has_kept two.note
 
 -- ---- why nothing is fetched, or not all
 
--- before there is trust: the state fails, its note isn't the log's, or the source gives no checkpoint that is trusted
+-- the note that was kept last gives no size and root: it isn't read, or it isn't the log's
+abbrev pub LacksLast : (FetchFault → Type 0) → (Option Bytes → Type 0) → Policy → FetchFault → Type 0
+LacksLast fails has policy fault = fails fault ⊎ ((last : Option Bytes) × has last × RefusesState policy last fault)
+
+-- before there is trust: the state gives nothing, or the source no checkpoint that is trusted
 abbrev pub LacksTrust : Grounds → Policy → FetchFault → Type 0
 LacksTrust grounds policy fault =
-    grounds.fails fault
-    ⊎ (((last : Option Bytes) × grounds.has last × RefusesState policy last fault)
-    ⊎ RefusesCheckpoint grounds.answers grounds.lacks policy fault)
+    LacksLast grounds.fails grounds.has policy fault ⊎ RefusesCheckpoint grounds.answers grounds.lacks policy fault
 
--- the log is smaller than it was, or the old root isn't that of its first entries
-abbrev pub IsAccused : Two → FetchFault → Type 0
-IsAccused two fault =
-    ((fault ≡ Shrunk) × (two.new.size < two.old.size)) ⊎ ((fault ≡ Forked) × IsFork sha256 two.old two.new)
+-- the log is accused by evidence, and that was printed, or some of it until the writer failed; or, where no note was
+-- trusted before, the new one is of no log, and nobody is accused
+abbrev pub IsAccusation : Policy → Two → FetchFault → Passage → Type 0
+IsAccusation policy two fault o =
+    ((fault ≡ Forked) × PrintedWhole (IsEvidenceOf policy two) o)
+    ⊎ (((fault ≡ Run Write) × ((text : Bytes) × IsEvidenceOf policy two text × PrintedSome (λ t. t ≡ text) o))
+    ⊎ ((two.last ≡ None) × IsOfNoLog two.new × (fault ≡ Run bad_checkpoint) × IsUnwritten o))
 
--- the growth from one to the other is refused: the log is accused, and both notes were printed, or the writer failed
--- there; or it can't be judged, for the reason of a check that accuses nobody, and nothing was printed
-abbrev pub RefusesTwo : Grounds → Two → FetchFault → Passage → Type 0
-RefusesTwo grounds two fault o =
-    (IsAccused two fault × PrintedWhole (λ text. text ≡ evidence_text two.last two.note) o)
-    ⊎ (((fault ≡ Run Write) × ((accusation : FetchFault) × IsAccused two accusation)
-    × PrintedSome (λ text. text ≡ evidence_text two.last two.note) o)
-    ⊎ (((why : ClientFault) × RefusesGrowth grounds.answers grounds.lacks two.old two.new why × (fault ≡ after_client why))
-    × IsNoAccusation fault × IsUnwritten o))
+-- nobody is accused: the new checkpoint is smaller and shown to be older, or not compared with the other; or it can't be
+-- judged, for the reason of a check
+abbrev pub IsUnaccused : (Resource → Bytes → Type 0) → (Resource → Type 0) → Two → FetchFault → Type 0
+IsUnaccused answers lacks two (Older size of true) =
+    (size ≡ two.new.size) × (of ≡ two.old.size) × (size < of) × IsGrown two.new two.old
+IsUnaccused answers lacks two (Older size of false) =
+    (size ≡ two.new.size) × (of ≡ two.old.size) × (size < of)
+    × ((why : ClientFault) × RefusesComparison answers lacks two.new two.old why)
+IsUnaccused answers lacks two fault =
+    (two.old.size ≤ two.new.size)
+    × ((why : ClientFault) × RefusesComparison answers lacks two.old two.new why × (fault ≡ after_client why))
 
--- the log goes on from what was known, and what is wanted isn't printed whole, or the state fails
-pub record RefusesGrown (grounds : Grounds) (policy : Policy) (what : FetchRequest) (two : Two) (fault : FetchFault) (o : Passage) : Type 0 where
-  pub grown : IsGrown two.old two.new
-  pub why : grounds.fails fault ⊎ RefusesWanted grounds.answers grounds.lacks two.old.size two.new what fault
+-- one of two checkpoints doesn't go on from the other
+abbrev pub RefusesTwo : Grounds → Policy → Two → FetchFault → Passage → Type 0
+RefusesTwo grounds policy two fault o =
+    IsAccusation policy two fault o ⊎ (IsUnaccused grounds.answers grounds.lacks two fault × IsUnwritten o)
+
+-- the log goes on from what was known, and what is wanted isn't printed whole, or a note isn't kept
+pub record FailsGrown (grounds : Grounds) (fails : FetchFault → Type 0) (policy : Policy) (what : FetchRequest) (known : ℕ) (head : Head) (fault : FetchFault) (o : Passage) : Type 0 where
+  pub why : fails fault ⊎ RefusesWanted grounds.answers grounds.lacks known head what fault
   pub fair : IsNoAccusation fault
-  pub printed : PrintedSome (IsBegun policy.origin two.old.size two.new what) o
+  pub printed : PrintedSome (IsBegun policy.origin known head what) o
 
--- a fault comes before there is trust, and nothing is printed; or over two trusted checkpoints, since the growth from
--- one to the other is refused, or after it was accepted
-abbrev pub RefusesFetch : Grounds → Policy → FetchRequest → FetchFault → Passage → Type 0
-RefusesFetch grounds policy what fault o =
+-- the same two checkpoints, from the one up to which all entries were printed
+abbrev pub since : Two → Option Bytes → Head → Two
+since two last old = record { last = last; old = old; note = two.note; new = two.new }
+
+-- the log goes on from what was known, and what is wanted isn't printed; where it is all entries, since it isn't known
+-- how far they were printed, or the log doesn't go on from there, or after that
+abbrev pub RefusesGrown : Grounds → Grounds → Policy → FetchRequest → Two → FetchFault → Passage → Type 0
+RefusesGrown grounds marks policy wanted.All two fault o =
+    (LacksLast marks.fails marks.has policy fault × IsNoAccusation fault × IsUnwritten o)
+    ⊎ ((last : Option Bytes) × (old : Head) × marks.has last × IsKnown policy last old
+    × (RefusesTwo grounds policy (since two last old) fault o
+    ⊎ (IsGrown old two.new
+    × FailsGrown grounds (λ f. grounds.fails f ⊎ marks.fails f) policy wanted.All (first_wanted last old two.old) two.new fault o)))
+RefusesGrown grounds marks policy what two fault o =
+    FailsGrown grounds grounds.fails policy what two.old.size two.new fault o
+
+-- a fault comes before there is trust, and nothing is printed; or over two trusted checkpoints, since one doesn't go on
+-- from the other, or after that
+abbrev pub RefusesFetch : Grounds → Grounds → Policy → FetchRequest → FetchFault → Passage → Type 0
+RefusesFetch grounds marks policy what fault o =
     (LacksTrust grounds policy fault × IsNoAccusation fault × IsUnwritten o)
     ⊎ ((two : Two) × AreTwo grounds.has policy two
-    × (RefusesTwo grounds two fault o ⊎ RefusesGrown grounds policy what two fault o))
+    × (RefusesTwo grounds policy two fault o
+    ⊎ (IsGrown two.old two.new × RefusesGrown grounds marks policy what two fault o)))

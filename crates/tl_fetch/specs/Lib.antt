@@ -6,6 +6,7 @@ pub mod Opening
 pub mod Listed
 pub mod Entries
 pub mod Printed
+pub mod Evidence
 pub mod Fetching
 pub mod Feeding
 pub mod Command

@@ -48,6 +48,7 @@ pub record IsProofText (head : Head) (index : ℕ) (text : Bytes) : Type 0 where
 abbrev pub IsWanted : Bytes → ℕ → Head → FetchRequest → Bytes → Type 0
 IsWanted origin known head wanted.Head text = text ≡ head_text origin head
 IsWanted origin known head (wanted.Entry index) text = IsEntryText head index text
+IsWanted origin known head (wanted.Raw index) text = IsCheckedEntry sha256 head index text
 IsWanted origin known head wanted.All text = AreLinesBetween head known head.size text
 IsWanted origin known head (wanted.Proof index) text = IsProofText head index text
 
@@ -80,5 +81,6 @@ RefusesAll answers lacks head from fault =
 abbrev pub RefusesWanted : (Resource → Bytes → Type 0) → (Resource → Type 0) → ℕ → Head → FetchRequest → FetchFault → Type 0
 RefusesWanted answers lacks known head wanted.Head fault = (fault ≡ Run Write) ⊎ (fault ≡ Run OutOfMemory)
 RefusesWanted answers lacks known head (wanted.Entry index) fault = FailsPrinting (RefusesOne answers lacks head index) fault
+RefusesWanted answers lacks known head (wanted.Raw index) fault = FailsPrinting (RefusesOne answers lacks head index) fault
 RefusesWanted answers lacks known head wanted.All fault = RefusesAll answers lacks head known fault
 RefusesWanted answers lacks known head (wanted.Proof index) fault = FailsPrinting (RefusesProof answers lacks head index) fault

@@ -46,3 +46,16 @@ pub record IsNext (policy : Policy) (last : Option Bytes) (note : Bytes) : Type 
   pub known : IsKnown policy last old
   pub trusted : IsNoteOf policy note new
   pub grown : IsGrown old new
+
+-- two checkpoints of a log: the note that was trusted last, if there is one, and the one that is trusted now
+pub record Two : Type 0 where
+  pub last : Option Bytes
+  pub old : Head
+  pub note : Bytes
+  pub new : Head
+
+-- they are what a state that may have this has, and what is trusted under the policy
+pub record AreTwo (may_have : Option Bytes → Type 0) (policy : Policy) (c : Two) : Type 0 where
+  pub had : may_have c.last
+  pub known : IsKnown policy c.last c.old
+  pub trusted : IsNoteOf policy c.note c.new

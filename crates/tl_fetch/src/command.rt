@@ -1,10 +1,10 @@
 //! The command `fetch`.
 
-ghost use Rattle.std.specs.Prelude.{◌≡◌, string_bytes, IfErr, IfOk, map};
+ghost use Rattle.std.specs.Prelude.{◌≡◌, ◌++◌, string_bytes, IfErr, IfOk, codes, map};
 ghost use Rattle.tl_device.specs.Device.{passage};
-ghost use Rattle.tl_fetch.specs.Command.{HasScheme, IsOriginOf, IsToldAs, RunsFetch, RunsUnder, cached_answers, cached_lacks};
+ghost use Rattle.tl_fetch.specs.Command.{HasScheme, IsOriginOf, IsStateFault, IsToldAs, RunsFetch, RunsUnder, cached_answers, cached_lacks};
 ghost use Rattle.tl_fetch.specs.Inner.LogKeys.{AreTold, ToldBy, keys_of};
-ghost use Rattle.tl_fetch.specs.Inner.Naming.{Renames, RunsOver};
+ghost use Rattle.tl_fetch.specs.Inner.Naming.{Renames, RunsOver, RunsWith};
 ghost use Rattle.tl_fetch.specs.Trusting.{policy_of};
 ghost use Rattle.tl_source.specs.Sources.{origin_of};
 ghost use Rattle.tl_source.specs.Url.{IsNoUrl};
@@ -13,14 +13,14 @@ use crate::caching::Caching;
 use crate::fault::FetchFault;
 use crate::log_keys::{LogKeys, log_keys};
 use crate::observer::Observer;
-use crate::options::FetchOptions;
+use crate::options::{FetchOptions, FetchRequest};
 use crate::policy::Policy;
 use crate::progress::Progress;
 use crate::run::fetch_under;
 use crate::state::NoState;
 use crate::state_file::{FileState, file_refusal};
 use crate::witnesses::witness_key;
-use std::alloc::Global;
+use std::alloc::{AllocError, Global};
 use std::fs::{File, Files};
 use std::io::Write;
 use std::net::{Net, TcpListener, TcpStream};
@@ -61,6 +61,57 @@ pub(crate) fn source_of<'s, H: Files + Net<Stream = TcpStream> + Clock>(
     Ok(AnySource::Http(HttpSource::new(rt, alloc, url, limit)))
 }
 
+// The path of the file beside a state's that says how far all entries were printed.
+fn printed_path(alloc: Global, state: &str) -> Result<String, AllocError>
+    ensures { IfOk result (λ path. string_bytes path ≡ state.now ++ codes ".printed") }
+{
+    let mut path = String::from_str(alloc, state)?;
+    path.push_str(".printed")?;
+    Ok(path)
+}
+
+// Fetches with the state in this file, and, where all entries are wanted, with how far they were printed in another.
+fn fetch_with_files<
+    H: Files<File = File> + HostClient,
+    S: ResourceSource + AsksHost,
+    O: Observer,
+    W: Write,
+>(
+    rt: &H,
+    alloc: Global,
+    source: &S,
+    requests: &Requests<'_, H>,
+    policy: &Policy<'_>,
+    wanted: FetchRequest,
+    path: &str,
+    observer: &mut O,
+    writer: &mut Counted<W>,
+) -> Result<(), FetchFault>
+    ensures { RunsWith (S.may_answer source.now) (S.may_lack source.now) (λ note. Unit {0})
+        IsStateFault (policy_of policy.now.origin.now (map (λ v. key v) policy.now.log.now)
+        (map (λ w. key w) policy.now.witnesses.now) policy.now.need) wanted
+        (passage W.contents writer.old writer.new) result }
+{
+    let mut state = match AtomicFile::open(rt, alloc, path) {
+        Ok(file) => FileState(file),
+        Err(fault) => return Err(file_refusal(fault)),
+    };
+    if wanted != FetchRequest::All {
+        let mut unread = NoState;
+        return fetch_under(
+            alloc, source, requests, policy, wanted, &mut state, &mut unread, observer, writer,
+        );
+    }
+    let beside = printed_path(alloc, path)?;
+    let mut printed = match AtomicFile::open(rt, alloc, beside.as_str()) {
+        Ok(file) => FileState(file),
+        Err(fault) => return Err(file_refusal(fault)),
+    };
+    fetch_under(
+        alloc, source, requests, policy, wanted, &mut state, &mut printed, observer, writer,
+    )
+}
+
 // Fetches with the state in a file, if one is named.
 fn fetch_with_state<
     H: Files<File = File> + HostClient,
@@ -88,25 +139,22 @@ fn fetch_with_state<
         at_once: options.threads.unwrap_or(AT_ONCE),
     };
     let Some(path) = &options.state else {
-        let mut state = NoState;
-        return match fetch_under(
-            alloc, source, &requests, policy, wanted, &mut state, observer, writer,
-        ) {
-            Ok(()) => Ok(()),
-            Err(fault) => Err(fault),
-        };
+        return fetch_under(
+            alloc,
+            source,
+            &requests,
+            policy,
+            wanted,
+            &mut NoState,
+            &mut NoState,
+            observer,
+            writer,
+        );
     };
-    let file = match AtomicFile::open(rt, alloc, path.as_str()) {
-        Ok(file) => file,
-        Err(fault) => return Err(file_refusal(fault)),
-    };
-    let mut state = FileState(file);
-    match fetch_under(
-        alloc, source, &requests, policy, wanted, &mut state, observer, writer,
-    ) {
-        Ok(()) => Ok(()),
-        Err(fault) => Err(fault),
-    }
+    let path = path.as_str();
+    fetch_with_files(
+        rt, alloc, source, &requests, policy, wanted, path, observer, writer,
+    )
 }
 
 // A fault, which names what the last call of the source lacked where that is why it came.

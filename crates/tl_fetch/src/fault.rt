@@ -40,9 +40,16 @@ pub enum FetchFault {
     BadBundle(u64),
     /// The entry with this index is not the one that the root was made with.
     BadEntry(u64),
-    /// The log is smaller than the one that was trusted last.
-    Shrunk,
-    /// The log is no continuation of the one that was trusted last.
+    /// The checkpoint is smaller than the one that was trusted last.
+    Older {
+        /// Its number of entries.
+        size: u64,
+        /// That of the one that was trusted last.
+        of: u64,
+        /// Whether its tree was shown to be the beginning of the other's; else they weren't compared.
+        compared: bool,
+    },
+    /// The tree of neither the checkpoint nor the one that was trusted last begins with the other's.
     Forked,
 }
 
@@ -68,7 +75,16 @@ impl Display for FetchFault {
             } => return write!(f, "tile {level} {index} {width} wrong"),
             FetchFault::BadBundle(i) => return write!(f, "entry bundle {i} malformed"),
             FetchFault::BadEntry(i) => return write!(f, "entry {i} wrong"),
-            FetchFault::Shrunk => "log shrank",
+            FetchFault::Older {
+                size,
+                of,
+                compared: true,
+            } => return write!(f, "older checkpoint: {size} of {of}"),
+            FetchFault::Older {
+                size,
+                of,
+                compared: false,
+            } => return write!(f, "older checkpoint: {size} of {of} (not compared)"),
             FetchFault::Forked => "log forked",
         };
         f.write_str(words)
@@ -109,15 +125,15 @@ impl<X: Drop> From<AllocFailed<X>> for FetchFault {
     }
 }
 
-/// The exit status of a fault: 4 where the log shrank or forked, 3 where a device failed or a source didn't answer,
-/// else 1. It takes no memory.
+/// The exit status of a fault: 4 if the log forked, 3 if a device failed, a source didn't answer or has an older
+/// checkpoint, else 1. It takes no memory.
 pub fn fetch_exit_of(fault: &FetchFault) -> u8
     ensures { result ≡ fetch_status fault.now }
 {
     match fault {
         FetchFault::Run(fault) => exit_of(fault),
-        FetchFault::Unavailable => 3,
-        FetchFault::Shrunk | FetchFault::Forked => 4,
+        FetchFault::Unavailable | FetchFault::Older { .. } => 3,
+        FetchFault::Forked => 4,
         _ => 1,
     }
 }

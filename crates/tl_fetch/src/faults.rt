@@ -14,9 +14,10 @@ pub(crate) const BAD_CHECKPOINT: RunFault = RunFault::BadCheckpoint(Place::Sourc
     Resource::Checkpoint,
 ));
 
-/// Why a check refused.
+/// Why a check refused. That a growth is refused accuses nobody: evidence alone does.
 pub(crate) fn client_refusal(fault: ClientFault) -> FetchFault
-    ensures { result ≡ after_client fault }
+    ensures value { result ≡ after_client fault }
+    ensures fair { IsNoAccusation result }
 {
     match fault {
         ClientFault::Range => FetchFault::Run(RunFault::BadIndex),
@@ -32,8 +33,7 @@ pub(crate) fn client_refusal(fault: ClientFault) -> FetchFault
         },
         ClientFault::BadBundle(bundle) => FetchFault::BadBundle(bundle),
         ClientFault::BadEntry(index) => FetchFault::BadEntry(index),
-        ClientFault::Shrunk => FetchFault::Shrunk,
-        ClientFault::Forked => FetchFault::Forked,
+        ClientFault::Shrunk | ClientFault::Forked => FetchFault::Unavailable,
         ClientFault::OutOfMemory => FetchFault::Run(RunFault::OutOfMemory),
     }
 }

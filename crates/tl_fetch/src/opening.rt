@@ -3,8 +3,8 @@
 ghost use Rattle.std.specs.Prelude.{◌≡◌, IfErr, IfOk, map, option_map, string_bytes};
 ghost use Rattle.tl_tile.specs.declared.resource.Resource.TheVariants.{Checkpoint};
 ghost use Rattle.tl_fetch.specs.Faults.{IsNoAccusation};
-ghost use Rattle.tl_fetch.specs.Fetching.{LacksTrust, grounds_of};
-ghost use Rattle.tl_fetch.specs.Inner.Trusted.{LacksLast, RefusesText};
+ghost use Rattle.tl_fetch.specs.Fetching.{LacksLast, LacksTrust, grounds_of};
+ghost use Rattle.tl_fetch.specs.Inner.Trusted.{RefusesText};
 ghost use Rattle.tl_fetch.specs.Opening.{RefusesCheckpoint, RefusesNote, RefusesState, after_state};
 ghost use Rattle.tl_fetch.specs.Trusting.{IsKnown, IsNoteOf, policy_of};
 
@@ -113,8 +113,8 @@ pub(crate) struct Trusted<N> {
     pub(crate) head: Head,
 }
 
-// What a state has, and what is known by it.
-fn trusted_last<K: TrustStore>(
+/// What a state has, and what is known by it.
+pub(crate) fn trusted_last<K: TrustStore>(
     alloc: Global,
     policy: &Policy<'_>,
     state: &K,

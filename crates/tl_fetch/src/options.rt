@@ -5,9 +5,11 @@
 pub enum FetchRequest {
     /// Its name, size and root, a line each.
     Head,
-    /// The entry with this index, counted from 0.
+    /// The entry with this index, counted from 0, a line.
     Entry(u64),
-    /// Every entry that the state doesn't count yet, a line each.
+    /// The bytes of the entry with this index.
+    Raw(u64),
+    /// Every entry that wasn't printed yet, or else that the state doesn't count yet, a line each.
     All,
     /// The text of an inclusion proof of the entry with this index.
     Proof(u64),
@@ -26,7 +28,8 @@ pub struct FetchOptions {
     pub witnesses: Vec<String>,
     /// How many of the witnesses must have cosigned a checkpoint.
     pub need: u64,
-    /// The file with the checkpoint that was trusted last; without it, none was.
+    /// The file with the checkpoint that was trusted last; without it, none was. Beside it, in a file whose name has
+    /// `.printed` behind, is the one up to which all entries were printed.
     pub state: Option<String>,
     /// The folder where tiles are kept that were checked; without it, none are.
     pub cache: Option<String>,

@@ -1,9 +1,10 @@
 //! Printing a head, an entry and an inclusion proof.
 
 ghost use Rattle.std.specs.Prelude.{◌≡◌, ◌⊎◌, IfErr, IfOk, OnErr, OnOk, string_bytes};
+ghost use Rattle.sha2.specs.Sha256.{sha256};
 ghost use Rattle.tl_command.specs.ProofShown.{inclusion_shown};
 ghost use Rattle.tl_device.specs.Device.{passage};
-ghost use Rattle.tl_fetch.specs.Entries.{RefusesLeaf, RefusesOne, RefusesProof};
+ghost use Rattle.tl_fetch.specs.Entries.{IsCheckedEntry, RefusesLeaf, RefusesOne, RefusesProof};
 ghost use Rattle.tl_fetch.specs.Printed.{FailsPrinting, IsEntryText, IsProofOf, IsProofText, PrintedSome, PrintedWhole, head_text};
 
 use crate::entry::fetch_entry;
@@ -78,6 +79,30 @@ pub fn print_entry<S: ResourceSource, A: Allocator + Copy, O: Observer, W: Write
     };
     text.push(b'\n')?;
     print_text(writer, text.as_slice())?;
+    Ok(())
+}
+
+/// Prints the bytes of the entry with this index, counted from 0, and nothing else. It is checked as by `fetch_entry`.
+pub fn print_raw<S: ResourceSource, A: Allocator + Copy, O: Observer, W: Write>(
+    alloc: A,
+    source: &S,
+    head: &Head,
+    index: u64,
+    observer: &mut O,
+    writer: &mut Counted<W>,
+) -> Result<(), FetchFault>
+    ensures printed { OnOk result (PrintedWhole (IsCheckedEntry sha256 head.now index)
+        (passage W.contents writer.old writer.new)) }
+    ensures part { OnErr result (PrintedSome (IsCheckedEntry sha256 head.now index)
+        (passage W.contents writer.old writer.new)) }
+    ensures refused { IfErr result (FailsPrinting
+        (RefusesOne (S.may_answer source.now) (S.may_lack source.now) head.now index)) }
+{
+    let entry = match fetch_entry(alloc, source, head, index, observer) {
+        Ok(entry) => entry,
+        Err(fault) => return Err(client_refusal(fault)),
+    };
+    print_text(writer, entry.as_slice())?;
     Ok(())
 }
 

@@ -9,7 +9,8 @@ use std::alloc::{AllocError, Global};
 use tl_fetch::{FetchOptions, FetchRequest};
 
 // What is said where not one of the four is given.
-const ONE_WANTED: &str = "one of --head, --index, --all and --prove is given";
+const ONE_WANTED: &str =
+    "one of --head, --index, --all and --prove is given, and --raw with --index alone";
 
 /// What is said where more cosignatures are needed than there are witnesses.
 pub(super) const FEWER: &str = "--need is at most the number of witnesses";
@@ -30,7 +31,8 @@ const FETCH: Words = Words {
         "threads" "N" Kind::Few => "How many requests to a host are in flight at once";
         "head" "" Kind::Flag => "Print the log's name, size and root";
         "index" "N" Kind::Number(0, u64::MAX) => "Print the entry with this index";
-        "all" "" Kind::Flag => "Print every entry that the state doesn't count yet";
+        "raw" "" Kind::Flag => "With --index: print the entry's bytes and nothing else";
+        "all" "" Kind::Flag => "Print every entry that wasn't printed with this state yet";
         "prove" "N" Kind::Number(0, u64::MAX) => "Print the inclusion proof of this entry";
     ]],
 };
@@ -40,20 +42,17 @@ pub(super) fn fetch() -> &'static Words {
     &FETCH
 }
 
-// What is wanted: none unless one of the four is given.
+// What is wanted: none unless one of the four is given, and an entry's bytes alone only of an entry.
 fn wanted_if_one(options: &ArgMatches<'_>) -> Option<FetchRequest> {
     let index = options.get_one::<u64>("index");
     let proof = options.get_one::<u64>("prove");
-    match (
-        options.get_flag("head"),
-        index,
-        options.get_flag("all"),
-        proof,
-    ) {
-        (true, None, false, None) => Some(FetchRequest::Head),
-        (false, Some(index), false, None) => Some(FetchRequest::Entry(index)),
-        (false, None, true, None) => Some(FetchRequest::All),
-        (false, None, false, Some(index)) => Some(FetchRequest::Proof(index)),
+    let (head, all) = (options.get_flag("head"), options.get_flag("all"));
+    match (head, index, all, proof, options.get_flag("raw")) {
+        (true, None, false, None, false) => Some(FetchRequest::Head),
+        (false, Some(index), false, None, false) => Some(FetchRequest::Entry(index)),
+        (false, Some(index), false, None, true) => Some(FetchRequest::Raw(index)),
+        (false, None, true, None, false) => Some(FetchRequest::All),
+        (false, None, false, Some(index), false) => Some(FetchRequest::Proof(index)),
         _ => None,
     }
 }

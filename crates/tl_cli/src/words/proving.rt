@@ -3,13 +3,16 @@
 use super::given::{is_given, text_if_given, text_of, usage_error};
 use super::table::{Kind, Word, Words};
 use super::{LOG_KEY, WordsFault, texts};
-use crate::job::Job;
+use crate::job::{Job, KeyFileOptions};
 use clap::ArgMatches;
 use std::alloc::Global;
-use tl_command::CheckOptions;
+use tl_command::{CheckOptions, GivenEntry, KeygenOptions};
 
 // What is said where not all are given that belong together.
-const TOGETHER: &str = "--checkpoint and --key are given together, and --entry with them";
+const TOGETHER: &str = "--checkpoint and --key are given together, and an entry with them";
+
+// What is said where more than one thing is to be checked.
+const ONE_CHECK: &str = "--fork is given alone, and one of --entry and --entry-file";
 
 const HEAD: Words = Words {
     name: "head",
@@ -64,6 +67,8 @@ const CHECK: Words = Words {
         "checkpoint" "FILE" Kind::Text => "The signed checkpoint that the proof is to be about";
         "key" "VKEY" Kind::Text => LOG_KEY;
         "entry" "TEXT" Kind::Text => "The entry that the proof is to show";
+        "entry-file" "FILE" Kind::Path => "The file with that entry's bytes";
+        "fork" "VKEY" Kind::Text => "Check evidence against the log with this verifier key";
     ]],
 };
 
@@ -79,6 +84,7 @@ const KEYGEN: Words = Words {
     words: &[words![
         "name" "NAME" Kind::RequiredText => "The key's name";
         "cosigner" "" Kind::Flag => "Make a key of a witness, which cosigns checkpoints";
+        "out" "FILE" Kind::Path => "Write the private key to FILE, the verifier key to FILE.pub";
     ]],
 };
 
@@ -113,16 +119,64 @@ pub(super) fn audit() -> &'static Words {
     &AUDIT
 }
 
-// The job of `check`: the checkpoint and the key are given both or not, and an entry with them.
+// What is said if words of `check` are given that don't go together.
+fn checking_refusal(options: &ArgMatches<'_>) -> Option<&'static str> {
+    let has = |name| is_given(options, name);
+    let has_entry = has("entry") || has("entry-file");
+    let has_both = has("entry") && has("entry-file");
+    let is_about = has("checkpoint") || has("key") || has_entry;
+    if has_both || (has("fork") && is_about) {
+        return Some(ONE_CHECK);
+    }
+    if has("checkpoint") != has("key") || (has_entry && !has("key")) {
+        return Some(TOGETHER);
+    }
+    None
+}
+
+// The entry that is given, if one is.
+fn given_entry(
+    alloc: Global,
+    options: &ArgMatches<'_>,
+) -> Result<Option<GivenEntry>, WordsFault> {
+    if is_given(options, "entry") {
+        return Ok(Some(GivenEntry::Text(text_of(alloc, options, "entry")?)));
+    }
+    if is_given(options, "entry-file") {
+        return Ok(Some(GivenEntry::File(text_of(alloc, options, "entry-file")?)));
+    }
+    Ok(None)
+}
+
+/// The job of `check`: evidence is checked by the key alone; else the checkpoint and the key are given both or not, and
+/// an entry with them.
 pub(super) fn checking_job(alloc: Global, options: &ArgMatches<'_>) -> Result<Job, WordsFault> {
-    let (has_checkpoint, has_key) = (is_given(options, "checkpoint"), is_given(options, "key"));
-    match (has_checkpoint, has_key, is_given(options, "entry")) {
-        (false, false, false) => Ok(Job::Check),
-        (true, true, _) => Ok(Job::CheckUnder(CheckOptions {
-            checkpoint: text_of(alloc, options, "checkpoint")?,
-            key: text_of(alloc, options, "key")?,
-            entry: text_if_given(alloc, options, "entry")?,
-        })),
-        _ => Err(usage_error(alloc, check(), TOGETHER)),
+    if let Some(why) = checking_refusal(options) {
+        return Err(usage_error(alloc, check(), why));
+    }
+    if is_given(options, "fork") {
+        return Ok(Job::CheckFork {
+            key: text_of(alloc, options, "fork")?,
+        });
+    }
+    if !is_given(options, "key") {
+        return Ok(Job::Check);
+    }
+    Ok(Job::CheckUnder(CheckOptions {
+        checkpoint: text_of(alloc, options, "checkpoint")?,
+        key: text_of(alloc, options, "key")?,
+        entry: given_entry(alloc, options)?,
+    }))
+}
+
+/// The job of `keygen`: into the standard streams, or into two files.
+pub(super) fn keygen_job(alloc: Global, options: &ArgMatches<'_>) -> Result<Job, WordsFault> {
+    let key = KeygenOptions {
+        name: text_of(alloc, options, "name")?,
+        is_cosigner: options.get_flag("cosigner"),
+    };
+    match text_if_given(alloc, options, "out")? {
+        Some(out) => Ok(Job::KeygenTo(KeyFileOptions { key, out })),
+        None => Ok(Job::Keygen(key)),
     }
 }

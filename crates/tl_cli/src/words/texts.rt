@@ -137,11 +137,13 @@ pub(super) const FETCH: &str =
 of them: the checkpoint opens under a key of the log (C2SP signed-note, tlog-checkpoint), so many of the witnesses
 cosigned it (tlog-cosignature), it extends the one in the file of --state by a consistency proof, and tiles and entries
 are those of its root (RFC 6962). A checkpoint that passes is kept in that file, with --all once the entries are
-printed.
-Output: with --head three lines, the log's name, its size and its root; with --index the entry and a newline; with --all
-every entry from the state's size on, one a line, each checked before it is printed (one that has a newline or begins
-with a backslash after a line with a backslash and its length in bytes); with --prove the text that 'tlog check' reads.
-Where the log shrank or forked, both checkpoints: the state's and the new one.
+printed; then it is kept, too, as that of what was printed, in a file whose name has '.printed' behind.
+Output: with --head three lines, the log's name, its size and its root; with --index the entry and a newline, with --raw
+none; with --all every entry that --all hasn't printed yet (at first from the state's size on), one a line, each checked
+before it is printed (one that has a newline or begins with a backslash after a line with a backslash and its length in
+bytes); with --prove the text that 'tlog check' reads. If the log forked, evidence for 'tlog check --fork': the state's
+checkpoint, the new one, and, if their sizes differ, a consistency proof from another root than the smaller one's. An
+older checkpoint accuses nobody: nothing is printed, and the state stays.
 --key is given twice where the log goes from one key to another: two keys with one name. Keys of witnesses with one name
 are one witness's, which counts once, whichever of them it signed with.
 Defaults: --need all witnesses that are given, --timeout 10, --threads 8. With --cache tiles that passed are kept in
@@ -150,7 +152,7 @@ once, from 1 to 64; the output is the same.
 Exit status: 0 done; 1 refused (a bad key, a second key that isn't another one of the log, a witness with the key of
 another or of the log, a bad address, no checkpoint that opens, checkpoint of another log, cosigned by N witnesses, no
 entry at the index, a tile, a bundle or an entry wrong, bad state, out of memory); 2 wrong arguments or a call for
-help; 3 not available, or a read or a write failed; 4 log shrank, log forked. A refusal is one line 'tlog: ..' on
+help; 3 not available, older checkpoint, or a read or a write failed; 4 log forked. A refusal is one line 'tlog: ..' on
 standard error.";
 
 pub(super) const FEED: &str =
@@ -159,10 +161,10 @@ signed-note, tlog-checkpoint), of which there may be two, and extends the one in
 proof over tiles that are checked. It is kept in that file. Then each witness is asked to cosign it (tlog-witness,
 tlog-cosignature), with the proof from the size that it has, at its --to: the first --to is the address of the first
 witness, and so on. Keys with one name, one --witness after another, are one witness's, which is asked and counts once.
-Output: the checkpoint with the lines of all witnesses that cosigned this very one, if they are --need. Where the log
-shrank or forked, both checkpoints: the state's and the new one. Why a witness gave no cosignature is told on standard
-error, a line 'tlog: witness K: ..' each, counted from 0.
+Output: the checkpoint with the lines of all witnesses that cosigned this very one, if they are --need. If the log
+forked, evidence, as 'tlog fetch' prints it. Why a witness gave no cosignature is told on standard error, a line
+'tlog: witness K: ..' each, counted from 0.
 Defaults: --need all witnesses that are given, --timeout 10.
 Exit status: 0 done; 1 refused (as 'tlog fetch'; cosigned by N witnesses); 2 wrong arguments or a call for help; 3 the
-log isn't available, or a read or a write failed; 4 log shrank, log forked. A refusal is one line 'tlog: ..' on standard
-error.";
+log isn't available or its checkpoint is older, or a read or a write failed; 4 log forked. A refusal is one line
+'tlog: ..' on standard error.";

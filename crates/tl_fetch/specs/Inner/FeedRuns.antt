@@ -7,8 +7,7 @@ use Rattle.tl_fetch.specs.declared.fault.FetchFault.{FetchFault}
 use Rattle.tl_fetch.specs.declared.options.FetchOptions.{FetchOptions}
 use Rattle.tl_fetch.specs.Command.{grounds_over, may_have}
 use Rattle.tl_fetch.specs.Feeding.{HasFed, RefusesFeed}
-use Rattle.tl_fetch.specs.Fetching.{AreTwo, Two}
-use Rattle.tl_fetch.specs.Trusting.{Policy, alone}
+use Rattle.tl_fetch.specs.Trusting.{AreTwo, Policy, Two, alone}
 
 -- a run under a policy over a source that may answer these texts and may lack these resources
 abbrev pub FeedsOver : (Resource → Bytes → Type 0) → (Resource → Type 0) → Policy → FetchOptions → Passage → Result (Unit {0}) FetchFault → Type 0

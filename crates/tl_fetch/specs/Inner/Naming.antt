@@ -1,18 +1,27 @@
 -- How a run ends over a source, and faults that name what was not available.
-use Rattle.std.specs.Prelude.{Result, Ok, Err}
+use Rattle.std.specs.Prelude.{Option, Result, Ok, Err}
 use Rattle.tl_hash.specs.Bytes.{Bytes}
 use Rattle.tl_device.specs.Device.{Passage}
 use Rattle.tl_tile.specs.declared.resource.Resource.{Resource}
 use Rattle.tl_fetch.specs.declared.fault.FetchFault.{FetchFault}
 use Rattle.tl_fetch.specs.declared.options.FetchOptions.{FetchOptions}
-use Rattle.tl_fetch.specs.Command.{IsToldAs, grounds_over, may_have}
-use Rattle.tl_fetch.specs.Fetching.{HasFetched, RefusesFetch}
+use Rattle.tl_fetch.specs.declared.options.FetchRequest.{FetchRequest}
+use Rattle.tl_fetch.specs.Command.{IsToldAs, may_have, state_fails}
+use Rattle.tl_fetch.specs.Fetching.{HasFetched, RefusesFetch, grounds_of}
 use Rattle.tl_fetch.specs.Trusting.{Policy}
 
--- a run under a policy over a source that may answer these texts and may lack these resources
+-- a run under a policy over a source that may answer these texts and may lack these resources, with a state that may
+-- have this and may fail so, and another file of that kind
+abbrev pub RunsWith : (Resource → Bytes → Type 0) → (Resource → Type 0) → (Option Bytes → Type 0) → (FetchFault → Type 0) → Policy → FetchRequest → Passage → Result (Unit {0}) FetchFault → Type 0
+RunsWith answers lacks has fails policy what o (Ok done) =
+    HasFetched (record { may_have = has; has_kept = λ note. Unit {0} }) (record { may_have = has; has_kept = λ note. Unit {0} }) policy what o
+RunsWith answers lacks has fails policy what o (Err fault) =
+    RefusesFetch (grounds_of answers lacks has fails) (grounds_of answers lacks has fails) policy what fault o
+
+-- the same, with the state that the options tell
 abbrev pub RunsOver : (Resource → Bytes → Type 0) → (Resource → Type 0) → Policy → FetchOptions → Passage → Result (Unit {0}) FetchFault → Type 0
-RunsOver answers lacks policy options o (Ok done) = HasFetched (may_have options.state) (λ note. Unit {0}) policy options.wanted o
-RunsOver answers lacks policy options o (Err fault) = RefusesFetch (grounds_over answers lacks options) policy options.wanted fault o
+RunsOver answers lacks policy options o result =
+    RunsWith answers lacks (may_have options.state) (state_fails options.state) policy options.wanted o result
 
 -- the same end of a run, or one by a fault that says more of what was not available
 abbrev pub Renames : Result (Unit {0}) FetchFault → Result (Unit {0}) FetchFault → Type 0

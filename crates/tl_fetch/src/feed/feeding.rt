@@ -5,10 +5,10 @@ ghost use Rattle.tl_hash.specs.Bytes.{Bytes};
 ghost use Rattle.tl_device.specs.Device.{passage};
 ghost use Rattle.tl_fetch.specs.Faults.{IsNoAccusation};
 ghost use Rattle.tl_fetch.specs.Feeding.{HasFed, IsFedNote, IsUnfed, RefusesFeed};
-ghost use Rattle.tl_fetch.specs.Fetching.{AreTwo, Two, grounds_of};
+ghost use Rattle.tl_fetch.specs.Fetching.{grounds_of};
 ghost use Rattle.tl_fetch.specs.Inner.Witnesses.{AreOfOne, IsOfAnother};
 ghost use Rattle.tl_fetch.specs.Printed.{PrintedSome, PrintedWhole};
-ghost use Rattle.tl_fetch.specs.Trusting.{IsGrown, IsKnown, IsNoteOf, alone, policy_of};
+ghost use Rattle.tl_fetch.specs.Trusting.{AreTwo, IsGrown, IsKnown, IsNoteOf, Two, alone, policy_of};
 
 use crate::fault::FetchFault;
 use crate::faults::BAD_CHECKPOINT;
@@ -16,7 +16,7 @@ use crate::feed::asking::{AsksWitnesses, line_by};
 use crate::observer::Observer;
 use crate::opening::{open_trusted, trusted_two};
 use crate::policy::Policy;
-use crate::run::{Update, judge};
+use crate::judging::{Update, is_same, judge};
 use crate::state::TrustStore;
 use std::alloc::{AllocError, Global};
 use std::io::Write;
@@ -76,13 +76,6 @@ fn with_lines<S: ResourceSource, Q: AsksWitnesses>(
     let mut text = String::from_str(alloc, note)?;
     text.push_str(lines.as_str())?;
     Ok(text)
-}
-
-// Whether two heads are the same.
-fn is_same(one: &Head, other: &Head) -> bool
-    ensures { IsTrue result ↔ (one.now ≡ other.now) }
-{
-    one.size == other.size && one.root == other.root
 }
 
 // The note as enough witnesses cosigned it.
@@ -167,8 +160,8 @@ fn keep_and_feed<S: ResourceSource, K: TrustStore, Q: AsksWitnesses, W: Write>(
 /// Brings the checkpoint of the log of this policy before its witnesses (C2SP tlog-witness): the source's has to be
 /// signed by the log, and to go on from the state's by a consistency proof that is accepted. It is kept then, and each
 /// witness is asked with the proof from the size that it has. The note is printed with the lines of all that cosigned
-/// it, if they are as many as the policy needs; else `TooFew`. Where the log shrank or forked, the state's note and the
-/// new one are printed.
+/// it, if they are as many as the policy needs; else `TooFew`. If the log forked, evidence is printed: the state's note,
+/// the new one, and what shows it.
 pub fn feed_under<S: ResourceSource, K: TrustStore, O: Observer, Q: AsksWitnesses, W: Write>(
     alloc: Global,
     source: &S,

@@ -4,7 +4,7 @@ use Rattle.std.specs.Prelude.{option_map}
 use Rattle.tl_fetch.specs.Faults.{after_client}
 use Rattle.tl_fetch.specs.Inner.Judging.{two_of}
 use Rattle.tl_fetch.proofs.RunLemmas.{accusation}
-use Rattle.tl_fetch.proofs.run.judge.Goals as goal
+use Rattle.tl_fetch.proofs.judging.judge.Goals as goal
 
 pub returns-in-Err-print_evidence-clause-refused : goal.returns-in-Err-print_evidence-clause-refused
 returns-in-Err-print_evidence-clause-refused g c =

@@ -2,7 +2,7 @@ use Rattle.std.proofs.Common.{inl, inr}
 use Rattle.sha2.specs.Sha256.{sha256}
 use Rattle.tl_tile.specs.Verified.{AreVerified}
 use Rattle.tl_tile.proofs.Push.{not_same}
-use Rattle.tl_fetch.proofs.run.check_grown.Goals as goal
+use Rattle.tl_fetch.proofs.judging.check_grown.Goals as goal
 
 pub passed-requires : goal.passed-requires
 passed-requires g c =

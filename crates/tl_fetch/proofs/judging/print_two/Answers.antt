@@ -1,7 +1,7 @@
 use Rattle.std.proofs.Common.{◌++◌, ◌+◌, inr, length, ap, ◌∙◌}
 use Rattle.tl_hash.specs.Bytes.{Bytes}
 use Rattle.tl_fetch.proofs.ListingLemmas.{part_after}
-use Rattle.tl_fetch.proofs.run.print_two.Goals as goal
+use Rattle.tl_fetch.proofs.judging.print_two.Goals as goal
 
 pub returns-in-Err-clause-part : goal.returns-in-Err-clause-part
 returns-in-Err-clause-part g c =

@@ -1,0 +1,80 @@
+//! A new key in two files.
+
+use crate::fault::{CommandFault, KeyFile};
+use std::alloc::Global;
+use std::fs::{File, Files, OpenOptions, remove_file};
+use std::os::unix::fs::OpenOptionsExt;
+use std::random::RandomSource;
+use tl_command::{KeygenOptions, RunFault, run_keygen};
+use tl_device::{Counted, DeviceFault};
+use tl_key::{Cosignature, Note};
+
+// The mode of the file of a private key, which its owner alone reads, and that of a verifier key.
+const PRIVATE: u32 = 0o600;
+
+const PUBLIC: u32 = 0o644;
+
+// Makes a file that isn't there yet.
+fn make<H: Files<File = File>>(rt: &H, path: &str, mode: u32) -> Result<File, DeviceFault> {
+    let mut options = OpenOptions::new();
+    options.write(true).create_new(true).mode(mode);
+    match options.open(rt, path) {
+        Ok(file) => Ok(file),
+        Err(error) => Err(DeviceFault::from(error)),
+    }
+}
+
+// Writes a new key into its files, and has both outlast a crash.
+fn write_key<H: RandomSource>(
+    rt: &H,
+    alloc: Global,
+    key: &KeygenOptions,
+    private: File,
+    public: File,
+) -> Result<(), RunFault> {
+    let name = key.name.as_str();
+    let (mut private, mut public) = (Counted::new(private), Counted::new(public));
+    let made = if key.is_cosigner {
+        run_keygen::<Cosignature, H, File, File>(rt, alloc, name, &mut private, &mut public)
+    } else {
+        run_keygen::<Note, H, File, File>(rt, alloc, name, &mut private, &mut public)
+    };
+    made?;
+    let synced = private.into_inner().sync_all().is_ok();
+    if public.into_inner().sync_all().is_ok() && synced {
+        return Ok(());
+    }
+    Err(RunFault::Write)
+}
+
+/// Makes a key, and writes its private text to the file at `out`, which its owner alone may read, and the verifier's to
+/// the file with `.pub` behind that. `KeyFile`: one of the files can't be made; it is there already, for instance.
+/// After a fault neither is there that wasn't before.
+pub(crate) fn keygen_to<H: Files<File = File> + RandomSource>(
+    rt: &H,
+    alloc: Global,
+    key: &KeygenOptions,
+    out: &str,
+) -> Result<(), CommandFault> {
+    let public_path = format!(in alloc; "{out}.pub")?;
+    let public_path = public_path.as_str();
+    let private = match make(rt, out, PRIVATE) {
+        Ok(file) => file,
+        Err(why) => return Err(CommandFault::KeyFile(KeyFile::Private, why)),
+    };
+    let public = match make(rt, public_path, PUBLIC) {
+        Ok(file) => file,
+        Err(why) => {
+            let _ = remove_file(rt, out);
+            return Err(CommandFault::KeyFile(KeyFile::Public, why));
+        }
+    };
+    match write_key(rt, alloc, key, private, public) {
+        Ok(()) => Ok(()),
+        Err(fault) => {
+            let _ = remove_file(rt, out);
+            let _ = remove_file(rt, public_path);
+            Err(CommandFault::Run(fault))
+        }
+    }
+}

@@ -1,0 +1,146 @@
+//! Public keys whose texts are in files: `@FILE` stands for the text that the file has.
+
+ghost use Rattle.std.specs.Prelude.{◌≡◌, ◌⊎◌};
+
+use std::alloc::{AllocError, AllocFailed, Global};
+use std::fs::Files;
+use std::io::Write;
+use tl_command::{RunFault, read_file};
+use tl_device::{Counted, write_whole};
+
+/// Why the text of a key isn't read from its file.
+#[derive(Drop)]
+pub(crate) enum KeyTextFault {
+    /// The file at this path can't be read, or has no text.
+    Unread(String, RunFault),
+    /// Allocation fails.
+    OutOfMemory,
+}
+
+impl From<AllocError> for KeyTextFault {
+    fn from(_fault: AllocError) -> KeyTextFault {
+        KeyTextFault::OutOfMemory
+    }
+}
+
+impl<X: Drop> From<AllocFailed<X>> for KeyTextFault {
+    fn from(_fault: AllocFailed<X>) -> KeyTextFault {
+        KeyTextFault::OutOfMemory
+    }
+}
+
+// Reports whether an option of a command takes the text of a public key.
+fn takes_key(command: &str, option: &str) -> bool {
+    match option {
+        "--key" => matches!(command, "check" | "open" | "fetch" | "feed"),
+        "--fork" => command == "check",
+        "--log-key" => command == "witness",
+        "--witness" => matches!(command, "fetch" | "feed" | "serve"),
+        _ => false,
+    }
+}
+
+// Cuts `@FILE`, or `@FILE=URL`, into the path and what stands behind it.
+fn path_in(value: &str) -> Option<(&str, &str)> {
+    let Some(rest) = value.strip_prefix('@') else {
+        return None;
+    };
+    match rest.find("=http") {
+        Some(end) => Some((&rest[..end], &rest[end..])),
+        None => Some((rest, "")),
+    }
+}
+
+// The text of the file at a path, without the newline that ends it, and what stands behind it.
+fn text_at<H: Files>(rt: &H, alloc: Global, path: &str, rest: &str) -> Result<String, KeyTextFault> {
+    let bytes = match read_file(rt, alloc, path) {
+        Ok(bytes) => bytes,
+        Err(fault) => return Err(KeyTextFault::Unread(String::from_str(alloc, path)?, fault)),
+    };
+    let Ok(text) = String::from_utf8(bytes) else {
+        return Err(KeyTextFault::Unread(String::from_str(alloc, path)?, RunFault::BadKey));
+    };
+    let text = text.as_str();
+    let text = text.strip_suffix('\n').unwrap_or(text);
+    Ok(format!(in alloc; "{text}{rest}")?)
+}
+
+// A word of a command. If the one before it takes a key, or if it is an option that does, with a value behind an equals
+// sign, the text of the file stands in the place of `@FILE`.
+fn word_of<H: Files>(
+    rt: &H,
+    alloc: Global,
+    command: &str,
+    word: &str,
+    is_key: bool,
+) -> Result<String, KeyTextFault> {
+    if is_key {
+        return match path_in(word) {
+            Some((path, rest)) => text_at(rt, alloc, path, rest),
+            None => Ok(String::from_str(alloc, word)?),
+        };
+    }
+    let Some((option, value)) = word.split_once('=') else {
+        return Ok(String::from_str(alloc, word)?);
+    };
+    match path_in(value) {
+        Some((path, rest)) if takes_key(command, option) => {
+            let text = text_at(rt, alloc, path, rest)?;
+            Ok(format!(in alloc; "{option}={text}")?)
+        }
+        _ => Ok(String::from_str(alloc, word)?),
+    }
+}
+
+/// Returns the words of a command, the program's own name first, with the text of a file in the place of each `@FILE`
+/// that stands for a public key.
+pub(crate) fn with_key_texts<H: Files>(
+    rt: &H,
+    alloc: Global,
+    words: &[String],
+) -> Result<Vec<String>, KeyTextFault> {
+    let command = match words.get(1) {
+        Some(command) => command.as_str(),
+        None => "",
+    };
+    let mut given = Vec::new(alloc);
+    let mut is_key = false;
+    for word in words {
+        given.push(word_of(rt, alloc, command, word.as_str(), is_key)?)?;
+        is_key = takes_key(command, word.as_str());
+    }
+    Ok(given)
+}
+
+// Writes why the text of a key isn't read from a file.
+fn tell_unread<E: Write>(
+    alloc: Global,
+    path: &str,
+    fault: &RunFault,
+    errors: &mut Counted<E>,
+) -> Result<(), AllocError> {
+    let line = match fault {
+        RunFault::Device(_, why) => format!(in alloc; "tlog: {path}: {why}\n")?,
+        RunFault::OutOfMemory => String::from_str(alloc, "tlog: out of memory\n")?,
+        _ => format!(in alloc; "tlog: {path}: bad key\n")?,
+    };
+    let _ = write_whole(errors, line.as_bytes());
+    Ok(())
+}
+
+/// Writes a line to `errors` that says which file of a key isn't read, and why. The result is the exit status: 3 if a
+/// device failed, and else 1.
+pub(crate) fn end_unread<E: Write>(
+    alloc: Global,
+    path: &str,
+    fault: &RunFault,
+    errors: &mut Counted<E>,
+) -> u8
+    ensures { (result ≡ 3) ⊎ (result ≡ 1) }
+{
+    let _ = tell_unread(alloc, path, fault, errors);
+    match fault {
+        RunFault::Device(_, _) => 3,
+        _ => 1,
+    }
+}

@@ -1,0 +1,271 @@
+//! Whether the tree of one of two checkpoints begins with the other's, and evidence where it doesn't.
+
+ghost use Rattle.std.specs.Prelude.{◌≡◌, ◌++◌, ◌↔◌, ◌<◌, ◌≤◌, ◌^◌, All, IfErr, IfOk, IsTrue, MatchOption, OnErr, OnOk, option_map, vec_items};
+ghost use Rattle.tl_hash.specs.Bytes.{IsHash};
+ghost use Rattle.tl_client.specs.Refused.{RefusesGrowth};
+ghost use Rattle.tl_client.specs.declared.fault.ClientFault.TheVariants as client;
+ghost use Rattle.tl_command.specs.ProofShown.{consistency_shown};
+ghost use Rattle.tl_command.specs.ProofText.{IsConsistency};
+ghost use Rattle.tl_device.specs.Device.{IsUnwritten, passage};
+ghost use Rattle.tl_fork.specs.Evidence.{Disagree};
+ghost use Rattle.tl_fetch.specs.Evidence.{LacksProof, RefusesComparison, evidence_text};
+ghost use Rattle.tl_fetch.specs.Inner.Judging.{Accuses, JudgesTwo, LeadsTo, bare, two_of};
+ghost use Rattle.tl_fetch.specs.Printed.{PrintedSome, PrintedWhole};
+ghost use Rattle.tl_fetch.specs.Trusting.{IsGrown};
+
+use crate::fault::FetchFault;
+use crate::faults::{BAD_CHECKPOINT, client_refusal};
+use crate::observer::Observer;
+use std::alloc::Global;
+use std::io::Write;
+use tl_client::{ClientFault, Head, ResourceSource, Tiles, prove_growth};
+use tl_command::{ConsistencyProof, RunFault, consistency_bytes, print_text};
+use tl_device::Counted;
+use tl_hash::{Hash, Sha256Tree};
+use tl_store::tree_hash;
+use tl_tile::{FetchedTiles, TileHashReader};
+
+/// From what was trusted last to what is trusted now: two notes, and what they say.
+#[derive(Drop)]
+pub(crate) struct Update<'t> {
+    pub(crate) last: Option<&'t str>,
+    pub(crate) old: &'t Head,
+    pub(crate) note: &'t str,
+    pub(crate) new: &'t Head,
+}
+
+/// Whether two heads are the same.
+pub(crate) fn is_same(one: &Head, other: &Head) -> bool
+    ensures { IsTrue result ↔ (one.now ≡ other.now) }
+{
+    one.size == other.size && one.root == other.root
+}
+
+// Checks that a log goes on from what was known, by a consistency proof that is accepted, and tells of its tiles.
+fn check_grown<S: ResourceSource, O: Observer>(
+    alloc: Global,
+    source: &S,
+    old: &Head,
+    new: &Head,
+    observer: &mut O,
+) -> Result<(), ClientFault>
+    ensures grown { OnOk result (IsGrown old.now new.now) }
+    ensures refused { IfErr result
+        (RefusesGrowth (S.may_answer source.now) (S.may_lack source.now) old.now new.now) }
+{
+    let mut fetched = FetchedTiles::new(alloc);
+    let _proof = prove_growth(alloc, source, *old, *new, &mut fetched)?;
+    if !fetched.is_empty() {
+        observer.passed(new, &fetched);
+    }
+    Ok(())
+}
+
+// A consistency proof that is accepted, from the root that a tree has at a smaller size.
+fn proof_from<S: ResourceSource>(
+    alloc: Global,
+    source: &S,
+    old: u64,
+    larger: &Head,
+) -> Result<ConsistencyProof<Global>, ClientFault>
+    ensures leads { IfOk result (λ p. LeadsTo old larger.now (consistency_shown p)) }
+    ensures refused { IfErr result
+        (LacksProof (S.may_answer source.now) (S.may_lack source.now) old larger.now) }
+{
+    let Head { size, root } = *larger;
+    let reader = TileHashReader::new(alloc, Sha256Tree, size, root, Tiles(source));
+    let old_root = tree_hash(alloc, Sha256Tree, old, &reader)?;
+    let smaller = Head {
+        size: old,
+        root: old_root,
+    };
+    let mut fetched = FetchedTiles::new(alloc);
+    let proof = prove_growth(alloc, source, smaller, *larger, &mut fetched)?;
+    Ok(ConsistencyProof {
+        old,
+        old_root,
+        size,
+        root,
+        proof,
+    })
+}
+
+// Shows that each of these is a hash. It changes nothing.
+fn are_hashes(hashes: &[Hash])
+    ensures { All IsHash hashes.now }
+{
+    for hash in hashes {
+        let _ = hash.as_bytes();
+    }
+}
+
+// Shows that a consistency proof between sizes in range has a text. It changes nothing.
+fn has_text(proof: &ConsistencyProof<Global>)
+    requires order { proof.now.old ≤ proof.now.size }
+    requires limit { proof.now.size ≤ 2 ^ 62 }
+    ensures { IsConsistency (consistency_shown proof.now) }
+{
+    let _ = proof.old_root.as_bytes();
+    let _ = proof.root.as_bytes();
+    are_hashes(proof.proof.as_slice());
+}
+
+// The text of a consistency proof from another root than the smaller tree has, or none where that is its root.
+fn text_apart<S: ResourceSource>(
+    alloc: Global,
+    source: &S,
+    smaller: &Head,
+    larger: &Head,
+) -> Result<Option<Vec<u8>>, ClientFault>
+    requires order { smaller.now.size ≤ larger.now.size }
+    requires limit { larger.now.size ≤ 2 ^ 62 }
+    ensures found { IfOk result (λ found. MatchOption found (IsGrown smaller.now larger.now)
+        (λ text. Disagree (bare smaller.now) (bare larger.now) (vec_items text))) }
+    ensures refused { IfErr result (LacksProof
+        (S.may_answer source.now) (S.may_lack source.now) smaller.now.size larger.now) }
+{
+    let proof = proof_from(alloc, source, smaller.size, larger)?;
+    if proof.old_root == smaller.root {
+        return Ok(None);
+    }
+    has_text(&proof);
+    let text = consistency_bytes(alloc, &proof)?;
+    Ok(Some(text))
+}
+
+// Whether a growth is refused since the log forked.
+fn is_fork(fault: &ClientFault) -> bool
+    ensures { IsTrue result ↔ (fault.now ≡ client.Forked) }
+{
+    matches!(fault, ClientFault::Forked)
+}
+
+// What shows beside two notes that the smaller tree doesn't begin the larger one; none where it does.
+fn difference<S: ResourceSource, O: Observer>(
+    alloc: Global,
+    source: &S,
+    smaller: &Head,
+    larger: &Head,
+    observer: &mut O,
+) -> Result<Option<Vec<u8>>, ClientFault>
+    ensures found { IfOk result (λ found. MatchOption found (IsGrown smaller.now larger.now)
+        (λ text. Disagree (bare smaller.now) (bare larger.now) (vec_items text))) }
+    ensures refused { IfErr result (RefusesComparison
+        (S.may_answer source.now) (S.may_lack source.now) smaller.now larger.now) }
+{
+    let Err(fault) = check_grown(alloc, source, smaller, larger, observer) else {
+        return Ok(None);
+    };
+    if !is_fork(&fault) {
+        return Err(fault);
+    }
+    if smaller.size == larger.size {
+        return Ok(Some(Vec::new(alloc)));
+    }
+    text_apart(alloc, source, smaller, larger)
+}
+
+// Prints two texts, one after the other.
+fn print_two<W: Write>(
+    first: &[u8],
+    second: &[u8],
+    writer: &mut Counted<W>,
+) -> Result<(), RunFault>
+    ensures printed { OnOk result (PrintedWhole
+        (λ text. text ≡ first.now ++ second.now) (passage W.contents writer.old writer.new)) }
+    ensures part { OnErr result (PrintedSome
+        (λ text. text ≡ first.now ++ second.now) (passage W.contents writer.old writer.new)) }
+    ensures fault { IfErr result (λ fault. fault ≡ RunFault.Write) }
+{
+    print_text(writer, first)?;
+    print_text(writer, second)
+}
+
+// Prints evidence: two notes, and what shows that the log forked.
+fn print_evidence<W: Write>(
+    last: &str,
+    note: &str,
+    shown: &[u8],
+    writer: &mut Counted<W>,
+) -> Result<(), RunFault>
+    ensures printed { OnOk result (PrintedWhole (λ text. text
+        ≡ evidence_text last.now note.now shown.now) (passage W.contents writer.old writer.new)) }
+    ensures part { OnErr result (PrintedSome (λ text. text
+        ≡ evidence_text last.now note.now shown.now) (passage W.contents writer.old writer.new)) }
+    ensures fault { IfErr result (λ fault. fault ≡ RunFault.Write) }
+{
+    print_text(writer, last.as_bytes())?;
+    print_two(note.as_bytes(), shown, writer)
+}
+
+// Prints that the log forked, and tells it. Without a note that was trusted last it is a checkpoint of no entries with
+// another root than that of none, and nobody is accused.
+fn accuse<W: Write>(step: &Update<'_>, shown: &[u8], writer: &mut Counted<W>) -> FetchFault
+    requires { Disagree (bare step.now.old.now) (bare step.now.new.now) shown.now }
+    ensures { Accuses (two_of (option_map (λ s. s.now) step.now.last)
+        step.now.old.now step.now.note.now step.now.new.now) result
+        (passage W.contents writer.old writer.new) }
+{
+    let Some(last) = step.last else {
+        return FetchFault::Run(BAD_CHECKPOINT);
+    };
+    match print_evidence(last, step.note, shown, writer) {
+        Ok(()) => FetchFault::Forked,
+        Err(fault) => FetchFault::Run(fault),
+    }
+}
+
+// Why a checkpoint that is smaller than the one that was trusted last isn't taken: it is older, or the log forked.
+fn judge_older<S: ResourceSource, O: Observer, W: Write>(
+    alloc: Global,
+    source: &S,
+    step: &Update<'_>,
+    observer: &mut O,
+    writer: &mut Counted<W>,
+) -> FetchFault
+    requires { step.now.new.now.size < step.now.old.now.size }
+    ensures { JudgesTwo (S.may_answer source.now) (S.may_lack source.now) (two_of (option_map
+        (λ s. s.now) step.now.last) step.now.old.now step.now.note.now step.now.new.now) result
+        (passage W.contents writer.old writer.new) }
+{
+    let (size, of) = (step.new.size, step.old.size);
+    match difference(alloc, source, step.new, step.old, observer) {
+        Ok(Some(shown)) => accuse(step, shown.as_slice(), writer),
+        Ok(None) => FetchFault::Older {
+            size,
+            of,
+            compared: true,
+        },
+        Err(_) => FetchFault::Older {
+            size,
+            of,
+            compared: false,
+        },
+    }
+}
+
+/// Checks that the log goes on from what was known. Evidence is printed if it forked. If the new checkpoint is smaller and
+/// doesn't show that, it is `Older`.
+pub(crate) fn judge<S: ResourceSource, O: Observer, W: Write>(
+    alloc: Global,
+    source: &S,
+    step: &Update<'_>,
+    observer: &mut O,
+    writer: &mut Counted<W>,
+) -> Result<(), FetchFault>
+    ensures grown { OnOk result (IsGrown step.now.old.now step.now.new.now) }
+    ensures silent { OnOk result (IsUnwritten (passage W.contents writer.old writer.new)) }
+    ensures refused { IfErr result (λ fault. JudgesTwo (S.may_answer source.now)
+        (S.may_lack source.now) (two_of (option_map (λ s. s.now)
+        step.now.last) step.now.old.now step.now.note.now step.now.new.now) fault
+        (passage W.contents writer.old writer.new)) }
+{
+    if step.new.size < step.old.size {
+        return Err(judge_older(alloc, source, step, observer, writer));
+    }
+    match difference(alloc, source, step.old, step.new, observer) {
+        Ok(None) => Ok(()),
+        Ok(Some(shown)) => Err(accuse(step, shown.as_slice(), writer)),
+        Err(fault) => Err(client_refusal(fault)),
+    }
+}

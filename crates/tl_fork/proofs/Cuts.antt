@@ -1,0 +1,241 @@
+-- The text of evidence is cut into its parts at one place alone.
+use Rattle.std.proofs.Common.{◌≡◌, ◌≢◌, ℕ, zero, suc, ◌+◌, ◌<◌, ◌≤◌, ◌⊎◌, inl, inr, List, [], ◌∷◌, ◌++◌, length, take, drop, get_or, map, Bool, true, false, refl, sym, ap, subst, ◌∙◌, append_assoc, arith, All}
+use Rattle.std.specs.Prelude.{⊤, ◌==◌}
+use Rattle.std.specs.List.{flat_map}
+use Rattle.std.proofs.lemmas.Bool.{ne_eqb}
+use Rattle.std.proofs.lemmas.Fmt.{decimal_nonempty}
+use Rattle.std.proofs.lemmas.List.{length-append}
+use Rattle.std.proofs.lemmas.List.Folds.{list_any_none}
+use Rattle.std.proofs.lemmas.List.Elements.{All-nil, All-cons, All-append, All-head, All-tail}
+use Rattle.std.proofs.lemmas.List.Concat.{flat_map-append, flat_map-cons}
+use Rattle.tl_text.specs.Text.{line, base64_text, number_text, HasNoControl, IsOneLine}
+use Rattle.base64.specs.GeneralPurpose.{IsBytes, encode_symbols}
+use Rattle.tl_hash.specs.Bytes.{IsHash}
+use Rattle.tl_text.proofs.PlainText.{base64_once, base64_plain, number_plain}
+use Rattle.tl_note.specs.Key.{Key, IsKeyName}
+use Rattle.tl_note.specs.Note.{IsSignature, Note, Signature, signature_line, signature_words}
+use Rattle.tl_note.proofs.OneNote.{body_plain, name_no_space, one_note}
+use Rattle.tl_checkpoint.specs.Checkpoint.{Head, IsHead, checkpoint_text}
+use Rattle.tl_checkpoint.proofs.OneText.{one_checkpoint}
+use Rattle.tl_command.specs.Lines.{HasNoNewline, entries_of, lines_text}
+use Rattle.tl_command.proofs.LineTexts.{entries_of_lines}
+use Rattle.tl_command.proofs.ProofTexts.{proof_plain}
+use Rattle.tl_command.specs.ProofText.{Consistency, Consistent, IsConsistency, consistency_lines, consistency_text}
+use Rattle.tl_fork.specs.Evidence.{Disagree, IsEvidence, IsOfLog}
+use Rattle.tl_fork.specs.Inner.Cutting.{has_space, note_length, signature_length, signed_length, text_length}
+
+-- ---- how long a note at the front is
+
+abbrev IsSome : List ℕ → Type 0
+IsSome text = 0 < length text
+
+abbrev HasSpace : List ℕ → Type 0
+HasSpace text = has_space text ≡ true
+
+-- what follows the signatures of a note: nothing, or a line without a space
+abbrev EndsNote : List (List ℕ) → Type 0
+EndsNote [] = ⊤
+EndsNote (text ∷ rest) = has_space text ≡ false
+
+text_before : (front rest : List (List ℕ)) → All IsSome front → text_length (front ++ [] ∷ rest) ≡ length front
+text_before [] rest each = refl
+text_before ((byte ∷ text) ∷ front) rest each = ap suc (text_before front rest (All-tail IsSome (byte ∷ text) front each))
+text_before ([] ∷ front) rest each = absurd (omega (arith, All-head IsSome [] front each))
+
+signatures_before : (front rest : List (List ℕ)) → All HasSpace front → EndsNote rest → signature_length (front ++ rest) ≡ length front
+signatures_before [] [] each ends = refl
+signatures_before [] (text ∷ rest) each ends = rw (ends) refl
+signatures_before (text ∷ front) rest each ends =
+    rw (All-head HasSpace text front each) (ap suc (signatures_before front rest (All-tail HasSpace text front each) ends))
+
+drop_front : {A : Type 0} (front rest : List A) → drop (length front) (front ++ rest) ≡ rest
+drop_front [] rest = refl
+drop_front (x ∷ front) rest = drop_front front rest
+
+take_front : {A : Type 0} (front rest : List A) → take (length front) (front ++ rest) ≡ front
+take_front [] rest = refl
+take_front (x ∷ front) rest = ap (λ l. x ∷ l) (take_front front rest)
+
+-- the lines of a note: its text's, an empty one, and signatures
+abbrev note_lines : List (List ℕ) → List (List ℕ) → List (List ℕ)
+note_lines texts signatures = texts ++ [] ∷ signatures
+
+length_note : (texts signatures rest : List (List ℕ)) → All IsSome texts → All HasSpace signatures → EndsNote rest
+    → note_length (note_lines texts signatures ++ rest) ≡ length (note_lines texts signatures)
+length_note texts signatures rest some spaced ends =
+    let behind : List (List ℕ) = [] ∷ (signatures ++ rest) in
+    let whole : note_lines texts signatures ++ rest ≡ texts ++ behind = append_assoc texts ([] ∷ signatures) rest in
+    let front : text_length (texts ++ behind) ≡ length texts = text_before texts (signatures ++ rest) some in
+    let left : drop (length texts) (texts ++ behind) ≡ behind = drop_front texts behind in
+    let signed : signature_length (signatures ++ rest) ≡ length signatures = signatures_before signatures rest spaced ends in
+    ap note_length whole
+    ∙ ap (λ (n : ℕ). n + signed_length (drop n (texts ++ behind))) front
+    ∙ ap (λ (ls : List (List ℕ)). length texts + signed_length ls) left
+    ∙ ap (λ (n : ℕ). length texts + suc n) signed
+    ∙ sym (length-append texts ([] ∷ signatures))
+
+-- ---- a signed checkpoint by its lines
+
+no_newline : (text : List ℕ) → HasNoControl text → HasNoNewline text
+no_newline text plain = λ i d lt e. let visible = plain i d lt in absurd (omega (arith, visible, e))
+
+abbrev checkpoint_lines : Head → List (List ℕ)
+checkpoint_lines c = c.origin ∷ number_text c.size ∷ base64_text c.root ∷ c.extensions
+
+abbrev lines_of_note : Head → List Signature → List (List ℕ)
+lines_of_note c signatures = note_lines (checkpoint_lines c) (map signature_words signatures)
+
+text_of_lines : (c : Head) → checkpoint_text c ≡ lines_text (checkpoint_lines c)
+text_of_lines c =
+    append_assoc (line c.origin ++ line (number_text c.size)) (line (base64_text c.root)) (flat_map line c.extensions)
+    ∙ append_assoc (line c.origin) (line (number_text c.size)) (line (base64_text c.root) ++ flat_map line c.extensions)
+
+words_text : (signatures : List Signature) → flat_map signature_line signatures ≡ lines_text (map signature_words signatures)
+words_text [] = refl
+words_text (s ∷ rest) = ap (λ (t : List ℕ). signature_line s ++ t) (words_text rest)
+
+note_text : (bytes : List ℕ) (c : Head) (signatures : List Signature) → Note bytes (checkpoint_text c) signatures → bytes ≡ lines_text (lines_of_note c signatures)
+note_text bytes c signatures n =
+    n.spelled
+    ∙ ap (λ (t : List ℕ). t ++ 10 ∷ flat_map signature_line signatures) (text_of_lines c)
+    ∙ ap (λ (t : List ℕ). lines_text (checkpoint_lines c) ++ 10 ∷ t) (words_text signatures)
+    ∙ sym (flat_map-append line (checkpoint_lines c) ([] ∷ map signature_words signatures))
+
+no_text : base64_text [] ≡ []
+unfolding encode_symbols
+no_text = refl
+
+no_bytes : IsBytes []
+no_bytes i = omega arith
+
+base64_some : (m t : List ℕ) → IsHash m → base64_text m ≡ t → IsSome t
+base64_some m [] lawful e =
+    let none : m ≡ [] = base64_once m [] lawful.bytes no_bytes (e ∙ sym no_text) in
+    absurd (omega (arith, sym lawful.length ∙ ap length none))
+base64_some m (x ∷ t) lawful e = omega arith
+
+lines_some : (lines : List (List ℕ)) → All IsOneLine lines → All IsSome lines
+lines_some lines each = λ k d lt. (each k d lt).some
+
+lines_plain : (lines : List (List ℕ)) → All IsOneLine lines → All HasNoNewline lines
+lines_plain lines each = λ k d lt. no_newline (get_or lines k d) (each k d lt).plain
+
+checkpoint_some : (c : Head) → IsHead c → All IsSome (checkpoint_lines c)
+checkpoint_some c is =
+    All-cons IsSome c.origin (number_text c.size ∷ base64_text c.root ∷ c.extensions) is.origin.some
+    (All-cons IsSome (number_text c.size) (base64_text c.root ∷ c.extensions) (decimal_nonempty c.size (omega (arith, is.size)))
+    (All-cons IsSome (base64_text c.root) c.extensions (base64_some c.root (base64_text c.root) is.root refl) (lines_some c.extensions is.extensions)))
+
+checkpoint_plain : (c : Head) → IsHead c → All HasNoNewline (checkpoint_lines c)
+checkpoint_plain c is =
+    All-cons HasNoNewline c.origin (number_text c.size ∷ base64_text c.root ∷ c.extensions) (no_newline c.origin is.origin.plain)
+    (All-cons HasNoNewline (number_text c.size) (base64_text c.root ∷ c.extensions) (no_newline (number_text c.size) (number_plain c.size (omega (arith, is.size))))
+    (All-cons HasNoNewline (base64_text c.root) c.extensions (no_newline (base64_text c.root) (base64_plain c.root is.root.bytes)) (lines_plain c.extensions is.extensions)))
+
+words_spaced : (signatures : List Signature) → All HasSpace (map signature_words signatures)
+words_spaced [] = All-nil HasSpace
+words_spaced (s ∷ rest) = All-cons HasSpace (signature_words s) (map signature_words rest) refl (words_spaced rest)
+
+words_plain : (signatures : List Signature) → All IsSignature signatures → All HasNoNewline (map signature_words signatures)
+words_plain [] each = All-nil HasNoNewline
+words_plain (s ∷ rest) each =
+    All-cons HasNoNewline (signature_words s) (map signature_words rest) (no_newline (signature_words s) (body_plain s (All-head IsSignature s rest each)))
+    (words_plain rest (All-tail IsSignature s rest each))
+
+empty_plain : HasNoNewline []
+empty_plain = All-nil (λ byte. byte ≢ 10)
+
+note_plain : (c : Head) (signatures : List Signature) → IsHead c → All IsSignature signatures → All HasNoNewline (lines_of_note c signatures)
+note_plain c signatures is each =
+    All-append HasNoNewline (checkpoint_lines c) ([] ∷ map signature_words signatures) (checkpoint_plain c is)
+    (All-cons HasNoNewline [] (map signature_words signatures) empty_plain (words_plain signatures each))
+
+name_spaceless : (name : List ℕ) → IsKeyName name → has_space name ≡ false
+name_spaceless name is = list_any_none (λ byte. byte == 32) name (λ k d lt. ne_eqb (get_or name k d) 32 (name_no_space name is k d lt))
+
+-- ---- evidence by its lines
+
+-- two checkpoints of a log by their lines, and what shows that they disagree
+pub record AreEvidence (keys : List Key) (name : List ℕ) (first second proof : List (List ℕ)) : Type 0 where
+  pub a : Head
+  pub b : Head
+  pub first_of : IsOfLog keys name (lines_text first) a
+  pub second_of : IsOfLog keys name (lines_text second) b
+  pub disagree : Disagree a b (lines_text proof)
+
+-- the same, where the lines are cut as they are read
+abbrev pub AreCutEvidence : List Key → List ℕ → List (List ℕ) → Type 0
+AreCutEvidence keys name lines =
+    AreEvidence keys name (take (note_length lines) lines)
+    (take (note_length (drop (note_length lines) lines)) (drop (note_length lines) lines))
+    (drop (note_length (drop (note_length lines) lines)) (drop (note_length lines) lines))
+
+-- the cut of lines whose notes have these lengths
+cut_by : (keys : List Key) (name : List ℕ) (first second proof : List (List ℕ)) → note_length (first ++ (second ++ proof)) ≡ length first
+    → note_length (second ++ proof) ≡ length second → AreEvidence keys name first second proof → AreCutEvidence keys name (first ++ (second ++ proof))
+cut_by keys name first second proof one two are =
+    let front = take_front first (second ++ proof) in
+    let behind = drop_front first (second ++ proof) in
+    rw (one, front, behind, two, take_front second proof, drop_front second proof) are
+
+-- the lines of evidence whose proof has these lines
+cut_lines : (keys : List Key) (name : List ℕ) (lines proof : List (List ℕ)) → IsKeyName name → All HasNoNewline lines → All HasNoNewline proof → EndsNote proof
+    → (e : IsEvidence keys name (lines_text lines)) → e.proof ≡ lines_text proof → AreCutEvidence keys name lines
+cut_lines keys name lines proof is plain proof_is ends e spelled =
+    let s = e.first_of.signed in
+    let t = e.second_of.signed in
+    let first : List (List ℕ) = lines_of_note e.a s.lines in
+    let second : List (List ℕ) = lines_of_note e.b t.lines in
+    let first_text : e.first ≡ lines_text first = note_text e.first e.a s.lines s.noted in
+    let second_text : e.second ≡ lines_text second = note_text e.second e.b t.lines t.noted in
+    let behind : e.second ++ e.proof ≡ lines_text (second ++ proof) =
+        ap (λ (x : List ℕ). x ++ e.proof) second_text ∙ ap (λ (x : List ℕ). lines_text second ++ x) spelled ∙ sym (flat_map-append line second proof) in
+    let whole : lines_text lines ≡ lines_text (first ++ (second ++ proof)) =
+        e.parts ∙ ap (λ (x : List ℕ). x ++ (e.second ++ e.proof)) first_text ∙ ap (λ (x : List ℕ). lines_text first ++ x) behind
+        ∙ sym (flat_map-append line first (second ++ proof)) in
+    let each = All-append HasNoNewline first (second ++ proof) (note_plain e.a s.lines s.stated s.noted.each)
+        (All-append HasNoNewline second proof (note_plain e.b t.lines t.stated t.noted.each) proof_is) in
+    let same : first ++ (second ++ proof) ≡ lines = sym (entries_of_lines (first ++ (second ++ proof)) each) ∙ ap entries_of (sym whole) ∙ entries_of_lines lines plain in
+    let origin : has_space e.b.origin ≡ false = ap has_space e.second_of.named ∙ name_spaceless name is in
+    let one = length_note (checkpoint_lines e.a) (map signature_words s.lines) (second ++ proof) (checkpoint_some e.a s.stated) (words_spaced s.lines) origin in
+    let two = length_note (checkpoint_lines e.b) (map signature_words t.lines) proof (checkpoint_some e.b t.stated) (words_spaced t.lines) ends in
+    subst (λ (ls : List (List ℕ)). AreCutEvidence keys name ls) same
+    (cut_by keys name first second proof one two (record {
+      a = e.a;
+      b = e.b;
+      first_of = subst (λ (x : List ℕ). IsOfLog keys name x e.a) first_text e.first_of;
+      second_of = subst (λ (x : List ℕ). IsOfLog keys name x e.b) second_text e.second_of;
+      disagree = subst (λ (x : List ℕ). Disagree e.a e.b x) spelled e.disagree;
+    }))
+
+cut_case : (keys : List Key) (name : List ℕ) (lines : List (List ℕ)) → IsKeyName name → All HasNoNewline lines → (e : IsEvidence keys name (lines_text lines))
+    → Disagree e.a e.b e.proof → AreCutEvidence keys name lines
+cut_case keys name lines is plain e (inl (none, two)) = cut_lines keys name lines [] is plain (All-nil HasNoNewline) tt e none
+cut_case keys name lines is plain e (inr (p, lawful, spelled, leads)) =
+    cut_lines keys name lines (consistency_lines p) is plain (proof_plain (Consistent p) lawful) refl e spelled
+
+-- evidence is cut into its parts
+pub evidence_is_cut : (keys : List Key) (name : List ℕ) (lines : List (List ℕ)) → IsKeyName name → All HasNoNewline lines → IsEvidence keys name (lines_text lines)
+    → AreCutEvidence keys name lines
+evidence_is_cut keys name lines is plain e = cut_case keys name lines is plain e e.disagree
+
+-- parts that are cut are evidence
+pub cut_is_evidence : (keys : List Key) (name : List ℕ) (first second proof : List (List ℕ)) → AreEvidence keys name first second proof
+    → IsEvidence keys name (lines_text (first ++ (second ++ proof)))
+cut_is_evidence keys name first second proof are = record {
+  first = lines_text first;
+  second = lines_text second;
+  proof = lines_text proof;
+  a = are.a;
+  b = are.b;
+  parts = flat_map-append line first (second ++ proof) ∙ ap (λ (x : List ℕ). lines_text first ++ x) (flat_map-append line second proof);
+  first_of = are.first_of;
+  second_of = are.second_of;
+  disagree = are.disagree;
+}
+
+-- bytes are one checkpoint of a log
+pub one_of_log : (keys : List Key) (name bytes : List ℕ) (a b : Head) → IsOfLog keys name bytes a → IsOfLog keys name bytes b → a ≡ b
+one_of_log keys name bytes a b is_a is_b =
+    one_checkpoint a b is_a.signed.stated is_b.signed.stated
+    (one_note bytes (checkpoint_text a) (checkpoint_text b) is_a.signed.lines is_b.signed.lines is_a.signed.noted is_b.signed.noted).0

@@ -1,0 +1,2 @@
+mod Honest
+mod Cuts

@@ -1,0 +1,110 @@
+//! The command `check --fork`: whether a text is evidence that a log forked.
+
+ghost use Rattle.std.specs.Prelude.{◌≡◌, ◌∷◌, ◌↔◌, ◌++◌, [], IfOk, IsTrue, codes, map};
+ghost use Rattle.tl_device.specs.Device.{passage};
+ghost use Rattle.tl_key.specs.KeyText.{IsVerifierText};
+ghost use Rattle.tl_key.specs.NoteKey.{PublicKey, note_kind, verifier_key};
+ghost use Rattle.tl_note.specs.Key.{IsKeyName};
+ghost use Rattle.tl_text.specs.Text.{line};
+ghost use Rattle.tl_command.specs.Run.{Runs};
+ghost use Rattle.tl_fork.specs.Evidence.{IsEvidence};
+ghost use Rattle.tl_fork.specs.ForkCommand.{ForkComes, RunsFork};
+
+use crate::evidence::is_evidence;
+use std::alloc::{AllocError, Global};
+use std::io::{Read, Write};
+use tl_command::{MOST_INPUT, RunFault, lines_of, print_text, read_input, read_log_key};
+use tl_device::Counted;
+use tl_note::Verifier;
+
+// Reports whether a text is evidence that the log of this name, which signs by these keys, forked.
+fn accuses(
+    alloc: Global,
+    text: &[u8],
+    verifiers: &[Box<dyn Verifier>],
+    name: &str,
+) -> Result<bool, AllocError>
+    requires { IsKeyName name.now }
+    ensures evidence { IfOk result (λ shown. IsTrue shown
+        ↔ IsEvidence (map (λ v. key v) verifiers.now) name.now text.now) }
+    ensures memory { OnErr result (0 < length text.now) }
+{
+    if text.is_empty() {
+        return Ok(false);
+    }
+    match lines_of(alloc, text)? {
+        Some(lines) => is_evidence(alloc, lines.as_slice(), verifiers, name),
+        None => Ok(false),
+    }
+}
+
+// Returns the line that says that a log of this name forked.
+fn fork_line(alloc: Global, name: &str) -> Result<String, AllocError>
+    ensures { IfOk result (λ text. string_bytes text ≡ line (codes "fork of " ++ name.now)) }
+{
+    let mut text = String::from_str(alloc, "fork of ")?;
+    text.push_str(name)?;
+    text.push_str("\n")?;
+    Ok(text)
+}
+
+// Reads the whole input, and prints whether it is evidence against the log.
+fn check_under<R: Read, W: Write>(
+    alloc: Global,
+    verifiers: &[Box<dyn Verifier>],
+    name: &str,
+    reader: &mut Counted<R>,
+    writer: &mut Counted<W>,
+) -> Result<(), RunFault>
+    requires { IsKeyName name.now }
+    ensures { Runs (ForkComes (map (λ v. key v) verifiers.now) name.now)
+        (passage R.remaining reader.old reader.new)
+        (passage W.contents writer.old writer.new) result }
+{
+    let input = read_input(alloc, reader, MOST_INPUT)?;
+    if accuses(alloc, input.as_slice(), verifiers, name)? {
+        let text = fork_line(alloc, name)?;
+        return print_text(writer, text.as_bytes());
+    }
+    match print_text(writer, b"refused\n") {
+        Ok(()) => Err(RunFault::Refused),
+        Err(fault) => Err(fault),
+    }
+}
+
+// The same, where the one key is that of which this is the text.
+fn check_by<R: Read, W: Write>(
+    alloc: Global,
+    text: &str,
+    verifiers: &[Box<dyn Verifier>],
+    name: &str,
+    reader: &mut Counted<R>,
+    writer: &mut Counted<W>,
+) -> Result<(), RunFault>
+    requires { (k : PublicKey) × IsVerifierText note_kind text.now k × (name.now ≡ k.name)
+        × (map (λ verifier. key verifier) verifiers.now ≡ verifier_key k ∷ []) }
+    ensures { RunsFork text.now (passage R.remaining reader.old reader.new)
+        (passage W.contents writer.old writer.new) result }
+{
+    check_under(alloc, verifiers, name, reader, writer)
+}
+
+/// Reads the whole input, and prints `fork of NAME` if it is evidence that the log with this verifier key forked: two
+/// of its checkpoints, one after the other, and, if their sizes differ, the text of a consistency proof that leads to
+/// the larger tree from the smaller one's size, but from another root than it has (RFC 6962, section 2.1.2). Any other
+/// input is answered with `refused`, and the result is `Refused`. A text of no key is `BadKey`, before anything is
+/// read.
+pub fn run_check_fork<R: Read, W: Write>(
+    alloc: Global,
+    text: &str,
+    reader: &mut Counted<R>,
+    writer: &mut Counted<W>,
+) -> Result<(), RunFault>
+    ensures { RunsFork text.now (passage R.remaining reader.old reader.new)
+        (passage W.contents writer.old writer.new) result }
+{
+    let key = read_log_key(alloc, text)?;
+    let name = String::from_str(alloc, key.name())?;
+    let verifier: Box<dyn Verifier> = Box::new(alloc, key)?;
+    check_by(alloc, text, &[verifier], name.as_str(), reader, writer)
+}

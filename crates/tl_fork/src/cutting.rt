@@ -1,0 +1,48 @@
+//! Where a note ends that other lines follow.
+
+ghost use Rattle.std.specs.Prelude.{◌≡◌, ◌≤◌, length, map, vec_items};
+ghost use Rattle.tl_fork.specs.Inner.Cutting.{has_space, note_length, signature_length, text_length};
+
+use std::alloc::Allocator;
+
+// Returns how many lines stand before the first empty one.
+fn text_length<A: Allocator>(lines: &[Vec<u8, A>]) -> usize
+    ensures length { result ≡ text_length (map vec_items lines.now) }
+    ensures within { result ≤ length lines.now }
+{
+    match lines.iter().position(|line| line.is_empty()) {
+        Some(place) => place,
+        None => lines.len(),
+    }
+}
+
+// Reports whether a line has a space.
+fn has_space(line: &[u8]) -> bool
+    ensures { result ≡ has_space line.now }
+{
+    line.contains(&b' ')
+}
+
+// Returns how many lines stand before the first one without a space.
+fn signature_length<A: Allocator>(lines: &[Vec<u8, A>]) -> usize
+    ensures length { result ≡ signature_length (map vec_items lines.now) }
+    ensures within { result ≤ length lines.now }
+{
+    match lines.iter().position(|line| !has_space(line.as_slice())) {
+        Some(place) => place,
+        None => lines.len(),
+    }
+}
+
+/// Returns how many lines the note has that stands at the front of these: those before the first empty line, that
+/// line, and the signature lines after it.
+pub(crate) fn note_length<A: Allocator>(lines: &[Vec<u8, A>]) -> usize
+    ensures length { result ≡ note_length (map vec_items lines.now) }
+    ensures within { result ≤ length lines.now }
+{
+    let text = text_length(lines);
+    match &lines[text..] {
+        [_, signatures @ ..] => text + 1 + signature_length(signatures),
+        [] => text,
+    }
+}

@@ -1,0 +1,11 @@
+//! What evidence shows.
+
+ghost use Rattle.tl_fork.specs.Evidence.{AccusesNoHonestLog};
+
+/// If each checkpoint of a log is of a beginning of one list, nothing is evidence against it, or two different byte
+/// strings, one hashed to check the proof and one for the list, have one SHA-256. It computes nothing: its contract is
+/// the law.
+pub fn fork_law()
+    ensures { AccusesNoHonestLog }
+{
+}
