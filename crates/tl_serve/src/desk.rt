@@ -87,26 +87,13 @@ impl Desk {
         })
     }
 
-    // The receipt of an entry that is remembered.
-    fn recall<H: Wait>(&self, rt: &H, leaf: Hash) -> Result<Option<Arc<Receipt>>, Untaken> {
-        let index = self.remembered.lock(rt).find(&leaf);
-        if index.is_none() {
-            return Ok(None);
-        }
-        Ok(Some(Arc::new(self.alloc, Receipt::new(leaf, index))?))
-    }
-
-    /// Remembers an entry, which has this index.
-    pub(crate) fn remember<H: Wait>(&self, rt: &H, leaf: &Hash, index: u64) {
-        self.remembered.lock(rt).put(leaf, index);
-    }
-
-    /// Takes an entry in, unless it is remembered: by its receipt its place is known once it was published.
-    pub(crate) fn hand_in<H: Wait>(&self, rt: &H, entry: &[u8]) -> Result<Arc<Receipt>, Untaken> {
-        let leaf = leaf_hash(Sha256Tree, entry);
-        if let Some(receipt) = self.recall(rt, leaf)? {
-            return Ok(receipt);
-        }
+    // Takes an entry in that isn't remembered.
+    fn take_in<H: Wait>(
+        &self,
+        rt: &H,
+        entry: &[u8],
+        leaf: Hash,
+    ) -> Result<Arc<Receipt>, Untaken> {
         let entry = Vec::from_slice(self.alloc, entry)?;
         let receipt = Arc::new(self.alloc, Receipt::new(leaf, None))?;
         let own = Arc::try_clone(&receipt)?;
@@ -119,6 +106,21 @@ impl Desk {
         handed_in.entries.push(entry)?;
         if handed_in.entries.len() == 1 {
             self.wake();
+        }
+        Ok(receipt)
+    }
+
+    /// Takes an entry in, unless it is remembered: by its receipt its place is known once it was published. From then on
+    /// it is remembered.
+    pub(crate) fn hand_in<H: Wait>(&self, rt: &H, entry: &[u8]) -> Result<Arc<Receipt>, Untaken> {
+        let leaf = leaf_hash(Sha256Tree, entry);
+        let known = self.remembered.lock(rt).find(&leaf);
+        if let Some(receipt) = known {
+            return Ok(receipt);
+        }
+        let receipt = self.take_in(rt, entry, leaf)?;
+        if let Ok(own) = Arc::try_clone(&receipt) {
+            self.remembered.lock(rt).put(own);
         }
         Ok(receipt)
     }

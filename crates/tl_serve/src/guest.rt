@@ -144,16 +144,6 @@ impl Guest {
         Next::Leave
     }
 
-    // Has the entry remembered whose place was told.
-    fn remember<H: Wait>(&self, house: &House<'_, H>, status: u16) {
-        let (Some(receipt), Some(desk), 200) = (&self.receipt, house.news.desk(), status) else {
-            return;
-        };
-        if let Some(index) = receipt.index_below(u64::MAX) {
-            desk.remember(house.rt, &receipt.leaf, index);
-        }
-    }
-
     // Tells that the log hasn't got the entry where it was told to be.
     fn tell_damage<H: Wait>(&self, house: &House<'_, H>) {
         if let (Some(receipt), Some(desk)) = (&self.receipt, house.news.desk()) {
@@ -176,8 +166,7 @@ impl Guest {
         let asked = reader.into_inner().asked();
         self.receipt = turn.receipt;
         match outcome {
-            Ok(Outcome::Answered(status)) => {
-                self.remember(house, status);
+            Ok(Outcome::Answered(_)) => {
                 self.answer = Some(writer.into_inner());
                 Next::GoOn
             }

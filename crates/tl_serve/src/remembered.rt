@@ -1,36 +1,38 @@
-//! Entries that are remembered with their places, so that one that comes again isn't added again.
+//! Entries that are remembered, so that one that comes again isn't added again.
 
 ghost use Rattle.std.specs.Prelude.{◌≡◌, ◌<◌, ◌≤◌, ◌*◌};
 
+use crate::receipt::Receipt;
 use lru::LruCache;
 use std::alloc::Global;
 use std::hash::RandomState;
 use std::num::NonZeroUsize;
 use std::random::RandomSource;
+use std::sync::Arc;
 use tl_archive::Shelf;
 use tl_hash::{Hash, Sha256Tree, leaf_hash};
 use tl_tile::{Resource, bundle_width, read_bundle};
 
-/// The leaf hashes (RFC 6962, section 2.1) of the entries that were posted last, or stood last in the log at the start,
-/// and the first index of each.
+/// The receipts of the entries that were posted last, or stood last in the log at the start, by their leaf hashes (RFC
+/// 6962, section 2.1): that of the first place of each.
 #[derive(Drop)]
 pub(crate) struct Remembered {
     alloc: Global,
     most: u64,
-    places: Option<LruCache<[u8; 32], u64, RandomState>>,
+    receipts: Option<LruCache<[u8; 32], Arc<Receipt>, RandomState>>,
 }
 
-// A list of at most so many places: none where the machine has no random bytes, or memory was refused.
-fn places_of<H: RandomSource>(
+// A list of at most so many: none where the machine has no random bytes, or memory was refused.
+fn receipts_of<H: RandomSource>(
     rt: &H,
     alloc: Global,
     most: u64,
-) -> Option<LruCache<[u8; 32], u64, RandomState>> {
+) -> Option<LruCache<[u8; 32], Arc<Receipt>, RandomState>> {
     let most = NonZeroUsize::new(usize::try_from(most).unwrap_or(usize::MAX))?;
     let state = RandomState::new(rt).ok()?;
-    let mut places = LruCache::unbounded_with_hasher(alloc, state).ok()?;
-    places.resize(most);
-    Some(places)
+    let mut receipts = LruCache::unbounded_with_hasher(alloc, state).ok()?;
+    receipts.resize(most);
+    Some(receipts)
 }
 
 impl Remembered {
@@ -39,32 +41,39 @@ impl Remembered {
         Remembered {
             alloc,
             most,
-            places: places_of(rt, alloc, most),
+            receipts: receipts_of(rt, alloc, most),
         }
     }
 
-    /// The index of an entry with this leaf hash, if it is remembered.
-    pub(crate) fn find(&mut self, leaf: &Hash) -> Option<u64> {
-        self.places.as_mut()?.get(leaf.as_bytes()).copied()
+    /// What an entry with this leaf hash is known by, if it is remembered.
+    pub(crate) fn find(&mut self, leaf: &Hash) -> Option<Arc<Receipt>> {
+        let receipt = self.receipts.as_mut()?.get(leaf.as_bytes())?;
+        Arc::try_clone(receipt).ok()
     }
 
-    /// Remembers the index of an entry with this leaf hash, unless one is remembered, or memory is refused.
-    pub(crate) fn put(&mut self, leaf: &Hash, index: u64) {
-        if self.find(leaf).is_some() {
+    /// Remembers an entry by this receipt, unless one is remembered, or memory is refused.
+    pub(crate) fn put(&mut self, receipt: Arc<Receipt>) {
+        let leaf = receipt.leaf;
+        if self.find(&leaf).is_some() {
             return;
         }
-        if let Some(places) = self.places.as_mut() {
-            let _ = places.put(*leaf.as_bytes(), index);
+        if let Some(receipts) = self.receipts.as_mut() {
+            let _ = receipts.put(*leaf.as_bytes(), receipt);
+        }
+    }
+
+    // Remembers an entry of the log, which has this index.
+    fn put_placed(&mut self, entry: &[u8], index: u64) {
+        let receipt = Receipt::new(leaf_hash(Sha256Tree, entry), Some(index));
+        if let Ok(receipt) = Arc::new(self.alloc, receipt) {
+            self.put(receipt);
         }
     }
 
     // Remembers the entries of a bundle, the first of which has this index.
     fn put_all(&mut self, index: u64, entries: &[Vec<u8>]) {
         for (before, entry) in entries.iter().enumerate() {
-            self.put(
-                &leaf_hash(Sha256Tree, entry),
-                index.saturating_add(before as u64),
-            );
+            self.put_placed(entry, index.saturating_add(before as u64));
         }
     }
 
@@ -84,7 +93,7 @@ impl Remembered {
 
     /// Remembers the last entries of a log of this size that is on a shelf.
     pub(crate) fn put_last<S: Shelf>(&mut self, shelf: &S, size: u64) {
-        if self.places.is_none() {
+        if self.receipts.is_none() {
             return;
         }
         for bundle in size.saturating_sub(self.most) / 256..size.div_ceil(256) {
