@@ -242,7 +242,5 @@ pub(crate) fn serve_from<
     let shelf = open_bucket(disk, rt, alloc, bucket, &key, serve.is_new)?;
     let threads = threads_of(rt, serve.server.threads);
     let shown = shown_of(disk, rt, alloc, bucket, &key, threads as usize)?;
-    finish_and_serve(
-        rt, alloc, serve, &site, shelf, shown, reader, errors,
-    )
+    finish_and_serve(rt, alloc, serve, &site, shelf, shown, reader, errors)
 }

@@ -31,8 +31,8 @@ use std::random::RandomSource;
 use std::thread::{Threads, available_parallelism};
 use tl_bucket::PutsTogether;
 use tl_command::{
-    BuildOptions, CheckOptions, GivenEntry, HeadOptions, HmacLogSigner, KeygenOptions, RunFault, SignedOptions,
-    read_file, run_audit, run_build, run_build_signed, run_check, run_check_opened,
+    BuildOptions, CheckOptions, GivenEntry, HeadOptions, HmacLogSigner, KeygenOptions, RunFault,
+    SignedOptions, read_file, run_audit, run_build, run_build_signed, run_check, run_check_opened,
     run_consistency, run_head, run_inclusion, run_keygen, run_open,
 };
 use tl_device::{Counted, write_whole};

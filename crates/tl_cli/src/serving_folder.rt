@@ -127,9 +127,7 @@ fn serve_cosigned<
         shown,
         asked,
     };
-    run_serve_cosigned(
-        rt, alloc, options, site, log, found, reader, errors,
-    )
+    run_serve_cosigned(rt, alloc, options, site, log, found, reader, errors)
 }
 
 // Serves the log in a folder by its options.

@@ -180,11 +180,7 @@ fn job_of(alloc: Global, command: &str, options: &ArgMatches<'_>) -> Result<Job,
 }
 
 // The words that ask for the help of what `help` names: the program's name, the others, and `--help`.
-fn help_words(
-    alloc: Global,
-    program: &str,
-    names: &[String],
-) -> Result<Vec<String>, AllocError> {
+fn help_words(alloc: Global, program: &str, names: &[String]) -> Result<Vec<String>, AllocError> {
     let mut asked = Vec::new(alloc);
     asked.push(String::from_str(alloc, program)?)?;
     for name in names {

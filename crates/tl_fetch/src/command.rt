@@ -99,7 +99,15 @@ fn fetch_with_files<
     if wanted != FetchRequest::All {
         let mut unread = NoState;
         return fetch_under(
-            alloc, source, requests, policy, wanted, &mut state, &mut unread, observer, writer,
+            alloc,
+            source,
+            requests,
+            policy,
+            wanted,
+            &mut state,
+            &mut unread,
+            observer,
+            writer,
         );
     }
     let beside = printed_path(alloc, path)?;
@@ -108,7 +116,15 @@ fn fetch_with_files<
         Err(fault) => return Err(file_refusal(fault)),
     };
     fetch_under(
-        alloc, source, requests, policy, wanted, &mut state, &mut printed, observer, writer,
+        alloc,
+        source,
+        requests,
+        policy,
+        wanted,
+        &mut state,
+        &mut printed,
+        observer,
+        writer,
     )
 }
 
