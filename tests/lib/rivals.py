@@ -44,6 +44,7 @@ class Race:
         self.counts, self.operators, self.end, self.read = collections.Counter(), 0, 0, b''
 
     def run(self, operators, seconds):
+        self.said += self.tlog.run('append', '--new', *self.place.signed)[1:]
         self.operators, self.end = operators, time.monotonic() + seconds
         parts = [threading.Thread(target=self.operate, args=(number,)) for number in range(operators)]
         parts += [threading.Thread(target=self.watch), threading.Thread(target=self.read_on)]

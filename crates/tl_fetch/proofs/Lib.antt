@@ -9,3 +9,4 @@ pub mod RunLemmas
 pub mod Trusts
 pub mod KeptLemmas
 pub mod KeyLemmas
+pub mod JudgingLemmas

@@ -38,6 +38,10 @@ silent_some Is o p on none (inl still) =
 silent_some Is o p on none (inr (t, is, count, part)) =
     inr (t, is, count, keeps_appends o.old o.new p.new (take count t) none.0 (subst (λ (k : Option Bytes). Appends k p.new (take count t)) (sym on.bytes) part))
 
+pub silent_both : (o p : Passage) → GoesOn o p → IsUnwritten o → IsUnwritten p → IsUnwritten (joined o p)
+silent_both o p on none still =
+    (Keeps-trans o.old o.new p.new none.0 (subst (λ (k : Option Bytes). Keeps k p.new) (sym on.bytes) still.0), still.1 ∙ sym on.failed ∙ none.1)
+
 -- a text that is one is another
 pub some_map : (Is Js : Bytes → Type 0) (o : Passage) → ((t : Bytes) → Is t → Js t) → PrintedSome Is o → PrintedSome Js o
 some_map Is Js o f (inl none) = inl none

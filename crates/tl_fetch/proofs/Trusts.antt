@@ -4,8 +4,8 @@ use Rattle.tl_hash.specs.Bytes.{Bytes}
 use Rattle.tl_tile.specs.declared.resource.Resource.{Resource}
 use Rattle.tl_tile.specs.declared.resource.Resource.TheVariants.{Checkpoint}
 use Rattle.tl_fetch.specs.declared.fault.FetchFault.{FetchFault}
-use Rattle.tl_fetch.specs.Fetching.{Grounds, LacksTrust}
-use Rattle.tl_fetch.specs.Inner.Trusted.{LacksLast, RefusesText}
+use Rattle.tl_fetch.specs.Fetching.{Grounds, LacksLast, LacksTrust}
+use Rattle.tl_fetch.specs.Inner.Trusted.{RefusesText}
 use Rattle.tl_fetch.specs.Opening.{RefusesCheckpoint, RefusesNote, RefusesState}
 use Rattle.tl_fetch.specs.Trusting.{Policy}
 
@@ -26,8 +26,3 @@ pub last_refused : (fails : FetchFault → Type 0) (has : Option Bytes → Type 
     → RefusesState policy read fault → LacksLast fails has policy fault
 last_refused fails has policy fault last read had same refused =
     inr (last, had, subst (λ (l : Option Bytes). RefusesState policy l fault) same refused)
-
--- a state's fault, or a source's
-pub lacks_last : (grounds : Grounds) (policy : Policy) (fault : FetchFault) → LacksLast grounds.fails grounds.has policy fault → LacksTrust grounds policy fault
-lacks_last grounds policy fault (inl fails) = inl fails
-lacks_last grounds policy fault (inr lacks) = inr (inl lacks)

@@ -178,7 +178,10 @@ fn print_two<W: Write>(
     ensures fault { IfErr result (λ fault. fault ≡ RunFault.Write) }
 {
     print_text(writer, first)?;
-    print_text(writer, second)
+    match print_text(writer, second) {
+        Ok(()) => Ok(()),
+        Err(fault) => Err(fault),
+    }
 }
 
 // Prints evidence: two notes, and what shows that the log forked.
@@ -195,7 +198,10 @@ fn print_evidence<W: Write>(
     ensures fault { IfErr result (λ fault. fault ≡ RunFault.Write) }
 {
     print_text(writer, last.as_bytes())?;
-    print_two(note.as_bytes(), shown, writer)
+    match print_two(note.as_bytes(), shown, writer) {
+        Ok(()) => Ok(()),
+        Err(fault) => Err(fault),
+    }
 }
 
 // Prints that the log forked, and tells it. Without a note that was trusted last it is a checkpoint of no entries with
@@ -215,6 +221,17 @@ fn accuse<W: Write>(step: &Update<'_>, shown: &[u8], writer: &mut Counted<W>) ->
     }
 }
 
+// That a checkpoint is older than the one that was trusted last, and whether the two were compared.
+fn older(step: &Update<'_>, compared: bool) -> FetchFault
+    ensures { result ≡ FetchFault.Older step.now.new.now.size step.now.old.now.size compared }
+{
+    FetchFault::Older {
+        size: step.new.size,
+        of: step.old.size,
+        compared,
+    }
+}
+
 // Why a checkpoint that is smaller than the one that was trusted last isn't taken: it is older, or the log forked.
 fn judge_older<S: ResourceSource, O: Observer, W: Write>(
     alloc: Global,
@@ -228,19 +245,10 @@ fn judge_older<S: ResourceSource, O: Observer, W: Write>(
         (λ s. s.now) step.now.last) step.now.old.now step.now.note.now step.now.new.now) result
         (passage W.contents writer.old writer.new) }
 {
-    let (size, of) = (step.new.size, step.old.size);
     match difference(alloc, source, step.new, step.old, observer) {
         Ok(Some(shown)) => accuse(step, shown.as_slice(), writer),
-        Ok(None) => FetchFault::Older {
-            size,
-            of,
-            compared: true,
-        },
-        Err(_) => FetchFault::Older {
-            size,
-            of,
-            compared: false,
-        },
+        Ok(None) => older(step, true),
+        Err(_) => older(step, false),
     }
 }
 

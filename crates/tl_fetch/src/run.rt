@@ -150,9 +150,10 @@ fn print_and_keep<
         (K.may_fail state.old fault ⊎ C.may_fail printed.old fault) ⊎ RefusesAll
         (S.may_answer source.now) (S.may_lack source.now) step.now.new.now from fault) }
 {
+    let note = step.note;
     print_entries(alloc, source, requests, step.new, from, observer, writer)?;
-    state.keep(policy, step.last, step.note)?;
-    printed.keep(policy, since.last, step.note)
+    state.keep(policy, step.last, note)?;
+    printed.keep(policy, since.last, note)
 }
 
 // From which entry on all are printed: behind those of the log up to which they were, or else those that were known.
@@ -252,6 +253,61 @@ fn fetch_all<
     }
 }
 
+// Prints what is wanted of a log that goes on from what was known, and keeps the new note. How far all entries were
+// printed only changes where they are.
+fn fetch_grown<
+    S: ResourceSource + AsksHost,
+    H: HostClient,
+    K: TrustStore,
+    C: TrustStore,
+    O: Observer,
+    W: Write,
+>(
+    alloc: Global,
+    source: &S,
+    requests: &Requests<'_, H>,
+    policy: &Policy<'_>,
+    step: &Update<'_>,
+    wanted: FetchRequest,
+    state: &mut K,
+    printed: &mut C,
+    observer: &mut O,
+    writer: &mut Counted<W>,
+) -> Result<(), FetchFault>
+    requires known { IsKnown (policy_of policy.now.origin.now (map (λ v. key v) policy.now.log.now)
+        (map (λ w. key w) policy.now.witnesses.now) policy.now.need)
+        (option_map (λ s. s.now) step.now.last) step.now.old.now }
+    requires trusted { IsNoteOf
+        (policy_of policy.now.origin.now (map (λ v. key v) policy.now.log.now) (map
+        (λ w. key w) policy.now.witnesses.now) policy.now.need) step.now.note.now step.now.new.now }
+    requires grown { IsGrown step.now.old.now step.now.new.now }
+    ensures printed { OnOk result (HasPrinted (C.may_have printed.old) (C.has_kept printed.new)
+        (policy_of policy.now.origin.now (map (λ v. key v) policy.now.log.now) (map (λ w. key w)
+        policy.now.witnesses.now) policy.now.need) (two_of (option_map (λ s. s.now)
+        step.now.last) step.now.old.now step.now.note.now step.now.new.now) wanted
+        (passage W.contents writer.old writer.new)) }
+    ensures kept { OnOk result (K.has_kept state.new step.now.note.now) }
+    ensures unmoved { wanted ≢ FetchRequest.All → printed.new ≡ printed.old }
+    ensures refused { IfErr result (λ fault. RefusesGrown
+        (grounds_of (S.may_answer source.now) (S.may_lack source.now)
+        (K.may_have state.old) (K.may_fail state.old))
+        (grounds_of (S.may_answer source.now) (S.may_lack source.now)
+        (C.may_have printed.old) (C.may_fail printed.old))
+        (policy_of policy.now.origin.now (map (λ v. key v) policy.now.log.now) (map (λ w. key w)
+        policy.now.witnesses.now) policy.now.need) wanted (two_of (option_map (λ s. s.now)
+        step.now.last) step.now.old.now step.now.note.now step.now.new.now) fault
+        (passage W.contents writer.old writer.new)) }
+{
+    match wanted {
+        FetchRequest::All => fetch_all(
+            alloc, source, requests, policy, step, state, printed, observer, writer,
+        ),
+        _ => keep_and_print(
+            alloc, source, requests, policy, step, wanted, state, observer, writer,
+        ),
+    }
+}
+
 /// Fetches what is wanted of the log of this policy. The source's checkpoint has to be trusted (`open_trusted`), and
 /// to go on from the state's by a consistency proof that is accepted (`tl_client::prove_growth`). It is kept then, and
 /// what is wanted is printed. All entries come from where `printed` has it that they were printed, from which the log
@@ -304,13 +360,8 @@ pub fn fetch_under<
     if let Err(fault) = judge(alloc, source, &step, observer, writer) {
         return Err(fault);
     }
-    if let FetchRequest::All = wanted {
-        return fetch_all(
-            alloc, source, requests, policy, &step, state, printed, observer, writer,
-        );
-    }
-    match keep_and_print(
-        alloc, source, requests, policy, &step, wanted, state, observer, writer,
+    match fetch_grown(
+        alloc, source, requests, policy, &step, wanted, state, printed, observer, writer,
     ) {
         Ok(()) => Ok(()),
         Err(fault) => Err(fault),

@@ -1,7 +1,7 @@
 //! What the program says of its commands where it is called for help.
 
 pub(super) const STATUSES: &str =
-    "Exit status: 0 done; 1 refused; 2 wrong arguments or a call for help; 3 a device failed; 4 a log shrank or forked.
+    "Exit status: 0 done; 1 refused; 2 wrong arguments or a call for help; 3 a device failed; 4 a log forked.
 A refusal is one line 'tlog: ..' on standard error.";
 
 pub(super) const HEAD: &str =
