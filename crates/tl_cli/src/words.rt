@@ -29,14 +29,17 @@ use table::{Words, command_of};
 // What is said where not one of two options is given.
 const EITHER_KEY: &str = "either --secret or --key is given";
 
-// What is said of the option that takes the text of a log's verifier key.
-const LOG_KEY: &str = "The log's verifier key";
+// The help of the option that takes a log's verifier key.
+const LOG_KEY: &str = "The log's verifier key, or @FILE";
 
-// The same where a log may have two.
-const LOG_KEYS: &str = "The log's verifier key, or one of two, with one name";
+// The same if a log may have two.
+const LOG_KEYS: &str = "The log's verifier key, or @FILE; given twice for two";
 
 // The help of the words for the keys of witnesses.
-const WITNESS_KEY: &str = "The verifier key of a witness; keys with one name are one witness's";
+const WITNESS_KEY: &str = "The verifier key of a witness, or @FILE";
+
+// The help of the option that says how many threads hash.
+const THREADS: &str = "How many threads hash at once (default: all processors)";
 
 // The seconds of a time limit that is left out.
 const TIMEOUT: u64 = 10;

@@ -2,7 +2,7 @@
 
 use super::WordsFault;
 use super::given::{is_given, text_if_given, text_of};
-use super::table::{Kind, Word, Words};
+use super::table::{Group, Kind, Word, Words};
 use crate::own_bucket::BucketOptions;
 use clap::ArgMatches;
 use std::alloc::Global;
@@ -15,11 +15,14 @@ const NO_ADDRESS: &str = "--bucket is http://HOST[:PORT]/BUCKET[/PREFIX]";
 const OF_A_BUCKET: &str = "--region is given with --bucket, and --credentials with these alone";
 
 /// The words of a log in a bucket.
-pub(super) const BUCKET: &[Word] = words![
-    "bucket" "URL" Kind::Text => "The bucket of the log, http://HOST[:PORT]/BUCKET[/PREFIX]";
-    "region" "REGION" Kind::Text => "The region of the bucket's store";
-    "credentials" "FILE" Kind::Path => "The file with the key that signs requests to the store";
-];
+pub(super) const BUCKET: Group = Group {
+    heading: "In a bucket",
+    words: words![
+        "bucket" "URL" Kind::Text => "http://HOST[:PORT]/BUCKET[/PREFIX]";
+        "region" "REGION" Kind::Text => "The region of its store";
+        "credentials" "FILE" Kind::Path => "The file with the key that signs requests";
+    ],
+};
 
 // Whether this is the address of a bucket, or of what is under a prefix there. A slash may come behind it.
 fn is_address(text: &str) -> bool {

@@ -4,8 +4,8 @@ use super::bucket::{BUCKET, bucket_of, bucket_refusal};
 use super::given::{
     NamedLog, has_log_key, is_given, named_log, text_if_given, text_of, usage_error,
 };
-use super::table::{Kind, Word, Words};
-use super::{EITHER_KEY, WordsFault, texts};
+use super::table::{Group, Kind, Word, Words};
+use super::{EITHER_KEY, THREADS, WordsFault, texts};
 use crate::in_bucket::AppendToOptions;
 use crate::job::Job;
 use clap::ArgMatches;
@@ -30,23 +30,29 @@ const OF_A_FOLDER: &str =
 const BATCH: u64 = 65_536;
 
 /// The words of a log and its key.
-pub(super) const LOG: &[Word] = words![
-    "origin" "NAME" Kind::RequiredText => "The name of the log, a key's name";
-    "secret" "SECRET" Kind::Text => "The secret of the log's demonstration key";
-    "key" "FILE" Kind::Path => "The file with the log's private key";
-];
+pub(super) const LOG: Group = Group {
+    heading: "The log",
+    words: words![
+        "origin" "NAME" Kind::RequiredText => "The name of the log, a key's name";
+        "secret" "SECRET" Kind::Text => "The secret of its demonstration key";
+        "key" "FILE" Kind::Path => "The file with its private key";
+    ],
+};
 
 const BUILD: Words = Words {
     name: "build",
-    about: "Prints what a static mirror of the log of the lines of standard input serves",
+    about: "Builds the log of the lines of standard input",
     after_help: texts::BUILD,
-    words: &[
+    groups: &[
         LOG,
-        words![
-            "get" "PATH" Kind::Text => "Print the resource with this path";
-            "dir" "DIR" Kind::Path => "Write the mirror into this folder";
-            "threads" "N" Kind::Short => "How many threads hash at once";
-        ],
+        Group {
+            heading: "What is built",
+            words: words![
+                "get" "PATH" Kind::Text => "Print the resource with this path";
+                "dir" "DIR" Kind::Path => "Write the log into this folder";
+                "threads" "N" Kind::Short => THREADS;
+            ],
+        },
         BUCKET,
     ],
 };
@@ -60,15 +66,19 @@ const APPEND: Words = Words {
     name: "append",
     about: "Appends the lines of standard input to the log in a folder or a bucket",
     after_help: texts::APPEND,
-    words: &[
+    groups: &[
         LOG,
-        words![
-            "dir" "DIR" Kind::Path => "The folder of the log";
-            "new" "" Kind::Flag => "Begin a log, where none may be yet";
-            "batch" "N" Kind::Number(1, 0xFFFF_FFFF) => "Publish after each N entries, too";
-            "older" "" Kind::Flag => "Go on from a checkpoint that is older than one that was there";
-            "keep-partials" "" Kind::Flag => "Leave partial tiles that full ones have replaced";
-        ],
+        Group {
+            heading: "Where it is, and how it grows",
+            words: words![
+                "dir" "DIR" Kind::Path => "The folder of the log";
+                "new" "" Kind::Flag => "Begin a log; none may be there";
+                "batch" "N" Kind::Number(1, 0xFFFF_FFFF)
+                    => "Publish after each N entries (in a bucket: 65536)";
+                "older" "" Kind::Flag => "Go on from an older checkpoint than was there";
+                "keep-partials" "" Kind::Flag => "Keep partial tiles that full ones replace";
+            ],
+        },
         BUCKET,
     ],
 };

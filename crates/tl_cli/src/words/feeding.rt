@@ -1,8 +1,8 @@
 //! The words of the command `feed`.
 
-use super::fetching::{fetch_options, log_refusal, name_of};
+use super::fetching::{FROM, TIMEOUT_OF_ONE, fetch_options, log_refusal, name_of};
 use super::given::{count_given, texts_of, usage_error};
-use super::table::{Kind, Word, Words};
+use super::table::{Group, Kind, Word, Words};
 use super::{LOG_KEYS, WITNESS_KEY, WordsFault, texts};
 use crate::job::Job;
 use clap::ArgMatches;
@@ -15,18 +15,28 @@ const PAIRS: &str =
 
 const FEED: Words = Words {
     name: "feed",
-    about: "Brings a log's checkpoint before witnesses, and prints it as they cosigned it",
+    about: "Has witnesses cosign a log's checkpoint, and prints it",
     after_help: texts::FEED,
-    words: &[words![
-        "from" "FROM" Kind::RequiredText
-            => "The folder of the log, or its address, http://HOST[:PORT][/PATH]";
-        "key" "VKEY" Kind::RequiredTexts => LOG_KEYS;
-        "to" "URL" Kind::Texts => "The address of a witness, http://HOST[:PORT][/PATH]";
-        "witness" "VKEY" Kind::Texts => WITNESS_KEY;
-        "need" "N" Kind::Number(0, u64::MAX) => "How many of the witnesses must cosign";
-        "state" "FILE" Kind::Path => "The file with the checkpoint that was trusted last";
-        "timeout" "N" Kind::Number(1, 86_400) => "How many seconds one answer may take";
-    ]],
+    groups: &[
+        Group {
+            heading: "The log",
+            words: words![
+                "from" "FROM" Kind::RequiredText => FROM;
+                "key" "VKEY" Kind::RequiredTexts => LOG_KEYS;
+                "state" "FILE" Kind::Path => "The checkpoint that was trusted last";
+            ],
+        },
+        Group {
+            heading: "Witnesses",
+            words: words![
+                "to" "URL" Kind::Texts => "The address of one, http://HOST[:PORT][/PATH]";
+                "witness" "VKEY" Kind::Texts => WITNESS_KEY;
+                "need" "N" Kind::Number(0, u64::MAX)
+                    => "How many of them must cosign (default: all)";
+                "timeout" "N" Kind::Number(1, 86_400) => TIMEOUT_OF_ONE;
+            ],
+        },
+    ],
 };
 
 /// The words of `feed`.

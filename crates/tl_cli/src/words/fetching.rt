@@ -1,7 +1,7 @@
 //! The words of the command `fetch`.
 
 use super::given::{count_given, text_if_given, text_of, texts_of, usage_error};
-use super::table::{Kind, Word, Words};
+use super::table::{Group, Kind, Word, Words};
 use super::{LOG_KEYS, TIMEOUT, WITNESS_KEY, WordsFault, texts};
 use crate::job::Job;
 use clap::ArgMatches;
@@ -15,26 +15,47 @@ const ONE_WANTED: &str =
 /// What is said where more cosignatures are needed than there are witnesses.
 pub(super) const FEWER: &str = "--need is at most the number of witnesses";
 
+/// The help of the option that says where a log is read from.
+pub(super) const FROM: &str = "Its folder, or http://HOST[:PORT][/PATH]";
+
+/// The help of the option that says how long one answer may take.
+pub(super) const TIMEOUT_OF_ONE: &str = "Seconds that one answer may take (default: 10)";
+
 const FETCH: Words = Words {
     name: "fetch",
-    about: "Prints what a log has that isn't trusted, once it is checked",
+    about: "Prints what a log has, once it is checked; nobody is trusted",
     after_help: texts::FETCH,
-    words: &[words![
-        "from" "FROM" Kind::RequiredText
-            => "The folder of the log, or its address, http://HOST[:PORT][/PATH]";
-        "key" "VKEY" Kind::RequiredTexts => LOG_KEYS;
-        "witness" "VKEY" Kind::Texts => WITNESS_KEY;
-        "need" "N" Kind::Number(0, u64::MAX) => "How many of the witnesses must have cosigned";
-        "state" "FILE" Kind::Path => "The file with the checkpoint that was trusted last";
-        "cache" "DIR" Kind::Path => "The folder where tiles are kept that were checked";
-        "timeout" "N" Kind::Number(1, 86_400) => "How many seconds one answer may take";
-        "threads" "N" Kind::Few => "How many requests to a host are in flight at once";
-        "head" "" Kind::Flag => "Print the log's name, size and root";
-        "index" "N" Kind::Number(0, u64::MAX) => "Print the entry with this index";
-        "raw" "" Kind::Flag => "With --index: print the entry's bytes and nothing else";
-        "all" "" Kind::Flag => "Print every entry that wasn't printed with this state yet";
-        "prove" "N" Kind::Number(0, u64::MAX) => "Print the inclusion proof of this entry";
-    ]],
+    groups: &[
+        Group {
+            heading: "Whose log, and who is trusted",
+            words: words![
+                "from" "FROM" Kind::RequiredText => FROM;
+                "key" "VKEY" Kind::RequiredTexts => LOG_KEYS;
+                "witness" "VKEY" Kind::Texts => WITNESS_KEY;
+                "need" "N" Kind::Number(0, u64::MAX)
+                    => "How many witnesses must have cosigned (default: all)";
+                "state" "FILE" Kind::Path => "The checkpoint that was trusted last";
+            ],
+        },
+        Group {
+            heading: "What is wanted, one of these",
+            words: words![
+                "head" "" Kind::Flag => "Print the log's name, size and root";
+                "index" "N" Kind::Number(0, u64::MAX) => "Print the entry with this index";
+                "raw" "" Kind::Flag => "With --index: its bytes, and no newline";
+                "all" "" Kind::Flag => "Print every entry that wasn't printed yet";
+                "prove" "N" Kind::Number(0, u64::MAX) => "Print the inclusion proof of an entry";
+            ],
+        },
+        Group {
+            heading: "How it is fetched",
+            words: words![
+                "cache" "DIR" Kind::Path => "The folder where checked tiles are kept";
+                "timeout" "N" Kind::Number(1, 86_400) => TIMEOUT_OF_ONE;
+                "threads" "N" Kind::Few => "Requests in flight at once (default: 8)";
+            ],
+        },
+    ],
 };
 
 /// The words of `fetch`.

@@ -1,6 +1,6 @@
 //! What was given of the words of a command.
 
-use super::table::{Words, command_of};
+use super::table::{Words, command_named};
 use super::{WordsFault, fault_of};
 use clap::ArgMatches;
 use clap::error::ErrorKind;
@@ -14,7 +14,10 @@ pub(super) fn no_word(alloc: Global) -> WordsFault {
 
 /// The fault of words that don't go together, with the usage of their command.
 pub(super) fn usage_error(alloc: Global, row: &Words, why: &str) -> WordsFault {
-    let Ok(mut command) = command_of(alloc, row) else {
+    let Ok(name) = format!(in alloc; "tlog {}", row.name) else {
+        return WordsFault::OutOfMemory;
+    };
+    let Ok(mut command) = command_named(alloc, name.as_str(), row) else {
         return WordsFault::OutOfMemory;
     };
     match command.error(ErrorKind::MissingRequiredArgument, why) {

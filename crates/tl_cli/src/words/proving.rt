@@ -1,8 +1,8 @@
 //! The words of the commands on proofs, audits, notes and keys.
 
 use super::given::{is_given, text_if_given, text_of, usage_error};
-use super::table::{Kind, Word, Words};
-use super::{LOG_KEY, WordsFault, texts};
+use super::table::{Group, Kind, Word, Words};
+use super::{LOG_KEY, THREADS, WordsFault, texts};
 use crate::job::{Job, KeyFileOptions};
 use clap::ArgMatches;
 use std::alloc::Global;
@@ -16,12 +16,15 @@ const ONE_CHECK: &str = "--fork is given alone, and one of --entry and --entry-f
 
 const HEAD: Words = Words {
     name: "head",
-    about: "Prints the checkpoint of the log whose entries are the lines of standard input",
+    about: "Prints the checkpoint of the log of the lines of standard input",
     after_help: texts::HEAD,
-    words: &[words![
-        "origin" "NAME" Kind::RequiredText => "The name of the log, one line that isn't empty";
-        "threads" "N" Kind::Short => "How many threads hash at once";
-    ]],
+    groups: &[Group {
+        heading: "Options",
+        words: words![
+            "origin" "NAME" Kind::RequiredText => "The name of the log, one line that isn't empty";
+            "threads" "N" Kind::Short => THREADS;
+        ],
+    }],
 };
 
 /// The words of `head`.
@@ -33,10 +36,13 @@ const INCLUSION: Words = Words {
     name: "inclusion",
     about: "Prints the inclusion proof of a line of standard input",
     after_help: texts::INCLUSION,
-    words: &[words![
-        "index" "N" Kind::RequiredNumber => "The place of the line, counted from 0";
-        "threads" "N" Kind::Short => "How many threads hash at once";
-    ]],
+    groups: &[Group {
+        heading: "Options",
+        words: words![
+            "index" "N" Kind::RequiredNumber => "The place of the line, counted from 0";
+            "threads" "N" Kind::Short => THREADS;
+        ],
+    }],
 };
 
 /// The words of `inclusion`.
@@ -46,12 +52,15 @@ pub(super) fn inclusion() -> &'static Words {
 
 const CONSISTENCY: Words = Words {
     name: "consistency",
-    about: "Prints the consistency proof from the first lines of standard input to all of them",
+    about: "Prints the proof that the first lines of standard input begin them all",
     after_help: texts::CONSISTENCY,
-    words: &[words![
-        "old" "N" Kind::RequiredNumber => "The number of the first lines";
-        "threads" "N" Kind::Short => "How many threads hash at once";
-    ]],
+    groups: &[Group {
+        heading: "Options",
+        words: words![
+            "old" "N" Kind::RequiredNumber => "The number of the first lines";
+            "threads" "N" Kind::Short => THREADS;
+        ],
+    }],
 };
 
 /// The words of `consistency`.
@@ -61,15 +70,25 @@ pub(super) fn consistency() -> &'static Words {
 
 const CHECK: Words = Words {
     name: "check",
-    about: "Says whether the proof on standard input is accepted",
+    about: "Checks a proof, or evidence that a log forked",
     after_help: texts::CHECK,
-    words: &[words![
-        "checkpoint" "FILE" Kind::Text => "The signed checkpoint that the proof is to be about";
-        "key" "VKEY" Kind::Text => LOG_KEY;
-        "entry" "TEXT" Kind::Text => "The entry that the proof is to show";
-        "entry-file" "FILE" Kind::Path => "The file with that entry's bytes";
-        "fork" "VKEY" Kind::Text => "Check evidence against the log with this verifier key";
-    ]],
+    groups: &[
+        Group {
+            heading: "A proof under a checkpoint",
+            words: words![
+                "checkpoint" "FILE" Kind::Text => "The signed checkpoint";
+                "key" "VKEY" Kind::Text => LOG_KEY;
+                "entry" "TEXT" Kind::Text => "The entry that the proof is to show";
+                "entry-file" "FILE" Kind::Path => "The file with that entry's bytes";
+            ],
+        },
+        Group {
+            heading: "Evidence that a log forked",
+            words: words![
+                "fork" "VKEY" Kind::Text => LOG_KEY;
+            ],
+        },
+    ],
 };
 
 /// The words of `check`.
@@ -81,11 +100,14 @@ const KEYGEN: Words = Words {
     name: "keygen",
     about: "Makes a key from the system's random bytes",
     after_help: texts::KEYGEN,
-    words: &[words![
-        "name" "NAME" Kind::RequiredText => "The key's name";
-        "cosigner" "" Kind::Flag => "Make a key of a witness, which cosigns checkpoints";
-        "out" "FILE" Kind::Path => "Write the private key to FILE, the verifier key to FILE.pub";
-    ]],
+    groups: &[Group {
+        heading: "Options",
+        words: words![
+            "name" "NAME" Kind::RequiredText => "The key's name";
+            "cosigner" "" Kind::Flag => "Make a key of a witness, which cosigns checkpoints";
+            "out" "FILE" Kind::Path => "Write the keys to FILE and FILE.pub";
+        ],
+    }],
 };
 
 /// The words of `keygen`.
@@ -95,11 +117,14 @@ pub(super) fn keygen() -> &'static Words {
 
 const OPEN: Words = Words {
     name: "open",
-    about: "Prints the text of the note on standard input, where it opens",
+    about: "Prints the text of the signed note on standard input, if it opens",
     after_help: texts::OPEN,
-    words: &[words![
-        "key" "VKEY" Kind::RequiredText => LOG_KEY;
-    ]],
+    groups: &[Group {
+        heading: "Options",
+        words: words![
+            "key" "VKEY" Kind::RequiredText => LOG_KEY;
+        ],
+    }],
 };
 
 /// The words of `open`.
@@ -109,9 +134,9 @@ pub(super) fn open() -> &'static Words {
 
 const AUDIT: Words = Words {
     name: "audit",
-    about: "Says whether one list on standard input extends another by an accepted proof",
+    about: "Checks that one list on standard input extends another",
     after_help: texts::AUDIT,
-    words: &[],
+    groups: &[],
 };
 
 /// The words of `audit`.

@@ -7,7 +7,7 @@ use super::given::{
     NamedLog, count_given, has_log_key, is_given, named_log, no_word, text_if_given, text_of,
     usage_error,
 };
-use super::table::{Kind, Word, Words};
+use super::table::{Group, Kind, Word, Words};
 use super::{EITHER_KEY, LOG_KEY, TIMEOUT, WordsFault, texts};
 use crate::in_bucket::ServeFromOptions;
 use crate::job::Job;
@@ -73,42 +73,61 @@ const NOTHING_TO_COMPACT: &str = "--new and --compact are not given together";
 const OF_A_PLACE: &str = "--new is given with --dir or --bucket alone";
 
 // The words that the servers share.
-const SERVER: &[Word] = words![
-    "listen" "ADDRESS" Kind::RequiredText => "The address to listen at";
-    "connections" "N" Kind::Number(0, 0xFFFF_FFFF) => "End after so many connections";
-    "threads" "N" Kind::Number(1, 63) => "How many threads answer at once";
-    "timeout" "N" Kind::Number(1, 86_400) => "How many seconds one connection may take in all";
-    "clients" "N" Kind::Number(1, 1_000_000) => "How many connections are held at most at once";
-    "quiet" "" Kind::Flag => "Tell the address alone, and lines that are lost";
-];
+const SERVER: Group = Group {
+    heading: "The server",
+    words: words![
+        "listen" "ADDRESS" Kind::RequiredText => "The address to listen at";
+        "connections" "N" Kind::Number(0, 0xFFFF_FFFF)
+            => "End after so many connections (default: never)";
+        "threads" "N" Kind::Number(1, 63) => "Threads that answer (default: all processors)";
+        "timeout" "N" Kind::Number(1, 86_400) => "Seconds that a connection has (default: 10)";
+        "clients" "N" Kind::Number(1, 1_000_000)
+            => "Connections that are held at once (default: 1024)";
+        "quiet" "" Kind::Flag => "Report the address and lost lines alone";
+    ],
+};
 
 const SERVE: Words = Words {
     name: "serve",
-    about: "Serves the log whose entries are the lines of standard input",
+    about: "Serves the log of the lines of standard input, or of a folder or a bucket",
     after_help: texts::SERVE,
-    words: &[
+    groups: &[
         LOG,
-        words![
-            "lanes" "N" Kind::Number(0, u64::MAX) => "How many lanes the entries come in by";
-            "capacity" "N" Kind::Number(0, u64::MAX) => "For how many entries a lane has room";
-            "batch" "N" Kind::Number(1, 65_536) => "How many entries of a lane are taken at once";
-            "note" "NOTE" Kind::Text => "The signed checkpoint that the log goes on from";
-            "dir" "DIR" Kind::Path => "The folder of the log, which goes on from what is there";
-            "new" "" Kind::Flag => "Begin a log in the folder or bucket, where there is none yet";
-            "follow" "" Kind::Flag => "Publish lines as they come";
-            "add" "" Kind::Flag
-                => "Take entries that are posted, and answer with their places; lines as they come";
-            "interval" "MS" Kind::Number(0, 86_400_000)
-                => "How many milliseconds entries wait for more before they are published";
-            "remember" "N" Kind::Number(0, 16_777_216)
-                => "How many entries are known again when they are posted again";
-            "older" "" Kind::Flag => "Go on from a checkpoint that is older than one that was there";
-            "keep-partials" "" Kind::Flag => "Leave partial tiles that full ones have replaced";
-            "witness" "VKEY=URL" Kind::Texts => "A witness that is asked to cosign, and its address";
-            "need" "N" Kind::Number(0, u64::MAX)
-                => "How many of the witnesses must have cosigned what is shown";
-        ],
+        Group {
+            heading: "Where it is",
+            words: words![
+                "dir" "DIR" Kind::Path => "The folder of the log";
+                "new" "" Kind::Flag => "Begin a log there; none may be there";
+                "note" "NOTE" Kind::Text => "In memory: the checkpoint that it goes on from";
+                "older" "" Kind::Flag => "Go on from an older checkpoint than was there";
+                "keep-partials" "" Kind::Flag => "Keep partial tiles that full ones replace";
+            ],
+        },
         BUCKET,
+        Group {
+            heading: "How it grows",
+            words: words![
+                "follow" "" Kind::Flag => "Publish lines as they come";
+                "add" "" Kind::Flag => "Take entries that are posted, and --follow";
+                "interval" "MS" Kind::Number(0, 86_400_000)
+                    => "Wait for more so long (default: 1000 with --add, else 0)";
+                "remember" "N" Kind::Number(0, 16_777_216)
+                    => "Know so many posted entries again (default: 65536)";
+                "lanes" "N" Kind::Number(0, u64::MAX) => "Lanes that entries come by (default: 1)";
+                "capacity" "N" Kind::Number(0, u64::MAX)
+                    => "Entries that a lane has room for (default: 256)";
+                "batch" "N" Kind::Number(1, 65_536)
+                    => "Entries of a lane that are taken at once (default: 256)";
+            ],
+        },
+        Group {
+            heading: "Witnesses",
+            words: words![
+                "witness" "VKEY=URL" Kind::Texts => "One that is asked to cosign; @FILE=URL, too";
+                "need" "N" Kind::Number(0, u64::MAX)
+                    => "How many must have cosigned (default: all)";
+            ],
+        },
         SERVER,
     ],
 };
@@ -120,24 +139,32 @@ pub(super) fn serve() -> &'static Words {
 
 const WITNESS: Words = Words {
     name: "witness",
-    about: "Serves a witness, which cosigns each checkpoint of a log that extends the last one",
+    about: "Serves a witness, which cosigns each checkpoint that extends the last one",
     after_help: texts::WITNESS,
-    words: &[
-        words![
-            "origin" "NAME" Kind::Text => "The name of the log, a key's name";
-            "secret" "SECRET" Kind::Text => "The secret of the log's demonstration key";
-            "log-key" "VKEY" Kind::Text => LOG_KEY;
-            "logs" "FILE" Kind::Path => "The file of the logs, in place of one, a line for each key";
-            "name" "NAME" Kind::Text => "The name of the witness's demonstration key";
-            "witness-secret" "SECRET" Kind::Text => "The secret of that key";
-            "key" "FILE" Kind::Path => "The file with the witness's private key";
-            "time" "N" Kind::Number(0, u64::MAX)
-                => "The seconds since 1970 to cosign with, in place of the machine's clock";
-            "state" "FILE" Kind::Path
-                => "The file of what it cosigned, in place of standard input and output";
-            "new" "" Kind::Flag => "Make that file, where there is none yet";
-            "compact" "" Kind::Flag => "Keep the last line of each log in that file alone, first";
-        ],
+    groups: &[
+        Group {
+            heading: "The logs",
+            words: words![
+                "origin" "NAME" Kind::Text => "The name of the log, a key's name";
+                "secret" "SECRET" Kind::Text => "The secret of its demonstration key";
+                "log-key" "VKEY" Kind::Text => LOG_KEY;
+                "logs" "FILE" Kind::Path => "The file of many logs, a line a key";
+            ],
+        },
+        Group {
+            heading: "The witness",
+            words: words![
+                "key" "FILE" Kind::Path => "The file with its private key";
+                "name" "NAME" Kind::Text => "The name of its demonstration key";
+                "witness-secret" "SECRET" Kind::Text => "The secret of that key";
+                "state" "FILE" Kind::Path
+                    => "What it cosigned (default: the standard streams)";
+                "new" "" Kind::Flag => "Make that file; none may be there";
+                "compact" "" Kind::Flag => "First keep each log's last line alone there";
+                "time" "N" Kind::Number(0, u64::MAX)
+                    => "Seconds since 1970 to cosign with (default: the clock)";
+            ],
+        },
         SERVER,
     ],
 };

@@ -40,12 +40,18 @@ pub(super) struct Word {
     pub(super) help: &'static str,
 }
 
+/// The words of a subject, under the heading that help has for them.
+pub(super) struct Group {
+    pub(super) heading: &'static str,
+    pub(super) words: &'static [Word],
+}
+
 /// A command: its name, what help says of it, and its words, by subjects.
 pub(super) struct Words {
     pub(super) name: &'static str,
     pub(super) about: &'static str,
     pub(super) after_help: &'static str,
-    pub(super) words: &'static [&'static [Word]],
+    pub(super) groups: &'static [Group],
 }
 
 // Whether a word has to be given.
@@ -78,10 +84,11 @@ fn parser_of<'a>(kind: Kind) -> ValueParser<'a> {
 }
 
 // A word as an argument.
-fn argument<'a>(alloc: Global, word: &Word) -> Arg<'a> {
+fn argument<'a>(alloc: Global, heading: &'static str, word: &Word) -> Arg<'a> {
     let arg = Arg::new(alloc, word.name)
         .long(word.name)
         .help(word.help)
+        .help_heading(heading)
         .action(action_of(word.kind));
     if matches!(word.kind, Kind::Flag) {
         return arg;
@@ -91,26 +98,35 @@ fn argument<'a>(alloc: Global, word: &Word) -> Arg<'a> {
         .required(is_required(word.kind))
 }
 
-// The command with these words, too.
-fn with_words<'a>(
+// The command with the words of a group, too.
+fn with_group<'a>(
     alloc: Global,
     command: Command<'a>,
-    words: &[Word],
+    group: &Group,
 ) -> Result<Command<'a>, AllocError> {
     let mut command = command;
-    for word in words {
-        command = command.arg(argument(alloc, word))?;
+    for word in group.words {
+        command = command.arg(argument(alloc, group.heading, word))?;
+    }
+    Ok(command)
+}
+
+/// A command with all its words, under this name.
+pub(super) fn command_named<'a>(
+    alloc: Global,
+    name: &'a str,
+    row: &Words,
+) -> Result<Command<'a>, AllocError> {
+    let mut command = Command::new(alloc, name)
+        .about(row.about)
+        .after_help(row.after_help);
+    for group in row.groups {
+        command = with_group(alloc, command, group)?;
     }
     Ok(command)
 }
 
 /// A command with all its words.
 pub(super) fn command_of<'a>(alloc: Global, row: &Words) -> Result<Command<'a>, AllocError> {
-    let mut command = Command::new(alloc, row.name)
-        .about(row.about)
-        .after_help(row.after_help);
-    for words in row.words {
-        command = with_words(alloc, command, words)?;
-    }
-    Ok(command)
+    command_named(alloc, row.name, row)
 }

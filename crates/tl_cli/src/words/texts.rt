@@ -1,170 +1,263 @@
-//! What the program says of its commands where it is called for help.
+//! What the program prints about its commands when it is called for help, in at most 80 columns.
 
 pub(super) const STATUSES: &str =
-    "Exit status: 0 done; 1 refused; 2 wrong arguments or a call for help; 3 a device failed; 4 a log forked.
-A refusal is one line 'tlog: ..' on standard error.";
+    "'tlog help COMMAND' prints what a command reads and prints, and an example.
+
+Exit status: 0 done; 1 refused; 2 wrong arguments or a call for help; 3 a device
+failed; 4 a log forked. A refusal is one line 'tlog: ..' on standard error.";
 
 pub(super) const HEAD: &str =
-    "Input: the entries of the log, one a line, at most 64 MiB in all and 65,535 bytes a line. A last line without
-a newline counts if it isn't empty.
-Output: the text of the checkpoint (C2SP tlog-checkpoint): the origin, the number of entries and their Merkle tree
-hash (RFC 6962) in base64, each on a line.
---threads: how many threads hash at once; without it, as many as the machine has. The output is the same.
-Exit status: 0 done; 1 refused (input too large, an entry too long, a bad origin, out of memory); 2 wrong arguments
-or a call for help; 3 a read or a write failed. A refusal is one line 'tlog: ..' on standard error.";
+    "Input: the entries of the log, one a line, at most 64 MiB in all and 65,535
+bytes a line. A last line without a newline counts if it isn't empty.
 
-pub(super) const BUILD: &str = "Input: the entries of the log, one a line, as for 'tlog head'.
-Output: a line 'PATH LENGTH' for each resource of the log (C2SP tlog-tiles): its tiles of hashes, its entry bundles and
-its checkpoint. With --get the bytes of the resource with that path. With --dir all of them are written into a folder in
-which there is no log yet, as by 'tlog append', with --bucket into a bucket, and the output is 'SIZE ROOT'. The
-checkpoint is a signed note: with --key by the private key in that file, as 'tlog keygen' prints it, whose name is the
-origin; with --secret by a key for demonstrations alone, HMAC with SHA-256 under the secret. One of the two is given.
---threads: how many threads hash at once for the checkpoint; without it, as many as the machine has. The output is the
-same.
-Exit status: 0 done; 1 refused (a bad key, a bad origin, no such path, not there, input too large, an entry too long,
-out of memory); 2 wrong arguments or a call for help; 3 a read or a write failed. A refusal is one line 'tlog: ..' on
-standard error.";
+Output: the text of the checkpoint (C2SP tlog-checkpoint), a line each: the
+origin, the number of entries, and their Merkle tree hash (RFC 6962) in base64.
+
+Exit status: 0 done; 1 refused (input too large, an entry too long, a bad
+origin, out of memory); 2 wrong arguments or a call for help; 3 a read or a
+write failed.
+
+Example: tlog head --origin example.com/log < list";
+
+pub(super) const BUILD: &str =
+    "Input: the entries of the log, one a line, as for 'tlog head'.
+
+Output: a line 'PATH LENGTH' for each resource of the log (C2SP tlog-tiles): its
+tiles, its entry bundles and its checkpoint. With --get the bytes of one
+resource. With --dir or --bucket all of them are written there, where no log may
+be yet, and the output is 'SIZE ROOT'.
+
+The checkpoint is a signed note. --key is the file of the private key, as
+'tlog keygen' prints it; its name is the origin. --secret is for demonstrations:
+it signs by HMAC with SHA-256. One of the two is given.
+
+Exit status: 0 done; 1 refused (a bad key, a bad origin, no such path, not
+there, a log there already, input too large, an entry too long, out of memory);
+2 wrong arguments or a call for help; 3 a read or a write failed.
+
+Example: tlog build --origin example.com/log --key key --dir log < list";
 
 pub(super) const APPEND: &str =
-    "Input: entries, one a line, each of at most 65,535 bytes. A last line without a newline
-counts if it isn't empty. The input has no limit.
-Appends them to the log in the folder, which has to be there: with --new a log begins, and none may be there yet. Its
-files are the log's resources (C2SP tlog-tiles), which any web server can serve. It is published after each N entries of --batch, and at the end: the tiles
-and bundles are written first and the checkpoint after them, so that a crash at any moment leaves a checkpoint with all
-that it needs. Run again, it goes on from there; where the folder says that more entries were published than its
-checkpoint has, only with --older, which says that nobody has seen what came after. A partial tile or bundle is removed
-once the full one and the one behind it are there, unless --keep-partials is given. One process at a time works on a
-folder.
-With --bucket the log is in a bucket of a store of the S3 kind, under that address and prefix, by requests that are
-signed for --region with the key in the file of --credentials, its name and its secret on a line each, or else in the
-environment, AWS_ACCESS_KEY_ID and AWS_SECRET_ACCESS_KEY. It is published after each 65,536 entries where --batch is
-left out, and nothing is removed. Several may append to one bucket: entries are committed first, and who comes second
-ends ('another operator has appended') and can be started again. What another one began is finished first.
-Output: 'SIZE ROOT' for each publication, once it outlasts a crash. The checkpoint is signed as by 'tlog build'.
-Exit status: 0 done; 1 refused (no log there, or one with --new, a bad key, a bad origin, a bad checkpoint, an older
-one, a bundle not there, an entry too long, in use, the operator refused, signing failed, out of memory); 2 wrong
-arguments or a call for help; 3 a read or a write failed. A refusal is one line 'tlog: ..' on standard error.";
+    "Input: entries, one a line, each of at most 65,535 bytes. The input has no
+limit. A last line without a newline counts if it isn't empty.
 
-pub(super) const INCLUSION: &str = "Input: the entries of the log, one a line, as for 'tlog head'.
-Output: lines 'inclusion', 'index I', 'size N', 'leaf HASH', 'root HASH', and the hashes of the proof (RFC 6962,
-section 2.1.1), one a line, the one nearest to the leaf first. Hashes are in base64. 'tlog check' reads it.
---threads: how many threads hash at once; without it, as many as the machine has. The output is the same.
-Exit status: 0 done; 1 refused (no line at the index, input too large, an entry too long, out of memory); 2 wrong
-arguments or a call for help; 3 a read or a write failed. A refusal is one line 'tlog: ..' on standard error.";
+Appends them to the log in a folder or a bucket. The log has to be there; with
+--new it begins, and none may be there. Its files are the log's resources (C2SP
+tlog-tiles), which any web server can serve. It is published after each N
+entries of --batch, and at the end: tiles and bundles are written before the
+checkpoint, so a crash at any moment leaves a checkpoint with all that it needs.
+Run again, it goes on from there. If the folder says that more entries were
+published than its checkpoint has, it goes on only with --older, which says that
+nobody saw what came after. One process at a time works on a folder.
 
-pub(super) const CONSISTENCY: &str = "Input: the entries of the log, one a line, as for 'tlog head'.
-Output: lines 'consistency', 'old M', 'oldroot HASH', 'size N', 'root HASH', and the hashes of the proof (RFC 6962,
-section 2.1.2), one a line. Hashes are in base64. From 0 lines the proof is empty. 'tlog check' reads it.
---threads: how many threads hash at once; without it, as many as the machine has. The output is the same.
-Exit status: 0 done; 1 refused (fewer lines than N, input too large, an entry too long, out of memory); 2 wrong
-arguments or a call for help; 3 a read or a write failed. A refusal is one line 'tlog: ..' on standard error.";
+In a bucket, of a store of the S3 kind, requests are signed with the key in the
+file of --credentials, its name and its secret on a line each, or in
+AWS_ACCESS_KEY_ID and AWS_SECRET_ACCESS_KEY. Several may append to one bucket:
+who comes second ends ('another operator has appended'), and can start again.
+
+Output: 'SIZE ROOT' for each publication, once it outlasts a crash.
+
+Exit status: 0 done; 1 refused (no log there, or one with --new, a bad key, a
+bad origin, a bad checkpoint, an older one, a bundle not there, an entry too
+long, in use, the operator refused, signing failed, out of memory); 2 wrong
+arguments or a call for help; 3 a read or a write failed.
+
+Example: tlog append --origin example.com/log --key key --dir log --new < list";
+
+pub(super) const INCLUSION: &str =
+    "Input: the entries of the log, one a line, as for 'tlog head'.
+
+Output: lines 'inclusion', 'index I', 'size N', 'leaf HASH', 'root HASH', and
+the hashes of the proof (RFC 6962, section 2.1.1), one a line, the one nearest
+to the leaf first. Hashes are in base64. 'tlog check' reads it.
+
+Exit status: 0 done; 1 refused (no line at the index, input too large, an entry
+too long, out of memory); 2 wrong arguments or a call for help; 3 a read or a
+write failed.
+
+Example: tlog inclusion --index 1 < list | tlog check";
+
+pub(super) const CONSISTENCY: &str =
+    "Input: the entries of the log, one a line, as for 'tlog head'.
+
+Output: lines 'consistency', 'old M', 'oldroot HASH', 'size N', 'root HASH', and
+the hashes of the proof (RFC 6962, section 2.1.2), one a line. Hashes are in
+base64. From 0 lines the proof is empty. 'tlog check' reads it.
+
+Exit status: 0 done; 1 refused (fewer lines than N, input too large, an entry
+too long, out of memory); 2 wrong arguments or a call for help; 3 a read or a
+write failed.
+
+Example: tlog consistency --old 2 < list | tlog check";
 
 pub(super) const CHECK: &str =
-    "Input: the text of a proof, as 'tlog inclusion' and 'tlog consistency' print it.
-Output: 'accepted' where the proof is accepted under SHA-256 (RFC 6962, sections 2.1.1 and 2.1.2), else 'refused'.
-With --checkpoint and --key only where it is about the tree of the signed checkpoint in that file, of a consistency
-proof the new one; the checkpoint is opened first, as by 'tlog open'. With --entry only where it is an inclusion proof
-of that line. Without them 'accepted' says that the proof is right in itself, and not whose root it has.
-Exit status: 0 accepted; 1 refused, or no such text, or no checkpoint that opens, or out of memory; 2 wrong arguments
-or a call for help; 3 a read or a write failed.";
+    "Input: the text of a proof, as 'tlog inclusion' and 'tlog consistency' print it;
+with --fork the evidence that 'tlog fetch' prints if a log forked.
+
+Output: 'accepted' if the proof is accepted under SHA-256 (RFC 6962, sections
+2.1.1 and 2.1.2), else 'refused'. With --checkpoint and --key only if it is
+about the tree of that signed checkpoint, of a consistency proof the new one.
+With an entry only if it is an inclusion proof of it. Without them 'accepted'
+says that the proof is right in itself, and not whose root it has.
+
+With --fork: 'fork of ORIGIN' if the input is two checkpoints that the key
+signed, and, if their sizes differ, an accepted consistency proof to the larger
+one from another root than the smaller one's; else 'refused'.
+
+Exit status: 0 accepted, or a fork; 1 refused, or no such text, or no checkpoint
+that opens, or out of memory; 2 wrong arguments or a call for help; 3 a read or
+a write failed.
+
+Example: tlog check --checkpoint cp --key @key.pub --entry 'a dog' < proof";
 
 pub(super) const KEYGEN: &str =
-    "Output: on standard output the text of the private key, which is to be kept secret, and on standard error that of
-the verifier key, which all may know (C2SP signed-note; RFC 8032), a line each.
-Exit status: 0 done; 1 refused (a name that is empty or has white space or '+', out of memory); 2 wrong arguments or a
-call for help; 3 no random bytes, or a write failed. A refusal is one line 'tlog: ..' on standard error.";
+    "Output: on standard output the text of the private key, which is to be kept
+secret, and on standard error that of the verifier key, which all may know (C2SP
+signed-note; RFC 8032), a line each. With --out nothing is printed: the private
+key goes to FILE, which its owner alone may read, and the verifier key to
+FILE.pub. Neither may be there. Commands take the verifier key as @FILE.pub.
+
+Exit status: 0 done; 1 refused (a name that is empty or has white space or '+',
+a file there already, out of memory); 2 wrong arguments or a call for help; 3 no
+random bytes, or a write failed.
+
+Example: tlog keygen --name example.com/log --out key";
 
 pub(super) const OPEN: &str =
     "Input: a note, such as a signed checkpoint (C2SP signed-note, tlog-checkpoint).
-Output: its text, where a line of it is of the key, and the first such line is valid.
-Exit status: 0 it opens; 1 refused (a bad key, malformed input, no known signature, signature K wrong, counted from 0,
-input too large, out of memory); 2 wrong arguments or a call for help; 3 a read or a write failed. A refusal is one
-line 'tlog: ..' on standard error.";
+
+Output: its text, if a line of it is of the key, and the first such line is
+valid.
+
+Exit status: 0 it opens; 1 refused (a bad key, malformed input, no known
+signature, signature K wrong, counted from 0, input too large, out of memory); 2
+wrong arguments or a call for help; 3 a read or a write failed.
+
+Example: tlog open --key @key.pub < checkpoint";
 
 pub(super) const AUDIT: &str =
-    "Input: lines 'old M', M entries, 'new N', N entries, and the hashes of a consistency proof (RFC 6962, section 2.1.2)
-from the first list to the second in base64, one a line.
-Output: 'extends' where the proof is accepted under SHA-256 and the first list is a prefix of the second; else
-'not accepted', or 'collision' and in hexadecimal two different byte strings with one SHA-256, a line each.
-Exit status: 0 extends; 1 another answer, no such text, or out of memory; 2 wrong arguments or a call for help; 3 a
-read or a write failed.";
+    "Input: lines 'old M', M entries, 'new N', N entries, and the hashes of a
+consistency proof (RFC 6962, section 2.1.2) from the first list to the second in
+base64, one a line.
+
+Output: 'extends' if the proof is accepted under SHA-256 and the first list is a
+prefix of the second; else 'not accepted', or 'collision' and in hexadecimal two
+different byte strings with one SHA-256, a line each.
+
+Exit status: 0 extends; 1 another answer, no such text, or out of memory; 2
+wrong arguments or a call for help; 3 a read or a write failed.
+
+Example: printf 'old 0\\nnew 1\\na cat\\n' | tlog audit";
 
 pub(super) const SERVE: &str =
-    "Input: the entries of the log, one a line, as for 'tlog head'. With --follow they are published as they come, and
-the input has no limit: a line that is too long is left out, which 'line N too long' tells, and 'input ended' tells
-its end.
-Serves the log over HTTP (C2SP tlog-tiles, tlog-checkpoint): 'listening ADDRESS' on standard error says where, and a
-line more each publication, 'published SIZE ROOT', the end, 'closed SIZE', and before a refusal how many lines aren't
-in the log, 'lines not published: N'. Checkpoints are signed as those of 'tlog build'. With --note the first lines are
-the entries of that signed checkpoint, and the log goes on from it. With --dir the log is in that folder, as that of
-'tlog append', and goes on from what is there (with --older and --keep-partials as there): requests are answered with
-the folder's files, and a publication is shown once it outlasts a crash. With --bucket the log is in a bucket, as that
-of 'tlog append', and requests are answered with what is there.
-With --add an entry, of at most 65,535 bytes, is posted to /add, and answered with its index in decimal, once it is
-published and was seen to stand there. One of the last N of --remember that is posted again has its first index. What
-comes waits for more until it has waited --interval milliseconds, or a batch is there.
-With --witness, which may be given several times, each checkpoint is kept in the folder as a proposal and sent to the
-witness (C2SP tlog-witness), and shown once --need of them have cosigned it (all, where --need is left out), with their
-lines. Why one hasn't is told, 'witness NAME: ..', and it is asked again 1 to 60 seconds later. Nothing is shown
-meanwhile, and a start goes on from what was proposed.
-Defaults: --lanes 1, --capacity 256, --batch 256, --timeout 10, --clients 1024, --interval 1000 with --add and else 0,
---remember 65536, as many threads as the machine has processors, and any number of connections.
-Exit status: 0 done; 1 refused (a bad key, a bad origin, input too large, an entry too long, fewer lines than the note's
-size, a bad checkpoint, an older one, a bundle not there, in use, a bundle damaged, the operator refused,
-signing failed, out of memory); 2 wrong arguments or a call for help; 3 a read, a write, the address or an accept
-failed. A refusal is one line 'tlog: ..' on standard error.";
+    "Input: the entries of the log, one a line, as for 'tlog head'. With --follow or
+--add they are published as they come, and the input has no limit: a line that
+is too long is left out ('line N too long'), and its end is reported ('input
+ended').
+
+Serves the log over HTTP (C2SP tlog-tiles, tlog-checkpoint). Standard error has
+a line 'listening ADDRESS', and one for each publication, 'published SIZE ROOT',
+for the end, 'closed SIZE', and before a refusal for the lines that aren't in
+the log, 'lines not published: N'. With --note the first lines are the entries
+of that signed checkpoint. With --dir or --bucket the log is there, as that of
+'tlog append': it has to be, or with --new it begins. Requests are answered with
+what is there, and a publication is shown once it outlasts a crash.
+
+With --add an entry of at most 65,535 bytes is posted to /add, and answered with
+its index, once it is published. One that isn't published a second before the
+time of its connection is over is answered 503, and can be posted again: one of
+the last N of --remember has its first index.
+
+With --witness each checkpoint is kept in the folder as a proposal, sent to the
+witness (C2SP tlog-witness), and shown once --need of them have cosigned it.
+Until then what was shown before stays. Why a witness hasn't cosigned is
+reported, 'witness NAME: ..', and it is asked again 1 to 60 seconds later.
+
+Exit status: 0 done; 1 refused (no log there, or one with --new, a bad key, a
+bad origin, input too large, an entry too long, fewer lines than the note's
+size, a bad checkpoint, an older one, a bundle not there or damaged, in use, the
+operator refused, signing failed, out of memory); 2 wrong arguments or a call
+for help; 3 a read, a write, the address or an accept failed.
+
+Example: tlog serve --origin example.com/log --key key --dir log --new --add \\
+             --listen 127.0.0.1:8080";
 
 pub(super) const WITNESS: &str =
-    "Input: what an earlier run printed, a line for each checkpoint that it cosigned.
-Serves a witness of one log, or of many, over HTTP (C2SP tlog-witness, tlog-cosignature): 'listening ADDRESS' on
-standard error says where. Output: a line for each new checkpoint that it cosigns, before it answers: size, root, the
-hashes of the proof from the one before, and the log's name. One log, --origin, is known by --log-key or, for
-demonstrations, by --secret. With --logs the logs are those of that file, a line for each key: the text of a verifier
-key, for the log of its name, or a log's name, a space and that text. Empty lines and those that begin with '#' are
-passed over, and so are lines of the input of logs that aren't in the file. It is read once, at the start. The witness
-cosigns by the private key in the file of --key, as 'tlog keygen --cosigner' prints it, or, for demonstrations, by
---name and --witness-secret. With --state those lines are read from that file, and each is written to it, and outlasts
-a crash, before the answer. With --compact that file is first replaced, as a whole, by one line of each log, also of
-those that aren't in the file of the logs, from size 0 to its last size: 'compacted BYTES to BYTES' on standard error.
-Defaults: --timeout 10, --clients 1024, as many threads as the machine has processors, any number of connections, and
-the machine's clock for the time of a cosignature.
-Exit status: 0 done; 1 refused (a bad key, a bad origin, a bad name, line K of the logs malformed or with a key again,
-line K of the input refused, each counted from 0, in use, out of memory); 2 wrong arguments or a call for help; 3 a
-read, a write, the address or an accept failed. A refusal is one line 'tlog: ..' on standard error.";
+    "Input: what an earlier run printed, a line for each checkpoint that it cosigned;
+with --state it is in that file.
+
+Serves a witness of one log, or of many, over HTTP (C2SP tlog-witness,
+tlog-cosignature). Standard error has a line 'listening ADDRESS'.
+
+Output: a line for each new checkpoint that it cosigns, before it answers: size,
+root, the hashes of the proof from the one before, and the log's name. With
+--state each line is written to the file, and outlasts a crash, before the
+answer. The file has to be there, or with --new it begins. With --compact it is
+first replaced, as a whole, by one line of each log.
+
+One log, --origin, is known by --log-key or, for demonstrations, by --secret.
+With --logs the logs are those of a file that is read once, at the start: a line
+for each key, the text of a verifier key, for the log of its name, or a log's
+name, a space and that text. Empty lines and those that begin with '#' are
+passed over. The witness cosigns by the key in the file of --key, as
+'tlog keygen --cosigner' prints it, or, for demonstrations, by --name and
+--witness-secret.
+
+Exit status: 0 done; 1 refused (no state there, or one with --new, a bad key, a
+bad origin, a bad name, line K of the logs malformed or with a key again, line K
+of the input refused, each counted from 0, in use, out of memory); 2 wrong
+arguments or a call for help; 3 a read, a write, the address or an accept
+failed.
+
+Example: tlog witness --origin example.com/log --log-key @key.pub \\
+             --key witness-key --state cosigned --new --listen 127.0.0.1:8081";
 
 pub(super) const FETCH: &str =
-    "Fetches the log's checkpoint, tiles and entry bundles (C2SP tlog-tiles) from a folder or over HTTP, and trusts none
-of them: the checkpoint opens under a key of the log (C2SP signed-note, tlog-checkpoint), so many of the witnesses
-cosigned it (tlog-cosignature), it extends the one in the file of --state by a consistency proof, and tiles and entries
-are those of its root (RFC 6962). A checkpoint that passes is kept in that file, with --all once the entries are
-printed; then it is kept, too, as that of what was printed, in a file whose name has '.printed' behind.
-Output: with --head three lines, the log's name, its size and its root; with --index the entry and a newline, with --raw
-none; with --all every entry that --all hasn't printed yet (at first from the state's size on), one a line, each checked
-before it is printed (one that has a newline or begins with a backslash after a line with a backslash and its length in
-bytes); with --prove the text that 'tlog check' reads. If the log forked, evidence for 'tlog check --fork': the state's
-checkpoint, the new one, and, if their sizes differ, a consistency proof from another root than the smaller one's. An
-older checkpoint accuses nobody: nothing is printed, and the state stays.
---key is given twice where the log goes from one key to another: two keys with one name. Keys of witnesses with one name
-are one witness's, which counts once, whichever of them it signed with.
-Defaults: --need all witnesses that are given, --timeout 10, --threads 8. With --cache tiles that passed are kept in
-that folder, and checked again when they are read. --threads: with --all over HTTP so many requests are in flight at
-once, from 1 to 64; the output is the same.
-Exit status: 0 done; 1 refused (a bad key, a second key that isn't another one of the log, a witness with the key of
-another or of the log, a bad address, no checkpoint that opens, checkpoint of another log, cosigned by N witnesses, no
-entry at the index, a tile, a bundle or an entry wrong, bad state, out of memory); 2 wrong arguments or a call for
-help; 3 not available, older checkpoint, or a read or a write failed; 4 log forked. A refusal is one line 'tlog: ..' on
-standard error.";
+    "Fetches the log's checkpoint, tiles and entry bundles (C2SP tlog-tiles) from a
+folder or over HTTP, and trusts none of them: the checkpoint opens under a key
+of the log (C2SP signed-note), --need of the witnesses cosigned it (C2SP
+tlog-cosignature), it extends the one in the file of --state by a consistency
+proof, and tiles and entries are those of its root (RFC 6962). A checkpoint that
+passes is kept in that file, with --all once the entries are printed.
+
+Output: what is wanted, as below. With --all each entry is checked before it is
+printed, and one that has a newline or begins with a backslash comes after a
+line with a backslash and its length in bytes. How far --all has printed is kept
+in a file with the name of --state and '.printed' behind it.
+
+If the log forked, evidence for 'tlog check --fork' is printed: the checkpoint
+of the state, the new one, and, if their sizes differ, a consistency proof from
+another root than the smaller one's. An older checkpoint accuses nobody: nothing
+is printed, and the state stays.
+
+--key is given twice while the log goes from one key to another. Keys of
+witnesses with one name are one witness's, which counts once.
+
+Exit status: 0 done; 1 refused (a bad key, a second key that isn't another one
+of the log, a witness with the key of another or of the log, a bad address, no
+checkpoint that opens, checkpoint of another log, cosigned by N witnesses, no
+entry at the index, a tile, a bundle or an entry wrong, bad state, out of
+memory); 2 wrong arguments or a call for help; 3 not available, an older
+checkpoint, or a read or a write failed; 4 the log forked.
+
+Example: tlog fetch --from http://example.com/log --key @key.pub \\
+             --state seen --all";
 
 pub(super) const FEED: &str =
-    "Reads the log's checkpoint from a folder or over HTTP, as 'tlog fetch' does: it opens under a key of the log (C2SP
-signed-note, tlog-checkpoint), of which there may be two, and extends the one in the file of --state by a consistency
-proof over tiles that are checked. It is kept in that file. Then each witness is asked to cosign it (tlog-witness,
-tlog-cosignature), with the proof from the size that it has, at its --to: the first --to is the address of the first
-witness, and so on. Keys with one name, one --witness after another, are one witness's, which is asked and counts once.
-Output: the checkpoint with the lines of all witnesses that cosigned this very one, if they are --need. If the log
-forked, evidence, as 'tlog fetch' prints it. Why a witness gave no cosignature is told on standard error, a line
+    "Reads the log's checkpoint as 'tlog fetch' does, and asks each witness to
+cosign it (C2SP tlog-witness, tlog-cosignature), at its --to, with the proof
+from the size that it has. The first --to is the address of the first witness,
+and so on. Keys with one name, one --witness after another, are one witness's,
+which is asked and counts once.
+
+Output: the checkpoint with the lines of all witnesses that cosigned this very
+one, if they are --need. If the log forked, evidence, as 'tlog fetch' prints it.
+Why a witness gave no cosignature is reported on standard error, a line
 'tlog: witness K: ..' each, counted from 0.
-Defaults: --need all witnesses that are given, --timeout 10.
-Exit status: 0 done; 1 refused (as 'tlog fetch'; cosigned by N witnesses); 2 wrong arguments or a call for help; 3 the
-log isn't available or its checkpoint is older, or a read or a write failed; 4 log forked. A refusal is one line
-'tlog: ..' on standard error.";
+
+Exit status: 0 done; 1 refused (as 'tlog fetch'; cosigned by N witnesses); 2
+wrong arguments or a call for help; 3 not available, an older checkpoint, or a
+read or a write failed; 4 the log forked.
+
+Example: tlog feed --from http://example.com/log --key @key.pub \\
+             --to http://127.0.0.1:8081 --witness @witness.pub";
