@@ -15,6 +15,7 @@ ENTRIES = entries(7)
 LEAVES = [leaf(entry) for entry in ENTRIES]
 GIVEN = lines_of(ENTRIES)
 FAILED = answer(500, 'Internal Server Error')
+BUSY = answer(503, 'Service Unavailable', 'Retry-After: 1', kind=TEXT, body=b'not published yet: post it again\n')
 
 # A command: its words, its input, the files before it, and what it prints, in the pieces in which it may come; None of
 # one that prints something else each time.

@@ -114,7 +114,8 @@ impl Guest {
     /// published in time. Then there is a second left for the answer, or half of the time where that is less.
     pub(crate) fn due(&self, limit: u64) -> u64 {
         if self.is_waiting() {
-            return self.came.saturating_add(limit - LAST.min(limit / 2));
+            let time = limit.saturating_sub(LAST.min(limit / 2));
+            return self.came.saturating_add(time);
         }
         self.deadline(limit)
     }
