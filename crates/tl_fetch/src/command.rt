@@ -137,18 +137,12 @@ fn fetch_with_file<
         Ok(file) => FileState(file),
         Err(fault) => return Err(file_refusal(fault)),
     };
-<<<<<<< HEAD
-    if wanted != FetchRequest::All {
-        let mut unread = NoState;
-        return fetch_under(
-=======
     let mut unread = NoState;
     match wanted {
         FetchRequest::All => fetch_beside(
             rt, alloc, source, requests, policy, path, &mut state, observer, writer,
         ),
         _ => fetch_under(
->>>>>>> a766db4c1ead60122d72bde778dcbae847b1a3c3
             alloc,
             source,
             requests,
@@ -158,29 +152,8 @@ fn fetch_with_file<
             &mut unread,
             observer,
             writer,
-<<<<<<< HEAD
-        );
-    }
-    let beside = printed_path(alloc, path)?;
-    let mut printed = match AtomicFile::open(rt, alloc, beside.as_str()) {
-        Ok(file) => FileState(file),
-        Err(fault) => return Err(file_refusal(fault)),
-    };
-    fetch_under(
-        alloc,
-        source,
-        requests,
-        policy,
-        wanted,
-        &mut state,
-        &mut printed,
-        observer,
-        writer,
-    )
-=======
         ),
     }
->>>>>>> a766db4c1ead60122d72bde778dcbae847b1a3c3
 }
 
 // Fetches with the state in a file, if one is named.
