@@ -6,6 +6,9 @@ import signal
 import sys
 import tempfile
 
+# Files of keys that the tests write are their owner's alone: `tlog` reports those that others can read.
+os.umask(0o077)
+
 TOP = os.path.dirname(os.path.dirname(os.path.dirname(os.path.realpath(__file__))))
 
 

@@ -1,5 +1,5 @@
 -- How far the log in a bucket goes, as an operator finds out at its start.
-use Rattle.std.specs.Prelude.{◌≡◌, ◌⊎◌, ℕ, ◌+◌, ◌<◌, [], Bool, true, false, Option, Some, None, IsSome, length}
+use Rattle.std.specs.Prelude.{◌≡◌, ◌⊎◌, ℕ, ◌+◌, [], Bool, not, ◌||◌, nat_lt, Option, Some, None, is_some, length}
 use Rattle.tl_hash.specs.Bytes.{Bytes}
 use Rattle.tl_put.specs.Objects.{Content, Place}
 use Rattle.tl_put.specs.declared.object.Condition.TheVariants as condition
@@ -51,11 +51,10 @@ KnowsShown p None = WasMissing p (place_of [] resource.Checkpoint)
 KnowsShown p (Some shown) =
     (etag : Bytes) × WasReadWith p (place_of [] resource.Checkpoint) shown.note (Some etag) × IsBare etag shown.etag
 
--- a log is there: a commit that appends to it, or its checkpoint
-abbrev pub HasLog : Claims → Option Shown → Type 0
-HasLog claims shown = (1 < claims.number) ⊎ IsSome shown
+-- whether a log is there: a commit that appends to it, or its checkpoint
+abbrev pub has_log : Claims → Option Shown → Bool
+has_log claims shown = nat_lt 1 claims.number || is_some shown
 
 -- a log begins there if it is asked to, so that none is there; else one is, which is gone on from
 abbrev pub BeginsThere : Bool → Claims → Option Shown → Type 0
-BeginsThere true claims shown = HasLog claims shown → ⊥
-BeginsThere false claims shown = HasLog claims shown
+BeginsThere new claims shown = has_log claims shown ≡ not new

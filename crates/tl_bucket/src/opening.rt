@@ -1,10 +1,10 @@
 //! A bucket that is opened: whether its store keeps conditions, and how far its log goes.
 
-ghost use Rattle.std.specs.Prelude.{◌≡◌, ◌↔◌, None, IfOk, IsTrue, OnOk, MatchBool, map, option_map, string_bytes, vec_items};
+ghost use Rattle.std.specs.Prelude.{◌≡◌, None, IfOk, OnOk, MatchBool, map, option_map, string_bytes, vec_items};
 ghost use Rattle.tl_bucket.specs.Answered.{WasPut};
 ghost use Rattle.tl_bucket.specs.Buckets.{no_objects};
 ghost use Rattle.tl_bucket.specs.Claims.{no_claims};
-ghost use Rattle.tl_bucket.specs.Opened.{BeginsThere, EndsAt, HasCommit, HasLog, IsAtEnd};
+ghost use Rattle.tl_bucket.specs.Opened.{BeginsThere, EndsAt, HasCommit, IsAtEnd, has_log};
 ghost use Rattle.tl_bucket.specs.Opened.{IsLastFound, KnowsShown, LacksCommit, RefusesPuts, WasReadAs};
 ghost use Rattle.tl_put.specs.Objects.{Content};
 ghost use Rattle.tl_put.specs.declared.object.PutAnswer.TheVariants.{Refused};
@@ -192,7 +192,7 @@ fn claims_behind<H: Net<Stream = TcpStream> + Clock>(
 
 // Whether a log is there, by the commits and the checkpoint that were found.
 fn has_log(claims: &Claims, shown: &Option<Shown>) -> bool
-    ensures { IsTrue result ↔ HasLog claims.now (option_map shown_of shown.now) }
+    ensures { result ≡ has_log claims.now (option_map shown_of shown.now) }
 {
     claims.number() > 1 || shown.is_some()
 }

@@ -1,7 +1,7 @@
 -- Commands on a log in a bucket, from their parts.
 use Rattle.std.proofs.Common.{◌≡◌, ◌⊎◌, ℕ, false, true≢false, Err, [], None, ap, inl, inr, refl, string_bytes, subst, sym, ◌∙◌}
 use Rattle.tl_bucket.specs.Buckets.{Bucketed, Objects, no_objects}
-use Rattle.tl_bucket.specs.Opened.{IsAtEnd, KnowsShown, RefusesPuts}
+use Rattle.tl_bucket.specs.Opened.{BeginsThere, IsAtEnd, KnowsShown, RefusesPuts}
 use Rattle.tl_hash.specs.Bytes.{Bytes}
 use Rattle.tl_put.specs.Objects.{Place}
 use Rattle.tl_command.specs.declared.fault.RunFault.{RunFault}
@@ -9,7 +9,7 @@ use Rattle.tl_cli.specs.InBucket.{EndsInBucket, IsKeyFor, IsPlaceOf, IsRefused, 
 use Rattle.tl_cli.specs.declared.own_bucket.BucketOptions.{BucketOptions}
 use Rattle.tl_cli.specs.declared.fault.CommandFault.{CommandFault}
 use Rattle.tl_cli.specs.declared.fault.CommandFault.TheVariants.{Run, Bucket}
-use Rattle.std.specs.Prelude.{Result, Ok}
+use Rattle.std.specs.Prelude.{Bool, Result, Ok}
 use Rattle.std.specs.Result.{IsErr}
 
 -- who ends with a fault of a bucket is refused
@@ -23,10 +23,11 @@ is_refused (Ok done) fails = absurd (true≢false (sym fails))
 is_refused (Err fault) fails = (fault, refl)
 
 -- a bucket that was opened by a client is that of the options which tell the client's place
-pub opened : (options : BucketOptions) (b : Bucketed) (p : Place) (token : Bytes) → IsPlaceOf (string_bytes options.address) p → p.credential.region ≡ string_bytes options.region
+pub opened : (options : BucketOptions) (new : Bool) (b : Bucketed) (p : Place) (token : Bytes) → IsPlaceOf (string_bytes options.address) p → p.credential.region ≡ string_bytes options.region
     → IsKeyFor options p.credential.id p.credential.secret → IsToken token → b.objects ≡ no_objects p b.objects.claims b.objects.shown → RefusesPuts p → IsAtEnd p token b.objects.claims → KnowsShown p b.objects.shown
-    → b.place ≡ string_bytes options.address → b.reads_anew ≡ false → b.events ≡ [] → b.published ≡ None → OpensBucket options b
-opened options b p token at region key drawn same refuses end known named reads events unmarked =
+    → BeginsThere new b.objects.claims b.objects.shown
+    → b.place ≡ string_bytes options.address → b.reads_anew ≡ false → b.events ≡ [] → b.published ≡ None → OpensBucket options new b
+opened options new b p token at region key drawn same refuses end known begins named reads events unmarked =
     let there : b.objects.at ≡ p = ap (λ (o : Objects). o.at) same in
     record {
       named = named;
@@ -39,6 +40,7 @@ opened options b p token at region key drawn same refuses end known named reads 
       end = subst (λ (q : Place). IsAtEnd q token b.objects.claims) (sym there) end;
       waiting = same ∙ ap (λ (q : Place). no_objects q b.objects.claims b.objects.shown) (sym there);
       shown = subst (λ (q : Place). KnowsShown q b.objects.shown) (sym there) known;
+      begins = begins;
       reads = reads;
       events = events;
       unmarked = unmarked;

@@ -19,7 +19,7 @@ use Rattle.tl_serve.specs.Serving.{IsLeft, Serves}
 use Rattle.tl_serve.specs.declared.options.ServeOptions.{ServeOptions}
 use Rattle.tl_source.specs.Url.{IsUrl}
 use Rattle.tl_text.specs.Text.{IsOneLine, line}
-use Rattle.tl_cli.specs.Lasting.{nobody}
+use Rattle.tl_cli.specs.Lasting.{ServesAsAsked, nobody}
 use Rattle.tl_cli.specs.declared.fault.CommandFault.{CommandFault}
 use Rattle.tl_cli.specs.declared.fault.CommandFault.TheVariants.{Run, Bucket}
 use Rattle.tl_cli.specs.declared.in_bucket.AppendToOptions.{AppendToOptions}
@@ -109,6 +109,7 @@ pub record ServesBucket (held : Held) (reached : Reached) (opened : Bucketed) (o
   pub outcome : Result (Unit {0}) RunFault
   pub start : IsLeft (visit (bucket_kept held reached) (bucket_trace held reached) before after)
       ⊎ (found_size found.head ≡ before.objects.claims.start)
+  pub begins : ServesAsAsked options found (visit (bucket_kept held reached) (bucket_trace held reached) before after)
   pub serves : Serves options.key (string_bytes options.origin) nobody found
       (visit (bucket_kept held reached) (bucket_trace held reached) before after) outcome
   pub ends : EndsInBucket outcome result

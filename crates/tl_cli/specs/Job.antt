@@ -46,11 +46,16 @@ abbrev pub ChecksFile : Bytes → Option Bytes → Passage → Passage → Resul
 ChecksFile key entry i o result =
     ((bytes : Bytes) × RunsCheckOpened key bytes entry i o result) ⊎ (IsUnopened result × IsIdle i o)
 
+-- a run against it about the entry that a file has: its bytes decide, or it can't be read, and then nothing else is done
+abbrev pub ChecksEntryIn : Bytes → Passage → Passage → Result (Unit {0}) RunFault → Type 0
+ChecksEntryIn key i o result =
+    ((entry : Bytes) × ChecksFile key (Some entry) i o result) ⊎ (IsUnopened result × IsIdle i o)
+
 -- a run against it about the entry that is given: none, a text, or the bytes of a file
 abbrev pub ChecksGiven : Bytes → Option GivenEntry → Passage → Passage → Result (Unit {0}) RunFault → Type 0
 ChecksGiven key None i o result = ChecksFile key None i o result
 ChecksGiven key (Some (Text entry)) i o result = ChecksFile key (Some (string_bytes entry)) i o result
-ChecksGiven key (Some (File path)) i o result = (entry : Bytes) × ChecksFile key (Some entry) i o result
+ChecksGiven key (Some (File path)) i o result = ChecksEntryIn key i o result
 
 -- a run signed by the demonstration key of an origin and a secret
 abbrev pub BuildsDemo : Bytes → Bytes → Option Bytes → Passage → Passage → Result (Unit {0}) RunFault → Type 0

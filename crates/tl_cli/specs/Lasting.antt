@@ -1,5 +1,5 @@
 -- Commands on a log in a folder: the folder that their options name, and what becomes of it.
-use Rattle.std.specs.Prelude.{◌≡◌, ◌<◌, [], Option, Some, None, IfSome, OnOk, Result, Ok, Err, string_bytes}
+use Rattle.std.specs.Prelude.{◌≡◌, ◌<◌, ◌⊎◌, [], Option, Some, None, IfSome, OnOk, Result, Ok, Err, string_bytes}
 use Rattle.tl_device.specs.Device.{Passage, IsUnread}
 use Rattle.tl_archive.specs.Shelves.{Held}
 use Rattle.tl_ledger.specs.Opening.{Found}
@@ -11,7 +11,7 @@ use Rattle.tl_append.specs.Running.{BeginsAsAsked, GoesOn, Visit, batch_size}
 use Rattle.tl_append.specs.declared.options.AppendOptions.{AppendOptions}
 use Rattle.tl_append.specs.Cosigning.{Quorum}
 use Rattle.tl_serve.specs.Asking.{ServesCosigned}
-use Rattle.tl_serve.specs.Serving.{Serves}
+use Rattle.tl_serve.specs.Serving.{IsLeft, Serves}
 use Rattle.tl_serve.specs.declared.options.ServeOptions.{ServeOptions}
 use Rattle.tl_serve.specs.declared.options.WitnessOptions.{WitnessOptions}
 
@@ -44,8 +44,13 @@ AppendsIn held reached options i o (Some folder) result =
 abbrev pub nobody : Quorum
 nobody = record { witnesses = []; need = 0 }
 
--- `serve` of a log on a shelf: where some must have cosigned what is shown, and where nobody need
+-- nothing was written, or a log began if it was asked to, and else was gone on from
+abbrev pub ServesAsAsked : ServeOptions → Found → Visit → Type 0
+ServesAsAsked options found v = IsLeft v ⊎ BeginsAsAsked options.is_new found.head
+
+-- `serve` of a log on a shelf: if some must have cosigned what is shown, and if nobody need
 pub record ServesBy (options : ServeOptions) (found : Found) (v : Visit) (result : Result (Unit {0}) RunFault) : Type 0 where
+  pub begins : ServesAsAsked options found v
   pub cosigned : 0 < options.need → ServesCosigned options found v result
   pub signed : options.need ≡ 0 → Serves options.key (string_bytes options.origin) nobody found v result
 

@@ -59,9 +59,7 @@ pub(crate) fn command_exit_of(fault: &CommandFault) -> u8
         CommandFault::Witness(fault) => witness_exit_of(fault),
         CommandFault::Bucket(BucketFault::Device(why))
         | CommandFault::Credentials(Some(why))
-        | CommandFault::KeyFile(_, why) => {
-            exit_of(&RunFault::Device(Place::File, *why))
-        }
+        | CommandFault::KeyFile(_, why) => { exit_of(&RunFault::Device(Place::File, *why)) }
         CommandFault::Bucket(_) | CommandFault::Credentials(None) => 1,
     }
 }

@@ -3,7 +3,7 @@
 ghost use Rattle.std.specs.Prelude.{◌≡◌, ◌⊎◌, string_bytes};
 ghost use Rattle.tl_append.specs.Running.{visit};
 ghost use Rattle.tl_bucket.specs.Buckets.{bucket_kept, bucket_trace};
-ghost use Rattle.tl_cli.specs.Lasting.{nobody};
+ghost use Rattle.tl_cli.specs.Lasting.{ServesAsAsked, nobody};
 ghost use Rattle.tl_device.specs.Device.{passage};
 ghost use Rattle.tl_ledger.specs.Opening.{found_size};
 ghost use Rattle.tl_serve.specs.Serving.{IsLeft, Serves};
@@ -159,6 +159,9 @@ fn serve_sealed<
         result.shelf) result.outcome }
     ensures start { IsLeft (visit (bucket_kept D.held D.reached) (bucket_trace D.held D.reached)
         shelf.entry result.shelf) ⊎ (found_size found.new.head ≡ shelf.entry.objects.claims.start) }
+    ensures begins { ServesAsAsked options.now found.new
+        (visit (bucket_kept D.held D.reached) (bucket_trace D.held D.reached) shelf.entry
+        result.shelf) }
     ensures place { result.shelf.place ≡ shelf.entry.place }
 {
     let start = Some(shelf.committed());
@@ -239,7 +242,5 @@ pub(crate) fn serve_from<
     let shelf = open_bucket(disk, rt, alloc, bucket, &key, serve.is_new)?;
     let threads = threads_of(rt, serve.server.threads);
     let shown = shown_of(disk, rt, alloc, bucket, &key, threads as usize)?;
-    finish_and_serve(
-        rt, alloc, serve, &site, shelf, shown, reader, errors,
-    )
+    finish_and_serve(rt, alloc, serve, &site, shelf, shown, reader, errors)
 }

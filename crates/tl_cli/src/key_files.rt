@@ -2,8 +2,8 @@
 
 use crate::fault::{CommandFault, KeyFile};
 use std::alloc::Global;
-use std::fs::{File, Files, OpenOptions, remove_file};
-use std::os::unix::fs::OpenOptionsExt;
+use std::fs::{File, Files, OpenOptions, Permissions, remove_file};
+use std::os::unix::fs::{OpenOptionsExt, PermissionsExt};
 use std::random::RandomSource;
 use tl_command::{KeygenOptions, RunFault, run_keygen};
 use tl_device::{Counted, DeviceFault};
@@ -14,12 +14,15 @@ const PRIVATE: u32 = 0o600;
 
 const PUBLIC: u32 = 0o644;
 
-// Makes a file that isn't there yet.
+// Makes a file that isn't there yet, of this mode, if the system sets modes.
 fn make<H: Files<File = File>>(rt: &H, path: &str, mode: u32) -> Result<File, DeviceFault> {
     let mut options = OpenOptions::new();
     options.write(true).create_new(true).mode(mode);
     match options.open(rt, path) {
-        Ok(file) => Ok(file),
+        Ok(file) => {
+            let _ = file.set_permissions(Permissions::from_mode(mode));
+            Ok(file)
+        }
         Err(error) => Err(DeviceFault::from(error)),
     }
 }

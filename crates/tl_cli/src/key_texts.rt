@@ -52,7 +52,12 @@ fn path_in(value: &str) -> Option<(&str, &str)> {
 }
 
 // The text of the file at a path, without the newline that ends it, and what stands behind it.
-fn text_at<H: Files>(rt: &H, alloc: Global, path: &str, rest: &str) -> Result<String, KeyTextFault> {
+fn text_at<H: Files>(
+    rt: &H,
+    alloc: Global,
+    path: &str,
+    rest: &str,
+) -> Result<String, KeyTextFault> {
     let bytes = match read_file(rt, alloc, path) {
         Ok(bytes) => bytes,
         Err(fault) => return Err(KeyTextFault::Unread(String::from_str(alloc, path)?, fault)),

@@ -215,7 +215,13 @@ fn witness_at<
     };
     let (mut reader, mut writer) = (Counted::new(lines), Counted::new(end));
     let outcome = run_witness(
-        rt, alloc, options, entrance, &mut reader, &mut writer, errors,
+        rt,
+        alloc,
+        options,
+        entrance,
+        &mut reader,
+        &mut writer,
+        errors,
     );
     match (outcome, writer.into_inner().fault()) {
         (Err(WitnessFault::Run(RunFault::Write)), Some(fault)) => Err(state_fault(fault)),

@@ -4,7 +4,7 @@ ghost use Rattle.std.specs.Prelude.{◌≡◌, codes, option_map, string_bytes};
 ghost use Rattle.tl_text.specs.Text.{line};
 ghost use Rattle.tl_device.specs.Device.{passage};
 ghost use Rattle.tl_command.specs.Head.{RunsHead};
-ghost use Rattle.tl_cli.specs.Job.{BuildsDemo, BuildsSigned, ChecksGiven, EndsWords, RunsJob, key_kind};
+ghost use Rattle.tl_cli.specs.Job.{BuildsDemo, BuildsSigned, ChecksEntryIn, ChecksFile, ChecksGiven, EndsWords, RunsJob, key_kind};
 ghost use Rattle.tl_command.specs.Keygen.{GivesKey};
 ghost use Rattle.tl_command.specs.ProofCommands.{InclusionComes, ConsistencyComes};
 ghost use Rattle.tl_command.specs.Run.{Runs};
@@ -31,8 +31,8 @@ use std::random::RandomSource;
 use std::thread::{Threads, available_parallelism};
 use tl_bucket::PutsTogether;
 use tl_command::{
-    BuildOptions, CheckOptions, GivenEntry, HeadOptions, HmacLogSigner, KeygenOptions, RunFault, SignedOptions,
-    read_file, run_audit, run_build, run_build_signed, run_check, run_check_opened,
+    BuildOptions, CheckOptions, GivenEntry, HeadOptions, HmacLogSigner, KeygenOptions, RunFault,
+    SignedOptions, read_file, run_audit, run_build, run_build_signed, run_check, run_check_opened,
     run_consistency, run_head, run_inclusion, run_keygen, run_open,
 };
 use tl_device::{Counted, write_whole};
@@ -173,6 +173,52 @@ fn build_signed<H: Files + Threads + Sync, R: Read, W: Write>(
     )
 }
 
+// Checks the proof of the input, about this entry, if one is given, against the checkpoint in a file.
+fn check_in_file<H: Files, R: Read, W: Write>(
+    rt: &H,
+    alloc: Global,
+    options: &CheckOptions,
+    entry: Option<&[u8]>,
+    reader: &mut Counted<R>,
+    writer: &mut Counted<W>,
+) -> Result<(), RunFault>
+    ensures { ChecksFile (string_bytes options.now.key)
+        (option_map (λ e. e.now) entry.entry) (passage R.remaining reader.old reader.new)
+        (passage W.contents writer.old writer.new) result }
+{
+    let bytes = match read_file(rt, alloc, options.checkpoint.as_str()) {
+        Ok(bytes) => bytes,
+        Err(fault) => return Err(fault),
+    };
+    run_check_opened(
+        alloc,
+        options.key.as_str(),
+        bytes.as_slice(),
+        entry,
+        reader,
+        writer,
+    )
+}
+
+// Checks the proof of the input about the bytes of a file, against the checkpoint in another.
+fn check_file_entry<H: Files, R: Read, W: Write>(
+    rt: &H,
+    alloc: Global,
+    options: &CheckOptions,
+    path: &str,
+    reader: &mut Counted<R>,
+    writer: &mut Counted<W>,
+) -> Result<(), RunFault>
+    ensures { ChecksEntryIn (string_bytes options.now.key)
+        (passage R.remaining reader.old reader.new)
+        (passage W.contents writer.old writer.new) result }
+{
+    match read_file(rt, alloc, path) {
+        Ok(entry) => check_in_file(rt, alloc, options, Some(entry.as_slice()), reader, writer),
+        Err(fault) => Err(fault),
+    }
+}
+
 // Checks the proof of the input against the checkpoint in a file.
 fn check_under<H: Files, R: Read, W: Write>(
     rt: &H,
@@ -185,22 +231,13 @@ fn check_under<H: Files, R: Read, W: Write>(
         (passage R.remaining reader.old reader.new)
         (passage W.contents writer.old writer.new) result }
 {
-    let bytes = match read_file(rt, alloc, options.checkpoint.as_str()) {
-        Ok(bytes) => bytes,
-        Err(fault) => return Err(fault),
-    };
-    let (key, bytes) = (options.key.as_str(), bytes.as_slice());
     match &options.entry {
-        None => run_check_opened(alloc, key, bytes, None, reader, writer),
+        None => check_in_file(rt, alloc, options, None, reader, writer),
         Some(GivenEntry::Text(entry)) => {
-            run_check_opened(alloc, key, bytes, Some(entry.as_bytes()), reader, writer)
+            check_in_file(rt, alloc, options, Some(entry.as_bytes()), reader, writer)
         }
         Some(GivenEntry::File(path)) => {
-            let entry = match read_file(rt, alloc, path.as_str()) {
-                Ok(entry) => entry,
-                Err(fault) => return Err(fault),
-            };
-            run_check_opened(alloc, key, bytes, Some(entry.as_slice()), reader, writer)
+            check_file_entry(rt, alloc, options, path.as_str(), reader, writer)
         }
     }
 }

@@ -7,7 +7,7 @@ ghost use Rattle.tl_command.specs.Origins.{RefusesOrigin};
 ghost use Rattle.tl_append.specs.Running.{visit};
 ghost use Rattle.tl_serve.specs.Asking.{ServesCosigned};
 ghost use Rattle.tl_serve.specs.Serving.{Serves};
-ghost use Rattle.tl_cli.specs.Lasting.{ServesAt, ServesBy, nobody};
+ghost use Rattle.tl_cli.specs.Lasting.{ServesAsAsked, ServesAt, ServesBy, nobody};
 
 use crate::own_folder::{OwnFolder, check_log, open_folder, own_folder};
 use crate::proposal_file::{ProposalFile, ReadProposal, proposal_path};
@@ -65,6 +65,8 @@ fn serve_signed<
     ensures serves { Serves options.now.key (string_bytes options.now.origin) nobody found.new
         (visit (kept_by D.held D.reached) (traced_by D.held D.reached) shelf result.shelf)
         result.outcome }
+    ensures begins { ServesAsAsked options.now found.new
+        (visit (kept_by D.held D.reached) (traced_by D.held D.reached) shelf result.shelf) }
     ensures place { result.shelf.place ≡ shelf.place }
 {
     let store = ReadProposal { rt, path };
@@ -101,6 +103,8 @@ fn serve_cosigned<
     ensures serves { ServesCosigned options.now found.new
         (visit (kept_by D.held D.reached) (traced_by D.held D.reached) shelf result.shelf)
         result.outcome }
+    ensures begins { ServesAsAsked options.now found.new
+        (visit (kept_by D.held D.reached) (traced_by D.held D.reached) shelf result.shelf) }
     ensures place { result.shelf.place ≡ shelf.place }
 {
     let store = match ProposalFile::open(rt, alloc, path) {
@@ -123,9 +127,7 @@ fn serve_cosigned<
         shown,
         asked,
     };
-    run_serve_cosigned(
-        rt, alloc, options, site, log, found, reader, errors,
-    )
+    run_serve_cosigned(rt, alloc, options, site, log, found, reader, errors)
 }
 
 // Serves the log in a folder by its options.

@@ -180,19 +180,19 @@ fn job_of(alloc: Global, command: &str, options: &ArgMatches<'_>) -> Result<Job,
 }
 
 // The words that ask for the help of what `help` names: the program's name, the others, and `--help`.
-fn help_words(alloc: Global, words: &[String]) -> Result<Vec<String>, AllocError> {
+fn help_words(alloc: Global, program: &str, names: &[String]) -> Result<Vec<String>, AllocError> {
     let mut asked = Vec::new(alloc);
-    asked.push(String::from_str(alloc, "tlog")?)?;
-    for word in words {
-        asked.push(String::from_str(alloc, word.as_str())?)?;
+    asked.push(String::from_str(alloc, program)?)?;
+    for name in names {
+        asked.push(String::from_str(alloc, name.as_str())?)?;
     }
     asked.push(String::from_str(alloc, "--help")?)?;
     Ok(asked)
 }
 
 // The job of `help`, with the names of a command.
-fn help_job(alloc: Global, names: &[String]) -> Result<Job, WordsFault> {
-    let asked = help_words(alloc, names)?;
+fn help_job(alloc: Global, program: &str, names: &[String]) -> Result<Job, WordsFault> {
+    let asked = help_words(alloc, program, names)?;
     match with_commands(alloc)?.try_get_matches_from(asked.as_slice()) {
         Err(error) if matches!(error.kind(), ErrorKind::DisplayHelp) => {
             let text = error.to_string(alloc)?;
@@ -208,7 +208,9 @@ fn help_job(alloc: Global, names: &[String]) -> Result<Job, WordsFault> {
 /// `Usage`.
 pub fn read_words(alloc: Global, words: &[String]) -> Result<Job, WordsFault> {
     match words {
-        [_, first, names @ ..] if first.as_str() == "help" => return help_job(alloc, names),
+        [program, first, names @ ..] if first.as_str() == "help" => {
+            return help_job(alloc, program.as_str(), names);
+        }
         _ => {}
     }
     let program = with_commands(alloc)?;

@@ -11,7 +11,7 @@ use Rattle.tl_tile.specs.RightEdge.{EdgeContents, IsEdgeOf}
 use Rattle.tl_checkpoint.specs.Checkpoint.{checkpoint_text}
 use Rattle.tl_command.specs.Inner.Growing.{ReadEdge, ReadsEdge}
 use Rattle.tl_command.specs.declared.fault.RunFault.{RunFault}
-use Rattle.tl_command.specs.declared.fault.RunFault.TheVariants.{Refused, Read, Write, TooLarge, EntryTooLong, BadOrigin, BadIndex, BadOld, BadPath, NotThere, Malformed, Chain, Sign, Operator, Listen, Accept, OutOfMemory, BadName, BadKey, BadCheckpoint, WrongSignature, Unverified, Device, BadKeyFile}
+use Rattle.tl_command.specs.declared.fault.RunFault.TheVariants.{Refused, Read, Write, TooLarge, EntryTooLong, BadOrigin, BadIndex, BadOld, BadPath, NotThere, Malformed, Chain, Sign, Operator, Listen, Accept, OutOfMemory, BadName, BadKey, BadCheckpoint, WrongSignature, Unverified, Device, BadKeyFile, NothingThere}
 use Rattle.tl_command.specs.Lines.{entries_of, first_too_long}
 use Rattle.tl_command.specs.Run.{Output, Prints, Fails, Runs, CameOf, IsAsking, ReadEntries, most_input}
 use Rattle.tl_command.specs.Head.{HeadComes, RunsHead, head_text}
@@ -84,6 +84,7 @@ head_fault origin i o OutOfMemory line none reads = (line, (reads, none, asks_of
 head_fault origin i o BadName line none reads = absurd reads
 head_fault origin i o BadKey line none reads = absurd reads
 head_fault origin i o BadKeyFile line none reads = absurd reads
+head_fault origin i o (NothingThere _) line none reads = absurd reads
 head_fault origin i o (BadCheckpoint place) line none reads = absurd reads
 head_fault origin i o (WrongSignature place) line none reads = absurd reads
 head_fault origin i o Unverified line none reads = absurd reads
@@ -123,6 +124,7 @@ entry_fails Comes i o input text OutOfMemory whole same none comes given = (whol
 entry_fails Comes i o input text BadName whole same none comes given = absurd given
 entry_fails Comes i o input text BadKey whole same none comes given = absurd given
 entry_fails Comes i o input text BadKeyFile whole same none comes given = absurd given
+entry_fails Comes i o input text (NothingThere _) whole same none comes given = absurd given
 entry_fails Comes i o input text (BadCheckpoint place) whole same none comes given = absurd given
 entry_fails Comes i o input text (WrongSignature place) whole same none comes given = absurd given
 entry_fails Comes i o input text Unverified whole same none comes given = absurd given

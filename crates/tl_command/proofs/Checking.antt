@@ -9,7 +9,7 @@ use Rattle.tl_command.specs.Run.{Output, Prints, PrintsRefusal, most_input, Came
 use Rattle.tl_command.specs.Inner.Checks.{FindsInText, IsFinding, IsFindingAbout, PrintsAnswer, answer_line}
 use Rattle.tl_command.specs.declared.commands.check.Finding.{Finding}
 use Rattle.tl_command.specs.declared.fault.RunFault.{RunFault}
-use Rattle.tl_command.specs.declared.fault.RunFault.TheVariants.{Refused, Read, Write, TooLarge, EntryTooLong, BadOrigin, BadIndex, BadOld, BadPath, NotThere, Malformed, Chain, Sign, Operator, Listen, Accept, OutOfMemory, BadName, BadKey, BadCheckpoint, WrongSignature, Unverified, Device, BadKeyFile}
+use Rattle.tl_command.specs.declared.fault.RunFault.TheVariants.{Refused, Read, Write, TooLarge, EntryTooLong, BadOrigin, BadIndex, BadOld, BadPath, NotThere, Malformed, Chain, Sign, Operator, Listen, Accept, OutOfMemory, BadName, BadKey, BadCheckpoint, WrongSignature, Unverified, Device, BadKeyFile, NothingThere}
 
 -- what is to come of a text that was read, where what was found tells whether its proof is good
 abbrev pub good_output : Bool → Output
@@ -68,6 +68,7 @@ answered Comes i o is_good (Err OutOfMemory) came prints = absurd prints
 answered Comes i o is_good (Err BadName) came prints = absurd prints
 answered Comes i o is_good (Err BadKey) came prints = absurd prints
 answered Comes i o is_good (Err BadKeyFile) came prints = absurd prints
+answered Comes i o is_good (Err (NothingThere _)) came prints = absurd prints
 answered Comes i o is_good (Err (BadCheckpoint place)) came prints = absurd prints
 answered Comes i o is_good (Err (WrongSignature place)) came prints = absurd prints
 answered Comes i o is_good (Err Unverified) came prints = absurd prints

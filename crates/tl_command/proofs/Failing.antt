@@ -24,7 +24,7 @@ use Rattle.tl_command.specs.Inner.Notes.{OpensBytes}
 use Rattle.tl_command.specs.Inner.Steps.{ReadsPath}
 use Rattle.tl_command.specs.declared.fault.RunFault.{RunFault}
 use Rattle.tl_command.specs.declared.place.Place.TheVariants.{File}
-use Rattle.tl_command.specs.declared.fault.RunFault.TheVariants.{Refused, Read, Write, TooLarge, EntryTooLong, BadOrigin, BadIndex, BadOld, BadPath, NotThere, Malformed, Chain, Sign, Operator, Listen, Accept, OutOfMemory, BadName, BadKey, BadCheckpoint, WrongSignature, Unverified, Device, BadKeyFile}
+use Rattle.tl_command.specs.declared.fault.RunFault.TheVariants.{Refused, Read, Write, TooLarge, EntryTooLong, BadOrigin, BadIndex, BadOld, BadPath, NotThere, Malformed, Chain, Sign, Operator, Listen, Accept, OutOfMemory, BadName, BadKey, BadCheckpoint, WrongSignature, Unverified, Device, BadKeyFile, NothingThere}
 
 -- what a call failed with is handed on
 pub handed_on : (Holds : Result (Unit {0}) RunFault → Type 0) (r : Result (Unit {0}) RunFault) (given fault : RunFault) → IsErrAnd r (λ e. e ≡ given) → given ≡ fault → Holds (Err fault) → Holds r
@@ -62,6 +62,7 @@ unread Comes i o (WrongSignature place) fails none = absurd fails
 unread Comes i o Unverified fails none = absurd fails
 unread Comes i o (Device place why) fails none = absurd fails
 unread Comes i o BadKeyFile fails none = absurd fails
+unread Comes i o (NothingThere _) fails none = absurd fails
 
 -- the entries can't be read, since the input can't
 pub entries_unread : (A : Type 0) (most : ℕ) (p : Passage) (fault : RunFault) → ReadingFails most p fault → ReadsEntries {A = A} most p (Err fault)
@@ -89,6 +90,7 @@ entries_unread A most p (WrongSignature place) fails = absurd fails
 entries_unread A most p Unverified fails = absurd fails
 entries_unread A most p (Device place why) fails = absurd fails
 entries_unread A most p BadKeyFile fails = absurd fails
+entries_unread A most p (NothingThere _) fails = absurd fails
 
 -- no audit is read from it
 pub audit_fails : (A : Type 0) (H : Digest) (i o : Passage) (input : List ℕ) (fault : RunFault) → ReadWhole i most_input input → IsUnwritten o → AnswersAuditText {A = A} H input (Err fault)
@@ -117,6 +119,7 @@ audit_fails A H i o input (WrongSignature place) whole none given = absurd given
 audit_fails A H i o input Unverified whole none given = absurd given
 audit_fails A H i o input (Device place why) whole none given = absurd given
 audit_fails A H i o input BadKeyFile whole none given = absurd given
+audit_fails A H i o input (NothingThere _) whole none given = absurd given
 
 -- no proof is found in it
 pub finding_fails : (IsGood : Proof → Type 0) (i o : Passage) (input : List ℕ) (fault : RunFault) → ReadWhole i most_input input → IsUnwritten o → FindsInText input (Err fault)
@@ -145,6 +148,7 @@ finding_fails IsGood i o input (WrongSignature place) whole none given = absurd 
 finding_fails IsGood i o input Unverified whole none given = absurd given
 finding_fails IsGood i o input (Device place why) whole none given = absurd given
 finding_fails IsGood i o input BadKeyFile whole none given = absurd given
+finding_fails IsGood i o input (NothingThere _) whole none given = absurd given
 
 -- the path that is asked for is none
 pub wanted_fails : (key : LogKey) (get : Option (List ℕ)) (i o : Passage) (fault : RunFault) → IsKeyName key.name → IsUnread i → IsUnwritten o → ReadsPath get (Err fault) → RunsBuild key get i o (Err fault)
@@ -172,6 +176,7 @@ wanted_fails key get i o (WrongSignature place) named unread none given = absurd
 wanted_fails key get i o Unverified named unread none given = absurd given
 wanted_fails key get i o (Device place why) named unread none given = absurd given
 wanted_fails key get i o BadKeyFile named unread none given = absurd given
+wanted_fails key get i o (NothingThere _) named unread none given = absurd given
 
 -- the file has no private key
 pub private_fails : (origin bytes : List ℕ) (get : Option (List ℕ)) (i o : Passage) (fault : RunFault) → IsUnread i → IsUnwritten o → ReadsPrivate note_kind bytes (Err fault)
@@ -200,6 +205,7 @@ private_fails origin bytes get i o (WrongSignature place) unread none given = ab
 private_fails origin bytes get i o Unverified unread none given = absurd given
 private_fails origin bytes get i o (Device place why) unread none given = absurd given
 private_fails origin bytes get i o BadKeyFile unread none given = (given, unread, none)
+private_fails origin bytes get i o (NothingThere _) unread none given = absurd given
 
 -- the text is no key
 pub key_fails : (text bytes : List ℕ) (entry : Option (List ℕ)) (i o : Passage) (fault : RunFault) → IsIdle i o → ReadsKey text (Err fault) → RunsCheckOpened text bytes entry i o (Err fault)
@@ -227,6 +233,7 @@ key_fails text bytes entry i o (WrongSignature place) idle given = absurd given
 key_fails text bytes entry i o Unverified idle given = absurd given
 key_fails text bytes entry i o (Device place why) idle given = absurd given
 key_fails text bytes entry i o BadKeyFile idle given = absurd given
+key_fails text bytes entry i o (NothingThere _) idle given = absurd given
 
 -- the bytes are no checkpoint that opens
 pub checkpoint_fails : (A : Type 0) (bytes : List ℕ) (keys : List Key) (name : List ℕ) (entry : Option (List ℕ)) (i o : Passage) (fault : RunFault) → IsIdle i o → OpensBytes {A = A} bytes keys (Err fault)
@@ -255,6 +262,7 @@ checkpoint_fails A bytes keys name entry i o (WrongSignature place) idle given =
 checkpoint_fails A bytes keys name entry i o Unverified idle given = (given, idle)
 checkpoint_fails A bytes keys name entry i o (Device place why) idle given = absurd given
 checkpoint_fails A bytes keys name entry i o BadKeyFile idle given = absurd given
+checkpoint_fails A bytes keys name entry i o (NothingThere _) idle given = absurd given
 
 -- the text is no key of a log that is opened
 pub open_key_fails : (text : List ℕ) (i o : Passage) (fault : RunFault) → IsUnread i → IsUnwritten o → ReadsKey text (Err fault) → RunsOpen text i o (Err fault)
@@ -282,6 +290,7 @@ open_key_fails text i o (WrongSignature place) unread none given = absurd given
 open_key_fails text i o Unverified unread none given = absurd given
 open_key_fails text i o (Device place why) unread none given = absurd given
 open_key_fails text i o BadKeyFile unread none given = absurd given
+open_key_fails text i o (NothingThere _) unread none given = absurd given
 
 -- a file can't be read
 pub file_fails : (fault : DeviceFault) → IsFileFault (after_device File fault)

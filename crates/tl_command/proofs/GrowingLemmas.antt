@@ -18,7 +18,7 @@ use Rattle.tl_device.specs.Device.{Passage, ReadWhole}
 use Rattle.tl_command.specs.Inner.Growing.{IsGrowing, IsOutcome, IsTold, ReadsEdge}
 use Rattle.tl_command.specs.Run.{most_input}
 use Rattle.tl_command.specs.declared.fault.RunFault.{RunFault}
-use Rattle.tl_command.specs.declared.fault.RunFault.TheVariants.{Refused, Read, Write, TooLarge, EntryTooLong, BadOrigin, BadIndex, BadOld, BadPath, NotThere, Malformed, Chain, Sign, Operator, Listen, Accept, OutOfMemory, BadName, BadKey, BadCheckpoint, WrongSignature, Unverified, Device, BadKeyFile}
+use Rattle.tl_command.specs.declared.fault.RunFault.TheVariants.{Refused, Read, Write, TooLarge, EntryTooLong, BadOrigin, BadIndex, BadOld, BadPath, NotThere, Malformed, Chain, Sign, Operator, Listen, Accept, OutOfMemory, BadName, BadKey, BadCheckpoint, WrongSignature, Unverified, Device, BadKeyFile, NothingThere}
 use Rattle.tl_command.specs.declared.growing.Growing.{Growing}
 use Rattle.tl_command.specs.Lines.{entries_of, first_too_long, is_too_long, lines_text, HasNoNewline}
 use Rattle.tl_command.proofs.LinesLemmas.{entries_without_newline}
@@ -196,6 +196,7 @@ reads_edge p input (Err (Device place why)) read so = absurd so
 reads_edge p input (Err BadName) read so = absurd so
 reads_edge p input (Err BadKey) read so = absurd so
 reads_edge p input (Err BadKeyFile) read so = absurd so
+reads_edge p input (Err (NothingThere _)) read so = absurd so
 reads_edge p input (Err (BadCheckpoint place)) read so = absurd so
 reads_edge p input (Err (WrongSignature place)) read so = absurd so
 reads_edge p input (Err Unverified) read so = absurd so

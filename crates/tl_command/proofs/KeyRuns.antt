@@ -7,7 +7,7 @@ use Rattle.tl_device.specs.Device.{Passage, IsUnwritten, WroteWhole, WrotePart}
 use Rattle.tl_key.specs.KeyText.{IsSignerText, private_text, verifier_text}
 use Rattle.tl_key.specs.NoteKey.{SeedKey, public_of}
 use Rattle.tl_command.specs.declared.fault.RunFault.{RunFault}
-use Rattle.tl_command.specs.declared.fault.RunFault.TheVariants.{Refused, Read, Write, TooLarge, EntryTooLong, BadOrigin, BadIndex, BadOld, BadPath, NotThere, Malformed, Chain, Sign, Operator, Listen, Accept, OutOfMemory, BadName, BadKey, BadCheckpoint, WrongSignature, Unverified, Device, BadKeyFile}
+use Rattle.tl_command.specs.declared.fault.RunFault.TheVariants.{Refused, Read, Write, TooLarge, EntryTooLong, BadOrigin, BadIndex, BadOld, BadPath, NotThere, Malformed, Chain, Sign, Operator, Listen, Accept, OutOfMemory, BadName, BadKey, BadCheckpoint, WrongSignature, Unverified, Device, BadKeyFile, NothingThere}
 use Rattle.tl_command.specs.Keygen.{IsKeyOf, IsSilent, GivesKey}
 use Rattle.tl_command.specs.Inner.Texts.{MakesKey}
 
@@ -58,3 +58,4 @@ no_key name kind o e (WrongSignature place) silent given = absurd given
 no_key name kind o e Unverified silent given = absurd given
 no_key name kind o e (Device place why) silent given = absurd given
 no_key name kind o e BadKeyFile silent given = absurd given
+no_key name kind o e (NothingThere _) silent given = absurd given

@@ -15,7 +15,7 @@ use Rattle.tl_checkpoint.specs.OpenCheckpoint.{IsSignedCheckpoint}
 use Rattle.tl_command.specs.ProofCommands.{CheckAboutComes}
 use Rattle.tl_command.specs.Run.{Output, Prints, Runs, CameOf, most_input}
 use Rattle.tl_command.specs.declared.fault.RunFault.{RunFault}
-use Rattle.tl_command.specs.declared.fault.RunFault.TheVariants.{Refused, Read, Write, TooLarge, EntryTooLong, BadOrigin, BadIndex, BadOld, BadPath, NotThere, Malformed, Chain, Sign, Operator, Listen, Accept, OutOfMemory, BadName, BadKey, BadCheckpoint, WrongSignature, Unverified, Device, BadKeyFile}
+use Rattle.tl_command.specs.declared.fault.RunFault.TheVariants.{Refused, Read, Write, TooLarge, EntryTooLong, BadOrigin, BadIndex, BadOld, BadPath, NotThere, Malformed, Chain, Sign, Operator, Listen, Accept, OutOfMemory, BadName, BadKey, BadCheckpoint, WrongSignature, Unverified, Device, BadKeyFile, NothingThere}
 use Rattle.tl_command.specs.Open.{IsOpened, OpenComes, RunsOpen, after_note}
 use Rattle.tl_command.specs.CheckOpened.{RunsUnder, RunsCheckOpened, subject_of}
 use Rattle.tl_command.proofs.NoteBytes.{note_some}
@@ -83,6 +83,7 @@ runs_open text k i o (Err OutOfMemory) spelled runs = record { key = k; spelled 
 runs_open text k i o (Err BadName) spelled runs = record { key = k; spelled = spelled; fact = runs }
 runs_open text k i o (Err BadKey) spelled runs = absurd runs.0.so
 runs_open text k i o (Err BadKeyFile) spelled runs = record { key = k; spelled = spelled; fact = runs }
+runs_open text k i o (Err (NothingThere _)) spelled runs = record { key = k; spelled = spelled; fact = runs }
 runs_open text k i o (Err (BadCheckpoint place)) spelled runs = record { key = k; spelled = spelled; fact = runs }
 runs_open text k i o (Err (WrongSignature place)) spelled runs = record { key = k; spelled = spelled; fact = runs }
 runs_open text k i o (Err Unverified) spelled runs = record { key = k; spelled = spelled; fact = runs }
@@ -112,6 +113,7 @@ runs_under bytes keys name entry c i o (Err OutOfMemory) signed named runs = (ru
 runs_under bytes keys name entry c i o (Err BadName) signed named runs = record { checkpoint = c; signed = signed; named = named; runs = runs }
 runs_under bytes keys name entry c i o (Err BadKey) signed named runs = record { checkpoint = c; signed = signed; named = named; runs = runs }
 runs_under bytes keys name entry c i o (Err BadKeyFile) signed named runs = record { checkpoint = c; signed = signed; named = named; runs = runs }
+runs_under bytes keys name entry c i o (Err (NothingThere _)) signed named runs = record { checkpoint = c; signed = signed; named = named; runs = runs }
 runs_under bytes keys name entry c i o (Err (BadCheckpoint place)) signed named runs = absurd runs.0.so
 runs_under bytes keys name entry c i o (Err (WrongSignature place)) signed named runs = absurd runs.0.so
 runs_under bytes keys name entry c i o (Err Unverified) signed named runs = absurd runs.0.so
@@ -141,6 +143,7 @@ runs_check_opened text bytes entry k i o (Err OutOfMemory) spelled runs = record
 runs_check_opened text bytes entry k i o (Err BadName) spelled runs = record { key = k; spelled = spelled; fact = runs }
 runs_check_opened text bytes entry k i o (Err BadKey) spelled runs = absurd runs.runs.0.so
 runs_check_opened text bytes entry k i o (Err BadKeyFile) spelled runs = record { key = k; spelled = spelled; fact = runs }
+runs_check_opened text bytes entry k i o (Err (NothingThere _)) spelled runs = record { key = k; spelled = spelled; fact = runs }
 runs_check_opened text bytes entry k i o (Err (BadCheckpoint place)) spelled runs = record { key = k; spelled = spelled; fact = runs }
 runs_check_opened text bytes entry k i o (Err (WrongSignature place)) spelled runs = record { key = k; spelled = spelled; fact = runs }
 runs_check_opened text bytes entry k i o (Err Unverified) spelled runs = record { key = k; spelled = spelled; fact = runs }

@@ -38,3 +38,4 @@ runs_signed origin bytes get k i o (Err fault.BadName) file named runs = record 
 runs_signed origin bytes get k i o (Err (fault.BadCheckpoint place)) file named runs = record { key = k; file = file; fact = (named, runs) }
 runs_signed origin bytes get k i o (Err (fault.WrongSignature place)) file named runs = record { key = k; file = file; fact = (named, runs) }
 runs_signed origin bytes get k i o (Err fault.Unverified) file named runs = record { key = k; file = file; fact = (named, runs) }
+runs_signed origin bytes get k i o (Err (fault.NothingThere place)) file named runs = record { key = k; file = file; fact = (named, runs) }

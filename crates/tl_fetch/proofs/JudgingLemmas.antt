@@ -26,11 +26,13 @@ use Rattle.tl_fetch.specs.Trusting.{IsGrown, IsKnown, IsNoteOf, Policy, Two, alo
 
 -- a proof to the larger tree from the smaller one's root, and from another one
 pub grown_by : (smaller larger : Head) (p : Consistency) → LeadsTo smaller.size larger p → p.old_root ≡ smaller.root → IsGrown smaller larger
-grown_by smaller larger p leads same =
-    (p.proof, subst (λ (r : Bytes). AcceptsConsistency sha256 p.proof larger.size larger.root smaller.size r) same
-    (subst (λ (n : ℕ). AcceptsConsistency sha256 p.proof larger.size larger.root n p.old_root) leads.old_is
-    (subst (λ (r : Bytes). AcceptsConsistency sha256 p.proof larger.size r p.old p.old_root) leads.root_is
-    (subst (λ (n : ℕ). AcceptsConsistency sha256 p.proof n p.root p.old p.old_root) leads.size_is leads.accepted))))
+grown_by smaller larger p leads same = (
+  p.proof,
+  subst (λ (r : Bytes). AcceptsConsistency sha256 p.proof larger.size larger.root smaller.size r) same
+      (subst (λ (n : ℕ). AcceptsConsistency sha256 p.proof larger.size larger.root n p.old_root) leads.old_is
+      (subst (λ (r : Bytes). AcceptsConsistency sha256 p.proof larger.size r p.old p.old_root) leads.root_is
+      (subst (λ (n : ℕ). AcceptsConsistency sha256 p.proof n p.root p.old p.old_root) leads.size_is leads.accepted))),
+)
 
 pub apart_by : (smaller larger : Head) (p : Consistency) (text : Bytes) → LeadsTo smaller.size larger p → (p.old_root ≡ smaller.root → ⊥) → IsConsistency p
     → text ≡ consistency_text p → Disagree (bare smaller) (bare larger) text

@@ -183,9 +183,17 @@ pub all_begun : (grounds marks : Grounds) (policy : Policy) (two : Two) (last : 
 all_begun grounds marks policy two last old from fault o p on none marked is fair part why =
     let fails = λ (f : FetchFault). grounds.fails f ⊎ marks.fails f in
     let so : FailsGrown grounds fails policy wanted.All from two.new fault p = record { why = why; fair = fair; printed = part } in
-    inr (last, old, marked.had, marked.known, inr (marked.grown,
-      fails_after grounds fails policy wanted.All (first_wanted last old two.old) two.new fault o p on none
-          (subst (λ (n : ℕ). FailsGrown grounds fails policy wanted.All n two.new fault p) is so)))
+    inr (
+      last,
+      old,
+      marked.had,
+      marked.known,
+      inr (
+        marked.grown,
+        fails_after grounds fails policy wanted.All (first_wanted last old two.old) two.new fault o p on none
+            (subst (λ (n : ℕ). FailsGrown grounds fails policy wanted.All n two.new fault p) is so),
+      ),
+    )
 
 -- the two checkpoints, by what the code has of them
 pub are_two : (may_have : Option Bytes → Type 0) (policy : Policy) (last kept : Option Bytes) (old new : Head) (read note : Bytes) → last ≡ kept → read ≡ note → may_have kept

@@ -70,8 +70,49 @@ fn printed_path(alloc: Global, state: &str) -> Result<String, AllocError>
     Ok(path)
 }
 
-// Fetches with the state in this file, and, where all entries are wanted, with how far they were printed in another.
-fn fetch_with_files<
+// Fetches with this state, and with how far all entries were printed in a file beside its own.
+fn fetch_beside<
+    H: Files<File = File> + HostClient,
+    S: ResourceSource + AsksHost,
+    O: Observer,
+    W: Write,
+>(
+    rt: &H,
+    alloc: Global,
+    source: &S,
+    requests: &Requests<'_, H>,
+    policy: &Policy<'_>,
+    path: &str,
+    state: &mut FileState<'_, H>,
+    observer: &mut O,
+    writer: &mut Counted<W>,
+) -> Result<(), FetchFault>
+    ensures { RunsWith (S.may_answer source.now) (S.may_lack source.now) (λ note. Unit {0})
+        IsStateFault (policy_of policy.now.origin.now (map (λ v. key v) policy.now.log.now)
+        (map (λ w. key w) policy.now.witnesses.now) policy.now.need) FetchRequest.All
+        (passage W.contents writer.old writer.new) result }
+{
+    let wanted = FetchRequest::All;
+    let beside = printed_path(alloc, path)?;
+    let mut printed = match AtomicFile::open(rt, alloc, beside.as_str()) {
+        Ok(file) => FileState(file),
+        Err(fault) => return Err(file_refusal(fault)),
+    };
+    fetch_under(
+        alloc,
+        source,
+        requests,
+        policy,
+        wanted,
+        state,
+        &mut printed,
+        observer,
+        writer,
+    )
+}
+
+// Fetches with the state in this file.
+fn fetch_with_file<
     H: Files<File = File> + HostClient,
     S: ResourceSource + AsksHost,
     O: Observer,
@@ -96,20 +137,23 @@ fn fetch_with_files<
         Ok(file) => FileState(file),
         Err(fault) => return Err(file_refusal(fault)),
     };
-    if wanted != FetchRequest::All {
-        let mut unread = NoState;
-        return fetch_under(
-            alloc, source, requests, policy, wanted, &mut state, &mut unread, observer, writer,
-        );
+    let mut unread = NoState;
+    match wanted {
+        FetchRequest::All => fetch_beside(
+            rt, alloc, source, requests, policy, path, &mut state, observer, writer,
+        ),
+        _ => fetch_under(
+            alloc,
+            source,
+            requests,
+            policy,
+            wanted,
+            &mut state,
+            &mut unread,
+            observer,
+            writer,
+        ),
     }
-    let beside = printed_path(alloc, path)?;
-    let mut printed = match AtomicFile::open(rt, alloc, beside.as_str()) {
-        Ok(file) => FileState(file),
-        Err(fault) => return Err(file_refusal(fault)),
-    };
-    fetch_under(
-        alloc, source, requests, policy, wanted, &mut state, &mut printed, observer, writer,
-    )
 }
 
 // Fetches with the state in a file, if one is named.
@@ -152,7 +196,7 @@ fn fetch_with_state<
         );
     };
     let path = path.as_str();
-    fetch_with_files(
+    fetch_with_file(
         rt, alloc, source, &requests, policy, wanted, path, observer, writer,
     )
 }

@@ -166,11 +166,7 @@ fn difference<S: ResourceSource, O: Observer>(
 }
 
 // Prints two texts, one after the other.
-fn print_two<W: Write>(
-    first: &[u8],
-    second: &[u8],
-    writer: &mut Counted<W>,
-) -> Result<(), RunFault>
+fn print_two<W: Write>(first: &[u8], second: &[u8], writer: &mut Counted<W>) -> Result<(), RunFault>
     ensures printed { OnOk result (PrintedWhole
         (λ text. text ≡ first.now ++ second.now) (passage W.contents writer.old writer.new)) }
     ensures part { OnErr result (PrintedSome

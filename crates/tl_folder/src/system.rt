@@ -19,6 +19,7 @@ use tl_device::DeviceFault;
 
 // Everybody may read what a log shows, and its owner alone may write it.
 const SHOWN_FILE: u32 = 0o644;
+
 const SHOWN_FOLDER: u32 = 0o755;
 
 /// The system, by this handle, and the calls that were made. Contracts see the calls.

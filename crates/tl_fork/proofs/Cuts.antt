@@ -189,12 +189,12 @@ cut_lines keys name lines proof is plain proof_is ends e spelled =
     let first_text : e.first ≡ lines_text first = note_text e.first e.a s.lines s.noted in
     let second_text : e.second ≡ lines_text second = note_text e.second e.b t.lines t.noted in
     let behind : e.second ++ e.proof ≡ lines_text (second ++ proof) =
-        ap (λ (x : List ℕ). x ++ e.proof) second_text ∙ ap (λ (x : List ℕ). lines_text second ++ x) spelled ∙ sym (flat_map-append line second proof) in
+    ap (λ (x : List ℕ). x ++ e.proof) second_text ∙ ap (λ (x : List ℕ). lines_text second ++ x) spelled ∙ sym (flat_map-append line second proof) in
     let whole : lines_text lines ≡ lines_text (first ++ (second ++ proof)) =
-        e.parts ∙ ap (λ (x : List ℕ). x ++ (e.second ++ e.proof)) first_text ∙ ap (λ (x : List ℕ). lines_text first ++ x) behind
-        ∙ sym (flat_map-append line first (second ++ proof)) in
+    e.parts ∙ ap (λ (x : List ℕ). x ++ (e.second ++ e.proof)) first_text ∙ ap (λ (x : List ℕ). lines_text first ++ x) behind
+    ∙ sym (flat_map-append line first (second ++ proof)) in
     let each = All-append HasNoNewline first (second ++ proof) (note_plain e.a s.lines s.stated s.noted.each)
-        (All-append HasNoNewline second proof (note_plain e.b t.lines t.stated t.noted.each) proof_is) in
+    (All-append HasNoNewline second proof (note_plain e.b t.lines t.stated t.noted.each) proof_is) in
     let same : first ++ (second ++ proof) ≡ lines = sym (entries_of_lines (first ++ (second ++ proof)) each) ∙ ap entries_of (sym whole) ∙ entries_of_lines lines plain in
     let origin : has_space e.b.origin ≡ false = ap has_space e.second_of.named ∙ name_spaceless name is in
     let one = length_note (checkpoint_lines e.a) (map signature_words s.lines) (second ++ proof) (checkpoint_some e.a s.stated) (words_spaced s.lines) origin in

@@ -7,5 +7,4 @@ ghost use Rattle.tl_fork.specs.Evidence.{AccusesNoHonestLog};
 /// the law.
 pub fn fork_law()
     ensures { AccusesNoHonestLog }
-{
-}
+{}

@@ -88,12 +88,7 @@ impl Desk {
     }
 
     // Takes an entry in that isn't remembered.
-    fn take_in<H: Wait>(
-        &self,
-        rt: &H,
-        entry: &[u8],
-        leaf: Hash,
-    ) -> Result<Arc<Receipt>, Untaken> {
+    fn take_in<H: Wait>(&self, rt: &H, entry: &[u8], leaf: Hash) -> Result<Arc<Receipt>, Untaken> {
         let entry = Vec::from_slice(self.alloc, entry)?;
         let receipt = Arc::new(self.alloc, Receipt::new(leaf, None))?;
         let own = Arc::try_clone(&receipt)?;

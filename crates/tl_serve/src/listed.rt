@@ -93,7 +93,5 @@ pub(crate) fn run_listed<
         Ok(chains) => chains,
         Err(fault) => return Err(WitnessFault::Run(fault)),
     };
-    after_run(serve_listed(
-        rt, alloc, options, entrance, logs, key, chains, writer, log,
-    ))
+    after_run(serve_listed(rt, alloc, options, entrance, logs, key, chains, writer, log))
 }

@@ -27,9 +27,7 @@ use crate::shelf_log::ShelfLog;
 use std::alloc::{AllocError, Global};
 use std::io::{Read, Write};
 use std::net::{Net, TcpListener, TcpStream};
-use tl_append::{
-    LogKeys, LogOpeningKey, LogShelf, OpenedLog, check_asked, check_start, keys_of,
-};
+use tl_append::{LogKeys, LogOpeningKey, LogShelf, OpenedLog, check_asked, check_start, keys_of};
 use tl_archive::Shelf;
 use tl_command::RunFault;
 use tl_device::Counted;

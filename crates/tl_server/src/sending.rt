@@ -81,8 +81,8 @@ fn put_texts<'a, W: Write>(
     let size_name: &'a [u8] = b"Content-Length: ";
     let close: &'a [u8] = b"\r\nConnection: close\r\n\r\n";
     let pieces: [&'a [u8]; 16] = [
-        version, status, space, reason, line_end, allow_name, allow, allow_end, retry,
-        kind_name, kind_text, kind_end, size_name, size, close, body,
+        version, status, space, reason, line_end, allow_name, allow, allow_end, retry, kind_name,
+        kind_text, kind_end, size_name, size, close, body,
     ];
     write_pieces(writer, &pieces)
 }
@@ -106,7 +106,14 @@ pub(crate) fn send<W: Write>(
     let reason = phrase_of(status).as_bytes();
     let retry = retry_of(status);
     put_texts(
-        writer, status_text, reason, allow, retry, kind, size_text, body,
+        writer,
+        status_text,
+        reason,
+        allow,
+        retry,
+        kind,
+        size_text,
+        body,
     )?;
     Ok(Some(status))
 }

@@ -81,7 +81,10 @@ pub(crate) fn tell_before<H: Files, E: Write>(
     }
     let command = command.as_str();
     if is_terminal && reads_all(command, words) {
-        let _ = write_whole(errors, b"tlog: reading standard input up to its end (Ctrl-D)\n");
+        let _ = write_whole(
+            errors,
+            b"tlog: reading standard input up to its end (Ctrl-D)\n",
+        );
     }
     match private_key(command, words) {
         Some(path) if is_open(rt, path) => tell_open(path, errors),

@@ -160,10 +160,7 @@ fn checking_refusal(options: &ArgMatches<'_>) -> Option<&'static str> {
 }
 
 // The entry that is given, if one is.
-fn given_entry(
-    alloc: Global,
-    options: &ArgMatches<'_>,
-) -> Result<Option<GivenEntry>, WordsFault> {
+fn given_entry(alloc: Global, options: &ArgMatches<'_>) -> Result<Option<GivenEntry>, WordsFault> {
     if is_given(options, "entry") {
         return Ok(Some(GivenEntry::Text(text_of(alloc, options, "entry")?)));
     }

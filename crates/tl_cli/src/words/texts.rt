@@ -19,8 +19,7 @@ write failed.
 
 Example: tlog head --origin example.com/log < list";
 
-pub(super) const BUILD: &str =
-    "Input: the entries of the log, one a line, as for 'tlog head'.
+pub(super) const BUILD: &str = "Input: the entries of the log, one a line, as for 'tlog head'.
 
 Output: a line 'PATH LENGTH' for each resource of the log (C2SP tlog-tiles): its
 tiles, its entry bundles and its checkpoint. With --get the bytes of one
@@ -64,8 +63,7 @@ arguments or a call for help; 3 a read or a write failed.
 
 Example: tlog append --origin example.com/log --key key --dir log --new < list";
 
-pub(super) const INCLUSION: &str =
-    "Input: the entries of the log, one a line, as for 'tlog head'.
+pub(super) const INCLUSION: &str = "Input: the entries of the log, one a line, as for 'tlog head'.
 
 Output: lines 'inclusion', 'index I', 'size N', 'leaf HASH', 'root HASH', and
 the hashes of the proof (RFC 6962, section 2.1.1), one a line, the one nearest
@@ -77,8 +75,7 @@ write failed.
 
 Example: tlog inclusion --index 1 < list | tlog check";
 
-pub(super) const CONSISTENCY: &str =
-    "Input: the entries of the log, one a line, as for 'tlog head'.
+pub(super) const CONSISTENCY: &str = "Input: the entries of the log, one a line, as for 'tlog head'.
 
 Output: lines 'consistency', 'old M', 'oldroot HASH', 'size N', 'root HASH', and
 the hashes of the proof (RFC 6962, section 2.1.2), one a line. Hashes are in

@@ -13,10 +13,10 @@ ghost use Rattle.tl_fetch.specs.Trusting.{AreTwo, IsGrown, IsKnown, IsNoteOf, Tw
 use crate::fault::FetchFault;
 use crate::faults::BAD_CHECKPOINT;
 use crate::feed::asking::{AsksWitnesses, line_by};
+use crate::judging::{Update, is_same, judge};
 use crate::observer::Observer;
 use crate::opening::{open_trusted, trusted_two};
 use crate::policy::Policy;
-use crate::judging::{Update, is_same, judge};
 use crate::state::TrustStore;
 use std::alloc::{AllocError, Global};
 use std::io::Write;

@@ -18,5 +18,6 @@ returns g c = inr (record {
   outcome = c.run_append-outcome.result;
   start = started _ (found_size c.run_append-outcome.new.found.head) c.committed.result c.finish_log.new.shelf.objects.claims.start c.committed.ensures c.run_append-outcome.ensures.start;
   goes_on = c.run_append-outcome.ensures.goes_on;
+  begins = c.run_append-outcome.ensures.fresh;
   ends = c.after_bucket-2.ensures;
 })

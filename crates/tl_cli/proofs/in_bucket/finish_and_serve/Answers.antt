@@ -16,6 +16,7 @@ returns g c = inr (record {
   found = c.serve_sealed-shelf.new.found;
   outcome = c.serve_sealed-shelf.result.outcome;
   start = c.serve_sealed-shelf.ensures.start;
+  begins = c.serve_sealed-shelf.ensures.begins;
   serves = c.serve_sealed-shelf.ensures.serves;
   ends = c.after_bucket-2.ensures;
 })
