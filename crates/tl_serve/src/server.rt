@@ -106,14 +106,7 @@ impl<H: Host + Net<Listener = TcpListener, Stream = TcpStream>, G: Gate> Server<
     ) -> Result<Door, RunFault> {
         let threads = u32::try_from(threads).unwrap_or(u32::MAX);
         let server = &self.options.server;
-        let door = Door::open(
-            self.rt,
-            self.alloc,
-            server,
-            entrance,
-            threads,
-            log,
-        )?;
+        let door = Door::open(self.rt, self.alloc, server, entrance, threads, log)?;
         if self.options.dir.is_none() && !server.quiet {
             tell_in_memory(log)?;
         }
