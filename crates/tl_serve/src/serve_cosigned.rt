@@ -295,7 +295,9 @@ pub fn run_serve_cosigned<
         return given_back(log, RunFault::BadKey);
     }
     let Site {
-        entrance, input, ..
+        entrance,
+        input,
+        ..
     } = *site;
     let ballot = Some(&ready.ballot);
     let site = Site {
