@@ -1,4 +1,1 @@
 mod Honest
-pub mod Cuts
-pub mod NotSigned
-pub mod ForkRuns

@@ -1,4 +1,2 @@
--- What evidence of a fork is, what it shows, and what the check of it prints.
+-- What evidence of a fork is, and what it shows.
 pub mod Evidence
-pub mod ForkCommand
-pub mod Inner

@@ -1,3 +1,0 @@
--- Words that the contracts of private functions use.
-pub mod Cutting
-pub mod Opening
