@@ -233,7 +233,7 @@ pub(crate) fn serve_from<
     if !is_key_name(serve.origin.as_str()) {
         return Err(CommandFault::Run(RunFault::BadOrigin));
     }
-    let entrance = match Entrance::open(rt, &serve.server) {
+    let entrance = match Entrance::open(rt, alloc, &serve.server, errors) {
         Ok(entrance) => entrance,
         Err(fault) => return Err(CommandFault::Run(fault)),
     };

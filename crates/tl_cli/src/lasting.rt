@@ -198,10 +198,13 @@ fn witness_at<
     rt: &H,
     alloc: Global,
     options: &WitnessOptions,
-    entrance: &Entrance,
     path: &str,
     errors: &mut Counted<E>,
 ) -> Result<(), WitnessFault> {
+    let entrance = match Entrance::open(rt, alloc, &options.server, errors) {
+        Ok(entrance) => entrance,
+        Err(fault) => return Err(WitnessFault::Run(fault)),
+    };
     match check_state(rt, path, options.is_new) {
         Ok(()) => {}
         Err(fault) => return Err(fault),
@@ -218,7 +221,7 @@ fn witness_at<
         rt,
         alloc,
         options,
-        entrance,
+        Some(&entrance),
         &mut reader,
         &mut writer,
         errors,
@@ -251,15 +254,11 @@ pub(crate) fn witness<
     ensures spares { SparesStreams options.now (passage R.remaining reader.old reader.new)
         (passage W.contents writer.old writer.new) }
 {
+    let Some(path) = &options.state else {
+        return run_witness(rt, alloc, options, None, reader, writer, errors);
+    };
     if !may_serve(&options.logs) {
         return Err(WitnessFault::Run(RunFault::BadOrigin));
     }
-    let entrance = match Entrance::open(rt, &options.server) {
-        Ok(entrance) => entrance,
-        Err(fault) => return Err(WitnessFault::Run(fault)),
-    };
-    match &options.state {
-        Some(path) => witness_at(rt, alloc, options, &entrance, path, errors),
-        None => run_witness(rt, alloc, options, &entrance, reader, writer, errors),
-    }
+    witness_at(rt, alloc, options, path, errors)
 }

@@ -203,7 +203,7 @@ pub(crate) fn serve_at<
     if !is_key_name(options.origin.as_str()) {
         return Err(RunFault::BadOrigin);
     }
-    let entrance = match Entrance::open(rt, &options.server) {
+    let entrance = match Entrance::open(rt, alloc, &options.server, errors) {
         Ok(entrance) => entrance,
         Err(fault) => return Err(fault),
     };

@@ -1,12 +1,16 @@
 //! The address of a server, and what else of the system it stands on.
 
 use crate::options::ListenOptions;
+use crate::telling::tell_refused;
+use std::alloc::Global;
 use std::io;
+use std::io::Write;
 use std::net::{Net, SocketAddr, TcpListener, TcpStream};
 use std::os::fd::RawFd;
 use std::sync::Arc;
 use tl_command::RunFault;
 use tl_cosign::Ballot;
+use tl_device::Counted;
 
 /// The address of a server, which no other process has as long as this lasts. Clients that connect before the server
 /// answers wait.
@@ -28,14 +32,21 @@ fn listen<H: Net<Listener = TcpListener, Stream = TcpStream>>(
 }
 
 impl Entrance {
-    /// Takes the address of the options, before anything is made for the server. `Listen`: the address is refused.
-    pub fn open<H: Net<Listener = TcpListener, Stream = TcpStream>>(
+    /// Takes the address of the options, before anything is made for the server. `Listen`: the address is refused; why
+    /// is told on `out`.
+    pub fn open<H: Net<Listener = TcpListener, Stream = TcpStream>, L: Write>(
         rt: &H,
+        alloc: Global,
         options: &ListenOptions,
+        out: &mut Counted<L>,
     ) -> Result<Entrance, RunFault> {
-        match listen(rt, options.listen.as_str()) {
+        let address = options.listen.as_str();
+        match listen(rt, address) {
             Ok(entrance) => Ok(entrance),
-            Err(_) => Err(RunFault::Listen),
+            Err(error) => {
+                let _ = tell_refused(alloc, out, address, error.kind());
+                Err(RunFault::Listen)
+            }
         }
     }
 }

@@ -112,6 +112,7 @@ impl<H: Host + Net<Listener = TcpListener, Stream = TcpStream>, G: Gate> Server<
         let mut operator = opened;
         let takes_posts = self.options.takes_posts;
         let lanes = lanes_and_desk(self.alloc, submitters, entries, takes_posts)?;
+        let entrance = Entrance::open(self.rt, self.alloc, &self.options.server, out)?;
         let mut readers = publish_first(&mut operator, readers)?;
         let Some(board) = readers.pop() else {
             return Err(RunFault::Operator);
@@ -123,8 +124,9 @@ impl<H: Host + Net<Listener = TcpListener, Stream = TcpStream>, G: Gate> Server<
             is_due: false,
             remembered: self.remembered(),
         };
+        let site = Site::new(&entrance, self.input);
         let Ran { running, heart } = self.serve_published(
-            log, base, lanes, pages, lines, reader, out,
+            &site, log, base, lanes, pages, lines, reader, out,
         );
         let heart = check_closing(heart)?;
         let Running { log, .. } = running;
@@ -215,7 +217,6 @@ pub fn serve_gated<
         return Err(RunFault::BadOrigin);
     }
     let gate: &G = &gate;
-    let entrance = Entrance::open(rt, &options.server)?;
     let LogKeys { signer, verifier } = keys_of(rt, alloc, origin, &options.key)?;
     let opens: [Box<dyn Verifier>; 1] = [Box::new(alloc, verifier)?];
     let mut signers: Vec<Box<dyn Signer>> = Vec::new(alloc);
@@ -224,7 +225,7 @@ pub fn serve_gated<
         rt,
         alloc,
         options,
-        site: &Site::new(&entrance, input),
+        input,
         gate,
     };
     match &options.note {

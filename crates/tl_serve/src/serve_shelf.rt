@@ -189,6 +189,7 @@ fn serve_under<
     L: Write,
 >(
     server: &Server<'_, H, OpenGate>,
+    site: &Site<'_>,
     keys: LogKeys,
     start: Option<u64>,
     shelf: S,
@@ -234,7 +235,7 @@ fn serve_under<
         return Served { shelf, outcome };
     }
     let Ran { running, heart } = server.serve_published(
-        log, base, lanes, pages, lines, reader, out,
+        site, log, base, lanes, pages, lines, reader, out,
     );
     let outcome = close(alloc, &running.log, heart, options.server.quiet, out);
     let Running { log, .. } = running;
@@ -291,8 +292,8 @@ pub fn run_serve_shelf<
         rt,
         alloc,
         options,
-        site,
+        input: site.input,
         gate: &OpenGate,
     };
-    serve_under(&server, keys, start, shelf, shown, found, reader, out)
+    serve_under(&server, site, keys, start, shelf, shown, found, reader, out)
 }

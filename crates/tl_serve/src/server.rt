@@ -7,7 +7,7 @@ ghost use Rattle.tl_serve.specs.Inner.Running.{StaysRunning};
 use crate::awaited::Awaited;
 use crate::desk::Desk;
 use crate::door::Door;
-use crate::entrance::Site;
+use crate::entrance::{Entrance, Site};
 use crate::following::Followed;
 use crate::gate::Gate;
 use crate::host::Host;
@@ -25,6 +25,7 @@ use mio::Waker;
 use std::alloc::Global;
 use std::io::{Read, Write};
 use std::net::{Net, TcpListener, TcpStream};
+use std::os::fd::RawFd;
 use std::sync::Arc;
 use tl_command::RunFault;
 use tl_device::Counted;
@@ -39,7 +40,8 @@ pub(crate) struct Server<'s, H, G> {
     pub(crate) rt: &'s H,
     pub(crate) alloc: Global,
     pub(crate) options: &'s ServeOptions,
-    pub(crate) site: &'s Site<'s>,
+    // The descriptor of the input, if there is one to wait for.
+    pub(crate) input: Option<RawFd>,
     pub(crate) gate: &'s G,
 }
 
@@ -96,17 +98,15 @@ impl<H: Host + Net<Listener = TcpListener, Stream = TcpStream>, G: Gate> Server<
     }
 
     // Opens the door, and tells where it is, and whether the log is in memory alone.
-    fn open_door<L: Write>(&self, threads: usize, log: &mut Counted<L>) -> Result<Door, RunFault> {
+    fn open_door<L: Write>(
+        &self,
+        entrance: &Entrance,
+        threads: usize,
+        log: &mut Counted<L>,
+    ) -> Result<Door, RunFault> {
         let threads = u32::try_from(threads).unwrap_or(u32::MAX);
         let server = &self.options.server;
-        let door = Door::open(
-            self.rt,
-            self.alloc,
-            server,
-            self.site.entrance,
-            threads,
-            log,
-        )?;
+        let door = Door::open(self.rt, self.alloc, server, entrance, threads, log)?;
         if self.options.dir.is_none() && !server.quiet {
             tell_in_memory(log)?;
         }
@@ -122,7 +122,7 @@ impl<H: Host + Net<Listener = TcpListener, Stream = TcpStream>, G: Gate> Server<
         if !self.options.follow {
             return Ok((None, None));
         }
-        let (input, waker) = Awaited::new(self.rt, self.alloc, self.site.input)?;
+        let (input, waker) = Awaited::new(self.rt, self.alloc, self.input)?;
         let before = lines.entries();
         let followed = Followed {
             lines,
@@ -153,6 +153,7 @@ impl<H: Host + Net<Listener = TcpListener, Stream = TcpStream>, G: Gate> Server<
     // What a log is served with beside its pages: what is followed, what the threads tell, and the door.
     fn prepare<'r, R: Read + Send, L: Write>(
         &self,
+        site: &Site<'_>,
         base: Base,
         lanes: usize,
         lines: Lines<Global>,
@@ -162,12 +163,12 @@ impl<H: Host + Net<Listener = TcpListener, Stream = TcpStream>, G: Gate> Server<
     ) -> Result<Prepared<'r, R>, RunFault> {
         let (followed, following) = self.follow(lines, reader)?;
         let desk = self.open_desk(base, lanes)?;
-        let ballot = match self.site.ballot {
+        let ballot = match site.ballot {
             Some(ballot) => Some(Arc::try_clone(ballot)?),
             None => None,
         };
         let news = News::new(self.rt, self.alloc, following, desk, ballot)?;
-        let door = self.open_door(threads, out)?;
+        let door = self.open_door(site.entrance, threads, out)?;
         Ok(Prepared {
             followed,
             news,
@@ -185,9 +186,10 @@ impl<H: Host + Net<Listener = TcpListener, Stream = TcpStream>, G: Gate> Server<
         Remembered::new(self.rt, self.alloc, most)
     }
 
-    /// Serves a log that was published, or is due, and hands it back.
+    /// Serves a log at a site that was published, or is due, and hands it back.
     pub(crate) fn serve_published<O: LiveLog, P: Pages + Send, R: Read + Send, L: Write>(
         &self,
+        site: &Site<'_>,
         log: O,
         base: Base,
         lanes: Vec<Sending>,
@@ -206,7 +208,7 @@ impl<H: Host + Net<Listener = TcpListener, Stream = TcpStream>, G: Gate> Server<
             followed,
             news,
             door,
-        } = match self.prepare(base, count, lines, reader, pages.len(), out) {
+        } = match self.prepare(site, base, count, lines, reader, pages.len(), out) {
             Ok(prepared) => prepared,
             Err(fault) => {
                 return Ran {

@@ -6,7 +6,7 @@ ghost use Rattle.tl_serve.specs.Inner.Telling.{Tells, told_closed, told_head, to
 
 use base64::engine::general_purpose::STANDARD;
 use std::alloc::Global;
-use std::io::Write;
+use std::io::{ErrorKind, Write};
 use tl_command::{RunFault, print_text};
 use tl_device::Counted;
 use tl_hash::Head;
@@ -86,6 +86,17 @@ pub(crate) fn tell_not_published<L: Write>(
         Ok(()) => Ok(()),
         Err(fault) => Err(fault),
     }
+}
+
+/// Tells why an address is refused.
+pub(crate) fn tell_refused<L: Write>(
+    alloc: Global,
+    log: &mut Counted<L>,
+    address: &str,
+    why: ErrorKind,
+) -> Result<(), RunFault> {
+    let line = format!(in alloc; "tlog: {address}: {why}\n")?;
+    print_text(log, line.as_bytes())
 }
 
 /// Tells that the log is in memory alone.

@@ -211,6 +211,23 @@ fn answer_all<
     })
 }
 
+// Opens the door of a witness, at its entrance, if it has one.
+fn open_door<H: Host + Net<Listener = TcpListener, Stream = TcpStream>, L: Write>(
+    rt: &H,
+    alloc: Global,
+    options: &WitnessOptions,
+    entrance: Option<&Entrance>,
+    threads: u32,
+    log: &mut Counted<L>,
+) -> Result<Door, RunFault> {
+    let server = &options.server;
+    if let Some(entrance) = entrance {
+        return Door::open(rt, alloc, server, entrance, threads, log);
+    }
+    let entrance = Entrance::open(rt, alloc, server, log)?;
+    Door::open(rt, alloc, server, &entrance, threads, log)
+}
+
 // Listens, and answers connections to a witness.
 fn serve_all<
     H: Host + Net<Listener = TcpListener, Stream = TcpStream>,
@@ -221,14 +238,14 @@ fn serve_all<
     rt: &H,
     alloc: Global,
     options: &WitnessOptions,
-    entrance: &Entrance,
+    entrance: Option<&Entrance>,
     witness: &W,
     writer: &mut Counted<O>,
     log: &mut Counted<L>,
 ) -> Result<(), RunFault> {
     let threads = threads_of(rt, options.server.threads);
     let news = News::new(rt, alloc, None, None, None)?;
-    let door = Door::open(rt, alloc, &options.server, entrance, threads, log)?;
+    let door = open_door(rt, alloc, options, entrance, threads, log)?;
     let queue = LineQueue::new(alloc, &mut *writer)?;
     answer_all(rt, alloc, options.time, &door, witness, &queue, &news)
 }
@@ -242,7 +259,7 @@ pub(crate) fn serve_trusted<
     rt: &H,
     alloc: Global,
     options: &WitnessOptions,
-    entrance: &Entrance,
+    entrance: Option<&Entrance>,
     trusts: Vec<Trust<Global>>,
     chains: Vec<(String, Vec<Link<Global>>)>,
     writer: &mut Counted<O>,
@@ -344,7 +361,7 @@ fn run_one<
     rt: &H,
     alloc: Global,
     options: &WitnessOptions,
-    entrance: &Entrance,
+    entrance: Option<&Entrance>,
     origin: &str,
     key: &LogVerifierKey,
     reader: &mut Counted<R>,
@@ -372,10 +389,11 @@ fn run_one<
     serve_trusted(rt, alloc, options, entrance, trusts, chains, writer, log)
 }
 
-/// Serves a witness over HTTP, at this entrance: reads the lines that an earlier run printed, tells the address, then answers
-/// connections, each by `tl_server::serve_witness`, and ends after as many as the options say, or once something fails.
-/// A line for each checkpoint that it cosigns anew is printed before the answer; where that fails, it ends. Lines of
-/// logs that a file doesn't name are passed over. It may wait.
+/// Serves a witness over HTTP, at this entrance, if there is one, or else at the address of the options: reads the lines
+/// that an earlier run printed, tells the address, then answers connections, each by `tl_server::serve_witness`, and
+/// ends after as many as the options say, or once something fails. A line for each checkpoint that it cosigns anew is
+/// printed before the answer; where that fails, it ends. Lines of logs that a file doesn't name are passed over. It may
+/// wait.
 pub fn run_witness<
     H: Host + Net<Listener = TcpListener, Stream = TcpStream>,
     R: Read,
@@ -385,7 +403,7 @@ pub fn run_witness<
     rt: &H,
     alloc: Global,
     options: &WitnessOptions,
-    entrance: &Entrance,
+    entrance: Option<&Entrance>,
     reader: &mut Counted<R>,
     writer: &mut Counted<O>,
     log: &mut Counted<L>,

@@ -19,7 +19,7 @@ const HEAD: Words = Words {
     about: "Prints the checkpoint of the log of the lines of standard input",
     after_help: texts::HEAD,
     groups: &[Group {
-        heading: "Options",
+        heading: "",
         words: words![
             "origin" "NAME" Kind::RequiredText => "The name of the log, one line that isn't empty";
             "threads" "N" Kind::Short => THREADS;
@@ -37,7 +37,7 @@ const INCLUSION: Words = Words {
     about: "Prints the inclusion proof of a line of standard input",
     after_help: texts::INCLUSION,
     groups: &[Group {
-        heading: "Options",
+        heading: "",
         words: words![
             "index" "N" Kind::RequiredNumber => "The place of the line, counted from 0";
             "threads" "N" Kind::Short => THREADS;
@@ -55,7 +55,7 @@ const CONSISTENCY: Words = Words {
     about: "Prints the proof that the first lines of standard input begin them all",
     after_help: texts::CONSISTENCY,
     groups: &[Group {
-        heading: "Options",
+        heading: "",
         words: words![
             "old" "N" Kind::RequiredNumber => "The number of the first lines";
             "threads" "N" Kind::Short => THREADS;
@@ -101,7 +101,7 @@ const KEYGEN: Words = Words {
     about: "Makes a key from the system's random bytes",
     after_help: texts::KEYGEN,
     groups: &[Group {
-        heading: "Options",
+        heading: "",
         words: words![
             "name" "NAME" Kind::RequiredText => "The key's name";
             "cosigner" "" Kind::Flag => "Make a key of a witness, which cosigns checkpoints";
@@ -120,7 +120,7 @@ const OPEN: Words = Words {
     about: "Prints the text of the signed note on standard input, if it opens",
     after_help: texts::OPEN,
     groups: &[Group {
-        heading: "Options",
+        heading: "",
         words: words![
             "key" "VKEY" Kind::RequiredText => LOG_KEY;
         ],

@@ -40,7 +40,7 @@ pub(super) struct Word {
     pub(super) help: &'static str,
 }
 
-/// The words of a subject, under the heading that help has for them.
+/// The words of a subject, under the heading that help has for them, or with all others if that is empty.
 pub(super) struct Group {
     pub(super) heading: &'static str,
     pub(super) words: &'static [Word],
@@ -85,10 +85,15 @@ fn parser_of<'a>(kind: Kind) -> ValueParser<'a> {
 
 // A word as an argument.
 fn argument<'a>(alloc: Global, heading: &'static str, word: &Word) -> Arg<'a> {
-    let arg = Arg::new(alloc, word.name)
+    let arg = Arg::new(alloc, word.name);
+    let arg = if heading.is_empty() {
+        arg
+    } else {
+        arg.help_heading(heading)
+    };
+    let arg = arg
         .long(word.name)
         .help(word.help)
-        .help_heading(heading)
         .action(action_of(word.kind));
     if matches!(word.kind, Kind::Flag) {
         return arg;
