@@ -18,10 +18,12 @@ use Rattle.tl_fetch.specs.Inner.FeedRuns.{FeedsOver}
 use Rattle.tl_fetch.specs.Inner.Naming.{Renames}
 use Rattle.tl_fetch.specs.Faults.{IsNoAccusation}
 use Rattle.tl_fetch.specs.Feeding.{HasFed, IsFedNote, IsUnfed, RefusesFeed}
-use Rattle.tl_fetch.specs.Fetching.{AreTwo, Grounds, RefusesTwo, Two, grounds_of}
+use Rattle.tl_fetch.specs.Fetching.{Grounds, grounds_of}
 use Rattle.tl_fetch.specs.Opening.{RefusesNote}
 use Rattle.tl_fetch.specs.Printed.{PrintedSome, PrintedWhole}
-use Rattle.tl_fetch.specs.Trusting.{IsGrown, Policy, alone}
+use Rattle.tl_fetch.specs.Inner.Judging.{JudgesTwo}
+use Rattle.tl_fetch.specs.Trusting.{AreTwo, IsGrown, Policy, Two, alone}
+use Rattle.tl_fetch.proofs.JudgingLemmas.{judged}
 use Rattle.tl_fetch.proofs.Passages.{GoesOn, joined, silent_some, silent_whole}
 
 -- a note with lines behind it that isn't trusted
@@ -30,8 +32,8 @@ unfed policy note read lines fault is refused = inl (lines, subst (λ (text : By
 
 -- a log that is refused by its two checkpoints
 pub refused_feed : (grounds : Grounds) (policy : Policy) (two : Two) (fault : FetchFault) (o : Passage) → AreTwo grounds.has (alone policy) two
-    → RefusesTwo grounds two fault o → RefusesFeed grounds policy fault o
-refused_feed grounds policy two fault o are refused = inr (two, are, inl refused)
+    → JudgesTwo grounds.answers grounds.lacks two fault o → RefusesFeed grounds policy fault o
+refused_feed grounds policy two fault o are refused = inr (two, are, inl (judged grounds (alone policy) two fault o are.known are.trusted refused))
 
 -- what is printed of a log that goes on, after nothing was
 pub fed_two : (has_kept : Bytes → Type 0) (policy : Policy) (two : Two) (o p : Passage) → IsGrown two.old two.new → GoesOn o p → IsUnwritten o → has_kept two.note
