@@ -1,0 +1,4 @@
+pub mod Cuts
+pub mod NotSigned
+pub mod Verdicts
+pub mod ForkRuns

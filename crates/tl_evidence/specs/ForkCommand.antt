@@ -1,0 +1,25 @@
+-- The command `check --fork`: whether a text is evidence that a log forked.
+use Rattle.std.specs.Prelude.{◌≡◌, List, [], ◌∷◌, ◌++◌, codes, Result, Err}
+use Rattle.tl_hash.specs.Bytes.{Bytes}
+use Rattle.tl_text.specs.Text.{line}
+use Rattle.tl_note.specs.Key.{Key}
+use Rattle.tl_device.specs.Device.{Passage, IsSteady, IsUnread, IsUnwritten}
+use Rattle.tl_key.specs.NoteKey.{verifier_key}
+use Rattle.tl_command.specs.Keys.{IsNoKey}
+use Rattle.tl_command.specs.Open.{IsKeyWith}
+use Rattle.tl_command.specs.Run.{Output, Prints, PrintsRefusal, Fails, Runs}
+use Rattle.tl_command.specs.declared.fault.RunFault.{RunFault}
+use Rattle.tl_command.specs.declared.fault.RunFault.TheVariants.{BadKey, OutOfMemory}
+use Rattle.tl_fork.specs.Evidence.{IsEvidence}
+
+-- what comes of an input: it is evidence against the log, or it is refused
+abbrev pub ForkComes : List Key → Bytes → Bytes → Output → Type 0
+ForkComes keys name input (Prints text) = IsEvidence keys name input × (text ≡ line (codes "fork of " ++ name))
+ForkComes keys name input (PrintsRefusal text) = ¬ (IsEvidence keys name input) × (text ≡ line (codes "refused"))
+ForkComes keys name input (Fails fault) = ⊥
+
+-- a run with the text of the log's verifier's key: what is no such text is refused before anything is read
+abbrev pub RunsFork : Bytes → Passage → Passage → Result (Unit {0}) RunFault → Type 0
+RunsFork text i o (Err BadKey) = IsNoKey text × IsUnread i × IsUnwritten o
+RunsFork text i o (Err OutOfMemory) = IsKeyWith text (λ k. IsSteady i × IsUnwritten o)
+RunsFork text i o result = IsKeyWith text (λ k. Runs (ForkComes (verifier_key k ∷ []) k.name) i o result)

@@ -1,0 +1,3 @@
+-- What the check of evidence prints.
+pub mod ForkCommand
+pub mod Inner
