@@ -241,7 +241,10 @@ impl<'b, D: CrashOutcome + Drop, H: Net<Stream = TcpStream> + Clock> BucketShelf
         let claims = claims_behind(&client, &mut connection, token)?;
         let shown = find_shown(&client, &mut connection)?;
         check_begins(is_new, &claims, &shown)?;
-        check_conditions(&client, &mut connection, claims.token())?;
+        match check_conditions(&client, &mut connection, claims.token()) {
+            Ok(()) => {}
+            Err(fault) => return Err(fault),
+        }
         Ok(BucketShelf::new(disk, client, address, claims, shown, false))
     }
 
