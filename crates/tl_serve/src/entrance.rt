@@ -71,4 +71,14 @@ impl<'s> Site<'s> {
             ballot: None,
         }
     }
+
+    /// The same, where what the log proposes goes to this ballot.
+    pub(crate) fn with_ballot<'t>(&'t self, ballot: &'t Arc<Ballot>) -> Site<'t> {
+        let ballot = Some(ballot);
+        Site {
+            entrance: self.entrance,
+            input: self.input,
+            ballot,
+        }
+    }
 }

@@ -294,17 +294,7 @@ pub fn run_serve_cosigned<
     if !have_distinct_names(witnesses.as_slice()) {
         return given_back(log, RunFault::BadKey);
     }
-    let Site {
-        entrance,
-        input,
-        ..
-    } = *site;
-    let ballot = Some(&ready.ballot);
-    let site = Site {
-        entrance,
-        input,
-        ballot,
-    };
+    let site = site.with_ballot(&ready.ballot);
     let asker = Asking {
         rt,
         alloc,
