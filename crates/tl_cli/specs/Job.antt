@@ -32,7 +32,7 @@ use Rattle.tl_cli.specs.InBucket.{AppendsTo, ServesFrom}
 use Rattle.tl_cli.specs.Lasting.{Folder, AppendsIn, ServesIn, SparesStreams}
 use Rattle.tl_cli.specs.Told.{Tells}
 use Rattle.tl_cli.specs.Version.{PrintsText, PrintsVersion}
-use Rattle.tl_fork.specs.ForkCommand.{RunsFork}
+use Rattle.tl_evidence.specs.ForkCommand.{RunsFork}
 use Rattle.tl_command.specs.declared.commands.checking.GivenEntry.{GivenEntry}
 use Rattle.tl_command.specs.declared.commands.checking.GivenEntry.TheVariants.{Text, File}
 

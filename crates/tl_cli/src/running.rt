@@ -36,9 +36,9 @@ use tl_command::{
     run_consistency, run_head, run_inclusion, run_keygen, run_open,
 };
 use tl_device::{Counted, write_whole};
+use tl_evidence::run_check_fork;
 use tl_fetch::{run_feed, run_fetch};
 use tl_folder::CrashOutcome;
-use tl_fork::run_check_fork;
 use tl_hash::Sha256Tree;
 use tl_key::{Cosignature, Note};
 use tl_serve::Host;

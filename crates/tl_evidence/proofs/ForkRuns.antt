@@ -16,7 +16,7 @@ use Rattle.tl_evidence.specs.ForkCommand.{ForkComes, RunsFork}
 abbrev fork_text : List ℕ → List ℕ
 fork_text name = line (codes "fork of " ++ name)
 
-abbrev refused_text : List ℕ
+abbrev pub refused_text : List ℕ
 refused_text = line (codes "refused")
 
 pub printed : (keys : List Key) (name input text : List ℕ) (i o : Passage) → ReadWhole i most_input input → IsEvidence keys name input → text ≡ fork_text name → WroteWhole o text

@@ -1,6 +1,7 @@
 -- What the code finds is what evidence is.
 use Rattle.std.proofs.Common.{◌≡◌, ◌≢◌, ℕ, zero, suc, ◌<◌, ◌^◌, ◌⊎◌, inl, inr, List, [], ◌∷◌, ◌++◌, length, take, drop, get_or, map, Bool, true, false, refl, sym, ap, subst, ◌∙◌, arith, All}
-use Rattle.std.specs.Prelude.{◌↔◌, IfOk, IsTrue, MatchOption, Option, Some, None, Result, Ok, Err, codes, string_bytes}
+use Rattle.std.specs.declared.vec.Vec.{Vec}
+use Rattle.std.specs.Prelude.{◌↔◌, ◌==◌, vec_items, IfOk, IsTrue, MatchOption, Option, Some, None, Result, Ok, Err, codes, string_bytes}
 use Rattle.std.specs.List.{flat_map}
 use Rattle.std.proofs.lemmas.Bool.{true≢false}
 use Rattle.std.proofs.lemmas.Fmt.{decimal_injective}
@@ -130,6 +131,11 @@ pub for_other : (a b : Head) (lines : List (List ℕ)) → 0 < length lines → 
     → IsTrue false ↔ Disagree a b (lines_text lines)
 for_other a b lines some plain other = never (Disagree a b (lines_text lines)) (no_disagreement a b lines some plain other)
 
+-- lines of which it is known that they aren't none
+pub some_lines : {A : Type 0} (lines : List (Vec ℕ A)) (r : Bool) → r ≡ (length lines == 0) → r ≡ false → 0 < length (map vec_items lines)
+some_lines [] r is not = absurd (true≢false (sym is ∙ not))
+some_lines (x ∷ lines) r is not = omega arith
+
 -- ---- all of the lines
 
 join_cut : {A : Type 0} (n : ℕ) (xs : List A) → take n xs ++ drop n xs ≡ xs
@@ -188,6 +194,22 @@ judged keys name lines first rest second proof a b r is plain cut of_a of_b says
       (cut_is_evidence keys name first second proof (record { a = a; b = b; first_of = of_a; second_of = of_b; disagree = says.0 t })),
   λ e. says.1 (shown_by keys name first second proof a b of_a of_b (parts_of keys name lines first rest second proof cut (evidence_is_cut keys name lines is plain e))),
 )
+
+pub judged_all : {E : Type 0} (keys : List Key) (name : List ℕ) (lines first rest second proof : List (List ℕ)) (a b : Head) (r : Result Bool E) → IsKeyName name → All HasNoNewline lines
+    → IsCutInto lines first rest second proof → IsOfLog keys name (lines_text first) a → IsOfLog keys name (lines_text second) b → IfOk r (λ s. IsTrue s ↔ Disagree a b (lines_text proof))
+    → IfOk r (λ s. IsTrue s ↔ IsEvidence keys name (lines_text lines))
+judged_all keys name lines first rest second proof a b (Ok s) is plain cut of_a of_b says = judged keys name lines first rest second proof a b s is plain cut of_a of_b says
+judged_all keys name lines first rest second proof a b (Err fault) is plain cut of_a of_b says = tt
+
+all_behind : {A : Type 0} (P : A → Type 0) (n : ℕ) (xs : List A) → All P xs → All P (drop n xs)
+all_behind P zero xs each = each
+all_behind P (suc n) [] each = each
+all_behind P (suc n) (x ∷ xs) each = all_behind P n xs (All-tail P x xs each)
+
+-- what is left of lines without newlines has none
+pub plain_rest : (lines rest proof : List (List ℕ)) (n m : ℕ) → All HasNoNewline lines → rest ≡ drop n lines → proof ≡ drop m rest → All HasNoNewline proof
+plain_rest lines rest proof n m plain rest_is proof_is =
+    subst (All HasNoNewline) (sym (proof_is ∙ ap (drop m) rest_is)) (all_behind HasNoNewline m (drop n lines) (all_behind HasNoNewline n lines plain))
 
 -- a text that isn't lines is no evidence
 pub no_text_lines : (keys : List Key) (name text : List ℕ) → ((lines : List (List ℕ)) → All HasNoNewline lines → text ≢ lines_text lines) → IsTrue false ↔ IsEvidence keys name text
