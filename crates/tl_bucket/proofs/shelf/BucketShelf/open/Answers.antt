@@ -23,26 +23,5 @@ returns-clause-unmarked g c = grind (arith, common_steps)
 pub returns-clause-waiting : goal.returns-clause-waiting
 returns-clause-waiting g c = grind (arith, common_steps)
 
-pub returns-in_err-check_conditions-clause-end : goal.returns-in_err-check_conditions-clause-end
-returns-in_err-check_conditions-clause-end g c = grind (arith, common_steps)
-
-pub returns-in_err-check_conditions-clause-shown : goal.returns-in_err-check_conditions-clause-shown
-returns-in_err-check_conditions-clause-shown g c = grind (arith, common_steps)
-
-pub returns-in_err-check_conditions-clause-events : goal.returns-in_err-check_conditions-clause-events
-returns-in_err-check_conditions-clause-events g c = grind (arith, common_steps)
-
-pub returns-in_err-check_conditions-clause-place : goal.returns-in_err-check_conditions-clause-place
-returns-in_err-check_conditions-clause-place g c = grind (arith, common_steps)
-
-pub returns-in_err-check_conditions-clause-refuses : goal.returns-in_err-check_conditions-clause-refuses
-returns-in_err-check_conditions-clause-refuses g c = grind (arith, common_steps)
-
-pub returns-in_err-check_conditions-clause-unmarked : goal.returns-in_err-check_conditions-clause-unmarked
-returns-in_err-check_conditions-clause-unmarked g c = grind (arith, common_steps)
-
-pub returns-in_err-check_conditions-clause-waiting : goal.returns-in_err-check_conditions-clause-waiting
-returns-in_err-check_conditions-clause-waiting g c = grind (arith, common_steps)
-
 pub same-claims : goal.same-claims
 same-claims g c = grind (arith, common_steps)
