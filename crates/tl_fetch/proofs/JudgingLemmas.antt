@@ -1,12 +1,12 @@
 -- Two checkpoints that were judged, and evidence by their notes.
-use Rattle.std.proofs.Common.{◌≡◌, ◌∙◌, ◌++◌, ◌+◌, ℕ, length, take, inl, inr, [], Option, Some, None, Result, Ok, Err, IfErr, refl, sym, ap, subst, arith}
+use Rattle.std.proofs.Common.{◌≡◌, ◌∙◌, ◌++◌, ◌+◌, ◌<◌, ◌≤◌, false, ℕ, length, take, inl, inr, [], Option, Some, None, Result, Ok, Err, IfErr, refl, sym, ap, subst, arith}
 use Rattle.sha2.specs.Sha256.{sha256}
 use Rattle.tl_hash.specs.Bytes.{Bytes}
 use Rattle.tl_hash.specs.declared.head.Head.{Head}
 use Rattle.std.proofs.KnownBytes.{Appends-trans}
 use Rattle.std.specs.Io.KnownBytes.{Appends, Keeps}
 use Rattle.std.proofs.Math.Seq.{take-append_seam}
-use Rattle.tl_device.specs.Device.{Passage, WroteWhole}
+use Rattle.tl_device.specs.Device.{IsUnwritten, Passage, WroteWhole}
 use Rattle.tl_proof.specs.Acceptance.{AcceptsConsistency}
 use Rattle.tl_checkpoint.specs.Checkpoint as checkpoint
 use Rattle.tl_tile.specs.declared.resource.Resource.{Resource}
@@ -16,6 +16,8 @@ use Rattle.tl_client.specs.declared.fault.ClientFault.TheVariants as client
 use Rattle.tl_command.specs.ProofText.{Consistency, IsConsistency, consistency_text}
 use Rattle.tl_fork.specs.Evidence.{Disagree, LeadsElsewhere}
 use Rattle.tl_fetch.specs.declared.fault.FetchFault.{FetchFault}
+use Rattle.tl_fetch.specs.declared.fault.FetchFault.TheVariants as fetch
+use Rattle.tl_fetch.specs.Faults.{after_client}
 use Rattle.tl_fetch.specs.Evidence.{IsEvidenceOf, IsOfNoLog, LacksProof, RefusesComparison, evidence_text}
 use Rattle.tl_fetch.specs.Fetching.{Grounds, IsAccusation, RefusesTwo}
 use Rattle.tl_fetch.specs.Inner.Judging.{Accuses, JudgesTwo, LeadsTo, bare}
@@ -156,6 +158,31 @@ pub judged : (grounds : Grounds) (policy : Policy) (two : Two) (fault : FetchFau
     → JudgesTwo grounds.answers grounds.lacks two fault o → RefusesTwo grounds policy two fault o
 judged grounds policy two fault o known new (inl accuses) = inl (accused policy two fault o known new accuses)
 judged grounds policy two fault o known new (inr unaccused) = inr unaccused
+
+-- nobody is accused: two checkpoints weren't compared, or the new one can't be judged
+pub uncompared : (answers : Resource → Bytes → Type 0) (lacks : Resource → Type 0) (two : Two) (told : FetchFault) (o : Passage) (why : ClientFault) → told ≡ fetch.Older two.new.size two.old.size false
+    → two.new.size < two.old.size → RefusesComparison answers lacks two.new two.old why → IsUnwritten o → JudgesTwo answers lacks two told o
+uncompared answers lacks two told o why is less refused none =
+    subst (λ (f : FetchFault). JudgesTwo answers lacks two f o) (sym is) (inr ((refl, refl, less, (why, refused)), none))
+
+pub unjudged : (answers : Resource → Bytes → Type 0) (lacks : Resource → Type 0) (two : Two) (told : FetchFault) (o : Passage) (why : ClientFault) → told ≡ after_client why
+    → two.old.size ≤ two.new.size → RefusesComparison answers lacks two.old two.new why → IsUnwritten o → JudgesTwo answers lacks two told o
+unjudged answers lacks two told o client.Range is order refused none =
+    subst (λ (f : FetchFault). JudgesTwo answers lacks two f o) (sym is) (inr ((order, (client.Range, refused, refl)), none))
+unjudged answers lacks two told o client.Unavailable is order refused none =
+    subst (λ (f : FetchFault). JudgesTwo answers lacks two f o) (sym is) (inr ((order, (client.Unavailable, refused, refl)), none))
+unjudged answers lacks two told o (client.BadTile level index width) is order refused none =
+    subst (λ (f : FetchFault). JudgesTwo answers lacks two f o) (sym is) (inr ((order, (client.BadTile level index width, refused, refl)), none))
+unjudged answers lacks two told o (client.BadBundle bundle) is order refused none =
+    subst (λ (f : FetchFault). JudgesTwo answers lacks two f o) (sym is) (inr ((order, (client.BadBundle bundle, refused, refl)), none))
+unjudged answers lacks two told o (client.BadEntry entry) is order refused none =
+    subst (λ (f : FetchFault). JudgesTwo answers lacks two f o) (sym is) (inr ((order, (client.BadEntry entry, refused, refl)), none))
+unjudged answers lacks two told o client.Shrunk is order refused none =
+    subst (λ (f : FetchFault). JudgesTwo answers lacks two f o) (sym is) (inr ((order, (client.Shrunk, refused, refl)), none))
+unjudged answers lacks two told o client.Forked is order refused none =
+    subst (λ (f : FetchFault). JudgesTwo answers lacks two f o) (sym is) (inr ((order, (client.Forked, refused, refl)), none))
+unjudged answers lacks two told o client.OutOfMemory is order refused none =
+    subst (λ (f : FetchFault). JudgesTwo answers lacks two f o) (sym is) (inr ((order, (client.OutOfMemory, refused, refl)), none))
 
 -- ---- what is printed of evidence
 

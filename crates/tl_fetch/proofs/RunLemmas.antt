@@ -153,12 +153,6 @@ begun_two grounds marks policy what two fault o p are grown on none refused =
 
 -- ---- all entries, from where they were printed
 
--- what is known of how far they were printed, by what the code has of it
-pub marked_by : (may_have : Option Bytes → Type 0) (policy : Policy) (new : Head) (last kept : Option Bytes) (old : Head) → last ≡ kept → may_have kept
-    → IsKnown policy kept old → IsGrown old new → IsMarked may_have policy new last old
-marked_by may_have policy new last kept old same had known grown =
-    record { had = subst may_have (sym same) had; known = subst (λ (l : Option Bytes). IsKnown policy l old) (sym same) known; grown = grown }
-
 -- the log doesn't go on from there
 pub unmarked : (grounds marks : Grounds) (policy : Policy) (two : Two) (last kept : Option Bytes) (old : Head) (fault : FetchFault) (o : Passage) → last ≡ kept → marks.has kept
     → IsKnown policy kept old → IsNoteOf policy two.note two.new → JudgesTwo grounds.answers grounds.lacks (since two last old) fault o

@@ -27,11 +27,11 @@ use tl_tile::{FetchedTiles, TileHashReader};
 
 /// From what was trusted last to what is trusted now: two notes, and what they say.
 #[derive(Drop)]
-pub(crate) struct Update<'t> {
-    pub(crate) last: Option<&'t str>,
-    pub(crate) old: &'t Head,
-    pub(crate) note: &'t str,
-    pub(crate) new: &'t Head,
+pub(crate) struct Update<'l, 'n> {
+    pub(crate) last: Option<&'l str>,
+    pub(crate) old: &'l Head,
+    pub(crate) note: &'n str,
+    pub(crate) new: &'n Head,
 }
 
 /// Whether two heads are the same.
@@ -202,7 +202,7 @@ fn print_evidence<W: Write>(
 
 // Prints that the log forked, and tells it. Without a note that was trusted last it is a checkpoint of no entries with
 // another root than that of none, and nobody is accused.
-fn accuse<W: Write>(step: &Update<'_>, shown: &[u8], writer: &mut Counted<W>) -> FetchFault
+fn accuse<W: Write>(step: &Update<'_, '_>, shown: &[u8], writer: &mut Counted<W>) -> FetchFault
     requires { Disagree (bare step.now.old.now) (bare step.now.new.now) shown.now }
     ensures { Accuses (two_of (option_map (λ s. s.now) step.now.last)
         step.now.old.now step.now.note.now step.now.new.now) result
@@ -218,7 +218,7 @@ fn accuse<W: Write>(step: &Update<'_>, shown: &[u8], writer: &mut Counted<W>) ->
 }
 
 // That a checkpoint is older than the one that was trusted last, and whether the two were compared.
-fn older(step: &Update<'_>, compared: bool) -> FetchFault
+fn older(step: &Update<'_, '_>, compared: bool) -> FetchFault
     ensures { result ≡ FetchFault.Older step.now.new.now.size step.now.old.now.size compared }
 {
     FetchFault::Older {
@@ -232,7 +232,7 @@ fn older(step: &Update<'_>, compared: bool) -> FetchFault
 fn judge_older<S: ResourceSource, O: Observer, W: Write>(
     alloc: Global,
     source: &S,
-    step: &Update<'_>,
+    step: &Update<'_, '_>,
     observer: &mut O,
     writer: &mut Counted<W>,
 ) -> FetchFault
@@ -253,7 +253,7 @@ fn judge_older<S: ResourceSource, O: Observer, W: Write>(
 pub(crate) fn judge<S: ResourceSource, O: Observer, W: Write>(
     alloc: Global,
     source: &S,
-    step: &Update<'_>,
+    step: &Update<'_, '_>,
     observer: &mut O,
     writer: &mut Counted<W>,
 ) -> Result<(), FetchFault>

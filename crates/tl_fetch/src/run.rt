@@ -1,6 +1,6 @@
 //! Fetching from any source, whoever keeps the state.
 
-ghost use Rattle.std.specs.Prelude.{◌≡◌, ◌≢◌, ◌⊎◌, ℕ, IfErr, OnErr, OnOk, map, option_map};
+ghost use Rattle.std.specs.Prelude.{◌≡◌, ◌≢◌, ◌⊎◌, ℕ, IfErr, OnErr, OnOk, map, option_map, string_bytes};
 ghost use Rattle.tl_device.specs.Device.{IsUnwritten, passage};
 ghost use Rattle.tl_fetch.specs.Entries.{AreLinesBetween};
 ghost use Rattle.tl_fetch.specs.Faults.{IsNoAccusation};
@@ -13,7 +13,7 @@ use crate::fault::FetchFault;
 use crate::judging::{Update, is_same, judge};
 use crate::listing::print_entries;
 use crate::observer::Observer;
-use crate::opening::{trusted_last, trusted_two};
+use crate::opening::{Trusted, trusted_last, trusted_two};
 use crate::options::FetchRequest;
 use crate::policy::Policy;
 use crate::printing::{print_entry, print_head, print_proof, print_raw};
@@ -73,7 +73,7 @@ fn keep_and_print<
     source: &S,
     requests: &Requests<'_, H>,
     policy: &Policy<'_>,
-    step: &Update<'_>,
+    step: &Update<'_, '_>,
     wanted: FetchRequest,
     state: &mut K,
     observer: &mut O,
@@ -86,10 +86,10 @@ fn keep_and_print<
         (policy_of policy.now.origin.now (map (λ v. key v) policy.now.log.now) (map
         (λ w. key w) policy.now.witnesses.now) policy.now.need) step.now.note.now step.now.new.now }
     requires grown { IsGrown step.now.old.now step.now.new.now }
-    ensures printed { OnOk result (PrintedWhole (IsWanted policy.origin.now
+    ensures printed { OnOk result (PrintedWhole (IsWanted policy.now.origin.now
         step.now.old.now.size step.now.new.now wanted) (passage W.contents writer.old writer.new)) }
     ensures kept { OnOk result (K.has_kept state.new step.now.note.now) }
-    ensures part { OnErr result (PrintedSome (IsBegun policy.origin.now
+    ensures part { OnErr result (PrintedSome (IsBegun policy.now.origin.now
         step.now.old.now.size step.now.new.now wanted) (passage W.contents writer.old writer.new)) }
     ensures fair { IfErr result IsNoAccusation }
     ensures refused { IfErr result (λ fault. K.may_fail state.old fault
@@ -120,8 +120,8 @@ fn print_and_keep<
     source: &S,
     requests: &Requests<'_, H>,
     policy: &Policy<'_>,
-    step: &Update<'_>,
-    since: &Update<'_>,
+    step: &Update<'_, '_>,
+    since: &Update<'_, '_>,
     from: u64,
     state: &mut K,
     printed: &mut C,
@@ -157,11 +157,11 @@ fn print_and_keep<
 }
 
 // From which entry on all are printed: behind those of the log up to which they were, or else those that were known.
-fn first_of(last: Option<&str>, marked: &Head, known: &Head) -> u64
-    ensures { result ≡ first_wanted (option_map (λ s. s.now) last.entry) marked.now known.now }
+fn first_of(mark: &Trusted<Option<String>>, known: &Head) -> u64
+    ensures { result ≡ first_wanted (option_map string_bytes mark.now.note) mark.now.head known.now }
 {
-    match last {
-        Some(_) => marked.size,
+    match &mark.note {
+        Some(_) => mark.head.size,
         None => known.size,
     }
 }
@@ -170,7 +170,7 @@ fn first_of(last: Option<&str>, marked: &Head, known: &Head) -> u64
 fn judge_marked<S: ResourceSource, O: Observer, W: Write>(
     alloc: Global,
     source: &S,
-    since: &Update<'_>,
+    since: &Update<'_, '_>,
     known: &Head,
     observer: &mut O,
     writer: &mut Counted<W>,
@@ -202,7 +202,7 @@ fn fetch_all<
     source: &S,
     requests: &Requests<'_, H>,
     policy: &Policy<'_>,
-    step: &Update<'_>,
+    step: &Update<'_, '_>,
     state: &mut K,
     printed: &mut C,
     observer: &mut O,
@@ -244,7 +244,7 @@ fn fetch_all<
     if let Err(fault) = judge_marked(alloc, source, &since, step.old, observer, writer) {
         return Err(fault);
     }
-    let from = first_of(since.last, since.old, step.old);
+    let from = first_of(&mark, step.old);
     match print_and_keep(
         alloc, source, requests, policy, step, &since, from, state, printed, observer, writer,
     ) {
@@ -267,7 +267,7 @@ fn fetch_grown<
     source: &S,
     requests: &Requests<'_, H>,
     policy: &Policy<'_>,
-    step: &Update<'_>,
+    step: &Update<'_, '_>,
     wanted: FetchRequest,
     state: &mut K,
     printed: &mut C,

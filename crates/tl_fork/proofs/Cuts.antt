@@ -1,15 +1,20 @@
 -- The text of evidence is cut into its parts at one place alone.
-use Rattle.std.proofs.Common.{◌≡◌, ◌≢◌, ℕ, zero, suc, ◌+◌, ◌<◌, ◌≤◌, ◌⊎◌, inl, inr, List, [], ◌∷◌, ◌++◌, length, take, drop, get_or, map, Bool, true, false, refl, sym, ap, subst, ◌∙◌, append_assoc, arith, All}
-use Rattle.std.specs.Prelude.{⊤, ◌==◌}
-use Rattle.std.specs.List.{flat_map}
-use Rattle.std.proofs.lemmas.Bool.{ne_eqb}
+use Rattle.std.proofs.Common.{◌≡◌, ◌≢◌, ℕ, zero, suc, ◌+◌, ◌<◌, ◌≤◌, ◌⊎◌, inl, inr, List, [], ◌∷◌, ◌++◌, length, take, drop, get_or, map, cond, Bool, true, false, refl, sym, ap, subst, ◌∙◌, append_assoc, arith, All}
+use Rattle.std.specs.Prelude.{⊤, ◌==◌, Option, Some, None, not, position, vec_items, vec_len}
+use Rattle.std.specs.List.{flat_map, position_or_len}
+use Rattle.std.specs.declared.vec.Vec.{Vec}
+use Rattle.std.proofs.lemmas.Bool.{cases_lt, le-ltb, lt-ltb, ne_eqb}
 use Rattle.std.proofs.lemmas.Fmt.{decimal_nonempty}
 use Rattle.std.proofs.lemmas.List.{length-append}
 use Rattle.std.proofs.lemmas.List.Folds.{list_any_none}
+use Rattle.std.proofs.lemmas.List.Sums.{prefix_len-le-length}
+use Rattle.tl_proof.proofs.Folds.{None-no_Some, Some-injective}
 use Rattle.std.proofs.lemmas.List.Elements.{All-nil, All-cons, All-append, All-head, All-tail}
 use Rattle.std.proofs.lemmas.List.Concat.{flat_map-append, flat_map-cons}
 use Rattle.tl_text.specs.Text.{line, base64_text, number_text, HasNoControl, IsOneLine}
-use Rattle.base64.specs.GeneralPurpose.{IsBytes, encode_symbols}
+use Rattle.base64.specs.Engines.{standard}
+use Rattle.base64.specs.GeneralPurpose.{IsBytes}
+use Rattle.base64.proofs.EngineFacts.{encode_of-nil}
 use Rattle.tl_hash.specs.Bytes.{IsHash}
 use Rattle.tl_text.proofs.PlainText.{base64_once, base64_plain, number_plain}
 use Rattle.tl_note.specs.Key.{Key, IsKeyName}
@@ -39,14 +44,67 @@ EndsNote (text ∷ rest) = has_space text ≡ false
 
 text_before : (front rest : List (List ℕ)) → All IsSome front → text_length (front ++ [] ∷ rest) ≡ length front
 text_before [] rest each = refl
-text_before ((byte ∷ text) ∷ front) rest each = ap suc (text_before front rest (All-tail IsSome (byte ∷ text) front each))
-text_before ([] ∷ front) rest each = absurd (omega (arith, All-head IsSome [] front each))
+text_before (text ∷ front) rest each =
+    let some : 0 < length text = All-head IsSome text front each in
+    rw (ne_eqb (length text) 0 (λ e. omega (arith, e, some))) (omega (arith, text_before front rest (All-tail IsSome text front each)))
 
 signatures_before : (front rest : List (List ℕ)) → All HasSpace front → EndsNote rest → signature_length (front ++ rest) ≡ length front
 signatures_before [] [] each ends = refl
 signatures_before [] (text ∷ rest) each ends = rw (ends) refl
 signatures_before (text ∷ front) rest each ends =
-    rw (All-head HasSpace text front each) (ap suc (signatures_before front rest (All-tail HasSpace text front each) ends))
+    rw (All-head HasSpace text front each) (omega (arith, signatures_before front rest (All-tail HasSpace text front each) ends))
+
+-- ---- as the code finds it
+
+-- a test of the elements, and the same test of what they are seen as
+first_same : {A B : Type 0} (p : A → Bool) (q : B → Bool) (f : A → B) → ((x : A) → p x ≡ q (f x)) → (xs : List A) → position_or_len p xs ≡ position_or_len q (map f xs)
+first_same p q f same [] = refl
+first_same p q f same (x ∷ xs) =
+    ap (λ (b : Bool). cond (not b) (1 + position_or_len p xs) 0) (same x)
+    ∙ ap (λ (n : ℕ). cond (not (q (f x))) (1 + n) 0) (first_same p q f same xs)
+
+within : {A : Type 0} (p : A → Bool) (xs : List A) → position_or_len p xs ≤ length xs
+within p xs = prefix_len-le-length (λ x. not (p x)) xs
+
+found_at : {A : Type 0} (p : A → Bool) (xs : List A) (k : ℕ) → position p xs ≡ Some k → k ≡ position_or_len p xs
+found_at p xs k e =
+    elim (cases_lt (position_or_len p xs) (length xs)) as (λ _. k ≡ position_or_len p xs) [
+      | inl less ↦ sym (Some-injective (position_or_len p xs) k (rw (lt-ltb (position_or_len p xs) (length xs) less) at e))
+      | inr most ↦ absurd (None-no_Some None k refl (rw (le-ltb (position_or_len p xs) (length xs) most) at e))
+    ]
+
+found_nowhere : {A : Type 0} (p : A → Bool) (xs : List A) → position p xs ≡ None → length xs ≡ position_or_len p xs
+found_nowhere p xs e =
+    elim (cases_lt (position_or_len p xs) (length xs)) as (λ _. length xs ≡ position_or_len p xs) [
+      | inl less ↦ absurd (None-no_Some None (position_or_len p xs) refl (sym e ∙ rw (lt-ltb (position_or_len p xs) (length xs) less) refl))
+      | inr most ↦ omega (arith, most, within p xs)
+    ]
+
+abbrev is_empty_vec : {A : Type 0} → Vec ℕ A → Bool
+is_empty_vec v = vec_len v == 0
+
+abbrev is_empty : List ℕ → Bool
+is_empty line = length line == 0
+
+abbrev is_spaceless : List ℕ → Bool
+is_spaceless line = not (has_space line)
+
+empty_same : {A : Type 0} (v : Vec ℕ A) → is_empty_vec v ≡ is_empty (vec_items v)
+empty_same v = ap (λ (n : ℕ). n == 0) (v.ok.0)
+
+pub text_found : {A : Type 0} (lines : List (Vec ℕ A)) (k : ℕ) → position is_empty_vec lines ≡ Some k → k ≡ text_length (map vec_items lines)
+text_found lines k e = found_at is_empty_vec lines k e ∙ first_same is_empty_vec is_empty vec_items empty_same lines
+
+pub text_none : {A : Type 0} (lines : List (Vec ℕ A)) → position is_empty_vec lines ≡ None → length lines ≡ text_length (map vec_items lines)
+text_none lines e = found_nowhere is_empty_vec lines e ∙ first_same is_empty_vec is_empty vec_items empty_same lines
+
+pub signatures_found : {A : Type 0} (lines : List (Vec ℕ A)) (k : ℕ) → position (λ v. is_spaceless (vec_items v)) lines ≡ Some k → k ≡ signature_length (map vec_items lines)
+signatures_found lines k e = found_at (λ v. is_spaceless (vec_items v)) lines k e ∙ first_same (λ v. is_spaceless (vec_items v)) is_spaceless vec_items (λ v. refl) lines
+
+pub signatures_none : {A : Type 0} (lines : List (Vec ℕ A)) → position (λ v. is_spaceless (vec_items v)) lines ≡ None → length lines ≡ signature_length (map vec_items lines)
+signatures_none lines e = found_nowhere (λ v. is_spaceless (vec_items v)) lines e ∙ first_same (λ v. is_spaceless (vec_items v)) is_spaceless vec_items (λ v. refl) lines
+
+-- ---- a note at the front
 
 drop_front : {A : Type 0} (front rest : List A) → drop (length front) (front ++ rest) ≡ rest
 drop_front [] rest = refl
@@ -102,8 +160,7 @@ note_text bytes c signatures n =
     ∙ sym (flat_map-append line (checkpoint_lines c) ([] ∷ map signature_words signatures))
 
 no_text : base64_text [] ≡ []
-unfolding encode_symbols
-no_text = refl
+no_text = encode_of-nil standard
 
 no_bytes : IsBytes []
 no_bytes i = omega arith

@@ -1,2 +1,4 @@
 mod Honest
-mod Cuts
+pub mod Cuts
+pub mod NotSigned
+pub mod ForkRuns

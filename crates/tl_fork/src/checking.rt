@@ -1,6 +1,6 @@
 //! The command `check --fork`: whether a text is evidence that a log forked.
 
-ghost use Rattle.std.specs.Prelude.{◌≡◌, ◌∷◌, ◌↔◌, ◌++◌, [], IfOk, IsTrue, codes, map};
+ghost use Rattle.std.specs.Prelude.{◌≡◌, ◌<◌, ◌∷◌, ◌↔◌, ◌++◌, [], IfOk, IsTrue, MatchOption, OnErr, codes, length, map, string_bytes};
 ghost use Rattle.tl_device.specs.Device.{passage};
 ghost use Rattle.tl_key.specs.KeyText.{IsVerifierText};
 ghost use Rattle.tl_key.specs.NoteKey.{PublicKey, note_kind, verifier_key};
@@ -25,13 +25,9 @@ fn accuses(
     name: &str,
 ) -> Result<bool, AllocError>
     requires { IsKeyName name.now }
-    ensures evidence { IfOk result (λ shown. IsTrue shown
+    ensures { IfOk result (λ shown. IsTrue shown
         ↔ IsEvidence (map (λ v. key v) verifiers.now) name.now text.now) }
-    ensures memory { OnErr result (0 < length text.now) }
 {
-    if text.is_empty() {
-        return Ok(false);
-    }
     match lines_of(alloc, text)? {
         Some(lines) => is_evidence(alloc, lines.as_slice(), verifiers, name),
         None => Ok(false),
@@ -48,6 +44,29 @@ fn fork_line(alloc: Global, name: &str) -> Result<String, AllocError>
     Ok(text)
 }
 
+// Returns the line that says that the log forked, if the input is evidence of that.
+fn fork_of(
+    alloc: Global,
+    input: &[u8],
+    verifiers: &[Box<dyn Verifier>],
+    name: &str,
+) -> Result<Option<String>, AllocError>
+    requires { IsKeyName name.now }
+    ensures answer { IfOk result (λ found. MatchOption found
+        (IsEvidence (map (λ v. key v) verifiers.now) name.now input.now → ⊥)
+        (λ text. IsEvidence (map (λ v. key v) verifiers.now) name.now input.now
+        × (string_bytes text ≡ line (codes "fork of " ++ name.now)))) }
+    ensures memory { OnErr result (0 < length input.now) }
+{
+    if input.is_empty() {
+        return Ok(None);
+    }
+    if accuses(alloc, input, verifiers, name)? {
+        return Ok(Some(fork_line(alloc, name)?));
+    }
+    Ok(None)
+}
+
 // Reads the whole input, and prints whether it is evidence against the log.
 fn check_under<R: Read, W: Write>(
     alloc: Global,
@@ -62,13 +81,19 @@ fn check_under<R: Read, W: Write>(
         (passage W.contents writer.old writer.new) result }
 {
     let input = read_input(alloc, reader, MOST_INPUT)?;
-    if accuses(alloc, input.as_slice(), verifiers, name)? {
-        let text = fork_line(alloc, name)?;
-        return print_text(writer, text.as_bytes());
-    }
-    match print_text(writer, b"refused\n") {
-        Ok(()) => Err(RunFault::Refused),
-        Err(fault) => Err(fault),
+    let found = match fork_of(alloc, input.as_slice(), verifiers, name) {
+        Ok(found) => found,
+        Err(_) => return Err(RunFault::OutOfMemory),
+    };
+    match found {
+        Some(text) => match print_text(writer, text.as_bytes()) {
+            Ok(()) => Ok(()),
+            Err(_) => Err(RunFault::Write),
+        },
+        None => match print_text(writer, b"refused\n") {
+            Ok(()) => Err(RunFault::Refused),
+            Err(_) => Err(RunFault::Write),
+        },
     }
 }
 
@@ -82,7 +107,7 @@ fn check_by<R: Read, W: Write>(
     writer: &mut Counted<W>,
 ) -> Result<(), RunFault>
     requires { (k : PublicKey) × IsVerifierText note_kind text.now k × (name.now ≡ k.name)
-        × (map (λ verifier. key verifier) verifiers.now ≡ verifier_key k ∷ []) }
+        × (map (λ v. key v) verifiers.now ≡ verifier_key k ∷ []) }
     ensures { RunsFork text.now (passage R.remaining reader.old reader.new)
         (passage W.contents writer.old writer.new) result }
 {

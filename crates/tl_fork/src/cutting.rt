@@ -1,16 +1,23 @@
 //! Where a note ends that other lines follow.
 
-ghost use Rattle.std.specs.Prelude.{◌≡◌, ◌≤◌, length, map, vec_items};
+ghost use Rattle.std.specs.Prelude.{◌≡◌, ◌≤◌, ◌==◌, length, map, not, position, vec_items, vec_len};
 ghost use Rattle.tl_fork.specs.Inner.Cutting.{has_space, note_length, signature_length, text_length};
 
 use std::alloc::Allocator;
+
+// Returns the place of the first empty line.
+fn find_empty<A: Allocator>(lines: &[Vec<u8, A>]) -> Option<usize>
+    ensures { result ≡ position (λ line. vec_len line == 0) lines.now }
+{
+    lines.iter().position(|line| line.len() == 0)
+}
 
 // Returns how many lines stand before the first empty one.
 fn text_length<A: Allocator>(lines: &[Vec<u8, A>]) -> usize
     ensures length { result ≡ text_length (map vec_items lines.now) }
     ensures within { result ≤ length lines.now }
 {
-    match lines.iter().position(|line| line.is_empty()) {
+    match find_empty(lines) {
         Some(place) => place,
         None => lines.len(),
     }
@@ -23,12 +30,19 @@ fn has_space(line: &[u8]) -> bool
     line.contains(&b' ')
 }
 
+// Returns the place of the first line without a space.
+fn find_spaceless<A: Allocator>(lines: &[Vec<u8, A>]) -> Option<usize>
+    ensures { result ≡ position (λ line. not (has_space (vec_items line))) lines.now }
+{
+    lines.iter().position(|line| !has_space(line.as_slice()))
+}
+
 // Returns how many lines stand before the first one without a space.
 fn signature_length<A: Allocator>(lines: &[Vec<u8, A>]) -> usize
     ensures length { result ≡ signature_length (map vec_items lines.now) }
     ensures within { result ≤ length lines.now }
 {
-    match lines.iter().position(|line| !has_space(line.as_slice())) {
+    match find_spaceless(lines) {
         Some(place) => place,
         None => lines.len(),
     }

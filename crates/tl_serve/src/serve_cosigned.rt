@@ -294,9 +294,16 @@ pub fn run_serve_cosigned<
     if !have_distinct_names(witnesses.as_slice()) {
         return given_back(log, RunFault::BadKey);
     }
+    let Site {
+        entrance,
+        input,
+        ..
+    } = *site;
+    let ballot = Some(&ready.ballot);
     let site = Site {
-        ballot: Some(&ready.ballot),
-        ..*site
+        entrance,
+        input,
+        ballot,
     };
     let asker = Asking {
         rt,

@@ -117,7 +117,7 @@ fn keep_and_feed<S: ResourceSource, K: TrustStore, Q: AsksWitnesses, W: Write>(
     source: &S,
     policy: &Policy<'_>,
     log: &Policy<'_>,
-    step: &Update<'_>,
+    step: &Update<'_, '_>,
     state: &mut K,
     asker: &mut Q,
     writer: &mut Counted<W>,
