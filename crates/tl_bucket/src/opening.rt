@@ -197,8 +197,8 @@ fn has_log(claims: &Claims, shown: &Option<Shown>) -> bool
     claims.number() > 1 || shown.is_some()
 }
 
-// Checks that a log begins as it is asked to. `Taken`: there is one, and none is to be. `NothingThere`: there is none
-// that could be gone on from.
+// Checks that a log begins as it is asked to. `Taken`: there is one, and none is to be. `NothingThere`: there is none that
+// could be gone on from.
 fn check_begins(is_new: bool, claims: &Claims, shown: &Option<Shown>) -> Result<(), BucketFault>
     ensures { OnOk result (BeginsThere is_new claims.now (option_map shown_of shown.now)) }
 {
