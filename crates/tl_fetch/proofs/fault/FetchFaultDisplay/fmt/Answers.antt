@@ -4,6 +4,3 @@ use Rattle.tl_fetch.proofs.fault.FetchFaultDisplay.fmt.Goals as goal
 
 pub returns-in-BadTile-clause-writes : goal.returns-in-BadTile-clause-writes
 returns-in-BadTile-clause-writes g c = grind (arith, common_steps)
-
-pub returns-in-Older-default-default-false-clause-writes : goal.returns-in-Older-default-default-false-clause-writes
-returns-in-Older-default-default-false-clause-writes g c = grind (arith, common_steps)
