@@ -1,4 +1,5 @@
--- What is printed before a fault comes, and which faults accuse Rattle.std.proofs.Common.{◌≡◌, ◌⊎◌, ℕ, ◌≤◌, length, string_bytes, sym, ap, subst, refl, inl, inr, Option, Some, None, Result, Ok, Err, IfErr, OnErr, OnOk}
+-- What is printed before a fault comes, and how a run ends.
+use Rattle.std.proofs.Common.{◌≡◌, ◌⊎◌, ℕ, ◌≤◌, length, string_bytes, sym, ap, subst, refl, inl, inr, Option, Some, None, Result, Ok, Err, IfErr, OnErr, OnOk}
 use Rattle.std.proofs.Math.Seq.{take-length}
 use Rattle.std.specs.Io.KnownBytes.{Appends}
 use Rattle.tl_hash.specs.Bytes.{Bytes}
@@ -11,6 +12,8 @@ use Rattle.tl_fetch.specs.declared.fault.FetchFault.{FetchFault}
 use Rattle.tl_fetch.specs.declared.options.FetchOptions.{FetchOptions}
 use Rattle.tl_fetch.specs.declared.options.FetchRequest.{FetchRequest}
 use Rattle.tl_fetch.specs.declared.options.FetchRequest.TheVariants as wanted
+use Rattle.tl_fetch.specs.Entries.{RefusesBundle, RefusesOne, RefusesProof}
+use Rattle.tl_fetch.specs.Evidence.{IsEvidenceOf}
 use Rattle.tl_fetch.specs.Faults.{IsNoAccusation, after_client}
 use Rattle.tl_fetch.specs.Inner.Judging.{JudgesTwo, two_of}
 use Rattle.tl_source.specs.Caches.{may_answer_either, may_lack_both}
@@ -57,11 +60,12 @@ pub fair_wanted : (answers : Resource → Bytes → Type 0) (lacks : Resource �
     → RefusesWanted answers lacks known head what fault → IsNoAccusation fault
 fair_wanted answers lacks known head wanted.Head fault (inl write) = subst IsNoAccusation (sym write) tt
 fair_wanted answers lacks known head wanted.Head fault (inr memory) = subst IsNoAccusation (sym memory) tt
-fair_wanted answers lacks known head (wanted.Entry index) fault fails = fair_printing _ fault fails
-fair_wanted answers lacks known head (wanted.Raw index) fault fails = fair_printing _ fault fails
+fair_wanted answers lacks known head (wanted.Entry index) fault fails = fair_printing (RefusesOne answers lacks head index) fault fails
+fair_wanted answers lacks known head (wanted.Raw index) fault fails = fair_printing (RefusesOne answers lacks head index) fault fails
 fair_wanted answers lacks known head wanted.All fault (inl range) = subst IsNoAccusation (sym range.1) tt
-fair_wanted answers lacks known head wanted.All fault (inr fails) = fair_printing _ fault fails
-fair_wanted answers lacks known head (wanted.Proof index) fault fails = fair_printing _ fault fails
+fair_wanted answers lacks known head wanted.All fault (inr fails) =
+    fair_printing (λ why. (bundle : ℕ) × RefusesBundle answers lacks head bundle why) fault fails
+fair_wanted answers lacks known head (wanted.Proof index) fault fails = fair_printing (RefusesProof answers lacks head index) fault fails
 
 -- the same of a whole result
 pub fair_result : {X : Type 0} (answers : Resource → Bytes → Type 0) (lacks : Resource → Type 0) (known : ℕ) (head : Head) (what : FetchRequest) (r : Result X FetchFault)
@@ -107,12 +111,16 @@ other_refused grounds marks policy two what (Err fault) o other fair part why =
 
 print_after : (may_have : Option Bytes → Type 0) (has_kept : Bytes → Type 0) (policy : Policy) (two : Two) (what : FetchRequest) (o p : Passage) → GoesOn o p → IsUnwritten o
     → HasPrinted may_have has_kept policy two what p → HasPrinted may_have has_kept policy two what (joined o p)
-print_after may_have has_kept policy two wanted.Head o p on none printed = silent_whole _ o p on none printed
-print_after may_have has_kept policy two (wanted.Entry index) o p on none printed = silent_whole _ o p on none printed
-print_after may_have has_kept policy two (wanted.Raw index) o p on none printed = silent_whole _ o p on none printed
+print_after may_have has_kept policy two wanted.Head o p on none printed =
+    silent_whole (IsWanted policy.origin two.old.size two.new wanted.Head) o p on none printed
+print_after may_have has_kept policy two (wanted.Entry index) o p on none printed =
+    silent_whole (IsWanted policy.origin two.old.size two.new (wanted.Entry index)) o p on none printed
+print_after may_have has_kept policy two (wanted.Raw index) o p on none printed =
+    silent_whole (IsWanted policy.origin two.old.size two.new (wanted.Raw index)) o p on none printed
 print_after may_have has_kept policy two wanted.All o p on none (last, old, marked, printed, kept) =
     (last, old, marked, silent_whole (IsWanted policy.origin (first_wanted last old two.old) two.new wanted.All) o p on none printed, kept)
-print_after may_have has_kept policy two (wanted.Proof index) o p on none printed = silent_whole _ o p on none printed
+print_after may_have has_kept policy two (wanted.Proof index) o p on none printed =
+    silent_whole (IsWanted policy.origin two.old.size two.new (wanted.Proof index)) o p on none printed
 
 fails_after : (grounds : Grounds) (fails : FetchFault → Type 0) (policy : Policy) (what : FetchRequest) (known : ℕ) (head : Head) (fault : FetchFault) (o p : Passage) → GoesOn o p → IsUnwritten o
     → FailsGrown grounds fails policy what known head fault p → FailsGrown grounds fails policy what known head fault (joined o p)
@@ -121,7 +129,7 @@ fails_after grounds fails policy what known head fault o p on none f =
 
 pub two_after : (grounds : Grounds) (policy : Policy) (two : Two) (fault : FetchFault) (o p : Passage) → GoesOn o p → IsUnwritten o
     → RefusesTwo grounds policy two fault p → RefusesTwo grounds policy two fault (joined o p)
-two_after grounds policy two fault o p on none (inl (inl (forked, printed))) = inl (inl (forked, silent_whole _ o p on none printed))
+two_after grounds policy two fault o p on none (inl (inl (forked, printed))) = inl (inl (forked, silent_whole (IsEvidenceOf policy two) o p on none printed))
 two_after grounds policy two fault o p on none (inl (inr (inl (write, (text, is, part))))) = inl (inr (inl (write, (text, is, silent_some (λ t. t ≡ text) o p on none part))))
 two_after grounds policy two fault o p on none (inl (inr (inr (last, of_none, told, still)))) = inl (inr (inr (last, of_none, told, silent_both o p on none still)))
 two_after grounds policy two fault o p on none (inr (fair, still)) = inr (fair, silent_both o p on none still)

@@ -1,10 +1,15 @@
 -- What a fault of the command `fetch` prints, and its exit status.
-use Rattle.std.specs.Prelude.{ℕ, ◌++◌, true, false, codes, Option, Some}
+use Rattle.std.specs.Prelude.{ℕ, ◌++◌, [], Bool, true, false, codes, Option, Some}
 use Rattle.tl_hash.specs.Bytes.{Bytes}
 use Rattle.tl_text.specs.Text.{number_text}
 use Rattle.tl_command.specs.Faults.{exit_status, fault_text, fault_words}
 use Rattle.tl_fetch.specs.declared.fault.FetchFault.{FetchFault}
 use Rattle.tl_fetch.specs.declared.fault.FetchFault.TheVariants.{Run, BadAddress, OtherKey, BadWitness, SharedKey, Unavailable, OtherLog, TooFew, BadTile, BadBundle, BadEntry, Older, Forked}
+
+-- what is said behind an older checkpoint: nothing more if it was compared
+abbrev pub uncompared_words : Bool → Bytes
+uncompared_words true = []
+uncompared_words false = codes " (not compared)"
 
 -- what it says
 abbrev pub fetch_words : FetchFault → Bytes
@@ -20,9 +25,8 @@ fetch_words (BadTile level index width) =
     codes "tile " ++ number_text level ++ codes " " ++ number_text index ++ codes " " ++ number_text width ++ codes " wrong"
 fetch_words (BadBundle index) = codes "entry bundle " ++ number_text index ++ codes " malformed"
 fetch_words (BadEntry index) = codes "entry " ++ number_text index ++ codes " wrong"
-fetch_words (Older size of true) = codes "older checkpoint: " ++ number_text size ++ codes " of " ++ number_text of
-fetch_words (Older size of false) =
-    codes "older checkpoint: " ++ number_text size ++ codes " of " ++ number_text of ++ codes " (not compared)"
+fetch_words (Older size of compared) =
+    codes "older checkpoint: " ++ number_text size ++ codes " of " ++ number_text of ++ uncompared_words compared
 fetch_words Forked = codes "log forked"
 
 -- the line on standard error, without its newline, if there is one

@@ -1,7 +1,7 @@
 //! Faults of the command `fetch`.
 
 ghost use Rattle.std.specs.Prelude.{◌≡◌, IfOk, Some, option_map, string_bytes};
-ghost use Rattle.tl_fetch.specs.FaultWords.{fetch_status, fetch_text};
+ghost use Rattle.tl_fetch.specs.FaultWords.{fetch_status, fetch_text, uncompared_words};
 
 use std::alloc::{AllocError, AllocFailed, Allocator};
 use std::error::Error;
@@ -53,6 +53,13 @@ pub enum FetchFault {
     Forked,
 }
 
+// What is said behind an older checkpoint of whether it was compared.
+fn words_of(compared: bool) -> &'static str
+    ensures { result.now ≡ uncompared_words compared }
+{
+    if compared { "" } else { " (not compared)" }
+}
+
 impl Display for FetchFault {
     ghost use Rattle.tl_fetch.specs.FaultWords.{fetch_words};
 
@@ -75,16 +82,10 @@ impl Display for FetchFault {
             } => return write!(f, "tile {level} {index} {width} wrong"),
             FetchFault::BadBundle(i) => return write!(f, "entry bundle {i} malformed"),
             FetchFault::BadEntry(i) => return write!(f, "entry {i} wrong"),
-            FetchFault::Older {
-                size,
-                of,
-                compared: true,
-            } => return write!(f, "older checkpoint: {size} of {of}"),
-            FetchFault::Older {
-                size,
-                of,
-                compared: false,
-            } => return write!(f, "older checkpoint: {size} of {of} (not compared)"),
+            FetchFault::Older { size, of, compared } => {
+                let more = words_of(*compared);
+                return write!(f, "older checkpoint: {size} of {of}{more}");
+            }
             FetchFault::Forked => "log forked",
         };
         f.write_str(words)

@@ -6,8 +6,8 @@ pub returns-in-Err : goal.returns-in-Err
 returns-in-Err g c =
     no_file (g.S.ResourceSource.may_answer c.args.source.now) (g.S.ResourceSource.may_lack c.args.source.now) _ c.args.wanted c.file_refusal.result _ c.file_refusal.ensures.refused c.file_refusal.ensures.fair (still _ _)
 
-pub returns-in_default : goal.returns-in_default
-returns-in_default g c =
+pub returns : goal.returns
+returns g c =
     runs_without (g.S.ResourceSource.may_answer c.args.source.now) (g.S.ResourceSource.may_lack c.args.source.now) _ _ _ _ _ _ _ c.args.wanted c.fetch_under.result _ c.in_default.not-All c.fetch_under.ensures.fetched c.fetch_under.ensures.refused
 
 pub returns-in-All : goal.returns-in-All
