@@ -4,6 +4,7 @@ use Rattle.std.specs.Prelude.{Option, Result}
 use Rattle.tl_device.specs.Device.{Passage}
 use Rattle.tl_command.specs.declared.fault.RunFault.{RunFault}
 use Rattle.tl_command.specs.Head.{RunsHead}
+use Rattle.tl_evidence.specs.ForkCommand.{RunsFork}
 use Rattle.tl_cli.specs.Job.{BuildsDemo, BuildsSigned, ChecksFile}
 
 pub builds_signed : (origin named : List ℕ) (get asked : Option (List ℕ)) (i o : Passage) (r : Result (Unit {0}) RunFault) → BuildsSigned named asked i o r → named ≡ origin → asked ≡ get
@@ -24,3 +25,6 @@ pub builds_demo : (origin named secret told : List ℕ) (get asked : Option (Lis
 builds_demo origin named secret told get asked i o r runs a b c =
     subst (λ (n : List ℕ). BuildsDemo n secret get i o r) a
     (subst (λ (s : List ℕ). BuildsDemo named s get i o r) b (subst (λ (g : Option (List ℕ)). BuildsDemo named told g i o r) c runs))
+
+pub runs_fork : (key text : List ℕ) (i o : Passage) (r : Result (Unit {0}) RunFault) → RunsFork text i o r → text ≡ key → RunsFork key i o r
+runs_fork key text i o r runs a = subst (λ (k : List ℕ). RunsFork k i o r) a runs

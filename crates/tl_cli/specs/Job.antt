@@ -1,5 +1,5 @@
 -- What the program does with a job: which command runs, with which options, and how the run ends.
-use Rattle.std.specs.Prelude.{◌≡◌, ◌⊎◌, ℕ, Bool, true, false, List, Option, Result, Ok, Err, string_bytes, option_map}
+use Rattle.std.specs.Prelude.{◌≡◌, ◌⊎◌, ℕ, Bool, true, false, List, Option, Some, None, Result, Ok, Err, string_bytes, option_map}
 use Rattle.sha2.specs.Sha256.{sha256}
 use Rattle.tl_device.specs.Device.{Passage, IsUnread, IsUnwritten}
 use Rattle.tl_archive.specs.Shelves.{Held}

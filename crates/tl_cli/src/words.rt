@@ -79,7 +79,7 @@ fn fault_of(alloc: Global, error: ClapError) -> WordsFault {
 fn program<'a>(alloc: Global) -> Command<'a> {
     Command::new(alloc, "tlog")
         .version(VERSION)
-        .about("A transparency log: a public list that only grows, under the root of a Merkle tree")
+        .about("A transparency log: a list that only grows, under the root of a Merkle tree")
         .after_help(texts::STATUSES)
         .subcommand_required(true)
         .disable_help_subcommand(true)
@@ -190,17 +190,22 @@ fn help_words(alloc: Global, program: &str, names: &[String]) -> Result<Vec<Stri
     Ok(asked)
 }
 
+// The job that prints the help that these words ask for.
+fn help_of(alloc: Global, asked: &[String]) -> Result<Job, WordsFault> {
+    let program = with_commands(alloc)?;
+    match program.try_get_matches_from(asked) {
+        Ok(_matches) => Err(given::no_word(alloc)),
+        Err(error) if matches!(error.kind(), ErrorKind::DisplayHelp) => Ok(Job::Help {
+            text: error.to_string(alloc)?,
+        }),
+        Err(error) => Err(fault_of(alloc, error)),
+    }
+}
+
 // The job of `help`, with the names of a command.
 fn help_job(alloc: Global, program: &str, names: &[String]) -> Result<Job, WordsFault> {
     let asked = help_words(alloc, program, names)?;
-    match with_commands(alloc)?.try_get_matches_from(asked.as_slice()) {
-        Err(error) if matches!(error.kind(), ErrorKind::DisplayHelp) => {
-            let text = error.to_string(alloc)?;
-            Ok(Job::Help { text })
-        }
-        Err(error) => Err(fault_of(alloc, error)),
-        Ok(_) => Err(given::no_word(alloc)),
-    }
+    help_of(alloc, asked.as_slice())
 }
 
 /// The job that the words ask for, the first of which is the program's name; `--version` is a job, and so is `help`,

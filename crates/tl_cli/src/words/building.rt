@@ -64,7 +64,7 @@ pub(super) fn build() -> &'static Words {
 
 const APPEND: Words = Words {
     name: "append",
-    about: "Appends the lines of standard input to the log in a folder or a bucket",
+    about: "Appends the lines of its input to the log in a folder or a bucket",
     after_help: texts::APPEND,
     groups: &[
         LOG,

@@ -52,7 +52,7 @@ pub(super) fn inclusion() -> &'static Words {
 
 const CONSISTENCY: Words = Words {
     name: "consistency",
-    about: "Prints the proof that the first lines of standard input begin them all",
+    about: "Prints the proof that the first lines of its input begin them all",
     after_help: texts::CONSISTENCY,
     groups: &[Group {
         heading: "",

@@ -89,7 +89,7 @@ const SERVER: Group = Group {
 
 const SERVE: Words = Words {
     name: "serve",
-    about: "Serves the log of the lines of standard input, or of a folder or a bucket",
+    about: "Serves the lines of its input, or the log in a folder or a bucket",
     after_help: texts::SERVE,
     groups: &[
         LOG,
@@ -139,7 +139,7 @@ pub(super) fn serve() -> &'static Words {
 
 const WITNESS: Words = Words {
     name: "witness",
-    about: "Serves a witness, which cosigns each checkpoint that extends the last one",
+    about: "Serves a witness, which cosigns what extends the last checkpoint",
     after_help: texts::WITNESS,
     groups: &[
         Group {
@@ -158,11 +158,11 @@ const WITNESS: Words = Words {
                 "name" "NAME" Kind::Text => "The name of its demonstration key";
                 "witness-secret" "SECRET" Kind::Text => "The secret of that key";
                 "state" "FILE" Kind::Path
-                    => "What it cosigned (default: the standard streams)";
+                    => "What it cosigned (default: standard streams)";
                 "new" "" Kind::Flag => "Make that file; none may be there";
                 "compact" "" Kind::Flag => "First keep each log's last line alone there";
                 "time" "N" Kind::Number(0, u64::MAX)
-                    => "Seconds since 1970 to cosign with (default: the clock)";
+                    => "The time, in seconds since 1970 (default: now)";
             ],
         },
         SERVER,

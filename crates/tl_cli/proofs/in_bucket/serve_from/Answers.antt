@@ -10,3 +10,6 @@ returns g c = inr (c.in_ok-shelf.shelf, c.in_ok-shelf.ensures, c.finish_and_serv
 
 pub returns-in_err-shelf : goal.returns-in_err-shelf
 returns-in_err-shelf g c = inl (is_refused c.from_residual-in_err-shelf.result c.from_residual-in_err-shelf.ensures.0, search rules)
+
+pub returns-in_err-key : goal.returns-in_err-key
+returns-in_err-key g c = inl (is_refused c.from_residual.result c.from_residual.ensures.0, search rules)

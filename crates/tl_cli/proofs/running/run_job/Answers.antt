@@ -1,5 +1,6 @@
 use Rattle.std.proofs.Common.{refl, rules}
 use Rattle.std.proofs.KnownBytes.{Keeps-refl}
+use Rattle.tl_cli.proofs.FileRuns.{runs_fork}
 use Rattle.tl_cli.proofs.running.run_job.Goals as goal
 
 pub returns-in-Head : goal.returns-in-Head
@@ -39,3 +40,7 @@ returns-in-AppendTo g c = rw c.in-AppendTo.is (c.append_to.ensures, search rules
 
 pub returns-in-ServeFrom : goal.returns-in-ServeFrom
 returns-in-ServeFrom g c = rw c.in-ServeFrom.is (c.serve_from.ensures, search rules)
+
+pub returns-in-CheckFork : goal.returns-in-CheckFork
+returns-in-CheckFork g c = rw c.in-CheckFork.is
+    ((c.run_check_fork.result, runs_fork _ _ _ _ _ c.run_check_fork.ensures c.deref.ensures, c.after_run-in-CheckFork.ensures), search rules)
