@@ -1,6 +1,6 @@
 //! From words to the command that they name, and from how it ended to an exit status.
 
-ghost use Rattle.std.specs.Prelude.{◌≡◌, codes, option_map, string_bytes};
+ghost use Rattle.std.specs.Prelude.{◌≡◌, Some, codes, option_map, string_bytes};
 ghost use Rattle.tl_text.specs.Text.{line};
 ghost use Rattle.tl_device.specs.Device.{passage};
 ghost use Rattle.tl_command.specs.Head.{RunsHead};
@@ -219,6 +219,29 @@ fn check_file_entry<H: Files, R: Read, W: Write>(
     }
 }
 
+// Checks the proof of the input, about what is given, against the checkpoint in a file.
+fn check_given<H: Files, R: Read, W: Write>(
+    rt: &H,
+    alloc: Global,
+    options: &CheckOptions,
+    given: &GivenEntry,
+    reader: &mut Counted<R>,
+    writer: &mut Counted<W>,
+) -> Result<(), RunFault>
+    ensures { ChecksGiven (string_bytes options.now.key) (Some given.now)
+        (passage R.remaining reader.old reader.new)
+        (passage W.contents writer.old writer.new) result }
+{
+    match given {
+        GivenEntry::Text(entry) => {
+            check_in_file(rt, alloc, options, Some(entry.as_bytes()), reader, writer)
+        }
+        GivenEntry::File(path) => {
+            check_file_entry(rt, alloc, options, path.as_str(), reader, writer)
+        }
+    }
+}
+
 // Checks the proof of the input against the checkpoint in a file.
 fn check_under<H: Files, R: Read, W: Write>(
     rt: &H,
@@ -233,12 +256,7 @@ fn check_under<H: Files, R: Read, W: Write>(
 {
     match &options.entry {
         None => check_in_file(rt, alloc, options, None, reader, writer),
-        Some(GivenEntry::Text(entry)) => {
-            check_in_file(rt, alloc, options, Some(entry.as_bytes()), reader, writer)
-        }
-        Some(GivenEntry::File(path)) => {
-            check_file_entry(rt, alloc, options, path.as_str(), reader, writer)
-        }
+        Some(given) => check_given(rt, alloc, options, given, reader, writer),
     }
 }
 
