@@ -1,5 +1,6 @@
 -- The definitions of what the program does with its words.
 pub mod Ending
+pub mod Named
 pub mod Told
 pub mod Version
 pub mod Job

@@ -1,5 +1,6 @@
 -- What standard error is told of how a job ended.
-use Rattle.std.specs.Prelude.{◌≡◌, ◌⊎◌, ℕ, [], ◌++◌, codes, Result, Ok, Err, Option, Some, None, option_map, string_bytes}
+use Rattle.std.specs.Prelude.{◌≡◌, ◌⊎◌, ◌==◌, Bool, true, false, [], ◌++◌, codes, Result, Ok, Err, Option, Some, None}
+use Rattle.std.specs.List.{starts_with}
 use Rattle.tl_hash.specs.Bytes.{Bytes}
 use Rattle.tl_text.specs.Text.{line}
 use Rattle.tl_tile.specs.Path.{IsResource}
@@ -10,103 +11,23 @@ use Rattle.tl_command.specs.Faults.{fault_text, nothing_words, place_words}
 use Rattle.tl_command.specs.declared.place.Place.{Place}
 use Rattle.tl_command.specs.declared.place.Place.TheVariants as place
 use Rattle.tl_command.specs.declared.fault.RunFault.{RunFault}
-use Rattle.tl_command.specs.declared.fault.RunFault.TheVariants.{Device, BadCheckpoint, BadKeyFile, NothingThere}
+use Rattle.tl_command.specs.declared.fault.RunFault.TheVariants.{Device, BadCheckpoint, BadKey, BadKeyFile, NothingThere}
 use Rattle.tl_fetch.specs.FaultWords.{fetch_text}
 use Rattle.tl_fetch.specs.declared.fault.FetchFault.TheVariants as fetch
 use Rattle.tl_source.specs.Asking.{IsTarget}
-use Rattle.tl_command.specs.declared.keys.LogKey.{LogKey}
-use Rattle.tl_command.specs.declared.keys.LogKey.TheVariants as key
-use Rattle.tl_serve.specs.declared.options.WitnessSignerKey.{WitnessSignerKey}
-use Rattle.tl_serve.specs.declared.options.WitnessSignerKey.TheVariants as cosigner
-use Rattle.tl_serve.specs.declared.options.KnownLogs.{KnownLogs}
-use Rattle.tl_serve.specs.declared.options.KnownLogs.TheVariants.{One, Listed}
 use Rattle.tl_serve.specs.declared.witness_fault.WitnessFault.{WitnessFault}
 use Rattle.tl_serve.specs.declared.witness_fault.WitnessFault.TheVariants as why
 use Rattle.tl_logs.specs.FaultWords.{logs_words}
 use Rattle.tl_bucket.specs.FaultWords.{bucket_words}
 use Rattle.tl_device.specs.declared.fault.DeviceFault.{DeviceFault}
 use Rattle.tl_cli.specs.declared.job.Job.{Job}
-use Rattle.tl_cli.specs.declared.job.Job.TheVariants.{BuildSigned, Append, AppendTo, CheckUnder, KeygenTo, Serve, ServeFrom, Witness, Fetch, Feed}
+use Rattle.tl_cli.specs.Named.{address_of, base_of, credentials_of, file_of, key_option, log_of, logs_file, new_key_of}
 use Rattle.tl_cli.specs.declared.fault.CommandFault.{CommandFault}
 use Rattle.tl_cli.specs.declared.fault.KeyFile.{KeyFile}
 use Rattle.tl_cli.specs.declared.fault.KeyFile.TheVariants.{Private, Public}
 use Rattle.tl_cli.specs.declared.fault.CommandFault.TheVariants as fault
 
--- ---- what the options of a job name
-
--- the file of a key
-abbrev pub key_file : LogKey → Option Bytes
-key_file (key.Secret text) = None
-key_file (key.File path) = Some (string_bytes path)
-
-abbrev pub witness_file : WitnessSignerKey → Option Bytes
-witness_file (cosigner.Secret name text) = None
-witness_file (cosigner.File path) = Some (string_bytes path)
-
--- the file of a key or of a checkpoint
-abbrev pub file_of : Job → Option Bytes
-file_of (BuildSigned options) = Some (string_bytes options.key)
-file_of (CheckUnder options) = Some (string_bytes options.checkpoint)
-file_of (Append options) = key_file options.key
-file_of (AppendTo options) = key_file options.append.key
-file_of (Serve options) = key_file options.key
-file_of (ServeFrom options) = key_file options.serve.key
-file_of (Witness options) = witness_file options.key
-file_of job = None
-
--- the file of a state
-abbrev pub state_of : Job → Option Bytes
-state_of (Witness options) = option_map string_bytes options.state
-state_of (Fetch options) = option_map string_bytes options.state
-state_of (Feed options) = option_map string_bytes options.log.state
-state_of job = None
-
--- the folder of a log, or the address of its bucket
-abbrev pub log_of : Job → Option Bytes
-log_of (Append options) = Some (string_bytes options.dir)
-log_of (AppendTo options) = Some (string_bytes options.bucket.address)
-log_of (Serve options) = option_map string_bytes options.dir
-log_of (ServeFrom options) = Some (string_bytes options.bucket.address)
-log_of job = None
-
--- the folder or the address that is fetched from
-abbrev pub source_of : Job → Option Bytes
-source_of (Fetch options) = Some (string_bytes options.from)
-source_of (Feed options) = Some (string_bytes options.log.from)
-source_of job = None
-
--- the file of the logs that a witness knows
-abbrev pub listed_file : KnownLogs → Option Bytes
-listed_file (One origin key) = None
-listed_file (Listed path) = Some (string_bytes path)
-
-abbrev pub logs_file : Job → Option Bytes
-logs_file (Witness options) = listed_file options.logs
-logs_file job = None
-
--- the file of the key that signs requests to a bucket
-abbrev pub credentials_of : Job → Option Bytes
-credentials_of (AppendTo options) = option_map string_bytes options.bucket.credentials
-credentials_of (ServeFrom options) = option_map string_bytes options.bucket.credentials
-credentials_of job = None
-
--- the file of a new private key, and that of its verifier key
-abbrev pub new_key_of : Job → Option Bytes
-new_key_of (KeygenTo options) = Some (string_bytes options.out)
-new_key_of job = None
-
-abbrev pub key_path : Option Bytes → KeyFile → Bytes
-key_path None which = codes "file"
-key_path (Some out) Private = out
-key_path (Some out) Public = out ++ codes ".pub"
-
--- what they name for a place, and the resource under it that the place is, if it is one
-abbrev pub base_of : Job → Place → Option Bytes
-base_of job place.File = file_of job
-base_of job place.State = state_of job
-base_of job (place.Log resource) = log_of job
-base_of job (place.Source resource) = source_of job
-
+-- the resource that a place is, if it is one
 abbrev pub resource_of : Place → Option Resource
 resource_of place.File = None
 resource_of place.State = None
@@ -126,16 +47,23 @@ IsLineAt None place words text = text ≡ line (codes "tlog: " ++ place_words pl
 IsLineAt (Some base) place words text =
     (path : Bytes) × IsWhere base (resource_of place) path × (text ≡ line (codes "tlog: " ++ path ++ codes ": " ++ words))
 
+-- the path of a file of a new key
+abbrev pub key_path : Option Bytes → KeyFile → Bytes
+key_path None which = codes "file"
+key_path (Some out) Private = out
+key_path (Some out) Public = out ++ codes ".pub"
+
 -- a line, or nothing
 abbrev pub line_or_none : Option Bytes → Bytes
 line_or_none None = []
 line_or_none (Some text) = line text
 
--- the line of a fault that other commands have, too, if it has one: that of a device, of what is no key or no
--- checkpoint there, or of another kind
+-- the line of a fault that other commands have, too, if it has one: that of a device, of what is no checkpoint or no key
+-- there, of a text that is of no key, of a place where nothing is, or of another kind
 abbrev pub IsLineOfRun : Job → RunFault → Bytes → Type 0
 IsLineOfRun job (Device place why) text = IsLineAt (base_of job place) place (device_words why) text
 IsLineOfRun job (BadCheckpoint place) text = IsLineAt (base_of job place) place (codes "bad checkpoint") text
+IsLineOfRun job BadKey text = text ≡ line (codes "tlog: " ++ key_option job ++ codes ": " ++ codes "bad key")
 IsLineOfRun job BadKeyFile text = IsLineAt (file_of job) place.File (codes "bad key") text
 IsLineOfRun job (NothingThere place) text = IsLineAt (base_of job place) place (nothing_words place) text
 IsLineOfRun job other text = text ≡ line_or_none (fault_text other)
@@ -157,10 +85,25 @@ credentials_line None why = line (codes "tlog: no credentials")
 credentials_line (Some path) None = line (codes "tlog: " ++ path ++ codes ": " ++ codes "bad credentials")
 credentials_line (Some path) (Some why) = line (codes "tlog: " ++ path ++ codes ": " ++ device_words why)
 
+-- the address is one over TLS
+abbrev pub is_secure : Bytes → Bool
+is_secure address = starts_with (λ a b. a == b) address (codes "https://")
+
+-- why an address is none, which may be one over TLS
+abbrev pub address_words : Bool → Bytes
+address_words true = codes "bad address (TLS needs a proxy: see docs/OPERATING.md)"
+address_words false = codes "bad address"
+
+-- the line of an address that is none
+abbrev pub address_line : Option Bytes → Bytes
+address_line None = line (codes "tlog: " ++ codes "address" ++ codes ": " ++ codes "bad address")
+address_line (Some address) = line (codes "tlog: " ++ address ++ codes ": " ++ address_words (is_secure address))
+
 -- the line of a fault of a job, if it has one
 abbrev pub IsLineOf : Job → CommandFault → Bytes → Type 0
 IsLineOf job (fault.Run other) text = IsLineOfRun job other text
 IsLineOf job (fault.Fetch (fetch.Run other)) text = IsLineOfRun job other text
+IsLineOf job (fault.Fetch (fetch.BadAddress which)) text = text ≡ address_line (address_of job which)
 IsLineOf job (fault.Fetch other) text = text ≡ line_or_none (fetch_text other)
 IsLineOf job (fault.Witness other) text = IsLineOfWitness job other text
 IsLineOf job (fault.Bucket why) text = IsLineAt (log_of job) (place.Log None) (bucket_words why) text

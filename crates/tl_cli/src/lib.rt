@@ -8,12 +8,14 @@
 //! ```
 #![tactic(auto)]
 
+mod checking;
 mod fault;
 mod in_bucket;
 mod job;
 mod key_files;
 mod key_texts;
 mod lasting;
+mod naming;
 mod own_bucket;
 mod own_folder;
 mod proposal_file;

@@ -1,16 +1,17 @@
 //! From words to the command that they name, and from how it ended to an exit status.
 
-ghost use Rattle.std.specs.Prelude.{◌≡◌, Some, codes, option_map, string_bytes};
+ghost use Rattle.std.specs.Prelude.{◌≡◌, codes, option_map, string_bytes};
 ghost use Rattle.tl_text.specs.Text.{line};
 ghost use Rattle.tl_device.specs.Device.{passage};
 ghost use Rattle.tl_command.specs.Head.{RunsHead};
-ghost use Rattle.tl_cli.specs.Job.{BuildsDemo, BuildsSigned, ChecksEntryIn, ChecksFile, ChecksGiven, EndsWords, RunsJob, key_kind};
+ghost use Rattle.tl_cli.specs.Job.{BuildsDemo, BuildsSigned, EndsWords, RunsJob, key_kind};
 ghost use Rattle.tl_command.specs.Keygen.{GivesKey};
 ghost use Rattle.tl_command.specs.ProofCommands.{InclusionComes, ConsistencyComes};
 ghost use Rattle.tl_command.specs.Run.{Runs};
 ghost use Rattle.tl_cli.specs.Ending.{Told, status_of};
 ghost use Rattle.tl_cli.specs.Told.{Tells};
 
+use crate::checking::check_under;
 use crate::fault::{CommandFault, after_fetch, after_run, after_witness, command_exit_of};
 use crate::in_bucket::{append_to, serve_from};
 use crate::job::{ConsistencyOptions, InclusionOptions, Job};
@@ -31,9 +32,9 @@ use std::random::RandomSource;
 use std::thread::{Threads, available_parallelism};
 use tl_bucket::PutsTogether;
 use tl_command::{
-    BuildOptions, CheckOptions, GivenEntry, HeadOptions, HmacLogSigner, KeygenOptions, RunFault,
-    SignedOptions, read_file, run_audit, run_build, run_build_signed, run_check, run_check_opened,
-    run_consistency, run_head, run_inclusion, run_keygen, run_open,
+    BuildOptions, HeadOptions, HmacLogSigner, KeygenOptions, RunFault, SignedOptions, read_file,
+    run_audit, run_build, run_build_signed, run_check, run_consistency, run_head, run_inclusion,
+    run_keygen, run_open,
 };
 use tl_device::{Counted, write_whole};
 use tl_evidence::run_check_fork;
@@ -171,93 +172,6 @@ fn build_signed<H: Files + Threads + Sync, R: Read, W: Write>(
     run_build_signed(
         rt, alloc, alloc, threads, alloc, origin, bytes, get, reader, writer,
     )
-}
-
-// Checks the proof of the input, about this entry, if one is given, against the checkpoint in a file.
-fn check_in_file<H: Files, R: Read, W: Write>(
-    rt: &H,
-    alloc: Global,
-    options: &CheckOptions,
-    entry: Option<&[u8]>,
-    reader: &mut Counted<R>,
-    writer: &mut Counted<W>,
-) -> Result<(), RunFault>
-    ensures { ChecksFile (string_bytes options.now.key)
-        (option_map (λ e. e.now) entry.entry) (passage R.remaining reader.old reader.new)
-        (passage W.contents writer.old writer.new) result }
-{
-    let bytes = match read_file(rt, alloc, options.checkpoint.as_str()) {
-        Ok(bytes) => bytes,
-        Err(fault) => return Err(fault),
-    };
-    run_check_opened(
-        alloc,
-        options.key.as_str(),
-        bytes.as_slice(),
-        entry,
-        reader,
-        writer,
-    )
-}
-
-// Checks the proof of the input about the bytes of a file, against the checkpoint in another.
-fn check_file_entry<H: Files, R: Read, W: Write>(
-    rt: &H,
-    alloc: Global,
-    options: &CheckOptions,
-    path: &str,
-    reader: &mut Counted<R>,
-    writer: &mut Counted<W>,
-) -> Result<(), RunFault>
-    ensures { ChecksEntryIn (string_bytes options.now.key)
-        (passage R.remaining reader.old reader.new)
-        (passage W.contents writer.old writer.new) result }
-{
-    match read_file(rt, alloc, path) {
-        Ok(entry) => check_in_file(rt, alloc, options, Some(entry.as_slice()), reader, writer),
-        Err(fault) => Err(fault),
-    }
-}
-
-// Checks the proof of the input, about what is given, against the checkpoint in a file.
-fn check_given<H: Files, R: Read, W: Write>(
-    rt: &H,
-    alloc: Global,
-    options: &CheckOptions,
-    given: &GivenEntry,
-    reader: &mut Counted<R>,
-    writer: &mut Counted<W>,
-) -> Result<(), RunFault>
-    ensures { ChecksGiven (string_bytes options.now.key) (Some given.now)
-        (passage R.remaining reader.old reader.new)
-        (passage W.contents writer.old writer.new) result }
-{
-    match given {
-        GivenEntry::Text(entry) => {
-            check_in_file(rt, alloc, options, Some(entry.as_bytes()), reader, writer)
-        }
-        GivenEntry::File(path) => {
-            check_file_entry(rt, alloc, options, path.as_str(), reader, writer)
-        }
-    }
-}
-
-// Checks the proof of the input against the checkpoint in a file.
-fn check_under<H: Files, R: Read, W: Write>(
-    rt: &H,
-    alloc: Global,
-    options: &CheckOptions,
-    reader: &mut Counted<R>,
-    writer: &mut Counted<W>,
-) -> Result<(), RunFault>
-    ensures { ChecksGiven (string_bytes options.now.key) options.now.entry
-        (passage R.remaining reader.old reader.new)
-        (passage W.contents writer.old writer.new) result }
-{
-    match &options.entry {
-        None => check_in_file(rt, alloc, options, None, reader, writer),
-        Some(given) => check_given(rt, alloc, options, given, reader, writer),
-    }
 }
 
 /// Runs the command of a job with its options: each job its own command, which reads the reader and writes the writer.

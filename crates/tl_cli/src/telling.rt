@@ -7,134 +7,23 @@ ghost use Rattle.tl_device.specs.Faults.{device_words};
 ghost use Rattle.tl_bucket.specs.FaultWords.{bucket_words};
 ghost use Rattle.tl_command.specs.Faults.{nothing_words};
 ghost use Rattle.tl_command.specs.declared.place.Place.TheVariants.{Log};
-ghost use Rattle.tl_cli.specs.Told.{IsLineAt, IsLineOf, IsLineOfRun, IsLineOfWitness, IsWhere, TellsFault, Wrote, base_of, credentials_line, credentials_of, file_of, key_file, key_path, line_or_none, listed_file, log_of, logs_file, logs_line, new_key_of, resource_of, source_of, state_of, witness_file};
+ghost use Rattle.tl_cli.specs.Named.{address_of, base_of, credentials_of, log_of, logs_file, new_key_of};
+ghost use Rattle.tl_cli.specs.Told.{IsLineAt, IsLineOf, IsLineOfRun, IsLineOfWitness, IsWhere, TellsFault, Wrote, address_line, address_words, credentials_line, is_secure, key_path, line_or_none, logs_line, resource_of};
 
 use crate::fault::{CommandFault, KeyFile};
 use crate::job::Job;
+use crate::naming::{
+    address_of, base_of, credentials_of, key_option, log_of, logs_file, new_key_of,
+};
 use std::alloc::{AllocError, Allocator};
 use std::io::Write;
 use tl_bucket::BucketFault;
-use tl_command::{LogKey, Place, RunFault, fault_line};
+use tl_command::{Place, RunFault, fault_line};
 use tl_device::{Counted, DeviceFault, write_whole};
-use tl_fetch::{FetchFault, fetch_fault_line};
-use tl_serve::{KnownLogs, WitnessFault, WitnessSignerKey};
+use tl_fetch::{Address, FetchFault, fetch_fault_line};
+use tl_serve::WitnessFault;
 use tl_source::place_of;
 use tl_tile::Resource;
-
-// The file of a log's key.
-fn key_file(key: &LogKey) -> Option<&str>
-    ensures { option_map (λ s. s.now) result ≡ key_file key.now }
-{
-    match key {
-        LogKey::Secret(_) => None,
-        LogKey::File(path) => Some(path.as_str()),
-    }
-}
-
-// The file of a witness's key.
-fn witness_file(key: &WitnessSignerKey) -> Option<&str>
-    ensures { option_map (λ s. s.now) result ≡ witness_file key.now }
-{
-    match key {
-        WitnessSignerKey::Secret(_, _) => None,
-        WitnessSignerKey::File(path) => Some(path.as_str()),
-    }
-}
-
-// The file of a key or of a checkpoint that the options name.
-fn file_of(job: &Job) -> Option<&str>
-    ensures { option_map (λ s. s.now) result ≡ file_of job.now }
-{
-    match job {
-        Job::BuildSigned(options) => Some(options.key.as_str()),
-        Job::CheckUnder(options) => Some(options.checkpoint.as_str()),
-        Job::Append(options) => key_file(&options.key),
-        Job::AppendTo(options) => key_file(&options.append.key),
-        Job::Serve(options) => key_file(&options.key),
-        Job::ServeFrom(options) => key_file(&options.serve.key),
-        Job::Witness(options) => witness_file(&options.key),
-        _ => None,
-    }
-}
-
-// The file of a state that the options name.
-fn state_of(job: &Job) -> Option<&str>
-    ensures { option_map (λ s. s.now) result ≡ state_of job.now }
-{
-    match job {
-        Job::Witness(options) => options.state.as_deref(),
-        Job::Fetch(options) => options.state.as_deref(),
-        Job::Feed(options) => options.log.state.as_deref(),
-        _ => None,
-    }
-}
-
-// The file of the logs that a witness knows.
-fn listed_file(logs: &KnownLogs) -> Option<&str>
-    ensures { option_map (λ s. s.now) result ≡ listed_file logs.now }
-{
-    match logs {
-        KnownLogs::One(_, _) => None,
-        KnownLogs::Listed(path) => Some(path.as_str()),
-    }
-}
-
-// The file of the logs that the options name.
-fn logs_file(job: &Job) -> Option<&str>
-    ensures { option_map (λ s. s.now) result ≡ logs_file job.now }
-{
-    match job {
-        Job::Witness(options) => listed_file(&options.logs),
-        _ => None,
-    }
-}
-
-// The folder of a log that the options name, or the address of its bucket.
-fn log_of(job: &Job) -> Option<&str>
-    ensures { option_map (λ s. s.now) result ≡ log_of job.now }
-{
-    match job {
-        Job::Append(options) => Some(options.dir.as_str()),
-        Job::AppendTo(options) => Some(options.bucket.address.as_str()),
-        Job::Serve(options) => options.dir.as_deref(),
-        Job::ServeFrom(options) => Some(options.bucket.address.as_str()),
-        _ => None,
-    }
-}
-
-// The file of the key that signs requests to a bucket.
-fn credentials_of(job: &Job) -> Option<&str>
-    ensures { option_map (λ s. s.now) result ≡ credentials_of job.now }
-{
-    match job {
-        Job::AppendTo(options) => options.bucket.credentials.as_deref(),
-        Job::ServeFrom(options) => options.bucket.credentials.as_deref(),
-        _ => None,
-    }
-}
-
-// The folder or the address that the options name to fetch from.
-fn source_of(job: &Job) -> Option<&str>
-    ensures { option_map (λ s. s.now) result ≡ source_of job.now }
-{
-    match job {
-        Job::Fetch(options) => Some(options.from.as_str()),
-        Job::Feed(options) => Some(options.log.from.as_str()),
-        _ => None,
-    }
-}
-
-// What the options name for a place.
-fn base_of(job: &Job, place: Place) -> Option<&str>
-    ensures { option_map (λ s. s.now) result ≡ base_of job.now place }
-{
-    match place {
-        Place::File => file_of(job),
-        Place::State => state_of(job),
-        Place::Log(_) => log_of(job),
-        Place::Source(_) => source_of(job),
-    }
-}
 
 // Which resource a place is, if it is one.
 fn resource_of(place: Place) -> Option<Resource>
@@ -237,6 +126,7 @@ fn run_line<A: Allocator + Copy>(
             place_line(alloc, job, *place, words.as_str())
         }
         RunFault::BadCheckpoint(place) => place_line(alloc, job, *place, "bad checkpoint"),
+        RunFault::BadKey => line_at(alloc, key_option(job), "bad key"),
         RunFault::BadKeyFile => place_line(alloc, job, Place::File, "bad key"),
         RunFault::NothingThere(place) => nothing_line(alloc, job, *place),
         _ => whole_line(alloc, fault_line(alloc, fault)?),
@@ -306,16 +196,6 @@ fn credentials_line<A: Allocator + Copy>(
     line_at(alloc, path, words.as_str())
 }
 
-// The file of a new private key that the options name.
-fn new_key_of(job: &Job) -> Option<&str>
-    ensures { option_map (λ s. s.now) result ≡ new_key_of job.now }
-{
-    match job {
-        Job::KeygenTo(options) => Some(options.out.as_str()),
-        _ => None,
-    }
-}
-
 // The line of a fault over a file of a new key.
 fn key_line<A: Allocator + Copy>(
     alloc: A,
@@ -339,6 +219,35 @@ fn key_line<A: Allocator + Copy>(
     }
 }
 
+// Whether an address is one over TLS.
+fn is_secure(address: &str) -> bool
+    ensures { result ≡ is_secure address.now }
+{
+    address.as_bytes().starts_with(b"https://")
+}
+
+// Why an address is none, which may be one over TLS.
+fn address_words(is_secure: bool) -> &'static str
+    ensures { result.now ≡ address_words is_secure }
+{
+    if is_secure {
+        "bad address (TLS needs a proxy: see docs/OPERATING.md)"
+    } else {
+        "bad address"
+    }
+}
+
+// The line of an address that is none.
+fn address_line<A: Allocator>(alloc: A, job: &Job, which: Address) -> Result<String<A>, AllocError>
+    ensures { IfOk result
+        (λ text. string_bytes text ≡ address_line (address_of job.now which)) }
+{
+    match address_of(job, which) {
+        Some(address) => line_at(alloc, address, address_words(is_secure(address))),
+        None => line_at(alloc, "address", "bad address"),
+    }
+}
+
 // What is told of a fault of a job: its line, if it has one.
 fn line_of<A: Allocator + Copy>(
     alloc: A,
@@ -350,6 +259,7 @@ fn line_of<A: Allocator + Copy>(
     match fault {
         CommandFault::Run(fault) => run_line(alloc, job, fault),
         CommandFault::Fetch(FetchFault::Run(fault)) => run_line(alloc, job, fault),
+        CommandFault::Fetch(FetchFault::BadAddress(which)) => address_line(alloc, job, *which),
         CommandFault::Fetch(fault) => whole_line(alloc, fetch_fault_line(alloc, fault)?),
         CommandFault::Witness(fault) => witness_line(alloc, job, fault),
         CommandFault::Bucket(why) => bucket_line(alloc, job, why),

@@ -9,7 +9,7 @@ use tl_device::Counted;
 
 // The program's version, and the kit that it is proved with. The formats that it reads and writes have versions of
 // their own.
-const LINE: &[u8] = b"tlog 0.1.0 (proved with rattle-kit-13f logic dac8208d650f15bf)\n";
+const LINE: &str = "tlog 0.1.0 (proved with rattle-kit-13f logic dac8208d650f15bf)\n";
 
 /// Prints a text.
 pub(crate) fn print_whole<W: Write>(text: &str, writer: &mut Counted<W>) -> Result<(), RunFault>
@@ -25,8 +25,5 @@ pub(crate) fn print_whole<W: Write>(text: &str, writer: &mut Counted<W>) -> Resu
 pub(crate) fn print_version<W: Write>(writer: &mut Counted<W>) -> Result<(), RunFault>
     ensures { PrintsVersion (passage W.contents writer.old writer.new) result }
 {
-    match print_text(writer, LINE) {
-        Ok(()) => Ok(()),
-        Err(_) => Err(RunFault::Write),
-    }
+    print_whole(LINE, writer)
 }

@@ -19,10 +19,12 @@ mod building;
 mod feeding;
 mod fetching;
 mod given;
+mod listening;
 mod proving;
 mod serving;
 mod table;
 mod texts;
+mod witnessing;
 
 use table::{Words, command_of};
 
@@ -133,7 +135,7 @@ fn words_of(command: Named) -> &'static Words {
         Named::Open => proving::open(),
         Named::Audit => proving::audit(),
         Named::Serve => serving::serve(),
-        Named::Witness => serving::witness(),
+        Named::Witness => witnessing::witness(),
         Named::Fetch => fetching::fetch(),
         Named::Feed => feeding::feed(),
     }
@@ -172,7 +174,7 @@ fn job_of(alloc: Global, command: &str, options: &ArgMatches<'_>) -> Result<Job,
         }),
         "audit" => Ok(Job::Audit),
         "serve" => serving::serve_job(alloc, options),
-        "witness" => serving::witness_job(alloc, options),
+        "witness" => witnessing::witness_job(alloc, options),
         "fetch" => fetching::fetch_job(alloc, options),
         "feed" => feeding::feed_job(alloc, options),
         _ => Err(given::no_word(alloc)),

@@ -12,7 +12,7 @@ use Rattle.tl_command.specs.Build.{RunsBuild}
 use Rattle.tl_command.specs.CheckOpened.{IsIdle, RunsCheckOpened, RunsUnder}
 use Rattle.tl_command.specs.Faults.{after_device}
 use Rattle.tl_command.specs.Keys.{IsFileFault, ReadsKey, ReadsPrivate}
-use Rattle.tl_command.specs.Open.{RunsOpen}
+use Rattle.tl_command.specs.Open.{OpensSigned}
 use Rattle.tl_command.specs.Mirror.{LogKey}
 use Rattle.tl_command.specs.ProofCommands.{ChecksBy}
 use Rattle.tl_command.specs.ProofText.{Proof}
@@ -265,7 +265,7 @@ checkpoint_fails A bytes keys name entry i o BadKeyFile idle given = absurd give
 checkpoint_fails A bytes keys name entry i o (NothingThere _) idle given = absurd given
 
 -- the text is no key of a log that is opened
-pub open_key_fails : (text : List ℕ) (i o : Passage) (fault : RunFault) → IsUnread i → IsUnwritten o → ReadsKey text (Err fault) → RunsOpen text i o (Err fault)
+pub open_key_fails : (text : List ℕ) (i o : Passage) (fault : RunFault) → IsUnread i → IsUnwritten o → ReadsKey text (Err fault) → OpensSigned text i o (Err fault)
 open_key_fails text i o Refused unread none given = absurd given
 open_key_fails text i o Read unread none given = absurd given
 open_key_fails text i o Write unread none given = absurd given

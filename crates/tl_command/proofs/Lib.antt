@@ -16,6 +16,7 @@ pub mod NoteBytes
 pub mod NoCheckpoints
 pub mod Runs
 pub mod Failing
+pub mod CosignedRuns
 pub mod KeyRuns
 pub mod PrivateFiles
 pub mod ProofRuns

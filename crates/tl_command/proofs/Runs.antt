@@ -16,7 +16,7 @@ use Rattle.tl_command.specs.ProofCommands.{CheckAboutComes}
 use Rattle.tl_command.specs.Run.{Output, Prints, Runs, CameOf, most_input}
 use Rattle.tl_command.specs.declared.fault.RunFault.{RunFault}
 use Rattle.tl_command.specs.declared.fault.RunFault.TheVariants.{Refused, Read, Write, TooLarge, EntryTooLong, BadOrigin, BadIndex, BadOld, BadPath, NotThere, Malformed, Chain, Sign, Operator, Listen, Accept, OutOfMemory, BadName, BadKey, BadCheckpoint, WrongSignature, Unverified, Device, BadKeyFile, NothingThere}
-use Rattle.tl_command.specs.Open.{IsOpened, OpenComes, RunsOpen, after_note}
+use Rattle.tl_command.specs.Open.{IsOpened, OpenComes, OpensSigned, after_note}
 use Rattle.tl_command.specs.CheckOpened.{RunsUnder, RunsCheckOpened, subject_of}
 use Rattle.tl_command.proofs.NoteBytes.{note_some}
 
@@ -60,7 +60,7 @@ note_printed A keys i o input message text opened r same whole given spelled =
 
 -- a run under the key that a text is of
 pub runs_open : (text : List ℕ) (k : PublicKey) (i o : Passage) (r : Result (Unit {0}) RunFault) → IsVerifierText note_kind text k
-    → Runs (OpenComes (verifier_key k ∷ [])) i o r → RunsOpen text i o r
+    → Runs (OpenComes (verifier_key k ∷ [])) i o r → OpensSigned text i o r
 runs_open text k i o (Ok done) spelled runs = record { key = k; spelled = spelled; fact = runs }
 runs_open text k i o (Err Refused) spelled runs = record { key = k; spelled = spelled; fact = runs }
 runs_open text k i o (Err Read) spelled runs = record { key = k; spelled = spelled; fact = runs }
@@ -150,7 +150,7 @@ runs_check_opened text bytes entry k i o (Err Unverified) spelled runs = record 
 
 -- the same where the keys are that one
 pub runs_open_by : (keys : List Key) (text : List ℕ) (k : PublicKey) (i o : Passage) (r : Result (Unit {0}) RunFault) → IsVerifierText note_kind text k
-    → keys ≡ verifier_key k ∷ [] → Runs (OpenComes keys) i o r → RunsOpen text i o r
+    → keys ≡ verifier_key k ∷ [] → Runs (OpenComes keys) i o r → OpensSigned text i o r
 runs_open_by keys text k i o r spelled one runs = runs_open text k i o r spelled (subst (λ (ks : List Key). Runs (OpenComes ks) i o r) one runs)
 
 pub runs_check_by : (keys : List Key) (text bytes name : List ℕ) (entry : Option (List ℕ)) (k : PublicKey) (i o : Passage) (r : Result (Unit {0}) RunFault) → IsVerifierText note_kind text k

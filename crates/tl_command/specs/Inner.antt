@@ -21,3 +21,5 @@ pub
     mod BundleLengths
 pub
     mod Measuring
+pub
+    mod Cosigned

@@ -10,6 +10,7 @@ pub mod AuditText
 pub mod AuditCommand
 pub mod Keys
 pub mod Keygen
+pub mod OpenCosigned
 pub mod Open
 pub mod CheckOpened
 pub mod Mirror

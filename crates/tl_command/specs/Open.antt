@@ -1,5 +1,5 @@
--- The command `open`: the text of a note that a key signed (C2SP signed-note, "Verification").
-use Rattle.std.specs.Prelude.{◌≡◌, ℕ, List, [], ◌∷◌, Some, Result, Err}
+-- The command `open`: what a key signed of a note (C2SP signed-note, "Verification"; C2SP tlog-cosignature, "Format").
+use Rattle.std.specs.Prelude.{◌≡◌, ◌⊎◌, ℕ, List, [], ◌∷◌, Some, Result, Err}
 use Rattle.tl_hash.specs.Bytes.{Bytes}
 use Rattle.tl_note.specs.Key.{Key}
 use Rattle.tl_note.specs.Note.{Signature, Note, HasNoNote}
@@ -7,12 +7,14 @@ use Rattle.tl_note.specs.declared.fault.NoteFault.{NoteFault}
 use Rattle.tl_note.specs.declared.fault.NoteFault.TheVariants as note
 use Rattle.tl_note.specs.Open.{Placed, Opened, counting_lines, first_wrong}
 use Rattle.tl_device.specs.Device.{Passage, IsSteady, IsUnread, IsUnwritten}
-use Rattle.tl_key.specs.NoteKey.{PublicKey, note_kind, verifier_key}
+use Rattle.tl_key.specs.NoteKey.{PublicKey, cosignature_kind, note_kind, verifier_key}
 use Rattle.tl_key.specs.KeyText.{IsVerifierText}
+use Rattle.tl_key.specs.Reading.{IsNoVerifierText}
 use Rattle.tl_command.specs.Run.{Output, Prints, PrintsRefusal, Fails, Runs}
 use Rattle.tl_command.specs.declared.fault.RunFault.{RunFault}
 use Rattle.tl_command.specs.declared.fault.RunFault.TheVariants.{Malformed, BadKey, WrongSignature, Unverified, OutOfMemory}
 use Rattle.tl_command.specs.Keys.{IsNoKey}
+use Rattle.tl_command.specs.OpenCosigned.{CosignedComes}
 
 -- a fault of opening a note, as one of the command
 abbrev pub after_note : NoteFault → RunFault
@@ -59,9 +61,20 @@ pub record IsKeyWith (text : Bytes) (Fact : PublicKey → Type 0) : Type 0 where
   pub spelled : IsVerifierText note_kind text key
   pub fact : Fact key
 
--- a run with the text of a verifier's key: what is no such text is refused before anything is read. Memory is asked for
--- the key, too
+-- a run with the text of a log's key: what is no such text is refused before anything is read. Memory is asked for the
+-- key, too
+abbrev pub OpensSigned : Bytes → Passage → Passage → Result (Unit {0}) RunFault → Type 0
+OpensSigned text i o (Err BadKey) = IsNoKey text × IsUnread i × IsUnwritten o
+OpensSigned text i o (Err OutOfMemory) = IsKeyWith text (λ k. IsSteady i × IsUnwritten o)
+OpensSigned text i o result = IsKeyWith text (λ k. Runs (OpenComes (verifier_key k ∷ [])) i o result)
+
+-- a run under the key of a witness. Memory is asked for the key, too
+abbrev pub OpensCosigned : Key → Passage → Passage → Result (Unit {0}) RunFault → Type 0
+OpensCosigned key i o (Err OutOfMemory) = IsSteady i × IsUnwritten o
+OpensCosigned key i o result = Runs (CosignedComes key) i o result
+
+-- a run: the text is that of a witness's key, or it is none, and a log's key or no key
 abbrev pub RunsOpen : Bytes → Passage → Passage → Result (Unit {0}) RunFault → Type 0
-RunsOpen text i o (Err BadKey) = IsNoKey text × IsUnread i × IsUnwritten o
-RunsOpen text i o (Err OutOfMemory) = IsKeyWith text (λ k. IsSteady i × IsUnwritten o)
-RunsOpen text i o result = IsKeyWith text (λ k. Runs (OpenComes (verifier_key k ∷ [])) i o result)
+RunsOpen text i o result =
+    ((k : PublicKey) × IsVerifierText cosignature_kind text k × OpensCosigned (verifier_key k) i o result)
+    ⊎ (IsNoVerifierText cosignature_kind text × OpensSigned text i o result)

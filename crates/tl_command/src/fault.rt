@@ -54,7 +54,7 @@ pub enum RunFault {
     BadCheckpoint(Place),
     /// The signature line at this place, counted from 0, is wrong.
     WrongSignature(u64),
-    /// No signature line is of a key that was given.
+    /// The note is signed by other keys: no signature line is of one that was given.
     Unverified,
     /// A file, a folder or a host that the options name failed.
     Device(Place, DeviceFault),
@@ -104,7 +104,7 @@ impl Display for RunFault {
             RunFault::BadKey => "bad key",
             RunFault::BadCheckpoint(place) => return write!(f, "{place}: bad checkpoint"),
             RunFault::WrongSignature(k) => return write!(f, "signature {k} wrong"),
-            RunFault::Unverified => "no known signature",
+            RunFault::Unverified => "signed by another key",
             RunFault::Device(place, fault) => return write!(f, "{place}: {fault}"),
             RunFault::BadKeyFile => "file: bad key",
             RunFault::NothingThere(place) => {

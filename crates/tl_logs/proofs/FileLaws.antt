@@ -147,16 +147,16 @@ behind bytes left words rest lines some (inl e) (one, inr (same, none)) = record
 }
 
 next : (bytes : List ℕ) (known : List Log) (count : ℕ) (left words rest : List ℕ) (read : HasRead bytes known count left) → left ≢ []
-    → CutsLine left words rest → IsNext bytes count words read.lines
+    → CutsLine left words rest → IsNext bytes (count + 1) words read.lines
 next bytes known count left words rest read some cut = record {
   each = read.each;
   once = read.once;
-  count = read.number;
+  count = ap (λ (n : ℕ). n + 1) read.number;
   behind = behind bytes left words rest read.lines some read.whole cut;
 }
 
 pub refused : (A : Type 0) (bytes : List ℕ) (known now : List Log) (count : ℕ) (left words rest : List ℕ) (fault : LineFault) → HasRead bytes known count left
-    → false ≡ nat_eq (length left) 0 → CutsLine left words rest → TakesLine words known now (Err fault) → ReadsLogs {A = A} bytes (Err (fault_at fault count))
+    → false ≡ nat_eq (length left) 0 → CutsLine left words rest → TakesLine words known now (Err fault) → ReadsLogs {A = A} bytes (Err (fault_at fault (count + 1)))
 refused A bytes known now count left words rest Malformed read some cut none = record {
   before = read.lines;
   words = words;

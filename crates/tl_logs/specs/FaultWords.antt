@@ -6,6 +6,6 @@ use Rattle.tl_logs.specs.declared.fault.LogsFault.{LogsFault}
 use Rattle.tl_logs.specs.declared.fault.LogsFault.TheVariants.{Malformed, Twice, OutOfMemory}
 
 abbrev pub logs_words : LogsFault → Bytes
-logs_words (Malformed place) = codes "line " ++ number_text place ++ codes " malformed"
-logs_words (Twice place) = codes "line " ++ number_text place ++ codes " has a key again"
+logs_words (Malformed number) = codes "line " ++ number_text number ++ codes " malformed"
+logs_words (Twice number) = codes "line " ++ number_text number ++ codes " has a key again"
 logs_words OutOfMemory = codes "out of memory"

@@ -1,5 +1,5 @@
 -- What reading the file of the logs answers.
-use Rattle.std.specs.Prelude.{◌≡◌, ℕ, List, length, All, Bool, map, bytes_eq, string_bytes, vec_items, Result, Ok, Err}
+use Rattle.std.specs.Prelude.{◌≡◌, ℕ, ◌+◌, List, length, All, Bool, map, bytes_eq, string_bytes, vec_items, Result, Ok, Err}
 use Rattle.std.specs.List.{list_any}
 use Rattle.std.specs.declared.vec.Vec.{Vec}
 use Rattle.tl_hash.specs.Bytes.{Bytes}
@@ -19,25 +19,25 @@ pub record AreLogsOf (bytes : Bytes) (known : List Log) : Type 0 where
   pub once : All HasEachOnce (logs (keys_in lines))
   pub same : known ≡ logs (keys_in lines)
 
--- the first lines are such, so many, and these words stand behind them
-pub record IsNext (bytes : Bytes) (place : ℕ) (words : Bytes) (before : List FileLine) : Type 0 where
+-- the first lines are such, and these words stand behind them, in the line with this number, counted from 1
+pub record IsNext (bytes : Bytes) (number : ℕ) (words : Bytes) (before : List FileLine) : Type 0 where
   pub each : All IsFileLine before
   pub once : All HasEachOnce (logs (keys_in before))
-  pub count : length before ≡ place
+  pub count : length before + 1 ≡ number
   pub behind : StandsBehind bytes before words
 
 -- the first lines are such, and the next is none
-pub record IsMalformedAt (bytes : Bytes) (place : ℕ) : Type 0 where
+pub record IsMalformedAt (bytes : Bytes) (number : ℕ) : Type 0 where
   pub before : List FileLine
   pub words : Bytes
-  pub next : IsNext bytes place words before
+  pub next : IsNext bytes number words before
   pub no_line : IsNoLine words
 
 -- the first lines are such, and the next gives a log a key that it has
-pub record IsTwiceAt (bytes : Bytes) (place : ℕ) : Type 0 where
+pub record IsTwiceAt (bytes : Bytes) (number : ℕ) : Type 0 where
   pub before : List FileLine
   pub words : Bytes
-  pub next : IsNext bytes place words before
+  pub next : IsNext bytes number words before
   pub key : LogKey
   pub gives : GivesKey words key
   pub known : IsKnown key (keys_in before)
@@ -55,8 +55,8 @@ pub record HasKeyLine (bytes : Bytes) : Type 0 where
 -- for a line that gives a key
 abbrev pub ReadsLogs : {A : Type 0} → Bytes → Result (Vec (KnownLog A) A) LogsFault → Type 0
 ReadsLogs bytes (Ok read) = AreLogsOf bytes (logs_shown (vec_items read))
-ReadsLogs bytes (Err (Malformed place)) = IsMalformedAt bytes place
-ReadsLogs bytes (Err (Twice place)) = IsTwiceAt bytes place
+ReadsLogs bytes (Err (Malformed number)) = IsMalformedAt bytes number
+ReadsLogs bytes (Err (Twice number)) = IsTwiceAt bytes number
 ReadsLogs bytes (Err OutOfMemory) = HasKeyLine bytes
 
 -- this is the origin of one of these logs

@@ -3,7 +3,7 @@
 use std::error::Error;
 use std::fmt::{self, Display, Formatter};
 
-/// Why the file of the logs isn't read. Lines are counted from 0.
+/// Why the file of the logs isn't read. Lines are counted from 1.
 #[derive(Clone, Copy, Debug, PartialEq, Eq)]
 pub enum LogsFault {
     /// This line is none of the file's, and the first that isn't taken.

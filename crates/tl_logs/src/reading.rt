@@ -29,7 +29,7 @@ fn cut_line(bytes: &[u8]) -> (&[u8], &[u8])
     }
 }
 
-// Why a line at this place isn't taken.
+// Why the line with this number isn't taken.
 fn fault_at(fault: LineFault, line: u64) -> LogsFault
     ensures { result ≡ fault_at fault line }
 {
@@ -43,7 +43,7 @@ fn fault_at(fault: LineFault, line: u64) -> LogsFault
 /// The logs that the lines of a file give keys, in the order of their first lines, each with its keys in order. A line
 /// is `KEY`, the text of a note verifier's key, whose name is then the log's, or `ORIGIN KEY`; empty lines and those
 /// that begin with `#` are passed over. `Malformed` names the first line that is none of these, `Twice` the first whose
-/// key, by name and identifier, its log has already, whichever comes first.
+/// key, by name and identifier, its log has already, whichever comes first. Lines are counted from 1.
 pub fn read_logs<A: Allocator + Copy + Send + Sync>(
     alloc: A,
     bytes: &[u8],
@@ -56,12 +56,12 @@ pub fn read_logs<A: Allocator + Copy + Send + Sync>(
     let mut line = 0;
     while !left.is_empty() {
         let (words, rest) = cut_line(left);
+        line += 1;
         match take_line(alloc, &mut logs, &mut index, words) {
             Ok(()) => {}
             Err(fault) => return Err(fault_at(fault, line)),
         }
         left = rest;
-        line += 1;
     }
     Ok(logs)
 }

@@ -48,6 +48,7 @@ mod turn;
 mod watch;
 mod witness;
 mod witness_fault;
+mod witness_server;
 mod written;
 
 pub use entrance::{Entrance, Site};

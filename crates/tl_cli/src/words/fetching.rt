@@ -15,6 +15,9 @@ const ONE_WANTED: &str =
 /// What is said where more cosignatures are needed than there are witnesses.
 pub(super) const FEWER: &str = "--need is at most the number of witnesses";
 
+// What is said if a witness must have cosigned lately, and none is given.
+const FRESH_OF_NOBODY: &str = "--fresh is given with --witness alone";
+
 /// The help of the option that says where a log is read from.
 pub(super) const FROM: &str = "Its folder, or http://HOST[:PORT][/PATH]";
 
@@ -34,6 +37,8 @@ const FETCH: Words = Words {
                 "witness" "VKEY" Kind::Texts => WITNESS_KEY;
                 "need" "N" Kind::Number(0, u64::MAX)
                     => "How many witnesses must have cosigned (default: all)";
+                "fresh" "SECONDS" Kind::Number(0, u64::MAX)
+                    => "Refuse what no witness cosigned since then";
                 "state" "FILE" Kind::Path => "The checkpoint that was trusted last";
             ],
         },
@@ -142,12 +147,17 @@ fn need_of(options: &ArgMatches<'_>) -> u64 {
     }
 }
 
-/// What is said where the keys of a log are more than two, or more of its witnesses must have cosigned than there are.
+/// What is said if the keys of a log are more than two, more of its witnesses must have cosigned than there are, or one
+/// must have lately and none is given.
 pub(super) fn log_refusal(options: &ArgMatches<'_>) -> Option<&'static str> {
     if count_given(options, "key") > 2 {
         return Some(TWO_KEYS);
     }
-    (need_of(options) > count_witnesses(options)).then_some(FEWER)
+    let all = count_witnesses(options);
+    if all == 0 && options.get_one::<u64>("fresh").is_some() {
+        return Some(FRESH_OF_NOBODY);
+    }
+    (need_of(options) > all).then_some(FEWER)
 }
 
 // The files of who fetches.
@@ -179,6 +189,7 @@ pub(super) fn fetch_options(
         other_key,
         witnesses: texts_of(alloc, options, "witness")?,
         need: need_of(options),
+        fresh: options.get_one::<u64>("fresh"),
         state,
         cache,
         timeout: options.get_one::<u64>("timeout").unwrap_or(TIMEOUT),

@@ -115,14 +115,17 @@ pub(super) fn keygen() -> &'static Words {
     &KEYGEN
 }
 
+// The help of the key under which a note is opened.
+const EITHERS_KEY: &str = "The verifier key of a log or a witness, or @FILE";
+
 const OPEN: Words = Words {
     name: "open",
-    about: "Prints the text of the signed note on standard input, if it opens",
+    about: "Prints what a key signed of the note on standard input",
     after_help: texts::OPEN,
     groups: &[Group {
         heading: "",
         words: words![
-            "key" "VKEY" Kind::RequiredText => LOG_KEY;
+            "key" "VKEY" Kind::RequiredText => EITHERS_KEY;
         ],
     }],
 };

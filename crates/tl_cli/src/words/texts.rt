@@ -123,12 +123,14 @@ Example: tlog keygen --name example.com/log --out key";
 pub(super) const OPEN: &str =
     "Input: a note, such as a signed checkpoint (C2SP signed-note, tlog-checkpoint).
 
-Output: its text, if a line of it is of the key, and the first such line is
-valid.
+Output: what the key signed, if a line of the note is of the key, and the first
+such line is valid. Under a log's key that is the note's text. Under a witness's
+it is the message of its cosignature (C2SP tlog-cosignature): the lines
+'cosignature/v1' and 'time N', in seconds since 1970, and the note's text.
 
-Exit status: 0 it opens; 1 refused (a bad key, malformed input, no known
-signature, signature K wrong, counted from 0, input too large, out of memory); 2
-wrong arguments or a call for help; 3 a read or a write failed.
+Exit status: 0 it opens; 1 refused (a bad key, malformed input, signed by
+another key, signature K wrong, counted from 0, input too large, out of memory);
+2 wrong arguments or a call for help; 3 a read or a write failed.
 
 Example: tlog open --key @key.pub < checkpoint";
 
@@ -201,9 +203,9 @@ passed over. The witness cosigns by the key in the file of --key, as
 --witness-secret.
 
 Exit status: 0 done; 1 refused (no state there, or one with --new, a bad key, a
-bad origin, a bad name, line K of the logs malformed or with a key again, line K
-of the input refused, each counted from 0, in use, out of memory); 2 wrong
-arguments or a call for help; 3 a read, a write, the address or an accept
+bad origin, a bad name, line K of the logs malformed or with a key again, counted
+from 1, chain K of the input refused, counted from 0, in use, out of memory); 2
+wrong arguments or a call for help; 3 a read, a write, the address or an accept
 failed.
 
 Example: tlog witness --origin example.com/log --log-key @key.pub \\
@@ -228,14 +230,17 @@ another root than the smaller one's. An older checkpoint accuses nobody: nothing
 is printed, and the state stays.
 
 --key is given twice while the log goes from one key to another. Keys of
-witnesses with one name are one witness's, which counts once.
+witnesses with one name are one witness's, which counts once. With --fresh a
+checkpoint is refused if no --witness cosigned it in the last so many seconds:
+so a log that is held back is told from one that rests.
 
 Exit status: 0 done; 1 refused (a bad key, a second key that isn't another one
 of the log, a witness with the key of another or of the log, a bad address, no
 checkpoint that opens, checkpoint of another log, cosigned by N witnesses, no
 entry at the index, a tile, a bundle or an entry wrong, bad state, out of
 memory); 2 wrong arguments or a call for help; 3 not available, an older
-checkpoint, or a read or a write failed; 4 the log forked.
+checkpoint, one not cosigned since a time, or a read or a write failed; 4 the
+log forked.
 
 Example: tlog fetch --from http://example.com/log --key @key.pub \\
              --state seen --all";

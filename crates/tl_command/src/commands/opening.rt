@@ -1,12 +1,13 @@
-//! The command `open`: the text of a note that a key signed.
+//! The command `open`: what a key signed of a note.
 
 ghost use Rattle.std.specs.Prelude.{◌≡◌, ◌∷◌, [], map, vec_items};
 ghost use Rattle.tl_command.specs.Run.{Runs};
 ghost use Rattle.tl_device.specs.Device.{passage};
-ghost use Rattle.tl_key.specs.NoteKey.{PublicKey, note_kind, verifier_key};
+ghost use Rattle.tl_key.specs.NoteKey.{PublicKey, cosignature_kind, note_kind, verifier_key};
 ghost use Rattle.tl_key.specs.KeyText.{IsVerifierText};
-ghost use Rattle.tl_command.specs.Open.{OpenComes, RunsOpen, after_note};
+ghost use Rattle.tl_command.specs.Open.{OpenComes, OpensSigned, RunsOpen, after_note};
 
+use crate::commands::cosigned::{open_cosigned, read_cosigner};
 use crate::fault::RunFault;
 use crate::keys::read_log_key;
 use crate::streams::{MOST_INPUT, print_text, read_input};
@@ -61,16 +62,48 @@ fn open_by<R: Read, W: Write>(
 ) -> Result<(), RunFault>
     requires { (k : PublicKey) × IsVerifierText note_kind text.now k
         × (map (λ verifier. key verifier) verifiers.now ≡ verifier_key k ∷ []) }
-    ensures { RunsOpen text.now (passage R.remaining reader.old reader.new)
+    ensures { OpensSigned text.now (passage R.remaining reader.old reader.new)
         (passage W.contents writer.old writer.new) result }
 {
     open_under(alloc, verifiers, reader, writer)
 }
 
-/// Reads the whole input, which is a note, and writes its text where it opens under the key that `text` is of, a log's
-/// verifier's key (C2SP signed-note, "Verification"; `tl_key::read_verifier_key`): one of its lines is of that key, and
-/// the first such line is valid. A text of no such key is `BadKey`, before anything is read. `Malformed`: the input is
-/// no note. `WrongSignature`: the line at this place isn't valid. `Unverified`: no line is of the key.
+// Reads a note and prints its text, if it opens under the key of a log that `text` is of.
+fn open_signed<R: Read, W: Write>(
+    alloc: Global,
+    text: &str,
+    reader: &mut Counted<R>,
+    writer: &mut Counted<W>,
+) -> Result<(), RunFault>
+    ensures { OpensSigned text.now (passage R.remaining reader.old reader.new)
+        (passage W.contents writer.old writer.new) result }
+{
+    let key = read_log_key(alloc, text)?;
+    let verifier: Box<dyn Verifier> = Box::new(alloc, key)?;
+    open_by(alloc, text, &[verifier], reader, writer)
+}
+
+// Reads a note and prints what the key of a witness that `text` is of signed of it.
+fn open_by_witness<R: Read, W: Write>(
+    alloc: Global,
+    text: &str,
+    verifier: &dyn Verifier,
+    reader: &mut Counted<R>,
+    writer: &mut Counted<W>,
+) -> Result<(), RunFault>
+    requires { (k : PublicKey) × IsVerifierText cosignature_kind text.now k
+        × (key verifier.now ≡ verifier_key k) }
+    ensures { RunsOpen text.now (passage R.remaining reader.old reader.new)
+        (passage W.contents writer.old writer.new) result }
+{
+    open_cosigned(alloc, verifier, reader, writer)
+}
+
+/// Reads the whole input, which is a note, and prints what the key that `text` is of signed of it. Under a log's key
+/// that is the note's text (C2SP signed-note, "Verification"), under a witness's the message of its cosignature, which
+/// has the time (C2SP tlog-cosignature, "Format"). The first line of the key counts: `WrongSignature` has the place of
+/// one that isn't valid. `Unverified`: no line is of the key. `Malformed`: the input is no note. `BadKey`: the text is
+/// of neither, and nothing is read.
 pub fn run_open<R: Read, W: Write>(
     alloc: Global,
     text: &str,
@@ -80,7 +113,12 @@ pub fn run_open<R: Read, W: Write>(
     ensures { RunsOpen text.now (passage R.remaining reader.old reader.new)
         (passage W.contents writer.old writer.new) result }
 {
-    let key = read_log_key(alloc, text)?;
-    let verifier: Box<dyn Verifier> = Box::new(alloc, key)?;
-    open_by(alloc, text, &[verifier], reader, writer)
+    let found = match read_cosigner(alloc, text) {
+        Ok(found) => found,
+        Err(fault) => return Err(fault),
+    };
+    match found {
+        Some(key) => open_by_witness(alloc, text, &key, reader, writer),
+        None => open_signed(alloc, text, reader, writer),
+    }
 }

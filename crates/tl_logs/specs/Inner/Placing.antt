@@ -48,8 +48,8 @@ TakesLine words old new (Err Malformed) = IsNoLine words
 TakesLine words old new (Err Twice) = (k : LogKey) × GivesKey words k × HasKey k old
 TakesLine words old new (Err OutOfMemory) = (k : LogKey) × GivesKey words k
 
--- why a line at this place isn't taken
+-- why the line with this number isn't taken
 abbrev pub fault_at : LineFault → ℕ → LogsFault
-fault_at Malformed place = why.Malformed place
-fault_at Twice place = why.Twice place
-fault_at OutOfMemory place = why.OutOfMemory
+fault_at Malformed number = why.Malformed number
+fault_at Twice number = why.Twice number
+fault_at OutOfMemory number = why.OutOfMemory

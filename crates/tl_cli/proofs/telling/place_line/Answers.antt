@@ -1,5 +1,5 @@
 use Rattle.std.proofs.Common.{string_bytes}
-use Rattle.tl_cli.specs.Told.{base_of}
+use Rattle.tl_cli.specs.Named.{base_of}
 use Rattle.tl_cli.proofs.Tellings.{line_under}
 use Rattle.tl_cli.proofs.telling.place_line.Goals as goal
 

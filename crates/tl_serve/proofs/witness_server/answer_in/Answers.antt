@@ -1,6 +1,6 @@
 use Rattle.std.proofs.Common.{arith}
 use Rattle.std.proofs.lemmas.Grind.{common_steps}
-use Rattle.tl_serve.proofs.witness.answer_in.Goals as goal
+use Rattle.tl_serve.proofs.witness_server.answer_in.Goals as goal
 
 pub loop-preserved : goal.loop-preserved
 loop-preserved g c = grind (arith, common_steps)

@@ -1,6 +1,6 @@
 use Rattle.std.proofs.Common.{inl, inr, rules}
 use Rattle.tl_cli.proofs.FileRuns.{checks_file}
-use Rattle.tl_cli.proofs.running.check_in_file.Goals as goal
+use Rattle.tl_cli.proofs.checking.check_in_file.Goals as goal
 
 pub returns-in-Err : goal.returns-in-Err
 returns-in-Err g c = inr (c.in-Err.ensures, search rules)

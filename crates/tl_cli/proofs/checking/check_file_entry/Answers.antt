@@ -1,5 +1,5 @@
 use Rattle.std.proofs.Common.{inl, inr, rules}
-use Rattle.tl_cli.proofs.running.check_file_entry.Goals as goal
+use Rattle.tl_cli.proofs.checking.check_file_entry.Goals as goal
 
 pub returns-in-Err : goal.returns-in-Err
 returns-in-Err g c = inr (c.in-Err.ensures, search rules)

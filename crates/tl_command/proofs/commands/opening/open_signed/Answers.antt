@@ -1,0 +1,18 @@
+use Rattle.std.proofs.Common.{refl}
+use Rattle.std.proofs.KnownBytes.{Keeps-refl}
+use Rattle.tl_device.specs.Device.{passage}
+use Rattle.tl_command.specs.Open.{OpensSigned}
+use Rattle.tl_command.specs.declared.fault.RunFault.TheVariants.{OutOfMemory}
+use Rattle.tl_command.proofs.Failing.{open_key_fails, passed_on}
+use Rattle.tl_command.proofs.commands.opening.open_signed.Goals as goal
+
+pub returns-in_err-key : goal.returns-in_err-key
+returns-in_err-key g c =
+    passed_on (OpensSigned c.args.text.now (passage g.R.Read.remaining c.args.reader.now c.args.reader.now) (passage g.W.Write.contents c.args.writer.now c.args.writer.now))
+    c.from_residual.result _ c.from_residual.ensures.1
+    (open_key_fails c.args.text.now (passage g.R.Read.remaining c.args.reader.now c.args.reader.now) (passage g.W.Write.contents c.args.writer.now c.args.writer.now) _ (Keeps-refl (g.R.Read.remaining c.args.reader.now.device), refl) (Keeps-refl (g.W.Write.contents c.args.writer.now.device), refl) c.in_err-key.ensures)
+
+pub returns-in_err-new : goal.returns-in_err-new
+returns-in_err-new g c =
+    passed_on (OpensSigned c.args.text.now (passage g.R.Read.remaining c.args.reader.now c.args.reader.now) (passage g.W.Write.contents c.args.writer.now c.args.writer.now))
+    c.from_residual-in_err-new.result OutOfMemory c.from_residual-in_err-new.ensures.1 (record { key = _; spelled = c.in_ok-key.ensures; fact = (refl, (Keeps-refl (g.W.Write.contents c.args.writer.now.device), refl)) })
