@@ -1,28 +1,32 @@
 -- Runs of `open` under the key of a witness.
 use Rattle.std.proofs.Common.{◌≡◌, ◌<◌, ◌≤◌, ◌+◌, ℕ, inl, List, [], ◌∷◌, length, drop, get_or, refl, sym, ap, subst, ◌∙◌, arith, Global}
-use Rattle.std.specs.Prelude.{Result, None, Ok, Err, IfOk}
+use Rattle.std.specs.Prelude.{Result, Ok, Err, IfErr, IfOk, IsTrue, OnErr, OnOk, false}
 use Rattle.std.specs.declared.alloc.AllocError.{AllocError}
 use Rattle.tl_hash.specs.Bytes.{Bytes}
-use Rattle.tl_device.specs.Device.{Passage, IsUnread, IsUnwritten, ReadWhole}
+use Rattle.tl_device.specs.Device.{Passage, IsUnread, IsUnwritten, ReadWhole, WrotePart, WroteWhole}
 use Rattle.tl_note.specs.Key.{Key}
-use Rattle.tl_note.specs.Note.{Note, Signature}
+use Rattle.tl_note.specs.Note.{Signature}
 use Rattle.tl_note.specs.View.{ParsesNote}
 use Rattle.tl_note.specs.declared.fault.NoteFault.{NoteFault}
 use Rattle.tl_note.specs.declared.fault.NoteFault.TheVariants as note
-use Rattle.tl_checkpoint.specs.Cosignature.{ChecksCosignature, IsCosignature, IsOfKey, cosigned_message}
+use Rattle.tl_checkpoint.specs.Cosignature.{IsCosignature, IsOfKey}
 use Rattle.tl_key.specs.KeyText.{IsVerifierText}
 use Rattle.tl_key.specs.NoteKey.{PublicKey, cosignature_kind, verifier_key}
 use Rattle.tl_command.specs.Run.{Runs, most_input}
 use Rattle.tl_command.specs.Open.{OpensCosigned, RunsOpen, after_note}
-use Rattle.tl_command.specs.OpenCosigned.{CosignedComes, HasNoLine, IsFirst, IsMessageOf, IsOfNoLine, IsWrongAt}
+use Rattle.tl_command.specs.OpenCosigned.{CosignedComes, IsFirst, IsMessageOf}
 use Rattle.tl_command.specs.Inner.Cosigned.{Finds, GivesMessage}
 use Rattle.tl_command.specs.declared.commands.cosigned.Found.{Found}
 use Rattle.tl_command.specs.declared.commands.cosigned.Found.TheVariants.{Time, Wrong, Nothing}
 use Rattle.tl_command.specs.declared.fault.RunFault.{RunFault}
 use Rattle.tl_command.specs.declared.fault.RunFault.TheVariants.{Refused, Read, Write, TooLarge, EntryTooLong, BadOrigin, BadIndex, BadOld, BadPath, NotThere, Malformed, Chain, Sign, Operator, Listen, Accept, OutOfMemory, BadName, BadKey, BadCheckpoint, WrongSignature, Unverified, Device, BadKeyFile, NothingThere}
 use Rattle.tl_command.proofs.NoteBytes.{note_some}
+use Rattle.tl_command.proofs.Runs.{printed}
 
 -- ---- the first line of a key
+
+no_true : IsTrue false → ⊥
+no_true e = cc
 
 at_first : (key : Key) (first : Signature) (rest : List Signature) → IsOfKey key first → IsFirst key (first ∷ rest) 0 first
 at_first key first rest of = record { before = []; after = rest; joined = refl; count = refl; none = tt; of = of }
@@ -52,39 +56,18 @@ module _ (text : Bytes) (key : Key) (lines : List Signature) (first : Signature)
   of_lines : (found : Found) → Finds text key (first ∷ rest) from found → Finds text key lines from found
   of_lines found finds = subst (λ (ls : List Signature). Finds text key ls from found) (lines_are lines left some is) finds
 
-  pub find_more : ¬ (IsOfKey key first) → (r : Result Found AllocError) → IfOk r (Finds text key rest (from + 1)) → IfOk r (Finds text key lines from)
-  find_more other (Ok found) below = of_lines found (one_more text key first rest from found other below)
+  pub find_more : (IsOfKey key first → IsTrue false) → (r : Result Found AllocError) → IfOk r (Finds text key rest (from + 1)) → IfOk r (Finds text key lines from)
+  find_more other (Ok found) below = of_lines found (one_more text key first rest from found (λ of. no_true (other of)) below)
   find_more other (Err fault) below = tt
 
   pub find_time : (time : ℕ) → IsCosignature text key first time → Finds text key lines from (Time time)
   find_time time by = of_lines (Time time) (0, first, at_first key first rest (record { name = by.name; id = by.id }), by)
-
-  pub find_wrong : IsOfKey key first → ChecksCosignature text key first None → Finds text key lines from (Wrong from)
-  find_wrong of none = of_lines (Wrong from) (0, first, at_first key first rest of, omega arith, none)
 
 pub find_nothing : (text : Bytes) (key : Key) (lines : List Signature) (from : ℕ) → length lines < 1 → Finds text key lines from Nothing
 find_nothing text key [] from none = tt
 find_nothing text key (line ∷ lines) from none = absurd (omega (arith, none))
 
 -- ---- the message of a note
-
-module _ (key : Key) (input text : Bytes) (lines : List Signature) (noted : Note input text lines) where
-  pub message_at : (time : ℕ) (message : Bytes) → Finds text key lines 0 (Time time) → message ≡ cosigned_message time text → IsMessageOf key input message
-  message_at time message (place, line, first, valid) spelled =
-      record { text = text; lines = lines; noted = noted; place = place; line = line; first = first; time = time; valid = valid; spelled = spelled }
-
-  pub message_wrong : (at : ℕ) → Finds text key lines 0 (Wrong at) → IsWrongAt key input at
-  message_wrong at (place, line, first, same, none) = record {
-    text = text;
-    lines = lines;
-    noted = noted;
-    line = line;
-    first = subst (λ (p : ℕ). IsFirst key lines p line) (omega (arith, same)) first;
-    wrong = none;
-  }
-
-  pub message_none : HasNoLine key lines → IsOfNoLine key input
-  message_none none = record { text = text; lines = lines; noted = noted; none = none }
 
 -- what is no note has no message
 unparsed : (key : Key) (input : Bytes) (fault : NoteFault) → ParsesNote {A = Global} input (Err fault) → GivesMessage {A = Global} key input (Err (after_note fault))
@@ -137,6 +120,17 @@ pub refused_as : (key : Key) (i o : Passage) (input text : Bytes) (fault : RunFa
     → GivesMessage {A = Global} key text (Err fault) → Runs (CosignedComes key) i o (Err fault)
 refused_as key i o input text fault same whole none given =
     message_fails key i o input fault whole none (subst (λ (t : Bytes). GivesMessage {A = Global} key t (Err fault)) same given)
+
+-- the message that a note has is printed
+pub printed_as : (key : Key) (i o : Passage) (input note message text : Bytes) (r : Result (Unit {0}) RunFault) → note ≡ input → ReadWhole i most_input input
+    → IsMessageOf key note message → text ≡ message → OnOk r (WroteWhole o text) → IfErr r (λ fault. fault ≡ Write) → OnErr r (WrotePart o text)
+    → Runs (CosignedComes key) i o r
+printed_as key i o input note message text r same whole is spelled =
+    printed (CosignedComes key) i o text r (record {
+      input = input;
+      whole = whole;
+      so = subst (IsMessageOf key input) (sym spelled) (subst (λ (n : Bytes). IsMessageOf key n message) same is);
+    })
 
 -- a run under a witness's key, which asks for memory for the key, too
 runs_cosigned : (key : Key) (i o : Passage) (r : Result (Unit {0}) RunFault) → Runs (CosignedComes key) i o r → OpensCosigned key i o r

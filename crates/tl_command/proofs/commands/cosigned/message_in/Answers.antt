@@ -1,4 +1,4 @@
-use Rattle.tl_command.proofs.CosignedRuns.{message_at, message_none, message_wrong, parse_fails}
+use Rattle.tl_command.proofs.CosignedRuns.{parse_fails}
 use Rattle.tl_command.proofs.commands.cosigned.message_in.Goals as goal
 
 pub returns-in-Err : goal.returns-in-Err

@@ -1,12 +1,10 @@
-use Rattle.std.proofs.Common.{rules, refl, ◌∙◌, vec_items, subst, sym}
+use Rattle.std.proofs.Common.{rules, refl, ◌∙◌, string_bytes, vec_items}
 use Rattle.tl_command.proofs.NoteBytes.{note_utf8}
 use Rattle.std.proofs.KnownBytes.{Keeps-refl}
 use Rattle.tl_device.specs.Device.{passage}
 use Rattle.tl_command.specs.Run.{Runs}
-use Rattle.tl_command.specs.OpenCosigned.{CosignedComes}
-use Rattle.tl_command.proofs.CosignedRuns.{refused_as}
+use Rattle.tl_command.proofs.CosignedRuns.{printed_as, refused_as}
 use Rattle.tl_command.proofs.Failing.{passed_on, unread}
-use Rattle.tl_command.proofs.Runs.{printed}
 use Rattle.tl_command.proofs.commands.cosigned.open_cosigned.Goals as goal
 
 pub returns-in_default : goal.returns-in_default
@@ -31,4 +29,7 @@ returns g c =
     (c.in-Ok.ensures.cases.0 ∙ c.as_slice.ensures.value) c.in_ok-input.ensures (Keeps-refl (g.W.Write.contents c.args.writer.now.device), refl) c.in-Err.ensures
 
 pub returns-in-Ok-message_in : goal.returns-in-Ok-message_in
-returns-in-Ok-message_in g c = ?
+returns-in-Ok-message_in g c =
+    printed_as _ _ _ (vec_items c.in_ok-input.input) c.in-Ok.note.now (string_bytes c.in-Ok-message_in.message) c.as_bytes.result.now c.print_text.result
+    (c.in-Ok.ensures.cases.0 ∙ c.as_slice.ensures.value) c.in_ok-input.ensures c.in-Ok-message_in.ensures c.as_bytes.ensures.value
+    c.print_text.ensures.whole c.print_text.ensures.fault c.print_text.ensures.part
